@@ -1,0 +1,205 @@
+//! Events, and what carries them between the ports and the scheduler.
+
+ghost use Rattle.std.specs.Prelude.{◌≡◌, ℕ, ◌<◌, ◌^◌};
+
+use crate::code::{kind_code, op_code};
+
+/// How many flows there are.
+pub const MAX_FLOWS: u32 = 1 << 20;
+/// How many event types there are.
+pub const MAX_EVENT_TYPES: u8 = 16;
+/// How many priorities a level has.
+const LEVEL_PRIORITIES: u8 = 64;
+
+/// What a port asks of the device with an event.
+#[derive(Clone, Copy, Debug, PartialEq, Eq, Default)]
+pub enum Op {
+    /// Brings an event into the device.
+    #[default]
+    New,
+    /// Passes the oldest event that the port holds on to a queue.
+    Forward,
+    /// Ends the handling of the oldest event that the port holds.
+    Release,
+}
+
+/// The scheduling type of a queue.
+#[derive(Clone, Copy, Debug, PartialEq, Eq)]
+pub enum Kind {
+    /// Events go to several ports at once, and their forwards leave in the order of the hand-out.
+    Ordered,
+    /// The events of a flow go to one port at a time, in order.
+    Atomic,
+    /// Events go to several ports at once, in no order.
+    Parallel,
+}
+
+impl Kind {
+    ghost use Rattle.std.specs.Prelude.{◌≡◌};
+    ghost use Rattle.evt_types.specs.Plan as plans;
+
+    /// Whether it is `Atomic`.
+    pub fn is_atomic(self) -> bool
+        ensures { result ≡ plans.is_atomic self }
+    {
+        match self {
+            Kind::Atomic => true,
+            Kind::Ordered | Kind::Parallel => false,
+        }
+    }
+
+    /// Whether it is `Ordered`.
+    pub fn is_ordered(self) -> bool
+        ensures { result ≡ plans.is_ordered self }
+    {
+        match self {
+            Kind::Ordered => true,
+            Kind::Atomic | Kind::Parallel => false,
+        }
+    }
+}
+
+/// An event. `flow` is below 2^20, `event_type` below 16; `priority` is 0 for the highest and 255 for the lowest.
+#[derive(Clone, Copy, Debug, PartialEq, Eq)]
+pub struct Event {
+    pub flow: u32,
+    pub sub_type: u8,
+    pub event_type: u8,
+    pub op: Op,
+    pub queue: u8,
+    pub priority: u8,
+    pub impl_opaque: u8,
+    pub payload: u64,
+    pub ghost flow_fits: { flow < 2 ^ 20 },
+    pub ghost event_type_fits: { event_type < 16 },
+}
+
+impl Event {
+    ghost use Rattle.std.specs.Prelude.{◌≡◌, ◌<◌, ◌≤◌, ◌^◌, ◌↔◌, IfOk};
+    ghost use Rattle.evt_types.specs.Event.{IsEvent, release_event};
+    ghost use Rattle.evt_types.specs.Plan.{level_of};
+    ghost use Rattle.evt_types.specs.Word.{word_of};
+
+    /// Makes an event whose `impl_opaque` is 0.
+    pub fn new(
+        flow: u32,
+        sub_type: u8,
+        event_type: u8,
+        op: Op,
+        queue: u8,
+        priority: u8,
+        payload: u64,
+    ) -> Result<Event, EventFault>
+        ensures ok { IfOk result (λ e. IsEvent e flow sub_type event_type op queue priority payload) }
+        ensures flow { (result ≡ Err EventFault.FlowTooLarge) ↔ (2 ^ 20 ≤ flow) }
+        ensures event_type { (result ≡ Err EventFault.EventTypeTooLarge) ↔ ((flow < 2 ^ 20) × (16 ≤ event_type)) }
+    {
+        if flow >= MAX_FLOWS {
+            return Err(EventFault::FlowTooLarge);
+        }
+        if event_type >= MAX_EVENT_TYPES {
+            return Err(EventFault::EventTypeTooLarge);
+        }
+        Ok(Event {
+            flow,
+            sub_type,
+            event_type,
+            op,
+            queue,
+            priority,
+            impl_opaque: 0,
+            payload,
+        })
+    }
+
+    /// The event by which a port releases of its own accord; only its operation counts.
+    pub fn release() -> Event
+        ensures { result ≡ release_event }
+    {
+        Event {
+            flow: 0,
+            sub_type: 0,
+            event_type: 0,
+            op: Op::Release,
+            queue: 0,
+            priority: 0,
+            impl_opaque: 0,
+            payload: 0,
+        }
+    }
+
+    /// The level at which it is served, from 0 for the first to 3.
+    pub fn level(&self) -> usize
+        ensures { result ≡ level_of self.now }
+    {
+        usize::from(self.priority / LEVEL_PRIORITIES)
+    }
+
+    /// The event and its queue's scheduling type in 64 bits.
+    pub fn word(&self, kind: Kind) -> u64
+        ensures { result ≡ word_of self.now kind }
+    {
+        let (flow, sub_type, event_type) = (self.flow, self.sub_type, self.event_type);
+        let (queue, priority, impl_opaque) = (self.queue, self.priority, self.impl_opaque);
+        let op = op_code(self.op);
+        let kind = kind_code(kind);
+        u64::from(flow)
+            + (u64::from(sub_type) << 20)
+            + (u64::from(event_type) << 28)
+            + (op << 32)
+            + (kind << 38)
+            + (u64::from(queue) << 40)
+            + (u64::from(priority) << 48)
+            + (u64::from(impl_opaque) << 56)
+    }
+}
+
+impl Default for Event {
+    ghost use Rattle.evt_types.specs.Event.{IsEvent};
+    ghost use Rattle.evt_types.specs.declared.event.Op.TheVariants as ops;
+
+    ghost is_default = { λ e. IsEvent e 0 0 0 ops.New 0 0 0 };
+
+    fn default() -> Event {
+        Event {
+            flow: 0,
+            sub_type: 0,
+            event_type: 0,
+            op: Op::New,
+            queue: 0,
+            priority: 0,
+            impl_opaque: 0,
+            payload: 0,
+        }
+    }
+}
+
+/// An event of a queue on its way to a port: its number counts the events that the queue accepted, from 0.
+#[derive(Clone, Copy, Debug, PartialEq, Eq, Default)]
+pub struct Delivery {
+    pub event: Event,
+    pub queue: usize,
+    pub number: u64,
+}
+
+/// An event on its way from a port to the scheduler.
+#[derive(Clone, Copy, Debug, PartialEq, Eq, Default)]
+pub struct Reply {
+    pub event: Event,
+}
+
+/// An event with its number in its queue.
+#[derive(Clone, Copy, Debug, PartialEq, Eq, Default)]
+pub struct Numbered {
+    pub number: u64,
+    pub event: Event,
+}
+
+/// Why no event was made.
+#[derive(Clone, Copy, Debug, PartialEq, Eq)]
+pub enum EventFault {
+    /// The flow is 2^20 or more.
+    FlowTooLarge,
+    /// The event type is 16 or more.
+    EventTypeTooLarge,
+}

@@ -1,0 +1,228 @@
+//! The checked configuration of a device.
+
+ghost use Rattle.std.specs.Prelude.{◌≡◌, ◌<◌, ◌≤◌, length, map, sum_by, IfOk, OnOk, IfErr};
+ghost use Rattle.evt_types.specs.Fault.{fault_of, IsWithinLimits};
+ghost use Rattle.evt_types.specs.Plan as plans;
+ghost use Rattle.evt_types.specs.Plan.{plan_of, port_plan};
+
+use crate::check::{first_fault, is_linked};
+use crate::draft::{Draft, PortDraft, QueueDraft, Serving};
+use std::alloc::{AllocError, Global};
+use std::marker::Model;
+
+/// The most queues of a device.
+pub const MAX_QUEUES: usize = 16;
+/// The most ports.
+pub const MAX_PORTS: usize = 16;
+/// The highest limit on the events inside.
+pub const MAX_LIMIT: u32 = 4096;
+/// The most events that a port holds, and the most room of a reply ring.
+pub const MAX_DEPTH: u32 = 64;
+/// The most slots of an atomic queue.
+pub const MAX_SLOTS: u32 = 64;
+/// The most slots of all atomic queues together.
+pub const MAX_ALL_SLOTS: u32 = 128;
+/// The most events of an ordered queue that are handed out before the first of them is answered.
+pub const MAX_ORDER: u32 = 256;
+/// The highest sweep quantum.
+pub const MAX_SWEEP: u32 = 64;
+
+/// The configuration of a device, checked against all limits.
+#[derive(Debug, Drop)]
+pub struct Shape {
+    limit: u32,
+    quantum: u32,
+    sweep: u32,
+    serving: Serving,
+    queues: Vec<QueueDraft>,
+    ports: Vec<PortDraft>,
+}
+
+impl Model for Shape {
+    ghost use Rattle.evt_types.specs.Plan.{Plan};
+
+    ghost Value = { Plan };
+
+    ghost use Rattle.evt_types.specs.Shape.{plan_in, IsChecked};
+
+    ghost view = { plan_in };
+
+    ghost invariant = { IsChecked };
+}
+
+/// Why a configuration is refused; of several causes the first in this order.
+#[derive(Clone, Copy, Debug, PartialEq, Eq)]
+pub enum ShapeFault {
+    QueueCount,
+    PortCount,
+    LimitRange,
+    QuantumRange,
+    ThresholdRange,
+    DepthRange,
+    FlowSlots,
+    OrderDepth,
+    SweepRange,
+    LinkUnknown,
+    LinkTwice,
+    QueueUnlinked,
+    SingleLinkCount,
+    Memory,
+}
+
+fn copied_ports(alloc: Global, ports: &[PortDraft]) -> Result<Vec<PortDraft>, AllocError>
+    ensures { IfOk result (λ copies. map port_plan copies.items ≡ map port_plan ports.now) }
+{
+    let mut copies = Vec::with_capacity(alloc, ports.len())?;
+    for port in ports {
+        let links = Vec::from_slice(alloc, &port.links)?;
+        copies.push(PortDraft {
+            threshold: port.threshold,
+            depth: port.depth,
+            replies: port.replies,
+            implicit: port.implicit,
+            links,
+        })?;
+    }
+    Ok(copies)
+}
+
+/// The replies of all ports.
+fn replies_in(ports: &[PortDraft]) -> usize
+    requires { sum_by (λ port. port.replies) ports.now ≤ 1024 }
+    ensures value { result ≡ sum_by (λ port. port.replies) ports.now }
+    ensures few { result ≤ 1024 }
+{
+    ports.iter().map(|port| port.replies as usize).sum()
+}
+
+impl Shape {
+    /// Checks a configuration, and keeps a copy of it.
+    pub fn build(alloc: Global, draft: &Draft) -> Result<Shape, ShapeFault>
+        requires { draft.now.serving ≡ Serving.Ports }
+        ensures built { IfOk result (λ s. s ≡ plan_of draft.now) }
+        ensures sound { OnOk result (fault_of (plan_of draft.now) ≡ None) }
+        ensures refused { (f : ShapeFault) → fault_of (plan_of draft.now) ≡ Some f → result ≡ Err f }
+        ensures accepted { fault_of (plan_of draft.now) ≡ None → IfErr result (λ e. e ≡ ShapeFault.Memory) }
+    {
+        if let Some(fault) = first_fault(draft) {
+            return Err(fault);
+        }
+        let Ok(queues) = Vec::from_slice(alloc, &draft.queues) else {
+            return Err(ShapeFault::Memory);
+        };
+        let Ok(ports) = copied_ports(alloc, &draft.ports) else {
+            return Err(ShapeFault::Memory);
+        };
+        Ok(Shape {
+            limit: draft.limit,
+            quantum: draft.quantum,
+            sweep: draft.sweep,
+            serving: draft.serving,
+            queues,
+            ports,
+        })
+    }
+
+    /// How many events may be inside.
+    pub fn limit(&self) -> u32
+        ensures value { result ≡ self.now.limit }
+        ensures checked { fault_of self.now ≡ None }
+        ensures within { IsWithinLimits self.now }
+    {
+        self.limit
+    }
+
+    /// How many credits a port draws at a time.
+    pub fn quantum(&self) -> u32
+        ensures { result ≡ self.now.quantum }
+    {
+        self.quantum
+    }
+
+    /// How many replies of a lane, and how many events of a queue, one sweep takes and gives.
+    pub fn sweep(&self) -> u32
+        ensures value { result ≡ self.now.sweep }
+        ensures range { (1 ≤ result) × (result ≤ 64) }
+    {
+        self.sweep
+    }
+
+    /// Who hands the events of atomic queues out.
+    pub fn serving(&self) -> Serving
+        ensures { result ≡ self.now.serving }
+    {
+        self.serving
+    }
+
+    /// The queues.
+    pub fn queues(&self) -> &[QueueDraft]
+        ensures value { result.now ≡ self.now.queues }
+        ensures few { (1 ≤ length result.now) × (length result.now ≤ 16) }
+    {
+        &self.queues
+    }
+
+    /// The ports.
+    pub fn ports(&self) -> &[PortDraft]
+        ensures { map port_plan result.now ≡ self.now.ports }
+    {
+        &self.ports
+    }
+
+    /// How many lanes there are.
+    pub fn lanes(&self) -> usize
+        ensures value { result ≡ plans.lanes_of self.now }
+        ensures few { (1 ≤ result) × (result ≤ 16) }
+    {
+        self.ports.len()
+    }
+
+    /// The slot of the queue into which the flow falls.
+    pub fn slot_of(&self, queue: usize, flow: u32) -> usize
+        requires { queue < length self.now.queues }
+        ensures { result ≡ plans.slot_of self.now queue flow }
+    {
+        let draft = &self.queues[queue];
+        if draft.kind.is_atomic() {
+            (flow % draft.slots) as usize
+        } else {
+            0
+        }
+    }
+
+    /// Whether the lane is handed events of this slot of the queue.
+    pub fn serves(&self, lane: usize, queue: usize, slot: usize) -> bool
+        requires lane { lane < plans.lanes_of self.now }
+        requires queue { queue < length self.now.queues }
+        ensures { result ≡ plans.serves self.now lane queue slot }
+    {
+        let _ = slot;
+        is_linked(&self.ports[lane].links, queue)
+    }
+
+    /// How many events the lane's holder may hold.
+    pub fn depth_of(&self, lane: usize) -> usize
+        requires { lane < plans.lanes_of self.now }
+        ensures value { result ≡ plans.depth_of self.now lane }
+        ensures range { (1 ≤ result) × (result ≤ 64) }
+    {
+        self.ports[lane].depth as usize
+    }
+
+    /// The room of the lane's reply ring.
+    pub fn replies_of(&self, lane: usize) -> usize
+        requires { lane < plans.lanes_of self.now }
+        ensures value { result ≡ plans.replies_of self.now lane }
+        ensures range { (1 ≤ result) × (result ≤ 64) }
+    {
+        self.ports[lane].replies as usize
+    }
+
+    /// How many events may be inside for a NEW to be taken: the limit, and the replies of all lanes.
+    pub fn bound(&self) -> usize
+        ensures value { result ≡ plans.bound_of self.now }
+        ensures small { result ≤ 5120 }
+    {
+        self.limit as usize + replies_in(&self.ports)
+    }
+}

@@ -1,0 +1,5 @@
+use Rattle.sched_core.proofs.Offers.{HasNoChoiceBelow}
+use Rattle.sched_core.proofs.state.Core.propose.Given as goal
+
+abbrev pub invariant-loop-queue : goal.invariant-loop-queue
+invariant-loop-queue l = HasNoChoiceBelow l.self l.skips l.queue

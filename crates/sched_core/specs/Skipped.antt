@@ -1,0 +1,7 @@
+-- What a sweep passes over when it begins.
+use Rattle.std.specs.Prelude.{false, replicate}
+use Rattle.evt_types.specs.Choice.{Passed}
+
+-- no lane's ring has refused a delivery, and of no queue an event was given
+abbrev pub nothing_passed : Passed
+nothing_passed = record { bounced = replicate 16 false; given = replicate 16 0 }

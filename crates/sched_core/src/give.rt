@@ -1,0 +1,64 @@
+//! Events are given to the lanes.
+
+ghost use Rattle.std.specs.Prelude.{◌≡◌, ◌<◌, List, [], ◌∷◌, ◌++◌, Some, vec_len, vec_capacity};
+ghost use Rattle.evt_types.specs.Choice.{IsOffer};
+ghost use Rattle.evt_types.specs.Plan.{lanes_of};
+ghost use Rattle.evt_types.specs.Standing.{Stands, after};
+ghost use Rattle.evt_types.specs.Transcript.{event_at};
+ghost use Rattle.evt_types.specs.declared.step.Step.{Step as StepValue};
+ghost use Rattle.sched_core.specs.Offered.{numbered_in};
+
+use crate::lane::Entry;
+use crate::offer::Offer;
+use crate::state::Core;
+use evt_types::{Delivery, Step};
+
+impl Core {
+    /// Gives what was offered, and appends that step to the log.
+    pub fn give(&mut self, offer: Offer, log: &mut Vec<Step>)
+        requires offer { IsOffer self.old offer.lane offer.delivery.queue (numbered_in offer.delivery) }
+        requires room { vec_len log.old < vec_capacity log.old }
+        ensures view { self.new ≡ after self.old (Step.Give offer.lane offer.delivery.queue offer.delivery.number ∷ []) }
+        ensures logged { log.new.items ≡ log.old.items ++ Step.Give offer.lane offer.delivery.queue offer.delivery.number ∷ [] }
+        ensures stands { (T : List StepValue) → Stands T self.old → Stands (T ++ Step.Give offer.lane offer.delivery.queue offer.delivery.number ∷ []) self.new }
+        ensures event { (T : List StepValue) → Stands T self.old → event_at T offer.delivery.queue offer.delivery.number ≡ Some offer.delivery.event }
+        ensures shape { self.new.shape ≡ self.old.shape }
+        ensures room { vec_capacity log.new ≡ vec_capacity log.old }
+    {
+        let Offer {
+            lane,
+            delivery: Delivery {
+                event,
+                queue,
+                number,
+            },
+        } = offer;
+        let slot = self.shape.slot_of(queue, event.flow);
+        let left = &mut self.queues[queue];
+        left.remove(number);
+        let holder = &mut self.lanes[lane];
+        holder.hold(Entry {
+            queue,
+            number,
+            slot,
+        });
+        log.push_reserved(Step::Give {
+            lane,
+            queue,
+            number,
+        });
+    }
+
+    /// Appends to the log that the lane's ring had no room for a delivery.
+    pub fn bounce(&self, lane: usize, log: &mut Vec<Step>)
+        requires lane { lane < lanes_of self.now.shape }
+        requires room { vec_len log.old < vec_capacity log.old }
+        ensures logged { log.new.items ≡ log.old.items ++ Step.Bounced lane ∷ [] }
+        ensures stands { (T : List StepValue) → Stands T self.now → Stands (T ++ Step.Bounced lane ∷ []) self.now }
+        ensures room { vec_capacity log.new ≡ vec_capacity log.old }
+    {
+        // The use of a field makes known what holds of each core.
+        let _ = &self.shape;
+        log.push_reserved(Step::Bounced { lane });
+    }
+}

@@ -1,0 +1,20 @@
+//! The scheduling core: which events wait, which are out, what is taken from the lanes and what is given to them. Each
+//! call appends the steps that it makes to a log, and the transcript that they form stays lawful.
+#![tactic(auto)]
+
+mod give;
+mod lane;
+mod new;
+mod offer;
+mod propose;
+mod queue;
+mod skips;
+mod state;
+mod take;
+#[cfg(test)]
+mod tests;
+
+pub use offer::Offer;
+pub use skips::Skips;
+pub use state::{Core, Memory};
+pub use take::Took;

@@ -1,0 +1,132 @@
+//! The choice of the event that is given next, and of its lane.
+
+ghost use Rattle.std.specs.Prelude.{◌≡◌, ℕ, ◌<◌, ◌↔◌, IsTrue, List, length, Some, IfSome, IfNone};
+ghost use Rattle.evt_types.specs.Allowed.{Allowed};
+ghost use Rattle.evt_types.specs.Choice.{Fits, HasQuota, HasNoOther, HasNone, HasNoChoice, IsBetterLane, IsOffer};
+ghost use Rattle.evt_types.specs.Plan.{lanes_of};
+ghost use Rattle.evt_types.specs.Standing.{Stands};
+ghost use Rattle.evt_types.specs.Transcript.{event_at};
+ghost use Rattle.evt_types.specs.declared.step.Step.{Step as StepValue};
+ghost use Rattle.evt_types.specs.declared.step.Step.TheVariants as steps;
+ghost use Rattle.sched_core.specs.Offered.{numbered_in, FitsSlot, IsOfferOf, better_of};
+
+use crate::offer::Offer;
+use crate::skips::Skips;
+use crate::state::Core;
+use evt_types::{Delivery, Numbered};
+
+impl Core {
+    /// The event to be given next, where some lane may take one: of the first queue that has such an event its first one,
+    /// to the lane with fewest unanswered events.
+    pub fn propose(&self, skips: &Skips) -> Option<Offer>
+        ensures offer { IfSome result (λ o. IsOffer self.now o.lane o.delivery.queue (numbered_in o.delivery)) }
+        ensures fits { IfSome result (λ o. HasQuota self.now skips.now o.delivery.queue × Fits self.now skips.now o.lane o.delivery.queue (numbered_in o.delivery)) }
+        ensures lane { IfSome result (λ o. (m : ℕ) → Fits self.now skips.now m o.delivery.queue (numbered_in o.delivery) → ¬ IsBetterLane self.now m o.lane) }
+        ensures none { IfNone result (HasNoChoice self.now skips.now) }
+        ensures keeps { (T : List StepValue) → Stands T self.now → IfSome result (λ o. Allowed self.now.shape T (steps.Give o.lane o.delivery.queue o.delivery.number) × (event_at T o.delivery.queue o.delivery.number ≡ Some o.delivery.event)) }
+    {
+        let count = self.shape.queues().len();
+        let sweep = self.shape.sweep();
+        for queue in 0..count {
+            if skips.has_quota(queue, sweep) {
+                let offer = self.offer_of(queue, skips);
+                if offer.is_some() {
+                    return offer;
+                }
+            }
+        }
+        None
+    }
+
+    /// The queue's first event that some lane may take.
+    fn offer_of(&self, queue: usize, skips: &Skips) -> Option<Offer>
+        requires { queue < length self.now.shape.queues }
+        ensures offer { IfSome result (IsOfferOf self.now skips.now queue) }
+        ensures none { IfNone result (HasNone self.now skips.now queue) }
+    {
+        for waiting in self.waiting(queue) {
+            let offer = self.offer_for(queue, waiting, skips);
+            if offer.is_some() {
+                return offer;
+            }
+        }
+        None
+    }
+
+    /// The event for the best lane that may take it.
+    fn offer_for(&self, queue: usize, waiting: &Numbered, skips: &Skips) -> Option<Offer>
+        requires { queue < length self.now.shape.queues }
+        ensures same { IfSome result (λ o. (numbered_in o.delivery ≡ waiting.now) × (o.delivery.queue ≡ queue)) }
+        ensures fits { IfSome result (λ o. Fits self.now skips.now o.lane queue waiting.now) }
+        ensures best { IfSome result (λ o. (m : ℕ) → Fits self.now skips.now m queue waiting.now → ¬ IsBetterLane self.now m o.lane) }
+        ensures none { IfNone result ((m : ℕ) → ¬ Fits self.now skips.now m queue waiting.now) }
+    {
+        let Numbered { number, event } = *waiting;
+        let slot = self.shape().slot_of(queue, event.flow);
+        match self.lane_for(queue, slot, skips) {
+            Some(lane) => Some(Offer {
+                lane,
+                delivery: Delivery {
+                    event,
+                    queue,
+                    number,
+                },
+            }),
+            None => None,
+        }
+    }
+
+    /// Of the lanes that may take an event of the slot the one with fewest unanswered events, of several the first.
+    fn lane_for(&self, queue: usize, slot: usize, skips: &Skips) -> Option<usize>
+        requires { queue < length self.now.shape.queues }
+        ensures fits { IfSome result (FitsSlot self.now skips.now queue slot) }
+        ensures best { IfSome result (λ l. (m : ℕ) → FitsSlot self.now skips.now queue slot m → ¬ IsBetterLane self.now m l) }
+        ensures none { IfNone result ((l : ℕ) → ¬ FitsSlot self.now skips.now queue slot l) }
+    {
+        let count = self.shape().lanes();
+        let mut best = None;
+        for lane in 0..count {
+            if self.fits(lane, queue, slot, skips) {
+                best = Some(self.better_lane(best, lane));
+            }
+        }
+        best
+    }
+
+    /// Whether the lane may take an event of the slot.
+    fn fits(&self, lane: usize, queue: usize, slot: usize, skips: &Skips) -> bool
+        requires lane { lane < lanes_of self.now.shape }
+        requires queue { queue < length self.now.shape.queues }
+        ensures { IsTrue result ↔ FitsSlot self.now skips.now queue slot lane }
+    {
+        !skips.has_bounced(lane)
+            && self.shape.serves(lane, queue, slot)
+            && self.lanes[lane].unanswered.len() < self.shape.depth_of(lane)
+            && self.is_alone(lane, queue, slot)
+    }
+
+    /// Whether no other lane has an unanswered event of the slot.
+    fn is_alone(&self, lane: usize, queue: usize, slot: usize) -> bool
+        ensures { IsTrue result ↔ HasNoOther self.now lane queue slot }
+    {
+        for other in 0..self.lanes.len() {
+            if other != lane && self.lanes[other].holds(queue, slot) {
+                return false;
+            }
+        }
+        true
+    }
+
+    /// The one with fewer unanswered events.
+    fn better_lane(&self, best: Option<usize>, lane: usize) -> usize
+        requires lane { lane < lanes_of self.now.shape }
+        requires best { IfSome best (λ b. b < lanes_of self.now.shape) }
+        ensures { result ≡ better_of self.now best lane }
+    {
+        match best {
+            Some(best) if self.lanes[best].unanswered.len() <= self.lanes[lane].unanswered.len() =>
+                best,
+            _ => lane,
+        }
+    }
+}

@@ -1,0 +1,72 @@
+//! What a sweep passes over.
+
+ghost use Rattle.std.specs.Prelude.{◌≡◌, ◌+◌, ◌<◌, true, slice_set, slice_index, nat_lt};
+ghost use Rattle.evt_types.specs.Choice.{has_bounced};
+ghost use Rattle.sched_core.specs.Skipped.{nothing_passed};
+
+use evt_types::{MAX_PORTS, MAX_QUEUES};
+use std::marker::Model;
+
+/// How many lanes some device has.
+pub const MAX_LANES: usize = MAX_PORTS;
+/// How often one sweep may give from one queue.
+const MAX_GIVEN: u32 = 64;
+
+/// The lanes whose ring refused a delivery in this sweep, and how many events of each queue were given in it.
+#[derive(Drop)]
+pub struct Skips {
+    bounced: [bool; MAX_LANES],
+    given: [u32; MAX_QUEUES],
+}
+
+impl Model for Skips {
+    ghost use Rattle.evt_types.specs.Choice.{Passed};
+
+    ghost Value = { Passed };
+
+    ghost view = { λ a. record { bounced = a.bounced; given = a.given } };
+}
+
+impl Skips {
+    /// Nothing is passed over.
+    pub fn none() -> Skips
+        ensures { result ≡ nothing_passed }
+    {
+        Skips {
+            bounced: [false; MAX_LANES],
+            given: [0; MAX_QUEUES],
+        }
+    }
+
+    /// The lane's ring refused a delivery.
+    pub fn bounced(&mut self, lane: usize)
+        requires { lane < 16 }
+        ensures { self.new ≡ record self.old { bounced = slice_set self.old.bounced lane true } }
+    {
+        self.bounced[lane] = true;
+    }
+
+    /// An event of the queue was given.
+    pub fn given(&mut self, queue: usize)
+        requires queue { queue < 16 }
+        requires count { slice_index self.old.given queue < 64 }
+        ensures { self.new ≡ record self.old { given = slice_set self.old.given queue (slice_index self.old.given queue + 1) } }
+    {
+        self.given[queue] += 1;
+    }
+
+    /// Whether the lane is passed over.
+    pub(crate) fn has_bounced(&self, lane: usize) -> bool
+        ensures { result ≡ has_bounced self.now lane }
+    {
+        self.bounced.get(lane).copied().unwrap_or(false)
+    }
+
+    /// Whether fewer events of the queue were given than the sweep quantum.
+    pub(crate) fn has_quota(&self, queue: usize, sweep: u32) -> bool
+        requires { queue < 16 }
+        ensures { result ≡ nat_lt (slice_index self.now.given queue) sweep }
+    {
+        self.given[queue] < sweep
+    }
+}

@@ -1,0 +1,115 @@
+//! What the core holds, and what can be read of it.
+
+ghost use Rattle.std.specs.Prelude.{◌≡◌, ◌+◌, ◌<◌, ◌≤◌, ◌++◌, List, length, map, sum_by, vec_len, vec_capacity};
+ghost use Rattle.evt_types.specs.Standing.{Stands, inside_of, waiting_at};
+ghost use Rattle.evt_types.specs.Transcript as transcripts;
+ghost use Rattle.evt_types.specs.declared.event.Numbered.{Numbered as NumberedValue};
+ghost use Rattle.evt_types.specs.declared.step.Step.{Step as StepValue};
+ghost use Rattle.sched_core.specs.Sweep.{kept_room, sweep_steps};
+ghost use Rattle.sched_core.specs.Inner.{IsRising};
+
+use crate::lane::Lane;
+use crate::queue::Queue;
+use evt_types::{Numbered, QueueDraft, Shape};
+use std::alloc::AllocError;
+use std::marker::Model;
+
+/// Want of memory.
+pub type Memory = AllocError;
+
+/// The scheduling core of a device.
+#[derive(Drop)]
+pub struct Core {
+    pub(crate) shape: Shape,
+    pub(crate) queues: Vec<Queue>,
+    pub(crate) lanes: Vec<Lane>,
+    /// How many events wait or are unanswered.
+    pub(crate) inside: usize,
+    /// How many events were accepted.
+    pub(crate) entries: u64,
+}
+
+impl Model for Core {
+    ghost use Rattle.evt_types.specs.Standing.{View};
+
+    ghost Value = { View };
+
+    ghost use Rattle.sched_core.specs.View.{view_in, IsCore};
+
+    ghost view = { view_in };
+
+    ghost invariant = { IsCore };
+}
+
+/// How many events the queues may keep.
+fn kept_room(queues: &[QueueDraft]) -> usize
+    requires { length queues.now ≤ 16 }
+    ensures { result ≡ sum_by kept_room queues.now }
+{
+    queues
+        .iter()
+        .map(|queue| if queue.kind.is_ordered() {
+            queue.order as usize
+        } else {
+            0
+        })
+        .sum()
+}
+
+impl Core {
+    /// The configuration.
+    pub fn shape(&self) -> &Shape
+        ensures { result.now ≡ self.now.shape }
+    {
+        &self.shape
+    }
+
+    /// How many events wait or are unanswered.
+    pub fn inside(&self) -> usize
+        ensures value { result ≡ inside_of self.now }
+        ensures model { (T : List StepValue) → Stands T self.now → result ≡ transcripts.inside self.now.shape T }
+    {
+        self.inside
+    }
+
+    /// Room in a log that is enough for one sweep: the shut step, for each reply taken its answer and one event accepted,
+    /// the events that were kept, each event given, and each lane whose ring was full.
+    pub fn log_room(&self) -> usize
+        ensures { result ≡ sweep_steps self.now.shape }
+    {
+        let sweep = self.shape.sweep() as usize;
+        let queues = self.shape.queues();
+        let kept = kept_room(queues);
+        let lanes = self.shape.lanes();
+        1 + 2 * sweep * lanes + kept + sweep * queues.len() + lanes
+    }
+
+    /// How many events of the queue wait.
+    pub fn waiting_len(&self, queue: usize) -> usize
+        requires { queue < length self.now.shape.queues }
+        ensures { result ≡ length (waiting_at self.now queue) }
+    {
+        self.queues[queue].waiting.len()
+    }
+
+    /// Appends the numbers of the queue's waiting events, rising.
+    pub fn list_waiting(&self, queue: usize, into: &mut Vec<u64>)
+        requires queue { queue < length self.now.shape.queues }
+        requires room { vec_len into.old + length (waiting_at self.now queue) ≤ vec_capacity into.old }
+        ensures numbers { into.new.items ≡ into.old.items ++ map (λ (w : NumberedValue). w.number) (waiting_at self.now queue) }
+        ensures room { vec_capacity into.new ≡ vec_capacity into.old }
+    {
+        for waiting in self.waiting(queue) {
+            into.push_reserved(waiting.number);
+        }
+    }
+
+    /// The queue's waiting events, by rising number.
+    pub(crate) fn waiting(&self, queue: usize) -> &[Numbered]
+        requires { queue < length self.now.shape.queues }
+        ensures value { result.now ≡ waiting_at self.now queue }
+        ensures rising { IsRising result.now }
+    {
+        &self.queues[queue].waiting
+    }
+}

@@ -1,0 +1,121 @@
+//! Replies of the lanes are taken.
+
+ghost use Rattle.std.specs.Prelude.{◌≡◌, ◌≢◌, ◌+◌, ◌<◌, ◌≤◌, true, List, [], ◌∷◌, ◌++◌, length, vec_len, vec_capacity};
+ghost use Rattle.evt_types.specs.Plan.{lanes_of};
+ghost use Rattle.evt_types.specs.Standing.{Stands, AreStepsOf, may_take, may_enter, may_answer, steps_of, after, after_accept};
+ghost use Rattle.evt_types.specs.declared.step.Step.{Step as StepValue};
+ghost use Rattle.sched_core.specs.Taken.{took_of, after_answer};
+ghost use Rattle.sched_core.specs.View.{IsPlain};
+
+use crate::state::Core;
+use evt_types::{Event, Op, Outcome, Reply, Source, Step};
+
+/// What became of a reply.
+#[derive(Clone, Copy, Debug, PartialEq, Eq)]
+pub enum Took {
+    /// Its event waits in its queue.
+    Accepted,
+    /// Its event is kept until all that was handed out before is answered.
+    Kept,
+    /// The event that it answers is done with.
+    Released,
+    /// It was turned away, since the core is shut.
+    Turned,
+}
+
+/// How many events a core accepts in all.
+const MAX_ENTRIES: u64 = 1 << 63;
+
+impl Core {
+    /// Whether the lane's reply may be taken now.
+    pub fn takes(&self, lane: usize, reply: &Reply) -> bool
+        requires lane { lane < lanes_of self.now.shape }
+        requires no_forward { reply.now.event.op ≢ Op.Forward }
+        ensures { result ≡ may_take self.now lane reply.now.event }
+    {
+        match reply.event.op {
+            Op::New => self.may_enter(usize::from(reply.event.queue)),
+            Op::Release => self.may_answer(lane),
+            Op::Forward => unreachable!(),
+        }
+    }
+
+    /// Whether the queue may accept a new event.
+    fn may_enter(&self, queue: usize) -> bool
+        ensures { result ≡ may_enter self.now queue }
+    {
+        queue < self.queues.len() && self.inside < self.shape.bound() && self.entries < MAX_ENTRIES
+    }
+
+    /// Whether the lane has something to answer.
+    fn may_answer(&self, lane: usize) -> bool
+        requires { lane < lanes_of self.now.shape }
+        ensures { result ≡ may_answer self.now lane }
+    {
+        !self.lanes[lane].unanswered.is_empty()
+    }
+
+    /// Takes the lane's reply, and appends its steps to the log.
+    pub fn take(&mut self, lane: usize, reply: Reply, log: &mut Vec<Step>) -> Took
+        requires lane { lane < lanes_of self.old.shape }
+        requires no_forward { reply.event.op ≢ Op.Forward }
+        requires takes { may_take self.old lane reply.event ≡ true }
+        requires room { vec_len log.old + length (steps_of self.old lane reply.event) ≤ vec_capacity log.old }
+        ensures view { self.new ≡ after self.old (steps_of self.old lane reply.event) }
+        ensures logged { log.new.items ≡ log.old.items ++ steps_of self.old lane reply.event }
+        ensures stands { (T : List StepValue) → Stands T self.old → AreStepsOf self.old.shape T lane reply.event (steps_of self.old lane reply.event) × Stands (T ++ steps_of self.old lane reply.event) self.new }
+        ensures took { result ≡ took_of self.old lane reply.event }
+        ensures shape { self.new.shape ≡ self.old.shape }
+        ensures room { vec_capacity log.new ≡ vec_capacity log.old }
+    {
+        match reply.event.op {
+            Op::New => self.take_new(lane, reply.event, log),
+            Op::Release => self.take_release(lane, log),
+            Op::Forward => unreachable!(),
+        }
+    }
+
+    /// The event waits in its queue.
+    fn take_new(&mut self, lane: usize, event: Event, log: &mut Vec<Step>) -> Took
+        requires takes { may_enter self.old event.queue ≡ true }
+        requires room { vec_len log.old < vec_capacity log.old }
+        ensures view { self.new ≡ after_accept self.old event.queue event }
+        ensures logged { log.new.items ≡ log.old.items ++ Step.Accept event.queue event (Source.New lane) ∷ [] }
+        ensures took { result ≡ Took.Accepted }
+        ensures plain { IsPlain self.old }
+        ensures room { vec_capacity log.new ≡ vec_capacity log.old }
+    {
+        let queue = usize::from(event.queue);
+        let entered = &mut self.queues[queue];
+        entered.accept(event);
+        self.inside += 1;
+        self.entries += 1;
+        log.push_reserved(Step::Accept {
+            queue,
+            event,
+            source: Source::New { lane },
+        });
+        Took::Accepted
+    }
+
+    /// The lane's oldest unanswered event is done with.
+    fn take_release(&mut self, lane: usize, log: &mut Vec<Step>) -> Took
+        requires lane { lane < lanes_of self.old.shape }
+        requires takes { may_answer self.old lane ≡ true }
+        requires room { vec_len log.old < vec_capacity log.old }
+        ensures view { self.new ≡ after_answer self.old lane }
+        ensures logged { log.new.items ≡ log.old.items ++ Step.Done lane Outcome.Released ∷ [] }
+        ensures took { result ≡ Took.Released }
+        ensures plain { IsPlain self.old }
+        ensures room { vec_capacity log.new ≡ vec_capacity log.old }
+    {
+        let answering = &mut self.lanes[lane];
+        answering.answer();
+        self.inside -= 1;
+        log.push_reserved(Step::Done {
+            lane,
+            outcome: Outcome::Released,
+        });
+        Took::Released
+    }
+}

@@ -1,0 +1,78 @@
+//! The program `evsched`: it plays the script of a document, which stands on standard input, on an event device.
+#![tactic(auto)]
+
+use arrayvec::ArrayString;
+use pipeline_app::{AppFault, Choice, choice, fault_line, play};
+use std::process::ExitCode;
+use std::rt::Env;
+use std::{env, io};
+
+/// The status after a command line that is refused.
+const REFUSED: u8 = 2;
+
+/// Prints the line of a fault, and gives its status.
+fn failed(rt: &impl Eprint, fault: &AppFault) -> u8 {
+    let mut line = ArrayString::new();
+    let status = fault_line(fault, &mut line);
+    let text = line.as_str();
+    let _ = eprintln!(rt; "{text}");
+    status
+}
+
+/// Prints what a command line that is no choice gave: help on standard output, all else on standard error.
+fn explained(rt: &(impl Print + Eprint), status: u8, text: &str) -> u8 {
+    match status {
+        0 => match print!(rt; "{text}") {
+            Ok(()) => status,
+            Err(_) => failed(rt, &AppFault::Write),
+        },
+        REFUSED => {
+            let _ = eprint!(rt; "{text}");
+            status
+        }
+        _ => failed(rt, &AppFault::Memory),
+    }
+}
+
+/// The words of the command line, or the status of a fault in them.
+fn args<R: AllocGlobal + Env + Eprint>(rt: &R) -> Result<Vec<String>, u8> {
+    match env::args(rt) {
+        Ok(args) => args
+            .collect(rt.alloc())
+            .map_err(|_| failed(rt, &AppFault::Memory)),
+        Err(error) if error.kind() == io::ErrorKind::InvalidData => {
+            let _ = eprintln!(rt; "evsched: a word of the command line isn't UTF-8");
+            Err(REFUSED)
+        }
+        Err(_) => Err(failed(rt, &AppFault::Memory)),
+    }
+}
+
+/// Does what the words after the program's name ask for, and gives the status.
+fn run<R: AllocGlobal + Env + Input + Print + Eprint>(rt: &R, words: &[&str]) -> u8 {
+    let alloc = rt.alloc();
+    let mut text = String::new(alloc);
+    match choice(alloc, words, &mut text) {
+        Ok(Choice::Play) => match play(alloc, &mut rt.reader(), &mut io::writer(rt)) {
+            Ok(()) => 0,
+            Err(fault) => failed(rt, &fault),
+        },
+        Err(status) => explained(rt, status, text.as_str()),
+    }
+}
+
+fn main(rt: HostRuntime) -> ExitCode {
+    let args = match args(&rt) {
+        Ok(args) => args,
+        Err(status) => return ExitCode::from(status),
+    };
+    let words: Result<Vec<&str>, _> = args
+        .iter()
+        .skip(1)
+        .map(|word| word.as_str())
+        .collect(rt.alloc());
+    match words {
+        Ok(words) => ExitCode::from(run(&rt, &words)),
+        Err(_) => ExitCode::from(failed(&rt, &AppFault::Memory)),
+    }
+}

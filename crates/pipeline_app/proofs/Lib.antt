@@ -1,0 +1,13 @@
+pub mod Answered
+pub mod Counts
+pub mod EarlyFaults
+pub mod HexWords
+pub mod Items
+pub mod Keys
+pub mod Lines
+pub mod Numerals
+pub mod Playing
+pub mod Plays
+pub mod PortPairs
+pub mod Ranges
+pub mod Tables

@@ -1,0 +1,174 @@
+-- What the ports have left, as the device goes on.
+use Rattle.std.proofs.Common.{◌≡◌, ◌≢◌, ℕ, ◌<◌, ◌≤◌, ⊎_elim, true, false, cond, eqb, List, [], ◌∷◌, ◌++◌, Option, Some, None, length, get_or, set, refl, sym, ap, subst, ◌∙◌, append_assoc, length-set, arith}
+use Rattle.std.specs.Prelude.{All, Vec, filter_map}
+use Rattle.std.specs.declared.alloc.Global.{Global}
+use Rattle.std.proofs.lemmas.Bool.{cases_eq, cases_lt, eq-eqb, ne_eqb}
+use Rattle.std.proofs.lemmas.Grind.{get_or-set_at}
+use Rattle.std.proofs.lemmas.List.{append-nil, get_or-set_other, get_or_past}
+use Rattle.std.proofs.lemmas.List.Elements.{All-get_or, filter_map-append}
+use Rattle.evt_types.specs.Plan.{Plan, is_atomic, is_ordered, lanes_of, queue_of}
+use Rattle.evt_types.specs.Standing.{View, Stands, steps_of, steps_by, accepts_of, oldest_at}
+use Rattle.evt_types.specs.Transcript.{Held, out, given_to}
+use Rattle.evt_types.specs.declared.draft.QueueDraft.{QueueDraft}
+use Rattle.evt_types.specs.declared.event.Event.{Event}
+use Rattle.evt_types.specs.declared.event.Kind.{Kind}
+use Rattle.evt_types.specs.declared.event.Kind.TheVariants.{Ordered, Atomic, Parallel}
+use Rattle.evt_types.specs.declared.event.Op.{Op}
+use Rattle.evt_types.specs.declared.event.Op.TheVariants.{New, Forward, Release}
+use Rattle.evt_types.specs.declared.step.Outcome.TheVariants.{Released}
+use Rattle.evt_types.specs.declared.step.Source.TheVariants as sources
+use Rattle.evt_types.specs.declared.step.Step.{Step}
+use Rattle.evt_types.specs.declared.step.Step.TheVariants.{Accept, Give, Done, Turned, Bounced}
+use Rattle.pipeline_app.specs.Pairs.{IsLeftOf, pairs_at}
+use Rattle.pipeline_app.specs.Rig.{AreAtomic, HaveLeft, IsRig}
+use Rattle.pipeline_app.specs.declared.pool.Pool.{Pool}
+use Rattle.pipeline_app.specs.declared.rig.Rig.{Rig}
+use Rattle.pipeline_app.specs.declared.rig_port.RigPort.{RigPort}
+use Rattle.pipeline_app.proofs.PortPairs.{IsLeftOf-same, IsLeftOf-trans}
+
+-- a port with less left
+pub HaveLeft-set : (T : List Step) (ports : List RigPort) (i : ℕ) (d0 port : RigPort) → HaveLeft T ports → i < length ports → IsLeftOf (pairs_at port) (pairs_at (get_or ports i d0)) → HaveLeft T (set ports i port)
+HaveLeft-set T ports i d0 port h lt left l d in_range =
+    ⊎_elim (λ (e : l ≡ i).
+    let P : RigPort → Type 0 = λ x. IsLeftOf (pairs_at x) (out T l) in
+    let Q : ℕ → Type 0 = λ k. IsLeftOf (pairs_at port) (out T k) in
+    subst P (sym (get_or-set_at ports i l port d e lt)) (subst Q (sym e) (IsLeftOf-trans _ _ _ left (h i d0 lt))))
+    (λ (ne : l ≡ i → ⊥).
+    let P : RigPort → Type 0 = λ x. IsLeftOf (pairs_at x) (out T l) in
+    let low : l < length ports = omega (arith, length-set ports i port) in
+    subst P (sym (get_or-set_other ports i l port d ne)) (h l d low))
+    (cases_eq l i)
+
+-- a log by which no lane was given anything more
+pub HaveLeft-log : (T S : List Step) (ports : List RigPort) → HaveLeft T ports → ((l : ℕ) → out S l ≡ out T l) → HaveLeft S ports
+HaveLeft-log T S ports h e l d lt =
+    let P : List (ℕ × ℕ) → Type 0 = λ xs. IsLeftOf (pairs_at (get_or ports l d)) xs in
+    subst P (sym (e l)) (h l d lt)
+
+-- one step, which gives nothing
+pub record IsQuiet (steps : List Step) : Type 0 where
+  pub count : length steps ≡ 1
+  pub quiet : (m : ℕ) → filter_map (given_to m) steps ≡ []
+
+pub out-quiet : (T steps : List Step) (m : ℕ) → IsQuiet steps → out (T ++ steps) m ≡ out T m
+unfolding out
+out-quiet T steps m h = filter_map-append (given_to m) T steps ∙ (ap (λ xs. filter_map (given_to m) T ++ xs) (h.quiet m) ∙ append-nil (filter_map (given_to m) T))
+
+not_ordered : (k : Kind) → is_atomic k ≡ true → is_ordered k ≡ false
+not_ordered Atomic h = refl
+not_ordered Ordered h = absurd (cc)
+not_ordered Parallel h = absurd (cc)
+
+-- where each queue is atomic, none restores an order
+pub none_ordered : (p : Plan) (q : ℕ) → AreAtomic p → is_ordered (queue_of p q).kind ≡ false
+none_ordered p q h =
+    let d : QueueDraft = record { kind = Parallel; priority = 0; slots = 0; order = 0; single = false } in
+    ⊎_elim (λ (lt : q < length p.queues). not_ordered (queue_of p q).kind (All-get_or (λ (x : QueueDraft). is_atomic x.kind ≡ true) p.queues q d lt h))
+    (λ (ge : length p.queues ≤ q). ap (λ (x : QueueDraft). is_ordered x.kind) (get_or_past p.queues q d ge))
+    (cases_lt q (length p.queues))
+
+released_none : (v : View) (h : Option Held) → AreAtomic v.shape → accepts_of v h Released ≡ []
+released_none v None a = refl
+released_none v (Some h) a = rw (none_ordered v.shape h.queue a) refl
+
+steps_one : (o : Op) (v : View) (l : ℕ) (e : Event) → AreAtomic v.shape → o ≢ Forward → IsQuiet (steps_by o v l e)
+steps_one New v l e a ne = elim v.shut as (λ b. IsQuiet (cond b (Turned l e ∷ []) (Accept e.queue e (sources.New l) ∷ []))) [ true ↦ record { count = refl; quiet = λ m. refl } | false ↦ record { count = refl; quiet = λ m. refl } ]
+steps_one Forward v l e a ne = absurd (ne refl)
+steps_one Release v l e a ne =
+    let P : List Step → Type 0 = λ xs. IsQuiet (Done l Released ∷ xs) in
+    subst P (sym (released_none v (oldest_at v l) a)) (record { count = refl; quiet = λ m. refl })
+
+-- a reply that forwards nothing
+pub IsQuiet-reply : (v : View) (l : ℕ) (e : Event) → AreAtomic v.shape → e.op ≢ Forward → IsQuiet (steps_of v l e)
+IsQuiet-reply v l e a ne = steps_one e.op v l e a ne
+
+-- what a Give adds to each lane's pairs
+given_more : (T : List Step) (i q n m : ℕ) → out (T ++ Give i q n ∷ []) m ≡ out T m ++ cond (eqb i m) ((q, n) ∷ []) []
+unfolding out
+given_more T i q n m =
+    filter_map-append (given_to m) T (Give i q n ∷ [])
+    ∙ ap (λ xs. filter_map (given_to m) T ++ xs) (elim (eqb i m) as (λ b. filter_map (λ (x : Option (ℕ × ℕ)). x) (cond b (Some (q, n)) None ∷ []) ≡ cond b ((q, n) ∷ []) []) [ true ↦ refl | false ↦ refl ])
+
+-- a port with one pair more, which was given
+pub HaveLeft-give : (T : List Step) (ports : List RigPort) (i q n : ℕ) (d0 port : RigPort) → HaveLeft T ports → i < length ports → pairs_at port ≡ pairs_at (get_or ports i d0) ++ (q, n) ∷ [] → HaveLeft (T ++ Give i q n ∷ []) (set ports i port)
+HaveLeft-give T ports i q n d0 port h lt pairs l d in_range =
+    ⊎_elim (λ (e : l ≡ i).
+    let P : RigPort → Type 0 = λ x. IsLeftOf (pairs_at x) (out (T ++ Give i q n ∷ []) l) in
+    let Q : ℕ → Type 0 = λ k. IsLeftOf (pairs_at port) (out (T ++ Give i q n ∷ []) k) in
+    let old = h i d0 lt in
+    let all : out (T ++ Give i q n ∷ []) i ≡ out T i ++ (q, n) ∷ [] = given_more T i q n i ∙ ap (λ b. out T i ++ cond b ((q, n) ∷ []) []) (eq-eqb i i refl) in
+    let here : IsLeftOf (pairs_at port) (out (T ++ Give i q n ∷ []) i) =
+    (old.0, ap (λ xs. old.0 ++ xs) pairs ∙ (sym (append_assoc old.0 (pairs_at (get_or ports i d0)) ((q, n) ∷ [])) ∙ (ap (λ xs. xs ++ (q, n) ∷ []) old.1 ∙ sym all))) in
+    subst P (sym (get_or-set_at ports i l port d e lt)) (subst Q (sym e) here))
+    (λ (ne : l ≡ i → ⊥).
+    let P : RigPort → Type 0 = λ x. IsLeftOf (pairs_at x) (out (T ++ Give i q n ∷ []) l) in
+    let R : List (ℕ × ℕ) → Type 0 = λ xs. IsLeftOf (pairs_at (get_or ports l d)) xs in
+    let low : l < length ports = omega (arith, length-set ports i port) in
+    let all : out (T ++ Give i q n ∷ []) l ≡ out T l = given_more T i q n l ∙ (ap (λ b. out T l ++ cond b ((q, n) ∷ []) []) (ne_eqb i l (λ e. ne (sym e))) ∙ append-nil (out T l)) in
+    subst P (sym (get_or-set_other ports i l port d ne)) (subst R (sym all) (h l d low)))
+    (cases_eq l i)
+
+-- ---- the device goes on
+
+-- everything but the parts that are named stays
+pub IsRig-from : (r : Rig) (core : View) (ports : Vec RigPort Global) (pool : Pool) (log : Vec Step Global) → IsRig r → Stands log.items core → core.shape ≡ r.core.shape → length ports.items ≡ length r.ports.items → HaveLeft log.items ports.items → IsRig (record { core = core; ports = ports; pool = pool; log = log })
+IsRig-from r core ports pool log h stands e count left = record {
+  stands = stands;
+  atomic = rw e h.atomic;
+  small = rw e h.small;
+  ports = count ∙ (h.ports ∙ ap (λ (p : Plan). length p.ports) (sym e));
+  left = left;
+}
+
+-- a port has less left
+pub IsRig-port : (r : Rig) (ports : Vec RigPort Global) (pool : Pool) (i : ℕ) (before port : RigPort) → IsRig r → i < lanes_of r.core.shape → ports.items ≡ set r.ports.items i port → before ≡ get_or r.ports.items i before → IsLeftOf (pairs_at port) (pairs_at before) → IsRig (record { core = r.core; ports = ports; pool = pool; log = r.log })
+IsRig-port r ports pool i before port h lt e is left =
+    let in_range : i < length r.ports.items = omega (arith, h.ports) in
+    let P : RigPort → Type 0 = λ x. IsLeftOf (pairs_at port) (pairs_at x) in
+    let Q : List RigPort → Type 0 = λ xs. HaveLeft r.log.items xs in
+    IsRig-from r r.core ports pool r.log h h.stands refl (ap length e ∙ length-set r.ports.items i port) (subst Q (sym e) (HaveLeft-set r.log.items r.ports.items i before port h.left in_range (subst P is left)))
+
+-- the core took a step that gives nothing, and a port has what it had
+pub IsRig-quiet : (r : Rig) (core : View) (ports : Vec RigPort Global) (pool : Pool) (log : Vec Step Global) (steps : List Step) (i : ℕ) (before port : RigPort) → IsRig r → i < lanes_of r.core.shape → ports.items ≡ set r.ports.items i port → before ≡ get_or r.ports.items i before → pairs_at port ≡ pairs_at before
+    → log.items ≡ r.log.items ++ steps → IsQuiet steps → Stands (r.log.items ++ steps) core → core.shape ≡ r.core.shape → IsRig (record { core = core; ports = ports; pool = pool; log = log })
+IsRig-quiet r core ports pool log steps i before port h lt e is same logged quiet stands shape =
+    let P : List Step → Type 0 = λ T. Stands T core in
+    let Q : List Step → Type 0 = λ T. HaveLeft T ports.items in
+    let k : IsRig (record { core = r.core; ports = ports; pool = pool; log = r.log }) = IsRig-port r ports pool i before port h lt e is (IsLeftOf-same _ _ same) in
+    IsRig-from r core ports pool log h (subst P (sym logged) stands) shape (ap length e ∙ length-set r.ports.items i port)
+    (subst Q (sym logged) (HaveLeft-log r.log.items (r.log.items ++ steps) ports.items k.left (λ l. out-quiet r.log.items steps l quiet)))
+
+-- the core took a step that gives nothing
+pub IsRig-step : (r : Rig) (core : View) (log : Vec Step Global) (steps : List Step) → IsRig r → log.items ≡ r.log.items ++ steps → IsQuiet steps → Stands (r.log.items ++ steps) core → core.shape ≡ r.core.shape → IsRig (record { core = core; ports = r.ports; pool = r.pool; log = log })
+IsRig-step r core log steps h logged quiet stands shape =
+    let P : List Step → Type 0 = λ T. Stands T core in
+    let Q : List Step → Type 0 = λ T. HaveLeft T r.ports.items in
+    IsRig-from r core r.ports r.pool log h (subst P (sym logged) stands) shape refl
+    (subst Q (sym logged) (HaveLeft-log r.log.items (r.log.items ++ steps) r.ports.items h.left (λ l. out-quiet r.log.items steps l quiet)))
+
+-- the core gave, and the port has one pair more
+pub IsRig-give : (r : Rig) (core : View) (ports : Vec RigPort Global) (log : Vec Step Global) (i q n : ℕ) (before port : RigPort) → IsRig r → i < lanes_of r.core.shape → ports.items ≡ set r.ports.items i port → before ≡ get_or r.ports.items i before → pairs_at port ≡ pairs_at before ++ (q, n) ∷ []
+    → log.items ≡ r.log.items ++ Give i q n ∷ [] → Stands (r.log.items ++ Give i q n ∷ []) core → core.shape ≡ r.core.shape → IsRig (record { core = core; ports = ports; pool = r.pool; log = log })
+IsRig-give r core ports log i q n before port h lt e is more logged stands shape =
+    let in_range : i < length r.ports.items = omega (arith, h.ports) in
+    let P : List Step → Type 0 = λ T. Stands T core in
+    let Q : List Step → Type 0 = λ T. HaveLeft T ports.items in
+    let R : List RigPort → Type 0 = λ xs. HaveLeft (r.log.items ++ Give i q n ∷ []) xs in
+    let more' : pairs_at port ≡ pairs_at (get_or r.ports.items i before) ++ (q, n) ∷ [] = more ∙ ap (λ x. pairs_at x ++ (q, n) ∷ []) is in
+    IsRig-from r core ports r.pool log h (subst P (sym logged) stands) shape (ap length e ∙ length-set r.ports.items i port)
+    (subst Q (sym logged) (subst R (sym e) (HaveLeft-give r.log.items r.ports.items i q n before port h.left in_range more')))
+
+pub IsQuiet-bounced : (l : ℕ) → IsQuiet (Bounced l ∷ [])
+IsQuiet-bounced l = record { count = refl; quiet = λ m. refl }
+
+-- nothing was given to the ports of a new device
+pub HaveLeft-none : (ports : List RigPort) → All (λ (x : RigPort). pairs_at x ≡ []) ports → HaveLeft [] ports
+unfolding out
+HaveLeft-none ports h l d lt = ([], All-get_or (λ (x : RigPort). pairs_at x ≡ []) ports l d lt h)
+
+-- a log that was moved holds the same steps
+pub IsRig-log : (r : Rig) (log : Vec Step Global) → IsRig r → log.items ≡ r.log.items → IsRig (record { core = r.core; ports = r.ports; pool = r.pool; log = log })
+IsRig-log r log h e =
+    let P : List Step → Type 0 = λ T. Stands T r.core in
+    let Q : List Step → Type 0 = λ T. HaveLeft T r.ports.items in
+    IsRig-from r r.core r.ports r.pool log h (subst P (sym e) h.stands) refl refl (subst Q (sym e) h.left)

@@ -1,0 +1,40 @@
+use Rattle.std.proofs.Common.{◌≡◌, Result, Ok, Err, IfOk, ap, ◌∙◌}
+use Rattle.pipeline_app.specs.Text.{text_of}
+use Rattle.pipeline_app.proofs.drive.run_text.Goals as goal
+
+-- what follows from what holds of an `Ok`
+if_ok : {X E : Type 0} (P Q : X → Type 0) (r : Result X E) → ((x : X) → P x → Q x) → IfOk r P → IfOk r Q
+if_ok P Q (Ok x) f h = f x h
+if_ok P Q (Err e) f h = tt
+
+pub returns : goal.returns
+returns c =
+    let rig = c.obey_all.new.self in
+    let report = c.in_ok-report.report in
+    let of_document : rig.core.shape ≡ c.args.document.shape = c.in_ok-answers.ensures.shape ∙ c.in_ok-rig.ensures.shape in
+    if_ok _ _ c.text_of.result
+    (λ text e. record {
+      answers = c.in_ok-answers.answers.items;
+      log = rig.log.items;
+      report = report;
+      view = rig.core;
+      ports = rig.ports.items;
+      shape = of_document;
+      answered = rw c.deref.ensures.value at c.in_ok-answers.ensures.answers;
+      stands = c.in_ok-answers.ensures.sound.stands;
+      reported = record {
+        waiting = c.in_ok-report.ensures.waiting;
+        lanes = c.in_ok-answers.ensures.sound.ports;
+        left = c.in_ok-answers.ensures.sound.left;
+        held = c.in_ok-report.ensures.held;
+        undelivered = c.in_ok-report.ensures.undelivered;
+        untaken = c.in_ok-report.ensures.untaken;
+        pockets = c.in_ok-report.ensures.pockets;
+        own = c.in_ok-report.ensures.own;
+        limit = c.in_ok-report.ensures.limit;
+      };
+      written = e ∙ ap (λ p. text_of p c.deref-2.result.now c.deref-3.result.now report) (c.shape.ensures ∙ of_document)
+          ∙ ap (λ answers. text_of c.args.document.shape answers c.deref-3.result.now report) c.deref-2.ensures.value
+          ∙ ap (λ log. text_of c.args.document.shape c.in_ok-answers.answers.items log report) c.deref-3.ensures.value;
+    })
+    c.text_of.ensures

@@ -1,0 +1,9 @@
+use Rattle.std.proofs.Common.{◌≡◌, take, map}
+use Rattle.pipeline_app.specs.Command.{line_of}
+use Rattle.pipeline_app.specs.Play.{AreAnswers}
+use Rattle.pipeline_app.specs.Rig.{IsRig}
+use Rattle.pipeline_app.proofs.rig.Rig.obey_all.Given as goal
+
+abbrev pub invariant-loop-command : goal.invariant-loop-command
+invariant-loop-command l =
+    IsRig l.self × (l.self.core.shape ≡ l.initial.self.core.shape) × AreAnswers (map line_of (take l.command-index l.commands)) l.answers.items

@@ -1,0 +1,17 @@
+pub mod Command
+pub mod CommandLine
+pub mod Document
+pub mod Drafts
+pub mod FaultText
+pub mod Field
+pub mod Input
+pub mod Judge
+pub mod Output
+pub mod Pairs
+pub mod Play
+pub mod Rig
+pub mod Script
+pub mod Stopped
+pub mod Survey
+pub mod Text
+pub mod Words

@@ -1,0 +1,152 @@
+//! The reading of a document.
+
+ghost use Rattle.std.specs.Prelude.{◌≡◌, [], map, None, IfOk};
+ghost use Rattle.toml.specs.View.{table_view};
+ghost use Rattle.pipeline_app.specs.Command.{AllPortsThere, NoForwards, line_of};
+ghost use Rattle.pipeline_app.specs.Document.{AllAtomic, Gives, GivesDocument, parsed, shape_fault, checked, commands_in, judged, planned, planned_of, document_of};
+ghost use Rattle.pipeline_app.specs.Drafts.{plan_asked};
+ghost use Rattle.pipeline_app.specs.Field.{value_or};
+ghost use Rattle.pipeline_app.specs.Judge.{first_fault};
+ghost use Rattle.pipeline_app.specs.Survey.{survey_seen};
+
+use crate::command::Command;
+use crate::drafts::draft_of;
+use crate::fault::{AppFault, DocFault};
+use crate::field::Field;
+use crate::input::MAX_INPUT;
+use crate::judge::first_fault;
+use crate::script::{ScriptFault, read_script};
+use crate::survey::{Survey, survey_of};
+use evt_types::{Shape, ShapeFault};
+use std::alloc::Global;
+use toml::Table;
+
+/// What a document says: the configuration of a device, and the commands of its script.
+#[derive(Debug, Drop)]
+pub struct Document {
+    pub shape: Shape,
+    pub commands: Vec<Command>,
+}
+
+/// The table that the bytes write.
+fn parsed(alloc: Global, bytes: &[u8]) -> Result<Table, AppFault>
+    ensures { Gives table_view result (parsed bytes.now) }
+{
+    match toml::table_from_slice(alloc, bytes) {
+        Ok(table) => Ok(table),
+        Err(error) => {
+            if error.is_memory() {
+                Err(AppFault::Memory)
+            } else {
+                Err(AppFault::Document(DocFault::BadValue))
+            }
+        }
+    }
+}
+
+/// The fault of a refused configuration.
+fn shape_fault(fault: ShapeFault) -> AppFault
+    ensures { result ≡ shape_fault fault }
+{
+    match fault {
+        ShapeFault::QueueCount
+        | ShapeFault::PortCount
+        | ShapeFault::LimitRange
+        | ShapeFault::QuantumRange
+        | ShapeFault::ThresholdRange
+        | ShapeFault::DepthRange
+        | ShapeFault::FlowSlots
+        | ShapeFault::OrderDepth
+        | ShapeFault::SweepRange
+        | ShapeFault::LinkUnknown
+        | ShapeFault::LinkTwice
+        | ShapeFault::QueueUnlinked
+        | ShapeFault::SingleLinkCount => AppFault::Document(DocFault::BadValue),
+        ShapeFault::Memory => AppFault::Memory,
+    }
+}
+
+/// The configuration that the rows ask for, checked.
+fn shape_of(alloc: Global, survey: &Survey) -> Result<Shape, AppFault>
+    requires { first_fault (survey_seen survey.now) ≡ None }
+    ensures { Gives (λ s. s) result (checked (plan_asked (survey_seen survey.now))) }
+{
+    let draft = draft_of(alloc, survey)?;
+    match Shape::build(alloc, &draft) {
+        Ok(shape) => Ok(shape),
+        Err(fault) => Err(shape_fault(fault)),
+    }
+}
+
+/// The script's text.
+fn script_text<'a>(survey: &Survey<'a>) -> &'a str
+    ensures { result.now ≡ value_or [] (survey_seen survey.now).script }
+{
+    match survey.script {
+        Field::Good(script) => script,
+        Field::Absent | Field::Bad => "",
+    }
+}
+
+/// The commands of a script, for so many ports.
+#[tactic(auto, unfolding(crate::specs::Document::commands_in))]
+fn commands_in(alloc: Global, ports: usize, script: &str) -> Result<Vec<Command>, AppFault>
+    ensures { Gives (λ v. map line_of v.items) result (commands_in ports script.now) }
+{
+    // A script is a part of its document, so it isn't longer.
+    if script.len() > MAX_INPUT {
+        return Err(AppFault::Memory);
+    }
+    match read_script(alloc, ports, script) {
+        Ok(commands) => Ok(commands),
+        Err(ScriptFault::Memory) => Err(AppFault::Memory),
+        Err(ScriptFault::BadLine(_)) => Err(AppFault::Document(DocFault::BadValue)),
+    }
+}
+
+/// What the rows say.
+#[tactic(auto, unfolding(crate::specs::Document::judged))]
+fn judged(alloc: Global, survey: &Survey) -> Result<Document, AppFault>
+    ensures { Gives planned_of result (judged (survey_seen survey.now)) }
+{
+    if let Some(fault) = first_fault(survey) {
+        return Err(AppFault::Document(fault));
+    }
+    let shape = match shape_of(alloc, survey) {
+        Ok(shape) => shape,
+        Err(fault) => return Err(fault),
+    };
+    let ports = shape.lanes();
+    let script = script_text(survey);
+    match commands_in(alloc, ports, script) {
+        Ok(commands) => Ok(Document { shape, commands }),
+        Err(fault) => Err(fault),
+    }
+}
+
+/// What the bytes say.
+#[tactic(auto, unfolding(crate::specs::Document::planned))]
+fn planned(alloc: Global, bytes: &[u8]) -> Result<Document, AppFault>
+    ensures { Gives planned_of result (planned bytes.now) }
+{
+    if bytes.len() > MAX_INPUT {
+        return Err(AppFault::Document(DocFault::BadValue));
+    }
+    let table = match parsed(alloc, bytes) {
+        Ok(table) => table,
+        Err(fault) => return Err(fault),
+    };
+    let survey = survey_of(alloc, &table)?;
+    judged(alloc, &survey)
+}
+
+/// Reads a document: its configuration and its script's commands, or its first fault.
+pub fn read_document(alloc: Global, bytes: &[u8]) -> Result<Document, AppFault>
+    ensures read { GivesDocument result (document_of bytes.now) }
+    // The device serves atomic queues alone.
+    ensures atomic { IfOk result (λ d. AllAtomic d.shape) }
+    ensures ports { IfOk result (λ d. AllPortsThere d.shape d.commands.items) }
+    ensures forwards { IfOk result (λ d. NoForwards d.commands.items) }
+{
+    planned(alloc, bytes)
+}

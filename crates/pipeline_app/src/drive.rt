@@ -1,0 +1,119 @@
+//! A script is played on a device.
+
+ghost use Rattle.std.specs.Prelude.{◌≡◌, IfOk, IfErr, OnOk, map, string_bytes, Some};
+ghost use Rattle.evt_types.specs.Plan.{lanes_of};
+ghost use Rattle.pipeline_app.specs.Command.{IsPortThere, IsNoForward, AllPortsThere, NoForwards, line_of};
+ghost use Rattle.pipeline_app.specs.Play.{IsAnswerTo, AreAnswers, IsRun, HasRun, WritesRun, AfterFault, IsEarlyFault, IsFaultOf};
+ghost use Rattle.pipeline_app.specs.Rig.{AreAtomic, IsRig};
+
+use crate::answer::Answer;
+use crate::command::Command;
+use crate::document::{Document, read_document};
+use crate::fault::AppFault;
+use crate::input::read_all;
+use crate::output::write_text;
+use crate::rig::Rig;
+use crate::text::text_of;
+use std::alloc::{AllocError, Global};
+use std::io::{Read, Write};
+
+impl Rig {
+    /// Carries a command out.
+    fn obey(&mut self, alloc: Global, command: &Command) -> Result<Answer, AllocError>
+        requires sound { IsRig self.old }
+        requires port { IsPortThere (lanes_of self.old.core.shape) command.now }
+        requires no_forward { IsNoForward command.now }
+        ensures sound { OnOk result (IsRig self.new) }
+        ensures shape { self.new.core.shape ≡ self.old.core.shape }
+        ensures answer { IfOk result (λ a. IsAnswerTo (line_of command.now) a) }
+    {
+        match *command {
+            Command::Enqueue { port, event } => {
+                let outcome = self.enqueue(port, event)?;
+                Ok(Answer::Enqueued {
+                    port,
+                    op: event.op,
+                    outcome,
+                })
+            }
+            Command::Dequeue { port, max } => {
+                let outcome = self.dequeue(alloc, port, max)?;
+                Ok(Answer::Dequeued { port, outcome })
+            }
+            Command::Sweep => {
+                let swept = self.sweep()?;
+                Ok(Answer::Swept(swept))
+            }
+        }
+    }
+
+    /// Carries the commands out, one after the other.
+    fn obey_all(&mut self, alloc: Global, commands: &[Command]) -> Result<Vec<Answer>, AllocError>
+        requires sound { IsRig self.old }
+        requires ports { AllPortsThere self.old.core.shape commands.now }
+        requires no_forward { NoForwards commands.now }
+        ensures sound { OnOk result (IsRig self.new) }
+        ensures shape { self.new.core.shape ≡ self.old.core.shape }
+        ensures answers { IfOk result (λ v. AreAnswers (map line_of commands.now) v.items) }
+    {
+        let mut answers = Vec::new(alloc);
+        for command in commands {
+            let answer = self.obey(alloc, command)?;
+            answers.push(answer)?;
+        }
+        Ok(answers)
+    }
+}
+
+/// The text of the document's run.
+fn run_text(alloc: Global, document: Document) -> Result<String, AllocError>
+    requires atomic { AreAtomic document.shape }
+    requires ports { AllPortsThere document.shape document.commands.items }
+    requires no_forward { NoForwards document.commands.items }
+    ensures { IfOk result (λ text. IsRun document.shape (map line_of document.commands.items) (string_bytes text)) }
+{
+    let Document { shape, commands } = document;
+    let mut rig = Rig::new(alloc, shape)?;
+    let answers = rig.obey_all(alloc, &commands)?;
+    let report = rig.report(alloc)?;
+    text_of(alloc, rig.core.shape(), &answers, &rig.log, &report)
+}
+
+/// The text of the run of the document of these bytes.
+fn document_text(alloc: Global, bytes: &[u8]) -> Result<String, AppFault>
+    ensures run { IfOk result (λ text. HasRun (Some bytes.now) (string_bytes text)) }
+    ensures fault { IfErr result (IsEarlyFault (Some bytes.now)) }
+{
+    match read_document(alloc, bytes) {
+        Ok(document) => Ok(run_text(alloc, document)?),
+        Err(fault) => Err(fault),
+    }
+}
+
+/// The text of the run of the document that the reader gives.
+fn played_text<R: Read>(alloc: Global, reader: &mut R) -> Result<String, AppFault>
+    ensures run { IfOk result (λ text. HasRun (R.remaining reader.old) (string_bytes text)) }
+    ensures fault { IfErr result (IsEarlyFault (R.remaining reader.old)) }
+{
+    match read_all(alloc, reader) {
+        Ok(bytes) => document_text(alloc, &bytes),
+        Err(fault) => Err(fault),
+    }
+}
+
+/// Reads a document, plays its script on a device in one thread, and writes the answers, the log and the report. The text
+/// is built whole and then written.
+pub fn play<R: Read, W: Write>(
+    alloc: Global,
+    reader: &mut R,
+    writer: &mut W,
+) -> Result<(), AppFault>
+    ensures ok { OnOk result (WritesRun (R.remaining reader.old) (W.contents writer.old) (W.contents writer.new)) }
+    ensures err { IfErr result (AfterFault (R.remaining reader.old) (W.contents writer.old) (W.contents writer.new)) }
+    ensures fault { IfErr result (IsFaultOf (R.remaining reader.old)) }
+{
+    match played_text(alloc, reader) {
+        Ok(text) => write_text(writer, text.as_bytes()),
+        Err(fault) => Err(fault),
+    }
+}

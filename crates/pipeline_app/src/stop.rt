@@ -1,0 +1,169 @@
+//! What is left in a device in one thread when it is stopped.
+
+ghost use Rattle.std.specs.Prelude.{◌≡◌, ◌<◌, ◌++◌, map, flat_map, length, IfOk, OnOk};
+ghost use Rattle.evt_types.specs.Standing.{waiting_at};
+ghost use Rattle.pipeline_app.specs.Rig.{IsRig};
+ghost use Rattle.pipeline_app.specs.Stopped.{IsReportOf, by_lane, waiting_of, numbers_of, waiting_in, undelivered_of, undelivered_at, held_of, held_at, untaken_of, untaken_at};
+
+use crate::report::{Held, Report, Undelivered, Untaken, Waiting};
+use crate::rig::Rig;
+use crate::rig_port::RigPort;
+use crate::sent::Sent;
+use evt_types::{Delivery, Op};
+use std::alloc::{AllocError, Global};
+
+impl Rig {
+    /// Where the device's events and credits are.
+    pub fn report(&self, alloc: Global) -> Result<Report, AllocError>
+        ensures { IfOk result (λ r. IsReportOf self.now r) }
+    {
+        Ok(Report {
+            waiting: self.waiting(alloc)?,
+            undelivered: undelivered_in(alloc, &self.ports)?,
+            held: held_in(alloc, &self.ports)?,
+            untaken: untaken_in(alloc, &self.ports)?,
+            free: self.pool.free(),
+            pockets: pockets_in(alloc, &self.ports)?,
+            own: 0,
+            limit: u64::from(self.core.shape().limit()),
+        })
+    }
+
+    /// The events that wait, by queue and number.
+    fn waiting(&self, alloc: Global) -> Result<Vec<Waiting>, AllocError>
+        ensures { IfOk result (λ v. v.items ≡ waiting_in self.now.core) }
+    {
+        let mut all = Vec::new(alloc);
+        for queue in 0..self.core.shape().queues().len() {
+            self.add_waiting(alloc, queue, &mut all)?;
+        }
+        Ok(all)
+    }
+
+    fn add_waiting(
+        &self,
+        alloc: Global,
+        queue: usize,
+        all: &mut Vec<Waiting>,
+    ) -> Result<(), AllocError>
+        requires { queue < length self.now.core.shape.queues }
+        ensures { OnOk result (all.new.items ≡ all.old.items ++ map (waiting_of queue) (numbers_of (waiting_at self.now.core queue))) }
+    {
+        let mut numbers = Vec::with_capacity(alloc, self.core.waiting_len(queue))?;
+        self.core.list_waiting(queue, &mut numbers);
+        add_numbers(queue, &numbers, all)
+    }
+}
+
+fn add_numbers(queue: usize, numbers: &[u64], all: &mut Vec<Waiting>) -> Result<(), AllocError>
+    ensures { OnOk result (all.new.items ≡ all.old.items ++ map (waiting_of queue) numbers.now) }
+{
+    for number in numbers {
+        all.push(Waiting {
+            queue,
+            number: *number,
+        })?;
+    }
+    Ok(())
+}
+
+fn add_undelivered(
+    lane: usize,
+    deliveries: &[Delivery],
+    all: &mut Vec<Undelivered>,
+) -> Result<(), AllocError>
+    ensures { OnOk result (all.new.items ≡ all.old.items ++ map (undelivered_of lane) deliveries.now) }
+{
+    for delivery in deliveries {
+        let (queue, number) = (delivery.queue, delivery.number);
+        all.push(Undelivered {
+            lane,
+            queue,
+            number,
+        })?;
+    }
+    Ok(())
+}
+
+fn undelivered_in(alloc: Global, ports: &[RigPort]) -> Result<Vec<Undelivered>, AllocError>
+    ensures { IfOk result (λ v. v.items ≡ by_lane undelivered_at 0 ports.now) }
+{
+    let mut all = Vec::new(alloc);
+    for (lane, port) in ports.iter().enumerate() {
+        let (front, back) = port.deliveries.as_slices();
+        add_undelivered(lane, front, &mut all)?;
+        add_undelivered(lane, back, &mut all)?;
+    }
+    Ok(all)
+}
+
+fn add_held(port: usize, deliveries: &[Delivery], all: &mut Vec<Held>) -> Result<(), AllocError>
+    ensures { OnOk result (all.new.items ≡ all.old.items ++ map (held_of port) deliveries.now) }
+{
+    for delivery in deliveries {
+        let (queue, number) = (delivery.queue, delivery.number);
+        all.push(Held {
+            port,
+            queue,
+            number,
+        })?;
+    }
+    Ok(())
+}
+
+fn held_in(alloc: Global, ports: &[RigPort]) -> Result<Vec<Held>, AllocError>
+    ensures { IfOk result (λ v. v.items ≡ by_lane held_at 0 ports.now) }
+{
+    let mut all = Vec::new(alloc);
+    for (lane, port) in ports.iter().enumerate() {
+        let (front, back) = port.held.as_slices();
+        add_held(lane, front, &mut all)?;
+        add_held(lane, back, &mut all)?;
+    }
+    Ok(all)
+}
+
+/// Adds the reply's event, where it would come in.
+fn add_reply(lane: usize, sent: &Sent, all: &mut Vec<Untaken>) -> Result<(), AllocError>
+    ensures { OnOk result (all.new.items ≡ all.old.items ++ untaken_of lane sent.now) }
+{
+    let event = sent.reply.event;
+    match event.op {
+        Op::New | Op::Forward => {
+            all.push(Untaken { lane, event })?;
+            Ok(())
+        }
+        Op::Release => Ok(()),
+    }
+}
+
+fn add_untaken(lane: usize, replies: &[Sent], all: &mut Vec<Untaken>) -> Result<(), AllocError>
+    ensures { OnOk result (all.new.items ≡ all.old.items ++ flat_map (untaken_of lane) replies.now) }
+{
+    for sent in replies {
+        add_reply(lane, sent, all)?;
+    }
+    Ok(())
+}
+
+fn untaken_in(alloc: Global, ports: &[RigPort]) -> Result<Vec<Untaken>, AllocError>
+    ensures { IfOk result (λ v. v.items ≡ by_lane untaken_at 0 ports.now) }
+{
+    let mut all = Vec::new(alloc);
+    for (lane, port) in ports.iter().enumerate() {
+        let (front, back) = port.replies.as_slices();
+        add_untaken(lane, front, &mut all)?;
+        add_untaken(lane, back, &mut all)?;
+    }
+    Ok(all)
+}
+
+fn pockets_in(alloc: Global, ports: &[RigPort]) -> Result<Vec<u64>, AllocError>
+    ensures { IfOk result (λ v. v.items ≡ map (λ port. port.pocket) ports.now) }
+{
+    let mut pockets = Vec::new(alloc);
+    for port in ports {
+        pockets.push(port.pocket)?;
+    }
+    Ok(pockets)
+}

@@ -1,0 +1,4 @@
+pub mod Accounts
+pub mod Rule
+pub mod Answers
+pub mod Pool

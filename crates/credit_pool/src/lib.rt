@@ -1,0 +1,17 @@
+//! The credits of a device: one shared word, from which any thread draws and to which it gives back, by single atomic steps.
+//!
+//! Bit 0 of the word says that the pool is shut, and the higher bits are the free credits.
+//! Each thread steps with a seat, whose account says what was drawn and returned through it. Between any two steps of any seats,
+//! the free credits and all that was drawn are the limit and all that was returned.
+#![tactic(auto)]
+
+mod account;
+mod answer;
+mod pool;
+mod rule;
+#[cfg(test)]
+mod tests;
+
+pub use account::Account;
+pub use answer::{Draw, Give};
+pub use pool::{CreditSeat, Credits, Memory};

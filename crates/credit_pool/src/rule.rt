@@ -1,0 +1,54 @@
+//! The one rule of the credit word, and the six kinds of step under it.
+ghost use Rattle.credit_pool.specs.Accounts.{after_join, first_account, part_of, rest_of, spent_account};
+ghost use Rattle.credit_pool.specs.Rule.{Balanced, Draws, FetchesOr, Gives, Loads};
+
+use crate::account::Account;
+use atomic_table::{Join, Play, Split, TableRule};
+
+pub struct CreditRule;
+
+impl TableRule<(), Account, u64> for CreditRule {
+    ghost holds = { Balanced };
+
+    ghost first = { first_account };
+}
+
+pub struct Load;
+
+impl Play<(), Account> for Load {
+    ghost then = { Loads };
+}
+
+pub struct DrawExchange;
+
+impl Play<(), Account> for DrawExchange {
+    ghost then = { Draws };
+}
+
+pub struct GiveExchange;
+
+impl Play<(), Account> for GiveExchange {
+    ghost then = { Gives };
+}
+
+pub struct FetchOr;
+
+impl Play<(), Account> for FetchOr {
+    ghost then = { FetchesOr };
+}
+
+pub struct OnePart;
+
+impl Split<Account> for OnePart {
+    ghost left = { rest_of };
+
+    ghost right = { part_of };
+}
+
+pub struct Both;
+
+impl Join<Account> for Both {
+    ghost both = { after_join };
+
+    ghost spent = { spent_account };
+}

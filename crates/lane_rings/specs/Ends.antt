@@ -1,0 +1,53 @@
+-- The lists of a lane, as its two ends see them: offered and taken at the scheduler's end, received and answered at the holder's.
+use Rattle.std.specs.Prelude.{ℕ, List, Option, count_by, map, drop, slice_get}
+use Rattle.rtrb.specs.Ring.{sent, received, known_items}
+use Rattle.evt_types.specs.Replies.{is_answer}
+use Rattle.evt_types.specs.declared.event.Delivery.{Delivery}
+use Rattle.evt_types.specs.declared.event.Reply.{Reply}
+use Rattle.lane_rings.specs.Key.{key}
+use Rattle.lane_rings.specs.declared.far.Far.{Far}
+use Rattle.lane_rings.specs.declared.near.Near.{Near}
+
+-- every delivery that the scheduler offered, in order
+abbrev pub offered : Near → List Delivery
+offered near = sent near.deliveries
+
+-- every reply that the scheduler took
+abbrev pub taken : Near → List Reply
+taken near = received near.replies
+
+-- the replies that the scheduler has seen in the ring and not taken
+abbrev pub seen_replies : Near → List Reply
+seen_replies near = known_items near.replies
+
+-- the first of these
+abbrev pub next_reply : Near → Option Reply
+next_reply near = slice_get (seen_replies near) 0
+
+-- every delivery that the holder received
+abbrev pub received_by : Far → List Delivery
+received_by far = received far.deliveries
+
+-- the deliveries that the holder has seen in the ring and not received
+abbrev pub seen_deliveries : Far → List Delivery
+seen_deliveries far = known_items far.deliveries
+
+-- the first of these
+abbrev pub next_delivery : Far → Option Delivery
+next_delivery far = slice_get (seen_deliveries far) 0
+
+-- every reply that the holder gave
+abbrev pub answered : Far → List Reply
+answered far = sent far.replies
+
+-- how many replies end the handling of a delivered event
+abbrev pub answers_among : List Reply → ℕ
+answers_among replies = count_by is_answer replies
+
+-- the deliveries that the holder has not answered, oldest first
+abbrev pub unanswered : Far → List Delivery
+unanswered far = drop (answers_among (answered far)) (received_by far)
+
+-- the queue and the number of each of these
+abbrev pub held_list : Far → List (ℕ × ℕ)
+held_list far = map key (unanswered far)

@@ -1,0 +1,15 @@
+//! The lane between the scheduler and one holder: a ring of deliveries one way and a ring of replies the other.
+//! Each end may move to a thread of its own.
+#![tactic(auto)]
+
+mod far;
+mod near;
+mod pair;
+mod rests;
+#[cfg(test)]
+mod tests;
+
+pub use far::{AnswerFault, Far};
+pub use near::Near;
+pub use pair::{Memory, beside, lane};
+pub use rests::Beside;

@@ -1,0 +1,59 @@
+//! The scheduler's end of a lane.
+
+use evt_types::{Delivery, Reply};
+use rtrb::{Consumer, Producer, PushError};
+
+/// The scheduler's end of a lane: it offers deliveries and takes replies.
+#[derive(Drop)]
+pub struct Near {
+    pub(crate) deliveries: Producer<Delivery>,
+    pub(crate) replies: Consumer<Reply>,
+}
+
+impl Near {
+    ghost use Rattle.std.specs.Prelude.{◌≡◌, ◌≤◌, [], ◌∷◌, ◌++◌, length, OnOk, OnErr, IfErr, IfNone, MatchOption};
+    ghost use Rattle.lane_rings.specs.Ends.{offered, taken, seen_replies, next_reply};
+    ghost use Rattle.lane_rings.specs.Identity.{near_id};
+
+    /// Puts a delivery into the ring, or hands it back where the ring is full: never before as many were offered as the
+    /// lane's depth. A refused offer changes nothing that is seen.
+    pub fn offer(&mut self, delivery: Delivery) -> Result<(), Delivery>
+        ensures lane { near_id self.new ≡ near_id self.old }
+        ensures replies { (taken self.new ≡ taken self.old) × (seen_replies self.new ≡ seen_replies self.old) }
+        ensures ok { OnOk result (offered self.new ≡ offered self.old ++ delivery ∷ []) }
+        ensures refused { IfErr result (λ back. (back ≡ delivery) × (offered self.new ≡ offered self.old)) }
+        ensures full { OnErr result ((near_id self.old).depth ≤ length (offered self.old)) }
+    {
+        match self.deliveries.push(delivery) {
+            Ok(()) => Ok(()),
+            Err(PushError::Full(back)) => Err(back),
+        }
+    }
+
+    /// The oldest reply that wasn't taken, which stays in the ring: the next `take` gives the same one. `None` where no reply
+    /// is seen; the holder may have given one by the next call.
+    pub fn peek(&mut self) -> Option<Reply>
+        ensures lane { near_id self.new ≡ near_id self.old }
+        ensures lists { (offered self.new ≡ offered self.old) × (taken self.new ≡ taken self.old) }
+        ensures next { MatchOption result (seen_replies self.new ≡ []) (λ r. next_reply self.new ≡ Some r) }
+        ensures same { (r : Reply) → next_reply self.old ≡ Some r → result ≡ Some r }
+    {
+        if self.replies.is_empty() {
+            return None;
+        }
+        Some(*self.replies.peek_known())
+    }
+
+    /// Takes the oldest reply out of the ring. `None` where no reply is seen.
+    pub fn take(&mut self) -> Option<Reply>
+        ensures lane { near_id self.new ≡ near_id self.old }
+        ensures offered { offered self.new ≡ offered self.old }
+        ensures taken { MatchOption result
+            (taken self.new ≡ taken self.old)
+            (λ r. taken self.new ≡ taken self.old ++ r ∷ []) }
+        ensures next { (r : Reply) → next_reply self.old ≡ Some r → result ≡ Some r }
+        ensures none { IfNone result ((seen_replies self.old ≡ []) × (seen_replies self.new ≡ [])) }
+    {
+        self.replies.pop().ok()
+    }
+}

@@ -1,0 +1,65 @@
+//! A lane is made as a pair of ends, and is at rest once both are in one hand.
+
+ghost use Rattle.std.specs.Prelude.{◌≡◌, ◌≤◌, [], ◌++◌, length, IfOk};
+ghost use Rattle.lane_rings.specs.Ends.{offered, taken, seen_replies, received_by, seen_deliveries, answered, answers_among, held_list};
+ghost use Rattle.lane_rings.specs.Identity.{near_id, far_id};
+ghost use Rattle.lane_rings.specs.Rest.{undelivered, untaken, still_held};
+
+use crate::far::Far;
+use crate::near::Near;
+use crate::rests::Beside;
+use circular_buffer::HeapCircularBuffer;
+use rtrb::RingBuffer;
+use std::alloc::{AllocError, Global};
+
+/// Want of memory.
+pub type Memory = AllocError;
+
+/// Makes a lane, whose lists are empty. `depth` is how many deliveries the ring has room for, and how many the holder may
+/// hold unanswered; `replies` is how many replies the other ring has room for. Any numbers will do for which memory is there.
+pub fn lane(alloc: Global, depth: usize, replies: usize) -> Result<(Near, Far), Memory>
+    ensures pair { IfOk result (λ r. near_id r.0 ≡ far_id r.1) }
+    ensures room { IfOk result (λ r. ((far_id r.1).depth ≡ depth) × ((far_id r.1).room ≡ replies)) }
+    ensures near { IfOk result (λ r. (offered r.0 ≡ []) × (taken r.0 ≡ []) × (seen_replies r.0 ≡ [])) }
+    ensures far { IfOk result (λ r. (received_by r.1 ≡ []) × (seen_deliveries r.1 ≡ []) × (answered r.1 ≡ [])) }
+{
+    let (offers, receipts) = RingBuffer::new(alloc, depth)?;
+    let (answers, takings) = RingBuffer::new(alloc, replies)?;
+    let history = HeapCircularBuffer::with_capacity(alloc, depth)?;
+    let near = Near {
+        deliveries: offers,
+        replies: takings,
+    };
+    let far = Far {
+        deliveries: receipts,
+        replies: answers,
+        history,
+    };
+    Ok((near, far))
+}
+
+/// Brings the two ends of one lane together, and shows what is left in it.
+pub fn beside(near: Near, far: Far) -> Beside
+    requires { near_id near ≡ far_id far }
+    ensures undelivered { offered near ≡ received_by far ++ undelivered result }
+    ensures untaken { answered far ≡ taken near ++ untaken result }
+    ensures held { still_held result ≡ held_list far }
+    ensures fewer { answers_among (answered far) ≤ length (received_by far) }
+{
+    let Near {
+        deliveries: mut offers,
+        replies: mut takings,
+    } = near;
+    let Far {
+        deliveries: mut receipts,
+        replies: mut answers,
+        history,
+    } = far;
+    receipts.slots_beside(&mut offers);
+    takings.slots_beside(&mut answers);
+    Beside {
+        deliveries: receipts,
+        replies: takings,
+        held: history,
+    }
+}

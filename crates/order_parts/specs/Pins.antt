@@ -1,0 +1,30 @@
+-- The pins of an atomic queue's slots: how many unanswered events of a slot there are, and the lane on which they stand.
+use Rattle.std.specs.Prelude.{ℕ, ◌+◌, ◌-◌, Bool, ◌||◌, ◌==◌, List, slice_index_or}
+use Rattle.order_parts.specs.declared.pins.Hold.{Hold}
+
+-- how many unanswered events of the slot there are, and the last lane that was given one
+pub record Pin : Type 0 where
+  pub count : ℕ
+  pub lane : ℕ
+
+abbrev pub pin_of : Hold → Pin
+pin_of h = record { count = h.count; lane = h.lane }
+
+-- a slot of which nothing was given yet
+abbrev pub free : Pin
+free = record { count = 0; lane = 0 }
+
+abbrev pub pin_at : List Pin → ℕ → Pin
+pin_at ps s = slice_index_or ps s free
+
+-- the slot has no unanswered event, or the lane has them
+abbrev pub may_pin : Pin → ℕ → Bool
+may_pin p l = p.count == 0 || p.lane == l
+
+-- one event more, on the lane
+abbrev pub pinned : Pin → ℕ → Pin
+pinned p l = record { count = p.count + 1; lane = l }
+
+-- one event fewer; the lane stays
+abbrev pub unpinned : Pin → Pin
+unpinned p = record { count = p.count - 1; lane = p.lane }

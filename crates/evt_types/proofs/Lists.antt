@@ -301,6 +301,49 @@ All-filter_map P h (x ∷ xs) all =
     by_case None new ys rest = rest
     by_case (Some y) new ys rest = All-cons P y ys (new y refl) rest
 
+-- what is given of an item is among what is given of all
+pub All-filter_mapped : {X Y : Type 0} (h : X → Option Y) (xs : List X) → All (λ x. (y : Y) → h x ≡ Some y → Contains (filter_map h xs) y) xs
+All-filter_mapped {X} {Y} h [] = All-nil (λ x. (y : Y) → h x ≡ Some y → Contains {X = Y} [] y)
+All-filter_mapped {X} {Y} h (x ∷ xs) =
+    All-cons (λ z. (y : Y) → h z ≡ Some y → Contains (filter_map h (x ∷ xs)) y) x xs
+    (λ y e. subst (λ o. Contains (cons_option o (filter_map h xs)) y) (sym e) (zero, omega arith, refl))
+    (All-weaker (λ z. (y : Y) → h z ≡ Some y → Contains (filter_map h xs) y) (λ z. (y : Y) → h z ≡ Some y → Contains (filter_map h (x ∷ xs)) y)
+    (λ z k y e. more (h x) (filter_map h xs) y (k y e)) xs (All-filter_mapped h xs))
+  where
+    more : (o : Option Y) (ys : List Y) (y : Y) → Contains ys y → Contains (cons_option o ys) y
+    more None ys y c = c
+    more (Some z) ys y c = Contains-append_right (z ∷ []) ys y c
+
+pub Contains-filter_map : {X Y : Type 0} (h : X → Option Y) (xs : List X) (x : X) (y : Y) → Contains xs x → h x ≡ Some y
+    → Contains (filter_map h xs) y
+Contains-filter_map {X} {Y} h xs x y c e =
+    All-contains (λ z. (u : Y) → h z ≡ Some u → Contains (filter_map h xs) u) xs x (All-filter_mapped h xs) c y e
+
+pub All-unmap : {X Y : Type 0} (P : Y → Type 0) (f : X → Y) (xs : List X) → All P (map f xs) → All (λ x. P (f x)) xs
+All-unmap P f [] all = All-nil (λ x. P (f x))
+All-unmap P f (x ∷ xs) all = All-cons (λ z. P (f z)) x xs (All-head P (f x) (map f xs) all) (All-unmap P f xs (All-tail P (f x) (map f xs) all))
+
+pub All-back : {X : Type 0} (P : X → Type 0) (xs ys : List X) → All P (xs ++ ys) → All P ys
+All-back P [] ys all = all
+All-back P (x ∷ xs) ys all = All-back P xs ys (All-tail P x (xs ++ ys) all)
+
+-- each item of the first list with each of the second
+pub AllPairs-across : {X : Type 0} (R : X → X → Type 0) (xs ys : List X) → AllPairs R (xs ++ ys) → All (λ x. All (R x) ys) xs
+AllPairs-across R [] ys all = All-nil (λ x. All (R x) ys)
+AllPairs-across R (x ∷ xs) ys all =
+    All-cons (λ z. All (R z) ys) x xs (All-back (R x) xs ys (λ k d lt. all 0 (suc k) d (omega arith) (omega arith)))
+    (AllPairs-across R xs ys (λ i j d lt within. all (suc i) (suc j) d (omega arith) (omega arith)))
+
+-- where some item passes: what follows from each item that does
+pub list_any-then : {X : Type 0} (test : X → Bool) (P : X → Type 0) (C : Type 0) (xs : List X) → All P xs → ((x : X) → P x → test x ≡ true → C)
+    → list_any test xs ≡ true → C
+list_any-then test P C [] all to h = absurd (false≢true h)
+list_any-then test P C (x ∷ xs) all to h =
+    ⊎_elim
+    (λ yes. to x (All-head P x xs all) yes)
+    (λ no. list_any-then test P C xs (All-tail P x xs all) to (subst (λ b. (b || list_any test xs) ≡ true) no h))
+    (cases_Bool (test x))
+
 pub option_length : {X : Type 0} (o : Option X) → length (cons_option o []) ≤ 1
 option_length None = omega arith
 option_length (Some x) = omega arith

@@ -21,7 +21,7 @@ upto_stays : (P : List Step) (q n : ℕ) (s : Step) → has n (hand P q) ≡ tru
 upto_stays P q n s h = ap (upto n) (hand-push P q s) ∙ upto-more n (hand P q) (cons_option (given_of q s) []) h
 
 -- which of two given numbers keep their order
-keeps_stays : (p : Plan) (P : List Step) (q m n : ℕ) (s : Step) → Facts p P → has m (hand P q) ≡ true → has n (hand P q) ≡ true
+pub keeps_stays : (p : Plan) (P : List Step) (q m n : ℕ) (s : Step) → Facts p P → has m (hand P q) ≡ true → has n (hand P q) ≡ true
     → keeps_with p (P ++ s ∷ []) q m n ≡ keeps_with p P q m n
 keeps_stays p P q m n s f h k =
     ap (λ o. keeps_some p q o (event_at (P ++ s ∷ []) q n)) (event_at-more P q m s (given_is_accepted p P q m f h))

@@ -145,7 +145,7 @@ source_more P s before q n h = by_case (source_in q s) refl
         (or_cases (has n (sources P q)) (m == n) (sym (has-push n (sources P q) m) ∙ subst (λ ns. has n ns ≡ true) (sources-some P q s m e) h))
 
 -- unanswered pairs are in hand
-unanswered_is_given : (p : Plan) (T : List Step) (l : ℕ) → Facts p T → All (IsGiven T) (unanswered T l)
+pub unanswered_is_given : (p : Plan) (T : List Step) (l : ℕ) → Facts p T → All (IsGiven T) (unanswered T l)
 unfolding unanswered
 unanswered_is_given p T l f = All-drop (IsGiven T) (length (answers T l)) (out T l) (f.out l)
 

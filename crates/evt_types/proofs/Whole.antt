@@ -52,7 +52,7 @@ inside_none p =
       sum_by-zero (λ l. length (unanswered [] l)) (lanes p) (λ l. refl),
     )
 
-Known-none : (p : Plan) → Known p []
+pub Known-none : (p : Plan) → Known p []
 unfolding waiting unanswered accepted hand out answers taken forwards sent sources open_of
 Known-none p = record {
   facts = Facts-none p;
@@ -70,7 +70,7 @@ Known-none p = record {
   closed = record { no_new = λ k d lt. absurd (omega arith); no_turned = λ k d lt. absurd (omega arith); one = λ k d lt. absurd (omega arith) };
 }
 
-Known-push : (p : Plan) (P : List Step) (s : Step) → Known p P → Allowed p P s → Known p (P ++ s ∷ [])
+pub Known-push : (p : Plan) (P : List Step) (s : Step) → Known p P → Allowed p P s → Known p (P ++ s ∷ [])
 Known-push p P s h a = record {
   facts = Facts-push p P s h.facts a;
   origin = origin_more p P s h.origin a.needs;

@@ -1,5 +1,5 @@
 -- A device's configuration as contracts see it (Event Device Library, "Queues", "Ports", "Linking Queues and Ports").
-use Rattle.std.specs.Prelude.{ℕ, ◌+◌, ◌/◌, ◌%◌, Bool, true, false, List, [], ◌==◌, length, map, sum_by, slice_index_or, if◌then◌else◌}
+use Rattle.std.specs.Prelude.{ℕ, ◌+◌, ◌/◌, ◌%◌, Bool, true, false, List, [], ◌==◌, length, map, sum_by, slice_index_or, if◌then◌else◌, All, ◌≡◌}
 use Rattle.std.specs.List.{list_any, range_with_len}
 use Rattle.evt_types.specs.declared.draft.Draft.{Draft}
 use Rattle.evt_types.specs.declared.draft.PortDraft.{PortDraft}
@@ -43,6 +43,10 @@ abbrev pub is_ordered : Kind → Bool
 is_ordered Ordered = true
 is_ordered Atomic = false
 is_ordered Parallel = false
+
+-- no queue restores an order
+abbrev pub RestoresNoOrder : Plan → Type 0
+RestoresNoOrder p = All (λ (q : QueueDraft). is_ordered q.kind ≡ false) p.queues
 
 -- whether the number is in the list
 abbrev pub has : ℕ → List ℕ → Bool

@@ -1,5 +1,5 @@
 -- A core in which nothing has happened.
-use Rattle.std.proofs.Common.{◌≡◌, ℕ, ◌+◌, ◌<◌, ◌≤◌, List, [], ◌∷◌, ◌++◌, length, map, get_or, Vec, Global, vec_capacity, ◌⊎◌, inl, inr, refl, sym, ap, ◌∙◌, subst, arith}
+use Rattle.std.proofs.Common.{◌≡◌, ℕ, ◌+◌, ◌<◌, ◌≤◌, ◌^◌, false, List, [], ◌∷◌, ◌++◌, length, map, get_or, Vec, Global, vec_capacity, ◌⊎◌, inl, inr, refl, sym, ap, ◌∙◌, subst, arith}
 use Rattle.std.proofs.lemmas.Bool.{cases_lt}
 use Rattle.std.proofs.lemmas.List.{length-map, length_push, get_or_append_left, get_or_push}
 use Rattle.std.proofs.lemmas.List.Elements.{All-nil, All-push, All-map, All-weaker}
@@ -8,16 +8,16 @@ use Rattle.std.proofs.lemmas.List.Sums.{sum-map}
 use Rattle.std.specs.List.{sum, sum_by}
 use Rattle.evt_types.proofs.ViewLists.{sum_of_map, sum_of_none}
 use Rattle.evt_types.proofs.Views.{waiting_at_none, accepted_at_none, unanswered_at_none, places_none}
-use Rattle.evt_types.specs.Plan.{Plan, lanes_of, depth_of, bound_of}
+use Rattle.evt_types.specs.Plan.{Plan, level_of, RestoresNoOrder, lanes_of, depth_of, bound_of}
 use Rattle.evt_types.specs.Standing.{Place, view_of, places}
 use Rattle.evt_types.specs.Transcript.{Held, waiting, accepted, unanswered_slots}
 use Rattle.evt_types.specs.declared.draft.QueueDraft.{QueueDraft}
 use Rattle.evt_types.specs.declared.event.Numbered.{Numbered}
-use Rattle.sched_core.specs.Inner.{IsQueue, IsEmptyQueue, AreEmptyQueues, IsBare, IsEmptyLane, AreEmptyLanes, held_of}
-use Rattle.sched_core.specs.View.{AreAtomic, waiting_in, next_in, no_places, unanswered_in, view_in, IsCore}
+use Rattle.sched_core.specs.Inner.{IsQueueOf, IsEmptyQueue, AreEmptyQueues, IsBare, IsEmptyLane, AreEmptyLanes, held_of}
+use Rattle.sched_core.specs.View.{waiting_in, next_in, no_places, unanswered_in, view_in, IsCore}
 use Rattle.sched_core.specs.declared.lane.Entry.{Entry}
 use Rattle.sched_core.specs.declared.lane.Lane.{Lane}
-use Rattle.sched_core.specs.declared.queue.Queue.{Queue}
+use Rattle.sched_core.specs.Waits.{Waits, AreWaits, no_waits}
 use Rattle.sched_core.proofs.Cores.{same_parts}
 
 -- ---- one empty queue or lane more
@@ -25,7 +25,7 @@ use Rattle.sched_core.proofs.Cores.{same_parts}
 pub queues_none : (capacity : ℕ) → AreEmptyQueues capacity 0 []
 queues_none capacity = record { count = refl; empty = All-nil (IsEmptyQueue capacity) }
 
-pub queues_more : (capacity n : ℕ) (qs : List Queue) (q : Queue) → AreEmptyQueues capacity n qs → IsEmptyQueue capacity q → AreEmptyQueues capacity (n + 1) (qs ++ q ∷ [])
+pub queues_more : (capacity n : ℕ) (qs : List Waits) (q : Waits) → AreEmptyQueues capacity n qs → IsEmptyQueue capacity q → AreEmptyQueues capacity (n + 1) (qs ++ q ∷ [])
 queues_more capacity n qs q all empty =
     record {
       count = length_push qs q ∙ ap (λ m. m + 1) all.count;
@@ -51,19 +51,23 @@ lanes_more p n ls l all empty =
 
 -- ---- the core
 
-empty_is_queue : (b : ℕ) (q : Queue) → IsEmptyQueue b q → IsQueue b q
-empty_is_queue b q empty =
+none_wait : (b : ℕ) → AreWaits (no_waits b)
+none_wait b =
     record {
-      room = empty.room;
-      rising = rw empty.waiting (λ i j d lt within. absurd (omega arith));
-      below = rw empty.waiting (All-nil (λ (w : Numbered). w.number < q.next));
+      rising = λ i j d lt within. absurd (omega arith);
+      below = All-nil (λ (w : Numbered). w.number < 0);
+      levels = All-nil (λ (w : Numbered). level_of w.event < 4);
+      fits = omega arith;
     }
 
-nothing_waits : (qs : List Queue) (b n : ℕ) → AreEmptyQueues b n qs → sum_by (λ (xs : List Numbered). length xs) (map waiting_in qs) ≡ 0
-nothing_waits qs b n empty = sum_of_map (λ (xs : List Numbered). length xs) waiting_in qs ∙ sum_of_none (λ x. length (waiting_in x)) qs (All-weaker (IsEmptyQueue b) (λ (q : Queue). length (waiting_in q) ≡ 0) (λ q e. ap length e.waiting) qs empty.empty)
+empty_is_queue : (b : ℕ) (q : Waits) → IsEmptyQueue b q → IsQueueOf b q
+empty_is_queue b q empty = subst (IsQueueOf b) (sym empty) (record { room = refl; waits = none_wait b })
 
-nothing_numbered : (qs : List Queue) (b n : ℕ) → AreEmptyQueues b n qs → sum (map next_in qs) ≡ 0
-nothing_numbered qs b n empty = sum-map next_in qs ∙ sum_of_none next_in qs (All-weaker (IsEmptyQueue b) (λ (q : Queue). q.next ≡ 0) (λ q e. e.next) qs empty.empty)
+nothing_waits : (qs : List Waits) (b n : ℕ) → AreEmptyQueues b n qs → sum_by (λ (xs : List Numbered). length xs) (map waiting_in qs) ≡ 0
+nothing_waits qs b n empty = sum_of_map (λ (xs : List Numbered). length xs) waiting_in qs ∙ sum_of_none (λ x. length (waiting_in x)) qs (All-weaker (IsEmptyQueue b) (λ (q : Waits). length (waiting_in q) ≡ 0) (λ q e. ap (λ (x : Waits). length x.waiting) e) qs empty.empty)
+
+nothing_numbered : (qs : List Waits) (b n : ℕ) → AreEmptyQueues b n qs → sum (map next_in qs) ≡ 0
+nothing_numbered qs b n empty = sum-map next_in qs ∙ sum_of_none next_in qs (All-weaker (IsEmptyQueue b) (λ (q : Waits). q.next ≡ 0) (λ q e. ap (λ (x : Waits). x.next) e) qs empty.empty)
 
 nothing_kept : (ds : List QueueDraft) → sum_by (λ ps. sum_by (λ (x : Place). length x.forwards) ps) (map no_places ds) ≡ 0
 nothing_kept ds = sum_of_map (λ ps. sum_by (λ (x : Place). length x.forwards) ps) no_places ds ∙ sum_of_none (λ d. sum_by (λ (x : Place). length x.forwards) (no_places d)) ds (λ k d h. refl)
@@ -71,39 +75,41 @@ nothing_kept ds = sum_of_map (λ ps. sum_by (λ (x : Place). length x.forwards) 
 nothing_held : (ls : List Lane) (p : Plan) (n : ℕ) → AreEmptyLanes p n ls → sum_by (λ (xs : List Held). length xs) (map unanswered_in ls) ≡ 0
 nothing_held ls p n empty = sum_of_map (λ (xs : List Held). length xs) unanswered_in ls ∙ sum_of_none (λ x. length (unanswered_in x)) ls (All-weaker IsBare (λ (l : Lane). length (unanswered_in l) ≡ 0) (λ l e. ap (λ (ys : List Entry). length (map held_of ys)) e) ls empty.empty)
 
-pub core_new : (p : Plan) (qs : Vec Queue Global) (ls : Vec Lane Global) → AreAtomic p → AreEmptyQueues (bound_of p) (length p.queues) qs.items → AreEmptyLanes p (lanes_of p) ls.items → IsCore (record { shape = p; queues = qs; lanes = ls; inside = 0; entries = 0 })
-core_new p qs ls atomic queues lanes =
+pub core_new : (p : Plan) (qs : Vec Waits Global) (ls : Vec Lane Global) → RestoresNoOrder p → bound_of p < 2 ^ 64 → AreEmptyQueues (bound_of p) (length p.queues) qs.items → AreEmptyLanes p (lanes_of p) ls.items → IsCore (record { shape = p; queues = qs; lanes = ls; inside = 0; entries = 0; shut = false })
+core_new p qs ls unordered small queues lanes =
     let waits = nothing_waits qs.items (bound_of p) (length p.queues) queues in
     let numbers = nothing_numbered qs.items (bound_of p) (length p.queues) queues in
     let kept = nothing_kept p.queues in
     let held = nothing_held ls.items p (lanes_of p) lanes in
     record {
-      atomic = atomic;
+      unordered = unordered;
+      small = small;
       queues = queues.count;
       lanes = lanes.count;
-      sound = All-weaker (IsEmptyQueue (bound_of p)) (IsQueue (bound_of p)) (empty_is_queue (bound_of p)) qs.items queues.empty;
+      sound = All-weaker (IsEmptyQueue (bound_of p)) (IsQueueOf (bound_of p)) (empty_is_queue (bound_of p)) qs.items queues.empty;
       room = lanes.room;
       inside = omega arith;
+      within = omega arith;
       entries = omega arith;
     }
 
-pub view_new : (p : Plan) (qs : Vec Queue Global) (ls : Vec Lane Global) → AreAtomic p → AreEmptyQueues (bound_of p) (length p.queues) qs.items → AreEmptyLanes p (lanes_of p) ls.items → view_in (record { shape = p; queues = qs; lanes = ls; inside = 0; entries = 0 }) ≡ view_of p []
+pub view_new : (p : Plan) (qs : Vec Waits Global) (ls : Vec Lane Global) → RestoresNoOrder p → AreEmptyQueues (bound_of p) (length p.queues) qs.items → AreEmptyLanes p (lanes_of p) ls.items → view_in (record { shape = p; queues = qs; lanes = ls; inside = 0; entries = 0; shut = false }) ≡ view_of p []
 unfolding view_of
-view_new p qs ls atomic queues lanes =
-    same_parts p _ _ _ _ _ _ _ _
+view_new p qs ls unordered queues lanes =
+    same_parts p _ _ _ _ _ _ _ _ false
     (fill_by_all (waiting []) (map waiting_in qs.items) (length p.queues) [] (length-map qs.items waiting_in ∙ queues.count) (λ k h. get_or_empty k h ∙ sym (waiting_at_none k)))
     (fill_by_all (λ q. length (accepted [] q)) (map next_in qs.items) (length p.queues) 0 (length-map qs.items next_in ∙ queues.count) (λ k h. get_or_zero k h ∙ sym (ap length (accepted_at_none k))))
-    (fill_by_all (places p []) (map no_places p.queues) (length p.queues) [] (length-map p.queues no_places) (λ k h. All-map (λ ps. ps ≡ []) no_places p.queues (λ i d l. refl) k [] (subst (λ n. k < n) (sym (length-map p.queues no_places)) h) ∙ sym (places_none p [] atomic k)))
+    (fill_by_all (places p []) (map no_places p.queues) (length p.queues) [] (length-map p.queues no_places) (λ k h. All-map (λ ps. ps ≡ []) no_places p.queues (λ i d l. refl) k [] (subst (λ n. k < n) (sym (length-map p.queues no_places)) h) ∙ sym (places_none p [] unordered k)))
     (fill_by_all (unanswered_slots p []) (map unanswered_in ls.items) (lanes_of p) [] (length-map ls.items unanswered_in ∙ lanes.count) (λ k h. none_held k h ∙ sym (unanswered_at_none p k)))
   where
     get_or_empty : (k : ℕ) → k < length p.queues → get_or (map waiting_in qs.items) k [] ≡ []
     get_or_empty k h =
-        All-map (λ ws. ws ≡ []) waiting_in qs.items (All-weaker (IsEmptyQueue (bound_of p)) (λ (q : Queue). waiting_in q ≡ []) (λ q e. e.waiting) qs.items queues.empty)
+        All-map (λ ws. ws ≡ []) waiting_in qs.items (All-weaker (IsEmptyQueue (bound_of p)) (λ (q : Waits). waiting_in q ≡ []) (λ q e. ap (λ (x : Waits). x.waiting) e) qs.items queues.empty)
         k [] (subst (λ n. k < n) (sym (length-map qs.items waiting_in ∙ queues.count)) h)
 
     get_or_zero : (k : ℕ) → k < length p.queues → get_or (map next_in qs.items) k 0 ≡ 0
     get_or_zero k h =
-        All-map (λ n. n ≡ 0) next_in qs.items (All-weaker (IsEmptyQueue (bound_of p)) (λ (q : Queue). next_in q ≡ 0) (λ q e. e.next) qs.items queues.empty)
+        All-map (λ n. n ≡ 0) next_in qs.items (All-weaker (IsEmptyQueue (bound_of p)) (λ (q : Waits). next_in q ≡ 0) (λ q e. ap (λ (x : Waits). x.next) e) qs.items queues.empty)
         k 0 (subst (λ n. k < n) (sym (length-map qs.items next_in ∙ queues.count)) h)
 
     none_held : (k : ℕ) → k < lanes_of p → get_or (map unanswered_in ls.items) k [] ≡ []

@@ -1,16 +1,16 @@
 -- How an offer is found: a lane that is free for the slot, a lane for the event, the event of the queue, the queue.
-use Rattle.std.proofs.Common.{◌≡◌, ◌≢◌, ℕ, ◌+◌, ◌<◌, ◌≤◌, ◌%◌, Bool, true, false, cond, nat_le, ◌&&◌, ◌==◌, List, [], length, map, get_or, All, Contains, Option, Some, None, inl, inr, ⊎_elim, refl, sym, ap, ◌∙◌, subst, arith, eq-eqb, eqb-true}
+use Rattle.std.proofs.Common.{◌≡◌, ◌≢◌, ℕ, ◌+◌, ◌<◌, ◌≤◌, ◌%◌, Bool, true, false, cond, nat_le, nat_lt, ◌&&◌, ◌==◌, List, [], length, map, get_or, slice_get, All, Contains, Option, Some, None, inl, inr, ⊎_elim, refl, sym, ap, ◌∙◌, subst, arith, eq-eqb, eqb-true}
 use Rattle.std.specs.List.{list_any}
 use Rattle.std.specs.Option.{IfSome, IfNone, is_some}
-use Rattle.std.proofs.lemmas.Bool.{and_from, and_parts, cases_lt, false≢true, false_from_ne_true, leb-true, leb-false}
+use Rattle.std.proofs.lemmas.Bool.{and_from, and_parts, or_cases, or_right, cases_lt, false≢true, false_from_ne_true, leb-true, leb-false, ltb-true, ltb-false, lt-ltb}
 use Rattle.std.proofs.lemmas.List.{length-map, get_or-map, get_or_past, get_or_default}
 use Rattle.std.proofs.lemmas.List.Elements.{All-nil, All-map, All-weaker}
-use Rattle.evt_types.proofs.Lists.{All-from_none, list_any-none}
+use Rattle.evt_types.proofs.Lists.{All-from_none, list_any-none, Contains-filter}
 use Rattle.evt_types.proofs.ViewStands.{offer_is_allowed, offer_is_accepted}
 use Rattle.evt_types.specs.Allowed.{Allowed}
-use Rattle.evt_types.specs.Choice.{Passed, Fits, HasNoOther, HasNone, HasQuota, IsBetterLane, IsOffer}
-use Rattle.evt_types.specs.Lawful.{keeps_order}
-use Rattle.evt_types.specs.Plan.{Plan, queue_of, lanes_of, level_of, slot_of, serves, is_atomic, is_ordered}
+use Rattle.evt_types.specs.Choice.{Passed, Fits, HasNoOther, HasNone, HasNoChoice, HasQuota, IsBetterLane, IsChoice, IsOffer, IsServedBefore, WaitsIn, is_earlier}
+use Rattle.evt_types.specs.Lawful.{is_of_level, keeps_order}
+use Rattle.evt_types.specs.Plan.{Plan, RestoresNoOrder, queue_of, lanes_of, level_of, slot_of, serves, is_atomic, is_ordered}
 use Rattle.evt_types.specs.Standing.{View, Stands, waiting_at, unanswered_at}
 use Rattle.evt_types.specs.Transcript.{Held, event_at}
 use Rattle.evt_types.specs.declared.event.Event.{Event}
@@ -20,9 +20,13 @@ use Rattle.evt_types.specs.declared.event.Numbered.{Numbered}
 use Rattle.evt_types.specs.declared.step.Step.{Step}
 use Rattle.evt_types.specs.declared.step.Step.TheVariants.{Give}
 use Rattle.sched_core.proofs.Cores.{unanswered_here}
-use Rattle.sched_core.specs.Inner.{IsRising, is_of, held_of}
-use Rattle.sched_core.specs.Offered.{numbered_in, FitsSlot, IsOfferOf, better_of}
-use Rattle.sched_core.specs.View.{AreAtomic, unanswered_in, view_in}
+use Rattle.sched_core.specs.Inner.{is_of, held_of}
+use Rattle.sched_core.specs.Offered.{numbered_in, FitsSlot, HasNoneAt, HasNoneIn, IsOfferAt, IsOfferIn, IsOfferOf, better_of, is_ahead, level_at}
+use Rattle.sched_core.specs.Waits.{IsRising}
+use Rattle.sched_core.proofs.Kept.{passes, was_there}
+use Rattle.sched_core.proofs.Queues.{level_rises}
+use Rattle.std.proofs.lemmas.Option.{get_or_from_slice_get}
+use Rattle.sched_core.specs.View.{unanswered_in, view_in}
 use Rattle.sched_core.specs.declared.lane.Entry.{Entry}
 use Rattle.sched_core.specs.declared.lane.Lane.{Lane}
 use Rattle.sched_core.specs.declared.offer.Offer.{Offer}
@@ -120,27 +124,187 @@ pub found_none : (v : View) (s : Passed) (q slot n : ℕ) (o : Option ℕ) → l
 found_none v s q slot n None h found = λ l fits. let lt = fits.lane in found l (omega arith) fits
 found_none v s q slot n (Some l) h found = tt
 
--- ---- the event of a queue
+-- ---- the event of a level
 
--- no lane may take one of the first n events
-abbrev pub HasNoneBelow : View → Passed → ℕ → List Numbered → ℕ → Type 0
-HasNoneBelow v s q ws n = (k : ℕ) → k < n → (d : Numbered) (m : ℕ) → ¬ Fits v s m q (get_or ws k d)
+-- no lane may take one of the first n events of the level
+abbrev pub HasNoneBelow : View → Passed → ℕ → ℕ → ℕ → Type 0
+HasNoneBelow v s q c n = (k : ℕ) → k < n → HasNoneAt v s q c k
 
 pub none_of : {X : Type 0} (o : Option X) (P : Type 0) → is_some o ≡ false → IfNone o P → P
 none_of None P h p = p
 none_of (Some x) P h p = absurd (false≢true (sym h))
 
-pub none_more : (v : View) (s : Passed) (q : ℕ) (ws : List Numbered) (i : ℕ) (w : Numbered) → i < length ws → w ≡ get_or ws i w → ((m : ℕ) → ¬ Fits v s m q w) → HasNoneBelow v s q ws i → HasNoneBelow v s q ws (i + 1)
-none_more v s q ws i w h is no_lane none k lt d =
-    ⊎_elim (λ below. none k below d)
-    (λ le. let e : i ≡ k = omega arith in λ m fits. no_lane m (subst (Fits v s m q) (ap (λ n. get_or ws n d) (sym e) ∙ (get_or_default ws i d w h ∙ sym is)) fits))
-    (cases_lt k i)
+-- what waits of the level
+in_level : (v : View) (q c : ℕ) (w : Numbered) → WaitsIn v q w → level_of w.event ≡ c → Contains (level_at v q c) w
+in_level v q c w waits level = Contains-filter (is_of_level c) (waiting_at v q) w waits (eq-eqb (level_of w.event) c level)
 
-pub none_waits : (v : View) (s : Passed) (q : ℕ) (ws : List Numbered) (n : ℕ) → ws ≡ waiting_at v q → length ws ≤ n → HasNoneBelow v s q ws n → HasNone v s q
-none_waits v s q ws n same h none w waits m fits =
-    let here : Contains ws w = subst (λ us. Contains us w) (sym same) waits in
+pub none_more : (v : View) (s : Passed) (q c i : ℕ) → HasNoneAt v s q c i → HasNoneBelow v s q c i → HasNoneBelow v s q c (i + 1)
+none_more v s q c i here none k lt = ⊎_elim (λ below. none k below) (λ le. let e : i ≡ k = omega arith in subst (HasNoneAt v s q c) e here) (cases_lt k i)
+
+pub none_in : (v : View) (s : Passed) (q c n : ℕ) → length (level_at v q c) ≤ n → HasNoneBelow v s q c n → HasNoneIn v s q c
+none_in v s q c n h none w waits level m fits =
+    let here : Contains (level_at v q c) w = in_level v q c w waits level in
     let lt = here.1 in
     none here.0 (omega arith) w m (subst (Fits v s m q) (sym here.2) fits)
+
+-- what waits before the first event that a lane may take doesn't fit
+number_first : (v : View) (s : Passed) (q c i : ℕ) (w : Numbered) → IsRising (waiting_at v q) → i < length (level_at v q c) → ((d : Numbered) → w ≡ get_or (level_at v q c) i d) → HasNoneBelow v s q c i
+    → (u : Numbered) (m : ℕ) → WaitsIn v q u → level_of u.event ≡ c → Fits v s m q u → w.number ≤ u.number
+number_first v s q c i w rising h is none u m waits level fits =
+    let here : Contains (level_at v q c) u = in_level v q c u waits level in
+    let k : ℕ = here.0 in
+    let lt : k < length (level_at v q c) = here.1 in
+    let rises : IsRising (level_at v q c) = level_rises c (waiting_at v q) rising in
+    ⊎_elim
+    (λ below. absurd (none k below u m (subst (Fits v s m q) (sym here.2) fits)))
+    (λ from. ⊎_elim
+    (λ later. let more : (get_or (level_at v q c) i u).number < (get_or (level_at v q c) k u).number = rises i k u later lt in let e = ap (λ (x : Numbered). x.number) here.2 in let f = ap (λ (x : Numbered). x.number) (is u) in omega arith)
+    (λ upto. let e : i ≡ k = omega arith in let f = ap (λ (x : Numbered). x.number) (is u ∙ (ap (λ n. get_or (level_at v q c) n u) e ∙ here.2)) in omega arith)
+    (cases_lt i k))
+    (cases_lt k i)
+
+-- the event at a place of the level waits in the queue, and is of that level
+placed_there : (v : View) (q c i : ℕ) (w : Numbered) → i < length (level_at v q c) → ((d : Numbered) → w ≡ get_or (level_at v q c) i d) → WaitsIn v q w × (level_of w.event ≡ c)
+placed_there v q c i w h is = (was_there (is_of_level c) (waiting_at v q) w here, eqb-true (level_of w.event) c (passes (is_of_level c) (waiting_at v q) w here))
+  where
+    here : Contains (level_at v q c) w
+    here = (i, h, sym (is w))
+
+pub offer_found : (v : View) (s : Passed) (q c i : ℕ) (o : Option Offer) → IsRising (waiting_at v q) → i < length (level_at v q c) → HasNoneBelow v s q c i → IfSome o (IsOfferAt v s q c i) → IfSome o (IsOfferIn v s q c)
+offer_found v s q c i None rising h none offer = tt
+offer_found v s q c i (Some x) rising h none offer =
+    let there = placed_there v q c i (numbered_in x.delivery) h offer.same in
+    record {
+      queue = offer.queue;
+      level = there.1;
+      waits = there.0;
+      fits = offer.fits;
+      best = offer.best;
+      first = number_first v s q c i (numbered_in x.delivery) rising h offer.same none;
+    }
+
+-- an offer for the event at a place
+pub offer_at : (v : View) (s : Passed) (q c i : ℕ) (w : Numbered) (o : Option Offer) → Some w ≡ slice_get (level_at v q c) i
+    → IfSome o (λ x. (numbered_in x.delivery ≡ w) × (x.delivery.queue ≡ q)) → IfSome o (λ x. Fits v s x.lane q w) → IfSome o (λ x. (m : ℕ) → Fits v s m q w → ¬ IsBetterLane v m x.lane) → IfSome o (IsOfferAt v s q c i)
+offer_at v s q c i w None is number fits best = tt
+offer_at v s q c i w (Some x) is number fits best =
+    record {
+      queue = number.1;
+      same = λ d. number.0 ∙ sym (get_or_from_slice_get (level_at v q c) i w d (sym is));
+      fits = subst (Fits v s x.lane q) (sym number.0) fits;
+      best = λ m fits_m. best m (subst (Fits v s m q) number.0 fits_m);
+    }
+
+pub none_at_place : (v : View) (s : Passed) (q c i : ℕ) (w : Numbered) (o : Option Offer) → Some w ≡ slice_get (level_at v q c) i → IfNone o ((m : ℕ) → ¬ Fits v s m q w) → IfNone o (HasNoneAt v s q c i)
+none_at_place v s q c i w None is none = λ d m fits. none m (subst (Fits v s m q) (get_or_from_slice_get (level_at v q c) i w d (sym is)) fits)
+none_at_place v s q c i w (Some x) is none = tt
+
+-- ---- the levels of a queue
+
+-- nothing can be given of the levels below n
+abbrev pub HasNoneUnder : View → Passed → ℕ → ℕ → Type 0
+HasNoneUnder v s q n = (c : ℕ) → c < n → HasNoneIn v s q c
+
+pub level_more : (v : View) (s : Passed) (q n : ℕ) → HasNoneIn v s q n → HasNoneUnder v s q n → HasNoneUnder v s q (n + 1)
+level_more v s q n here under c h = ⊎_elim (λ lt. under c lt) (λ le. let e : c ≡ n = omega arith in subst (HasNoneIn v s q) (sym e) here) (cases_lt c n)
+
+pub none_under : (v : View) (s : Passed) (q n : ℕ) → All (λ (w : Numbered). level_of w.event < n) (waiting_at v q) → HasNoneUnder v s q n → HasNone v s q
+none_under v s q n levels under w waits m fits = under (level_of w.event) (subst (λ (x : Numbered). level_of x.event < n) waits.2 (levels waits.0 w waits.1)) w waits refl m fits
+
+not_earlier : (v : View) (s : Passed) (q c : ℕ) (o : Offer) → HasNoneUnder v s q c → IsOfferIn v s q c o → (u : Numbered) (m : ℕ) → WaitsIn v q u → Fits v s m q u → is_earlier u (numbered_in o.delivery) ≡ false
+not_earlier v s q c o under offer u m waits fits =
+    false_from_ne_true (is_earlier u (numbered_in o.delivery)) (λ earlier. ⊎_elim
+    (λ lower. under (level_of u.event) (subst (λ n. level_of u.event < n) offer.level (ltb-true _ _ lower)) u waits refl m fits)
+    (λ same.
+    let parts = and_parts (level_of u.event == level_of o.delivery.event) (nat_lt u.number o.delivery.number) same in
+    let less : u.number < o.delivery.number = ltb-true _ _ parts.1 in
+    let le : o.delivery.number ≤ u.number = offer.first u m waits (eqb-true (level_of u.event) (level_of o.delivery.event) parts.0 ∙ offer.level) fits in
+    omega arith)
+    (or_cases (nat_lt (level_of u.event) (level_of o.delivery.event)) ((level_of u.event == level_of o.delivery.event) && nat_lt u.number o.delivery.number) earlier))
+
+pub offer_first : (v : View) (s : Passed) (q c : ℕ) (o : Option Offer) → HasNoneUnder v s q c → IfSome o (IsOfferIn v s q c) → IfSome o (IsOfferOf v s q)
+offer_first v s q c None under offer = tt
+offer_first v s q c (Some x) under offer = record { queue = offer.queue; waits = offer.waits; fits = offer.fits; best = offer.best; first = not_earlier v s q c x under offer }
+
+-- ---- the queue
+
+-- the best offer of the queues below n
+abbrev pub IsBestBelow : View → Passed → ℕ → Option Offer → Type 0
+IsBestBelow v s n None = (q : ℕ) → q < n → HasQuota v s q → HasNone v s q
+IsBestBelow v s n (Some o) =
+    (o.delivery.queue < n) × HasQuota v s o.delivery.queue × IsOfferOf v s o.delivery.queue o × ((r : ℕ) → r < n → HasQuota v s r → IsServedBefore v.shape r o.delivery.queue → HasNone v s r)
+
+pub best_queue : (v : View) (s : Passed) (n : ℕ) (o : Option Offer) → n ≤ length v.shape.queues → IsBestBelow v s n o → IfSome o (λ x. x.delivery.queue < length v.shape.queues)
+best_queue v s n None h best = tt
+best_queue v s n (Some x) h best = let lt = best.0 in omega arith
+
+-- a queue whose events no lane may take
+pub best_none : (v : View) (s : Passed) (n : ℕ) (o : Option Offer) → (HasQuota v s n → HasNone v s n) → IsBestBelow v s n o → IsBestBelow v s (n + 1) o
+best_none v s n None none best = λ q h quota. ⊎_elim (λ lt. best q lt quota) (λ le. let e : q ≡ n = omega arith in subst (HasNone v s) (sym e) (none (subst (HasQuota v s) e quota))) (cases_lt q n)
+best_none v s n (Some x) none best =
+    let lt = best.0 in
+    (omega arith, best.1, best.2, λ r h quota before. ⊎_elim (λ less. best.3 r less quota before) (λ le. let e : r ≡ n = omega arith in subst (HasNone v s) (sym e) (none (subst (HasQuota v s) e quota))) (cases_lt r n))
+
+-- a queue that is served after the offer's
+pub best_later : (v : View) (s : Passed) (n : ℕ) (o : Option Offer) → is_ahead v.shape n o ≡ false → IsBestBelow v s n o → IsBestBelow v s (n + 1) o
+best_later v s n None behind best = absurd (false≢true (sym behind))
+best_later v s n (Some x) behind best =
+    let lt : x.delivery.queue < n = best.0 in
+    let le : (queue_of v.shape x.delivery.queue).priority ≤ (queue_of v.shape n).priority = ltb-false _ _ behind in
+    (omega arith, best.1, best.2, λ r h quota before. ⊎_elim (λ less. best.3 r less quota before) (λ ge. let e : r ≡ n = omega arith in absurd (not_before lt le (subst (λ k. IsServedBefore v.shape k x.delivery.queue) e before))) (cases_lt r n))
+  where
+    not_before : x.delivery.queue < n → (queue_of v.shape x.delivery.queue).priority ≤ (queue_of v.shape n).priority → ¬ IsServedBefore v.shape n x.delivery.queue
+    not_before lt le (inl lower) = omega arith
+    not_before lt le (inr same) = let less = same.1 in omega arith
+
+-- what stands before a queue ahead of the offer stands before the offer
+served_ahead : (v : View) (s : Passed) (n : ℕ) (o : Option Offer) → is_ahead v.shape n o ≡ true → IsBestBelow v s n o → (r : ℕ) → r < n → HasQuota v s r → IsServedBefore v.shape r n → HasNone v s r
+served_ahead v s n None ahead best r h quota before = best r h quota
+served_ahead v s n (Some x) ahead best r h quota before = best.3 r h quota (inl (lower before))
+  where
+    lt : (queue_of v.shape n).priority < (queue_of v.shape x.delivery.queue).priority
+    lt = ltb-true _ _ ahead
+
+    lower : IsServedBefore v.shape r n → (queue_of v.shape r).priority < (queue_of v.shape x.delivery.queue).priority
+    lower (inl less) = let l = lt in omega arith
+    lower (inr same) = let l = lt in let e = same.0 in omega arith
+
+-- a queue ahead of the offer, with an offer of its own
+pub best_more : (v : View) (s : Passed) (n : ℕ) (o next : Option Offer) → HasQuota v s n → is_ahead v.shape n o ≡ true → is_some next ≡ true → IfSome next (IsOfferOf v s n) → IsBestBelow v s n o → IsBestBelow v s (n + 1) next
+best_more v s n o None quota ahead some offer best = absurd (false≢true some)
+best_more v s n o (Some x) quota ahead some offer best =
+    let e : x.delivery.queue ≡ n = offer.queue in (
+      omega arith,
+      subst (HasQuota v s) (sym e) quota,
+      subst (λ q. IsOfferOf v s q x) (sym e) offer,
+      λ r h quota_r before.
+          let before_n : IsServedBefore v.shape r n = subst (IsServedBefore v.shape r) e before in
+          ⊎_elim (λ less. served_ahead v s n o ahead best r less quota_r before_n) (λ ge. let same : r ≡ n = omega arith in absurd (not_itself_before v.shape n (subst (λ k. IsServedBefore v.shape k n) same before_n))) (cases_lt r n),
+    )
+  where
+    not_itself_before : (p : Plan) (k : ℕ) → ¬ IsServedBefore p k k
+    not_itself_before p k (inl less) = omega arith
+    not_itself_before p k (inr same) = let less = same.1 in omega arith
+
+-- the offer of all queues is the choice
+pub best_choice : (v : View) (s : Passed) (n : ℕ) (o : Option Offer) → n ≡ length v.shape.queues → IsBestBelow v s n o → IfSome o (λ x. IsChoice v s x.lane x.delivery.queue (numbered_in x.delivery))
+best_choice v s n None h best = tt
+best_choice v s n (Some x) h best =
+    record {
+      there = subst (λ k. x.delivery.queue < k) h best.0;
+      quota = best.1;
+      waits = best.2.waits;
+      fits = best.2.fits;
+      lane = best.2.best;
+      event = best.2.first;
+      queue = λ r lt quota before. best.3 r (subst (λ k. r < k) (sym h) lt) quota before;
+    }
+
+pub best_of_none : (v : View) (s : Passed) (n : ℕ) (o : Option Offer) → n ≡ length v.shape.queues → IsBestBelow v s n o → IfNone o (HasNoChoice v s)
+best_of_none v s n None h best = λ q lt quota. best q (subst (λ k. q < k) (sym h) lt) quota
+best_of_none v s n (Some x) h best = tt
+
+-- ---- a choice is an offer: what waits before it of its flow and level would fit the same lane
 
 same_slot_by : (k : Kind) (slots : ℕ) (d e : Event) → cond (level_of d == level_of e) (cond (is_ordered k) true (is_atomic k && (d.flow == e.flow))) false ≡ true → cond (is_atomic k) (d.flow % slots) 0 ≡ cond (is_atomic k) (e.flow % slots) 0
 same_slot_by Ordered slots d e h = refl
@@ -167,52 +331,34 @@ fits_too v s l q u w keeps fits =
       places = fits.places;
     }
 
--- the first event that a lane may take is an offer: what waits before it of its flow and level would fit the same lane
-first_is_offer : (v : View) (s : Passed) (q : ℕ) (ws : List Numbered) (i : ℕ) (w : Numbered) (l : ℕ) → q < length v.shape.queues → ws ≡ waiting_at v q → IsRising ws → i < length ws → w ≡ get_or ws i w → HasNoneBelow v s q ws i → Fits v s l q w → IsOffer v l q w
-first_is_offer v s q ws i w l queue same rising h is none fits =
+pub choice_is_offer : (v : View) (s : Passed) (l q : ℕ) (w : Numbered) → IsChoice v s l q w → IsOffer v l q w
+choice_is_offer v s l q w choice =
     record {
-      queue = queue;
-      lane = fits.lane;
-      waits = subst (λ us. Contains us w) same (i, h, sym is);
-      linked = fits.linked;
-      room = fits.room;
-      alone = fits.alone;
-      places = fits.places;
-      flow = subst (All (λ (u : Numbered). u.number < w.number → keeps_order v.shape q u.event w.event ≡ false)) same (λ k d lt below. false_from_ne_true (keeps_order v.shape q (get_or ws k d).event w.event) (λ keeps. none k (before k d lt below) d l (fits_too v s l q (get_or ws k d) w keeps fits)));
+      queue = choice.there;
+      lane = choice.fits.lane;
+      waits = choice.waits;
+      linked = choice.fits.linked;
+      room = choice.fits.room;
+      alone = choice.fits.alone;
+      places = choice.fits.places;
+      flow = λ k d lt below. before (get_or (waiting_at v q) k d) (k, lt, get_or_default (waiting_at v q) k (get_or (waiting_at v q) k d) d lt) below;
     }
   where
-    here : (d : Numbered) → get_or ws i d ≡ w
-    here d = get_or_default ws i d w h ∙ sym is
+    before : (u : Numbered) → WaitsIn v q u → u.number < w.number → keeps_order v.shape q u.event w.event ≡ false
+    before u waits below =
+        false_from_ne_true (keeps_order v.shape q u.event w.event) (λ keeps. false≢true (sym (choice.event u l waits (fits_too v s l q u w keeps choice.fits)) ∙ or_right (nat_lt (level_of u.event) (level_of w.event)) ((level_of u.event == level_of w.event) && nat_lt u.number w.number) (and_from _ _ (eq-eqb _ _ (same_level keeps)) (lt-ltb u.number w.number below))))
+      where
+        same_level : keeps_order v.shape q u.event w.event ≡ true → level_of u.event ≡ level_of w.event
+        same_level keeps = by_case (level_of u.event == level_of w.event) refl keeps
+          where
+            by_case : (b : Bool) → (level_of u.event == level_of w.event) ≡ b → cond b (cond (is_ordered (queue_of v.shape q).kind) true (is_atomic (queue_of v.shape q).kind && (u.event.flow == w.event.flow))) false ≡ true → level_of u.event ≡ level_of w.event
+            by_case true h k = eqb-true _ _ h
+            by_case false h k = absurd (false≢true k)
 
-    before : (k : ℕ) (d : Numbered) → k < length ws → (get_or ws k d).number < w.number → k < i
-    before k d lt below =
-        ⊎_elim (λ less. less)
-        (λ le. ⊎_elim (λ more. let later : (get_or ws i d).number < (get_or ws k d).number = rising i k d more lt in let e = ap (λ (u : Numbered). u.number) (here d) in absurd (omega arith))
-        (λ ge. let e : k ≡ i = omega arith in let f = ap (λ n. (get_or ws n d).number) e ∙ ap (λ (u : Numbered). u.number) (here d) in absurd (omega arith)) (cases_lt i k))
-        (cases_lt k i)
+pub offers : (v : View) (s : Passed) (o : Option Offer) → IfSome o (λ x. IsChoice v s x.lane x.delivery.queue (numbered_in x.delivery)) → IfSome o (λ x. IsOffer v x.lane x.delivery.queue (numbered_in x.delivery))
+offers v s None choice = tt
+offers v s (Some x) choice = choice_is_offer v s x.lane x.delivery.queue (numbered_in x.delivery) choice
 
-pub offer_found : (v : View) (s : Passed) (q : ℕ) (ws : List Numbered) (i : ℕ) (w : Numbered) (o : Option Offer) → q < length v.shape.queues → ws ≡ waiting_at v q → IsRising ws → i < length ws → w ≡ get_or ws i w → HasNoneBelow v s q ws i
-    → IfSome o (λ x. (numbered_in x.delivery ≡ w) × (x.delivery.queue ≡ q)) → IfSome o (λ x. Fits v s x.lane q w) → IfSome o (λ x. (m : ℕ) → Fits v s m q w → ¬ IsBetterLane v m x.lane) → IfSome o (IsOfferOf v s q)
-offer_found v s q ws i w None queue same rising h is none number fits best = tt
-offer_found v s q ws i w (Some x) queue same rising h is none number fits best =
-    record {
-      queue = number.1;
-      offer = subst (IsOffer v x.lane q) (sym number.0) (first_is_offer v s q ws i w x.lane queue same rising h is none fits);
-      fits = subst (Fits v s x.lane q) (sym number.0) fits;
-      best = λ m fits_m. best m (subst (Fits v s m q) number.0 fits_m);
-    }
-
--- ---- the queue
-
--- nothing can be given of the queues below n
-abbrev pub HasNoChoiceBelow : View → Passed → ℕ → Type 0
-HasNoChoiceBelow v s n = (q : ℕ) → q < n → HasQuota v s q → HasNone v s q
-
-pub choice_more : (v : View) (s : Passed) (n : ℕ) → (HasQuota v s n → HasNone v s n) → HasNoChoiceBelow v s n → HasNoChoiceBelow v s (n + 1)
-choice_more v s n here below q h quota = ⊎_elim (λ lt. below q lt quota) (λ le. let e : q ≡ n = omega arith in subst (HasNone v s) (sym e) (here (subst (HasQuota v s) e quota))) (cases_lt q n)
-
-pub offer_keeps : (v : View) (s : Passed) (q : ℕ) (o : Option Offer) (T : List Step) → AreAtomic v.shape → Stands T v → IfSome o (IsOfferOf v s q) → IfSome o (λ x. Allowed v.shape T (Give x.lane x.delivery.queue x.delivery.number) × (event_at T x.delivery.queue x.delivery.number ≡ Some x.delivery.event))
-offer_keeps v s q None T atomic stands offer = tt
-offer_keeps v s q (Some x) T atomic stands offer =
-    subst (λ r. Allowed v.shape T (Give x.lane r x.delivery.number) × (event_at T r x.delivery.number ≡ Some x.delivery.event)) (sym offer.queue)
-    (offer_is_allowed v T x.lane q (numbered_in x.delivery) atomic stands offer.offer, offer_is_accepted v T x.lane q (numbered_in x.delivery) stands offer.offer)
+pub offer_keeps : (v : View) (o : Option Offer) (T : List Step) → RestoresNoOrder v.shape → Stands T v → IfSome o (λ x. IsOffer v x.lane x.delivery.queue (numbered_in x.delivery)) → IfSome o (λ x. Allowed v.shape T (Give x.lane x.delivery.queue x.delivery.number) × (event_at T x.delivery.queue x.delivery.number ≡ Some x.delivery.event))
+offer_keeps v None T unordered stands offer = tt
+offer_keeps v (Some x) T unordered stands offer = (offer_is_allowed v T x.lane x.delivery.queue (numbered_in x.delivery) unordered stands offer, offer_is_accepted v T x.lane x.delivery.queue (numbered_in x.delivery) stands offer)

@@ -1,30 +1,22 @@
 -- The parts of a core: what waits in a queue, what is unanswered on a lane, and what holds of each.
-use Rattle.std.specs.Prelude.{ℕ, ◌≡◌, ◌<◌, ◌≤◌, Bool, ◌&&◌, ◌==◌, List, [], length, slice_index_or, All, AllPairs, vec_capacity}
+use Rattle.std.specs.Prelude.{ℕ, ◌≡◌, ◌<◌, ◌≤◌, Bool, ◌&&◌, ◌==◌, List, [], length, slice_index_or, All, vec_capacity}
 use Rattle.evt_types.specs.Plan.{Plan, depth_of}
 use Rattle.evt_types.specs.Transcript.{Held}
-use Rattle.evt_types.specs.declared.event.Numbered.{Numbered}
 use Rattle.sched_core.specs.declared.lane.Entry.{Entry}
 use Rattle.sched_core.specs.declared.lane.Lane.{Lane}
-use Rattle.sched_core.specs.declared.queue.Queue.{Queue}
+use Rattle.sched_core.specs.Waits.{Waits, AreWaits, no_waits}
 
--- each number is below the later ones
-abbrev pub IsRising : List Numbered → Type 0
-IsRising ws = AllPairs (λ (u w : Numbered). u.number < w.number) ws
+-- a queue of this room
+pub record IsQueueOf (capacity : ℕ) (q : Waits) : Type 0 where
+  pub room : q.room ≡ capacity
+  pub waits : AreWaits q
 
--- a queue with room for so many events, whose numbers rise and are below the next one
-pub record IsQueue (capacity : ℕ) (q : Queue) : Type 0 where
-  pub room : capacity ≤ vec_capacity q.waiting
-  pub rising : IsRising q.waiting.items
-  pub below : All (λ (w : Numbered). w.number < q.next) q.waiting.items
+abbrev pub IsEmptyQueue : ℕ → Waits → Type 0
+IsEmptyQueue room q = q ≡ no_waits room
 
-pub record IsEmptyQueue (capacity : ℕ) (q : Queue) : Type 0 where
-  pub room : capacity ≤ vec_capacity q.waiting
-  pub waiting : q.waiting.items ≡ []
-  pub next : q.next ≡ 0
-
-pub record AreEmptyQueues (capacity n : ℕ) (qs : List Queue) : Type 0 where
+pub record AreEmptyQueues (room n : ℕ) (qs : List Waits) : Type 0 where
   pub count : length qs ≡ n
-  pub empty : All (IsEmptyQueue capacity) qs
+  pub empty : All (IsEmptyQueue room) qs
 
 -- an unanswered event, without where it stands in memory
 abbrev pub held_of : Entry → Held

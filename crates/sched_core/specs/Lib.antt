@@ -1,6 +1,9 @@
 pub mod Inner
+pub mod Merge
 pub mod Offered
+pub mod Shutting
 pub mod Skipped
 pub mod Sweep
 pub mod Taken
 pub mod View
+pub mod Waits

@@ -1,19 +1,19 @@
 -- What contracts see of a core, and what holds of each.
-use Rattle.std.specs.Prelude.{ℕ, ◌≡◌, true, false, List, [], length, map, All}
-use Rattle.evt_types.specs.Plan.{Plan, is_atomic, bound_of}
+use Rattle.std.specs.Prelude.{ℕ, ◌≡◌, ◌≤◌, List, [], length, map, All, ◌<◌, ◌^◌}
+use Rattle.evt_types.specs.Plan.{RestoresNoOrder, bound_of}
 use Rattle.evt_types.specs.Standing.{View, Place, inside_of, entries_of}
 use Rattle.evt_types.specs.Transcript.{Held}
 use Rattle.evt_types.specs.declared.draft.QueueDraft.{QueueDraft}
 use Rattle.evt_types.specs.declared.event.Numbered.{Numbered}
-use Rattle.sched_core.specs.Inner.{IsQueue, HaveRoom, held_of}
+use Rattle.sched_core.specs.Inner.{IsQueueOf, HaveRoom, held_of}
 use Rattle.sched_core.specs.declared.lane.Lane.{Lane}
-use Rattle.sched_core.specs.declared.queue.Queue.{Queue}
+use Rattle.sched_core.specs.Waits.{Waits}
 use Rattle.sched_core.specs.declared.state.Core.TheInside.{Inside}
 
-abbrev pub waiting_in : Queue → List Numbered
-waiting_in q = q.waiting.items
+abbrev pub waiting_in : Waits → List Numbered
+waiting_in q = q.waiting
 
-abbrev pub next_in : Queue → ℕ
+abbrev pub next_in : Waits → ℕ
 next_in q = q.next
 
 abbrev pub unanswered_in : Lane → List Held
@@ -32,24 +32,17 @@ view_in a =
       next = map next_in a.queues.items;
       places = map no_places a.shape.queues;
       unanswered = map unanswered_in a.lanes.items;
-      shut = false;
+      shut = a.shut;
     }
-
--- each queue is atomic
-abbrev pub AreAtomic : Plan → Type 0
-AreAtomic p = All (λ (q : QueueDraft). is_atomic q.kind ≡ true) p.queues
-
--- no queue restores an order, and the core isn't shut
-pub record IsPlain (v : View) : Type 0 where
-  pub atomic : AreAtomic v.shape
-  pub unshut : v.shut ≡ false
 
 -- There are as many queues and lanes as are configured, each with the room that it may need, and the counts are right.
 pub record IsCore (a : Inside) : Type 0 where
-  pub atomic : AreAtomic a.shape
+  pub unordered : RestoresNoOrder a.shape
   pub queues : length a.queues.items ≡ length a.shape.queues
   pub lanes : length a.lanes.items ≡ length a.shape.ports
-  pub sound : All (IsQueue (bound_of a.shape)) a.queues.items
+  pub sound : All (IsQueueOf (bound_of a.shape)) a.queues.items
   pub room : HaveRoom a.shape a.lanes.items
   pub inside : a.inside ≡ inside_of (view_in a)
+  pub within : inside_of (view_in a) ≤ bound_of a.shape
+  pub small : bound_of a.shape < 2 ^ 64
   pub entries : a.entries ≡ entries_of (view_in a)

@@ -35,7 +35,7 @@ impl Core {
         } = offer;
         let slot = self.shape.slot_of(queue, event.flow);
         let left = &mut self.queues[queue];
-        left.remove(number);
+        left.remove(event.level(), number);
         let holder = &mut self.lanes[lane];
         holder.hold(Entry {
             queue,

@@ -1,6 +1,6 @@
 //! What a lane was given and hasn't answered.
 
-ghost use Rattle.std.specs.Prelude.{◌≡◌, ◌<◌, ◌++◌, [], ◌∷◌, drop, vec_len, vec_capacity, IfOk};
+ghost use Rattle.std.specs.Prelude.{◌≡◌, ◌<◌, ◌++◌, [], ◌∷◌, Some, drop, slice_get, vec_len, vec_capacity, IfOk};
 ghost use Rattle.std.specs.List.{list_any};
 ghost use Rattle.sched_core.specs.Inner.{IsEmptyLane, is_of};
 
@@ -37,6 +37,14 @@ impl Lane {
         ensures capacity { vec_capacity self.new.unanswered ≡ vec_capacity self.old.unanswered }
     {
         self.unanswered.push_reserved(entry);
+    }
+
+    /// The oldest event.
+    pub fn oldest(&self) -> Entry
+        requires { 0 < vec_len self.now.unanswered }
+        ensures { slice_get self.now.unanswered.items 0 ≡ Some result }
+    {
+        self.unanswered[0]
     }
 
     /// The oldest event is answered.

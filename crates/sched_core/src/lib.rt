@@ -8,6 +8,7 @@ mod new;
 mod offer;
 mod propose;
 mod queue;
+mod shut;
 mod skips;
 mod state;
 mod take;

@@ -1,9 +1,8 @@
 //! A core in which nothing has happened.
 
-ghost use Rattle.std.specs.Prelude.{◌≡◌, true, [], All, IfOk, IfErr};
-ghost use Rattle.evt_types.specs.Plan.{is_atomic, lanes_of};
+ghost use Rattle.std.specs.Prelude.{◌≡◌, [], IfOk, IfErr};
+ghost use Rattle.evt_types.specs.Plan.{lanes_of, RestoresNoOrder};
 ghost use Rattle.evt_types.specs.Standing.{Stands, view_of};
-ghost use Rattle.evt_types.specs.declared.draft.QueueDraft.{QueueDraft as QueueValue};
 ghost use Rattle.sched_core.specs.Inner.{AreEmptyQueues, AreEmptyLanes};
 
 use crate::lane::Lane;
@@ -38,7 +37,7 @@ fn empty_lanes(alloc: Global, shape: &Shape) -> Result<Vec<Lane>, AllocError>
 impl Core {
     /// A core that holds nothing. Where memory lacks the configuration comes back.
     pub fn new(alloc: Global, shape: Shape) -> Result<Core, (Memory, Shape)>
-        requires { All (λ (q : QueueValue). is_atomic q.kind ≡ true) shape.queues }
+        requires { RestoresNoOrder shape }
         ensures empty { IfOk result (λ c. c ≡ view_of shape []) }
         ensures stands { IfOk result (λ c. Stands [] c) }
         ensures shape { IfOk result (λ c. c.shape ≡ shape) }
@@ -60,6 +59,7 @@ impl Core {
             lanes,
             inside: 0,
             entries: 0,
+            shut: false,
         })
     }
 }

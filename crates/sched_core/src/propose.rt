@@ -1,56 +1,100 @@
 //! The choice of the event that is given next, and of its lane.
 
-ghost use Rattle.std.specs.Prelude.{◌≡◌, ℕ, ◌<◌, ◌↔◌, IsTrue, List, length, Some, IfSome, IfNone};
+ghost use Rattle.std.specs.Prelude.{◌≡◌, ℕ, ◌<◌, ◌↔◌, true, IsTrue, List, length, Some, IfSome, IfNone};
 ghost use Rattle.evt_types.specs.Allowed.{Allowed};
-ghost use Rattle.evt_types.specs.Choice.{Fits, HasQuota, HasNoOther, HasNone, HasNoChoice, IsBetterLane, IsOffer};
-ghost use Rattle.evt_types.specs.Plan.{lanes_of};
+ghost use Rattle.evt_types.specs.Choice.{Fits, HasNoOther, HasNone, HasNoChoice, IsBetterLane, IsChoice, IsOffer};
+ghost use Rattle.evt_types.specs.Plan.{lanes_of, queue_of, is_atomic};
 ghost use Rattle.evt_types.specs.Standing.{Stands};
 ghost use Rattle.evt_types.specs.Transcript.{event_at};
 ghost use Rattle.evt_types.specs.declared.step.Step.{Step as StepValue};
 ghost use Rattle.evt_types.specs.declared.step.Step.TheVariants as steps;
-ghost use Rattle.sched_core.specs.Offered.{numbered_in, FitsSlot, IsOfferOf, better_of};
+ghost use Rattle.sched_core.specs.Offered.{numbered_in, FitsSlot, HasNoneIn, IsOfferIn, IsOfferAt, IsOfferOf, HasNoneAt, level_at, better_of, is_ahead};
 
 use crate::offer::Offer;
+use crate::queue::LEVELS;
 use crate::skips::Skips;
 use crate::state::Core;
 use evt_types::{Delivery, Numbered};
 
 impl Core {
-    /// The event to be given next, where some lane may take one: of the first queue that has such an event its first one,
-    /// to the lane with fewest unanswered events.
+    /// What is given next: of the first queue, by priority and then number, that has an event which some lane may take,
+    /// its first such event, by level and then number, to the lane with fewest unanswered events, of several the first.
     pub fn propose(&self, skips: &Skips) -> Option<Offer>
-        ensures offer { IfSome result (λ o. IsOffer self.now o.lane o.delivery.queue (numbered_in o.delivery)) }
-        ensures fits { IfSome result (λ o. HasQuota self.now skips.now o.delivery.queue × Fits self.now skips.now o.lane o.delivery.queue (numbered_in o.delivery)) }
-        ensures lane { IfSome result (λ o. (m : ℕ) → Fits self.now skips.now m o.delivery.queue (numbered_in o.delivery) → ¬ IsBetterLane self.now m o.lane) }
+        ensures choice { IfSome result (λ o. IsChoice self.now skips.now o.lane o.delivery.queue (numbered_in o.delivery)) }
         ensures none { IfNone result (HasNoChoice self.now skips.now) }
+        ensures offer { IfSome result (λ o. IsOffer self.now o.lane o.delivery.queue (numbered_in o.delivery)) }
         ensures keeps { (T : List StepValue) → Stands T self.now → IfSome result (λ o. Allowed self.now.shape T (steps.Give o.lane o.delivery.queue o.delivery.number) × (event_at T o.delivery.queue o.delivery.number ≡ Some o.delivery.event)) }
     {
         let count = self.shape.queues().len();
         let sweep = self.shape.sweep();
+        let mut best = None;
         for queue in 0..count {
-            if skips.has_quota(queue, sweep) {
+            if skips.has_quota(queue, sweep) && self.is_ahead(queue, best) {
                 let offer = self.offer_of(queue, skips);
                 if offer.is_some() {
-                    return offer;
+                    best = offer;
                 }
             }
         }
-        None
+        best
     }
 
-    /// The queue's first event that some lane may take.
+    /// Whether the queue is served before that of the offer found so far, whose number is lower.
+    fn is_ahead(&self, queue: usize, best: Option<Offer>) -> bool
+        requires queue { queue < length self.now.shape.queues }
+        requires best { IfSome best (λ o. o.delivery.queue < length self.now.shape.queues) }
+        ensures { result ≡ is_ahead self.now.shape queue best }
+    {
+        let queues = self.shape.queues();
+        match best {
+            Some(offer) => queues[queue].priority < queues[offer.delivery.queue].priority,
+            None => true,
+        }
+    }
+
+    /// The queue's first event that some lane may take, by level and then number.
     fn offer_of(&self, queue: usize, skips: &Skips) -> Option<Offer>
         requires { queue < length self.now.shape.queues }
         ensures offer { IfSome result (IsOfferOf self.now skips.now queue) }
         ensures none { IfNone result (HasNone self.now skips.now queue) }
     {
-        for waiting in self.waiting(queue) {
-            let offer = self.offer_for(queue, waiting, skips);
+        // The use of a field makes known what holds of each core.
+        let _ = &self.queues;
+        for level in 0..LEVELS {
+            let offer = self.offer_in(queue, level, skips);
             if offer.is_some() {
                 return offer;
             }
         }
         None
+    }
+
+    /// The first event of the queue's level that some lane may take.
+    fn offer_in(&self, queue: usize, level: usize, skips: &Skips) -> Option<Offer>
+        requires queue { queue < length self.now.shape.queues }
+        requires level { level < 4 }
+        ensures offer { IfSome result (IsOfferIn self.now skips.now queue level) }
+        ensures none { IfNone result (HasNoneIn self.now skips.now queue level) }
+    {
+        for place in 0..self.queues[queue].len(level) {
+            let offer = self.offer_at(queue, level, place, skips);
+            if offer.is_some() {
+                return offer;
+            }
+        }
+        None
+    }
+
+    /// The event at this place of the queue's level, for the best lane that may take it.
+    fn offer_at(&self, queue: usize, level: usize, place: usize, skips: &Skips) -> Option<Offer>
+        requires queue { queue < length self.now.shape.queues }
+        requires level { level < 4 }
+        requires place { place < length (level_at self.now queue level) }
+        ensures offer { IfSome result (IsOfferAt self.now skips.now queue level place) }
+        ensures none { IfNone result (HasNoneAt self.now skips.now queue level place) }
+    {
+        let waiting = self.queues[queue].at(level, place)?;
+        self.offer_for(queue, waiting, skips)
     }
 
     /// The event for the best lane that may take it.
@@ -102,7 +146,15 @@ impl Core {
         !skips.has_bounced(lane)
             && self.shape.serves(lane, queue, slot)
             && self.lanes[lane].unanswered.len() < self.shape.depth_of(lane)
-            && self.is_alone(lane, queue, slot)
+            && self.may_hold(lane, queue, slot)
+    }
+
+    /// Whether the lane may hold events of the slot: those of an atomic queue stand on one lane at a time.
+    fn may_hold(&self, lane: usize, queue: usize, slot: usize) -> bool
+        requires { queue < length self.now.shape.queues }
+        ensures { IsTrue result ↔ (is_atomic (queue_of self.now.shape queue).kind ≡ true → HasNoOther self.now lane queue slot) }
+    {
+        !self.shape.queues()[queue].kind.is_atomic() || self.is_alone(lane, queue, slot)
     }
 
     /// Whether no other lane has an unanswered event of the slot.

@@ -1,49 +1,138 @@
 //! A queue's waiting events.
 
-ghost use Rattle.std.specs.Prelude.{◌≡◌, ◌+◌, ◌<◌, ◌^◌, ◌++◌, [], ◌∷◌, ◌==◌, not, filter, vec_len, vec_capacity, IfOk};
-ghost use Rattle.sched_core.specs.Inner.{IsEmptyQueue};
+ghost use Rattle.std.specs.Prelude.{◌≡◌, ◌≢◌, ◌+◌, ◌<◌, ◌≤◌, ◌^◌, ◌++◌, length, map, slice_get, option_copied, vec_len, vec_capacity, All, IfOk, IfSome, IfNone};
+ghost use Rattle.evt_types.specs.Plan.{level_of};
 ghost use Rattle.evt_types.specs.declared.event.Numbered.{Numbered as NumberedValue};
+ghost use Rattle.sched_core.specs.Waits.{AreWaits, IsPlaceOf, at_level, no_waits, with_event, without_number};
 
 use evt_types::{Event, Numbered};
+use level_queues::Levels;
 use std::alloc::{AllocError, Global};
+use std::marker::Model;
 
-/// The events that wait, by rising number, and the number of the next event.
+/// How many levels a queue has.
+pub const LEVELS: usize = 4;
+
+/// The events that wait, and the number of the next event.
 #[derive(Drop)]
 pub struct Queue {
-    pub waiting: Vec<Numbered>,
-    pub next: u64,
+    levels: Levels,
+    next: u64,
+}
+
+impl Model for Queue {
+    ghost use Rattle.sched_core.specs.Waits.{Waits};
+    ghost use Rattle.sched_core.specs.Merge.{waits_in, IsQueue};
+
+    ghost Value = { Waits };
+
+    ghost view = { waits_in };
+
+    ghost invariant = { IsQueue };
 }
 
 impl Queue {
-    /// A queue with room for so many events.
+    /// A queue with room for so many events of each level.
     pub fn new(alloc: Global, capacity: usize) -> Result<Queue, AllocError>
-        ensures { IfOk result (λ q. IsEmptyQueue capacity q) }
+        ensures { IfOk result (λ q. q ≡ no_waits capacity) }
     {
         Ok(Queue {
-            waiting: Vec::with_capacity(alloc, capacity)?,
+            levels: Levels::new(alloc, capacity)?,
             next: 0,
         })
     }
 
     /// Lets the event wait, under the next number.
     pub fn accept(&mut self, event: Event)
-        requires room { vec_len self.old.waiting < vec_capacity self.old.waiting }
+        requires room { length self.old.waiting < self.old.room }
         requires numbers { self.old.next < 2 ^ 63 }
-        ensures waiting { self.new.waiting.items ≡ self.old.waiting.items ++ record { number = self.old.next; event = event } ∷ [] }
-        ensures next { self.new.next ≡ self.old.next + 1 }
-        ensures capacity { vec_capacity self.new.waiting ≡ vec_capacity self.old.waiting }
+        ensures value { self.new ≡ with_event self.old event }
+        ensures waits { AreWaits self.new }
     {
         let number = self.next;
-        self.waiting.push_reserved(Numbered { number, event });
+        // There is room, so the event never comes back.
+        let _ = self.levels.push(Numbered { number, event });
         self.next += 1;
     }
 
-    /// Takes the event of this number out.
-    pub fn remove(&mut self, number: u64)
-        ensures waiting { self.new.waiting.items ≡ filter (λ (w : NumberedValue). not (w.number == number)) self.old.waiting.items }
-        ensures next { self.new.next ≡ self.old.next }
-        ensures capacity { vec_capacity self.new.waiting ≡ vec_capacity self.old.waiting }
+    /// How many events of the level wait.
+    pub fn len(&self, level: usize) -> usize
+        requires { level < 4 }
+        ensures value { result ≡ length (at_level level self.now.waiting) }
+        ensures waits { AreWaits self.now }
     {
-        self.waiting.retain(|event| event.number != number);
+        self.levels.len(level)
+    }
+
+    /// The event of the level at this place, counted from the oldest.
+    pub fn at(&self, level: usize, place: usize) -> Option<&Numbered>
+        requires { level < 4 }
+        ensures value { option_copied result ≡ slice_get (at_level level self.now.waiting) place }
+        ensures waits { AreWaits self.now }
+    {
+        self.levels.at(level, place)
+    }
+
+    /// The place of the event of this number among those of its level.
+    fn place_of(&self, level: usize, number: u64) -> Option<usize>
+        requires { level < 4 }
+        ensures found { IfSome result (IsPlaceOf (at_level level self.now.waiting) number) }
+        ensures none { IfNone result (All (λ (w : NumberedValue). w.number ≢ number) (at_level level self.now.waiting)) }
+    {
+        for place in 0..self.len(level) {
+            match self.at(level, place) {
+                Some(waiting) if waiting.number == number => return Some(place),
+                _ => {}
+            }
+        }
+        None
+    }
+
+    /// Takes the event of this number out, which is of the level.
+    pub fn remove(&mut self, level: usize, number: u64)
+        requires level { level < 4 }
+        requires only { All (λ (w : NumberedValue). w.number ≡ number → level_of w.event ≡ level) self.old.waiting }
+        ensures value { self.new ≡ without_number self.old number }
+        ensures waits { AreWaits self.new }
+    {
+        if let Some(place) = self.place_of(level, number) {
+            let _ = self.levels.remove_at(level, place);
+        }
+    }
+
+    /// How many events wait.
+    pub fn count(&self) -> usize
+        ensures { result ≡ length self.now.waiting }
+    {
+        self.len(0) + self.len(1) + self.len(2) + self.len(3)
+    }
+
+    /// Appends the numbers of the level's waiting events.
+    fn push_numbers(&self, level: usize, into: &mut Vec<u64>)
+        requires level { level < 4 }
+        requires room { vec_len into.old + length (at_level level self.now.waiting) ≤ vec_capacity into.old }
+        ensures numbers { into.new.items ≡ into.old.items ++ map (λ (w : NumberedValue). w.number) (at_level level self.now.waiting) }
+        ensures room { vec_capacity into.new ≡ vec_capacity into.old }
+        ensures waits { AreWaits self.now }
+    {
+        for place in 0..self.len(level) {
+            if let Some(waiting) = self.at(level, place) {
+                into.push_reserved(waiting.number);
+            }
+        }
+    }
+
+    /// Appends the numbers of the waiting events, rising.
+    pub fn list_numbers(&self, into: &mut Vec<u64>)
+        requires { vec_len into.old + length self.now.waiting ≤ vec_capacity into.old }
+        ensures numbers { into.new.items ≡ into.old.items ++ map (λ (w : NumberedValue). w.number) self.now.waiting }
+        ensures room { vec_capacity into.new ≡ vec_capacity into.old }
+    {
+        let start = into.len();
+        self.push_numbers(0, into);
+        self.push_numbers(1, into);
+        self.push_numbers(2, into);
+        self.push_numbers(3, into);
+        into[start..].sort_unstable();
     }
 }

@@ -6,11 +6,10 @@ ghost use Rattle.evt_types.specs.Transcript as transcripts;
 ghost use Rattle.evt_types.specs.declared.event.Numbered.{Numbered as NumberedValue};
 ghost use Rattle.evt_types.specs.declared.step.Step.{Step as StepValue};
 ghost use Rattle.sched_core.specs.Sweep.{kept_room, sweep_steps};
-ghost use Rattle.sched_core.specs.Inner.{IsRising};
 
 use crate::lane::Lane;
 use crate::queue::Queue;
-use evt_types::{Numbered, QueueDraft, Shape};
+use evt_types::{QueueDraft, Shape};
 use std::alloc::AllocError;
 use std::marker::Model;
 
@@ -27,6 +26,8 @@ pub struct Core {
     pub(crate) inside: usize,
     /// How many events were accepted.
     pub(crate) entries: u64,
+    /// Whether new events are turned away.
+    pub(crate) shut: bool,
 }
 
 impl Model for Core {
@@ -89,7 +90,7 @@ impl Core {
         requires { queue < length self.now.shape.queues }
         ensures { result ≡ length (waiting_at self.now queue) }
     {
-        self.queues[queue].waiting.len()
+        self.queues[queue].count()
     }
 
     /// Appends the numbers of the queue's waiting events, rising.
@@ -99,17 +100,6 @@ impl Core {
         ensures numbers { into.new.items ≡ into.old.items ++ map (λ (w : NumberedValue). w.number) (waiting_at self.now queue) }
         ensures room { vec_capacity into.new ≡ vec_capacity into.old }
     {
-        for waiting in self.waiting(queue) {
-            into.push_reserved(waiting.number);
-        }
-    }
-
-    /// The queue's waiting events, by rising number.
-    pub(crate) fn waiting(&self, queue: usize) -> &[Numbered]
-        requires { queue < length self.now.shape.queues }
-        ensures value { result.now ≡ waiting_at self.now queue }
-        ensures rising { IsRising result.now }
-    {
-        &self.queues[queue].waiting
+        self.queues[queue].list_numbers(into);
     }
 }

@@ -1,12 +1,12 @@
 //! Replies of the lanes are taken.
 
-ghost use Rattle.std.specs.Prelude.{◌≡◌, ◌≢◌, ◌+◌, ◌<◌, ◌≤◌, true, List, [], ◌∷◌, ◌++◌, length, vec_len, vec_capacity};
-ghost use Rattle.evt_types.specs.Plan.{lanes_of};
-ghost use Rattle.evt_types.specs.Standing.{Stands, AreStepsOf, may_take, may_enter, may_answer, steps_of, after, after_accept};
+ghost use Rattle.std.specs.Prelude.{◌≡◌, ◌+◌, ◌<◌, ◌≤◌, ◌^◌, true, List, [], ◌∷◌, ◌++◌, length, vec_len, vec_capacity};
+ghost use Rattle.evt_types.specs.Plan.{bound_of, lanes_of, RestoresNoOrder};
+ghost use Rattle.evt_types.specs.Standing.{Stands, AreStepsOf, inside_of, entries_of, may_take, may_enter, may_answer, may_forward, steps_by, steps_of, after, after_accept};
 ghost use Rattle.evt_types.specs.declared.step.Step.{Step as StepValue};
-ghost use Rattle.sched_core.specs.Taken.{took_of, after_answer};
-ghost use Rattle.sched_core.specs.View.{IsPlain};
+ghost use Rattle.sched_core.specs.Taken.{took_by, took_of, after_answer};
 
+use crate::lane::Entry;
 use crate::state::Core;
 use evt_types::{Event, Op, Outcome, Reply, Source, Step};
 
@@ -30,21 +30,30 @@ impl Core {
     /// Whether the lane's reply may be taken now.
     pub fn takes(&self, lane: usize, reply: &Reply) -> bool
         requires lane { lane < lanes_of self.now.shape }
-        requires no_forward { reply.now.event.op ≢ Op.Forward }
         ensures { result ≡ may_take self.now lane reply.now.event }
     {
+        let queue = usize::from(reply.event.queue);
         match reply.event.op {
-            Op::New => self.may_enter(usize::from(reply.event.queue)),
+            Op::New => self.may_enter(queue),
+            Op::Forward => self.may_forward(lane, queue),
             Op::Release => self.may_answer(lane),
-            Op::Forward => unreachable!(),
         }
     }
 
-    /// Whether the queue may accept a new event.
+    /// Whether a new event for the queue may be taken: once the core is shut it is turned away, and needs no room.
     fn may_enter(&self, queue: usize) -> bool
         ensures { result ≡ may_enter self.now queue }
     {
-        queue < self.queues.len() && self.inside < self.shape.bound() && self.entries < MAX_ENTRIES
+        let has_room = self.inside < self.shape.bound() && self.entries < MAX_ENTRIES;
+        queue < self.queues.len() && (self.shut || has_room)
+    }
+
+    /// Whether the lane has something to answer, and the queue may accept what it is forwarded as.
+    fn may_forward(&self, lane: usize, queue: usize) -> bool
+        requires { lane < lanes_of self.now.shape }
+        ensures { result ≡ may_forward self.now lane queue }
+    {
+        self.may_answer(lane) && queue < self.queues.len() && self.entries < MAX_ENTRIES
     }
 
     /// Whether the lane has something to answer.
@@ -58,7 +67,6 @@ impl Core {
     /// Takes the lane's reply, and appends its steps to the log.
     pub fn take(&mut self, lane: usize, reply: Reply, log: &mut Vec<Step>) -> Took
         requires lane { lane < lanes_of self.old.shape }
-        requires no_forward { reply.event.op ≢ Op.Forward }
         requires takes { may_take self.old lane reply.event ≡ true }
         requires room { vec_len log.old + length (steps_of self.old lane reply.event) ≤ vec_capacity log.old }
         ensures view { self.new ≡ after self.old (steps_of self.old lane reply.event) }
@@ -70,31 +78,45 @@ impl Core {
     {
         match reply.event.op {
             Op::New => self.take_new(lane, reply.event, log),
+            Op::Forward => self.take_forward(lane, reply.event, log),
             Op::Release => self.take_release(lane, log),
-            Op::Forward => unreachable!(),
         }
     }
 
-    /// The event waits in its queue.
+    /// A new event waits in its queue; once the core is shut it is turned away.
     fn take_new(&mut self, lane: usize, event: Event, log: &mut Vec<Step>) -> Took
         requires takes { may_enter self.old event.queue ≡ true }
-        requires room { vec_len log.old < vec_capacity log.old }
-        ensures view { self.new ≡ after_accept self.old event.queue event }
-        ensures logged { log.new.items ≡ log.old.items ++ Step.Accept event.queue event (Source.New lane) ∷ [] }
-        ensures took { result ≡ Took.Accepted }
-        ensures plain { IsPlain self.old }
+        requires room { vec_len log.old + length (steps_by Op.New self.old lane event) ≤ vec_capacity log.old }
+        ensures view { self.new ≡ after self.old (steps_by Op.New self.old lane event) }
+        ensures logged { log.new.items ≡ log.old.items ++ steps_by Op.New self.old lane event }
+        ensures took { result ≡ took_by Op.New self.old lane event }
+        ensures unordered { RestoresNoOrder self.old.shape }
         ensures room { vec_capacity log.new ≡ vec_capacity log.old }
     {
-        let queue = usize::from(event.queue);
-        let entered = &mut self.queues[queue];
-        entered.accept(event);
-        self.inside += 1;
-        self.entries += 1;
-        log.push_reserved(Step::Accept {
-            queue,
-            event,
-            source: Source::New { lane },
-        });
+        let is_turned = self.shut;
+        if is_turned {
+            log.push_reserved(Step::Turned { lane, event });
+            return Took::Turned;
+        }
+        self.accept(event, Source::New { lane }, log);
+        Took::Accepted
+    }
+
+    /// The lane's oldest unanswered event is done with, and what it is forwarded as waits in its queue.
+    fn take_forward(&mut self, lane: usize, event: Event, log: &mut Vec<Step>) -> Took
+        requires op { event.op ≡ Op.Forward }
+        requires lane { lane < lanes_of self.old.shape }
+        requires takes { may_forward self.old lane event.queue ≡ true }
+        requires room { vec_len log.old + length (steps_of self.old lane event) ≤ vec_capacity log.old }
+        ensures view { self.new ≡ after self.old (steps_of self.old lane event) }
+        ensures logged { log.new.items ≡ log.old.items ++ steps_of self.old lane event }
+        ensures took { result ≡ took_of self.old lane event }
+        ensures unordered { RestoresNoOrder self.old.shape }
+        ensures room { vec_capacity log.new ≡ vec_capacity log.old }
+    {
+        let Entry { queue, number, .. } = self.lanes[lane].oldest();
+        self.answer(lane, Outcome::Forwarded(event), log);
+        self.accept(event, Source::Of { queue, number }, log);
         Took::Accepted
     }
 
@@ -106,16 +128,48 @@ impl Core {
         ensures view { self.new ≡ after_answer self.old lane }
         ensures logged { log.new.items ≡ log.old.items ++ Step.Done lane Outcome.Released ∷ [] }
         ensures took { result ≡ Took.Released }
-        ensures plain { IsPlain self.old }
+        ensures unordered { RestoresNoOrder self.old.shape }
+        ensures room { vec_capacity log.new ≡ vec_capacity log.old }
+    {
+        self.answer(lane, Outcome::Released, log);
+        Took::Released
+    }
+
+    /// The event waits in its queue, under the next number.
+    fn accept(&mut self, event: Event, source: Source, log: &mut Vec<Step>)
+        requires queue { event.queue < length self.old.shape.queues }
+        requires inside { inside_of self.old < bound_of self.old.shape }
+        requires entries { entries_of self.old < 2 ^ 63 }
+        requires room { vec_len log.old < vec_capacity log.old }
+        ensures view { self.new ≡ after_accept self.old event.queue event }
+        ensures logged { log.new.items ≡ log.old.items ++ Step.Accept event.queue event source ∷ [] }
+        ensures room { vec_capacity log.new ≡ vec_capacity log.old }
+    {
+        let queue = usize::from(event.queue);
+        let entered = &mut self.queues[queue];
+        entered.accept(event);
+        self.inside += 1;
+        self.entries += 1;
+        log.push_reserved(Step::Accept {
+            queue,
+            event,
+            source,
+        });
+    }
+
+    /// The lane's oldest unanswered event is answered so.
+    fn answer(&mut self, lane: usize, outcome: Outcome, log: &mut Vec<Step>)
+        requires lane { lane < lanes_of self.old.shape }
+        requires some { may_answer self.old lane ≡ true }
+        requires room { vec_len log.old < vec_capacity log.old }
+        ensures view { self.new ≡ after_answer self.old lane }
+        ensures logged { log.new.items ≡ log.old.items ++ Step.Done lane outcome ∷ [] }
+        ensures unordered { RestoresNoOrder self.old.shape }
         ensures room { vec_capacity log.new ≡ vec_capacity log.old }
     {
         let answering = &mut self.lanes[lane];
         answering.answer();
         self.inside -= 1;
-        log.push_reserved(Step::Done {
-            lane,
-            outcome: Outcome::Released,
-        });
-        Took::Released
+        log.push_reserved(Step::Done { lane, outcome });
     }
 }

@@ -1,4 +1,4 @@
-use Rattle.std.proofs.Common.{length, [], ap, subst, sym}
+use Rattle.std.proofs.Common.{arith, length, [], ap, subst, sym}
 use Rattle.evt_types.specs.Standing.{Stands}
 use Rattle.evt_types.proofs.ViewStands.{stands_none}
 use Rattle.sched_core.specs.Inner.{AreEmptyQueues}
@@ -7,7 +7,7 @@ use Rattle.sched_core.proofs.state.Core.new.Goals as goal
 
 pub invariant_of-result : goal.invariant_of-result
 invariant_of-result c =
-    core_new c.args.shape c.in-Ok.queues c.in-Ok-empty_lanes.lanes c.requires
+    core_new c.args.shape c.in-Ok.queues c.in-Ok-empty_lanes.lanes c.requires (omega (arith, c.bound-bound.ensures.value))
     (subst (λ n. AreEmptyQueues n (length c.args.shape.queues) c.in-Ok.queues.items) c.bound-bound.ensures.value (subst (λ n. AreEmptyQueues c.bound-bound.result n c.in-Ok.queues.items) (ap length c.queues-count.ensures.value) c.in-Ok.ensures))
     c.in-Ok-empty_lanes.ensures
 

@@ -1,22 +1,29 @@
-use Rattle.std.proofs.Common.{sym, ◌∙◌, arith, ℕ}
-use Rattle.evt_types.specs.Choice.{Fits}
-use Rattle.sched_core.proofs.Offers.{offer_found, none_of, none_more, none_waits}
+use Rattle.std.proofs.Common.{◌≡◌, ◌<◌, length, All, subst, sym, ap, ◌∙◌, arith}
+use Rattle.evt_types.specs.Plan.{level_of}
+use Rattle.evt_types.specs.Standing.{View, waiting_at}
+use Rattle.evt_types.specs.declared.event.Numbered.{Numbered}
+use Rattle.sched_core.proofs.Cores.{levels_there}
+use Rattle.sched_core.proofs.Offers.{none_of, level_more, none_under, offer_first}
+use Rattle.sched_core.specs.Offered.{HasNoneIn}
 use Rattle.sched_core.proofs.state.Core.offer_of.Goals as goal
 
-pub loop-waiting-init : goal.loop-waiting-init
-loop-waiting-init c = λ k h. absurd (omega arith)
+pub loop-level-init : goal.loop-level-init
+loop-level-init c = λ k h. absurd (omega arith)
 
 pub returns-then-is_some-clause-offer : goal.returns-then-is_some-clause-offer
-returns-then-is_some-clause-offer c =
-    offer_found c.args.self.now c.args.skips.now c.args.queue c.waiting-waiting-items.result.now c.loop-waiting.waiting-index c.waiting-item.result c.offer_for-offer.result
-    c.requires c.waiting-waiting-items.ensures.value c.waiting-waiting-items.ensures.rising c.loop-waiting-test.true c.waiting-item.is c.loop-waiting.invariant c.offer_for-offer.ensures.same c.offer_for-offer.ensures.fits c.offer_for-offer.ensures.best
+returns-then-is_some-clause-offer c = offer_first c.args.self.now c.args.skips.now c.args.queue c.loop-level.level c.offer_in-offer.result c.loop-level.invariant c.offer_in-offer.ensures.offer
 
-pub loop-waiting-preserved : goal.loop-waiting-preserved
-loop-waiting-preserved c =
-    none_more c.args.self.now c.args.skips.now c.args.queue c.waiting-waiting-items.result.now c.loop-waiting.waiting-index c.waiting-item.result c.loop-waiting-test.true c.waiting-item.is
-    (none_of c.offer_for-offer.result ((m : ℕ) → ¬ Fits c.args.self.now c.args.skips.now m c.args.queue c.waiting-item.result) (sym c.is_some.ensures ∙ c.if-is_some.false) c.offer_for-offer.ensures.none)
-    c.loop-waiting.invariant
+pub loop-level-preserved : goal.loop-level-preserved
+loop-level-preserved c =
+    level_more c.args.self.now c.args.skips.now c.args.queue c.loop-level.level
+    (none_of c.offer_in-offer.result (HasNoneIn c.args.self.now c.args.skips.now c.args.queue c.loop-level.level) (sym c.is_some.ensures ∙ c.if-is_some.false) c.offer_in-offer.ensures.none)
+    c.loop-level.invariant
 
 pub returns-clause-none : goal.returns-clause-none
 returns-clause-none c =
-    none_waits c.args.self.now c.args.skips.now c.args.queue c.waiting-waiting-items.result.now c.loop-waiting.waiting-index c.waiting-waiting-items.ensures.value c.loop-waiting-test.false c.loop-waiting.invariant
+    let v : View = c.args.self.now in
+    let a = c.self.inside in
+    let count : length a.shape.queues ≡ length v.shape.queues = ap (λ (u : View). length u.shape.queues) c.self.view_is in
+    let h : c.args.queue < length a.queues.items = omega (arith, c.requires, c.self.invariant.queues) in
+    let levels : All (λ (w : Numbered). level_of w.event < 4) (waiting_at v c.args.queue) = subst (λ (u : View). All (λ (w : Numbered). level_of w.event < 4) (waiting_at u c.args.queue)) c.self.view_is (levels_there a c.args.queue c.self.invariant h) in
+    none_under v c.args.skips.now c.args.queue 4 levels (λ k lt. c.loop-level.invariant k (omega arith))

@@ -1,5 +1,5 @@
-use Rattle.sched_core.proofs.Offers.{HasNoChoiceBelow}
+use Rattle.sched_core.proofs.Offers.{IsBestBelow}
 use Rattle.sched_core.proofs.state.Core.propose.Given as goal
 
 abbrev pub invariant-loop-queue : goal.invariant-loop-queue
-invariant-loop-queue l = HasNoChoiceBelow l.self l.skips l.queue
+invariant-loop-queue l = IsBestBelow l.self l.skips l.queue l.best

@@ -1,0 +1,10 @@
+pub mod Choices
+pub mod Held
+pub mod Slots
+pub mod Records
+pub mod Moved
+pub mod Keeps
+pub mod Parts
+pub mod Whole
+pub mod Starts
+pub mod Calls

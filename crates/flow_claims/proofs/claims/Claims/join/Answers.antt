@@ -1,0 +1,22 @@
+-- A join keeps the rule.
+use Rattle.std.proofs.Common.{rules, ◌≡◌, ◌++◌, ◌∙◌, [], map, ap, sym, subst, length, arith, append-nil, ◌<◌, ℕ, List, All}
+use Rattle.std.proofs.lemmas.List.Elements.{All-append}
+use Rattle.flow_claims.specs.Seats.{slot_of, after_join}
+use Rattle.flow_claims.proofs.Parts.{joins}
+use Rattle.flow_claims.proofs.Calls.{joined_slots, joined_lanes}
+use Rattle.flow_claims.proofs.claims.Claims.join.Goals as goal
+
+pub join_seat-requires : goal.join_seat-requires
+join_seat-requires c = (
+  c.requires.first.0,
+  c.requires.second.0,
+  c.args.b.slots ∙ ap (map slot_of) c.requires.none_open,
+  omega (arith, c.args.self.now.words),
+  joins _ _ _ _ _ c.args.a.has_part c.args.b.has_part c.args.b.none_closed,
+)
+
+pub invariant_of-a-clause-slots : goal.invariant_of-a-clause-slots
+invariant_of-a-clause-slots c = joined_slots c.args.a.seat.me c.join_seat.new.seat.me c.args.b.seat.me.0 c.join_seat.ensures.2 c.args.a.slots c.requires.none_open
+
+pub invariant_of-a-clause-lanes_exist : goal.invariant_of-a-clause-lanes_exist
+invariant_of-a-clause-lanes_exist c = joined_lanes c.args.a.seat.me c.join_seat.new.seat.me c.args.b.seat.me.0 c.join_seat.ensures.2 c.args.a.lanes_exist c.args.b.lanes_exist (c.requires.second.1 ∙ sym c.requires.first.1)

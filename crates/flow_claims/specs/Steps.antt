@@ -1,0 +1,58 @@
+-- What the kinds of step tell the seat that steps. Each is of the step, the seat before, the word found and the seat after.
+use Rattle.std.specs.Prelude.{◌≡◌, ◌≢◌, ℕ, ◌+◌, ◌-◌, ◌/◌, ◌%◌, ◌==◌, Bool, List, [], ◌∷◌, ◌++◌, map, Option}
+use Rattle.std.specs.Prelude.Option.{Some, None}
+use Rattle.atomic_table.specs.Table.{Me, Step, rest}
+use Rattle.lane_rings.specs.Ends.{unanswered}
+use Rattle.lane_rings.specs.declared.far.Far.{Far}
+use Rattle.flow_claims.specs.declared.seating.Begun.{Begun}
+use Rattle.flow_claims.specs.declared.seating.Seating.{Seating}
+use Rattle.flow_claims.specs.Lists.{IsOf}
+use Rattle.flow_claims.specs.Stints.{stints_of}
+use Rattle.flow_claims.specs.Seats.{begun_by, past_of, slot_of, fronted, find_lane, after_look, after_begin, after_front, after_close}
+use Rattle.flow_claims.specs.Ends.{IsEnd}
+
+-- a seat with the slots that it has
+abbrev pub Sitting : Type 0
+Sitting = Me (Option Far) Seating
+
+abbrev pub WordStep : Type 0
+WordStep = Step (Option Far)
+
+-- the load of a claim
+abbrev pub Probes : WordStep → Sitting → ℕ → Sitting → Type 0
+Probes st m word n = (n.0 ≡ after_look st.word word m.0) × (n.1 ≡ m.1)
+
+-- the exchange of a claim: where it succeeds, the seat takes the slot, with the lane's end
+abbrev pub Begins : WordStep → Sitting → ℕ → Sitting → Type 0
+Begins st m word n =
+    (word ≡ st.first → (far : Far)
+    × (n.0 ≡ after_begin (begun_by (st.second - st.first - 1) st.word (word / 256) far) (after_look st.word word m.0))
+    × (n.1 ≡ (st.word, Some far) ∷ m.1) × IsOf m.0.lanes st.word far × (unanswered far ≡ []))
+    × (word ≢ st.first → (n.0 ≡ after_look st.word word m.0) × (n.1 ≡ m.1))
+
+-- the load that brings the lane's slot before the others that the seat has
+abbrev pub Fronts : WordStep → Sitting → ℕ → Sitting → Type 0
+Fronts st m word n = (n.0 ≡ after_front st.word m.0) × (n.1 ≡ map slot_of (fronted st.word m.0.held))
+
+-- what the slot that was taken last holds
+abbrev pub in_hand : List (ℕ × Option Far) → Option Far
+in_hand [] = None
+in_hand (x ∷ xs) = x.1
+
+-- the first open stint ends with this end
+abbrev pub ends_first : Bool → List Begun → Option Far → Seating → Seating
+ends_first surrendered [] far v = v
+ends_first surrendered (b ∷ bs) None v = v
+ends_first surrendered (b ∷ bs) (Some far) v = record v { held = bs; finished = v.finished ++ past_of surrendered b far ∷ [] }
+
+-- the store that gives the slot back with the end, and surrenders the lane where the word ends in 255
+abbrev pub Finishes : WordStep → Sitting → ℕ → Sitting → Type 0
+Finishes st m word n = (n.0 ≡ ends_first (st.first % 256 == 255) m.0.held (in_hand m.1) m.0) × (n.1 ≡ rest m.1) × (find_lane st.word n.0.held ≡ None)
+
+-- the load before a closing swap: a seat with all parts has all stints
+abbrev pub Surveys : WordStep → Sitting → ℕ → Sitting → Type 0
+Surveys st m word n = (n.0 ≡ after_look st.word word m.0) × (n.1 ≡ m.1) × (word / 256 ≡ stints_of st.word m.0.finished)
+
+-- the closing swap, by which a seat with all parts takes the slot
+abbrev pub Closes : WordStep → Sitting → ℕ → Sitting → Type 0
+Closes st m word n = (far : Far) × (n.0 ≡ after_close m.0) × (n.1 ≡ (st.word, Some far) ∷ m.1) × IsEnd m.0.lanes m.0.finished st.word far

@@ -1,0 +1,18 @@
+//! Lanes that the ports hold by turns: a port claims a lane by one atomic exchange, without a lock and without a pin.
+//!
+//! Each lane has a word, which says how many stints it has had and which port has it now, and a slot with the lane's end.
+//! A thread steps with a seat, which knows its open and its finished stints. Between any two steps of any seats, a lane's end
+//! is in its slot or in just one seat's open stint, and the finished stints of all seats are each lane's record.
+#![tactic(auto)]
+
+mod claim;
+mod claims;
+mod ends;
+mod rule;
+mod seating;
+#[cfg(test)]
+mod tests;
+
+pub use claim::{Claim, Stint};
+pub use claims::{ClaimSeat, Claims, MAX_STINTS, Memory, NO_PORT};
+pub use seating::{Begun, LaneLists, Past, Reading, Seating};

@@ -1,0 +1,69 @@
+//! The one rule of the claim words, and the kinds of step under it.
+ghost use Rattle.flow_claims.specs.Seats.{after_join, first_seating, part_of, rest_of, spent_seating};
+ghost use Rattle.flow_claims.specs.Rule.{Claimed};
+ghost use Rattle.flow_claims.specs.Steps.{Probes, Begins, Fronts, Finishes, Surveys, Closes};
+
+use crate::seating::Seating;
+use atomic_table::{Join, Play, Split, TableRule};
+use lane_rings::Far;
+use std::snapshot::Snapshot;
+
+pub struct ClaimRule;
+
+impl TableRule<Option<Far>, Seating, Snapshot<Vec<Far>>> for ClaimRule {
+    ghost holds = { λ key. Claimed key.value.items };
+
+    ghost first = { λ key. first_seating key.value.items };
+}
+
+pub struct Probe;
+
+impl Play<Option<Far>, Seating> for Probe {
+    ghost then = { Probes };
+}
+
+pub struct ClaimExchange;
+
+impl Play<Option<Far>, Seating> for ClaimExchange {
+    ghost then = { Begins };
+}
+
+pub struct Front;
+
+impl Play<Option<Far>, Seating> for Front {
+    ghost then = { Fronts };
+}
+
+pub struct Return;
+
+impl Play<Option<Far>, Seating> for Return {
+    ghost then = { Finishes };
+}
+
+pub struct Survey;
+
+impl Play<Option<Far>, Seating> for Survey {
+    ghost then = { Surveys };
+}
+
+pub struct ClosingSwap;
+
+impl Play<Option<Far>, Seating> for ClosingSwap {
+    ghost then = { Closes };
+}
+
+pub struct OnePart;
+
+impl Split<Seating> for OnePart {
+    ghost left = { rest_of };
+
+    ghost right = { part_of };
+}
+
+pub struct Both;
+
+impl Join<Seating> for Both {
+    ghost both = { after_join };
+
+    ghost spent = { spent_seating };
+}

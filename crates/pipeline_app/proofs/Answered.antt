@@ -1,5 +1,5 @@
 -- Answers to commands, and the steps of a log that may be printed.
-use Rattle.std.proofs.Common.{◌≡◌, ℕ, ◌+◌, ◌<◌, List, [], ◌∷◌, ◌++◌, length, get_or, take, map, sym, ap, subst, ◌∙◌}
+use Rattle.std.proofs.Common.{◌≡◌, ℕ, ◌+◌, ◌<◌, Bool, List, [], ◌∷◌, ◌++◌, length, get_or, take, map, refl, sym, ap, subst, ◌∙◌}
 use Rattle.std.specs.Prelude.{All}
 use Rattle.std.proofs.lemmas.List.{map-append, take_more}
 use Rattle.std.proofs.lemmas.List.Elements.{All-weaker}
@@ -9,25 +9,42 @@ use Rattle.evt_types.specs.declared.step.Source.TheVariants.{New, Of}
 use Rattle.evt_types.specs.declared.step.Step.{Step}
 use Rattle.evt_types.specs.declared.step.Step.TheVariants.{Accept, Give, Done, Turned, Bounced, Shut}
 use Rattle.pipeline_app.specs.Command.{Line, line_of}
-use Rattle.pipeline_app.specs.Play.{AreAnswers, IsAnswerTo}
+use Rattle.pipeline_app.specs.Play.{ArePlayed, IsAnswerTo, is_shut_by, shut_after}
+use Rattle.pipeline_app.specs.Swept.{Adds}
 use Rattle.pipeline_app.specs.Text.{IsInRange}
 use Rattle.pipeline_app.specs.declared.answer.Answer.{Answer}
 use Rattle.pipeline_app.specs.declared.command.Command.{Command}
 
-AreAnswers-push : (cs : List Line) (answers : List Answer) (c : Line) (a : Answer) → AreAnswers cs answers → IsAnswerTo c a → AreAnswers (cs ++ c ∷ []) (answers ++ a ∷ [])
-AreAnswers-push [] [] c a h k = (k, tt)
-AreAnswers-push [] (b ∷ more) c a h k = absurd h
-AreAnswers-push (d ∷ cs) [] c a h k = absurd h
-AreAnswers-push (d ∷ cs) (b ∷ more) c a h k = (h.0, AreAnswers-push cs more c a h.1 k)
+-- one command more
+ArePlayed-push : (shut : Bool) (past : List Step) (cs : List Line) (answers : List Answer) (log : List Step) (c : Line) (a : Answer) (steps : List Step) → ArePlayed shut past cs answers log → IsAnswerTo (shut_after shut cs) log c a steps → ArePlayed shut past (cs ++ c ∷ []) (answers ++ a ∷ []) (log ++ steps)
+ArePlayed-push shut past [] [] log c a steps h k =
+    let P : List Step → Type 0 = λ xs. IsAnswerTo shut xs c a steps in
+    (steps, subst P h k, ap (λ xs. xs ++ steps) h)
+ArePlayed-push shut past [] (b ∷ more) log c a steps h k = absurd h
+ArePlayed-push shut past (d ∷ cs) [] log c a steps h k = absurd h
+ArePlayed-push shut past (d ∷ cs) (b ∷ more) log c a steps h k = (h.0, h.1, ArePlayed-push (is_shut_by d shut) (past ++ h.0) cs more log c a steps h.2 k)
 
--- one command more is answered
-pub AreAnswers-more : (cs : List Command) (i : ℕ) (c : Command) (answers all : List Answer) (a : Answer) → i < length cs → c ≡ get_or cs i c → AreAnswers (map line_of (take i cs)) answers → IsAnswerTo (line_of c) a → all ≡ answers ++ a ∷ [] → AreAnswers (map line_of (take (i + 1) cs)) all
-AreAnswers-more cs i c answers all a lt is h k e =
-    let next : map line_of (take (i + 1) cs) ≡ map line_of (take i cs) ++ line_of c ∷ [] =
-    ap (map line_of) (take_more cs i c lt ∙ ap (λ x. take i cs ++ x ∷ []) (sym is)) ∙ map-append line_of (take i cs) (c ∷ []) in
-    let P : List Line → Type 0 = λ xs. AreAnswers xs all in
-    let Q : List Answer → Type 0 = λ xs. AreAnswers (map line_of (take i cs) ++ line_of c ∷ []) xs in
-    subst P (sym next) (subst Q (sym e) (AreAnswers-push (map line_of (take i cs)) answers (line_of c) a h k))
+shut_after-push : (shut : Bool) (cs : List Line) (c : Line) → shut_after shut (cs ++ c ∷ []) ≡ is_shut_by c (shut_after shut cs)
+shut_after-push shut [] c = refl
+shut_after-push shut (d ∷ cs) c = shut_after-push (is_shut_by d shut) cs c
+
+module _ (cs : List Command) (i : ℕ) (c : Command) (lt : i < length cs) (is : c ≡ get_or cs i c) where
+  lines_more : map line_of (take (i + 1) cs) ≡ map line_of (take i cs) ++ line_of c ∷ []
+  lines_more = ap (map line_of) (take_more cs i c lt ∙ ap (λ x. take i cs ++ x ∷ []) (sym is)) ∙ map-append line_of (take i cs) (c ∷ [])
+
+  -- whether the device is shut after one command more
+  pub shut_after-more : (shut now new : Bool) → now ≡ shut_after shut (map line_of (take i cs)) → new ≡ is_shut_by (line_of c) now → new ≡ shut_after shut (map line_of (take (i + 1) cs))
+  shut_after-more shut now new h e =
+      e ∙ ap (is_shut_by (line_of c)) h ∙ sym (ap (shut_after shut) lines_more ∙ shut_after-push shut (map line_of (take i cs)) (line_of c))
+
+  -- one command more is answered
+  pub ArePlayed-more : (shut now : Bool) (past log new : List Step) (answers all : List Answer) (a : Answer) → now ≡ shut_after shut (map line_of (take i cs)) → ArePlayed shut past (map line_of (take i cs)) answers log → Adds (IsAnswerTo now log (line_of c) a) log new → all ≡ answers ++ a ∷ [] → ArePlayed shut past (map line_of (take (i + 1) cs)) all new
+  ArePlayed-more shut now past log new answers all a s h k e =
+      let P : List Line → Type 0 = λ xs. ArePlayed shut past xs all new in
+      let Q : List Answer → Type 0 = λ xs. ArePlayed shut past (map line_of (take i cs) ++ line_of c ∷ []) xs new in
+      let R : List Step → Type 0 = λ xs. ArePlayed shut past (map line_of (take i cs) ++ line_of c ∷ []) (answers ++ a ∷ []) xs in
+      let S : Bool → Type 0 = λ b. IsAnswerTo b log (line_of c) a k.0 in
+      subst P (sym lines_more) (subst Q (sym e) (subst R (sym k.1) (ArePlayed-push shut past (map line_of (take i cs)) answers log (line_of c) a k.0 h (subst S s k.2))))
 
 formed_in_range : (p : Plan) (s : Step) → IsFormed p s → IsInRange (length p.queues) s
 formed_in_range p (Accept q e (New l)) h = h.entry.queue

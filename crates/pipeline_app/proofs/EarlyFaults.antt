@@ -1,20 +1,32 @@
 -- The faults of the reading are faults of the play.
-use Rattle.std.proofs.Common.{◌≡◌, ℕ, ◌<◌, List, Option, Some, None, length, refl}
+use Rattle.std.proofs.Common.{◌≡◌, ℕ, ◌<◌, List, Option, Some, None, Err, length, refl, sym, ap, subst, ◌∙◌}
 use Rattle.std.proofs.lemmas.Bool.{lt-ltb}
-use Rattle.pipeline_app.specs.Document.{document_of, planned}
+use Rattle.pipeline_app.specs.Document.{IsNamed, IsNamedDoc, Fails, document_of}
 use Rattle.pipeline_app.specs.Input.{IsInputFault}
 use Rattle.pipeline_app.specs.Play.{IsEarlyFault}
 use Rattle.pipeline_app.specs.declared.fault.AppFault.{AppFault}
 use Rattle.pipeline_app.specs.declared.fault.AppFault.TheVariants.{Read, Write, Document, Memory, NoSeat}
+use Rattle.pipeline_app.specs.declared.fault.DocFault.{DocFault}
+use Rattle.pipeline_app.specs.declared.fault.DocFault.TheVariants.{TooLong}
 
-too_long : (input : List ℕ) → 1048576 < length input → document_of input ≡ None
-unfolding document_of planned
+too_long : (input : List ℕ) → 1048576 < length input → document_of input ≡ Err TooLong
+unfolding document_of
 too_long input h = rw (lt-ltb 1048576 (length input) h) refl
+
+long_named : (f : DocFault) → f ≡ TooLong → IsNamedDoc f
+long_named f e = subst IsNamedDoc (sym e) tt
 
 pub IsEarlyFault-input : (known : Option (List ℕ)) (e : AppFault) → IsInputFault known e → IsEarlyFault known e
 IsEarlyFault-input known Read h = tt
 IsEarlyFault-input known Write h = absurd h
-IsEarlyFault-input None (Document f) h = tt
-IsEarlyFault-input (Some input) (Document f) h = too_long input h
+IsEarlyFault-input None (Document f) h = (long_named f h.0, tt)
+IsEarlyFault-input (Some input) (Document f) h = (long_named f h.0, too_long input h.1 ∙ ap Err (sym h.0))
 IsEarlyFault-input known Memory h = tt
 IsEarlyFault-input known NoSeat h = absurd h
+
+pub IsEarlyFault-document : (bytes : List ℕ) (e : AppFault) → Fails e (document_of bytes) → IsNamed e → IsEarlyFault (Some bytes) e
+IsEarlyFault-document bytes Read h named = absurd h
+IsEarlyFault-document bytes Write h named = absurd h
+IsEarlyFault-document bytes (Document f) h named = (named, h)
+IsEarlyFault-document bytes Memory h named = tt
+IsEarlyFault-document bytes NoSeat h named = absurd h

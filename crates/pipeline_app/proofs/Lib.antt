@@ -5,9 +5,11 @@ pub mod HexWords
 pub mod Items
 pub mod Keys
 pub mod Lines
+pub mod Named
 pub mod Numerals
 pub mod Playing
 pub mod Plays
 pub mod PortPairs
 pub mod Ranges
+pub mod Sweeps
 pub mod Tables

@@ -1,5 +1,5 @@
 -- The lines of a script in turn.
-use Rattle.std.proofs.Common.{◌≡◌, ◌≢◌, ℕ, ◌+◌, ◌-◌, ◌<◌, ◌≤◌, Bool, true, false, cond, codes, eqb, List, [], ◌∷◌, ◌++◌, length, get_or, take, drop, map, Bor, Some, None, Result, Ok, Err, refl, sym, ap, ◌∙◌, append_assoc, append-nil, arith}
+use Rattle.std.proofs.Common.{◌≡◌, ◌≢◌, ℕ, ◌+◌, ◌-◌, ◌<◌, ◌≤◌, Bool, true, false, cond, eqb, List, [], ◌∷◌, ◌++◌, length, get_or, take, drop, map, Bor, Some, None, Result, Ok, Err, refl, sym, ap, ◌∙◌, append_assoc, append-nil, arith}
 use Rattle.std.specs.List.{slice_split}
 use Rattle.std.specs.Prelude.{count_by}
 use Rattle.std.specs.Str.Lines.{strip_carriage_return}
@@ -9,8 +9,7 @@ use Rattle.std.proofs.lemmas.List.{at_drop_all, drop_more, length-map}
 use Rattle.std.proofs.lemmas.List.Splits.{length-slice_split}
 use Rattle.std.proofs.lemmas.List.Sums.{count_by-le-length}
 use Rattle.pipeline_app.specs.Command.{Line}
-use Rattle.pipeline_app.specs.Field.{is_text}
-use Rattle.pipeline_app.specs.Script.{command_of, line_command, script_from, script_of, with_command}
+use Rattle.pipeline_app.specs.Script.{line_command, script_from, script_of, with_command}
 
 -- a line that a carriage return ends, and one that none does
 pub stripped-some : (l x : List ℕ) → l ≡ x ++ 13 ∷ [] → x ≡ strip_carriage_return l
@@ -78,17 +77,6 @@ module _ (ports : ℕ) (ls : List (Bor (List ℕ))) (i : ℕ) (d : Bor (List ℕ
   pub script-stops : length line ≢ 0 → line_command ports line ≡ None → script_from ports (i + 1) (texts (drop i ls)) ≡ Err (i + 1)
   unfolding script_from
   script-stops some says = rw (drop_more ls i d lt, ← is, ne_eqb (length line) 0 some, says) (stops (i + 1) (script_from ports (i + 1 + 1) (texts (drop (i + 1) ls))))
-
--- six words, of which the first isn't `new`
-pub no_new : (ports : ℕ) (ws : List (Bor (List ℕ))) (d : Bor (List ℕ)) → 6 ≤ length ws → length ws < 7 → is_text (get_or ws 0 d).now (codes "new") ≡ false → None ≡ command_of ports (texts ws)
-no_new ports [] d low high e = absurd (omega arith)
-no_new ports (a ∷ []) d low high e = absurd (omega arith)
-no_new ports (a ∷ b ∷ []) d low high e = absurd (omega arith)
-no_new ports (a ∷ b ∷ c ∷ []) d low high e = absurd (omega arith)
-no_new ports (a ∷ b ∷ c ∷ f ∷ []) d low high e = absurd (omega arith)
-no_new ports (a ∷ b ∷ c ∷ f ∷ g ∷ []) d low high e = absurd (omega arith)
-no_new ports (a ∷ b ∷ c ∷ f ∷ g ∷ h ∷ []) d low high e = rw e refl
-no_new ports (a ∷ b ∷ c ∷ f ∷ g ∷ h ∷ k ∷ more) d low high e = absurd (omega arith)
 
 -- no line was read
 pub script-starts : (ports : ℕ) (text : List ℕ) (ls : List (Bor (List ℕ))) (front : List Line) → front ≡ [] → texts ls ≡ slice_split (λ b. eqb b 10) text

@@ -1,29 +1,32 @@
 -- What the ports have left, as the device goes on.
-use Rattle.std.proofs.Common.{◌≡◌, ◌≢◌, ℕ, ◌<◌, ◌≤◌, ⊎_elim, true, false, cond, eqb, List, [], ◌∷◌, ◌++◌, Option, Some, None, length, get_or, set, refl, sym, ap, subst, ◌∙◌, append_assoc, length-set, arith}
+use Rattle.std.proofs.Common.{◌≡◌, ℕ, ◌<◌, ◌≤◌, ⊎_elim, Bool, true, false, cond, eqb, List, [], ◌∷◌, ◌++◌, Option, Some, None, length, get_or, set, refl, sym, ap, subst, ◌∙◌, append_assoc, length-set, arith}
 use Rattle.std.specs.Prelude.{All, Vec, filter_map}
 use Rattle.std.specs.declared.alloc.Global.{Global}
 use Rattle.std.proofs.lemmas.Bool.{cases_eq, cases_lt, eq-eqb, ne_eqb}
 use Rattle.std.proofs.lemmas.Grind.{get_or-set_at}
 use Rattle.std.proofs.lemmas.List.{append-nil, get_or-set_other, get_or_past}
 use Rattle.std.proofs.lemmas.List.Elements.{All-get_or, filter_map-append}
-use Rattle.evt_types.specs.Plan.{Plan, is_atomic, is_ordered, lanes_of, queue_of}
-use Rattle.evt_types.specs.Standing.{View, Stands, steps_of, steps_by, accepts_of, oldest_at}
+use Rattle.evt_types.specs.Plan.{Plan, RestoresNoOrder, is_ordered, lanes_of, queue_of}
+use Rattle.evt_types.specs.Standing.{View, Stands, steps_of, steps_by, accepts_of, accepts_from, events_of, oldest_at}
 use Rattle.evt_types.specs.Transcript.{Held, out, given_to}
 use Rattle.evt_types.specs.declared.draft.QueueDraft.{QueueDraft}
 use Rattle.evt_types.specs.declared.event.Event.{Event}
-use Rattle.evt_types.specs.declared.event.Kind.{Kind}
-use Rattle.evt_types.specs.declared.event.Kind.TheVariants.{Ordered, Atomic, Parallel}
+use Rattle.evt_types.specs.declared.event.Kind.TheVariants.{Parallel}
 use Rattle.evt_types.specs.declared.event.Op.{Op}
 use Rattle.evt_types.specs.declared.event.Op.TheVariants.{New, Forward, Release}
-use Rattle.evt_types.specs.declared.step.Outcome.TheVariants.{Released}
+use Rattle.evt_types.specs.declared.step.Outcome.{Outcome}
+use Rattle.evt_types.specs.declared.step.Outcome.TheVariants.{Forwarded, Released}
 use Rattle.evt_types.specs.declared.step.Source.TheVariants as sources
 use Rattle.evt_types.specs.declared.step.Step.{Step}
-use Rattle.evt_types.specs.declared.step.Step.TheVariants.{Accept, Give, Done, Turned, Bounced}
+use Rattle.evt_types.specs.declared.step.Step.TheVariants.{Accept, Give, Done, Turned, Bounced, Shut}
 use Rattle.pipeline_app.specs.Pairs.{IsLeftOf, pairs_at}
-use Rattle.pipeline_app.specs.Rig.{AreAtomic, HaveLeft, IsRig}
+use Rattle.pipeline_app.specs.Rig.{HaveLeft, IsRig}
 use Rattle.pipeline_app.specs.declared.pool.Pool.{Pool}
 use Rattle.pipeline_app.specs.declared.rig.Rig.{Rig}
 use Rattle.pipeline_app.specs.declared.rig_port.RigPort.{RigPort}
+use Rattle.sched_core.specs.Taken.{is_passed_on, took_by, took_of}
+use Rattle.sched_core.specs.declared.take.Took.{Took}
+use Rattle.sched_core.specs.declared.take.Took.TheVariants as tooks
 use Rattle.pipeline_app.proofs.PortPairs.{IsLeftOf-same, IsLeftOf-trans}
 
 -- a port with less left
@@ -45,42 +48,60 @@ HaveLeft-log T S ports h e l d lt =
     let P : List (ℕ × ℕ) → Type 0 = λ xs. IsLeftOf (pairs_at (get_or ports l d)) xs in
     subst P (sym (e l)) (h l d lt)
 
--- one step, which gives nothing
+-- at most two steps, which give nothing
 pub record IsQuiet (steps : List Step) : Type 0 where
-  pub count : length steps ≡ 1
+  pub count : length steps ≤ 2
   pub quiet : (m : ℕ) → filter_map (given_to m) steps ≡ []
 
 pub out-quiet : (T steps : List Step) (m : ℕ) → IsQuiet steps → out (T ++ steps) m ≡ out T m
 unfolding out
 out-quiet T steps m h = filter_map-append (given_to m) T steps ∙ (ap (λ xs. filter_map (given_to m) T ++ xs) (h.quiet m) ∙ append-nil (filter_map (given_to m) T))
 
-not_ordered : (k : Kind) → is_atomic k ≡ true → is_ordered k ≡ false
-not_ordered Atomic h = refl
-not_ordered Ordered h = absurd (cc)
-not_ordered Parallel h = absurd (cc)
-
--- where each queue is atomic, none restores an order
-pub none_ordered : (p : Plan) (q : ℕ) → AreAtomic p → is_ordered (queue_of p q).kind ≡ false
+-- a queue that isn't there restores no order either
+none_ordered : (p : Plan) (q : ℕ) → RestoresNoOrder p → is_ordered (queue_of p q).kind ≡ false
 none_ordered p q h =
     let d : QueueDraft = record { kind = Parallel; priority = 0; slots = 0; order = 0; single = false } in
-    ⊎_elim (λ (lt : q < length p.queues). not_ordered (queue_of p q).kind (All-get_or (λ (x : QueueDraft). is_atomic x.kind ≡ true) p.queues q d lt h))
+    ⊎_elim (λ (lt : q < length p.queues). All-get_or (λ (x : QueueDraft). is_ordered x.kind ≡ false) p.queues q d lt h)
     (λ (ge : length p.queues ≤ q). ap (λ (x : QueueDraft). is_ordered x.kind) (get_or_past p.queues q d ge))
     (cases_lt q (length p.queues))
 
-released_none : (v : View) (h : Option Held) → AreAtomic v.shape → accepts_of v h Released ≡ []
-released_none v None a = refl
-released_none v (Some h) a = rw (none_ordered v.shape h.queue a) refl
+-- what is accepted after an answer: what the event is forwarded as
+abbrev forwarded : Option Held → Outcome → List Step
+forwarded None o = []
+forwarded (Some h) o = accepts_from h.queue h.number (events_of o)
 
-steps_one : (o : Op) (v : View) (l : ℕ) (e : Event) → AreAtomic v.shape → o ≢ Forward → IsQuiet (steps_by o v l e)
-steps_one New v l e a ne = elim v.shut as (λ b. IsQuiet (cond b (Turned l e ∷ []) (Accept e.queue e (sources.New l) ∷ []))) [ true ↦ record { count = refl; quiet = λ m. refl } | false ↦ record { count = refl; quiet = λ m. refl } ]
-steps_one Forward v l e a ne = absurd (ne refl)
-steps_one Release v l e a ne =
-    let P : List Step → Type 0 = λ xs. IsQuiet (Done l Released ∷ xs) in
-    subst P (sym (released_none v (oldest_at v l) a)) (record { count = refl; quiet = λ m. refl })
+accepts_now : (v : View) (h : Option Held) (o : Outcome) → RestoresNoOrder v.shape → accepts_of v h o ≡ forwarded h o
+accepts_now v None o u = refl
+accepts_now v (Some h) o u = rw (none_ordered v.shape h.queue u) refl
 
--- a reply that forwards nothing
-pub IsQuiet-reply : (v : View) (l : ℕ) (e : Event) → AreAtomic v.shape → e.op ≢ Forward → IsQuiet (steps_of v l e)
-IsQuiet-reply v l e a ne = steps_one e.op v l e a ne
+-- What holds of each form that a reply's steps have holds of its steps.
+module _ (R : Took → List Step → Type 0) (v : View) (l : ℕ) (e : Event) (u : RestoresNoOrder v.shape) (turned : R tooks.Turned (Turned l e ∷ [])) (entered : R tooks.Accepted (Accept e.queue e (sources.New l) ∷ [])) (released : R tooks.Released (Done l Released ∷ [])) (sent : (b : Bool) → R (cond b tooks.Accepted tooks.Kept) (Done l (Forwarded e) ∷ [])) (passed : (b : Bool) (q n : ℕ) → R (cond b tooks.Accepted tooks.Kept) (Done l (Forwarded e) ∷ Accept e.queue e (sources.Of q n) ∷ [])) where
+  by_release : (h : Option Held) → R tooks.Released (Done l Released ∷ forwarded h Released)
+  by_release None = released
+  by_release (Some h) = released
+
+  by_forward : (b : Bool) (h : Option Held) → R (cond b tooks.Accepted tooks.Kept) (Done l (Forwarded e) ∷ forwarded h (Forwarded e))
+  by_forward b None = sent b
+  by_forward b (Some h) = passed b h.queue h.number
+
+  by_op : (o : Op) → R (took_by o v l e) (steps_by o v l e)
+  by_op New = elim v.shut as (λ b. R (cond b tooks.Turned tooks.Accepted) (cond b (Turned l e ∷ []) (Accept e.queue e (sources.New l) ∷ []))) [ true ↦ turned | false ↦ entered ]
+  by_op Forward =
+      let b = is_passed_on (oldest_at v l) (steps_of v l e) in
+      let P : List Step → Type 0 = λ xs. R (cond b tooks.Accepted tooks.Kept) (Done l (Forwarded e) ∷ xs) in
+      subst P (sym (accepts_now v (oldest_at v l) (Forwarded e) u)) (by_forward b (oldest_at v l))
+  by_op Release =
+      let P : List Step → Type 0 = λ xs. R tooks.Released (Done l Released ∷ xs) in
+      subst P (sym (accepts_now v (oldest_at v l) Released u)) (by_release (oldest_at v l))
+
+  pub reply_forms : R (took_of v l e) (steps_of v l e)
+  reply_forms = by_op e.op
+
+-- a reply gives nothing
+pub IsQuiet-reply : (v : View) (l : ℕ) (e : Event) → RestoresNoOrder v.shape → IsQuiet (steps_of v l e)
+IsQuiet-reply v l e u =
+    reply_forms (λ t steps. IsQuiet steps) v l e u (record { count = omega arith; quiet = λ m. refl }) (record { count = omega arith; quiet = λ m. refl }) (record { count = omega arith; quiet = λ m. refl })
+    (λ b. record { count = omega arith; quiet = λ m. refl }) (λ b q n. record { count = omega arith; quiet = λ m. refl })
 
 -- what a Give adds to each lane's pairs
 given_more : (T : List Step) (i q n m : ℕ) → out (T ++ Give i q n ∷ []) m ≡ out T m ++ cond (eqb i m) ((q, n) ∷ []) []
@@ -114,7 +135,7 @@ HaveLeft-give T ports i q n d0 port h lt pairs l d in_range =
 pub IsRig-from : (r : Rig) (core : View) (ports : Vec RigPort Global) (pool : Pool) (log : Vec Step Global) → IsRig r → Stands log.items core → core.shape ≡ r.core.shape → length ports.items ≡ length r.ports.items → HaveLeft log.items ports.items → IsRig (record { core = core; ports = ports; pool = pool; log = log })
 IsRig-from r core ports pool log h stands e count left = record {
   stands = stands;
-  atomic = rw e h.atomic;
+  unordered = rw e h.unordered;
   small = rw e h.small;
   ports = count ∙ (h.ports ∙ ap (λ (p : Plan). length p.ports) (sym e));
   left = left;
@@ -159,7 +180,11 @@ IsRig-give r core ports log i q n before port h lt e is more logged stands shape
     (subst Q (sym logged) (subst R (sym e) (HaveLeft-give r.log.items r.ports.items i q n before port h.left in_range more')))
 
 pub IsQuiet-bounced : (l : ℕ) → IsQuiet (Bounced l ∷ [])
-IsQuiet-bounced l = record { count = refl; quiet = λ m. refl }
+IsQuiet-bounced l = record { count = omega arith; quiet = λ m. refl }
+
+pub IsQuiet-shut : (b : Bool) → IsQuiet (cond b [] (Shut ∷ []))
+IsQuiet-shut true = record { count = omega arith; quiet = λ m. refl }
+IsQuiet-shut false = record { count = omega arith; quiet = λ m. refl }
 
 -- nothing was given to the ports of a new device
 pub HaveLeft-none : (ports : List RigPort) → All (λ (x : RigPort). pairs_at x ≡ []) ports → HaveLeft [] ports

@@ -1,26 +1,25 @@
--- What a document that has no fault says: its queues are atomic, its ports are there, and nothing is forwarded.
-use Rattle.std.proofs.Common.{◌≡◌, ◌≢◌, ℕ, ◌+◌, ◌<◌, Bool, true, false, cond, eqb, nat_lt, List, [], ◌∷◌, length, map, codes, Option, Some, None, Result, Ok, Err, refl, sym, ap, subst, ◌∙◌, arith}
+-- What a document that has no fault says: no queue restores an order, and its ports are there.
+use Rattle.std.proofs.Common.{◌≡◌, ℕ, ◌+◌, ◌<◌, Bool, true, false, cond, eqb, nat_lt, List, [], ◌∷◌, length, map, codes, Option, Some, None, Result, Ok, Err, refl, sym, ap, subst, ◌∙◌, arith}
 use Rattle.std.specs.Prelude.{option_map, option_and_then, IfOk}
-use Rattle.std.specs.Result.{result_ok}
 use Rattle.std.specs.List.{list_any, slice_split, AllByRecursion}
 use Rattle.std.specs.Str.Lines.{strip_carriage_return}
 use Rattle.std.proofs.lemmas.Bool.{or_parts}
 use Rattle.std.proofs.lemmas.Bool.Decides.{nat_tests}
 use Rattle.std.proofs.lemmas.List.Elements.{All-from_recursion}
 use Rattle.evt_types.specs.Fault.{fault_of}
-use Rattle.evt_types.specs.Plan.{Plan, is_atomic, lanes_of}
+use Rattle.evt_types.specs.Plan.{Plan, RestoresNoOrder, is_ordered, lanes_of}
 use Rattle.evt_types.specs.declared.draft.QueueDraft.{QueueDraft}
 use Rattle.evt_types.specs.declared.draft.Serving.TheVariants.{Ports, Flows}
 use Rattle.evt_types.specs.declared.event.Kind.TheVariants.{Ordered, Atomic, Parallel}
-use Rattle.evt_types.specs.declared.event.Op.TheVariants as ops
+use Rattle.evt_types.specs.declared.event.Op.{Op}
 use Rattle.evt_types.specs.declared.shape.ShapeFault.{ShapeFault}
 use Rattle.evt_types.specs.declared.shape.ShapeFault.TheVariants as shapes
-use Rattle.pipeline_app.specs.Command.{Line, Enqueue, Dequeue, Sweep, line_of, IsPortThere, IsNoForward, AllPortsThere, NoForwards, new_fields, release_fields}
-use Rattle.pipeline_app.specs.Document.{Planned, planned_of, document_of, AllAtomic, Fails, Gives, GivesDocument, ◌>>=◌, parsed, shape_fault, checked, plan_or_fault, commands_in, lines_or_fault, judged, planned, unless_fault}
+use Rattle.pipeline_app.specs.Command.{Line, Enqueue, Dequeue, Sweep, Shut, line_of, IsPortThere, AllPortsThere, event_fields, release_fields}
+use Rattle.pipeline_app.specs.Document.{Planned, planned_of, document_of, Fails, Gives, ◌>>=◌, parsed, shape_fault, checked, plan_or_fault, commands_in, lines_or_fault, judged, unless_fault}
 use Rattle.pipeline_app.specs.Drafts.{plan_asked, queue_asked}
 use Rattle.pipeline_app.specs.Field.{value_or, rows, is_text}
-use Rattle.pipeline_app.specs.Judge.{first_fault, has_unknown, has_missing, has_bad, is_unserved, is_by_flows, is_not_atomic, is_unserved_queue}
-use Rattle.pipeline_app.specs.Script.{command_of, line_command, new_line, release_line, dequeue_line, script_from, script_of, with_command}
+use Rattle.pipeline_app.specs.Judge.{first_fault, has_unknown, has_missing, has_bad, is_unserved, is_by_flows, is_in_order, is_unserved_queue}
+use Rattle.pipeline_app.specs.Script.{command_of, entry_op, line_command, event_line, release_line, dequeue_line, script_from, script_of, with_command}
 use Rattle.pipeline_app.specs.Survey.{SurveySeen, survey_of}
 use Rattle.pipeline_app.specs.Words.{number, port_number, below}
 use Rattle.pipeline_app.specs.declared.command.Command.{Command}
@@ -29,7 +28,7 @@ use Rattle.pipeline_app.specs.declared.document.Document.{Document}
 use Rattle.pipeline_app.specs.declared.fault.AppFault.{AppFault}
 use Rattle.pipeline_app.specs.declared.fault.AppFault.TheVariants as app
 use Rattle.pipeline_app.specs.declared.fault.DocFault.{DocFault}
-use Rattle.pipeline_app.specs.declared.fault.DocFault.TheVariants.{BadValue}
+use Rattle.pipeline_app.specs.declared.fault.DocFault.TheVariants as doc
 use Rattle.pipeline_app.specs.declared.field.Field.{Field}
 use Rattle.pipeline_app.specs.declared.field.Field.TheVariants.{Absent, Bad, Good}
 use Rattle.pipeline_app.specs.declared.survey.QueueRow.{QueueRow}
@@ -52,7 +51,7 @@ bind_some f (Some x) y e = (x, refl, e)
 
 -- ---- the rows' tests
 
-good_tests : (u m b s : Bool) → cond u (Some BadValue) (cond m (Some BadValue) (cond b (Some BadValue) (cond s (Some BadValue) None))) ≡ None → s ≡ false
+good_tests : (u m b s : Bool) → cond u (Some doc.UnknownKey) (cond m (Some doc.MissingKey) (cond b (Some doc.BadValue) (cond s (Some doc.BadValue) None))) ≡ None → s ≡ false
 good_tests true m b s e = absurd cc
 good_tests false true b s e = absurd cc
 good_tests false false true s e = absurd cc
@@ -73,24 +72,24 @@ pub by_ports : (s : SurveySeen) → first_fault s ≡ None → value_or Ports s.
 unfolding is_unserved
 by_ports s e = ports_alone s.serving (or_parts (is_by_flows s.serving) (list_any is_unserved_queue (rows s.queues)) (served s e)).0
 
-atomic_kind : (f : Field _) → is_not_atomic f ≡ false → is_atomic (value_or Atomic f) ≡ true
-atomic_kind Absent e = absurd cc
-atomic_kind Bad e = absurd cc
-atomic_kind (Good Atomic) e = refl
-atomic_kind (Good Ordered) e = absurd cc
-atomic_kind (Good Parallel) e = absurd cc
+unordered_kind : (f : Field _) → is_in_order f ≡ false → is_ordered (value_or Atomic f) ≡ false
+unordered_kind Absent e = refl
+unordered_kind Bad e = refl
+unordered_kind (Good Atomic) e = refl
+unordered_kind (Good Ordered) e = absurd cc
+unordered_kind (Good Parallel) e = refl
 
-atomic_rows : (qs : List QueueRow) → list_any is_unserved_queue qs ≡ false → AllByRecursion (λ (q : QueueDraft). is_atomic q.kind ≡ true) (map queue_asked qs)
-atomic_rows [] e = tt
-atomic_rows (q ∷ qs) e =
+unordered_rows : (qs : List QueueRow) → list_any is_unserved_queue qs ≡ false → AllByRecursion (λ (q : QueueDraft). is_ordered q.kind ≡ false) (map queue_asked qs)
+unordered_rows [] e = tt
+unordered_rows (q ∷ qs) e =
     let both = or_parts (is_unserved_queue q) (list_any is_unserved_queue qs) e in
-    (atomic_kind q.kind both.0, atomic_rows qs both.1)
+    (unordered_kind q.kind both.0, unordered_rows qs both.1)
 
-all_atomic : (s : SurveySeen) → first_fault s ≡ None → AllAtomic (plan_asked s)
+all_unordered : (s : SurveySeen) → first_fault s ≡ None → RestoresNoOrder (plan_asked s)
 unfolding is_unserved plan_asked
-all_atomic s e =
-    All-from_recursion (λ (q : QueueDraft). is_atomic q.kind ≡ true) (map queue_asked (rows s.queues))
-    (atomic_rows (rows s.queues) (or_parts (is_by_flows s.serving) (list_any is_unserved_queue (rows s.queues)) (served s e)).1)
+all_unordered s e =
+    All-from_recursion (λ (q : QueueDraft). is_ordered q.kind ≡ false) (map queue_asked (rows s.queues))
+    (unordered_rows (rows s.queues) (or_parts (is_by_flows s.serving) (list_any is_unserved_queue (rows s.queues)) (served s e)).1)
 
 -- ---- the configuration
 
@@ -98,38 +97,50 @@ pub checked-Ok : (p q s : Plan) → p ≡ q → s ≡ p → fault_of p ≡ None 
 unfolding checked
 checked-Ok p q s same is none = ap (λ x. plan_or_fault x (fault_of x)) (sym same) ∙ ap (plan_or_fault p) none ∙ ap Ok (sym is)
 
-refused_by : (f : Option ShapeFault) (p : Plan) → (f ≡ None → ⊥) → plan_or_fault p f ≡ Err BadValue
-refused_by None p some = absurd (some refl)
-refused_by (Some f) p some = refl
+refused_as : (o : Option ShapeFault) (p : Plan) (f : ShapeFault) → (o ≡ None → ⊥) → ((g : ShapeFault) → o ≡ Some g → f ≡ g)
+    → plan_or_fault p o ≡ Err (doc.Shape f)
+refused_as None p f some is = absurd (some refl)
+refused_as (Some g) p f some is = ap (λ x. Err (doc.Shape x)) (sym (is g refl))
 
-pub checked-Err : (p q : Plan) → p ≡ q → (fault_of p ≡ None → ⊥) → checked q ≡ Err BadValue
+checked-Err : (f : ShapeFault) (p q : Plan) → p ≡ q → (fault_of p ≡ None → ⊥) → ((g : ShapeFault) → fault_of p ≡ Some g → f ≡ g)
+    → checked q ≡ Err (doc.Shape f)
 unfolding checked
-checked-Err p q same some = ap (λ x. plan_or_fault x (fault_of x)) (sym same) ∙ refused_by (fault_of p) p some
+checked-Err f p q same some is = ap (λ x. plan_or_fault x (fault_of x)) (sym same) ∙ refused_as (fault_of p) p f some is
 
--- a refusal is the first fault, or want of memory
-pub shape-Fails : (f : ShapeFault) (p q : Plan) → p ≡ q → (fault_of p ≡ None → f ≡ shapes.Memory) → Fails (shape_fault f) (checked q)
-shape-Fails shapes.QueueCount p q same only = checked-Err p q same (λ none. absurd (cc (only none)))
-shape-Fails shapes.PortCount p q same only = checked-Err p q same (λ none. absurd (cc (only none)))
-shape-Fails shapes.LimitRange p q same only = checked-Err p q same (λ none. absurd (cc (only none)))
-shape-Fails shapes.QuantumRange p q same only = checked-Err p q same (λ none. absurd (cc (only none)))
-shape-Fails shapes.ThresholdRange p q same only = checked-Err p q same (λ none. absurd (cc (only none)))
-shape-Fails shapes.DepthRange p q same only = checked-Err p q same (λ none. absurd (cc (only none)))
-shape-Fails shapes.FlowSlots p q same only = checked-Err p q same (λ none. absurd (cc (only none)))
-shape-Fails shapes.OrderDepth p q same only = checked-Err p q same (λ none. absurd (cc (only none)))
-shape-Fails shapes.SweepRange p q same only = checked-Err p q same (λ none. absurd (cc (only none)))
-shape-Fails shapes.LinkUnknown p q same only = checked-Err p q same (λ none. absurd (cc (only none)))
-shape-Fails shapes.LinkTwice p q same only = checked-Err p q same (λ none. absurd (cc (only none)))
-shape-Fails shapes.QueueUnlinked p q same only = checked-Err p q same (λ none. absurd (cc (only none)))
-shape-Fails shapes.SingleLinkCount p q same only = checked-Err p q same (λ none. absurd (cc (only none)))
-shape-Fails shapes.Memory p q same only = tt
+err_is : (f g : ShapeFault) → ◌≡◌ {A = Result Plan ShapeFault} (Err f) (Err g) → f ≡ g
+err_is f g e = cc
+
+-- what is said of a refusal: it is the first, or want of memory where there is none
+abbrev pub IsFirst : ShapeFault → Plan → Type 0
+IsFirst f p = (fault_of p ≡ None → f ≡ shapes.Memory) × ((g : ShapeFault) → fault_of p ≡ Some g → ◌≡◌ {A = Result Plan ShapeFault} (Err f) (Err g))
+
+refused : (f : ShapeFault) (p q : Plan) → (f ≡ shapes.Memory → ⊥) → p ≡ q → IsFirst f p → checked q ≡ Err (doc.Shape f)
+refused f p q other same h = checked-Err f p q same (λ none. other (h.0 none)) (λ g e. err_is f g (h.1 g e))
+
+pub shape-Fails : (f : ShapeFault) (p q : Plan) → p ≡ q → IsFirst f p → Fails (shape_fault f) (checked q)
+shape-Fails shapes.QueueCount p q same h = refused shapes.QueueCount p q (λ e. absurd cc) same h
+shape-Fails shapes.PortCount p q same h = refused shapes.PortCount p q (λ e. absurd cc) same h
+shape-Fails shapes.LimitRange p q same h = refused shapes.LimitRange p q (λ e. absurd cc) same h
+shape-Fails shapes.QuantumRange p q same h = refused shapes.QuantumRange p q (λ e. absurd cc) same h
+shape-Fails shapes.ThresholdRange p q same h = refused shapes.ThresholdRange p q (λ e. absurd cc) same h
+shape-Fails shapes.DepthRange p q same h = refused shapes.DepthRange p q (λ e. absurd cc) same h
+shape-Fails shapes.FlowSlots p q same h = refused shapes.FlowSlots p q (λ e. absurd cc) same h
+shape-Fails shapes.OrderDepth p q same h = refused shapes.OrderDepth p q (λ e. absurd cc) same h
+shape-Fails shapes.SweepRange p q same h = refused shapes.SweepRange p q (λ e. absurd cc) same h
+shape-Fails shapes.LinkUnknown p q same h = refused shapes.LinkUnknown p q (λ e. absurd cc) same h
+shape-Fails shapes.LinkTwice p q same h = refused shapes.LinkTwice p q (λ e. absurd cc) same h
+shape-Fails shapes.QueueUnlinked p q same h = refused shapes.QueueUnlinked p q (λ e. absurd cc) same h
+shape-Fails shapes.SingleLinkCount p q same h = refused shapes.SingleLinkCount p q (λ e. absurd cc) same h
+shape-Fails shapes.Memory p q same h = tt
 
 -- ---- a script's lines
 
--- the line's port is there, and its event is no FORWARD
+-- the line's port is there
 abbrev pub IsGood : ℕ → Line → Type 0
-IsGood ports (Enqueue p fields) = (p < ports) × (fields.op ≢ ops.Forward)
+IsGood ports (Enqueue p fields) = p < ports
 IsGood ports (Dequeue p max) = p < ports
 IsGood ports Sweep = Unit {0}
+IsGood ports Shut = Unit {0}
 
 below_by : (b : Bool) (limit n m : ℕ) → nat_lt n limit ≡ b → cond b (Some n) None ≡ Some m → m < limit
 below_by true limit n m t e = let same : n ≡ m = some_is n m e in grind (arith, nat_tests)
@@ -140,25 +151,19 @@ port_there ports word p e =
     let found = bind_some (below ports) (number 18446744073709551615 word) p e in
     below_by (nat_lt found.0 ports) ports found.0 p refl found.2
 
-no_forward : ops.New ≢ ops.Forward
-no_forward e = absurd cc
-
-release_no_forward : ops.Release ≢ ops.Forward
-release_no_forward e = absurd cc
-
-good_new : (ports : ℕ) (p q f r x : List ℕ) (l : Line) → new_line ports p q f r x ≡ Some l → IsGood ports l
-unfolding new_line
-good_new ports p q f r x l e =
+good_event : (o : Op) (ports : ℕ) (p q f r x : List ℕ) (l : Line) → event_line o ports p q f r x ≡ Some l → IsGood ports l
+unfolding event_line
+good_event o ports p q f r x l e =
     let a = bind_some _ (port_number ports p) l e in
     let b = bind_some _ (number 255 q) l a.2 in
     let c = bind_some _ (number 1048575 f) l b.2 in
     let d = bind_some _ (number 255 r) l c.2 in
     let y = bind_some _ (number 18446744073709551615 x) l d.2 in
-    subst (IsGood ports) (some_is (Enqueue a.0 (new_fields b.0 c.0 d.0 y.0)) l y.2) (port_there ports p a.0 a.1, no_forward)
+    subst (IsGood ports) (some_is (Enqueue a.0 (event_fields o b.0 c.0 d.0 y.0)) l y.2) (port_there ports p a.0 a.1)
 
 good_release : (ports : ℕ) (p : List ℕ) (o : Option ℕ) (l : Line) → ((n : ℕ) → o ≡ Some n → n < ports) → option_map (λ port. Enqueue port release_fields) o ≡ Some l → IsGood ports l
 good_release ports p None l there e = absurd cc
-good_release ports p (Some n) l there e = subst (IsGood ports) (some_is (Enqueue n release_fields) l e) (there n refl, release_no_forward)
+good_release ports p (Some n) l there e = subst (IsGood ports) (some_is (Enqueue n release_fields) l e) (there n refl)
 
 good_dequeue : (ports : ℕ) (p most : List ℕ) (l : Line) → dequeue_line ports p most ≡ Some l → IsGood ports l
 unfolding dequeue_line
@@ -172,16 +177,23 @@ under : {A : Type 0} (b : Bool) (o : Option A) (l : A) → cond b o None ≡ Som
 under true o l e = e
 under false o l e = absurd cc
 
+good_word : (ports : ℕ) (a b : Bool) (l : Line) → cond a (Some Sweep) (cond b (Some Shut) None) ≡ Some l → IsGood ports l
+good_word ports true b l e = subst (IsGood ports) (some_is Sweep l e) tt
+good_word ports false true l e = subst (IsGood ports) (some_is Shut l e) tt
+good_word ports false false l e = absurd cc
+
 good_command : (ports : ℕ) (ws : List (List ℕ)) (l : Line) → command_of ports ws ≡ Some l → IsGood ports l
 unfolding release_line
 good_command ports [] l e = absurd cc
-good_command ports (a ∷ []) l e = subst (IsGood ports) (some_is Sweep l (under (is_text a (codes "sweep")) (Some Sweep) l e)) tt
+good_command ports (a ∷ []) l e = good_word ports (is_text a (codes "sweep")) (is_text a (codes "shut")) l e
 good_command ports (a ∷ b ∷ []) l e =
     good_release ports b (port_number ports b) l (port_there ports b) (under (is_text a (codes "rel")) (release_line ports b) l e)
 good_command ports (a ∷ b ∷ c ∷ []) l e = good_dequeue ports b c l (under (is_text a (codes "deq")) (dequeue_line ports b c) l e)
 good_command ports (a ∷ b ∷ c ∷ d ∷ []) l e = absurd cc
 good_command ports (a ∷ b ∷ c ∷ d ∷ f ∷ []) l e = absurd cc
-good_command ports (a ∷ b ∷ c ∷ d ∷ f ∷ g ∷ []) l e = good_new ports b c d f g l (under (is_text a (codes "new")) (new_line ports b c d f g) l e)
+good_command ports (a ∷ b ∷ c ∷ d ∷ f ∷ g ∷ []) l e =
+    let o = bind_some _ (entry_op a) l e in
+    good_event o.0 ports b c d f g l o.2
 good_command ports (a ∷ b ∷ c ∷ d ∷ f ∷ g ∷ h ∷ more) l e = absurd cc
 
 good_line : (ports : ℕ) (line : List ℕ) (l : Line) → line_command ports line ≡ Some l → IsGood ports l
@@ -219,20 +231,15 @@ good_script ports text ls e = good_lines ports 1 (slice_split (λ b. eqb b 10) t
 
 ports_there : (ports : ℕ) (cs : List Command) → AllByRecursion (IsGood ports) (map line_of cs) → AllByRecursion (IsPortThere ports) cs
 ports_there ports [] h = tt
-ports_there ports (commands.Enqueue p e ∷ cs) h = (h.0.0, ports_there ports cs h.1)
+ports_there ports (commands.Enqueue p e ∷ cs) h = (h.0, ports_there ports cs h.1)
 ports_there ports (commands.Dequeue p max ∷ cs) h = (h.0, ports_there ports cs h.1)
 ports_there ports (commands.Sweep ∷ cs) h = (tt, ports_there ports cs h.1)
-
-no_forwards : (ports : ℕ) (cs : List Command) → AllByRecursion (IsGood ports) (map line_of cs) → AllByRecursion IsNoForward cs
-no_forwards ports [] h = tt
-no_forwards ports (commands.Enqueue p e ∷ cs) h = (h.0.1, no_forwards ports cs h.1)
-no_forwards ports (commands.Dequeue p max ∷ cs) h = (tt, no_forwards ports cs h.1)
-no_forwards ports (commands.Sweep ∷ cs) h = (tt, no_forwards ports cs h.1)
+ports_there ports (commands.Shut ∷ cs) h = (tt, ports_there ports cs h.1)
 
 -- ---- a document
 
 pub record IsPlayable (x : Planned) : Type 0 where
-  pub atomic : AllAtomic x.plan
+  pub unordered : RestoresNoOrder x.plan
   pub lines : AllByRecursion (IsGood (lanes_of x.plan)) x.commands
 
 no_fault : {A : Type 0} (f : Option DocFault) (rest : Result A DocFault) (x : A) → unless_fault f rest ≡ Ok x → (f ≡ None) × (rest ≡ Ok x)
@@ -254,40 +261,24 @@ playable_rows s x e =
     let a = bind_ok (checked (plan_asked s)) _ x none.1 in
     let b = bind_ok (commands_in (lanes_of a.0) (value_or [] s.script)) _ x a.2 in
     subst IsPlayable (ok_is (record { plan = a.0; commands = b.0 }) x b.2)
-    (record { atomic = subst AllAtomic (checked_is (plan_asked s) a.0 a.1) (all_atomic s none.0); lines = good_script (lanes_of a.0) (value_or [] s.script) b.0 b.1 })
+    (record { unordered = subst RestoresNoOrder (checked_is (plan_asked s) a.0 a.1) (all_unordered s none.0); lines = good_script (lanes_of a.0) (value_or [] s.script) b.0 b.1 })
 
-short_enough : {A : Type 0} (b : Bool) (rest : Result A DocFault) (x : A) → cond b (Err BadValue) rest ≡ Ok x → rest ≡ Ok x
+short_enough : {A : Type 0} (b : Bool) (rest : Result A DocFault) (x : A) → cond b (Err doc.TooLong) rest ≡ Ok x → rest ≡ Ok x
 short_enough true rest x e = absurd cc
 short_enough false rest x e = e
 
-pub playable : (bytes : List ℕ) (x : Planned) → planned bytes ≡ Ok x → IsPlayable x
-unfolding planned
+pub playable : (bytes : List ℕ) (x : Planned) → document_of bytes ≡ Ok x → IsPlayable x
+unfolding document_of
 playable bytes x e =
     let a = bind_ok (parsed bytes) _ x (short_enough (nat_lt 1048576 (length bytes)) _ x e) in
     playable_rows (survey_of a.0) x a.2
 
--- what was read, from what the bytes say
-pub gives-read : (bytes : List ℕ) (r : Result Document AppFault) → Gives planned_of r (planned bytes) → GivesDocument r (document_of bytes)
-unfolding document_of
-gives-read bytes (Ok d) e = ap result_ok e
-gives-read bytes (Err app.Read) e = absurd e
-gives-read bytes (Err app.Write) e = absurd e
-gives-read bytes (Err (app.Document f)) e = ap result_ok e
-gives-read bytes (Err app.Memory) e = tt
-gives-read bytes (Err app.NoSeat) e = absurd e
+pub gives-unordered : (bytes : List ℕ) (r : Result Document AppFault) → Gives planned_of r (document_of bytes) → IfOk r (λ d. RestoresNoOrder d.shape)
+gives-unordered bytes (Ok d) e = (playable bytes (planned_of d) e).unordered
+gives-unordered bytes (Err f) e = tt
 
-pub gives-atomic : (bytes : List ℕ) (r : Result Document AppFault) → Gives planned_of r (planned bytes) → IfOk r (λ d. AllAtomic d.shape)
-gives-atomic bytes (Ok d) e = (playable bytes (planned_of d) e).atomic
-gives-atomic bytes (Err f) e = tt
-
-pub gives-ports : (bytes : List ℕ) (r : Result Document AppFault) → Gives planned_of r (planned bytes) → IfOk r (λ d. AllPortsThere d.shape d.commands.items)
+pub gives-ports : (bytes : List ℕ) (r : Result Document AppFault) → Gives planned_of r (document_of bytes) → IfOk r (λ d. AllPortsThere d.shape d.commands.items)
 gives-ports bytes (Ok d) e =
     let lines = (playable bytes (planned_of d) e).lines in
     All-from_recursion (IsPortThere (lanes_of d.shape)) d.commands.items (ports_there (lanes_of d.shape) d.commands.items lines)
 gives-ports bytes (Err f) e = tt
-
-pub gives-forwards : (bytes : List ℕ) (r : Result Document AppFault) → Gives planned_of r (planned bytes) → IfOk r (λ d. NoForwards d.commands.items)
-gives-forwards bytes (Ok d) e =
-    let lines = (playable bytes (planned_of d) e).lines in
-    All-from_recursion IsNoForward d.commands.items (no_forwards (lanes_of d.shape) d.commands.items lines)
-gives-forwards bytes (Err f) e = tt

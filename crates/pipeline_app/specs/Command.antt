@@ -1,5 +1,5 @@
 -- A script's commands as plain data.
-use Rattle.std.specs.Prelude.{◌≢◌, ℕ, ◌<◌, List, All}
+use Rattle.std.specs.Prelude.{ℕ, ◌<◌, List, All}
 use Rattle.evt_types.specs.Plan.{Plan, lanes_of}
 use Rattle.evt_types.specs.declared.event.Event.{Event}
 use Rattle.evt_types.specs.declared.event.Op.{Op}
@@ -23,6 +23,7 @@ pub data Line : Type 0 where
   Enqueue : ℕ → Fields → Line
   Dequeue : ℕ → ℕ → Line
   Sweep : Line
+  Shut : Line
 
 abbrev pub fields_of : Event → Fields
 fields_of e =
@@ -42,11 +43,12 @@ abbrev pub line_of : Command → Line
 line_of (commands.Enqueue p e) = Enqueue p (fields_of e)
 line_of (commands.Dequeue p max) = Dequeue p max
 line_of commands.Sweep = Sweep
+line_of commands.Shut = Shut
 
--- the fields of a NEW, and of a RELEASE
-abbrev pub new_fields : ℕ → ℕ → ℕ → ℕ → Fields
-new_fields queue flow priority payload =
-    record { flow = flow; sub_type = 0; event_type = 0; op = ops.New; queue = queue; priority = priority; impl_opaque = 0; payload = payload }
+-- the fields of a NEW or a FORWARD, and of a RELEASE
+abbrev pub event_fields : Op → ℕ → ℕ → ℕ → ℕ → Fields
+event_fields op queue flow priority payload =
+    record { flow = flow; sub_type = 0; event_type = 0; op = op; queue = queue; priority = priority; impl_opaque = 0; payload = payload }
 
 abbrev pub release_fields : Fields
 release_fields = record { flow = 0; sub_type = 0; event_type = 0; op = ops.Release; queue = 0; priority = 0; impl_opaque = 0; payload = 0 }
@@ -56,15 +58,7 @@ abbrev pub IsPortThere : ℕ → Command → Type 0
 IsPortThere ports (commands.Enqueue p e) = p < ports
 IsPortThere ports (commands.Dequeue p max) = p < ports
 IsPortThere ports commands.Sweep = Unit {0}
-
--- the command enqueues no FORWARD
-abbrev pub IsNoForward : Command → Type 0
-IsNoForward (commands.Enqueue p e) = e.op ≢ ops.Forward
-IsNoForward (commands.Dequeue p max) = Unit {0}
-IsNoForward commands.Sweep = Unit {0}
+IsPortThere ports commands.Shut = Unit {0}
 
 abbrev pub AllPortsThere : Plan → List Command → Type 0
 AllPortsThere p cs = All (IsPortThere (lanes_of p)) cs
-
-abbrev pub NoForwards : List Command → Type 0
-NoForwards cs = All IsNoForward cs

@@ -1,12 +1,10 @@
 -- What a document says: the configuration of a device and the commands of a script, or its first fault.
-use Rattle.std.specs.Prelude.{◌≡◌, ℕ, true, List, [], length, map, All, nat_lt, Option, Some, None, Result, Ok, Err, if◌then◌else◌}
-use Rattle.std.specs.Result.{result_ok}
+use Rattle.std.specs.Prelude.{◌≡◌, ◌≢◌, ℕ, List, [], length, map, nat_lt, Option, Some, None, Result, Ok, Err, if◌then◌else◌}
 use Rattle.std.specs.Str.{is_utf8}
 use Rattle.toml.specs.Data.{Members}
 use Rattle.toml.specs.Parse.{parse_document}
 use Rattle.evt_types.specs.Fault.{fault_of}
-use Rattle.evt_types.specs.Plan.{Plan, is_atomic, lanes_of}
-use Rattle.evt_types.specs.declared.draft.QueueDraft.{QueueDraft}
+use Rattle.evt_types.specs.Plan.{Plan, lanes_of}
 use Rattle.evt_types.specs.declared.shape.ShapeFault.{ShapeFault}
 use Rattle.evt_types.specs.declared.shape.ShapeFault.TheVariants as shapes
 use Rattle.pipeline_app.specs.Command.{Line, line_of}
@@ -19,7 +17,7 @@ use Rattle.pipeline_app.specs.declared.document.Document.{Document}
 use Rattle.pipeline_app.specs.declared.fault.AppFault.{AppFault}
 use Rattle.pipeline_app.specs.declared.fault.AppFault.TheVariants as app
 use Rattle.pipeline_app.specs.declared.fault.DocFault.{DocFault}
-use Rattle.pipeline_app.specs.declared.fault.DocFault.TheVariants.{BadValue}
+use Rattle.pipeline_app.specs.declared.fault.DocFault.TheVariants as doc
 
 -- what a document says
 pub record Planned : Type 0 where
@@ -48,11 +46,11 @@ Gives view (Err e) read = Fails e read
 
 -- the document's table
 abbrev pub table_or_fault : Option Members → Result Members DocFault
-table_or_fault None = Err BadValue
+table_or_fault None = Err doc.NotToml
 table_or_fault (Some t) = Ok t
 
 unfoldable pub parsed : List ℕ → Result Members DocFault
-parsed bytes = if is_utf8 bytes then table_or_fault (parse_document bytes) else Err BadValue
+parsed bytes = if is_utf8 bytes then table_or_fault (parse_document bytes) else Err doc.NotToml
 
 -- the rows, unless they show a fault
 abbrev pub unless_fault : {A : Type 0} → Option DocFault → Result A DocFault → Result A DocFault
@@ -61,25 +59,25 @@ unless_fault (Some f) rest = Err f
 
 -- the fault of a refused configuration
 abbrev pub shape_fault : ShapeFault → AppFault
-shape_fault shapes.QueueCount = app.Document BadValue
-shape_fault shapes.PortCount = app.Document BadValue
-shape_fault shapes.LimitRange = app.Document BadValue
-shape_fault shapes.QuantumRange = app.Document BadValue
-shape_fault shapes.ThresholdRange = app.Document BadValue
-shape_fault shapes.DepthRange = app.Document BadValue
-shape_fault shapes.FlowSlots = app.Document BadValue
-shape_fault shapes.OrderDepth = app.Document BadValue
-shape_fault shapes.SweepRange = app.Document BadValue
-shape_fault shapes.LinkUnknown = app.Document BadValue
-shape_fault shapes.LinkTwice = app.Document BadValue
-shape_fault shapes.QueueUnlinked = app.Document BadValue
-shape_fault shapes.SingleLinkCount = app.Document BadValue
+shape_fault shapes.QueueCount = app.Document (doc.Shape shapes.QueueCount)
+shape_fault shapes.PortCount = app.Document (doc.Shape shapes.PortCount)
+shape_fault shapes.LimitRange = app.Document (doc.Shape shapes.LimitRange)
+shape_fault shapes.QuantumRange = app.Document (doc.Shape shapes.QuantumRange)
+shape_fault shapes.ThresholdRange = app.Document (doc.Shape shapes.ThresholdRange)
+shape_fault shapes.DepthRange = app.Document (doc.Shape shapes.DepthRange)
+shape_fault shapes.FlowSlots = app.Document (doc.Shape shapes.FlowSlots)
+shape_fault shapes.OrderDepth = app.Document (doc.Shape shapes.OrderDepth)
+shape_fault shapes.SweepRange = app.Document (doc.Shape shapes.SweepRange)
+shape_fault shapes.LinkUnknown = app.Document (doc.Shape shapes.LinkUnknown)
+shape_fault shapes.LinkTwice = app.Document (doc.Shape shapes.LinkTwice)
+shape_fault shapes.QueueUnlinked = app.Document (doc.Shape shapes.QueueUnlinked)
+shape_fault shapes.SingleLinkCount = app.Document (doc.Shape shapes.SingleLinkCount)
 shape_fault shapes.Memory = app.Memory
 
 -- the configuration, unless the device refuses it
 abbrev pub plan_or_fault : Plan → Option ShapeFault → Result Plan DocFault
 plan_or_fault p None = Ok p
-plan_or_fault p (Some f) = Err BadValue
+plan_or_fault p (Some f) = Err (doc.Shape f)
 
 unfoldable pub checked : Plan → Result Plan DocFault
 checked p = plan_or_fault p (fault_of p)
@@ -87,7 +85,7 @@ checked p = plan_or_fault p (fault_of p)
 -- the commands, unless a line is bad
 abbrev pub lines_or_fault : Result (List Line) ℕ → Result (List Line) DocFault
 lines_or_fault (Ok lines) = Ok lines
-lines_or_fault (Err n) = Err BadValue
+lines_or_fault (Err n) = Err (doc.BadCommand n)
 
 unfoldable pub commands_in : ℕ → List ℕ → Result (List Line) DocFault
 commands_in ports text = lines_or_fault (script_of ports text)
@@ -100,30 +98,27 @@ judged s =
       commands ← commands_in (lanes_of plan) (value_or [] s.script)
       Ok (record { plan = plan; commands = commands }))
 
--- what the bytes say
-unfoldable pub planned : List ℕ → Result Planned DocFault
-planned bytes =
-    if nat_lt 1048576 (length bytes) then Err BadValue
+-- what the bytes say: the configuration and the commands, or the first fault
+unfoldable pub document_of : List ℕ → Result Planned DocFault
+document_of bytes =
+    if nat_lt 1048576 (length bytes) then Err doc.TooLong
     else (do
       table ← parsed bytes
       judged (survey_of table))
 
--- what a document says, where it has no fault
-unfoldable pub document_of : List ℕ → Option Planned
-document_of bytes = result_ok (planned bytes)
+-- a refused configuration's fault is named by its refusal, which want of memory isn't
+abbrev pub IsNamedDoc : DocFault → Type 0
+IsNamedDoc doc.TooLong = Unit {0}
+IsNamedDoc doc.NotToml = Unit {0}
+IsNamedDoc doc.UnknownKey = Unit {0}
+IsNamedDoc doc.MissingKey = Unit {0}
+IsNamedDoc doc.BadValue = Unit {0}
+IsNamedDoc (doc.Shape f) = f ≢ shapes.Memory
+IsNamedDoc (doc.BadCommand n) = Unit {0}
 
--- a document was read as it says, or it has a fault, or memory ran out
-abbrev pub IsDocumentFault : AppFault → Option Planned → Type 0
-IsDocumentFault app.Read said = ⊥
-IsDocumentFault app.Write said = ⊥
-IsDocumentFault (app.Document f) said = said ≡ None
-IsDocumentFault app.Memory said = Unit {0}
-IsDocumentFault app.NoSeat said = ⊥
-
-abbrev pub GivesDocument : Result Document AppFault → Option Planned → Type 0
-GivesDocument (Ok d) said = said ≡ Some (planned_of d)
-GivesDocument (Err e) said = IsDocumentFault e said
-
--- each queue is atomic
-abbrev pub AllAtomic : Plan → Type 0
-AllAtomic p = All (λ (q : QueueDraft). is_atomic q.kind ≡ true) p.queues
+abbrev pub IsNamed : AppFault → Type 0
+IsNamed app.Read = Unit {0}
+IsNamed app.Write = Unit {0}
+IsNamed (app.Document f) = IsNamedDoc f
+IsNamed app.Memory = Unit {0}
+IsNamed app.NoSeat = Unit {0}

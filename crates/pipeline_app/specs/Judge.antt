@@ -8,7 +8,7 @@ use Rattle.evt_types.specs.declared.event.Kind.TheVariants.{Ordered, Atomic, Par
 use Rattle.pipeline_app.specs.Field.{is_absent, is_bad, rows}
 use Rattle.pipeline_app.specs.Survey.{PortSeen, SurveySeen}
 use Rattle.pipeline_app.specs.declared.fault.DocFault.{DocFault}
-use Rattle.pipeline_app.specs.declared.fault.DocFault.TheVariants.{BadValue}
+use Rattle.pipeline_app.specs.declared.fault.DocFault.TheVariants.{UnknownKey, MissingKey, BadValue}
 use Rattle.pipeline_app.specs.declared.field.Field.{Field}
 use Rattle.pipeline_app.specs.declared.field.Field.TheVariants.{Absent, Bad, Good}
 use Rattle.pipeline_app.specs.declared.survey.QueueRow.{QueueRow}
@@ -44,16 +44,16 @@ has_bad_queue q = is_bad q.kind || is_bad q.priority || is_bad q.slots || is_bad
 abbrev pub has_bad_port : PortSeen → Bool
 has_bad_port p = is_bad p.threshold || is_bad p.depth || is_bad p.replies || is_bad p.implicit || is_bad p.links
 
--- the queue isn't atomic
-abbrev pub is_not_atomic : Field Kind → Bool
-is_not_atomic (Good Atomic) = false
-is_not_atomic (Good Ordered) = true
-is_not_atomic (Good Parallel) = true
-is_not_atomic Absent = true
-is_not_atomic Bad = true
+-- the queue restores an order
+abbrev pub is_in_order : Field Kind → Bool
+is_in_order (Good Ordered) = true
+is_in_order (Good Atomic) = false
+is_in_order (Good Parallel) = false
+is_in_order Absent = false
+is_in_order Bad = false
 
 abbrev pub is_unserved_queue : QueueRow → Bool
-is_unserved_queue q = is_not_atomic q.kind
+is_unserved_queue q = is_in_order q.kind
 
 abbrev pub is_by_flows : Field Serving → Bool
 is_by_flows (Good Flows) = true
@@ -76,14 +76,14 @@ has_bad_top s = is_bad s.limit || is_bad s.quantum || is_bad s.sweep || is_bad s
 unfoldable pub has_bad : SurveySeen → Bool
 has_bad s = has_bad_top s || list_any has_bad_queue (rows s.queues) || list_any has_bad_port (rows s.ports)
 
--- the device serves atomic queues alone, by its ports
+-- the device serves no ordered queues, and serves by its ports
 unfoldable pub is_unserved : SurveySeen → Bool
 is_unserved s = is_by_flows s.serving || list_any is_unserved_queue (rows s.queues)
 
 -- the first fault: each is looked for in the whole document before the next
 unfoldable pub first_fault : SurveySeen → Option DocFault
 first_fault s =
-    if has_unknown s then Some BadValue
-    else (if has_missing s then Some BadValue
+    if has_unknown s then Some UnknownKey
+    else (if has_missing s then Some MissingKey
     else (if has_bad s then Some BadValue
     else (if is_unserved s then Some BadValue else None)))

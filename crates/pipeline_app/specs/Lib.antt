@@ -9,9 +9,11 @@ pub mod Judge
 pub mod Output
 pub mod Pairs
 pub mod Play
+pub mod Refusals
 pub mod Rig
 pub mod Script
 pub mod Stopped
 pub mod Survey
+pub mod Swept
 pub mod Text
 pub mod Words

@@ -1,14 +1,16 @@
 -- What the program writes: the run of a script.
-use Rattle.std.specs.Prelude.{ℕ, ◌≡◌, List, [], ◌∷◌, length, map, Option, Some, None, IfSome}
+use Rattle.std.specs.Prelude.{ℕ, ◌≡◌, Bool, true, false, ◌&&◌, List, [], ◌∷◌, ◌++◌, length, map, Option, Ok, Err, IfSome}
 use Rattle.std.specs.Io.KnownBytes.{Appends, Keeps}
 use Rattle.evt_types.specs.Plan.{Plan, lanes_of}
 use Rattle.evt_types.specs.Standing.{View, Stands}
 use Rattle.evt_types.specs.declared.step.Step.{Step}
-use Rattle.pipeline_app.specs.Command.{Line, Enqueue, Dequeue, Sweep}
-use Rattle.pipeline_app.specs.Document.{Planned, document_of}
+use Rattle.pipeline_app.specs.Command.{Line, Enqueue, Dequeue, Sweep, Shut}
+use Rattle.pipeline_app.specs.Document.{Planned, IsNamedDoc, document_of}
 use Rattle.pipeline_app.specs.Output.{AppendsPrefix}
+use Rattle.pipeline_app.specs.Refusals.{is_new_op, is_stopped}
 use Rattle.pipeline_app.specs.Rig.{HaveLeft}
 use Rattle.pipeline_app.specs.Stopped.{by_lane, undelivered_at, held_at, untaken_at, waiting_in}
+use Rattle.pipeline_app.specs.Swept.{IsSweep}
 use Rattle.pipeline_app.specs.Text.{text_of}
 use Rattle.pipeline_app.specs.declared.answer.Answer.{Answer}
 use Rattle.pipeline_app.specs.declared.answer.Answer.TheVariants as answers
@@ -17,24 +19,46 @@ use Rattle.pipeline_app.specs.declared.fault.AppFault.TheVariants as app
 use Rattle.pipeline_app.specs.declared.report.Report.{Report}
 use Rattle.pipeline_app.specs.declared.rig_port.RigPort.{RigPort}
 
--- an answer is of its command's kind and port
-abbrev pub IsAnswerTo : Line → Answer → Type 0
-IsAnswerTo (Enqueue p fields) (answers.Enqueued port op outcome) = (port ≡ p) × (op ≡ fields.op)
-IsAnswerTo (Enqueue p fields) (answers.Dequeued port outcome) = ⊥
-IsAnswerTo (Enqueue p fields) (answers.Swept swept) = ⊥
-IsAnswerTo (Dequeue p max) (answers.Enqueued port op outcome) = ⊥
-IsAnswerTo (Dequeue p max) (answers.Dequeued port outcome) = port ≡ p
-IsAnswerTo (Dequeue p max) (answers.Swept swept) = ⊥
-IsAnswerTo Sweep (answers.Enqueued port op outcome) = ⊥
-IsAnswerTo Sweep (answers.Dequeued port outcome) = ⊥
-IsAnswerTo Sweep (answers.Swept swept) = Unit {0}
+-- after the command the device is shut
+abbrev pub is_shut_by : Line → Bool → Bool
+is_shut_by (Enqueue p fields) shut = shut
+is_shut_by (Dequeue p max) shut = shut
+is_shut_by Sweep shut = shut
+is_shut_by Shut shut = true
 
--- one answer a command, in order
-abbrev pub AreAnswers : List Line → List Answer → Type 0
-AreAnswers [] [] = Unit {0}
-AreAnswers [] (a ∷ more) = ⊥
-AreAnswers (c ∷ cs) [] = ⊥
-AreAnswers (c ∷ cs) (a ∷ more) = IsAnswerTo c a × AreAnswers cs more
+-- after these commands
+abbrev pub shut_after : Bool → List Line → Bool
+shut_after shut [] = shut
+shut_after shut (c ∷ cs) = shut_after (is_shut_by c shut) cs
+
+-- An answer is of its command's kind and port. A NEW, and it alone, is stopped exactly where the device was shut before. A
+-- sweep alone adds steps to the log that is past, as many of each kind as it answers.
+abbrev pub IsAnswerTo : Bool → List Step → Line → Answer → List Step → Type 0
+IsAnswerTo shut past (Enqueue p fields) (answers.Enqueued port op outcome) steps =
+    (port ≡ p) × (op ≡ fields.op) × (is_stopped outcome ≡ (shut && is_new_op op)) × (steps ≡ [])
+IsAnswerTo shut past (Enqueue p fields) (answers.Dequeued port outcome) steps = ⊥
+IsAnswerTo shut past (Enqueue p fields) (answers.Swept swept) steps = ⊥
+IsAnswerTo shut past (Enqueue p fields) answers.Shut steps = ⊥
+IsAnswerTo shut past (Dequeue p max) (answers.Enqueued port op outcome) steps = ⊥
+IsAnswerTo shut past (Dequeue p max) (answers.Dequeued port outcome) steps = (port ≡ p) × (steps ≡ [])
+IsAnswerTo shut past (Dequeue p max) (answers.Swept swept) steps = ⊥
+IsAnswerTo shut past (Dequeue p max) answers.Shut steps = ⊥
+IsAnswerTo shut past Sweep (answers.Enqueued port op outcome) steps = ⊥
+IsAnswerTo shut past Sweep (answers.Dequeued port outcome) steps = ⊥
+IsAnswerTo shut past Sweep (answers.Swept swept) steps = IsSweep shut past swept steps
+IsAnswerTo shut past Sweep answers.Shut steps = ⊥
+IsAnswerTo shut past Shut (answers.Enqueued port op outcome) steps = ⊥
+IsAnswerTo shut past Shut (answers.Dequeued port outcome) steps = ⊥
+IsAnswerTo shut past Shut (answers.Swept swept) steps = ⊥
+IsAnswerTo shut past Shut answers.Shut steps = steps ≡ []
+
+-- One answer a command, in order, and the log that they lead to, on a device that was shut or not, after what is past.
+abbrev pub ArePlayed : Bool → List Step → List Line → List Answer → List Step → Type 0
+ArePlayed shut past [] [] log = log ≡ past
+ArePlayed shut past [] (a ∷ more) log = ⊥
+ArePlayed shut past (c ∷ cs) [] log = ⊥
+ArePlayed shut past (c ∷ cs) (a ∷ more) log =
+    (steps : List Step) × IsAnswerTo shut past c a steps × ArePlayed (is_shut_by c shut) (past ++ steps) cs more log
 
 -- The report says where the events are: what waits, by queue and number, and of each lane's pairs the last ones, first those
 -- that its port holds and then those that it hasn't received.
@@ -49,7 +73,7 @@ pub record IsReport (T : List Step) (v : View) (ports : List RigPort) (report : 
   pub own : report.own ≡ 0
   pub limit : report.limit ≡ v.shape.limit
 
--- The text of a run of the commands on a device: its answers, its log, which is lawful, and its report.
+-- The text of a run of the commands on a device: its answers, its log, which the sweeps made and which is lawful, and its report.
 pub record IsRun (p : Plan) (commands : List Line) (text : List ℕ) : Type 0 where
   pub answers : List Answer
   pub log : List Step
@@ -57,7 +81,7 @@ pub record IsRun (p : Plan) (commands : List Line) (text : List ℕ) : Type 0 wh
   pub view : View
   pub ports : List RigPort
   pub shape : view.shape ≡ p
-  pub answered : AreAnswers commands answers
+  pub played : ArePlayed false [] commands answers log
   pub stands : Stands log view
   pub reported : IsReport log view ports report
   pub written : text ≡ text_of p answers log report
@@ -66,7 +90,7 @@ pub record IsRun (p : Plan) (commands : List Line) (text : List ℕ) : Type 0 wh
 pub record HasRun (known : Option (List ℕ)) (text : List ℕ) : Type 0 where
   pub said : Planned
   pub run : IsRun said.plan said.commands text
-  pub document : IfSome known (λ input. document_of input ≡ Some said)
+  pub document : IfSome known (λ input. document_of input ≡ Ok said)
 
 abbrev pub WritesRun : Option (List ℕ) → Option (List ℕ) → Option (List ℕ) → Type 0
 WritesRun known old new = (text : List ℕ) × HasRun known text × Appends old new text
@@ -82,18 +106,18 @@ AfterFault known old new (app.Document f) = Keeps old new
 AfterFault known old new app.Memory = Keeps old new
 AfterFault known old new app.NoSeat = Keeps old new
 
--- which faults come before the first byte is written: a document's where it has one
+-- which faults come before the first byte is written: a document's where it is its first
 abbrev pub IsEarlyFault : Option (List ℕ) → AppFault → Type 0
 IsEarlyFault known app.Write = ⊥
 IsEarlyFault known app.Read = Unit {0}
-IsEarlyFault known (app.Document f) = IfSome known (λ input. document_of input ≡ None)
+IsEarlyFault known (app.Document f) = IsNamedDoc f × IfSome known (λ input. document_of input ≡ Err f)
 IsEarlyFault known app.Memory = Unit {0}
 IsEarlyFault known app.NoSeat = ⊥
 
--- which faults a play ends with: a document's where it has one
+-- which faults a play ends with: a document's where it is its first
 abbrev pub IsFaultOf : Option (List ℕ) → AppFault → Type 0
 IsFaultOf known app.Write = Unit {0}
 IsFaultOf known app.Read = Unit {0}
-IsFaultOf known (app.Document f) = IfSome known (λ input. document_of input ≡ None)
+IsFaultOf known (app.Document f) = IsNamedDoc f × IfSome known (λ input. document_of input ≡ Err f)
 IsFaultOf known app.Memory = Unit {0}
 IsFaultOf known app.NoSeat = ⊥

@@ -1,18 +1,13 @@
 -- What holds of a device in one thread between two commands.
-use Rattle.std.specs.Prelude.{ℕ, ◌≡◌, ◌+◌, ◌<◌, ◌≤◌, true, List, length, slice_index_or, All, vec_len, vec_capacity, Vec}
+use Rattle.std.specs.Prelude.{ℕ, ◌≡◌, ◌+◌, ◌<◌, ◌≤◌, List, length, slice_index_or, vec_len, vec_capacity, Vec}
 use Rattle.std.specs.declared.alloc.Global.{Global}
-use Rattle.evt_types.specs.Plan.{Plan, is_atomic, lanes_of}
+use Rattle.evt_types.specs.Plan.{Plan, RestoresNoOrder, lanes_of}
 use Rattle.evt_types.specs.Standing.{Stands}
 use Rattle.evt_types.specs.Transcript.{out}
-use Rattle.evt_types.specs.declared.draft.QueueDraft.{QueueDraft}
 use Rattle.evt_types.specs.declared.step.Step.{Step}
 use Rattle.pipeline_app.specs.Pairs.{IsLeftOf, pairs_at}
 use Rattle.pipeline_app.specs.declared.rig.Rig.{Rig}
 use Rattle.pipeline_app.specs.declared.rig_port.RigPort.{RigPort}
-
--- each queue is atomic
-abbrev pub AreAtomic : Plan → Type 0
-AreAtomic p = All (λ (q : QueueDraft). is_atomic q.kind ≡ true) p.queues
 
 -- the sizes that matter to a sweep
 pub record IsSmall (p : Plan) : Type 0 where
@@ -26,7 +21,7 @@ HaveLeft T ports = (l : ℕ) (d : RigPort) → l < length ports → IsLeftOf (pa
 
 pub record IsRig (r : Rig) : Type 0 where
   pub stands : Stands r.log.items r.core
-  pub atomic : AreAtomic r.core.shape
+  pub unordered : RestoresNoOrder r.core.shape
   pub small : IsSmall r.core.shape
   pub ports : length r.ports.items ≡ lanes_of r.core.shape
   pub left : HaveLeft r.log.items r.ports.items

@@ -4,7 +4,9 @@ use Rattle.std.specs.Prelude.{Vec}
 use Rattle.std.specs.declared.alloc.Global.{Global}
 use Rattle.std.specs.List.{slice_split}
 use Rattle.std.specs.Str.Lines.{strip_carriage_return}
-use Rattle.pipeline_app.specs.Command.{Line, Enqueue, Dequeue, Sweep, line_of, new_fields, release_fields}
+use Rattle.pipeline_app.specs.Command.{Line, Enqueue, Dequeue, Sweep, Shut, line_of, event_fields, release_fields}
+use Rattle.evt_types.specs.declared.event.Op.{Op}
+use Rattle.evt_types.specs.declared.event.Op.TheVariants as ops
 use Rattle.pipeline_app.specs.Field.{is_text}
 use Rattle.pipeline_app.specs.Words.{number, port_number}
 use Rattle.pipeline_app.specs.declared.command.Command.{Command}
@@ -15,15 +17,18 @@ infixl 10 ◌>>=◌
 abbrev pub ◌>>=◌ : {A B : Type 0} → Option A → (A → Option B) → Option B
 o >>= f = option_and_then f o
 
--- `new P Q FLOW PRIO PAYLOAD`
-unfoldable pub new_line : ℕ → List ℕ → List ℕ → List ℕ → List ℕ → List ℕ → Option Line
-new_line ports p q flow prio payload = do
+-- `new P Q FLOW PRIO PAYLOAD` and `fwd P Q FLOW PRIO PAYLOAD`
+abbrev pub entry_op : List ℕ → Option Op
+entry_op name = if is_text name (codes "new") then Some ops.New else if is_text name (codes "fwd") then Some ops.Forward else None
+
+unfoldable pub event_line : Op → ℕ → List ℕ → List ℕ → List ℕ → List ℕ → List ℕ → Option Line
+event_line op ports p q flow prio payload = do
   port ← port_number ports p
   queue ← number 255 q
   flow ← number 1048575 flow
   priority ← number 255 prio
   payload ← number 18446744073709551615 payload
-  Some (Enqueue port (new_fields queue flow priority payload))
+  Some (Enqueue port (event_fields op queue flow priority payload))
 
 -- `rel P`
 unfoldable pub release_line : ℕ → List ℕ → Option Line
@@ -39,12 +44,12 @@ dequeue_line ports p most = do
 -- the command of a line's words
 abbrev pub command_of : ℕ → List (List ℕ) → Option Line
 command_of ports [] = None
-command_of ports (a ∷ []) = if is_text a (codes "sweep") then Some Sweep else None
+command_of ports (a ∷ []) = if is_text a (codes "sweep") then Some Sweep else if is_text a (codes "shut") then Some Shut else None
 command_of ports (a ∷ b ∷ []) = if is_text a (codes "rel") then release_line ports b else None
 command_of ports (a ∷ b ∷ c ∷ []) = if is_text a (codes "deq") then dequeue_line ports b c else None
 command_of ports (a ∷ b ∷ c ∷ d ∷ []) = None
 command_of ports (a ∷ b ∷ c ∷ d ∷ e ∷ []) = None
-command_of ports (a ∷ b ∷ c ∷ d ∷ e ∷ f ∷ []) = if is_text a (codes "new") then new_line ports b c d e f else None
+command_of ports (a ∷ b ∷ c ∷ d ∷ e ∷ f ∷ []) = entry_op a >>= (λ op. event_line op ports b c d e f)
 command_of ports (a ∷ b ∷ c ∷ d ∷ e ∷ f ∷ g ∷ more) = None
 
 -- the command of a line: its words stand one space apart

@@ -7,6 +7,7 @@ use Rattle.evt_types.specs.declared.event.Event.{Event}
 use Rattle.evt_types.specs.declared.event.Numbered.{Numbered}
 use Rattle.evt_types.specs.declared.event.Op.{Op}
 use Rattle.evt_types.specs.declared.event.Op.TheVariants as ops
+use Rattle.evt_types.specs.declared.event.Reply.{Reply}
 use Rattle.pipeline_app.specs.declared.report.Held.{Held}
 use Rattle.pipeline_app.specs.declared.report.Report.{Report}
 use Rattle.pipeline_app.specs.declared.report.Undelivered.{Undelivered}
@@ -14,7 +15,6 @@ use Rattle.pipeline_app.specs.declared.report.Untaken.{Untaken}
 use Rattle.pipeline_app.specs.declared.report.Waiting.{Waiting}
 use Rattle.pipeline_app.specs.declared.rig.Rig.{Rig}
 use Rattle.pipeline_app.specs.declared.rig_port.RigPort.{RigPort}
-use Rattle.pipeline_app.specs.declared.sent.Sent.{Sent}
 
 -- ---- an event in its place
 
@@ -33,8 +33,8 @@ entering ops.New l e = record { lane = l; event = e } ∷ []
 entering ops.Forward l e = record { lane = l; event = e } ∷ []
 entering ops.Release l e = []
 
-abbrev pub untaken_of : ℕ → Sent → List Untaken
-untaken_of l s = entering s.reply.event.op l s.reply.event
+abbrev pub untaken_of : ℕ → Reply → List Untaken
+untaken_of l r = entering r.event.op l r.event
 
 -- ---- all of them, by lane
 

@@ -18,7 +18,7 @@ use Rattle.pipeline_app.specs.declared.answer.Answer.{Answer}
 use Rattle.pipeline_app.specs.declared.answer.Answer.TheVariants as answers
 use Rattle.pipeline_app.specs.declared.answer.Behind.{Behind}
 use Rattle.pipeline_app.specs.declared.answer.Refused.{Refused}
-use Rattle.pipeline_app.specs.declared.answer.Refused.TheVariants.{BadQueue, NothingHeld, Backpressure, Full}
+use Rattle.pipeline_app.specs.declared.answer.Refused.TheVariants.{Stopped, BadQueue, NothingHeld, Backpressure, Full}
 use Rattle.pipeline_app.specs.declared.answer.Swept.{Swept}
 use Rattle.pipeline_app.specs.declared.report.Held.{Held}
 use Rattle.pipeline_app.specs.declared.report.Report.{Report}
@@ -48,6 +48,7 @@ op_name ops.Forward = codes "fwd"
 op_name ops.Release = codes "rel"
 
 abbrev pub refusal_text : Refused → List ℕ
+refusal_text Stopped = codes "Stopped"
 refusal_text BadQueue = codes "BadQueue"
 refusal_text NothingHeld = codes "NothingHeld"
 refusal_text (Backpressure free) = codes "Backpressure free=" ++ decimal free
@@ -75,6 +76,7 @@ answer_text p (answers.Enqueued port op outcome) = op_name op ++ codes " " ++ de
 answer_text p (answers.Dequeued port (Ok deliveries)) = codes "deq " ++ decimal port ++ codes ": " ++ deliveries_text p deliveries.items
 answer_text p (answers.Dequeued port (Err behind)) = codes "deq " ++ decimal port ++ codes ": " ++ behind_text behind
 answer_text p (answers.Swept swept) = swept_line swept
+answer_text p answers.Shut = codes "shut: ok\n"
 
 -- ---- the log
 

@@ -5,6 +5,8 @@ use evt_types::{Delivery, Op};
 /// Why a port's event wasn't taken.
 #[derive(Clone, Copy, Debug, PartialEq, Eq)]
 pub enum Refused {
+    /// The device is shut, and takes no NEW.
+    Stopped,
     /// The event names a queue that isn't there.
     BadQueue,
     /// The port holds nothing that it could answer.
@@ -45,4 +47,5 @@ pub enum Answer {
         outcome: Result<Vec<Delivery>, Behind>,
     },
     Swept(Swept),
+    Shut,
 }

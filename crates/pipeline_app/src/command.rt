@@ -11,4 +11,6 @@ pub enum Command {
     Dequeue { port: usize, max: usize },
     /// The scheduler makes one sweep.
     Sweep,
+    /// The device is shut: no port may bring new events in.
+    Shut,
 }

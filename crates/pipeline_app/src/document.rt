@@ -1,9 +1,10 @@
 //! The reading of a document.
 
-ghost use Rattle.std.specs.Prelude.{◌≡◌, [], map, None, IfOk};
+ghost use Rattle.std.specs.Prelude.{◌≡◌, [], map, None, IfOk, IfErr};
+ghost use Rattle.evt_types.specs.Plan.{RestoresNoOrder};
 ghost use Rattle.toml.specs.View.{table_view};
-ghost use Rattle.pipeline_app.specs.Command.{AllPortsThere, NoForwards, line_of};
-ghost use Rattle.pipeline_app.specs.Document.{AllAtomic, Gives, GivesDocument, parsed, shape_fault, checked, commands_in, judged, planned, planned_of, document_of};
+ghost use Rattle.pipeline_app.specs.Command.{AllPortsThere, line_of};
+ghost use Rattle.pipeline_app.specs.Document.{Gives, IsNamed, parsed, shape_fault, checked, commands_in, judged, planned_of, document_of};
 ghost use Rattle.pipeline_app.specs.Drafts.{plan_asked};
 ghost use Rattle.pipeline_app.specs.Field.{value_or};
 ghost use Rattle.pipeline_app.specs.Judge.{first_fault};
@@ -38,7 +39,7 @@ fn parsed(alloc: Global, bytes: &[u8]) -> Result<Table, AppFault>
             if error.is_memory() {
                 Err(AppFault::Memory)
             } else {
-                Err(AppFault::Document(DocFault::BadValue))
+                Err(AppFault::Document(DocFault::NotToml))
             }
         }
     }
@@ -61,7 +62,7 @@ fn shape_fault(fault: ShapeFault) -> AppFault
         | ShapeFault::LinkUnknown
         | ShapeFault::LinkTwice
         | ShapeFault::QueueUnlinked
-        | ShapeFault::SingleLinkCount => AppFault::Document(DocFault::BadValue),
+        | ShapeFault::SingleLinkCount => AppFault::Document(DocFault::Shape(fault)),
         ShapeFault::Memory => AppFault::Memory,
     }
 }
@@ -100,7 +101,7 @@ fn commands_in(alloc: Global, ports: usize, script: &str) -> Result<Vec<Command>
     match read_script(alloc, ports, script) {
         Ok(commands) => Ok(commands),
         Err(ScriptFault::Memory) => Err(AppFault::Memory),
-        Err(ScriptFault::BadLine(_)) => Err(AppFault::Document(DocFault::BadValue)),
+        Err(ScriptFault::BadLine(line)) => Err(AppFault::Document(DocFault::BadCommand(line))),
     }
 }
 
@@ -125,12 +126,12 @@ fn judged(alloc: Global, survey: &Survey) -> Result<Document, AppFault>
 }
 
 /// What the bytes say.
-#[tactic(auto, unfolding(crate::specs::Document::planned))]
+#[tactic(auto, unfolding(crate::specs::Document::document_of))]
 fn planned(alloc: Global, bytes: &[u8]) -> Result<Document, AppFault>
-    ensures { Gives planned_of result (planned bytes.now) }
+    ensures { Gives planned_of result (document_of bytes.now) }
 {
     if bytes.len() > MAX_INPUT {
-        return Err(AppFault::Document(DocFault::BadValue));
+        return Err(AppFault::Document(DocFault::TooLong));
     }
     let table = match parsed(alloc, bytes) {
         Ok(table) => table,
@@ -142,11 +143,11 @@ fn planned(alloc: Global, bytes: &[u8]) -> Result<Document, AppFault>
 
 /// Reads a document: its configuration and its script's commands, or its first fault.
 pub fn read_document(alloc: Global, bytes: &[u8]) -> Result<Document, AppFault>
-    ensures read { GivesDocument result (document_of bytes.now) }
-    // The device serves atomic queues alone.
-    ensures atomic { IfOk result (λ d. AllAtomic d.shape) }
+    ensures read { Gives planned_of result (document_of bytes.now) }
+    ensures named { IfErr result IsNamed }
+    // The device serves no ordered queues.
+    ensures unordered { IfOk result (λ d. RestoresNoOrder d.shape) }
     ensures ports { IfOk result (λ d. AllPortsThere d.shape d.commands.items) }
-    ensures forwards { IfOk result (λ d. NoForwards d.commands.items) }
 {
     planned(alloc, bytes)
 }

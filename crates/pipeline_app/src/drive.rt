@@ -1,10 +1,11 @@
 //! A script is played on a device.
 
 ghost use Rattle.std.specs.Prelude.{◌≡◌, IfOk, IfErr, OnOk, map, string_bytes, Some};
-ghost use Rattle.evt_types.specs.Plan.{lanes_of};
-ghost use Rattle.pipeline_app.specs.Command.{IsPortThere, IsNoForward, AllPortsThere, NoForwards, line_of};
-ghost use Rattle.pipeline_app.specs.Play.{IsAnswerTo, AreAnswers, IsRun, HasRun, WritesRun, AfterFault, IsEarlyFault, IsFaultOf};
-ghost use Rattle.pipeline_app.specs.Rig.{AreAtomic, IsRig};
+ghost use Rattle.evt_types.specs.Plan.{RestoresNoOrder, lanes_of};
+ghost use Rattle.pipeline_app.specs.Command.{IsPortThere, AllPortsThere, line_of};
+ghost use Rattle.pipeline_app.specs.Play.{IsAnswerTo, ArePlayed, is_shut_by, IsRun, HasRun, WritesRun, AfterFault, IsEarlyFault, IsFaultOf};
+ghost use Rattle.pipeline_app.specs.Rig.{IsRig};
+ghost use Rattle.pipeline_app.specs.Swept.{Adds};
 
 use crate::answer::Answer;
 use crate::command::Command;
@@ -22,10 +23,10 @@ impl Rig {
     fn obey(&mut self, alloc: Global, command: &Command) -> Result<Answer, AllocError>
         requires sound { IsRig self.old }
         requires port { IsPortThere (lanes_of self.old.core.shape) command.now }
-        requires no_forward { IsNoForward command.now }
         ensures sound { OnOk result (IsRig self.new) }
         ensures shape { self.new.core.shape ≡ self.old.core.shape }
-        ensures answer { IfOk result (λ a. IsAnswerTo (line_of command.now) a) }
+        ensures answer { IfOk result (λ a. Adds (IsAnswerTo self.old.pool.shut self.old.log.items (line_of command.now) a) self.old.log.items self.new.log.items) }
+        ensures shut { OnOk result (self.new.pool.shut ≡ is_shut_by (line_of command.now) self.old.pool.shut) }
     {
         match *command {
             Command::Enqueue { port, event } => {
@@ -44,6 +45,10 @@ impl Rig {
                 let swept = self.sweep()?;
                 Ok(Answer::Swept(swept))
             }
+            Command::Shut => {
+                self.shut();
+                Ok(Answer::Shut)
+            }
         }
     }
 
@@ -51,10 +56,9 @@ impl Rig {
     fn obey_all(&mut self, alloc: Global, commands: &[Command]) -> Result<Vec<Answer>, AllocError>
         requires sound { IsRig self.old }
         requires ports { AllPortsThere self.old.core.shape commands.now }
-        requires no_forward { NoForwards commands.now }
         ensures sound { OnOk result (IsRig self.new) }
         ensures shape { self.new.core.shape ≡ self.old.core.shape }
-        ensures answers { IfOk result (λ v. AreAnswers (map line_of commands.now) v.items) }
+        ensures answers { IfOk result (λ v. ArePlayed self.old.pool.shut self.old.log.items (map line_of commands.now) v.items self.new.log.items) }
     {
         let mut answers = Vec::new(alloc);
         for command in commands {
@@ -67,9 +71,8 @@ impl Rig {
 
 /// The text of the document's run.
 fn run_text(alloc: Global, document: Document) -> Result<String, AllocError>
-    requires atomic { AreAtomic document.shape }
+    requires unordered { RestoresNoOrder document.shape }
     requires ports { AllPortsThere document.shape document.commands.items }
-    requires no_forward { NoForwards document.commands.items }
     ensures { IfOk result (λ text. IsRun document.shape (map line_of document.commands.items) (string_bytes text)) }
 {
     let Document { shape, commands } = document;

@@ -3,13 +3,26 @@
 ghost use Rattle.std.specs.Prelude.{◌≡◌};
 ghost use Rattle.pipeline_app.specs.declared.fault.AppFault.TheVariants.{Memory};
 
+use evt_types::ShapeFault;
 use std::alloc::{AllocError, AllocFailed};
 
-/// What is wrong with a document.
+/// What is wrong with a document. Each is looked for in the whole document before the next.
 #[derive(Clone, Copy, Debug, PartialEq, Eq)]
 pub enum DocFault {
-    /// It can't be read, a key is unknown or missing, a value or a line of the script is refused, or the configuration is.
+    /// It has more bytes than a document may have.
+    TooLong,
+    /// Its bytes are no TOML.
+    NotToml,
+    /// A table has a key that isn't one of its own.
+    UnknownKey,
+    /// A table lacks a key that it needs.
+    MissingKey,
+    /// A value isn't of its key's type, range or texts.
     BadValue,
+    /// The configuration is refused. What is held is never `Memory`.
+    Shape(ShapeFault),
+    /// The script's line of this number, counted from 1, is no command.
+    BadCommand(u32),
 }
 
 /// Why a run stops before its end.

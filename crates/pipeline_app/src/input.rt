@@ -28,7 +28,7 @@ pub fn read_all<R: Read>(alloc: Global, reader: &mut R) -> Result<Vec<u8>, AppFa
         }
         bytes.extend_from_slice(&buffer[..count])?;
         if bytes.len() > MAX_INPUT {
-            return Err(AppFault::Document(DocFault::BadValue));
+            return Err(AppFault::Document(DocFault::TooLong));
         }
     }
 }

@@ -76,11 +76,11 @@ fn has_bad_port(port: &PortRow) -> bool
         || port.links.is_bad()
 }
 
-/// Whether a queue isn't atomic.
+/// Whether a queue restores an order.
 fn is_unserved_queue(queue: &QueueRow) -> bool
     ensures { result ≡ is_unserved_queue queue.now }
 {
-    !matches!(queue.kind, Field::Good(Kind::Atomic))
+    matches!(queue.kind, Field::Good(Kind::Ordered))
 }
 
 fn any_unknown_queue(queues: &[QueueRow]) -> bool
@@ -187,7 +187,7 @@ fn has_bad(survey: &Survey) -> bool
     has_bad_top(survey) || any_bad_queue(queue_rows(survey)) || any_bad_port(port_rows(survey))
 }
 
-/// Whether the device doesn't serve it: it serves atomic queues alone, by its ports.
+/// Whether the device doesn't serve it: it serves no ordered queues, and serves by its ports.
 #[tactic(auto, unfolding(crate::specs::Judge::is_unserved))]
 fn is_unserved(survey: &Survey) -> bool
     ensures { result ≡ is_unserved (survey_seen survey.now) }
@@ -201,9 +201,9 @@ pub fn first_fault(survey: &Survey) -> Option<DocFault>
     ensures { result ≡ first_fault (survey_seen survey.now) }
 {
     if has_unknown(survey) {
-        Some(DocFault::BadValue)
+        Some(DocFault::UnknownKey)
     } else if has_missing(survey) {
-        Some(DocFault::BadValue)
+        Some(DocFault::MissingKey)
     } else if has_bad(survey) {
         Some(DocFault::BadValue)
     } else if is_unserved(survey) {

@@ -20,7 +20,6 @@ mod report;
 mod rig;
 mod rig_port;
 mod script;
-mod sent;
 mod stop;
 mod survey;
 mod sweep;

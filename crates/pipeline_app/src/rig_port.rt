@@ -1,12 +1,12 @@
 //! A port of a device that one thread plays.
 
-ghost use Rattle.std.specs.Prelude.{◌≡◌, ◌≢◌, ◌++◌, ◌∷◌, [], OnOk};
+ghost use Rattle.std.specs.Prelude.{◌≡◌, ◌++◌, ◌∷◌, [], false, nat_lt, length, IfOk, OnOk};
 ghost use Rattle.pipeline_app.specs.Pairs.{IsLeftOf, pairs_at};
+ghost use Rattle.pipeline_app.specs.Refusals.{answer_outcome, is_stopped, new_outcome};
 
 use crate::answer::{Behind, Refused};
 use crate::pool::Pool;
-use crate::sent::Sent;
-use evt_types::{Delivery, Event, Op, PortDraft, Reply};
+use evt_types::{Delivery, Event, PortDraft, Reply};
 use std::alloc::{AllocError, Global};
 use std::collections::VecDeque;
 
@@ -23,7 +23,7 @@ pub struct RigPort {
     /// Received and not answered yet, oldest first.
     pub held: VecDeque<Delivery>,
     /// Not taken by the scheduler yet, oldest first.
-    pub replies: VecDeque<Sent>,
+    pub replies: VecDeque<Reply>,
 }
 
 impl RigPort {
@@ -57,7 +57,7 @@ impl RigPort {
     }
 
     /// The oldest reply that wasn't taken.
-    pub fn first_reply(&self) -> Option<Sent> {
+    pub fn first_reply(&self) -> Option<Reply> {
         self.replies.front().copied()
     }
 
@@ -68,7 +68,9 @@ impl RigPort {
         let _ = self.replies.pop_front();
     }
 
-    fn has_reply_room(&self) -> bool {
+    fn has_reply_room(&self) -> bool
+        ensures { result ≡ nat_lt (length self.now.replies.items) self.now.reply_room }
+    {
         self.replies.len() < self.reply_room
     }
 
@@ -78,8 +80,10 @@ impl RigPort {
         pool: &mut Pool,
         event: Event,
     ) -> Result<Result<(), Refused>, AllocError>
-        requires { event.op ≢ Op.Forward }
-        ensures { OnOk result (pairs_at self.new ≡ pairs_at self.old) }
+        ensures outcome { IfOk result (λ o. o ≡ new_outcome pool.old self.old) }
+        ensures running { IfOk result (λ o. is_stopped o ≡ false) }
+        ensures pairs { OnOk result (pairs_at self.new ≡ pairs_at self.old) }
+        ensures shut { pool.new.shut ≡ pool.old.shut }
     {
         if self.pocket == 0 {
             if !pool.draw(self.threshold) {
@@ -90,10 +94,25 @@ impl RigPort {
         if !self.has_reply_room() {
             return Ok(Err(Refused::Full));
         }
-        self.replies.push_back(Sent {
-            reply: Reply { event },
-        })?;
+        self.replies.push_back(Reply { event })?;
         self.pocket = self.pocket.saturating_sub(1);
+        Ok(Ok(()))
+    }
+
+    /// Enqueues a FORWARD of the oldest held event.
+    pub fn forward(&mut self, event: Event) -> Result<Result<(), Refused>, AllocError>
+        ensures outcome { IfOk result (λ o. o ≡ answer_outcome self.old) }
+        ensures running { IfOk result (λ o. is_stopped o ≡ false) }
+        ensures pairs { OnOk result (IsLeftOf (pairs_at self.new) (pairs_at self.old)) }
+        ensures pocket { self.new.pocket ≡ self.old.pocket }
+    {
+        if self.held.is_empty() {
+            return Ok(Err(Refused::NothingHeld));
+        }
+        if !self.has_reply_room() {
+            return Ok(Err(Refused::Full));
+        }
+        self.answer(event)?;
         Ok(Ok(()))
     }
 
@@ -103,8 +122,10 @@ impl RigPort {
         pool: &mut Pool,
         event: Event,
     ) -> Result<Result<(), Refused>, AllocError>
-        requires { event.op ≢ Op.Forward }
-        ensures { OnOk result (IsLeftOf (pairs_at self.new) (pairs_at self.old)) }
+        ensures outcome { IfOk result (λ o. o ≡ answer_outcome self.old) }
+        ensures running { IfOk result (λ o. is_stopped o ≡ false) }
+        ensures pairs { OnOk result (IsLeftOf (pairs_at self.new) (pairs_at self.old)) }
+        ensures shut { pool.new.shut ≡ pool.old.shut }
     {
         if self.held.is_empty() {
             return Ok(Err(Refused::NothingHeld));
@@ -112,7 +133,7 @@ impl RigPort {
         if !self.has_reply_room() {
             return Ok(Err(Refused::Full));
         }
-        self.answer(event)?;
+        self.answer_with_credit(event)?;
         self.give_back(pool);
         Ok(Ok(()))
     }
@@ -124,7 +145,8 @@ impl RigPort {
         pool: &mut Pool,
         max: usize,
     ) -> Result<Result<Vec<Delivery>, Behind>, AllocError>
-        ensures { OnOk result (IsLeftOf (pairs_at self.new) (pairs_at self.old)) }
+        ensures pairs { OnOk result (IsLeftOf (pairs_at self.new) (pairs_at self.old)) }
+        ensures shut { pool.new.shut ≡ pool.old.shut }
     {
         if self.implicit {
             if let Some(behind) = self.release_all()? {
@@ -139,13 +161,19 @@ impl RigPort {
 
     /// Answers the oldest held event.
     fn answer(&mut self, event: Event) -> Result<(), AllocError>
-        requires { event.op ≢ Op.Forward }
+        ensures pairs { OnOk result (IsLeftOf (pairs_at self.new) (pairs_at self.old)) }
+        ensures pocket { self.new.pocket ≡ self.old.pocket }
+    {
+        self.replies.push_back(Reply { event })?;
+        let _ = self.held.pop_front();
+        Ok(())
+    }
+
+    /// Answers the oldest held event, whose credit comes back.
+    fn answer_with_credit(&mut self, event: Event) -> Result<(), AllocError>
         ensures { OnOk result (IsLeftOf (pairs_at self.new) (pairs_at self.old)) }
     {
-        self.replies.push_back(Sent {
-            reply: Reply { event },
-        })?;
-        let _ = self.held.pop_front();
+        self.answer(event)?;
         self.pocket = self.pocket.saturating_add(1);
         Ok(())
     }
@@ -158,7 +186,7 @@ impl RigPort {
             if !self.has_reply_room() {
                 return Ok(Some(Behind { released }));
             }
-            self.answer(Event::release())?;
+            self.answer_with_credit(Event::release())?;
         }
         Ok(None)
     }
@@ -191,7 +219,8 @@ impl RigPort {
 
     /// The return rule: of two quanta or more in the pocket one is kept.
     fn give_back(&mut self, pool: &mut Pool)
-        ensures { pairs_at self.new ≡ pairs_at self.old }
+        ensures pairs { pairs_at self.new ≡ pairs_at self.old }
+        ensures shut { pool.new.shut ≡ pool.old.shut }
     {
         let quantum = pool.quantum();
         if self.pocket >= 2 * quantum {

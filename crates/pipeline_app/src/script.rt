@@ -2,7 +2,7 @@
 
 ghost use Rattle.std.specs.Prelude.{◌≡◌, ◌<◌, ◌^◌, length, map, IfOk, option_map, Ok, Err};
 ghost use Rattle.pipeline_app.specs.Command.{line_of};
-ghost use Rattle.pipeline_app.specs.Script.{command_of, line_command, new_line, release_line, dequeue_line, script_of, GivesLines};
+ghost use Rattle.pipeline_app.specs.Script.{command_of, entry_op, line_command, event_line, release_line, dequeue_line, script_of, GivesLines};
 ghost use Rattle.pipeline_app.specs.declared.script.ScriptFault.TheVariants.{Memory};
 
 use crate::command::Command;
@@ -40,9 +40,23 @@ impl<T: Drop> From<AllocFailed<T>> for ScriptFault {
     }
 }
 
-/// A NEW by the port, of these words.
-#[tactic(auto, unfolding(crate::specs::Script::new_line))]
-fn new_command(
+/// The operation of a command that brings an event.
+fn entry_op(name: &str) -> Option<Op>
+    ensures { result ≡ entry_op name.now }
+{
+    if name == "new" {
+        Some(Op::New)
+    } else if name == "fwd" {
+        Some(Op::Forward)
+    } else {
+        None
+    }
+}
+
+/// A NEW or a FORWARD by the port, of these words.
+#[tactic(auto, unfolding(crate::specs::Script::event_line))]
+fn event_command(
+    op: Op,
     ports: usize,
     port: &str,
     queue: &str,
@@ -50,14 +64,14 @@ fn new_command(
     priority: &str,
     payload: &str,
 ) -> Option<Command>
-    ensures { option_map line_of result ≡ new_line ports port.now queue.now flow.now priority.now payload.now }
+    ensures { option_map line_of result ≡ event_line op ports port.now queue.now flow.now priority.now payload.now }
 {
     let port = port_number(port, ports)?;
     let queue = number(queue, MAX_BYTE)? as u8;
     let flow = number(flow, u64::from(MAX_FLOWS) - 1)? as u32;
     let priority = number(priority, MAX_BYTE)? as u8;
     let payload = number(payload, u64::MAX)?;
-    match Event::new(flow, 0, 0, Op::New, queue, priority, payload) {
+    match Event::new(flow, 0, 0, op, queue, priority, payload) {
         Ok(event) => Some(Command::Enqueue { port, event }),
         Err(_) => None,
     }
@@ -91,6 +105,8 @@ fn command_of(ports: usize, words: &[&str]) -> Option<Command>
         [name] => {
             if *name == "sweep" {
                 Some(Command::Sweep)
+            } else if *name == "shut" {
+                Some(Command::Shut)
             } else {
                 None
             }
@@ -109,13 +125,10 @@ fn command_of(ports: usize, words: &[&str]) -> Option<Command>
                 None
             }
         }
-        [name, port, queue, flow, priority, payload] => {
-            if *name == "new" {
-                new_command(ports, port, queue, flow, priority, payload)
-            } else {
-                None
-            }
-        }
+        [name, port, queue, flow, priority, payload] => match entry_op(name) {
+            Some(op) => event_command(op, ports, port, queue, flow, priority, payload),
+            None => None,
+        },
         _ => None,
     }
 }

@@ -8,8 +8,7 @@ ghost use Rattle.pipeline_app.specs.Stopped.{IsReportOf, by_lane, waiting_of, nu
 use crate::report::{Held, Report, Undelivered, Untaken, Waiting};
 use crate::rig::Rig;
 use crate::rig_port::RigPort;
-use crate::sent::Sent;
-use evt_types::{Delivery, Op};
+use evt_types::{Delivery, Op, Reply};
 use std::alloc::{AllocError, Global};
 
 impl Rig {
@@ -124,10 +123,10 @@ fn held_in(alloc: Global, ports: &[RigPort]) -> Result<Vec<Held>, AllocError>
 }
 
 /// Adds the reply's event, where it would come in.
-fn add_reply(lane: usize, sent: &Sent, all: &mut Vec<Untaken>) -> Result<(), AllocError>
-    ensures { OnOk result (all.new.items ≡ all.old.items ++ untaken_of lane sent.now) }
+fn add_reply(lane: usize, reply: &Reply, all: &mut Vec<Untaken>) -> Result<(), AllocError>
+    ensures { OnOk result (all.new.items ≡ all.old.items ++ untaken_of lane reply.now) }
 {
-    let event = sent.reply.event;
+    let event = reply.event;
     match event.op {
         Op::New | Op::Forward => {
             all.push(Untaken { lane, event })?;
@@ -137,11 +136,11 @@ fn add_reply(lane: usize, sent: &Sent, all: &mut Vec<Untaken>) -> Result<(), All
     }
 }
 
-fn add_untaken(lane: usize, replies: &[Sent], all: &mut Vec<Untaken>) -> Result<(), AllocError>
+fn add_untaken(lane: usize, replies: &[Reply], all: &mut Vec<Untaken>) -> Result<(), AllocError>
     ensures { OnOk result (all.new.items ≡ all.old.items ++ flat_map (untaken_of lane) replies.now) }
 {
-    for sent in replies {
-        add_reply(lane, sent, all)?;
+    for reply in replies {
+        add_reply(lane, reply, all)?;
     }
     Ok(())
 }

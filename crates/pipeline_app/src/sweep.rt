@@ -1,13 +1,21 @@
 //! The scheduler's sweep over a device in one thread.
 
-ghost use Rattle.std.specs.Prelude.{◌≡◌, ◌+◌, ◌*◌, ◌<◌, ◌≤◌, length, OnOk};
+ghost use Rattle.std.specs.Prelude.{◌≡◌, ◌+◌, ◌*◌, ◌<◌, ◌≤◌, ◌++◌, length, IfOk, OnOk};
 ghost use Rattle.evt_types.specs.Plan.{lanes_of};
 ghost use Rattle.pipeline_app.specs.Rig.{IsRig, HasRoom, Grew};
+ghost use Rattle.pipeline_app.specs.Swept.{Adds, Makes, MakesTaken, MakesGiven, Sweeps, credit_of, shut_seen};
 
 use crate::answer::Swept;
 use crate::rig::Rig;
-use sched_core::{Offer, Skips};
+use sched_core::{Offer, Skips, Took};
 use std::alloc::AllocError;
+
+/// How many replies were taken, and how many of them turned away.
+#[derive(Clone, Copy, Debug, PartialEq, Eq)]
+struct Taken {
+    replies: usize,
+    turned: u64,
+}
 
 /// What became of an offer.
 #[derive(Clone, Copy, Debug, PartialEq, Eq)]
@@ -18,77 +26,121 @@ enum Gave {
     Bounced,
 }
 
+/// The credits that a reply leaves to the scheduler: that of an event which was turned away.
+fn credit_of(took: Took) -> u64
+    ensures value { result ≡ credit_of took }
+    ensures range { result ≤ 1 }
+{
+    match took {
+        Took::Turned => 1,
+        Took::Accepted | Took::Kept | Took::Released => 0,
+    }
+}
+
 impl Rig {
-    /// One sweep: the replies of each lane are taken, and waiting events are given.
+    /// One sweep: where the device was shut, the scheduler sees it first; then the replies of each lane are taken, and
+    /// waiting events are given. The credits of what was turned away are returned at once.
     pub fn sweep(&mut self) -> Result<Swept, AllocError>
         requires { IsRig self.old }
         ensures sound { OnOk result (IsRig self.new) }
         ensures shape { self.new.core.shape ≡ self.old.core.shape }
+        ensures steps { IfOk result (Sweeps self.old self.new) }
     {
         let room = self.core.log_room();
         self.log.reserve(room)?;
+        self.see_shut();
         let taken = self.take_replies();
+        self.pool.give(taken.turned);
         let (given, bounced) = self.give_events()?;
         Ok(Swept {
-            taken,
+            taken: taken.replies,
             given,
             bounced,
         })
     }
 
-    /// Takes the replies of each lane, up to the sweep quantum of each.
-    fn take_replies(&mut self) -> usize
+    /// Where the device was shut, new events are turned away from now on.
+    fn see_shut(&mut self)
         requires sound { IsRig self.old }
-        requires room { HasRoom (self.old.core.shape.sweep * lanes_of self.old.core.shape) self.old.log }
-        ensures sound { IsRig self.new }
-        ensures shape { self.new.core.shape ≡ self.old.core.shape }
-        ensures room { Grew (self.old.core.shape.sweep * lanes_of self.old.core.shape) self.old.log self.new.log }
-    {
-        let mut taken = 0;
-        for lane in 0..self.ports.len() {
-            taken += self.take_lane(lane);
-        }
-        taken
-    }
-
-    /// Takes the lane's replies, up to the sweep quantum.
-    fn take_lane(&mut self, lane: usize) -> usize
-        requires sound { IsRig self.old }
-        requires lane { lane < lanes_of self.old.core.shape }
-        requires room { HasRoom self.old.core.shape.sweep self.old.log }
-        ensures sound { IsRig self.new }
-        ensures shape { self.new.core.shape ≡ self.old.core.shape }
-        ensures room { Grew self.old.core.shape.sweep self.old.log self.new.log }
-        ensures quantum { result ≤ self.old.core.shape.sweep }
-    {
-        let most = self.core.shape().sweep() as usize;
-        for taken in 0..most {
-            if !self.take_one(lane) {
-                return taken;
-            }
-        }
-        most
-    }
-
-    /// Takes the lane's oldest reply, if there is one that may be taken now.
-    fn take_one(&mut self, lane: usize) -> bool
-        requires sound { IsRig self.old }
-        requires lane { lane < lanes_of self.old.core.shape }
         requires room { HasRoom 1 self.old.log }
         ensures sound { IsRig self.new }
         ensures shape { self.new.core.shape ≡ self.old.core.shape }
+        ensures steps { self.new.log.items ≡ self.old.log.items ++ shut_seen self.old.pool.shut self.old.log.items }
         ensures room { Grew 1 self.old.log self.new.log }
+        ensures pool { self.new.pool ≡ self.old.pool }
     {
-        let Some(sent) = self.ports[lane].first_reply() else {
-            return false;
+        if self.pool.is_shut() {
+            self.core.shut(&mut self.log);
+        }
+    }
+
+    /// Takes the replies of each lane, up to the sweep quantum of each.
+    fn take_replies(&mut self) -> Taken
+        requires sound { IsRig self.old }
+        requires room { HasRoom (2 * self.old.core.shape.sweep * lanes_of self.old.core.shape) self.old.log }
+        ensures sound { IsRig self.new }
+        ensures shape { self.new.core.shape ≡ self.old.core.shape }
+        ensures steps { Adds (Makes result.replies result.turned 0 0) self.old.log.items self.new.log.items }
+        ensures room { Grew (2 * self.old.core.shape.sweep * lanes_of self.old.core.shape) self.old.log self.new.log }
+        ensures pool { self.new.pool ≡ self.old.pool }
+    {
+        let mut replies = 0;
+        let mut turned = 0;
+        for lane in 0..self.ports.len() {
+            let taken = self.take_lane(lane);
+            replies += taken.replies;
+            turned += taken.turned;
+        }
+        Taken { replies, turned }
+    }
+
+    /// Takes the lane's replies, up to the sweep quantum.
+    fn take_lane(&mut self, lane: usize) -> Taken
+        requires sound { IsRig self.old }
+        requires lane { lane < lanes_of self.old.core.shape }
+        requires room { HasRoom (2 * self.old.core.shape.sweep) self.old.log }
+        ensures sound { IsRig self.new }
+        ensures shape { self.new.core.shape ≡ self.old.core.shape }
+        ensures steps { Adds (Makes result.replies result.turned 0 0) self.old.log.items self.new.log.items }
+        ensures room { Grew (2 * self.old.core.shape.sweep) self.old.log self.new.log }
+        ensures pool { self.new.pool ≡ self.old.pool }
+        ensures quantum { result.replies ≤ self.old.core.shape.sweep }
+        ensures turned { result.turned ≤ result.replies }
+    {
+        let most = self.core.shape().sweep() as usize;
+        let mut turned = 0;
+        for replies in 0..most {
+            let Some(took) = self.take_one(lane) else {
+                return Taken { replies, turned };
+            };
+            turned += credit_of(took);
+        }
+        Taken {
+            replies: most,
+            turned,
+        }
+    }
+
+    /// Takes the lane's oldest reply, if there is one that may be taken now.
+    fn take_one(&mut self, lane: usize) -> Option<Took>
+        requires sound { IsRig self.old }
+        requires lane { lane < lanes_of self.old.core.shape }
+        requires room { HasRoom 2 self.old.log }
+        ensures sound { IsRig self.new }
+        ensures shape { self.new.core.shape ≡ self.old.core.shape }
+        ensures steps { Adds (MakesTaken result) self.old.log.items self.new.log.items }
+        ensures room { Grew 2 self.old.log self.new.log }
+        ensures pool { self.new.pool ≡ self.old.pool }
+    {
+        let Some(reply) = self.ports[lane].first_reply() else {
+            return None;
         };
-        if !self.core.takes(lane, &sent.reply) {
-            return false;
+        if !self.core.takes(lane, &reply) {
+            return None;
         }
         let port = &mut self.ports[lane];
         port.drop_reply();
-        let _ = self.core.take(lane, sent.reply, &mut self.log);
-        true
+        Some(self.core.take(lane, reply, &mut self.log))
     }
 
     /// Gives waiting events, at most the sweep quantum of each queue, and passes over each lane whose ring is full.
@@ -97,6 +149,8 @@ impl Rig {
         requires room { HasRoom (self.old.core.shape.sweep * length self.old.core.shape.queues + lanes_of self.old.core.shape) self.old.log }
         ensures sound { OnOk result (IsRig self.new) }
         ensures shape { self.new.core.shape ≡ self.old.core.shape }
+        ensures steps { IfOk result (λ x. Adds (Makes 0 0 x.0 x.1) self.old.log.items self.new.log.items) }
+        ensures pool { self.new.pool ≡ self.old.pool }
     {
         let shape = self.core.shape();
         let most = shape.sweep() as usize * shape.queues().len() + shape.lanes();
@@ -119,7 +173,9 @@ impl Rig {
         requires room { HasRoom 1 self.old.log }
         ensures sound { OnOk result (IsRig self.new) }
         ensures shape { self.new.core.shape ≡ self.old.core.shape }
+        ensures steps { IfOk result (λ gave. Adds (MakesGiven gave) self.old.log.items self.new.log.items) }
         ensures room { Grew 1 self.old.log self.new.log }
+        ensures pool { self.new.pool ≡ self.old.pool }
     {
         let Some(offer) = self.core.propose(skips) else {
             return Ok(None);

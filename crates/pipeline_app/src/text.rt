@@ -53,6 +53,7 @@ fn write_refusal(refused: Refused, out: &mut String) -> Result<(), AllocError>
     ensures { OnOk result (string_bytes out.new ≡ string_bytes out.old ++ texts.refusal_text refused) }
 {
     match refused {
+        Refused::Stopped => out.push_str("Stopped"),
         Refused::BadQueue => out.push_str("BadQueue"),
         Refused::NothingHeld => out.push_str("NothingHeld"),
         Refused::Backpressure { free } => write!(out, "Backpressure free={free}"),
@@ -129,6 +130,7 @@ fn write_answer(shape: &Shape, answer: &Answer, out: &mut String) -> Result<(), 
             }
         }
         Answer::Swept(swept) => write_swept(*swept, out),
+        Answer::Shut => out.push_str("shut: ok\n"),
     }
 }
 

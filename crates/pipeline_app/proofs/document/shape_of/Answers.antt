@@ -16,4 +16,4 @@ returns-in-Ok c =
 pub returns : goal.returns
 returns c =
     let asked = plan_asked (survey_seen c.args.survey.now) in
-    rw c.shape_fault.ensures (shape-Fails c.in-Err.fault (plan_of c.in_ok-draft.draft) asked c.in_ok-draft.ensures c.in-Err.ensures.accepted)
+    rw c.shape_fault.ensures (shape-Fails c.in-Err.fault (plan_of c.in_ok-draft.draft) asked c.in_ok-draft.ensures (c.in-Err.ensures.accepted, c.in-Err.ensures.refused))

@@ -3,5 +3,5 @@ use Rattle.std.specs.Prelude.{flat_map}
 use Rattle.pipeline_app.specs.Stopped.{untaken_of}
 use Rattle.pipeline_app.proofs.stop.add_untaken.Given as goal
 
-abbrev pub invariant-loop-sent : goal.invariant-loop-sent
-invariant-loop-sent l = l.all.items ≡ l.initial.all.items ++ flat_map (untaken_of l.lane) (take l.sent-index l.replies)
+abbrev pub invariant-loop-reply : goal.invariant-loop-reply
+invariant-loop-reply l = l.all.items ≡ l.initial.all.items ++ flat_map (untaken_of l.lane) (take l.reply-index l.replies)

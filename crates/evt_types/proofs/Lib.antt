@@ -4,8 +4,9 @@ pub mod AnsweredPlaces
 pub mod ByLane
 pub mod Events
 pub mod Facts
+pub mod Fewness
 pub mod Flows
-pub mod Forwards
+pub mod HandOrder
 pub mod Insides
 pub mod Limits
 pub mod Lists
@@ -19,7 +20,6 @@ pub mod Plans
 pub mod Pushes
 pub mod Refused
 pub mod Replies
-pub mod Rises
 pub mod Rising
 pub mod Rooms
 pub mod RowsLawful
@@ -28,8 +28,6 @@ pub mod Sound
 pub mod Sources
 pub mod Sums
 pub mod ViewLists
-pub mod ViewStands
-pub mod Views
 pub mod Waits
 pub mod Whole
 pub mod WholeStands

@@ -55,6 +55,15 @@ rest_fails p (x ∷ xs) n ns e = by_case (rest_fails p xs n ns) (cases_Bool (p x
 abbrev pub Differ : Place → Place → Type 0
 Differ x y = x.number ≢ y.number
 
+-- an answer to a number that no place has changes none
+pub answer_none : (ps : List Place) (n : ℕ) (o : Outcome) → All (λ (y : Place). y.number ≢ n) ps → map (answer_place n o) ps ≡ ps
+answer_none [] n o all = refl
+answer_none (y ∷ ps) n o all =
+    ap (λ z. z ∷ map (answer_place n o) ps) (cond-false (y.number == n)
+    (record { number = n; answered = true; forwards = y.forwards ++ events_of o }) y
+    (eqb_other y.number n (All-head (λ (z : Place). z.number ≢ n) y ps all)))
+    ∙ ap (λ zs. y ∷ zs) (answer_none ps n o (All-tail (λ (z : Place). z.number ≢ n) y ps all))
+
 -- of places with different numbers an answer changes the one of its number alone
 pub answer_at : (ps : List Place) (i n : ℕ) (o : Outcome) (d : Place) → AllPairs Differ ps → i < length ps → (get_or ps i d).number ≡ n
     → map (answer_place n o) ps ≡ set ps i (record { number = n; answered = true; forwards = (get_or ps i d).forwards ++ events_of o })
@@ -63,15 +72,7 @@ answer_at (x ∷ ps) zero n o d differ within is =
     ap (λ y. y ∷ map (answer_place n o) ps) (cond-true (x.number == n)
     (record { number = n; answered = true; forwards = x.forwards ++ events_of o }) x (ap (λ m. m == n) is ∙ eqb_same n))
     ∙ ap (λ ys. record { number = n; answered = true; forwards = x.forwards ++ events_of o } ∷ ys)
-    (others ps (λ k e lt same. differ 0 (suc k) e (omega arith) (omega arith) (is ∙ sym same)))
-  where
-    others : (qs : List Place) → All (λ (y : Place). y.number ≢ n) qs → map (answer_place n o) qs ≡ qs
-    others [] all = refl
-    others (y ∷ qs) all =
-        ap (λ z. z ∷ map (answer_place n o) qs) (cond-false (y.number == n)
-        (record { number = n; answered = true; forwards = y.forwards ++ events_of o }) y
-        (eqb_other y.number n (All-head (λ (z : Place). z.number ≢ n) y qs all)))
-        ∙ ap (λ zs. y ∷ zs) (others qs (All-tail (λ (z : Place). z.number ≢ n) y qs all))
+    (answer_none ps n o (λ k e lt same. differ 0 (suc k) e (omega arith) (omega arith) (is ∙ sym same)))
 answer_at (x ∷ ps) (suc i) n o d differ within is =
     let apart : x.number ≢ n = λ same. differ 0 (suc i) d (omega arith) (omega arith) (same ∙ sym is) in
     ap (λ y. y ∷ map (answer_place n o) ps) (cond-false (x.number == n)

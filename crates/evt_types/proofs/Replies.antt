@@ -5,6 +5,7 @@ use Rattle.std.proofs.Common.{refl, ap, ◌∙◌}
 use Rattle.std.proofs.lemmas.Bool.{false≢true, cond-true, cond-false, cond_both}
 use Rattle.std.proofs.lemmas.List.Elements.{All-nil, All-cons, All-append, All-weaker, filter_map-append}
 use Rattle.evt_types.proofs.Lists.{eqb_same, eqb_other, eqb_comm, filter_map-none, filter_map-push, more_some, more_none}
+use Rattle.evt_types.specs.Laws.{is_give}
 use Rattle.evt_types.specs.Plan.{is_ordered, queue_of}
 use Rattle.evt_types.specs.Replies.{Said, said_by, said_in, replies_in}
 use Rattle.evt_types.specs.Standing.{View, Place, AreAnswer, AreStepsBy, events_of, accepts_from, accepts_of, answered_places, leaving, oldest_at, answer_steps, steps_by, steps_of}
@@ -86,6 +87,14 @@ from_of_says m (Done l o) h = absurd (false≢true h)
 from_of_says m (Turned l e) h = absurd (false≢true h)
 from_of_says m (Bounced l) h = refl
 from_of_says m Shut h = refl
+
+from_of_is_no_give : (s : Step) → is_from_of s ≡ true → is_give s ≡ false
+from_of_is_no_give (Accept q e c) h = refl
+from_of_is_no_give (Give l q n) h = absurd (false≢true h)
+from_of_is_no_give (Done l o) h = refl
+from_of_is_no_give (Turned l e) h = refl
+from_of_is_no_give (Bounced l) h = refl
+from_of_is_no_give Shut h = refl
 
 pub out-from_of : (S : List Step) → All (λ s. is_from_of s ≡ true) S → (m : ℕ) → out S m ≡ []
 unfolding out
@@ -192,3 +201,21 @@ steps_of-out v l e m = steps_by-out e.op v l e m
 
 pub steps_of-replies : (v : View) (l : ℕ) (e : Event) (m : ℕ) → replies_in (steps_of v l e) m ≡ (if m == l then said_by e.op e ∷ [] else [])
 steps_of-replies v l e m = steps_by-replies e.op v l e m
+
+-- none of the steps of a reply is a Give
+answer_gives_none : (v : View) (l : ℕ) (o : Outcome) → All (λ s. is_give s ≡ false) (answer_steps v l o)
+answer_gives_none v l o =
+    All-cons (λ s. is_give s ≡ false) (Done l o) (accepts_of v (oldest_at v l) o) refl
+    (All-weaker (λ s. is_from_of s ≡ true) (λ s. is_give s ≡ false) from_of_is_no_give (accepts_of v (oldest_at v l) o)
+    (accepts_of-of v (oldest_at v l) o))
+
+steps_by_give_none : (o : Op) (v : View) (l : ℕ) (e : Event) → All (λ s. is_give s ≡ false) (steps_by o v l e)
+steps_by_give_none ops.New v l e =
+    cond_both v.shut (Turned l e ∷ []) (Accept e.queue e (New l) ∷ []) (All (λ s. is_give s ≡ false))
+    (λ _. All-cons (λ s. is_give s ≡ false) (Turned l e) [] refl (All-nil (λ s. is_give s ≡ false)))
+    (λ _. All-cons (λ s. is_give s ≡ false) (Accept e.queue e (New l)) [] refl (All-nil (λ s. is_give s ≡ false)))
+steps_by_give_none ops.Forward v l e = answer_gives_none v l (Forwarded e)
+steps_by_give_none ops.Release v l e = answer_gives_none v l Released
+
+pub steps_of_give_none : (v : View) (l : ℕ) (e : Event) → All (λ s. is_give s ≡ false) (steps_of v l e)
+steps_of_give_none v l e = steps_by_give_none e.op v l e

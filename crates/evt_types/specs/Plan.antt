@@ -1,5 +1,5 @@
 -- A device's configuration as contracts see it (Event Device Library, "Queues", "Ports", "Linking Queues and Ports").
-use Rattle.std.specs.Prelude.{ℕ, ◌+◌, ◌/◌, ◌%◌, Bool, true, false, List, [], ◌==◌, length, map, sum_by, slice_index_or, if◌then◌else◌, All, ◌≡◌}
+use Rattle.std.specs.Prelude.{ℕ, ◌+◌, ◌/◌, ◌%◌, Bool, true, false, List, [], ◌==◌, length, map, sum_by, slice_index_or, if◌then◌else◌}
 use Rattle.std.specs.List.{list_any, range_with_len}
 use Rattle.evt_types.specs.declared.draft.Draft.{Draft}
 use Rattle.evt_types.specs.declared.draft.PortDraft.{PortDraft}
@@ -44,10 +44,6 @@ is_ordered Ordered = true
 is_ordered Atomic = false
 is_ordered Parallel = false
 
--- no queue restores an order
-abbrev pub RestoresNoOrder : Plan → Type 0
-RestoresNoOrder p = All (λ (q : QueueDraft). is_ordered q.kind ≡ false) p.queues
-
 -- whether the number is in the list
 abbrev pub has : ℕ → List ℕ → Bool
 has n xs = list_any (λ m. m == n) xs
@@ -75,6 +71,10 @@ queues p = range_with_len 0 (length p.queues)
 
 abbrev pub lanes : Plan → List ℕ
 lanes p = range_with_len 0 (lanes_of p)
+
+-- how many events of the queue may be kept
+abbrev pub kept_room : QueueDraft → ℕ
+kept_room q = if is_ordered q.kind then q.order else 0
 
 -- how many events may be inside for a NEW to be taken: the limit, and the replies of all lanes (own)
 abbrev pub bound_of : Plan → ℕ

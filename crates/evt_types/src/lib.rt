@@ -18,7 +18,10 @@ pub use draft::{Draft, PortDraft, QueueDraft, Serving};
 pub use event::{
     Delivery, Event, EventFault, Kind, MAX_EVENT_TYPES, MAX_FLOWS, Numbered, Op, Reply,
 };
-pub use laws::{inside_settles, lawful_by_steps, sources_once, steps_of_lawful};
+pub use laws::{
+    hand_order_is_restored, inside_settles, lawful_by_steps, sources_once, steps_of_a_reply,
+    steps_of_a_reply_are_few, steps_of_lawful,
+};
 pub use logs::{worked_logs_are_lawful, wrong_logs_are_refused};
 pub use shape::{
     MAX_ALL_SLOTS, MAX_DEPTH, MAX_LIMIT, MAX_ORDER, MAX_PORTS, MAX_QUEUES, MAX_SLOTS, MAX_SWEEP,

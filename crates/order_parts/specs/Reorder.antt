@@ -1,7 +1,8 @@
 -- The reorder buffer of an ordered queue: a place for each open number, in hand-out order.
-use Rattle.std.specs.Prelude.{ℕ, ◌+◌, ◌-◌, ◌%◌, ◌^◌, Bool, true, false, not, List, [], ◌∷◌, ◌++◌, length, drop, slice_get, slice_set, slice_index_or, Option, Some, None, option_to_list, if◌then◌else◌}
+use Rattle.std.specs.Prelude.{ℕ, ◌+◌, ◌-◌, ◌%◌, ◌^◌, Bool, true, false, not, List, [], ◌∷◌, ◌++◌, length, map, drop, slice_get, slice_set, slice_index_or, Option, Some, None, option_to_list, if◌then◌else◌}
 use Rattle.evt_types.specs.Standing.{Place}
 use Rattle.evt_types.specs.declared.event.Event.{Event}
+use Rattle.evt_types.specs.declared.event.Numbered.{Numbered}
 use Rattle.order_parts.specs.declared.reorder.Answer.{Answer}
 use Rattle.order_parts.specs.declared.reorder.Answer.TheVariants.{Awaited, Resolved}
 use Rattle.order_parts.specs.declared.reorder.Handed.{Handed}
@@ -65,6 +66,10 @@ resolved x e = record { number = x.number; answered = true; forwards = x.forward
 abbrev pub after_resolve : Reordering → ℕ → Option Event → Reordering
 after_resolve r p e =
     record r { places = slice_set r.places (index_of r p) (resolved (slice_index_or r.places (index_of r p) (open_place 0)) e) }
+
+-- what the place keeps, under its event's number
+abbrev pub kept_of : Place → List Numbered
+kept_of x = map (λ (e : Event). record { number = x.number; event = e }) x.forwards
 
 -- the oldest place, where it is answered
 abbrev pub oldest_answered : List Place → Option Place

@@ -1,11 +1,11 @@
 //! The reorder buffer of an ordered queue.
 
-ghost use Rattle.std.specs.Prelude.{◌≡◌, ◌+◌, ◌%◌, ◌^◌, ◌<◌, ◌≤◌, length, nat_lt, IfOk, IsTrue, option_map};
-ghost use Rattle.order_parts.specs.Reorder.{empty, after_hand, next_number, place_at, is_open, after_resolve, left, oldest_answered, after_leave};
+ghost use Rattle.std.specs.Prelude.{◌≡◌, ◌+◌, ◌%◌, ◌^◌, ◌<◌, ◌≤◌, length, nat_lt, slice_index_or, option_map, option_to_list, IfOk, IsTrue};
+ghost use Rattle.order_parts.specs.Reorder.{empty, after_hand, next_number, place_at, is_open, after_resolve, kept_of, left, oldest_answered, after_leave, open_place, place_of};
 
 use crate::Memory;
 use circular_buffer::HeapCircularBuffer;
-use evt_types::Event;
+use evt_types::{Event, Numbered};
 use std::alloc::Global;
 use std::marker::Model;
 
@@ -40,6 +40,19 @@ impl Model for Reorder {
     ghost view = { λ a. record { first = a.first; places = map place_of a.ring.items; depth = a.ring.capacity } };
 }
 
+/// What the place keeps, under its event's number.
+fn kept_in(handed: &Handed) -> Option<Numbered>
+    ensures { option_to_list result ≡ kept_of (place_of handed.now) }
+{
+    match handed.answer {
+        Answer::Resolved(Some(event)) => Some(Numbered {
+            number: handed.number,
+            event,
+        }),
+        Answer::Resolved(None) | Answer::Awaited => None,
+    }
+}
+
 impl Reorder {
     /// A buffer without places, with room for so many.
     pub fn new(alloc: Global, depth: usize) -> Result<Reorder, Memory>
@@ -55,6 +68,23 @@ impl Reorder {
         ensures within { (length self.now.places ≤ self.now.depth) × (self.now.depth < 2 ^ 63) }
     {
         self.ring.len() < self.ring.capacity()
+    }
+
+    /// How many places there are.
+    pub fn len(&self) -> usize
+        ensures { result ≡ length self.now.places }
+    {
+        self.ring.len()
+    }
+
+    /// What the place at this index, counted from the oldest, keeps: its event's number, with what that was forwarded as.
+    pub fn kept_at(&self, index: usize) -> Option<Numbered>
+        ensures { option_to_list result ≡ kept_of (slice_index_or self.now.places index (open_place 0)) }
+    {
+        match self.ring.get(index) {
+            Some(handed) => kept_in(handed),
+            None => None,
+        }
     }
 
     /// An event is handed out: it gets the next place, whose number is the answer.

@@ -1,24 +1,31 @@
 -- A core in which nothing has happened.
-use Rattle.std.proofs.Common.{◌≡◌, ℕ, ◌+◌, ◌<◌, ◌≤◌, ◌^◌, false, List, [], ◌∷◌, ◌++◌, length, map, get_or, Vec, Global, vec_capacity, ◌⊎◌, inl, inr, refl, sym, ap, ◌∙◌, subst, arith}
+use Rattle.std.proofs.Common.{◌≡◌, ℕ, ◌+◌, ◌<◌, ◌≤◌, ◌^◌, false, List, [], ◌∷◌, ◌++◌, length, map, All, get_or, Vec, Global, ◌⊎◌, inl, inr, refl, sym, ap, ◌∙◌, subst, arith}
 use Rattle.std.proofs.lemmas.Bool.{cases_lt}
-use Rattle.std.proofs.lemmas.List.{length-map, length_push, get_or_append_left, get_or_push}
+use Rattle.std.proofs.lemmas.List.{get_or-map, length-map, length_push, get_or_append_left, get_or_push}
 use Rattle.std.proofs.lemmas.List.Elements.{All-nil, All-push, All-map, All-weaker}
 use Rattle.std.proofs.lemmas.List.FromFn.{fill_by_all}
 use Rattle.std.proofs.lemmas.List.Sums.{sum-map}
 use Rattle.std.specs.List.{sum, sum_by}
 use Rattle.evt_types.proofs.ViewLists.{sum_of_map, sum_of_none}
-use Rattle.evt_types.proofs.Views.{waiting_at_none, accepted_at_none, unanswered_at_none, places_none}
-use Rattle.evt_types.specs.Plan.{Plan, level_of, RestoresNoOrder, lanes_of, depth_of, bound_of}
+use Rattle.evt_types.proofs.WholeViews.{waiting_at_none, accepted_at_none, unanswered_at_none, places_at_none}
+use Rattle.evt_types.specs.Fault.{IsWithinLimits}
+use Rattle.evt_types.specs.Plan.{Plan, level_of, kept_room, lanes_of, depth_of, bound_of}
 use Rattle.evt_types.specs.Standing.{Place, view_of, places}
 use Rattle.evt_types.specs.Transcript.{Held, waiting, accepted, unanswered_slots}
 use Rattle.evt_types.specs.declared.draft.QueueDraft.{QueueDraft}
 use Rattle.evt_types.specs.declared.event.Numbered.{Numbered}
+use Rattle.order_parts.specs.Pins.{Pin}
+use Rattle.order_parts.specs.Reorder.{Reordering, empty}
+use Rattle.sched_core.proofs.OrderFacts.{new_places, order_small}
+use Rattle.sched_core.specs.Ordered.{kept_of, order_at, order_of}
 use Rattle.sched_core.specs.Inner.{IsQueueOf, IsEmptyQueue, AreEmptyQueues, IsBare, IsEmptyLane, AreEmptyLanes, held_of}
-use Rattle.sched_core.specs.View.{waiting_in, next_in, no_places, unanswered_in, view_in, IsCore}
-use Rattle.sched_core.specs.declared.lane.Entry.{Entry}
-use Rattle.sched_core.specs.declared.lane.Lane.{Lane}
+use Rattle.sched_core.specs.Pinned.{AreFreePins}
+use Rattle.sched_core.specs.View.{waiting_in, next_in, places_in, unanswered_in, entries_in, view_in, IsCore}
+use Rattle.order_parts.specs.declared.history.Entry.{Entry}
+use Rattle.order_parts.specs.History.{Entries}
 use Rattle.sched_core.specs.Waits.{Waits, AreWaits, no_waits}
 use Rattle.sched_core.proofs.Cores.{same_parts}
+use Rattle.sched_core.proofs.Pinned.{pins_new}
 
 -- ---- one empty queue or lane more
 
@@ -35,19 +42,20 @@ queues_more capacity n qs q all empty =
 pub lanes_none : (p : Plan) → AreEmptyLanes p 0 []
 lanes_none p = record { count = refl; room = λ k d h. absurd (omega arith); empty = All-nil IsBare }
 
-pub lanes_more : (p : Plan) (n : ℕ) (ls : List Lane) (l : Lane) → AreEmptyLanes p n ls → IsEmptyLane (depth_of p n) l → AreEmptyLanes p (n + 1) (ls ++ l ∷ [])
+pub lanes_more : (p : Plan) (n : ℕ) (ls : List Entries) (l : Entries) → AreEmptyLanes p n ls → IsEmptyLane (depth_of p n) l → AreEmptyLanes p (n + 1) (ls ++ l ∷ [])
 lanes_more p n ls l all empty =
     record {
       count = length_push ls l ∙ ap (λ m. m + 1) all.count;
       room = λ k d h. by_case k d (subst (λ m. k < m) (length_push ls l) h) (cases_lt k (length ls));
-      empty = All-push IsBare ls l all.empty empty.unanswered;
+      empty = All-push IsBare ls l all.empty (ap (λ (x : Entries). x.entries) empty);
     }
   where
-    by_case : (k : ℕ) (d : Lane) → k < length ls + 1 → (k < length ls) ⊎ (length ls ≤ k) → depth_of p k ≤ vec_capacity (get_or (ls ++ l ∷ []) k d).unanswered
-    by_case k d h (inl lt) = subst (λ (x : Lane). depth_of p k ≤ vec_capacity x.unanswered) (sym (get_or_append_left ls (l ∷ []) d k lt)) (all.room k d lt)
+    by_case : (k : ℕ) (d : Entries) → k < length ls + 1 → (k < length ls) ⊎ (length ls ≤ k) → depth_of p k ≤ (get_or (ls ++ l ∷ []) k d).capacity
+    by_case k d h (inl lt) = subst (λ (x : Entries). depth_of p k ≤ x.capacity) (sym (get_or_append_left ls (l ∷ []) d k lt)) (all.room k d lt)
     by_case k d h (inr le) =
         let here : length ls ≡ k = omega arith in
-        subst (λ (x : Lane). depth_of p k ≤ vec_capacity x.unanswered) (sym (get_or_push ls l d k here)) (subst (λ m. depth_of p m ≤ vec_capacity l.unanswered) (sym all.count ∙ here) empty.room)
+        let room : depth_of p n ≤ l.capacity = subst (λ (x : Entries). depth_of p n ≤ x.capacity) (sym empty) (omega arith) in
+        subst (λ (x : Entries). depth_of p k ≤ x.capacity) (sym (get_or_push ls l d k here)) (subst (λ m. depth_of p m ≤ l.capacity) (sym all.count ∙ here) room)
 
 -- ---- the core
 
@@ -69,39 +77,58 @@ nothing_waits qs b n empty = sum_of_map (λ (xs : List Numbered). length xs) wai
 nothing_numbered : (qs : List Waits) (b n : ℕ) → AreEmptyQueues b n qs → sum (map next_in qs) ≡ 0
 nothing_numbered qs b n empty = sum-map next_in qs ∙ sum_of_none next_in qs (All-weaker (IsEmptyQueue b) (λ (q : Waits). q.next ≡ 0) (λ q e. ap (λ (x : Waits). x.next) e) qs empty.empty)
 
-nothing_kept : (ds : List QueueDraft) → sum_by (λ ps. sum_by (λ (x : Place). length x.forwards) ps) (map no_places ds) ≡ 0
-nothing_kept ds = sum_of_map (λ ps. sum_by (λ (x : Place). length x.forwards) ps) no_places ds ∙ sum_of_none (λ d. sum_by (λ (x : Place). length x.forwards) (no_places d)) ds (λ k d h. refl)
+-- the buffers of a device in which nothing has happened
+abbrev pub new_orders : Plan → List Reordering
+new_orders p = map (λ (q : QueueDraft). empty (kept_room q)) p.queues
 
-nothing_held : (ls : List Lane) (p : Plan) (n : ℕ) → AreEmptyLanes p n ls → sum_by (λ (xs : List Held). length xs) (map unanswered_in ls) ≡ 0
-nothing_held ls p n empty = sum_of_map (λ (xs : List Held). length xs) unanswered_in ls ∙ sum_of_none (λ x. length (unanswered_in x)) ls (All-weaker IsBare (λ (l : Lane). length (unanswered_in l) ≡ 0) (λ l e. ap (λ (ys : List Entry). length (map held_of ys)) e) ls empty.empty)
+no_places : (p : Plan) → All (λ (ps : List Place). ps ≡ []) (map places_in (new_orders p))
+no_places p = All-map (λ (ps : List Place). ps ≡ []) places_in (new_orders p) (All-map (λ (r : Reordering). places_in r ≡ []) (λ (q : QueueDraft). empty (kept_room q)) p.queues (λ k d h. refl))
 
-pub core_new : (p : Plan) (qs : Vec Waits Global) (ls : Vec Lane Global) → RestoresNoOrder p → bound_of p < 2 ^ 64 → AreEmptyQueues (bound_of p) (length p.queues) qs.items → AreEmptyLanes p (lanes_of p) ls.items → IsCore (record { shape = p; queues = qs; lanes = ls; inside = 0; entries = 0; shut = false })
-core_new p qs ls unordered small queues lanes =
+nothing_kept : (p : Plan) → sum_by kept_of (map places_in (new_orders p)) ≡ 0
+nothing_kept p = sum_of_none kept_of (map places_in (new_orders p)) (All-weaker (λ (ps : List Place). ps ≡ []) (λ ps. kept_of ps ≡ 0) (λ ps e. ap kept_of e) (map places_in (new_orders p)) (no_places p))
+
+fresh_order : (p : Plan) (q : ℕ) → q < length p.queues → order_at (new_orders p) q ≡ empty (order_of p q)
+fresh_order p q h = get_or-map (λ (d : QueueDraft). empty (kept_room d)) p.queues q _ (empty 0) h
+
+nothing_held : (ls : List Entries) (p : Plan) (n : ℕ) → AreEmptyLanes p n ls → sum_by (λ (xs : List Held). length xs) (map unanswered_in ls) ≡ 0
+nothing_held ls p n empty = sum_of_map (λ (xs : List Held). length xs) unanswered_in ls ∙ sum_of_none (λ x. length (unanswered_in x)) ls (All-weaker IsBare (λ (l : Entries). length (unanswered_in l) ≡ 0) (λ l e. ap (λ (ys : List Entry). length (map held_of ys)) e) ls empty.empty)
+
+pub core_new : (p : Plan) (qs : Vec Waits Global) (ls : Vec Entries Global) (ps : List (List Pin)) → IsWithinLimits p → bound_of p < 2 ^ 64 → AreEmptyQueues (bound_of p) (length p.queues) qs.items → AreEmptyLanes p (lanes_of p) ls.items → AreFreePins p (length p.queues) ps
+    → IsCore (record { shape = p; queues = qs; orders = new_orders p; lanes = ls; pins = ps; inside = 0; entries = 0; shut = false })
+core_new p qs ls ps limits small queues lanes pins =
     let waits = nothing_waits qs.items (bound_of p) (length p.queues) queues in
     let numbers = nothing_numbered qs.items (bound_of p) (length p.queues) queues in
-    let kept = nothing_kept p.queues in
+    let kept = nothing_kept p in
     let held = nothing_held ls.items p (lanes_of p) lanes in
     record {
-      unordered = unordered;
+      limits = limits;
       small = small;
       queues = queues.count;
       lanes = lanes.count;
       sound = All-weaker (IsEmptyQueue (bound_of p)) (IsQueueOf (bound_of p)) (empty_is_queue (bound_of p)) qs.items queues.empty;
       room = lanes.room;
+      pins = pins_new p (map unanswered_in ls.items) ps pins (All-map (λ us. us ≡ []) unanswered_in ls.items (All-weaker IsBare (λ (l : Entries). unanswered_in l ≡ []) (λ l e. ap (map held_of) e) ls.items lanes.empty));
       inside = omega arith;
       within = omega arith;
       entries = omega arith;
+      few = omega arith;
+      places =
+          new_places p qs.items (new_orders p) (map entries_in ls.items) queues.count (length-map p.queues (λ (q : QueueDraft). empty (kept_room q))) (fresh_order p) (λ q h. order_small p q limits.orders h)
+          (All-map (λ (ys : List Entry). ys ≡ []) entries_in ls.items lanes.empty);
     }
 
-pub view_new : (p : Plan) (qs : Vec Waits Global) (ls : Vec Lane Global) → RestoresNoOrder p → AreEmptyQueues (bound_of p) (length p.queues) qs.items → AreEmptyLanes p (lanes_of p) ls.items → view_in (record { shape = p; queues = qs; lanes = ls; inside = 0; entries = 0; shut = false }) ≡ view_of p []
+pub view_new : (p : Plan) (qs : Vec Waits Global) (ls : Vec Entries Global) (ps : List (List Pin)) → AreEmptyQueues (bound_of p) (length p.queues) qs.items → AreEmptyLanes p (lanes_of p) ls.items → view_in (record { shape = p; queues = qs; orders = new_orders p; lanes = ls; pins = ps; inside = 0; entries = 0; shut = false }) ≡ view_of p []
 unfolding view_of
-view_new p qs ls unordered queues lanes =
+view_new p qs ls ps queues lanes =
     same_parts p _ _ _ _ _ _ _ _ false
     (fill_by_all (waiting []) (map waiting_in qs.items) (length p.queues) [] (length-map qs.items waiting_in ∙ queues.count) (λ k h. get_or_empty k h ∙ sym (waiting_at_none k)))
     (fill_by_all (λ q. length (accepted [] q)) (map next_in qs.items) (length p.queues) 0 (length-map qs.items next_in ∙ queues.count) (λ k h. get_or_zero k h ∙ sym (ap length (accepted_at_none k))))
-    (fill_by_all (places p []) (map no_places p.queues) (length p.queues) [] (length-map p.queues no_places) (λ k h. All-map (λ ps. ps ≡ []) no_places p.queues (λ i d l. refl) k [] (subst (λ n. k < n) (sym (length-map p.queues no_places)) h) ∙ sym (places_none p [] unordered k)))
+    (fill_by_all (places p []) (map places_in (new_orders p)) (length p.queues) [] (long places_in) (λ k h. no_places p k [] (subst (λ n. k < n) (sym (long places_in)) h) ∙ sym (places_at_none p k)))
     (fill_by_all (unanswered_slots p []) (map unanswered_in ls.items) (lanes_of p) [] (length-map ls.items unanswered_in ∙ lanes.count) (λ k h. none_held k h ∙ sym (unanswered_at_none p k)))
   where
+    long : (f : Reordering → List Place) → length (map f (new_orders p)) ≡ length p.queues
+    long f = length-map (new_orders p) f ∙ length-map p.queues (λ (q : QueueDraft). empty (kept_room q))
+
     get_or_empty : (k : ℕ) → k < length p.queues → get_or (map waiting_in qs.items) k [] ≡ []
     get_or_empty k h =
         All-map (λ ws. ws ≡ []) waiting_in qs.items (All-weaker (IsEmptyQueue (bound_of p)) (λ (q : Waits). waiting_in q ≡ []) (λ q e. ap (λ (x : Waits). x.waiting) e) qs.items queues.empty)
@@ -114,5 +141,5 @@ view_new p qs ls unordered queues lanes =
 
     none_held : (k : ℕ) → k < lanes_of p → get_or (map unanswered_in ls.items) k [] ≡ []
     none_held k h =
-        All-map (λ us. us ≡ []) unanswered_in ls.items (All-weaker IsBare (λ (l : Lane). unanswered_in l ≡ []) (λ l e. ap (map held_of) e) ls.items lanes.empty)
+        All-map (λ us. us ≡ []) unanswered_in ls.items (All-weaker IsBare (λ (l : Entries). unanswered_in l ≡ []) (λ l e. ap (map held_of) e) ls.items lanes.empty)
         k [] (subst (λ n. k < n) (sym (length-map ls.items unanswered_in ∙ lanes.count)) h)

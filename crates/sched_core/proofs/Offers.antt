@@ -1,72 +1,28 @@
 -- How an offer is found: a lane that is free for the slot, a lane for the event, the event of the queue, the queue.
-use Rattle.std.proofs.Common.{◌≡◌, ◌≢◌, ℕ, ◌+◌, ◌<◌, ◌≤◌, ◌%◌, Bool, true, false, cond, nat_le, nat_lt, ◌&&◌, ◌==◌, List, [], length, map, get_or, slice_get, All, Contains, Option, Some, None, inl, inr, ⊎_elim, refl, sym, ap, ◌∙◌, subst, arith, eq-eqb, eqb-true}
-use Rattle.std.specs.List.{list_any}
+use Rattle.std.proofs.Common.{◌≡◌, ℕ, ◌+◌, ◌<◌, ◌≤◌, ◌%◌, Bool, true, false, cond, nat_le, nat_lt, ◌&&◌, ◌==◌, List, length, get_or, slice_get, All, Contains, Option, Some, None, inl, inr, ⊎_elim, refl, sym, ap, ◌∙◌, subst, arith, eq-eqb, eqb-true}
 use Rattle.std.specs.Option.{IfSome, IfNone, is_some}
 use Rattle.std.proofs.lemmas.Bool.{and_from, and_parts, or_cases, or_right, cases_lt, false≢true, false_from_ne_true, leb-true, leb-false, ltb-true, ltb-false, lt-ltb}
-use Rattle.std.proofs.lemmas.List.{length-map, get_or-map, get_or_past, get_or_default}
-use Rattle.std.proofs.lemmas.List.Elements.{All-nil, All-map, All-weaker}
-use Rattle.evt_types.proofs.Lists.{All-from_none, list_any-none, Contains-filter}
-use Rattle.evt_types.proofs.ViewStands.{offer_is_allowed, offer_is_accepted}
+use Rattle.std.proofs.lemmas.List.{get_or_default}
+use Rattle.evt_types.proofs.Lists.{Contains-filter}
+use Rattle.evt_types.proofs.WholeStands.{offer_is_allowed, offer_is_accepted}
 use Rattle.evt_types.specs.Allowed.{Allowed}
 use Rattle.evt_types.specs.Choice.{Passed, Fits, HasNoOther, HasNone, HasNoChoice, HasQuota, IsBetterLane, IsChoice, IsOffer, IsServedBefore, WaitsIn, is_earlier}
 use Rattle.evt_types.specs.Lawful.{is_of_level, keeps_order}
-use Rattle.evt_types.specs.Plan.{Plan, RestoresNoOrder, queue_of, lanes_of, level_of, slot_of, serves, is_atomic, is_ordered}
+use Rattle.evt_types.specs.Plan.{Plan, queue_of, lanes_of, level_of, slot_of, serves, is_atomic, is_ordered}
 use Rattle.evt_types.specs.Standing.{View, Stands, waiting_at, unanswered_at}
-use Rattle.evt_types.specs.Transcript.{Held, event_at}
+use Rattle.evt_types.specs.Transcript.{event_at}
 use Rattle.evt_types.specs.declared.event.Event.{Event}
 use Rattle.evt_types.specs.declared.event.Kind.{Kind}
 use Rattle.evt_types.specs.declared.event.Kind.TheVariants.{Ordered, Atomic, Parallel}
 use Rattle.evt_types.specs.declared.event.Numbered.{Numbered}
 use Rattle.evt_types.specs.declared.step.Step.{Step}
 use Rattle.evt_types.specs.declared.step.Step.TheVariants.{Give}
-use Rattle.sched_core.proofs.Cores.{unanswered_here}
-use Rattle.sched_core.specs.Inner.{is_of, held_of}
 use Rattle.sched_core.specs.Offered.{numbered_in, FitsSlot, HasNoneAt, HasNoneIn, IsOfferAt, IsOfferIn, IsOfferOf, better_of, is_ahead, level_at}
 use Rattle.sched_core.specs.Waits.{IsRising}
 use Rattle.sched_core.proofs.Kept.{passes, was_there}
 use Rattle.sched_core.proofs.Queues.{level_rises}
 use Rattle.std.proofs.lemmas.Option.{get_or_from_slice_get}
-use Rattle.sched_core.specs.View.{unanswered_in, view_in}
-use Rattle.sched_core.specs.declared.lane.Entry.{Entry}
-use Rattle.sched_core.specs.declared.lane.Lane.{Lane}
 use Rattle.sched_core.specs.declared.offer.Offer.{Offer}
-use Rattle.sched_core.specs.declared.state.Core.TheInside.{Inside}
-
--- ---- no other lane has an unanswered event of the slot
-
-abbrev IsElsewhere : ℕ → ℕ → Held → Type 0
-IsElsewhere q slot y = y.queue ≡ q → y.slot ≢ slot
-
--- of the lanes below n
-abbrev pub IsFreeBelow : View → ℕ → ℕ → ℕ → ℕ → Type 0
-IsFreeBelow v l q slot n = (m : ℕ) → m < n → m ≢ l → All (λ (y : Held). y.queue ≡ q → y.slot ≢ slot) (unanswered_at v m)
-
-elsewhere : (q slot : ℕ) (y : Entry) → is_of q slot y ≡ false → IsElsewhere q slot (held_of y)
-elsewhere q slot y h queue same = false≢true (sym h ∙ and_from (y.queue == q) (y.slot == slot) (eq-eqb y.queue q queue) (eq-eqb y.slot slot same))
-
-not_there : (q slot : ℕ) (y : Entry) → IsElsewhere q slot (held_of y) → is_of q slot y ≡ false
-not_there q slot y other =
-    false_from_ne_true (is_of q slot y) (λ h. let parts = and_parts (y.queue == q) (y.slot == slot) h in other (eqb-true y.queue q parts.0) (eqb-true y.slot slot parts.1))
-
-pub free_here : (a : Inside) (i : ℕ) (l : Lane) (q slot : ℕ) → i < length a.lanes.items → l ≡ get_or a.lanes.items i l → list_any (is_of q slot) l.unanswered.items ≡ false → All (λ (y : Held). y.queue ≡ q → y.slot ≢ slot) (unanswered_at (view_in a) i)
-free_here a i l q slot h is none =
-    subst (All (IsElsewhere q slot)) (sym (unanswered_here a i l h is))
-    (All-map (IsElsewhere q slot) held_of l.unanswered.items (All-weaker (λ y. is_of q slot y ≡ false) (λ y. IsElsewhere q slot (held_of y)) (elsewhere q slot) l.unanswered.items (All-from_none (is_of q slot) l.unanswered.items none)))
-
-pub taken_here : (a : Inside) (i : ℕ) (l : Lane) (q slot : ℕ) → i < length a.lanes.items → l ≡ get_or a.lanes.items i l → list_any (is_of q slot) l.unanswered.items ≡ true → All (λ (y : Held). y.queue ≡ q → y.slot ≢ slot) (unanswered_at (view_in a) i) → ⊥
-taken_here a i l q slot h is some all = false≢true (sym (list_any-none (is_of q slot) l.unanswered.items each) ∙ some)
-  where
-    over : All (IsElsewhere q slot) (map held_of l.unanswered.items)
-    over = subst (All (IsElsewhere q slot)) (unanswered_here a i l h is) all
-
-    each : All (λ y. is_of q slot y ≡ false) l.unanswered.items
-    each k d lt = not_there q slot (get_or l.unanswered.items k d) (subst (IsElsewhere q slot) (get_or-map held_of l.unanswered.items k d (held_of d) lt) (over k (held_of d) (subst (λ n. k < n) (sym (length-map l.unanswered.items held_of)) lt)))
-
-pub free_all : (a : Inside) (l q slot n : ℕ) → length a.lanes.items ≤ n → IsFreeBelow (view_in a) l q slot n → HasNoOther (view_in a) l q slot
-free_all a l q slot n h free m differs =
-    ⊎_elim (λ lt. free m lt differs)
-    (λ past. subst (All (IsElsewhere q slot)) (sym (get_or_past (map unanswered_in a.lanes.items) m [] (subst (λ k. k ≤ m) (sym (length-map a.lanes.items unanswered_in)) (omega arith)))) (All-nil (IsElsewhere q slot)))
-    (cases_lt m n)
 
 -- ---- a lane for an event of the slot
 
@@ -359,6 +315,6 @@ pub offers : (v : View) (s : Passed) (o : Option Offer) → IfSome o (λ x. IsCh
 offers v s None choice = tt
 offers v s (Some x) choice = choice_is_offer v s x.lane x.delivery.queue (numbered_in x.delivery) choice
 
-pub offer_keeps : (v : View) (o : Option Offer) (T : List Step) → RestoresNoOrder v.shape → Stands T v → IfSome o (λ x. IsOffer v x.lane x.delivery.queue (numbered_in x.delivery)) → IfSome o (λ x. Allowed v.shape T (Give x.lane x.delivery.queue x.delivery.number) × (event_at T x.delivery.queue x.delivery.number ≡ Some x.delivery.event))
-offer_keeps v None T unordered stands offer = tt
-offer_keeps v (Some x) T unordered stands offer = (offer_is_allowed v T x.lane x.delivery.queue (numbered_in x.delivery) unordered stands offer, offer_is_accepted v T x.lane x.delivery.queue (numbered_in x.delivery) stands offer)
+pub offer_keeps : (v : View) (o : Option Offer) (T : List Step) → Stands T v → IfSome o (λ x. IsOffer v x.lane x.delivery.queue (numbered_in x.delivery)) → IfSome o (λ x. Allowed v.shape T (Give x.lane x.delivery.queue x.delivery.number) × (event_at T x.delivery.queue x.delivery.number ≡ Some x.delivery.event))
+offer_keeps v None T stands offer = tt
+offer_keeps v (Some x) T stands offer = (offer_is_allowed v T x.lane x.delivery.queue (numbered_in x.delivery) stands offer, offer_is_accepted v T x.lane x.delivery.queue (numbered_in x.delivery) stands offer)

@@ -1,6 +1,12 @@
+pub mod Answered
 pub mod Inner
+pub mod KeptEvents
 pub mod Merge
 pub mod Offered
+pub mod Ordered
+pub mod Orders
+pub mod Pinned
+pub mod Settling
 pub mod Shutting
 pub mod Skipped
 pub mod Sweep

@@ -1,7 +1,7 @@
 -- What becomes of a reply.
-use Rattle.std.specs.Prelude.{ℕ, Bool, false, List, drop, slice_set, Option, Some, None, if◌then◌else◌}
+use Rattle.std.specs.Prelude.{ℕ, Bool, false, List, Option, Some, None, if◌then◌else◌}
 use Rattle.std.specs.List.{list_any}
-use Rattle.evt_types.specs.Standing.{View, steps_of, oldest_at, unanswered_at}
+use Rattle.evt_types.specs.Standing.{View, steps_of, oldest_at}
 use Rattle.evt_types.specs.Transcript.{Held, is_pair}
 use Rattle.evt_types.specs.declared.event.Event.{Event}
 use Rattle.evt_types.specs.declared.event.Op.{Op}
@@ -35,7 +35,3 @@ took_by ops.Release v l e = tooks.Released
 -- what becomes of the lane's reply with this event
 abbrev pub took_of : View → ℕ → Event → Took
 took_of v l e = took_by e.op v l e
-
--- the lane's oldest event is answered, where no order is restored
-abbrev pub after_answer : View → ℕ → View
-after_answer v l = record v { unanswered = slice_set v.unanswered l (drop 1 (unanswered_at v l)) }

@@ -8,10 +8,10 @@ ghost use Rattle.evt_types.specs.Transcript.{event_at};
 ghost use Rattle.evt_types.specs.declared.step.Step.{Step as StepValue};
 ghost use Rattle.sched_core.specs.Offered.{numbered_in};
 
-use crate::lane::Entry;
 use crate::offer::Offer;
 use crate::state::Core;
 use evt_types::{Delivery, Step};
+use order_parts::Entry;
 
 impl Core {
     /// Gives what was offered, and appends that step to the log.
@@ -34,13 +34,16 @@ impl Core {
             },
         } = offer;
         let slot = self.shape.slot_of(queue, event.flow);
+        let place = self.orders.hand(queue, number);
         let left = &mut self.queues[queue];
         left.remove(event.level(), number);
+        self.pins.pin(queue, slot, lane);
         let holder = &mut self.lanes[lane];
-        holder.hold(Entry {
+        holder.push(Entry {
             queue,
             number,
             slot,
+            place,
         });
         log.push_reserved(Step::Give {
             lane,

@@ -2,10 +2,12 @@
 //! call appends the steps that it makes to a log, and the transcript that they form stays lawful.
 #![tactic(auto)]
 
+mod answer;
 mod give;
-mod lane;
 mod new;
 mod offer;
+mod orders;
+mod pins;
 mod propose;
 mod queue;
 mod shut;
@@ -14,6 +16,8 @@ mod state;
 mod take;
 #[cfg(test)]
 mod tests;
+#[cfg(test)]
+mod tests_ordered;
 
 pub use offer::Offer;
 pub use skips::Skips;

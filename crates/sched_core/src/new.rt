@@ -1,14 +1,16 @@
 //! A core in which nothing has happened.
 
 ghost use Rattle.std.specs.Prelude.{◌≡◌, [], IfOk, IfErr};
-ghost use Rattle.evt_types.specs.Plan.{lanes_of, RestoresNoOrder};
+ghost use Rattle.evt_types.specs.Plan.{lanes_of};
 ghost use Rattle.evt_types.specs.Standing.{Stands, view_of};
 ghost use Rattle.sched_core.specs.Inner.{AreEmptyQueues, AreEmptyLanes};
 
-use crate::lane::Lane;
+use crate::orders::AllOrders;
+use crate::pins::AllPins;
 use crate::queue::Queue;
 use crate::state::{Core, Memory};
 use evt_types::Shape;
+use order_parts::History;
 use std::alloc::{AllocError, Global};
 
 /// So many queues, each with room for so many events.
@@ -22,14 +24,14 @@ fn empty_queues(alloc: Global, count: usize, capacity: usize) -> Result<Vec<Queu
     Ok(queues)
 }
 
-/// A lane for each port, with room for what the port may hold.
-fn empty_lanes(alloc: Global, shape: &Shape) -> Result<Vec<Lane>, AllocError>
+/// The unanswered events of each lane, none, with room for what the port may hold.
+fn empty_lanes(alloc: Global, shape: &Shape) -> Result<Vec<History>, AllocError>
     ensures { IfOk result (λ ls. AreEmptyLanes shape.now (lanes_of shape.now) ls.items) }
 {
     let count = shape.lanes();
     let mut lanes = Vec::with_capacity(alloc, count)?;
     for lane in 0..count {
-        lanes.push(Lane::new(alloc, shape.depth_of(lane))?)?;
+        lanes.push(History::new(alloc, shape.depth_of(lane))?)?;
     }
     Ok(lanes)
 }
@@ -37,7 +39,6 @@ fn empty_lanes(alloc: Global, shape: &Shape) -> Result<Vec<Lane>, AllocError>
 impl Core {
     /// A core that holds nothing. Where memory lacks the configuration comes back.
     pub fn new(alloc: Global, shape: Shape) -> Result<Core, (Memory, Shape)>
-        requires { RestoresNoOrder shape }
         ensures empty { IfOk result (λ c. c ≡ view_of shape []) }
         ensures stands { IfOk result (λ c. Stands [] c) }
         ensures shape { IfOk result (λ c. c.shape ≡ shape) }
@@ -53,10 +54,22 @@ impl Core {
             Ok(lanes) => lanes,
             Err(memory) => return Err((memory, shape)),
         };
+        let orders = match AllOrders::new(alloc, shape.queues()) {
+            Ok(orders) => orders,
+            Err(memory) => return Err((memory, shape)),
+        };
+        let pins = match AllPins::free(alloc, &shape) {
+            Ok(pins) => pins,
+            Err(memory) => return Err((memory, shape)),
+        };
+        // To read a limit makes known that the limits hold.
+        let _ = shape.limit();
         Ok(Core {
             shape,
             queues,
+            orders,
             lanes,
+            pins,
             inside: 0,
             entries: 0,
             shut: false,

@@ -145,7 +145,8 @@ impl Core {
     {
         !skips.has_bounced(lane)
             && self.shape.serves(lane, queue, slot)
-            && self.lanes[lane].unanswered.len() < self.shape.depth_of(lane)
+            && self.lanes[lane].len() < self.shape.depth_of(lane)
+            && self.orders.has_place(queue)
             && self.may_hold(lane, queue, slot)
     }
 
@@ -154,19 +155,7 @@ impl Core {
         requires { queue < length self.now.shape.queues }
         ensures { IsTrue result ↔ (is_atomic (queue_of self.now.shape queue).kind ≡ true → HasNoOther self.now lane queue slot) }
     {
-        !self.shape.queues()[queue].kind.is_atomic() || self.is_alone(lane, queue, slot)
-    }
-
-    /// Whether no other lane has an unanswered event of the slot.
-    fn is_alone(&self, lane: usize, queue: usize, slot: usize) -> bool
-        ensures { IsTrue result ↔ HasNoOther self.now lane queue slot }
-    {
-        for other in 0..self.lanes.len() {
-            if other != lane && self.lanes[other].holds(queue, slot) {
-                return false;
-            }
-        }
-        true
+        self.pins.may(queue, slot, lane)
     }
 
     /// The one with fewer unanswered events.
@@ -176,8 +165,7 @@ impl Core {
         ensures { result ≡ better_of self.now best lane }
     {
         match best {
-            Some(best) if self.lanes[best].unanswered.len() <= self.lanes[lane].unanswered.len() =>
-                best,
+            Some(best) if self.lanes[best].len() <= self.lanes[lane].len() => best,
             _ => lane,
         }
     }

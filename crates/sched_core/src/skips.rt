@@ -56,14 +56,14 @@ impl Skips {
     }
 
     /// Whether the lane is passed over.
-    pub(crate) fn has_bounced(&self, lane: usize) -> bool
+    pub fn has_bounced(&self, lane: usize) -> bool
         ensures { result ≡ has_bounced self.now lane }
     {
         self.bounced.get(lane).copied().unwrap_or(false)
     }
 
     /// Whether fewer events of the queue were given than the sweep quantum.
-    pub(crate) fn has_quota(&self, queue: usize, sweep: u32) -> bool
+    pub fn has_quota(&self, queue: usize, sweep: u32) -> bool
         requires { queue < 16 }
         ensures { result ≡ nat_lt (slice_index self.now.given queue) sweep }
     {

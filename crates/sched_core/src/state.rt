@@ -1,15 +1,19 @@
 //! What the core holds, and what can be read of it.
 
 ghost use Rattle.std.specs.Prelude.{◌≡◌, ◌+◌, ◌<◌, ◌≤◌, ◌++◌, List, length, map, sum_by, vec_len, vec_capacity};
-ghost use Rattle.evt_types.specs.Standing.{Stands, inside_of, waiting_at};
+ghost use Rattle.evt_types.specs.Standing.{Stands, inside_of, places_at, waiting_at};
 ghost use Rattle.evt_types.specs.Transcript as transcripts;
 ghost use Rattle.evt_types.specs.declared.event.Numbered.{Numbered as NumberedValue};
 ghost use Rattle.evt_types.specs.declared.step.Step.{Step as StepValue};
-ghost use Rattle.sched_core.specs.Sweep.{kept_room, sweep_steps};
+ghost use Rattle.evt_types.specs.Plan.{kept_room};
+ghost use Rattle.sched_core.specs.KeptEvents.{kept_at};
+ghost use Rattle.sched_core.specs.Sweep.{sweep_steps};
 
-use crate::lane::Lane;
+use crate::orders::{AllOrders, order_of};
+use crate::pins::AllPins;
 use crate::queue::Queue;
-use evt_types::{QueueDraft, Shape};
+use evt_types::{Numbered, QueueDraft, Shape};
+use order_parts::History;
 use std::alloc::AllocError;
 use std::marker::Model;
 
@@ -21,7 +25,9 @@ pub type Memory = AllocError;
 pub struct Core {
     pub(crate) shape: Shape,
     pub(crate) queues: Vec<Queue>,
-    pub(crate) lanes: Vec<Lane>,
+    pub(crate) orders: AllOrders,
+    pub(crate) lanes: Vec<History>,
+    pub(crate) pins: AllPins,
     /// How many events wait or are unanswered.
     pub(crate) inside: usize,
     /// How many events were accepted.
@@ -47,14 +53,7 @@ fn kept_room(queues: &[QueueDraft]) -> usize
     requires { length queues.now ≤ 16 }
     ensures { result ≡ sum_by kept_room queues.now }
 {
-    queues
-        .iter()
-        .map(|queue| if queue.kind.is_ordered() {
-            queue.order as usize
-        } else {
-            0
-        })
-        .sum()
+    queues.iter().map(order_of).sum()
 }
 
 impl Core {
@@ -101,5 +100,27 @@ impl Core {
         ensures room { vec_capacity into.new ≡ vec_capacity into.old }
     {
         self.queues[queue].list_numbers(into);
+    }
+
+    /// How many places of an ordered queue's hand-out haven't left; of another queue there are none.
+    pub fn places_len(&self, queue: usize) -> usize
+        requires { queue < length self.now.shape.queues }
+        ensures { result ≡ length (places_at self.now queue) }
+    {
+        self.orders.len(queue)
+    }
+
+    /// Appends the queue's kept events in hand-out order, each under the number of the event that it was forwarded from.
+    pub fn list_kept(&self, queue: usize, into: &mut Vec<Numbered>)
+        requires queue { queue < length self.now.shape.queues }
+        requires room { vec_len into.old + length (places_at self.now queue) ≤ vec_capacity into.old }
+        ensures kept { into.new.items ≡ into.old.items ++ kept_at self.now queue }
+        ensures room { vec_capacity into.new ≡ vec_capacity into.old }
+    {
+        for index in 0..self.orders.len(queue) {
+            if let Some(kept) = self.orders.kept_at(queue, index) {
+                into.push_reserved(kept);
+            }
+        }
     }
 }

@@ -1,14 +1,14 @@
 //! Replies of the lanes are taken.
 
-ghost use Rattle.std.specs.Prelude.{◌≡◌, ◌+◌, ◌<◌, ◌≤◌, ◌^◌, true, List, [], ◌∷◌, ◌++◌, length, vec_len, vec_capacity};
-ghost use Rattle.evt_types.specs.Plan.{bound_of, lanes_of, RestoresNoOrder};
-ghost use Rattle.evt_types.specs.Standing.{Stands, AreStepsOf, inside_of, entries_of, may_take, may_enter, may_answer, may_forward, steps_by, steps_of, after, after_accept};
+ghost use Rattle.std.specs.Prelude.{◌≡◌, ◌+◌, ◌<◌, ◌≤◌, true, List, ◌++◌, length, vec_len, vec_capacity};
+ghost use Rattle.evt_types.specs.Plan.{is_ordered, lanes_of, queue_of};
+ghost use Rattle.evt_types.specs.Standing.{Stands, AreStepsOf, may_take, may_enter, may_answer, may_forward, answer_steps, steps_by, steps_of, after};
 ghost use Rattle.evt_types.specs.declared.step.Step.{Step as StepValue};
-ghost use Rattle.sched_core.specs.Taken.{took_by, took_of, after_answer};
+ghost use Rattle.sched_core.specs.Taken.{took_by, took_of};
 
-use crate::lane::Entry;
 use crate::state::Core;
 use evt_types::{Event, Op, Outcome, Reply, Source, Step};
+use order_parts::Entry;
 
 /// What became of a reply.
 #[derive(Clone, Copy, Debug, PartialEq, Eq)]
@@ -61,7 +61,15 @@ impl Core {
         requires { lane < lanes_of self.now.shape }
         ensures { result ≡ may_answer self.now lane }
     {
-        !self.lanes[lane].unanswered.is_empty()
+        !self.lanes[lane].is_empty()
+    }
+
+    /// Whether the queue restores the order of its hand-out.
+    fn restores_order(&self, queue: usize) -> bool
+        requires { queue < length self.now.shape.queues }
+        ensures { result ≡ is_ordered (queue_of self.now.shape queue).kind }
+    {
+        self.shape.queues()[queue].kind.is_ordered()
     }
 
     /// Takes the lane's reply, and appends its steps to the log.
@@ -90,7 +98,6 @@ impl Core {
         ensures view { self.new ≡ after self.old (steps_by Op.New self.old lane event) }
         ensures logged { log.new.items ≡ log.old.items ++ steps_by Op.New self.old lane event }
         ensures took { result ≡ took_by Op.New self.old lane event }
-        ensures unordered { RestoresNoOrder self.old.shape }
         ensures room { vec_capacity log.new ≡ vec_capacity log.old }
     {
         let is_turned = self.shut;
@@ -102,20 +109,23 @@ impl Core {
         Took::Accepted
     }
 
-    /// The lane's oldest unanswered event is done with, and what it is forwarded as waits in its queue.
+    /// The lane's oldest unanswered event is done with, and what it is forwarded as waits in its queue. An ordered queue
+    /// keeps it until all that it handed out before is answered.
     fn take_forward(&mut self, lane: usize, event: Event, log: &mut Vec<Step>) -> Took
         requires op { event.op ≡ Op.Forward }
         requires lane { lane < lanes_of self.old.shape }
         requires takes { may_forward self.old lane event.queue ≡ true }
-        requires room { vec_len log.old + length (steps_of self.old lane event) ≤ vec_capacity log.old }
-        ensures view { self.new ≡ after self.old (steps_of self.old lane event) }
-        ensures logged { log.new.items ≡ log.old.items ++ steps_of self.old lane event }
-        ensures took { result ≡ took_of self.old lane event }
-        ensures unordered { RestoresNoOrder self.old.shape }
+        requires room { vec_len log.old + length (steps_by Op.Forward self.old lane event) ≤ vec_capacity log.old }
+        ensures view { self.new ≡ after self.old (steps_by Op.Forward self.old lane event) }
+        ensures logged { log.new.items ≡ log.old.items ++ steps_by Op.Forward self.old lane event }
+        ensures took { result ≡ took_by Op.Forward self.old lane event }
         ensures room { vec_capacity log.new ≡ vec_capacity log.old }
     {
-        let Entry { queue, number, .. } = self.lanes[lane].oldest();
-        self.answer(lane, Outcome::Forwarded(event), log);
+        let Entry { queue, number, .. } = self.answer(lane, Outcome::Forwarded(event), log);
+        if self.restores_order(queue) {
+            let passed = self.settle(queue, number, log);
+            return if passed { Took::Accepted } else { Took::Kept };
+        }
         self.accept(event, Source::Of { queue, number }, log);
         Took::Accepted
     }
@@ -124,52 +134,18 @@ impl Core {
     fn take_release(&mut self, lane: usize, log: &mut Vec<Step>) -> Took
         requires lane { lane < lanes_of self.old.shape }
         requires takes { may_answer self.old lane ≡ true }
-        requires room { vec_len log.old < vec_capacity log.old }
-        ensures view { self.new ≡ after_answer self.old lane }
-        ensures logged { log.new.items ≡ log.old.items ++ Step.Done lane Outcome.Released ∷ [] }
+        requires room { vec_len log.old + length (answer_steps self.old lane Outcome.Released) ≤ vec_capacity log.old }
+        ensures view { self.new ≡ after self.old (answer_steps self.old lane Outcome.Released) }
+        ensures logged { log.new.items ≡ log.old.items ++ answer_steps self.old lane Outcome.Released }
         ensures took { result ≡ Took.Released }
-        ensures unordered { RestoresNoOrder self.old.shape }
         ensures room { vec_capacity log.new ≡ vec_capacity log.old }
     {
-        self.answer(lane, Outcome::Released, log);
+        // The use of a field makes known what holds of each core.
+        let _ = &self.shape;
+        let Entry { queue, number, .. } = self.answer(lane, Outcome::Released, log);
+        if self.restores_order(queue) {
+            self.settle(queue, number, log);
+        }
         Took::Released
-    }
-
-    /// The event waits in its queue, under the next number.
-    fn accept(&mut self, event: Event, source: Source, log: &mut Vec<Step>)
-        requires queue { event.queue < length self.old.shape.queues }
-        requires inside { inside_of self.old < bound_of self.old.shape }
-        requires entries { entries_of self.old < 2 ^ 63 }
-        requires room { vec_len log.old < vec_capacity log.old }
-        ensures view { self.new ≡ after_accept self.old event.queue event }
-        ensures logged { log.new.items ≡ log.old.items ++ Step.Accept event.queue event source ∷ [] }
-        ensures room { vec_capacity log.new ≡ vec_capacity log.old }
-    {
-        let queue = usize::from(event.queue);
-        let entered = &mut self.queues[queue];
-        entered.accept(event);
-        self.inside += 1;
-        self.entries += 1;
-        log.push_reserved(Step::Accept {
-            queue,
-            event,
-            source,
-        });
-    }
-
-    /// The lane's oldest unanswered event is answered so.
-    fn answer(&mut self, lane: usize, outcome: Outcome, log: &mut Vec<Step>)
-        requires lane { lane < lanes_of self.old.shape }
-        requires some { may_answer self.old lane ≡ true }
-        requires room { vec_len log.old < vec_capacity log.old }
-        ensures view { self.new ≡ after_answer self.old lane }
-        ensures logged { log.new.items ≡ log.old.items ++ Step.Done lane outcome ∷ [] }
-        ensures unordered { RestoresNoOrder self.old.shape }
-        ensures room { vec_capacity log.new ≡ vec_capacity log.old }
-    {
-        let answering = &mut self.lanes[lane];
-        answering.answer();
-        self.inside -= 1;
-        log.push_reserved(Step::Done { lane, outcome });
     }
 }

@@ -1,9 +1,5 @@
 //! Known runs, and each call once.
 
-ghost use Rattle.std.specs.Prelude.{◌≡◌, false, All, IfOk};
-ghost use Rattle.evt_types.specs.Plan.{is_ordered, RestoresNoOrder};
-ghost use Rattle.evt_types.specs.declared.draft.QueueDraft.{QueueDraft as QueueValue};
-
 use crate::offer::Offer;
 use crate::skips::Skips;
 use crate::state::Core;
@@ -13,8 +9,84 @@ use evt_types::{
     Source, Step,
 };
 use std::alloc::Global;
-use std::process::Abort;
+use std::marker::Model;
 use std::test::Fail;
+
+/// A core, and the log of all steps that it has made.
+#[derive(Drop)]
+pub(crate) struct Run {
+    pub(crate) core: Core,
+    pub(crate) log: Vec<Step>,
+}
+
+impl Model for Run {
+    ghost use Rattle.evt_types.specs.Standing.{View, Stands};
+
+    ghost Value = { View };
+
+    ghost view = { λ a. a.core };
+
+    ghost invariant = { λ a. Stands a.log.items a.core };
+}
+
+impl Run {
+    /// A core in which nothing has happened.
+    pub(crate) fn new(alloc: Global, shape: Shape) -> Result<Run, Fail> {
+        let log = Vec::new(alloc);
+        match Core::new(alloc, shape) {
+            Ok(core) => Ok(Run { core, log }),
+            Err((memory, _)) => Err(Fail::from(memory)),
+        }
+    }
+
+    /// Takes a reply that may be taken.
+    pub(crate) fn take(&mut self, lane: usize, event: Event) -> Result<Took, Fail> {
+        let reply = Reply { event };
+        let shape = self.core.shape();
+        // The quantum is 1 at least, so what is enough for a sweep is enough for a reply.
+        let _ = shape.sweep();
+        if shape.lanes() <= lane {
+            return Err(Fail::from("a lane that is not there"));
+        }
+        if !self.core.takes(lane, &reply) {
+            return Err(Fail::from("a reply that may not be taken"));
+        }
+        let room = self.core.log_room();
+        self.log.reserve(room)?;
+        Ok(self.core.take(lane, reply, &mut self.log))
+    }
+
+    /// Gives the next event, and says to which lane and which number.
+    pub(crate) fn give(&mut self, skips: &Skips) -> Result<Option<(usize, u64)>, Fail> {
+        let Some(offer) = self.core.propose(skips) else {
+            return Ok(None);
+        };
+        let Offer {
+            lane,
+            delivery: Delivery { number, .. },
+        } = offer;
+        self.log.reserve(1)?;
+        self.core.give(offer, &mut self.log);
+        Ok(Some((lane, number)))
+    }
+
+    /// The lane's ring had no room.
+    fn bounce(&mut self, lane: usize) -> Result<(), Fail> {
+        if self.core.shape().lanes() <= lane {
+            return Err(Fail::from("a lane that is not there"));
+        }
+        self.log.reserve(1)?;
+        self.core.bounce(lane, &mut self.log);
+        Ok(())
+    }
+
+    /// Turns new events away from now on.
+    fn shut(&mut self) -> Result<(), Fail> {
+        self.log.reserve(1)?;
+        self.core.shut(&mut self.log);
+        Ok(())
+    }
+}
 
 fn port(alloc: Global, depth: u32, links: &[u32]) -> Result<PortDraft, Fail> {
     Ok(PortDraft {
@@ -26,10 +98,7 @@ fn port(alloc: Global, depth: u32, links: &[u32]) -> Result<PortDraft, Fail> {
     })
 }
 
-fn queue_of(kind: Kind, priority: u8) -> QueueDraft
-    requires { is_ordered kind ≡ false }
-    ensures { is_ordered result.kind ≡ false }
-{
+fn queue_of(kind: Kind, priority: u8) -> QueueDraft {
     QueueDraft {
         kind,
         priority,
@@ -39,10 +108,7 @@ fn queue_of(kind: Kind, priority: u8) -> QueueDraft
     }
 }
 
-fn queue(kind: Kind) -> QueueDraft
-    requires { is_ordered kind ≡ false }
-    ensures { is_ordered result.kind ≡ false }
-{
+pub(crate) fn queue(kind: Kind) -> QueueDraft {
     queue_of(kind, 128)
 }
 
@@ -60,10 +126,7 @@ fn shape_of(
     sweep: u32,
     queues: &[QueueDraft],
     ports: Vec<PortDraft>,
-) -> Result<Shape, Fail>
-    requires { All (λ (q : QueueValue). is_ordered q.kind ≡ false) queues.now }
-    ensures { IfOk result (λ s. RestoresNoOrder s) }
-{
+) -> Result<Shape, Fail> {
     let draft = Draft {
         limit: 4,
         quantum: 2,
@@ -77,20 +140,14 @@ fn shape_of(
 }
 
 /// A port that brings events, and one that handles those of all queues.
-fn one_worker(alloc: Global, sweep: u32, queues: &[QueueDraft]) -> Result<Shape, Fail>
-    requires { All (λ (q : QueueValue). is_ordered q.kind ≡ false) queues.now }
-    ensures { IfOk result (λ s. RestoresNoOrder s) }
-{
+fn one_worker(alloc: Global, sweep: u32, queues: &[QueueDraft]) -> Result<Shape, Fail> {
     let count = queues.len();
     let ports = Vec::from_array(alloc, [port(alloc, 4, &[])?, worker(alloc, 4, count)?])?;
     shape_of(alloc, sweep, queues, ports)
 }
 
 /// A port that brings events, and two ports that handle those of all queues.
-fn two_workers(alloc: Global, depth: u32, queues: &[QueueDraft]) -> Result<Shape, Fail>
-    requires { All (λ (q : QueueValue). is_ordered q.kind ≡ false) queues.now }
-    ensures { IfOk result (λ s. RestoresNoOrder s) }
-{
+pub(crate) fn two_workers(alloc: Global, depth: u32, queues: &[QueueDraft]) -> Result<Shape, Fail> {
     let count = queues.len();
     let ports = Vec::from_array(
         alloc,
@@ -103,7 +160,7 @@ fn two_workers(alloc: Global, depth: u32, queues: &[QueueDraft]) -> Result<Shape
     shape_of(alloc, 8, queues, ports)
 }
 
-fn new_event(flow: u32, payload: u64) -> Result<Event, Fail> {
+pub(crate) fn new_event(flow: u32, payload: u64) -> Result<Event, Fail> {
     let event = Event::new(flow, 0, 0, Op::New, 0, 128, payload)?;
     Ok(event)
 }
@@ -113,93 +170,61 @@ fn event_for(queue: u8, priority: u8, payload: u64) -> Result<Event, Fail> {
     Ok(event)
 }
 
-fn forward(queue: u8, flow: u32, payload: u64) -> Result<Event, Fail> {
+pub(crate) fn forward(queue: u8, flow: u32, payload: u64) -> Result<Event, Fail> {
     let event = Event::new(flow, 0, 0, Op::Forward, queue, 128, payload)?;
     Ok(event)
 }
 
-/// Takes a reply that may be taken.
-fn taken(rt: &impl Abort, core: &mut Core, lane: usize, event: Event, log: &mut Vec<Step>) -> Took {
-    let _ = &core.shape;
-    let reply = Reply { event };
-    assert!(rt; lane < core.shape().lanes());
-    assert!(rt; core.takes(lane, &reply));
-    assert!(rt; log.capacity().saturating_sub(log.len()) >= 2);
-    core.take(lane, reply, log)
+/// New events of these flows and payloads are taken.
+fn enter(run: &mut Run, events: &[(u32, u64)]) -> Result<(), Fail> {
+    for (flow, payload) in events {
+        let _ = run.take(0, new_event(*flow, *payload)?)?;
+    }
+    Ok(())
 }
 
-/// Gives the next event, and says to which lane and which number.
-fn given(
-    rt: &impl Abort,
-    core: &mut Core,
-    skips: &Skips,
-    log: &mut Vec<Step>,
-) -> Option<(usize, u64)> {
-    assert!(rt; log.len() < log.capacity());
-    let offer = core.propose(skips)?;
-    let Offer {
-        lane,
-        delivery: Delivery { number, .. },
-    } = offer;
-    core.give(offer, log);
-    Some((lane, number))
+/// Two events of one slot went to one lane, which answered them.
+fn one_slot_answered(alloc: Global) -> Result<Run, Fail> {
+    let mut run = Run::new(alloc, two_workers(alloc, 4, &[queue(Kind::Atomic)])?)?;
+    let skips = Skips::none();
+    enter(&mut run, &[(3, 1), (7, 2)])?;
+    if run.give(&skips)? != Some((1, 0)) || run.give(&skips)? != Some((1, 1)) {
+        return Err(Fail::from("one lane is given the slot's events"));
+    }
+    let _ = run.take(1, Event::release())?;
+    let _ = run.take(1, Event::release())?;
+    Ok(run)
 }
 
 #[test]
 fn two_flows_of_one_slot(rt: HostRuntime) -> Result<(), Fail> {
-    let alloc = rt.alloc();
-    let mut core = Core::new(alloc, two_workers(alloc, 4, &[queue(Kind::Atomic)])?)
-        .ok()
-        .ok_or("memory")?;
-    let mut log = Vec::with_capacity(alloc, 16)?;
+    let mut run = one_slot_answered(rt.alloc())?;
     let skips = Skips::none();
-    assert_eq!(rt;
-        taken(&rt, &mut core, 0, new_event(3, 1)?, &mut log),
-        Took::Accepted
-    );
-    assert_eq!(rt;
-        taken(&rt, &mut core, 0, new_event(7, 2)?, &mut log),
-        Took::Accepted
-    );
-    assert_eq!(rt; given(&rt, &mut core, &skips, &mut log), Some((1, 0)));
-    assert_eq!(rt; given(&rt, &mut core, &skips, &mut log), Some((1, 1)));
-    assert_eq!(rt;
-        taken(&rt, &mut core, 1, Event::release(), &mut log),
-        Took::Released
-    );
-    assert_eq!(rt;
-        taken(&rt, &mut core, 1, Event::release(), &mut log),
-        Took::Released
-    );
-    assert_eq!(rt; core.inside(), 0);
-    let _ = taken(&rt, &mut core, 0, new_event(5, 3)?, &mut log);
-    let _ = taken(&rt, &mut core, 0, new_event(7, 4)?, &mut log);
-    assert_eq!(rt; given(&rt, &mut core, &skips, &mut log), Some((1, 2)));
-    assert_eq!(rt; given(&rt, &mut core, &skips, &mut log), Some((2, 3)));
-    assert_eq!(rt; given(&rt, &mut core, &skips, &mut log), None);
-    assert_eq!(rt; log.len(), 10);
+    assert_eq!(rt; run.core.inside(), 0);
+    enter(&mut run, &[(5, 3), (7, 4)])?;
+    assert_eq!(rt; run.give(&skips)?, Some((1, 2)));
+    assert_eq!(rt; run.give(&skips)?, Some((2, 3)));
+    assert_eq!(rt; run.give(&skips)?, None);
+    assert_eq!(rt; run.log.len(), 10);
     Ok(())
 }
 
 #[test]
 fn a_blocked_flow(rt: HostRuntime) -> Result<(), Fail> {
     let alloc = rt.alloc();
-    let mut core = Core::new(alloc, two_workers(alloc, 1, &[queue(Kind::Atomic)])?)
-        .ok()
-        .ok_or("memory")?;
-    let mut log = Vec::with_capacity(alloc, 16)?;
+    let mut run = Run::new(alloc, two_workers(alloc, 1, &[queue(Kind::Atomic)])?)?;
     let skips = Skips::none();
-    let _ = taken(&rt, &mut core, 0, new_event(7, 1)?, &mut log);
-    let _ = taken(&rt, &mut core, 0, new_event(7, 2)?, &mut log);
-    let _ = taken(&rt, &mut core, 0, new_event(5, 3)?, &mut log);
-    assert_eq!(rt; given(&rt, &mut core, &skips, &mut log), Some((1, 0)));
-    assert_eq!(rt; given(&rt, &mut core, &skips, &mut log), Some((2, 2)));
-    assert_eq!(rt; given(&rt, &mut core, &skips, &mut log), None);
-    assert_eq!(rt; core.inside(), 3);
-    assert!(rt; !core.shape().queues().is_empty());
-    assert_eq!(rt; core.waiting_len(0), 1);
+    let _ = run.take(0, new_event(7, 1)?)?;
+    let _ = run.take(0, new_event(7, 2)?)?;
+    let _ = run.take(0, new_event(5, 3)?)?;
+    assert_eq!(rt; run.give(&skips)?, Some((1, 0)));
+    assert_eq!(rt; run.give(&skips)?, Some((2, 2)));
+    assert_eq!(rt; run.give(&skips)?, None);
+    assert_eq!(rt; run.core.inside(), 3);
+    assert!(rt; !run.core.shape().queues().is_empty());
+    assert_eq!(rt; run.core.waiting_len(0), 1);
     let mut numbers = Vec::with_capacity(alloc, 1)?;
-    core.list_waiting(0, &mut numbers);
+    run.core.list_waiting(0, &mut numbers);
     assert_eq!(rt; numbers.as_slice(), [1].as_slice());
     Ok(())
 }
@@ -207,20 +232,15 @@ fn a_blocked_flow(rt: HostRuntime) -> Result<(), Fail> {
 #[test]
 fn a_sweep_passes_over(rt: HostRuntime) -> Result<(), Fail> {
     let alloc = rt.alloc();
-    let mut core = Core::new(alloc, two_workers(alloc, 4, &[queue(Kind::Atomic)])?)
-        .ok()
-        .ok_or("memory")?;
-    let mut log = Vec::with_capacity(alloc, core.log_room())?;
-    assert_eq!(rt; log.capacity(), 60);
-    let _ = taken(&rt, &mut core, 0, new_event(3, 1)?, &mut log);
+    let mut run = Run::new(alloc, two_workers(alloc, 4, &[queue(Kind::Atomic)])?)?;
+    assert_eq!(rt; run.core.log_room(), 60);
+    let _ = run.take(0, new_event(3, 1)?)?;
     let mut skips = Skips::none();
-    assert!(rt; 1 < core.shape().lanes());
-    assert!(rt; log.len() < log.capacity());
-    core.bounce(1, &mut log);
+    run.bounce(1)?;
     skips.bounced(1);
-    assert_eq!(rt; given(&rt, &mut core, &skips, &mut log), Some((2, 0)));
+    assert_eq!(rt; run.give(&skips)?, Some((2, 0)));
     skips.given(0);
-    assert_eq!(rt; log.len(), 3);
+    assert_eq!(rt; run.log.len(), 3);
     Ok(())
 }
 
@@ -228,21 +248,15 @@ fn a_sweep_passes_over(rt: HostRuntime) -> Result<(), Fail> {
 fn a_forward_to_a_parallel_queue(rt: HostRuntime) -> Result<(), Fail> {
     let alloc = rt.alloc();
     let queues = [queue(Kind::Atomic), queue(Kind::Parallel)];
-    let mut core = Core::new(alloc, two_workers(alloc, 4, &queues)?)
-        .ok()
-        .ok_or("memory")?;
-    let mut log = Vec::with_capacity(alloc, 16)?;
+    let mut run = Run::new(alloc, two_workers(alloc, 4, &queues)?)?;
     let skips = Skips::none();
     let event = new_event(7, 1)?;
     let forwarded = forward(1, 7, 10)?;
-    assert_eq!(rt; taken(&rt, &mut core, 0, event, &mut log), Took::Accepted);
-    assert_eq!(rt; given(&rt, &mut core, &skips, &mut log), Some((1, 0)));
-    assert_eq!(rt;
-        taken(&rt, &mut core, 1, forwarded, &mut log),
-        Took::Accepted
-    );
-    assert_eq!(rt; core.inside(), 1);
-    assert_eq!(rt; given(&rt, &mut core, &skips, &mut log), Some((1, 0)));
+    assert_eq!(rt; run.take(0, event)?, Took::Accepted);
+    assert_eq!(rt; run.give(&skips)?, Some((1, 0)));
+    assert_eq!(rt; run.take(1, forwarded)?, Took::Accepted);
+    assert_eq!(rt; run.core.inside(), 1);
+    assert_eq!(rt; run.give(&skips)?, Some((1, 0)));
     let steps = [
         Step::Accept {
             queue: 0,
@@ -272,48 +286,37 @@ fn a_forward_to_a_parallel_queue(rt: HostRuntime) -> Result<(), Fail> {
             number: 0,
         },
     ];
-    assert_eq!(rt; log.as_slice(), steps.as_slice());
+    assert_eq!(rt; run.log.as_slice(), steps.as_slice());
     Ok(())
 }
 
 #[test]
 fn a_parallel_queue_and_two_lanes(rt: HostRuntime) -> Result<(), Fail> {
     let alloc = rt.alloc();
-    let mut core = Core::new(alloc, two_workers(alloc, 4, &[queue(Kind::Parallel)])?)
-        .ok()
-        .ok_or("memory")?;
-    let mut log = Vec::with_capacity(alloc, 16)?;
+    let mut run = Run::new(alloc, two_workers(alloc, 4, &[queue(Kind::Parallel)])?)?;
     let skips = Skips::none();
-    let _ = taken(&rt, &mut core, 0, new_event(7, 1)?, &mut log);
-    let _ = taken(&rt, &mut core, 0, new_event(7, 2)?, &mut log);
-    assert_eq!(rt; given(&rt, &mut core, &skips, &mut log), Some((1, 0)));
-    assert_eq!(rt; given(&rt, &mut core, &skips, &mut log), Some((2, 1)));
+    let _ = run.take(0, new_event(7, 1)?)?;
+    let _ = run.take(0, new_event(7, 2)?)?;
+    assert_eq!(rt; run.give(&skips)?, Some((1, 0)));
+    assert_eq!(rt; run.give(&skips)?, Some((2, 1)));
     Ok(())
 }
 
 #[test]
 fn a_shut_core(rt: HostRuntime) -> Result<(), Fail> {
     let alloc = rt.alloc();
-    let mut core = Core::new(alloc, two_workers(alloc, 4, &[queue(Kind::Atomic)])?)
-        .ok()
-        .ok_or("memory")?;
-    let mut log = Vec::with_capacity(alloc, 16)?;
+    let mut run = Run::new(alloc, two_workers(alloc, 4, &[queue(Kind::Atomic)])?)?;
     let skips = Skips::none();
     let event = new_event(7, 1)?;
     let late = new_event(7, 2)?;
     let forwarded = forward(0, 7, 10)?;
-    let _ = taken(&rt, &mut core, 0, event, &mut log);
-    let _ = given(&rt, &mut core, &skips, &mut log);
-    assert!(rt; log.len() < log.capacity());
-    core.shut(&mut log);
-    assert!(rt; log.len() < log.capacity());
-    core.shut(&mut log);
-    assert_eq!(rt; taken(&rt, &mut core, 0, late, &mut log), Took::Turned);
-    assert_eq!(rt;
-        taken(&rt, &mut core, 1, forwarded, &mut log),
-        Took::Accepted
-    );
-    assert_eq!(rt; core.inside(), 1);
+    let _ = run.take(0, event)?;
+    let _ = run.give(&skips)?;
+    run.shut()?;
+    run.shut()?;
+    assert_eq!(rt; run.take(0, late)?, Took::Turned);
+    assert_eq!(rt; run.take(1, forwarded)?, Took::Accepted);
+    assert_eq!(rt; run.core.inside(), 1);
     let after_give = [
         Step::Shut,
         Step::Turned {
@@ -333,7 +336,7 @@ fn a_shut_core(rt: HostRuntime) -> Result<(), Fail> {
             },
         },
     ];
-    assert_eq!(rt; log.get(2..), Some(after_give.as_slice()));
+    assert_eq!(rt; run.log.get(2..), Some(after_give.as_slice()));
     Ok(())
 }
 
@@ -341,15 +344,12 @@ fn a_shut_core(rt: HostRuntime) -> Result<(), Fail> {
 fn the_queue_of_the_lowest_priority_is_served_first(rt: HostRuntime) -> Result<(), Fail> {
     let alloc = rt.alloc();
     let queues = [queue_of(Kind::Atomic, 200), queue_of(Kind::Atomic, 10)];
-    let mut core = Core::new(alloc, one_worker(alloc, 8, &queues)?)
-        .ok()
-        .ok_or("memory")?;
-    let mut log = Vec::with_capacity(alloc, 16)?;
+    let mut run = Run::new(alloc, one_worker(alloc, 8, &queues)?)?;
     let skips = Skips::none();
-    let _ = taken(&rt, &mut core, 0, event_for(0, 128, 1)?, &mut log);
-    let _ = taken(&rt, &mut core, 0, event_for(1, 128, 2)?, &mut log);
-    assert_eq!(rt; given(&rt, &mut core, &skips, &mut log), Some((1, 0)));
-    assert_eq!(rt; given(&rt, &mut core, &skips, &mut log), Some((1, 0)));
+    let _ = run.take(0, event_for(0, 128, 1)?)?;
+    let _ = run.take(0, event_for(1, 128, 2)?)?;
+    assert_eq!(rt; run.give(&skips)?, Some((1, 0)));
+    assert_eq!(rt; run.give(&skips)?, Some((1, 0)));
     let gives = [
         Step::Give {
             lane: 1,
@@ -362,43 +362,34 @@ fn the_queue_of_the_lowest_priority_is_served_first(rt: HostRuntime) -> Result<(
             number: 0,
         },
     ];
-    assert_eq!(rt; log.get(2..), Some(gives.as_slice()));
+    assert_eq!(rt; run.log.get(2..), Some(gives.as_slice()));
     Ok(())
 }
 
 #[test]
 fn a_later_event_of_a_lower_level_is_given_first(rt: HostRuntime) -> Result<(), Fail> {
     let alloc = rt.alloc();
-    let mut core = Core::new(alloc, one_worker(alloc, 8, &[queue(Kind::Atomic)])?)
-        .ok()
-        .ok_or("memory")?;
-    let mut log = Vec::with_capacity(alloc, 16)?;
+    let mut run = Run::new(alloc, one_worker(alloc, 8, &[queue(Kind::Atomic)])?)?;
     let skips = Skips::none();
-    let _ = taken(&rt, &mut core, 0, event_for(0, 64, 1)?, &mut log);
-    let _ = taken(&rt, &mut core, 0, event_for(0, 63, 2)?, &mut log);
-    assert_eq!(rt; given(&rt, &mut core, &skips, &mut log), Some((1, 1)));
-    assert_eq!(rt; given(&rt, &mut core, &skips, &mut log), Some((1, 0)));
-    assert_eq!(rt; given(&rt, &mut core, &skips, &mut log), None);
+    let _ = run.take(0, event_for(0, 64, 1)?)?;
+    let _ = run.take(0, event_for(0, 63, 2)?)?;
+    assert_eq!(rt; run.give(&skips)?, Some((1, 1)));
+    assert_eq!(rt; run.give(&skips)?, Some((1, 0)));
+    assert_eq!(rt; run.give(&skips)?, None);
     Ok(())
 }
 
 #[test]
 fn a_sweep_gives_no_more_of_a_queue_than_its_quantum(rt: HostRuntime) -> Result<(), Fail> {
     let alloc = rt.alloc();
-    let mut core = Core::new(alloc, one_worker(alloc, 1, &[queue(Kind::Atomic)])?)
-        .ok()
-        .ok_or("memory")?;
-    let mut log = Vec::with_capacity(alloc, 16)?;
+    let mut run = Run::new(alloc, one_worker(alloc, 1, &[queue(Kind::Atomic)])?)?;
     let mut skips = Skips::none();
-    let _ = taken(&rt, &mut core, 0, new_event(7, 1)?, &mut log);
-    let _ = taken(&rt, &mut core, 0, new_event(7, 2)?, &mut log);
-    assert_eq!(rt; given(&rt, &mut core, &skips, &mut log), Some((1, 0)));
+    let _ = run.take(0, new_event(7, 1)?)?;
+    let _ = run.take(0, new_event(7, 2)?)?;
+    assert_eq!(rt; run.give(&skips)?, Some((1, 0)));
     skips.given(0);
-    assert_eq!(rt; given(&rt, &mut core, &skips, &mut log), None);
+    assert_eq!(rt; run.give(&skips)?, None);
     // The next sweep goes on.
-    assert_eq!(rt;
-        given(&rt, &mut core, &Skips::none(), &mut log),
-        Some((1, 1))
-    );
+    assert_eq!(rt; run.give(&Skips::none())?, Some((1, 1)));
     Ok(())
 }

@@ -1,9 +1,8 @@
-use Rattle.std.proofs.Common.{◌<◌, length, subst, sym, ap, ◌∙◌, arith}
+use Rattle.std.proofs.Common.{◌<◌, ◌^◌, length, subst, sym, ap, ◌∙◌, arith}
 use Rattle.evt_types.specs.Plan.{bound_of}
 use Rattle.evt_types.specs.Standing.{View, inside_of, entries_of, after_accept}
 use Rattle.sched_core.proofs.Cores.{fits_queue, fits_number, core_accepts, view_accepts}
 use Rattle.sched_core.specs.View.{view_in}
-use Rattle.sched_core.specs.Waits.{Waits}
 use Rattle.sched_core.proofs.state.Core.accept.Goals as goal
 
 pub accept-requires-clause-room : goal.accept-requires-clause-room
@@ -29,14 +28,15 @@ invariant_of-self c =
     let is = c.from-queue.ensures in
     let h : c.from-queue.result < length c.self.inside.queues.items = omega (arith, queue, c.self.invariant.queues) in
     let room : inside_of (view_in c.self.inside) < bound_of c.self.inside.shape = subst (λ (v : View). inside_of v < bound_of v.shape) (sym c.self.view_is) c.requires.inside in
-    core_accepts c.self.inside c.from-queue.result c.index_mut-entered.result.now c.accept.new.self c.args.event c.self.invariant room h c.index_mut-entered.ensures.value (ap (λ (q : Waits). q.waiting) c.accept.ensures.value) (ap (λ (q : Waits). q.next) c.accept.ensures.value) (ap (λ (q : Waits). q.room) c.accept.ensures.value) c.accept.ensures.waits
+    let fewer : entries_of (view_in c.self.inside) < 2 ^ 63 = subst (λ (v : View). entries_of v < 2 ^ 63) (sym c.self.view_is) c.requires.entries in
+    core_accepts c.self.inside c.from-queue.result c.index_mut-entered.result.now c.accept.new.self c.args.event c.self.invariant room fewer h c.index_mut-entered.ensures.value c.accept.ensures.value c.accept.ensures.waits
 
 pub returns-clause-view : goal.returns-clause-view
 returns-clause-view c =
     let queue : c.args.event.queue < length c.self.inside.shape.queues = subst (λ (v : View). c.args.event.queue < length v.shape.queues) (sym c.self.view_is) c.requires.queue in
     let is = c.from-queue.ensures in
     let h : c.from-queue.result < length c.self.inside.queues.items = omega (arith, queue, c.self.invariant.queues) in
-    view_accepts c.self.inside c.from-queue.result c.index_mut-entered.result.now c.accept.new.self c.args.event h c.index_mut-entered.ensures.value (ap (λ (q : Waits). q.waiting) c.accept.ensures.value) (ap (λ (q : Waits). q.next) c.accept.ensures.value)
+    view_accepts c.self.inside c.from-queue.result c.index_mut-entered.result.now c.accept.new.self c.args.event h c.index_mut-entered.ensures.value c.accept.ensures.value
     ∙ (ap (λ q. after_accept (view_in c.self.inside) q c.args.event) is ∙ ap (λ v. after_accept v c.args.event.queue c.args.event) c.self.view_is)
 
 pub overflow_add-self : goal.overflow_add-self

@@ -1,20 +1,110 @@
-use Rattle.std.proofs.Common.{◌≡◌, ◌<◌, true, length, subst, sym, ap, ◌∙◌, arith}
-use Rattle.evt_types.specs.Plan.{lanes_of}
-use Rattle.evt_types.specs.Standing.{View, may_answer}
-use Rattle.sched_core.proofs.Cores.{holds_some, core_answers, view_answers}
-use Rattle.sched_core.specs.Taken.{after_answer}
+use Rattle.std.proofs.Common.{◌≡◌, ◌<◌, ◌≤◌, ◌+◌, ◌^◌, ◌-◌, false, length, All, subst, sym, ap, ◌∙◌, arith}
+use Rattle.std.proofs.lemmas.List.{length-map}
+use Rattle.evt_types.specs.Plan.{bound_of, lanes_of, queue_of, is_ordered}
+use Rattle.evt_types.specs.Standing.{View, entries_of, inside_of, events_of}
+use Rattle.evt_types.specs.declared.event.Event.{Event}
+use Rattle.order_parts.specs.History.{Entries}
+use Rattle.sched_core.proofs.Answering.{answer_leaves_room, core_answers, forwards_one, more_none, more_one, named_of, oldest_known, oldest_pinned, resolve_is_open, some_inside, view_answers}
+use Rattle.sched_core.specs.Answered.{after_answer}
+use Rattle.sched_core.specs.Orders.{is_restoring}
+use Rattle.sched_core.specs.Ordered.{order_at}
+use Rattle.sched_core.specs.View.{places_in, view_in}
 use Rattle.sched_core.proofs.state.Core.answer.Goals as goal
+use Rattle.sched_core.proofs.state.Core.answer.Goals.{then-kept, else-kept}
+
+pub unpin-requires-clause-there : goal.unpin-requires-clause-there
+unpin-requires-clause-there c =
+    let lane : c.args.lane < lanes_of c.self.inside.shape = subst (λ (v : View). c.args.lane < lanes_of v.shape) (sym c.self.view_is) c.requires.lane in
+    let h : c.args.lane < length c.self.inside.lanes.items = omega (arith, lane, c.self.invariant.lanes) in
+    let there = oldest_known c.self.inside c.args.lane c.index_mut-answering.result.now c.unwrap-entry.result c.self.invariant h c.index_mut-answering.ensures.value (sym c.pop.ensures.value ∙ c.unwrap-entry.ensures) in
+    omega (arith, there, c.self.invariant.pins.count)
+
+pub unpin-requires-clause-held : goal.unpin-requires-clause-held
+unpin-requires-clause-held c =
+    let lane : c.args.lane < lanes_of c.self.inside.shape = subst (λ (v : View). c.args.lane < lanes_of v.shape) (sym c.self.view_is) c.requires.lane in
+    let h : c.args.lane < length c.self.inside.lanes.items = omega (arith, lane, c.self.invariant.lanes) in
+    oldest_pinned c.self.inside c.args.lane c.index_mut-answering.result.now c.unwrap-entry.result c.self.invariant h c.index_mut-answering.ensures.value (sym c.pop.ensures.value ∙ c.unwrap-entry.ensures)
+
+pub resolve-kept-requires-clause-there : goal.resolve-kept-requires-clause-there
+resolve-kept-requires-clause-there c =
+    let lane : c.args.lane < lanes_of c.self.inside.shape = subst (λ (v : View). c.args.lane < lanes_of v.shape) (sym c.self.view_is) c.requires.lane in
+    let h : c.args.lane < length c.self.inside.lanes.items = omega (arith, lane, c.self.invariant.lanes) in
+    let there = oldest_known c.self.inside c.args.lane c.index_mut-answering.result.now c.unwrap-entry.result c.self.invariant h c.index_mut-answering.ensures.value (sym c.pop.ensures.value ∙ c.unwrap-entry.ensures) in
+    omega (arith, there, c.self.invariant.places.count)
+
+pub resolve-kept-requires-clause-open : goal.resolve-kept-requires-clause-open
+resolve-kept-requires-clause-open c =
+    let lane : c.args.lane < lanes_of c.self.inside.shape = subst (λ (v : View). c.args.lane < lanes_of v.shape) (sym c.self.view_is) c.requires.lane in
+    let h : c.args.lane < length c.self.inside.lanes.items = omega (arith, lane, c.self.invariant.lanes) in
+    resolve_is_open c.self.inside c.args.lane c.index_mut-answering.result.now c.unwrap-entry.result c.self.invariant h c.index_mut-answering.ensures.value (sym c.pop.ensures.value ∙ c.unwrap-entry.ensures)
 
 pub invariant_of-self : goal.invariant_of-self
 invariant_of-self c =
+    let a = c.self.inside in
+    let f = c.forward_of.result in
+    let lane : c.args.lane < lanes_of a.shape = subst (λ (v : View). c.args.lane < lanes_of v.shape) (sym c.self.view_is) c.requires.lane in
+    let h : c.args.lane < length a.lanes.items = omega (arith, lane, c.self.invariant.lanes) in
+    let events : All (λ (e : Event). e.queue < length a.shape.queues) (events_of c.args.outcome) = subst (λ (v : View). All (λ (e : Event). e.queue < length v.shape.queues) (events_of c.args.outcome)) (sym c.self.view_is) c.requires.outcome in
+    let few : entries_of (view_in a) + length (events_of c.args.outcome) ≤ 2 ^ 63 = subst (λ (v : View). entries_of v + length (events_of c.args.outcome) ≤ 2 ^ 63) (sym c.self.view_is) c.requires.entries in
+    let one = forwards_one f c.args.outcome c.forward_of.ensures in
+    let more = more_one (is_restoring (order_at a.orders c.unwrap-entry.result.queue)) f (sym c.resolve-kept.ensures.kept ∙ c.if-kept.true) in
+    rw c.resolve-kept.ensures.resolved
+    (core_answers a c.args.lane c.index_mut-answering.result.now c.pop.new.self c.unwrap-entry.result f c.unpin.new.self _ _ c.self.invariant h c.index_mut-answering.ensures.value (sym c.pop.ensures.value ∙ c.unwrap-entry.ensures) (ap (λ (x : Entries). x.entries) c.pop.ensures.rest) (ap (λ (x : Entries). x.capacity) c.pop.ensures.rest)
+    (named_of (length a.shape.queues) f c.args.outcome c.forward_of.ensures events) (omega (arith, few, one)) c.unpin.ensures (omega (arith, more)) (omega (arith, more)))
+
+pub invariant_of-self-else-kept : goal.invariant_of-self-else-kept
+invariant_of-self-else-kept c =
+    let a = c.self.inside in
+    let f = c.forward_of.result in
+    let lane : c.args.lane < lanes_of a.shape = subst (λ (v : View). c.args.lane < lanes_of v.shape) (sym c.self.view_is) c.requires.lane in
+    let h : c.args.lane < length a.lanes.items = omega (arith, lane, c.self.invariant.lanes) in
+    let events : All (λ (e : Event). e.queue < length a.shape.queues) (events_of c.args.outcome) = subst (λ (v : View). All (λ (e : Event). e.queue < length v.shape.queues) (events_of c.args.outcome)) (sym c.self.view_is) c.requires.outcome in
+    let few : entries_of (view_in a) + length (events_of c.args.outcome) ≤ 2 ^ 63 = subst (λ (v : View). entries_of v + length (events_of c.args.outcome) ≤ 2 ^ 63) (sym c.self.view_is) c.requires.entries in
+    let one = forwards_one f c.args.outcome c.forward_of.ensures in
+    let none = more_none (is_restoring (order_at a.orders c.unwrap-entry.result.queue)) f (sym c.resolve-kept.ensures.kept ∙ c.if-kept.false) in
+    let some = some_inside a c.args.lane c.index_mut-answering.result.now c.unwrap-entry.result c.self.invariant h c.index_mut-answering.ensures.value (sym c.pop.ensures.value ∙ c.unwrap-entry.ensures) in
+    rw c.resolve-kept.ensures.resolved
+    (core_answers a c.args.lane c.index_mut-answering.result.now c.pop.new.self c.unwrap-entry.result f c.unpin.new.self _ _ c.self.invariant h c.index_mut-answering.ensures.value (sym c.pop.ensures.value ∙ c.unwrap-entry.ensures) (ap (λ (x : Entries). x.entries) c.pop.ensures.rest) (ap (λ (x : Entries). x.capacity) c.pop.ensures.rest)
+    (named_of (length a.shape.queues) f c.args.outcome c.forward_of.ensures events) (omega (arith, few, one)) c.unpin.ensures (omega (arith, none, some)) (omega (arith, none)))
+
+pub returns-clause-queue : goal.returns-clause-queue
+returns-clause-queue c =
     let lane : c.args.lane < lanes_of c.self.inside.shape = subst (λ (v : View). c.args.lane < lanes_of v.shape) (sym c.self.view_is) c.requires.lane in
     let h : c.args.lane < length c.self.inside.lanes.items = omega (arith, lane, c.self.invariant.lanes) in
-    let some = holds_some c.self.inside c.args.lane c.index_mut-answering.result.now h c.index_mut-answering.ensures.value (subst (λ v. may_answer v c.args.lane ≡ true) (sym c.self.view_is) c.requires.some) in
-    core_answers c.self.inside c.args.lane c.index_mut-answering.result.now c.answer.new.self c.self.invariant h c.index_mut-answering.ensures.value some c.answer.ensures.unanswered c.answer.ensures.capacity
+    subst (λ (v : View). c.unwrap-entry.result.queue < length v.shape.queues) c.self.view_is
+    (oldest_known c.self.inside c.args.lane c.index_mut-answering.result.now c.unwrap-entry.result c.self.invariant h c.index_mut-answering.ensures.value (sym c.pop.ensures.value ∙ c.unwrap-entry.ensures))
+
+pub returns-clause-places : goal.returns-clause-places
+returns-clause-places c =
+    let lane : c.args.lane < lanes_of c.self.inside.shape = subst (λ (v : View). c.args.lane < lanes_of v.shape) (sym c.self.view_is) c.requires.lane in
+    let h : c.args.lane < length c.self.inside.lanes.items = omega (arith, lane, c.self.invariant.lanes) in
+    let there = oldest_known c.self.inside c.args.lane c.index_mut-answering.result.now c.unwrap-entry.result c.self.invariant h c.index_mut-answering.ensures.value (sym c.pop.ensures.value ∙ c.unwrap-entry.ensures) in
+    subst (λ (v : View). c.unwrap-entry.result.queue < length v.places) c.self.view_is (omega (arith, there, c.self.invariant.places.count, length-map c.self.inside.orders places_in))
 
 pub returns-clause-view : goal.returns-clause-view
 returns-clause-view c =
-    let lane : c.args.lane < lanes_of c.self.inside.shape = subst (λ (v : View). c.args.lane < lanes_of v.shape) (sym c.self.view_is) c.requires.lane in
-    let h : c.args.lane < length c.self.inside.lanes.items = omega (arith, lane, c.self.invariant.lanes) in
-    view_answers c.self.inside c.args.lane c.index_mut-answering.result.now c.answer.new.self h c.index_mut-answering.ensures.value c.answer.ensures.unanswered
-    ∙ ap (λ v. after_answer v c.args.lane) c.self.view_is
+    let a = c.self.inside in
+    let f = c.forward_of.result in
+    let lane : c.args.lane < lanes_of a.shape = subst (λ (v : View). c.args.lane < lanes_of v.shape) (sym c.self.view_is) c.requires.lane in
+    let h : c.args.lane < length a.lanes.items = omega (arith, lane, c.self.invariant.lanes) in
+    let events : All (λ (e : Event). e.queue < length a.shape.queues) (events_of c.args.outcome) = subst (λ (v : View). All (λ (e : Event). e.queue < length v.shape.queues) (events_of c.args.outcome)) (sym c.self.view_is) c.requires.outcome in
+    let named = named_of (length a.shape.queues) f c.args.outcome c.forward_of.ensures events in
+    let same = ap (λ v. after_answer v c.args.lane c.args.outcome) c.self.view_is in
+    elim c.if-kept.branch [
+      | then-kept w ↦
+          w.self-is ∙ (rw c.resolve-kept.ensures.resolved (view_answers a c.args.lane c.index_mut-answering.result.now c.pop.new.self c.unwrap-entry.result f c.args.outcome c.unpin.new.self a.inside (a.entries + 1) c.self.invariant h
+          c.index_mut-answering.ensures.value (sym c.pop.ensures.value ∙ c.unwrap-entry.ensures) (ap (λ (x : Entries). x.entries) c.pop.ensures.rest) named c.forward_of.ensures) ∙ same)
+      | else-kept w ↦
+          w.self-is ∙ (rw c.resolve-kept.ensures.resolved (view_answers a c.args.lane c.index_mut-answering.result.now c.pop.new.self c.unwrap-entry.result f c.args.outcome c.unpin.new.self (a.inside - 1) a.entries c.self.invariant h
+          c.index_mut-answering.ensures.value (sym c.pop.ensures.value ∙ c.unwrap-entry.ensures) (ap (λ (x : Entries). x.entries) c.pop.ensures.rest) named c.forward_of.ensures) ∙ same)
+    ]
+
+pub returns-clause-fewer : goal.returns-clause-fewer
+returns-clause-fewer c plain =
+    let a = c.self.inside in
+    let lane : c.args.lane < lanes_of a.shape = subst (λ (v : View). c.args.lane < lanes_of v.shape) (sym c.self.view_is) c.requires.lane in
+    let h : c.args.lane < length a.lanes.items = omega (arith, lane, c.self.invariant.lanes) in
+    let kind = subst (λ (v : View). is_ordered (queue_of v.shape c.unwrap-entry.result.queue).kind ≡ false) (sym c.self.view_is) plain in
+    subst (λ v. inside_of v < bound_of c.args.self.now.shape) (sym (returns-clause-view c))
+    (subst (λ v. inside_of (after_answer v c.args.lane c.args.outcome) < bound_of v.shape) c.self.view_is
+    (answer_leaves_room a c.args.lane c.index_mut-answering.result.now c.unwrap-entry.result c.args.outcome c.self.invariant h c.index_mut-answering.ensures.value (sym c.pop.ensures.value ∙ c.unwrap-entry.ensures) kind))

@@ -1,21 +1,21 @@
 use Rattle.std.proofs.Common.{arith, length, [], ap, subst, sym}
 use Rattle.evt_types.specs.Standing.{Stands}
-use Rattle.evt_types.proofs.ViewStands.{stands_none}
+use Rattle.evt_types.proofs.WholeStands.{stands_none}
 use Rattle.sched_core.specs.Inner.{AreEmptyQueues}
 use Rattle.sched_core.proofs.News.{core_new, view_new}
 use Rattle.sched_core.proofs.state.Core.new.Goals as goal
 
 pub invariant_of-result : goal.invariant_of-result
 invariant_of-result c =
-    core_new c.args.shape c.in-Ok.queues c.in-Ok-empty_lanes.lanes c.requires (omega (arith, c.bound-bound.ensures.value))
+    rw (c.in-Ok-new.ensures, c.queues.ensures.value) (core_new c.args.shape c.in-Ok.queues c.in-Ok-empty_lanes.lanes c.in-Ok-free.pins c.limit.ensures.within (omega (arith, c.bound-bound.ensures.value))
     (subst (λ n. AreEmptyQueues n (length c.args.shape.queues) c.in-Ok.queues.items) c.bound-bound.ensures.value (subst (λ n. AreEmptyQueues c.bound-bound.result n c.in-Ok.queues.items) (ap length c.queues-count.ensures.value) c.in-Ok.ensures))
-    c.in-Ok-empty_lanes.ensures
+    c.in-Ok-empty_lanes.ensures c.in-Ok-free.ensures)
 
 pub returns-clause-empty : goal.returns-clause-empty
 returns-clause-empty c =
-    view_new c.args.shape c.in-Ok.queues c.in-Ok-empty_lanes.lanes c.requires
+    rw (c.in-Ok-new.ensures, c.queues.ensures.value) (view_new c.args.shape c.in-Ok.queues c.in-Ok-empty_lanes.lanes c.in-Ok-free.pins
     (subst (λ n. AreEmptyQueues n (length c.args.shape.queues) c.in-Ok.queues.items) c.bound-bound.ensures.value (subst (λ n. AreEmptyQueues c.bound-bound.result n c.in-Ok.queues.items) (ap length c.queues-count.ensures.value) c.in-Ok.ensures))
-    c.in-Ok-empty_lanes.ensures
+    c.in-Ok-empty_lanes.ensures)
 
 pub returns-clause-stands : goal.returns-clause-stands
 returns-clause-stands c = subst (Stands []) (sym (returns-clause-empty c)) (stands_none c.args.shape)

@@ -3,7 +3,6 @@ use Rattle.std.proofs.lemmas.Bool.{ltb-true, ltb-false}
 use Rattle.evt_types.specs.Choice.{HasNone}
 use Rattle.evt_types.specs.Standing.{View}
 use Rattle.sched_core.proofs.Offers.{IsBestBelow, best_queue, best_none, best_later, best_more, best_choice, best_of_none, none_of, offers, offer_keeps}
-use Rattle.evt_types.specs.Plan.{RestoresNoOrder}
 use Rattle.sched_core.proofs.state.Core.propose.Goals as goal
 use Rattle.sched_core.proofs.state.Core.propose.Goals.{then-has_quota+then-is_ahead+then-is_some, then-has_quota+then-is_ahead+else-is_some, else-has_quota, else-has_quota-via-then-has_quota+else-is_ahead, else-has_quota-via-else-has_quota}
 
@@ -56,5 +55,5 @@ returns-clause-offer c =
 pub returns-clause-keeps : goal.returns-clause-keeps
 returns-clause-keeps c T stands =
     let count : length c.queues-count.result.now ≡ length c.args.self.now.shape.queues = ap length c.queues-count.ensures.value ∙ ap (λ (v : View). length v.shape.queues) c.self.view_is in
-    offer_keeps c.args.self.now c.loop-queue.best T (subst (λ (v : View). RestoresNoOrder v.shape) c.self.view_is c.self.invariant.unordered) stands
+    offer_keeps c.args.self.now c.loop-queue.best T stands
     (offers c.args.self.now c.args.skips.now c.loop-queue.best (best_choice c.args.self.now c.args.skips.now c.loop-queue.queue c.loop-queue.best (omega arith) c.loop-queue.invariant))

@@ -1,5 +1,4 @@
 use Rattle.std.proofs.Common.{subst, sym, true, ◌++◌}
-use Rattle.evt_types.specs.Plan.{RestoresNoOrder}
 use Rattle.evt_types.specs.Standing.{View, Stands}
 use Rattle.sched_core.proofs.Steps.{shut_stands}
 use Rattle.sched_core.specs.Shutting.{shut_steps}
@@ -8,4 +7,4 @@ use Rattle.sched_core.proofs.state.Core.shut.Goals as goal
 pub returns-clause-stands : goal.returns-clause-stands
 returns-clause-stands c T stands =
     subst (λ (v : View). Stands (T ++ shut_steps c.args.self.now) (record v { shut = true })) (sym c.self.view_is)
-    (shut_stands c.args.self.now T (subst (λ (v : View). RestoresNoOrder v.shape) c.self.view_is c.self.invariant.unordered) stands)
+    (shut_stands c.args.self.now T stands)

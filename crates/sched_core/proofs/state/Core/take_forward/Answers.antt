@@ -1,46 +1,41 @@
-use Rattle.std.proofs.Common.{◌≡◌, ◌+◌, ◌++◌, ◌∷◌, [], Some, length, sym, ap, ◌∙◌, arith, append_assoc}
-use Rattle.std.proofs.lemmas.List.{length_push}
-use Rattle.evt_types.specs.Standing.{oldest_at, steps_of, after, after_accept}
+use Rattle.std.proofs.Common.{◌≡◌, true, subst, sym, ◌∙◌}
+use Rattle.evt_types.specs.Plan.{queue_of, is_ordered}
+use Rattle.evt_types.specs.Standing.{View}
 use Rattle.evt_types.specs.declared.step.Outcome.TheVariants.{Forwarded}
-use Rattle.evt_types.specs.declared.step.Source.TheVariants.{Of}
-use Rattle.evt_types.specs.declared.step.Step.TheVariants.{Accept, Done}
-use Rattle.evt_types.proofs.ViewStands.{steps_forward, after_forward}
-use Rattle.sched_core.proofs.Cores.{oldest_here}
-use Rattle.sched_core.proofs.Steps.{took_forward}
+use Rattle.sched_core.proofs.Steps.{settled_log, settled_view}
 use Rattle.sched_core.specs.Inner.{held_of}
 use Rattle.sched_core.proofs.state.Core.take_forward.Goals as goal
 
-pub accept-requires-clause-room : goal.accept-requires-clause-room
-accept-requires-clause-room c =
+pub returns-then-passed-clause-view : goal.returns-then-passed-clause-view
+returns-then-passed-clause-view c =
     let v = c.args.self.now in
-    let oldest : oldest_at v c.args.lane ≡ Some (held_of c.oldest-queue.result) = oldest_here c.self.inside v c.args.lane c.index.result.now c.oldest-queue.result c.self.invariant c.self.view_is c.requires.lane c.index.ensures c.oldest-queue.ensures in
-    let two : length (steps_of v c.args.lane c.args.event) ≡ 2 = ap length (steps_forward v c.args.lane c.args.event (held_of c.oldest-queue.result) c.answer.ensures.unordered c.requires.op oldest) in
-    let more : length c.answer.new.log.items ≡ length c.args.log.now.items + 1 = ap length c.answer.ensures.logged ∙ length_push c.args.log.now.items (Done c.args.lane (Forwarded c.args.event)) in
-    let before = c.args.log.now.ok.0 in
-    let behind = c.answer.new.log.ok.0 in
-    omega (arith, c.requires.room, c.answer.ensures.room)
+    let h = held_of c.answer-queue.result in
+    let ordered : is_ordered (queue_of v.shape h.queue).kind ≡ true =
+    subst (λ (u : View). is_ordered (queue_of u.shape h.queue).kind ≡ true) c.answer-queue.ensures.view (sym c.restores_order.ensures ∙ c.if-restores_order.true) in
+    settled_view v c.answer-queue.new.self c.args.lane h (Forwarded c.args.event) c.answer-queue.ensures.oldest ordered c.answer-queue.ensures.places c.answer-queue.ensures.view c.settle-passed.new.self c.settle-passed.ensures.view
 
-pub returns-clause-view : goal.returns-clause-view
-returns-clause-view c =
+pub returns-then-passed-clause-logged : goal.returns-then-passed-clause-logged
+returns-then-passed-clause-logged c =
     let v = c.args.self.now in
-    let h = held_of c.oldest-queue.result in
-    let oldest : oldest_at v c.args.lane ≡ Some (held_of c.oldest-queue.result) = oldest_here c.self.inside v c.args.lane c.index.result.now c.oldest-queue.result c.self.invariant c.self.view_is c.requires.lane c.index.ensures c.oldest-queue.ensures in
-    c.accept.ensures.view
-    ∙ (ap (λ u. after_accept u c.args.event.queue c.args.event) c.answer.ensures.view
-    ∙ sym (ap (after v) (steps_forward v c.args.lane c.args.event h c.answer.ensures.unordered c.requires.op oldest) ∙ after_forward v c.args.lane c.args.event h c.answer.ensures.unordered))
+    let h = held_of c.answer-queue.result in
+    let ordered : is_ordered (queue_of v.shape h.queue).kind ≡ true =
+    subst (λ (u : View). is_ordered (queue_of u.shape h.queue).kind ≡ true) c.answer-queue.ensures.view (sym c.restores_order.ensures ∙ c.if-restores_order.true) in
+    settled_log v c.answer-queue.new.self c.args.lane h (Forwarded c.args.event) c.answer-queue.ensures.oldest ordered c.answer-queue.ensures.places c.answer-queue.ensures.view c.args.log.now.items c.answer-queue.new.log.items c.settle-passed.new.log.items
+    c.answer-queue.ensures.logged c.settle-passed.ensures.logged
 
-pub returns-clause-logged : goal.returns-clause-logged
-returns-clause-logged c =
+pub returns-else-passed-clause-view : goal.returns-else-passed-clause-view
+returns-else-passed-clause-view c =
     let v = c.args.self.now in
-    let h = held_of c.oldest-queue.result in
-    let oldest : oldest_at v c.args.lane ≡ Some (held_of c.oldest-queue.result) = oldest_here c.self.inside v c.args.lane c.index.result.now c.oldest-queue.result c.self.invariant c.self.view_is c.requires.lane c.index.ensures c.oldest-queue.ensures in
-    c.accept.ensures.logged
-    ∙ (ap (λ log. log ++ Accept c.args.event.queue c.args.event (Of h.queue h.number) ∷ []) c.answer.ensures.logged
-    ∙ (append_assoc c.args.log.now.items (Done c.args.lane (Forwarded c.args.event) ∷ []) (Accept c.args.event.queue c.args.event (Of h.queue h.number) ∷ [])
-    ∙ sym (ap (λ steps. c.args.log.now.items ++ steps) (steps_forward v c.args.lane c.args.event h c.answer.ensures.unordered c.requires.op oldest))))
+    let h = held_of c.answer-queue.result in
+    let ordered : is_ordered (queue_of v.shape h.queue).kind ≡ true =
+    subst (λ (u : View). is_ordered (queue_of u.shape h.queue).kind ≡ true) c.answer-queue.ensures.view (sym c.restores_order.ensures ∙ c.if-restores_order.true) in
+    settled_view v c.answer-queue.new.self c.args.lane h (Forwarded c.args.event) c.answer-queue.ensures.oldest ordered c.answer-queue.ensures.places c.answer-queue.ensures.view c.settle-passed.new.self c.settle-passed.ensures.view
 
-pub returns-clause-took : goal.returns-clause-took
-returns-clause-took c =
+pub returns-else-passed-clause-logged : goal.returns-else-passed-clause-logged
+returns-else-passed-clause-logged c =
     let v = c.args.self.now in
-    let oldest : oldest_at v c.args.lane ≡ Some (held_of c.oldest-queue.result) = oldest_here c.self.inside v c.args.lane c.index.result.now c.oldest-queue.result c.self.invariant c.self.view_is c.requires.lane c.index.ensures c.oldest-queue.ensures in
-    took_forward v c.args.lane c.args.event (held_of c.oldest-queue.result) c.answer.ensures.unordered c.requires.op oldest
+    let h = held_of c.answer-queue.result in
+    let ordered : is_ordered (queue_of v.shape h.queue).kind ≡ true =
+    subst (λ (u : View). is_ordered (queue_of u.shape h.queue).kind ≡ true) c.answer-queue.ensures.view (sym c.restores_order.ensures ∙ c.if-restores_order.true) in
+    settled_log v c.answer-queue.new.self c.args.lane h (Forwarded c.args.event) c.answer-queue.ensures.oldest ordered c.answer-queue.ensures.places c.answer-queue.ensures.view c.args.log.now.items c.answer-queue.new.log.items c.settle-passed.new.log.items
+    c.answer-queue.ensures.logged c.settle-passed.ensures.logged

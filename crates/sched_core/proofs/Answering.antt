@@ -1,0 +1,278 @@
+-- A core after an answer: its view, and that what holds of each core holds of it.
+use Rattle.std.proofs.Common.{◌≡◌, ℕ, ◌+◌, ◌-◌, ◌<◌, ◌≤◌, ◌^◌, Bool, true, false, cond, ◌&&◌, List, [], ◌∷◌, length, map, drop, set, get_or, All, Option, Some, None, is_some, option_to_list, IsTrue, sum_by, slice_get, ◌⊎◌, inl, inr, refl, sym, ap, ◌∙◌, subst, arith}
+use Rattle.std.specs.Vec.{with_item}
+use Rattle.std.proofs.lemmas.Bool.{cases_Bool, cond-true, cond-false, lt-ltb}
+use Rattle.std.proofs.lemmas.List.{length-set, length-drop, length-map, map-set, drop-map, get_or-map, set-get_or}
+use Rattle.std.proofs.lemmas.List.Elements.{All-head}
+use Rattle.std.proofs.lemmas.List.Sums.{sum_by-set, get_or-le-sum_by}
+use Rattle.evt_types.proofs.ViewLists.{sum_of_map}
+use Rattle.evt_types.specs.Fault.{IsWithinLimits}
+use Rattle.evt_types.specs.Plan.{Plan, queue_of, bound_of, is_ordered}
+use Rattle.evt_types.specs.Standing.{View, inside_of, entries_of, kept_in, oldest_at, places_at, unanswered_at, answer_place, events_of}
+use Rattle.evt_types.specs.Transcript.{Held}
+use Rattle.evt_types.specs.declared.event.Event.{Event}
+use Rattle.evt_types.specs.declared.step.Outcome.{Outcome}
+use Rattle.order_parts.specs.Reorder.{Reordering, empty, after_resolve, is_open, place_at}
+use Rattle.order_parts.specs.History.{Entries}
+use Rattle.order_parts.specs.Pins.{Pin, unpinned}
+use Rattle.order_parts.specs.declared.history.Entry.{Entry}
+use Rattle.sched_core.proofs.Cores.{first_here, held_sum, in_view, kept_after, places_here, room_set, same_parts, unanswered_here}
+use Rattle.sched_core.proofs.OrderMoves.{answer_is_open, answered_place, answered_plain}
+use Rattle.sched_core.proofs.Ordered.{resolve_answers, resolve_keeps}
+use Rattle.sched_core.proofs.Pinned.{oldest_known as known_of, oldest_pinned as pinned_of, pins_answered}
+use Rattle.sched_core.specs.Answered.{places_answered, after_answer}
+use Rattle.sched_core.specs.Inner.{held_of}
+use Rattle.sched_core.specs.Ordered.{ArePlaces, IsOrder, StandsIn, entry_at, entries_at, kept_of, order_at, order_of, outcome_of, waits_at}
+use Rattle.sched_core.specs.Orders.{is_restoring, resolved_in}
+use Rattle.sched_core.specs.Pinned.{ArePins, pins_at, pin_in, with_pin}
+use Rattle.sched_core.specs.View.{waiting_in, next_in, places_in, unanswered_in, entries_in, view_in, IsCore}
+use Rattle.sched_core.specs.declared.state.Core.TheInside.{Inside}
+
+-- ---- a queue's buffer
+
+-- a queue restores an order where its buffer has room for places
+pub restoring_is : (p : Plan) (r : Reordering) (q : ℕ) → IsWithinLimits p → q < length p.queues → r.depth ≡ order_of p q → is_restoring r ≡ is_ordered (queue_of p q).kind
+restoring_is p r q limits h depth = by_kind (cases_Bool (is_ordered (queue_of p q).kind))
+  where
+    by_kind : (is_ordered (queue_of p q).kind ≡ true) ⊎ (is_ordered (queue_of p q).kind ≡ false) → is_restoring r ≡ is_ordered (queue_of p q).kind
+    by_kind (inl ordered) =
+        let some = (limits.orders q _ h ordered).0 in
+        let same : r.depth ≡ (queue_of p q).order = depth ∙ cond-true (is_ordered (queue_of p q).kind) (queue_of p q).order 0 ordered in
+        lt-ltb 0 r.depth (omega arith) ∙ sym ordered
+    by_kind (inr plain) =
+        let same : r.depth ≡ 0 = depth ∙ cond-false (is_ordered (queue_of p q).kind) (queue_of p q).order 0 plain in
+        ap (λ n. is_restoring (record r { depth = n })) same ∙ sym plain
+
+-- how many more are kept: one where the answer is a forward, in a buffer
+abbrev pub kept_more : Bool → Option Event → ℕ
+kept_more false f = 0
+kept_more true None = 0
+kept_more true (Some e) = 1
+
+pub more_one : (b : Bool) (f : Option Event) → (b && is_some f) ≡ true → kept_more b f ≡ 1
+more_one false f e = absurd cc
+more_one true None e = absurd cc
+more_one true (Some x) e = refl
+
+pub more_none : (b : Bool) (f : Option Event) → (b && is_some f) ≡ false → kept_more b f ≡ 0
+more_none false f e = refl
+more_none true None e = refl
+more_none true (Some x) e = absurd cc
+
+more_kept : (f : Option Event) → length (option_to_list f) ≡ kept_more true f
+more_kept None = refl
+more_kept (Some x) = refl
+
+more_least : (b : Bool) (f : Option Event) → kept_more b f ≤ length (option_to_list f)
+more_least false f = omega arith
+more_least true None = omega arith
+more_least true (Some x) = omega arith
+
+more_once : (b : Bool) (f : Option Event) → kept_more b f ≤ 1
+more_once false f = omega arith
+more_once true None = omega arith
+more_once true (Some x) = omega arith
+
+-- what an answer forwards
+pub named_of : (n : ℕ) (f : Option Event) (o : Outcome) → outcome_of f ≡ o → All (λ (e : Event). e.queue < n) (events_of o) → (e : Event) → f ≡ Some e → e.queue < n
+named_of n f o same all e is = All-head (λ (x : Event). x.queue < n) e [] (subst (λ x. All (λ (y : Event). y.queue < n) (events_of x)) (sym same ∙ ap outcome_of is) all)
+
+pub forwards_one : (f : Option Event) (o : Outcome) → outcome_of f ≡ o → length (option_to_list f) ≡ length (events_of o)
+forwards_one None o same = ap (λ x. length (events_of x)) same
+forwards_one (Some e) o same = ap (λ x. length (events_of x)) same
+
+-- ---- the entries of the lanes
+
+pub entries_here : (ls : List Entries) (i : ℕ) (old : Entries) → i < length ls → old ≡ get_or ls i old → entries_at (map entries_in ls) i ≡ entries_in old
+entries_here ls i old h is = get_or-map entries_in ls i old [] h ∙ ap entries_in (sym is)
+
+-- the oldest entry of a lane
+pub oldest_entry : (ls : List Entries) (i : ℕ) (old : Entries) (y : Entry) → i < length ls → old ≡ get_or ls i old → slice_get old.entries 0 ≡ Some y → entry_at (map entries_in ls) i 0 ≡ Some y
+oldest_entry ls i old y h is oldest = ap (λ (ys : List Entry). slice_get ys 0) (entries_here ls i old h is) ∙ oldest
+
+first_at : (ys : List Entry) (y d : Entry) → slice_get ys 0 ≡ Some y → (0 < length ys) × (get_or ys 0 d ≡ y)
+first_at [] y d e = absurd cc
+first_at (x ∷ ys) y d e = (omega arith, cc)
+
+-- its queue is there
+pub oldest_known : (a : Inside) (i : ℕ) (old : Entries) (y : Entry) → IsCore a → i < length a.lanes.items → old ≡ get_or a.lanes.items i old → slice_get old.entries 0 ≡ Some y → y.queue < length a.shape.queues
+oldest_known a i old y core h is oldest = known_of a.shape (map unanswered_in a.lanes.items) a.pins i (held_of y) core.pins (in_view a i h) (first_here a i old y h is oldest)
+
+-- its pin is there, and counts it
+pub oldest_pinned : (a : Inside) (i : ℕ) (old : Entries) (y : Entry) → IsCore a → i < length a.lanes.items → old ≡ get_or a.lanes.items i old → slice_get old.entries 0 ≡ Some y
+    → y.slot < length (pins_at a.pins y.queue) → 0 < (pin_in a.pins y.queue y.slot).count
+oldest_pinned a i old y core h is oldest there = pinned_of a.shape (map unanswered_in a.lanes.items) a.pins i (held_of y) core.pins (in_view a i h) (first_here a i old y h is oldest) there
+
+-- ---- the oldest event of a lane is answered
+
+answered_length : (old new : Entries) (y : Entry) → slice_get old.entries 0 ≡ Some y → new.entries ≡ drop 1 old.entries → length (unanswered_in new) + 1 ≡ length (unanswered_in old)
+answered_length old new y oldest items =
+    let some : 0 < length old.entries = (first_at old.entries y y oldest).0 in
+    ap (λ (ys : List Entry). length (map held_of ys) + 1) items ∙ (ap (λ n. n + 1) (length-map (drop 1 old.entries) held_of ∙ length-drop 1 old.entries) ∙ (omega arith ∙ sym (length-map old.entries held_of)))
+
+-- what the lanes have after it
+lanes_answered : (a : Inside) (i : ℕ) (old new : Entries) → i < length a.lanes.items → old ≡ get_or a.lanes.items i old → new.entries ≡ drop 1 old.entries
+    → map unanswered_in (set a.lanes.items i new) ≡ set (map unanswered_in a.lanes.items) i (drop 1 (unanswered_at (view_in a) i))
+lanes_answered a i old new h is items =
+    map-set unanswered_in a.lanes.items i new
+    ∙ ap (set (map unanswered_in a.lanes.items) i) (ap (map held_of) items ∙ (sym (drop-map held_of 1 old.entries) ∙ sym (ap (drop 1) (unanswered_here a i old h is))))
+
+popped_here : (ls : List Entries) (i : ℕ) (old new : Entries) → i < length ls → old ≡ get_or ls i old → new.entries ≡ drop 1 old.entries
+    → map entries_in (set ls i new) ≡ set (map entries_in ls) i (drop 1 (entries_at (map entries_in ls) i))
+popped_here ls i old new h is items = map-set entries_in ls i new ∙ ap (set (map entries_in ls) i) (items ∙ sym (ap (drop 1) (entries_here ls i old h is)))
+
+-- the buffers after it
+abbrev pub resolved_orders : List Reordering → Entry → Option Event → List Reordering
+resolved_orders rs y f = set rs y.queue (resolved_in (order_at rs y.queue) y.place f)
+
+record IsResolved (a : Inside) (i : ℕ) (y : Entry) (f : Option Event) (b : Bool) : Type 0 where
+  restoring : is_restoring (order_at a.orders y.queue) ≡ b
+  places : ArePlaces a.shape a.queues.items (resolved_orders a.orders y f) (set (map entries_in a.lanes.items) i (drop 1 (entries_at (map entries_in a.lanes.items) i)))
+  kept : kept_of (resolved_in (order_at a.orders y.queue) y.place f).places ≡ kept_of (order_at a.orders y.queue).places + kept_more b f
+  shown : (resolved_in (order_at a.orders y.queue) y.place f).places ≡ cond b (map (answer_place y.number (outcome_of f)) (order_at a.orders y.queue).places) (order_at a.orders y.queue).places
+
+resolved_by : (a : Inside) (i : ℕ) (y : Entry) (f : Option Event) → IsCore a → i < length a.lanes.items → entry_at (map entries_in a.lanes.items) i 0 ≡ Some y → y.queue < length a.shape.queues
+    → ((e : Event) → f ≡ Some e → e.queue < length a.shape.queues) → IsResolved a i y f (is_ordered (queue_of a.shape y.queue).kind)
+resolved_by a i y f core h oldest there named = by_kind (is_ordered (queue_of a.shape y.queue).kind) refl
+  where
+    us : List (List Entry)
+    us = map entries_in a.lanes.items
+
+    r : Reordering
+    r = order_at a.orders y.queue
+
+    lane : i < length us
+    lane = subst (λ n. i < n) (sym (length-map a.lanes.items entries_in)) h
+
+    depth : r.depth ≡ order_of a.shape y.queue
+    depth = (core.places.each y.queue there).room
+
+    by_kind : (b : Bool) → is_ordered (queue_of a.shape y.queue).kind ≡ b → IsResolved a i y f b
+    by_kind true ordered =
+        let restoring : is_restoring r ≡ true = restoring_is a.shape r y.queue core.limits there depth ∙ ordered in
+        let now : resolved_in r y.place f ≡ after_resolve r y.place f = cond-true (is_restoring r) (after_resolve r y.place f) r restoring in
+        let order : IsOrder a.shape (order_of a.shape y.queue) (waits_at a.queues.items y.queue) r = core.places.each y.queue there in
+        let stands : StandsIn r y = core.places.held i 0 y oldest ordered in
+        record {
+          restoring = restoring;
+          places = subst (λ s. ArePlaces a.shape a.queues.items (set a.orders y.queue s) (set us i (drop 1 (entries_at us i)))) (sym now)
+              (answered_place a.shape a.queues.items a.orders us i y f core.places lane oldest ordered named);
+          kept = ap (λ (s : Reordering). kept_of s.places) now ∙ (resolve_keeps a.shape (order_of a.shape y.queue) (waits_at a.queues.items y.queue) r y f order stands ∙ ap (λ n. kept_of r.places + n) (more_kept f));
+          shown = ap (λ (s : Reordering). s.places) now ∙ resolve_answers a.shape (order_of a.shape y.queue) (waits_at a.queues.items y.queue) r y f order stands;
+        }
+    by_kind false plain =
+        let restoring : is_restoring r ≡ false = restoring_is a.shape r y.queue core.limits there depth ∙ plain in
+        let now : resolved_in r y.place f ≡ r = cond-false (is_restoring r) (after_resolve r y.place f) r restoring in
+        let count = core.places.count in
+        record {
+          restoring = restoring;
+          places = subst (λ rs. ArePlaces a.shape a.queues.items rs (set us i (drop 1 (entries_at us i)))) (sym (ap (set a.orders y.queue) now ∙ set-get_or a.orders y.queue (empty 0)))
+              (answered_plain a.shape a.queues.items a.orders us i core.places lane);
+          kept = ap (λ (s : Reordering). kept_of s.places) now ∙ omega arith;
+          shown = ap (λ (s : Reordering). s.places) now;
+        }
+
+pub core_answers : (a : Inside) (i : ℕ) (old new : Entries) (y : Entry) (f : Option Event) (ps : List (List Pin)) (n m : ℕ) → IsCore a → i < length a.lanes.items → old ≡ get_or a.lanes.items i old
+    → slice_get old.entries 0 ≡ Some y → new.entries ≡ drop 1 old.entries → new.capacity ≡ old.capacity
+    → ((e : Event) → f ≡ Some e → e.queue < length a.shape.queues) → entries_of (view_in a) + length (option_to_list f) ≤ 2 ^ 63
+    → ps ≡ with_pin a.pins y.queue y.slot (unpinned (pin_in a.pins y.queue y.slot))
+    → n + 1 ≡ a.inside + kept_more (is_restoring (order_at a.orders y.queue)) f → m ≡ a.entries + kept_more (is_restoring (order_at a.orders y.queue)) f
+    → IsCore (record { shape = a.shape; queues = a.queues; orders = resolved_orders a.orders y f; lanes = with_item a.lanes i new; pins = ps; inside = n; entries = m; shut = a.shut })
+core_answers a i old new y f ps n m core h is oldest items capacity named few unpins counted entered =
+    let r : Reordering = order_at a.orders y.queue in
+    let there : y.queue < length a.shape.queues = oldest_known a i old y core h is oldest in
+    let done = resolved_by a i y f core h (oldest_entry a.lanes.items i old y h is oldest) there named in
+    let b : Bool = is_ordered (queue_of a.shape y.queue).kind in
+    let same : kept_more (is_restoring r) f ≡ kept_more b f = ap (λ k. kept_more k f) done.restoring in
+    let least : kept_more b f ≤ length (option_to_list f) = more_least b f in
+    let once : kept_more b f ≤ 1 = more_once b f in
+    let less : length (unanswered_in new) + 1 ≡ length (unanswered_in old) = answered_length old new y oldest items in
+    let held = held_sum a.lanes.items i old new h is in
+    let count = core.places.count in
+    let keeps = kept_after a (record { shape = a.shape; queues = a.queues; orders = resolved_orders a.orders y f; lanes = with_item a.lanes i new; pins = ps; inside = n; entries = m; shut = a.shut }) y.queue (resolved_in r y.place f) refl (omega arith) in
+    let more = done.kept in
+    let inside = core.inside in
+    let within = core.within in
+    let entries = core.entries in
+    let popped = popped_here a.lanes.items i old new h is items in
+    record {
+      limits = core.limits;
+      queues = core.queues;
+      lanes = length-set a.lanes.items i new ∙ core.lanes;
+      sound = core.sound;
+      room = room_set a.shape a.lanes.items i old new h is capacity core.room;
+      pins =
+          subst (λ us. ArePins a.shape us ps) (sym (lanes_answered a i old new h is items))
+          (subst (ArePins a.shape (set (map unanswered_in a.lanes.items) i (drop 1 (unanswered_at (view_in a) i)))) (sym unpins)
+          (pins_answered a.shape (map unanswered_in a.lanes.items) a.pins i (held_of y) core.pins (in_view a i h) (first_here a i old y h is oldest)));
+      inside = omega arith;
+      within = omega arith;
+      small = core.small;
+      entries = omega arith;
+      few = omega arith;
+      places = subst (ArePlaces a.shape a.queues.items (resolved_orders a.orders y f)) (sym popped) done.places;
+    }
+
+-- it may be resolved
+pub resolve_is_open : (a : Inside) (i : ℕ) (old : Entries) (y : Entry) → IsCore a → i < length a.lanes.items → old ≡ get_or a.lanes.items i old → slice_get old.entries 0 ≡ Some y
+    → is_restoring (order_at a.orders y.queue) ≡ true → IsTrue (is_open (place_at (order_at a.orders y.queue) y.place))
+resolve_is_open a i old y core h is oldest restoring =
+    let there : y.queue < length a.shape.queues = oldest_known a i old y core h is oldest in
+    answer_is_open a.shape a.queues.items a.orders (map entries_in a.lanes.items) i 0 y core.places (oldest_entry a.lanes.items i old y h is oldest)
+    (sym (restoring_is a.shape (order_at a.orders y.queue) y.queue core.limits there (core.places.each y.queue there).room) ∙ restoring)
+
+-- something is inside
+pub some_inside : (a : Inside) (i : ℕ) (old : Entries) (y : Entry) → IsCore a → i < length a.lanes.items → old ≡ get_or a.lanes.items i old → slice_get old.entries 0 ≡ Some y → 1 ≤ a.inside
+some_inside a i old y core h is oldest =
+    let le : length (unanswered_in old) ≤ sum_by (λ x. length (unanswered_in x)) a.lanes.items = subst (λ (l : Entries). length (unanswered_in l) ≤ sum_by (λ x. length (unanswered_in x)) a.lanes.items) (sym is) (get_or-le-sum_by (λ x. length (unanswered_in x)) a.lanes.items i old h) in
+    let e : sum_by (λ (xs : List Held). length xs) (map unanswered_in a.lanes.items) ≡ sum_by (λ x. length (unanswered_in x)) a.lanes.items = sum_of_map (λ (xs : List Held). length xs) unanswered_in a.lanes.items in
+    let some : 0 < length old.entries = (first_at old.entries y y oldest).0 in
+    let same : length (unanswered_in old) ≡ length old.entries = length-map old.entries held_of in
+    let inside = core.inside in
+    omega arith
+
+-- ---- its view
+
+pub view_answers : (a : Inside) (i : ℕ) (old new : Entries) (y : Entry) (f : Option Event) (o : Outcome) (ps : List (List Pin)) (n m : ℕ) → IsCore a → i < length a.lanes.items → old ≡ get_or a.lanes.items i old
+    → slice_get old.entries 0 ≡ Some y → new.entries ≡ drop 1 old.entries → ((e : Event) → f ≡ Some e → e.queue < length a.shape.queues) → outcome_of f ≡ o
+    → view_in (record { shape = a.shape; queues = a.queues; orders = resolved_orders a.orders y f; lanes = with_item a.lanes i new; pins = ps; inside = n; entries = m; shut = a.shut }) ≡ after_answer (view_in a) i o
+view_answers a i old new y f o ps n m core h is oldest items named same =
+    same_parts a.shape (map waiting_in a.queues.items) _ (map next_in a.queues.items) _ _ _ _ _ a.shut refl refl
+    (map-set places_in a.orders y.queue (resolved_in r y.place f) ∙ (by_kind (is_ordered (queue_of a.shape y.queue).kind) refl done.shown ∙ sym (ap (λ x. places_answered (view_in a) x o) (first_here a i old y h is oldest))))
+    (lanes_answered a i old new h is items)
+  where
+    r : Reordering
+    r = order_at a.orders y.queue
+
+    there : y.queue < length a.shape.queues
+    there = oldest_known a i old y core h is oldest
+
+    done : IsResolved a i y f (is_ordered (queue_of a.shape y.queue).kind)
+    done = resolved_by a i y f core h (oldest_entry a.lanes.items i old y h is oldest) there named
+
+    here : places_at (view_in a) y.queue ≡ r.places
+    here = places_here a y.queue core there
+
+    by_kind : (b : Bool) → is_ordered (queue_of a.shape y.queue).kind ≡ b → (resolved_in r y.place f).places ≡ cond b (map (answer_place y.number (outcome_of f)) r.places) r.places
+        → set (map places_in a.orders) y.queue (resolved_in r y.place f).places ≡ places_answered (view_in a) (Some (held_of y)) o
+    by_kind true ordered shown =
+        ap (set (map places_in a.orders) y.queue) (shown ∙ (ap (λ x. map (answer_place y.number x) r.places) same ∙ sym (ap (map (answer_place y.number o)) here)))
+        ∙ sym (cond-true (is_ordered (queue_of a.shape y.queue).kind) _ (map places_in a.orders) ordered)
+    by_kind false plain shown =
+        ap (set (map places_in a.orders) y.queue) (shown ∙ sym here)
+        ∙ (set-get_or (map places_in a.orders) y.queue []
+        ∙ sym (cond-false (is_ordered (queue_of a.shape y.queue).kind) _ (map places_in a.orders) plain))
+
+-- where no order is restored, one is inside less
+pub answer_leaves_room : (a : Inside) (i : ℕ) (old : Entries) (y : Entry) (o : Outcome) → IsCore a → i < length a.lanes.items → old ≡ get_or a.lanes.items i old → slice_get old.entries 0 ≡ Some y
+    → is_ordered (queue_of a.shape y.queue).kind ≡ false → inside_of (after_answer (view_in a) i o) < bound_of a.shape
+answer_leaves_room a i old y o core h is oldest plain =
+    let v : View = view_in a in
+    let same : places_answered v (oldest_at v i) o ≡ v.places = ap (λ x. places_answered v x o) (first_here a i old y h is oldest) ∙ cond-false (is_ordered (queue_of a.shape y.queue).kind) _ v.places plain in
+    let keeps : kept_in (after_answer v i o) ≡ kept_in v = ap (sum_by kept_of) same in
+    let held : sum_by (λ (xs : List Held). length xs) (set v.unanswered i (drop 1 (unanswered_at v i))) + length (unanswered_at v i) ≡ sum_by (λ (xs : List Held). length xs) v.unanswered + length (drop 1 (unanswered_at v i)) =
+    sum_by-set (λ (xs : List Held). length xs) v.unanswered i (drop 1 (unanswered_at v i)) [] (subst (λ n. i < n) (sym (length-map a.lanes.items unanswered_in)) h) in
+    let some : 0 < length (unanswered_at v i) = omega (arith, (first_at old.entries y y oldest).0, ap length (unanswered_here a i old h is), length-map old.entries held_of) in
+    let fewer : length (drop 1 (unanswered_at v i)) ≡ length (unanswered_at v i) - 1 = length-drop 1 (unanswered_at v i) in
+    let within = core.within in
+    omega arith

@@ -1,0 +1,178 @@
+-- What the reorder buffers of a device say of its view, and how many events are inside as the places are answered and leave.
+use Rattle.std.proofs.Common.{◌≡◌, ℕ, zero, suc, ◌+◌, ◌<◌, ◌≤◌, ◌^◌, true, false, nat_lt, List, [], ◌∷◌, ◌++◌, length, map, drop, set, get_or, All, Option, Some, None, slice_get, ◌⊎◌, inl, inr, refl, sym, ap, ◌∙◌, subst, arith}
+use Rattle.std.proofs.lemmas.Bool.{cases_Bool, cond-true, cond-false}
+use Rattle.std.proofs.lemmas.List.{map-set}
+use Rattle.std.proofs.lemmas.List.Elements.{All-nil, All-head, All-tail}
+use Rattle.std.proofs.lemmas.List.Sums.{sum_by-cons}
+use Rattle.std.proofs.lemmas.Option.{none-some}
+use Rattle.evt_types.specs.Plan.{Plan, queue_of, is_ordered}
+use Rattle.evt_types.specs.Standing.{View, Place, places_at, answered_places}
+use Rattle.evt_types.specs.declared.draft.QueueDraft.{QueueDraft}
+use Rattle.evt_types.specs.declared.event.Event.{Event}
+use Rattle.evt_types.specs.declared.event.Kind.TheVariants.{Parallel}
+use Rattle.order_parts.specs.Reorder.{Reordering, empty, open_place, oldest_answered, after_hand, after_resolve, after_leave, after_leaving}
+use Rattle.order_parts.specs.declared.history.Entry.{Entry}
+use Rattle.sched_core.specs.Ordered.{ArePlaces, IsOrder, KeepsOne, IsGivenOf, order_of, order_at, waits_at, entries_at, entry_at, kept_of, outcome_of, places_in}
+use Rattle.sched_core.specs.Waits.{Waits}
+use Rattle.sched_core.proofs.Ordered.{leaving_is, resolve_answers}
+use Rattle.sched_core.proofs.OrderMoves.{queue_there}
+
+-- ---- nothing has happened
+
+pub new_places : (p : Plan) (ws : List Waits) (rs : List Reordering) (us : List (List Entry)) → length ws ≡ length p.queues → length rs ≡ length p.queues
+    → ((q : ℕ) → q < length p.queues → order_at rs q ≡ empty (order_of p q)) → ((q : ℕ) → q < length p.queues → order_of p q < 2 ^ 64)
+    → All (λ (ys : List Entry). ys ≡ []) us → ArePlaces p ws rs us
+new_places p ws rs us queues count fresh small bare =
+    record {
+      queues = queues;
+      count = count;
+      each = λ q h. subst (IsOrder p (order_of p q) (waits_at ws q)) (sym (fresh q h)) (order_new (order_of p q) (waits_at ws q) (small q h));
+      held = λ l k y at. absurd (none_there us bare l k y at);
+      once = λ l m j k y z at. absurd (none_there us bare l j y at);
+    }
+  where
+    order_new : (n : ℕ) (w : Waits) → n < 2 ^ 64 → IsOrder p n w (empty n)
+    order_new n w lt =
+        record {
+          room = refl;
+          small = lt;
+          within = omega arith;
+          first = omega arith;
+          distinct = λ i j d ij within. absurd (omega arith);
+          below = All-nil (λ (x : Place). x.number < w.next);
+          given = All-nil (IsGivenOf w);
+          keeps = All-nil (KeepsOne p);
+        }
+
+    bare_at : (xs : List (List Entry)) → All (λ (ys : List Entry). ys ≡ []) xs → (l : ℕ) → entries_at xs l ≡ []
+    bare_at [] all l = refl
+    bare_at (ys ∷ xs) all zero = All-head (λ (zs : List Entry). zs ≡ []) ys xs all
+    bare_at (ys ∷ xs) all (suc l) = bare_at xs (All-tail (λ (zs : List Entry). zs ≡ []) ys xs all) l
+
+    none_there : (xs : List (List Entry)) → All (λ (ys : List Entry). ys ≡ []) xs → (l k : ℕ) (y : Entry) → entry_at xs l k ≡ Some y → ⊥
+    none_there xs all l k y at = none-some y (sym (ap (λ ys. slice_get ys k) (bare_at xs all l)) ∙ at)
+
+-- a depth that is within the limits is small
+pub order_small : (p : Plan) (q : ℕ) → All (λ (d : QueueDraft). is_ordered d.kind ≡ true → (1 ≤ d.order) × (d.order ≤ 256)) p.queues → q < length p.queues → order_of p q < 2 ^ 64
+order_small p q limits h = by_kind (cases_Bool (is_ordered (queue_of p q).kind))
+  where
+    by_kind : (is_ordered (queue_of p q).kind ≡ true) ⊎ (is_ordered (queue_of p q).kind ≡ false) → order_of p q < 2 ^ 64
+    by_kind (inl ordered) =
+        let most = limits q (record { kind = Parallel; priority = 0; slots = 0; order = 0; single = false }) h ordered in
+        subst (λ n. n < 2 ^ 64) (sym (cond-true (is_ordered (queue_of p q).kind) (queue_of p q).order 0 ordered)) (small (queue_of p q).order most.1)
+      where
+        small : (n : ℕ) → n ≤ 256 → n < 2 ^ 64
+        small n le = omega arith
+    by_kind (inr plain) = subst (λ n. n < 2 ^ 64) (sym (cond-false (is_ordered (queue_of p q).kind) (queue_of p q).order 0 plain)) (omega arith)
+
+-- ---- the buffers and the view
+
+-- an ordered queue's depth, and another's
+pub order_of-ordered : (p : Plan) (q : ℕ) → is_ordered (queue_of p q).kind ≡ true → order_of p q ≡ (queue_of p q).order
+order_of-ordered p q ordered = cond-true (is_ordered (queue_of p q).kind) (queue_of p q).order 0 ordered
+
+pub order_of-plain : (p : Plan) (q : ℕ) → is_ordered (queue_of p q).kind ≡ false → order_of p q ≡ 0
+order_of-plain p q plain = cond-false (is_ordered (queue_of p q).kind) (queue_of p q).order 0 plain
+
+-- a queue that restores no order has no places
+pub plain_none : (p : Plan) (ws : List Waits) (rs : List Reordering) (us : List (List Entry)) (q : ℕ) → ArePlaces p ws rs us → q < length p.queues
+    → is_ordered (queue_of p q).kind ≡ false → (order_at rs q).places ≡ []
+plain_none p ws rs us q a h plain = none_of (order_at rs q).places few
+  where
+    few : length (order_at rs q).places ≤ 0
+    few =
+        let o = a.each q h in
+        let within = o.within in
+        let room = o.room in
+        let none = order_of-plain p q plain in
+        omega arith
+
+    none_of : (xs : List Place) → length xs ≤ 0 → xs ≡ []
+    none_of [] le = refl
+    none_of (x ∷ xs) le = absurd (omega arith)
+
+-- whether there is room for a place more
+pub room_is : (p : Plan) (ws : List Waits) (rs : List Reordering) (us : List (List Entry)) (q : ℕ) → ArePlaces p ws rs us → q < length p.queues
+    → is_ordered (queue_of p q).kind ≡ true → nat_lt (length (order_at rs q).places) (order_at rs q).depth ≡ nat_lt (length (order_at rs q).places) (queue_of p q).order
+room_is p ws rs us q a h ordered = ap (nat_lt (length (order_at rs q).places)) ((a.each q h).room ∙ order_of-ordered p q ordered)
+
+pub places_within : (p : Plan) (ws : List Waits) (rs : List Reordering) (us : List (List Entry)) (q : ℕ) → ArePlaces p ws rs us → q < length p.queues
+    → length (order_at rs q).places ≤ order_of p q
+places_within p ws rs us q a h = subst (λ n. length (order_at rs q).places ≤ n) (a.each q h).room (a.each q h).within
+
+-- no more events are kept than there are places
+pub kept_within : (p : Plan) (ws : List Waits) (rs : List Reordering) (us : List (List Entry)) (q : ℕ) → ArePlaces p ws rs us → q < length p.queues
+    → kept_of (order_at rs q).places ≤ order_of p q
+kept_within p ws rs us q a h =
+    let le = places_within p ws rs us q a h in
+    let each = kept_each (order_at rs q).places (a.each q h).keeps in
+    omega arith
+  where
+    kept_each : (xs : List Place) → All (KeepsOne p) xs → kept_of xs ≤ length xs
+    kept_each [] all = omega arith
+    kept_each (x ∷ xs) all =
+        let first : KeepsOne p x = All-head (KeepsOne p) x xs all in
+        let one : length x.forwards ≤ 1 = first.0 in
+        let rest : kept_of xs ≤ length xs = kept_each xs (All-tail (KeepsOne p) x xs all) in
+        let long : length (x ∷ xs) ≡ length xs + 1 = omega arith in
+        omega (arith, one, rest, long, sum_by-cons (λ (y : Place). length y.forwards) x xs)
+
+-- what a place that leaves keeps
+pub leaving_keeps : (p : Plan) (ws : List Waits) (rs : List Reordering) (us : List (List Entry)) (q : ℕ) (x : Place) → ArePlaces p ws rs us → q < length p.queues
+    → oldest_answered (order_at rs q).places ≡ Some x → KeepsOne p x
+leaving_keeps p ws rs us q x a h e =
+    let is = leaving_is (order_at rs q).places x e in
+    All-head (KeepsOne p) x (drop 1 (order_at rs q).places) (subst (All (KeepsOne p)) is.0 (a.each q h).keeps)
+
+-- fewer places are left
+pub leaving_shorter : (xs : List Place) (x : Place) → oldest_answered xs ≡ Some x → length (drop 1 xs) + 1 ≡ length xs
+leaving_shorter xs x e =
+    let is = leaving_is xs x e in
+    sym (ap (λ (ys : List Place). length ys) is.0 ∙ omega arith)
+
+-- the answer of an entry, as the view has it
+pub answers_places : (p : Plan) (ws : List Waits) (rs : List Reordering) (us : List (List Entry)) (l k : ℕ) (y : Entry) (f : Option Event) (v : View) → ArePlaces p ws rs us
+    → entry_at us l k ≡ Some y → is_ordered (queue_of p y.queue).kind ≡ true → places_at v y.queue ≡ (order_at rs y.queue).places
+    → (after_resolve (order_at rs y.queue) y.place f).places ≡ answered_places v y.queue y.number (outcome_of f)
+answers_places p ws rs us l k y f v a at ordered same =
+    resolve_answers p (order_of p y.queue) (waits_at ws y.queue) (order_at rs y.queue) y f (a.each y.queue (queue_there p ws rs us l k y a at ordered)) (a.held l k y at ordered)
+    ∙ ap (map _) (sym same)
+
+-- ---- the view's places after a small move
+
+pub places_here : (rs : List Reordering) (q : ℕ) → get_or (map places_in rs) q [] ≡ (order_at rs q).places
+places_here [] q = refl
+places_here (r ∷ rs) zero = refl
+places_here (r ∷ rs) (suc q) = places_here rs q
+
+-- the places of a view whose buffers these are
+pub places_are : (v : View) (rs : List Reordering) (q : ℕ) → v.places ≡ map places_in rs → places_at v q ≡ (order_at rs q).places
+places_are v rs q is = ap (λ (ps : List (List Place)). get_or ps q []) is ∙ places_here rs q
+
+places_set : (v : View) (rs : List Reordering) (q : ℕ) (r : Reordering) (xs : List Place) → v.places ≡ map places_in rs → r.places ≡ xs
+    → map places_in (set rs q r) ≡ set v.places q xs
+places_set v rs q r xs is same = map-set places_in rs q r ∙ (ap (set (map places_in rs) q) same ∙ ap (λ (ps : List (List Place)). set ps q xs) (sym is))
+
+pub given_view : (v : View) (rs : List Reordering) (q n : ℕ) → v.places ≡ map places_in rs
+    → map places_in (set rs q (after_hand (order_at rs q) n)) ≡ set v.places q (places_at v q ++ open_place n ∷ [])
+given_view v rs q n is =
+    places_set v rs q (after_hand (order_at rs q) n) (places_at v q ++ open_place n ∷ []) is (ap (λ xs. xs ++ open_place n ∷ []) (sym (places_are v rs q is)))
+
+pub answered_view-places : (p : Plan) (ws : List Waits) (rs : List Reordering) (us : List (List Entry)) (l k : ℕ) (y : Entry) (f : Option Event) (v : View) → ArePlaces p ws rs us
+    → entry_at us l k ≡ Some y → is_ordered (queue_of p y.queue).kind ≡ true → v.places ≡ map places_in rs
+    → map places_in (set rs y.queue (after_resolve (order_at rs y.queue) y.place f)) ≡ set v.places y.queue (answered_places v y.queue y.number (outcome_of f))
+answered_view-places p ws rs us l k y f v a at ordered is =
+    places_set v rs y.queue (after_resolve (order_at rs y.queue) y.place f) (answered_places v y.queue y.number (outcome_of f)) is
+    (answers_places p ws rs us l k y f v a at ordered (places_are v rs y.queue is))
+
+pub after_leave-some : (r : Reordering) (x : Place) → oldest_answered r.places ≡ Some x → (after_leave r).places ≡ drop 1 r.places
+after_leave-some r x e = ap (λ o. (after_leaving r o).places) e
+
+pub after_leave-none : (r : Reordering) → oldest_answered r.places ≡ None → after_leave r ≡ r
+after_leave-none r e = ap (after_leaving r) e
+
+pub left_view : (v : View) (rs : List Reordering) (q : ℕ) (x : Place) → v.places ≡ map places_in rs → oldest_answered (order_at rs q).places ≡ Some x
+    → map places_in (set rs q (after_leave (order_at rs q))) ≡ set v.places q (drop 1 (places_at v q))
+left_view v rs q x is e =
+    places_set v rs q (after_leave (order_at rs q)) (drop 1 (places_at v q)) is
+    (after_leave-some (order_at rs q) x e ∙ ap (drop 1) (sym (places_are v rs q is)))

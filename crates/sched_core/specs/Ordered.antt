@@ -1,0 +1,94 @@
+-- What holds of the reorder buffers: the places of each ordered queue's, and the place of each unanswered event.
+use Rattle.std.specs.Prelude.{ℕ, ◌≡◌, ◌≢◌, ◌<◌, ◌≤◌, ◌^◌, true, List, [], length, sum_by, slice_get, slice_index_or, Option, Some, None, All, AllPairs, if◌then◌else◌}
+use Rattle.evt_types.specs.Plan.{Plan, queue_of, is_ordered}
+use Rattle.evt_types.specs.Standing.{Place}
+use Rattle.evt_types.specs.declared.event.Event.{Event}
+use Rattle.evt_types.specs.declared.event.Numbered.{Numbered}
+use Rattle.evt_types.specs.declared.step.Outcome.{Outcome}
+use Rattle.evt_types.specs.declared.step.Outcome.TheVariants.{Forwarded, Released}
+use Rattle.order_parts.specs.Reorder.{Reordering, empty, number_of, open_place}
+use Rattle.order_parts.specs.declared.history.Entry.{Entry}
+use Rattle.sched_core.specs.Waits.{Waits, no_waits}
+
+-- how many places the queue's buffer has room for: another queue restores no order and has none
+abbrev pub order_of : Plan → ℕ → ℕ
+order_of p q = if is_ordered (queue_of p q).kind then (queue_of p q).order else 0
+
+-- the buffer of a queue, and what waits in it
+abbrev pub order_at : List Reordering → ℕ → Reordering
+order_at rs q = slice_index_or rs q (empty 0)
+
+abbrev pub waits_at : List Waits → ℕ → Waits
+waits_at ws q = slice_index_or ws q (no_waits 0)
+
+-- what a view has of a buffer
+abbrev pub places_in : Reordering → List Place
+places_in r = r.places
+
+-- the unanswered events of a lane, and the one at a place among them
+abbrev pub entries_at : List (List Entry) → ℕ → List Entry
+entries_at us l = slice_index_or us l []
+
+abbrev pub entry_at : List (List Entry) → ℕ → ℕ → Option Entry
+entry_at us l k = slice_get (entries_at us l) k
+
+-- how an event is answered, by what it is forwarded as
+abbrev pub outcome_of : Option Event → Outcome
+outcome_of None = Released
+outcome_of (Some e) = Forwarded e
+
+-- how many events are kept in the places
+abbrev pub kept_of : List Place → ℕ
+kept_of xs = sum_by (λ (x : Place). length x.forwards) xs
+
+-- the places are of different numbers
+abbrev pub AreDistinct : List Place → Type 0
+AreDistinct xs = AllPairs (λ (x y : Place). x.number ≢ y.number) xs
+
+-- no event of the place's number waits
+abbrev pub IsGivenOf : Waits → Place → Type 0
+IsGivenOf w x = All (λ (v : Numbered). v.number ≢ x.number) w.waiting
+
+-- what the place keeps is one event at most, for a queue that is there
+abbrev pub KeepsOne : Plan → Place → Type 0
+KeepsOne p x = (length x.forwards ≤ 1) × All (λ (e : Event). e.queue < length p.queues) x.forwards
+
+-- A queue's buffer of this depth: its places are of different numbers, each of an event that was accepted and no longer waits.
+pub record IsOrder (p : Plan) (depth : ℕ) (w : Waits) (r : Reordering) : Type 0 where
+  pub room : r.depth ≡ depth
+  pub small : r.depth < 2 ^ 64
+  pub within : length r.places ≤ r.depth
+  pub first : r.first < 2 ^ 64
+  pub distinct : AreDistinct r.places
+  pub below : All (λ (x : Place). x.number < w.next) r.places
+  pub given : All (IsGivenOf w) r.places
+  pub keeps : All (KeepsOne p) r.places
+
+-- the event's place is this one from the front, and it is open
+pub record StandsAt (r : Reordering) (y : Entry) (k : ℕ) : Type 0 where
+  pub place : y.place ≡ number_of r k
+  pub there : slice_get r.places k ≡ Some (open_place y.number)
+
+abbrev pub StandsIn : Reordering → Entry → Type 0
+StandsIn r y = (k : ℕ) × StandsAt r y k
+
+-- an unanswered event of an ordered queue has a place there
+abbrev pub HasPlace : Plan → List Reordering → Entry → Type 0
+HasPlace p rs y = is_ordered (queue_of p y.queue).kind ≡ true → StandsIn (order_at rs y.queue) y
+
+abbrev pub HavePlaces : Plan → List Reordering → List (List Entry) → Type 0
+HavePlaces p rs us = (l k : ℕ) (y : Entry) → entry_at us l k ≡ Some y → HasPlace p rs y
+
+-- unanswered events of one number of an ordered queue are one
+abbrev pub AreOnce : Plan → List (List Entry) → Type 0
+AreOnce p us =
+    (l m j k : ℕ) (y z : Entry) → entry_at us l j ≡ Some y → entry_at us m k ≡ Some z → y.queue ≡ z.queue
+    → is_ordered (queue_of p y.queue).kind ≡ true → y.number ≡ z.number → (l ≡ m) × (j ≡ k)
+
+-- Of a device: each queue has its buffer, and each unanswered event of an ordered queue has a place of its own.
+pub record ArePlaces (p : Plan) (ws : List Waits) (rs : List Reordering) (us : List (List Entry)) : Type 0 where
+  pub queues : length ws ≡ length p.queues
+  pub count : length rs ≡ length p.queues
+  pub each : (q : ℕ) → q < length p.queues → IsOrder p (order_of p q) (waits_at ws q) (order_at rs q)
+  pub held : HavePlaces p rs us
+  pub once : AreOnce p us

@@ -1,0 +1,38 @@
+-- The reorder buffers of a device's queues: one of a queue that restores no order has no places, and no room for any.
+use Rattle.std.specs.Prelude.{ℕ, ◌≡◌, ◌<◌, Bool, ◌==◌, ◌||◌, length, nat_lt, Option, Some, None, All, if◌then◌else◌}
+use Rattle.evt_types.specs.declared.event.Event.{Event}
+use Rattle.order_parts.specs.Reorder.{Reordering, empty, after_hand, after_resolve}
+use Rattle.sched_core.specs.declared.orders.AllOrders.TheInside.{Inside}
+
+-- what is seen of a queue's buffer
+abbrev pub shown : Option Reordering → Reordering
+shown None = empty 0
+shown (Some r) = r
+
+-- a queue's buffer, where it has one, has room for some places
+abbrev pub IsBufferOf : Option Reordering → Type 0
+IsBufferOf None = Unit {0}
+IsBufferOf (Some r) = 0 < r.depth
+
+pub record AreOrders (a : Inside) : Type 0 where
+  pub buffers : All IsBufferOf a.queues.items
+
+-- the buffer's queue restores an order
+abbrev pub is_restoring : Reordering → Bool
+is_restoring r = nat_lt 0 r.depth
+
+-- there is a place for one more event, or it needs none
+abbrev pub has_place : Reordering → Bool
+has_place r = r.depth == 0 || nat_lt (length r.places) r.depth
+
+-- an event more was handed out, and an event answered
+abbrev pub handed : Reordering → ℕ → Reordering
+handed r n = if is_restoring r then after_hand r n else r
+
+abbrev pub resolved_in : Reordering → ℕ → Option Event → Reordering
+resolved_in r place e = if is_restoring r then after_resolve r place e else r
+
+-- a queue's new buffer, with room for so many
+pub record IsBuffer (n : ℕ) (o : Option Reordering) : Type 0 where
+  pub empty : shown o ≡ empty n
+  pub room : IsBufferOf o

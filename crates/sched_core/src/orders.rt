@@ -1,0 +1,139 @@
+//! The reorder buffers of a device's queues.
+
+ghost use Rattle.std.specs.Prelude.{◌≡◌, ◌<◌, ◌^◌, ◌&&◌, true, length, map, slice_set, slice_index_or, is_some, option_map, option_to_list, IfOk, IsTrue};
+ghost use Rattle.order_parts.specs.Reorder.{empty, next_number, place_at, is_open, after_resolve, kept_of, left, oldest_answered, after_leave, open_place};
+ghost use Rattle.sched_core.specs.Orders.{IsBuffer, is_restoring, has_place, handed, resolved_in};
+ghost use Rattle.sched_core.specs.Ordered.{order_at};
+ghost use Rattle.evt_types.specs.Plan.{kept_room};
+
+use evt_types::{Event, Numbered, QueueDraft};
+use order_parts::Reorder;
+use std::alloc::{AllocError, Global};
+use std::marker::Model;
+
+/// An ordered queue has a buffer with a place for each of its open events; any other queue restores no order and has none.
+#[derive(Debug, Drop)]
+pub struct AllOrders {
+    queues: Vec<Option<Reorder>>,
+}
+
+impl Model for AllOrders {
+    ghost use Rattle.std.specs.Prelude.{List, map};
+    ghost use Rattle.order_parts.specs.Reorder.{Reordering};
+    ghost use Rattle.sched_core.specs.Orders.{shown, AreOrders};
+
+    ghost Value = { List Reordering };
+
+    ghost view = { λ a. map shown a.queues.items };
+
+    ghost invariant = { AreOrders };
+}
+
+/// How many open events the queue may have: none are counted where it restores no order.
+pub fn order_of(queue: &QueueDraft) -> usize
+    ensures value { result ≡ kept_room queue.now }
+    ensures small { result < 2 ^ 32 }
+{
+    if queue.kind.is_ordered() {
+        queue.order as usize
+    } else {
+        0
+    }
+}
+
+/// The buffer of the queue, if it restores an order.
+fn buffer(alloc: Global, queue: &QueueDraft) -> Result<Option<Reorder>, AllocError>
+    ensures { IfOk result (λ o. IsBuffer (kept_room queue.now) o) }
+{
+    match order_of(queue) {
+        0 => Ok(None),
+        depth => Ok(Some(Reorder::new(alloc, depth)?)),
+    }
+}
+
+impl AllOrders {
+    /// The buffers of these queues, without places.
+    pub fn new(alloc: Global, queues: &[QueueDraft]) -> Result<AllOrders, AllocError>
+        ensures { IfOk result (λ o. o ≡ map (λ q. empty (kept_room q)) queues.now) }
+    {
+        let mut orders = Vec::with_capacity(alloc, queues.len())?;
+        for queue in queues {
+            orders.push(buffer(alloc, queue)?)?;
+        }
+        Ok(AllOrders { queues: orders })
+    }
+
+    /// Whether an event of the queue may be handed out: there is a place for it, or it needs none.
+    pub fn has_place(&self, queue: usize) -> bool
+        requires { queue < length self.now }
+        ensures { result ≡ has_place (order_at self.now queue) }
+    {
+        match &self.queues[queue] {
+            Some(order) => order.room(),
+            None => true,
+        }
+    }
+
+    /// The queue's event of this number is handed out: its place, which means something where the queue restores an order.
+    pub fn hand(&mut self, queue: usize, number: u64) -> u64
+        requires there { queue < length self.old }
+        requires room { IsTrue (has_place (order_at self.old queue)) }
+        ensures place { is_restoring (order_at self.old queue) ≡ true → result ≡ next_number (order_at self.old queue) }
+        ensures handed { self.new ≡ slice_set self.old queue (handed (order_at self.old queue) number) }
+    {
+        match &mut self.queues[queue] {
+            Some(order) => order.hand(number),
+            None => 0,
+        }
+    }
+
+    /// The event of the place is answered, by a forward or by its release: whether the forward is kept.
+    pub fn resolve(&mut self, queue: usize, place: u64, forward: Option<Event>) -> bool
+        requires there { queue < length self.old }
+        requires open { is_restoring (order_at self.old queue) ≡ true → IsTrue (is_open (place_at (order_at self.old queue) place)) }
+        ensures kept { result ≡ (is_restoring (order_at self.old queue) && is_some forward) }
+        ensures resolved { self.new ≡ slice_set self.old queue (resolved_in (order_at self.old queue) place forward) }
+    {
+        match &mut self.queues[queue] {
+            Some(order) => {
+                order.resolve(place, forward);
+                forward.is_some()
+            }
+            None => false,
+        }
+    }
+
+    /// The queue's oldest place leaves, where it is answered: its event's number, and what it was forwarded as.
+    pub fn leave(&mut self, queue: usize) -> Option<(u64, Option<Event>)>
+        requires { queue < length self.old }
+        ensures value { option_map left result ≡ oldest_answered (order_at self.old queue).places }
+        ensures rest { self.new ≡ slice_set self.old queue (after_leave (order_at self.old queue)) }
+    {
+        match &mut self.queues[queue] {
+            Some(order) => order.leave(),
+            None => None,
+        }
+    }
+
+    /// How many places of the queue there are.
+    pub fn len(&self, queue: usize) -> usize
+        requires { queue < length self.now }
+        ensures { result ≡ length (order_at self.now queue).places }
+    {
+        match &self.queues[queue] {
+            Some(order) => order.len(),
+            None => 0,
+        }
+    }
+
+    /// What the place at this index, counted from the oldest, keeps: its event's number, with what that was forwarded as.
+    pub fn kept_at(&self, queue: usize, index: usize) -> Option<Numbered>
+        requires { queue < length self.now }
+        ensures { option_to_list result ≡ kept_of (slice_index_or (order_at self.now queue).places index (open_place 0)) }
+    {
+        match &self.queues[queue] {
+            Some(order) => order.kept_at(index),
+            None => None,
+        }
+    }
+}

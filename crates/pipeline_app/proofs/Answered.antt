@@ -8,12 +8,12 @@ use Rattle.evt_types.specs.Plan.{Plan}
 use Rattle.evt_types.specs.declared.step.Source.TheVariants.{New, Of}
 use Rattle.evt_types.specs.declared.step.Step.{Step}
 use Rattle.evt_types.specs.declared.step.Step.TheVariants.{Accept, Give, Done, Turned, Bounced, Shut}
-use Rattle.pipeline_app.specs.Command.{Line, line_of}
+use Rattle.play_documents.specs.Command.{Line, line_of}
 use Rattle.pipeline_app.specs.Play.{ArePlayed, IsAnswerTo, is_shut_by, shut_after}
 use Rattle.pipeline_app.specs.Swept.{Adds}
 use Rattle.pipeline_app.specs.Text.{IsInRange}
 use Rattle.pipeline_app.specs.declared.answer.Answer.{Answer}
-use Rattle.pipeline_app.specs.declared.command.Command.{Command}
+use Rattle.play_documents.specs.declared.command.Command.{Command}
 
 -- one command more
 ArePlayed-push : (shut : Bool) (past : List Step) (cs : List Line) (answers : List Answer) (log : List Step) (c : Line) (a : Answer) (steps : List Step) → ArePlayed shut past cs answers log → IsAnswerTo (shut_after shut cs) log c a steps → ArePlayed shut past (cs ++ c ∷ []) (answers ++ a ∷ []) (log ++ steps)

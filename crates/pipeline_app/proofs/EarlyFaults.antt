@@ -1,13 +1,15 @@
 -- The faults of the reading are faults of the play.
 use Rattle.std.proofs.Common.{◌≡◌, ℕ, ◌<◌, List, Option, Some, None, Err, length, refl, sym, ap, subst, ◌∙◌}
 use Rattle.std.proofs.lemmas.Bool.{lt-ltb}
-use Rattle.pipeline_app.specs.Document.{IsNamed, IsNamedDoc, Fails, document_of}
+use Rattle.play_documents.specs.Document.{IsNamed, IsNamedDoc, Fails, document_of}
 use Rattle.pipeline_app.specs.Input.{IsInputFault}
-use Rattle.pipeline_app.specs.Play.{IsEarlyFault}
+use Rattle.play_documents.specs.declared.fault.ReadFault.{ReadFault}
+use Rattle.play_documents.specs.declared.fault.ReadFault.TheVariants as reads
+use Rattle.pipeline_app.specs.Play.{IsEarlyFault, app_fault}
 use Rattle.pipeline_app.specs.declared.fault.AppFault.{AppFault}
 use Rattle.pipeline_app.specs.declared.fault.AppFault.TheVariants.{Read, Write, Document, Memory, NoSeat}
-use Rattle.pipeline_app.specs.declared.fault.DocFault.{DocFault}
-use Rattle.pipeline_app.specs.declared.fault.DocFault.TheVariants.{TooLong}
+use Rattle.play_documents.specs.declared.fault.DocFault.{DocFault}
+use Rattle.play_documents.specs.declared.fault.DocFault.TheVariants.{TooLong}
 
 too_long : (input : List ℕ) → 1048576 < length input → document_of input ≡ Err TooLong
 unfolding document_of
@@ -24,9 +26,6 @@ IsEarlyFault-input (Some input) (Document f) h = (long_named f h.0, too_long inp
 IsEarlyFault-input known Memory h = tt
 IsEarlyFault-input known NoSeat h = absurd h
 
-pub IsEarlyFault-document : (bytes : List ℕ) (e : AppFault) → Fails e (document_of bytes) → IsNamed e → IsEarlyFault (Some bytes) e
-IsEarlyFault-document bytes Read h named = absurd h
-IsEarlyFault-document bytes Write h named = absurd h
-IsEarlyFault-document bytes (Document f) h named = (named, h)
-IsEarlyFault-document bytes Memory h named = tt
-IsEarlyFault-document bytes NoSeat h named = absurd h
+pub IsEarlyFault-document : (bytes : List ℕ) (e : ReadFault) → Fails e (document_of bytes) → IsNamed e → IsEarlyFault (Some bytes) (app_fault e)
+IsEarlyFault-document bytes (reads.Document f) h named = (named, h)
+IsEarlyFault-document bytes reads.Memory h named = tt

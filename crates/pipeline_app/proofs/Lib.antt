@@ -2,14 +2,8 @@ pub mod Answered
 pub mod Counts
 pub mod EarlyFaults
 pub mod HexWords
-pub mod Items
-pub mod Keys
-pub mod Lines
-pub mod Named
-pub mod Numerals
+pub mod Keeping
 pub mod Playing
-pub mod Plays
 pub mod PortPairs
 pub mod Ranges
 pub mod Sweeps
-pub mod Tables

@@ -1,20 +1,17 @@
 -- What the ports have left, as the device goes on.
-use Rattle.std.proofs.Common.{◌≡◌, ℕ, ◌<◌, ◌≤◌, ⊎_elim, Bool, true, false, cond, eqb, List, [], ◌∷◌, ◌++◌, Option, Some, None, length, get_or, set, refl, sym, ap, subst, ◌∙◌, append_assoc, length-set, arith}
+use Rattle.std.proofs.Common.{◌≡◌, ℕ, ◌<◌, ⊎_elim, Bool, true, false, cond, eqb, List, [], ◌∷◌, ◌++◌, Option, Some, None, length, get_or, set, refl, sym, ap, subst, ◌∙◌, append_assoc, length-set, arith}
 use Rattle.std.specs.Prelude.{All, Vec, filter_map}
 use Rattle.std.specs.declared.alloc.Global.{Global}
-use Rattle.std.proofs.lemmas.Bool.{cases_eq, cases_lt, eq-eqb, ne_eqb}
+use Rattle.std.proofs.lemmas.Bool.{cases_eq, eq-eqb, ne_eqb}
 use Rattle.std.proofs.lemmas.Grind.{get_or-set_at}
-use Rattle.std.proofs.lemmas.List.{append-nil, get_or-set_other, get_or_past}
-use Rattle.std.proofs.lemmas.List.Elements.{All-get_or, filter_map-append}
-use Rattle.evt_types.specs.Plan.{Plan, RestoresNoOrder, is_ordered, lanes_of, queue_of}
-use Rattle.evt_types.specs.Standing.{View, Stands, steps_of, steps_by, accepts_of, accepts_from, events_of, oldest_at}
-use Rattle.evt_types.specs.Transcript.{Held, out, given_to}
-use Rattle.evt_types.specs.declared.draft.QueueDraft.{QueueDraft}
+use Rattle.std.proofs.lemmas.List.{append-nil, get_or-set_other}
+use Rattle.std.proofs.lemmas.List.Elements.{All-get_or, All-head, All-tail, filter_map-append}
+use Rattle.evt_types.specs.Plan.{Plan, lanes_of}
+use Rattle.evt_types.specs.Standing.{View, Stands, steps_of, steps_by, accepts_of, oldest_at}
+use Rattle.evt_types.specs.Transcript.{given_to, is_from_of, out}
 use Rattle.evt_types.specs.declared.event.Event.{Event}
-use Rattle.evt_types.specs.declared.event.Kind.TheVariants.{Parallel}
 use Rattle.evt_types.specs.declared.event.Op.{Op}
 use Rattle.evt_types.specs.declared.event.Op.TheVariants.{New, Forward, Release}
-use Rattle.evt_types.specs.declared.step.Outcome.{Outcome}
 use Rattle.evt_types.specs.declared.step.Outcome.TheVariants.{Forwarded, Released}
 use Rattle.evt_types.specs.declared.step.Source.TheVariants as sources
 use Rattle.evt_types.specs.declared.step.Step.{Step}
@@ -27,6 +24,7 @@ use Rattle.pipeline_app.specs.declared.rig_port.RigPort.{RigPort}
 use Rattle.sched_core.specs.Taken.{is_passed_on, took_by, took_of}
 use Rattle.sched_core.specs.declared.take.Took.{Took}
 use Rattle.sched_core.specs.declared.take.Took.TheVariants as tooks
+use Rattle.evt_types.proofs.Replies.{accepts_of-of}
 use Rattle.pipeline_app.proofs.PortPairs.{IsLeftOf-same, IsLeftOf-trans}
 
 -- a port with less left
@@ -48,60 +46,51 @@ HaveLeft-log T S ports h e l d lt =
     let P : List (ℕ × ℕ) → Type 0 = λ xs. IsLeftOf (pairs_at (get_or ports l d)) xs in
     subst P (sym (e l)) (h l d lt)
 
--- at most two steps, which give nothing
-pub record IsQuiet (steps : List Step) : Type 0 where
-  pub count : length steps ≤ 2
-  pub quiet : (m : ℕ) → filter_map (given_to m) steps ≡ []
+-- steps that give nothing
+abbrev pub IsQuiet : List Step → Type 0
+IsQuiet steps = (m : ℕ) → filter_map (given_to m) steps ≡ []
 
 pub out-quiet : (T steps : List Step) (m : ℕ) → IsQuiet steps → out (T ++ steps) m ≡ out T m
 unfolding out
-out-quiet T steps m h = filter_map-append (given_to m) T steps ∙ (ap (λ xs. filter_map (given_to m) T ++ xs) (h.quiet m) ∙ append-nil (filter_map (given_to m) T))
+out-quiet T steps m h = filter_map-append (given_to m) T steps ∙ (ap (λ xs. filter_map (given_to m) T ++ xs) (h m) ∙ append-nil (filter_map (given_to m) T))
 
--- a queue that isn't there restores no order either
-none_ordered : (p : Plan) (q : ℕ) → RestoresNoOrder p → is_ordered (queue_of p q).kind ≡ false
-none_ordered p q h =
-    let d : QueueDraft = record { kind = Parallel; priority = 0; slots = 0; order = 0; single = false } in
-    ⊎_elim (λ (lt : q < length p.queues). All-get_or (λ (x : QueueDraft). is_ordered x.kind ≡ false) p.queues q d lt h)
-    (λ (ge : length p.queues ≤ q). ap (λ (x : QueueDraft). is_ordered x.kind) (get_or_past p.queues q d ge))
-    (cases_lt q (length p.queues))
+-- ---- a reply
 
--- what is accepted after an answer: what the event is forwarded as
-abbrev forwarded : Option Held → Outcome → List Step
-forwarded None o = []
-forwarded (Some h) o = accepts_from h.queue h.number (events_of o)
+-- what is accepted from a forward gives nothing
+IsQuiet-forward : (s : Step) → is_from_of s ≡ true → IsQuiet (s ∷ [])
+IsQuiet-forward (Accept q e (sources.New l)) is m = absurd cc
+IsQuiet-forward (Accept q e (sources.Of r n)) is m = refl
+IsQuiet-forward (Give l q n) is m = absurd cc
+IsQuiet-forward (Done l o) is m = absurd cc
+IsQuiet-forward (Turned l e) is m = absurd cc
+IsQuiet-forward (Bounced l) is m = absurd cc
+IsQuiet-forward Shut is m = absurd cc
 
-accepts_now : (v : View) (h : Option Held) (o : Outcome) → RestoresNoOrder v.shape → accepts_of v h o ≡ forwarded h o
-accepts_now v None o u = refl
-accepts_now v (Some h) o u = rw (none_ordered v.shape h.queue u) refl
+IsQuiet-append : (xs ys : List Step) → IsQuiet xs → IsQuiet ys → IsQuiet (xs ++ ys)
+IsQuiet-append xs ys h k m = filter_map-append (given_to m) xs ys ∙ (ap (λ zs. zs ++ filter_map (given_to m) ys) (h m) ∙ k m)
 
--- What holds of each form that a reply's steps have holds of its steps.
-module _ (R : Took → List Step → Type 0) (v : View) (l : ℕ) (e : Event) (u : RestoresNoOrder v.shape) (turned : R tooks.Turned (Turned l e ∷ [])) (entered : R tooks.Accepted (Accept e.queue e (sources.New l) ∷ [])) (released : R tooks.Released (Done l Released ∷ [])) (sent : (b : Bool) → R (cond b tooks.Accepted tooks.Kept) (Done l (Forwarded e) ∷ [])) (passed : (b : Bool) (q n : ℕ) → R (cond b tooks.Accepted tooks.Kept) (Done l (Forwarded e) ∷ Accept e.queue e (sources.Of q n) ∷ [])) where
-  by_release : (h : Option Held) → R tooks.Released (Done l Released ∷ forwarded h Released)
-  by_release None = released
-  by_release (Some h) = released
+IsQuiet-forwards : (steps : List Step) → All (λ s. is_from_of s ≡ true) steps → IsQuiet steps
+IsQuiet-forwards [] all = λ m. refl
+IsQuiet-forwards (s ∷ steps) all =
+    IsQuiet-append (s ∷ []) steps (IsQuiet-forward s (All-head (λ t. is_from_of t ≡ true) s steps all))
+    (IsQuiet-forwards steps (All-tail (λ t. is_from_of t ≡ true) s steps all))
 
-  by_forward : (b : Bool) (h : Option Held) → R (cond b tooks.Accepted tooks.Kept) (Done l (Forwarded e) ∷ forwarded h (Forwarded e))
-  by_forward b None = sent b
-  by_forward b (Some h) = passed b h.queue h.number
-
+-- What holds of each form that a reply's steps have holds of its steps: an answer is followed by what is accepted from
+-- forwards alone.
+module _ (R : Took → List Step → Type 0) (v : View) (l : ℕ) (e : Event) (turned : R tooks.Turned (Turned l e ∷ [])) (entered : R tooks.Accepted (Accept e.queue e (sources.New l) ∷ [])) (released : (rest : List Step) → All (λ s. is_from_of s ≡ true) rest → R tooks.Released (Done l Released ∷ rest)) (forwarded : (b : Bool) (rest : List Step) → All (λ s. is_from_of s ≡ true) rest → R (cond b tooks.Accepted tooks.Kept) (Done l (Forwarded e) ∷ rest)) where
   by_op : (o : Op) → R (took_by o v l e) (steps_by o v l e)
   by_op New = elim v.shut as (λ b. R (cond b tooks.Turned tooks.Accepted) (cond b (Turned l e ∷ []) (Accept e.queue e (sources.New l) ∷ []))) [ true ↦ turned | false ↦ entered ]
-  by_op Forward =
-      let b = is_passed_on (oldest_at v l) (steps_of v l e) in
-      let P : List Step → Type 0 = λ xs. R (cond b tooks.Accepted tooks.Kept) (Done l (Forwarded e) ∷ xs) in
-      subst P (sym (accepts_now v (oldest_at v l) (Forwarded e) u)) (by_forward b (oldest_at v l))
-  by_op Release =
-      let P : List Step → Type 0 = λ xs. R tooks.Released (Done l Released ∷ xs) in
-      subst P (sym (accepts_now v (oldest_at v l) Released u)) (by_release (oldest_at v l))
+  by_op Forward = forwarded (is_passed_on (oldest_at v l) (steps_of v l e)) (accepts_of v (oldest_at v l) (Forwarded e)) (accepts_of-of v (oldest_at v l) (Forwarded e))
+  by_op Release = released (accepts_of v (oldest_at v l) Released) (accepts_of-of v (oldest_at v l) Released)
 
   pub reply_forms : R (took_of v l e) (steps_of v l e)
   reply_forms = by_op e.op
 
 -- a reply gives nothing
-pub IsQuiet-reply : (v : View) (l : ℕ) (e : Event) → RestoresNoOrder v.shape → IsQuiet (steps_of v l e)
-IsQuiet-reply v l e u =
-    reply_forms (λ t steps. IsQuiet steps) v l e u (record { count = omega arith; quiet = λ m. refl }) (record { count = omega arith; quiet = λ m. refl }) (record { count = omega arith; quiet = λ m. refl })
-    (λ b. record { count = omega arith; quiet = λ m. refl }) (λ b q n. record { count = omega arith; quiet = λ m. refl })
+pub IsQuiet-reply : (v : View) (l : ℕ) (e : Event) → IsQuiet (steps_of v l e)
+IsQuiet-reply v l e =
+    reply_forms (λ t steps. IsQuiet steps) v l e (λ m. refl) (λ m. refl) (λ rest all. IsQuiet-append (Done l Released ∷ []) rest (λ m. refl) (IsQuiet-forwards rest all))
+    (λ b rest all. IsQuiet-append (Done l (Forwarded e) ∷ []) rest (λ m. refl) (IsQuiet-forwards rest all))
 
 -- what a Give adds to each lane's pairs
 given_more : (T : List Step) (i q n m : ℕ) → out (T ++ Give i q n ∷ []) m ≡ out T m ++ cond (eqb i m) ((q, n) ∷ []) []
@@ -135,7 +124,6 @@ HaveLeft-give T ports i q n d0 port h lt pairs l d in_range =
 pub IsRig-from : (r : Rig) (core : View) (ports : Vec RigPort Global) (pool : Pool) (log : Vec Step Global) → IsRig r → Stands log.items core → core.shape ≡ r.core.shape → length ports.items ≡ length r.ports.items → HaveLeft log.items ports.items → IsRig (record { core = core; ports = ports; pool = pool; log = log })
 IsRig-from r core ports pool log h stands e count left = record {
   stands = stands;
-  unordered = rw e h.unordered;
   small = rw e h.small;
   ports = count ∙ (h.ports ∙ ap (λ (p : Plan). length p.ports) (sym e));
   left = left;
@@ -180,11 +168,11 @@ IsRig-give r core ports log i q n before port h lt e is more logged stands shape
     (subst Q (sym logged) (subst R (sym e) (HaveLeft-give r.log.items r.ports.items i q n before port h.left in_range more')))
 
 pub IsQuiet-bounced : (l : ℕ) → IsQuiet (Bounced l ∷ [])
-IsQuiet-bounced l = record { count = omega arith; quiet = λ m. refl }
+IsQuiet-bounced l m = refl
 
 pub IsQuiet-shut : (b : Bool) → IsQuiet (cond b [] (Shut ∷ []))
-IsQuiet-shut true = record { count = omega arith; quiet = λ m. refl }
-IsQuiet-shut false = record { count = omega arith; quiet = λ m. refl }
+IsQuiet-shut true m = refl
+IsQuiet-shut false m = refl
 
 -- nothing was given to the ports of a new device
 pub HaveLeft-none : (ports : List RigPort) → All (λ (x : RigPort). pairs_at x ≡ []) ports → HaveLeft [] ports

@@ -1,17 +1,18 @@
 -- What a sweep's steps are, and how many of each kind.
 use Rattle.std.proofs.Common.{◌≡◌, ℕ, ◌+◌, Bool, true, false, cond, List, [], ◌∷◌, ◌++◌, Some, None, refl, sym, ap, subst, ◌∙◌, add-zero, append_assoc, append-nil, arith}
-use Rattle.std.specs.Prelude.{◌||◌, ◌&&◌, not, count_by}
+use Rattle.std.specs.Prelude.{◌||◌, ◌&&◌, not, count_by, All}
+use Rattle.std.proofs.lemmas.List.Elements.{All-head, All-tail}
 use Rattle.std.proofs.lemmas.List.Folds.{list_any-append}
 use Rattle.std.proofs.lemmas.List.Sums.{sum_by-append}
-use Rattle.evt_types.specs.Plan.{RestoresNoOrder}
 use Rattle.evt_types.specs.Replies.{turned_count}
 use Rattle.evt_types.specs.Standing.{View, Stands, steps_of, view_of}
-use Rattle.evt_types.specs.Transcript.{has_shut, is_shut, is_turned}
+use Rattle.evt_types.specs.Transcript.{has_shut, is_from_of, is_shut, is_turned}
 use Rattle.evt_types.specs.declared.event.Event.{Event}
-use Rattle.evt_types.specs.declared.step.Outcome.TheVariants.{Forwarded}
-use Rattle.evt_types.specs.declared.step.Source.TheVariants.{Of}
+use Rattle.evt_types.specs.declared.step.Outcome.{Outcome}
+use Rattle.evt_types.specs.declared.step.Outcome.TheVariants.{Forwarded, Released}
+use Rattle.evt_types.specs.declared.step.Source.TheVariants.{New, Of}
 use Rattle.evt_types.specs.declared.step.Step.{Step}
-use Rattle.evt_types.specs.declared.step.Step.TheVariants.{Accept, Give, Done, Bounced, Shut}
+use Rattle.evt_types.specs.declared.step.Step.TheVariants.{Accept, Give, Done, Turned, Bounced, Shut}
 use Rattle.pipeline_app.specs.Swept.{Adds, IsSweep, Makes, MakesTaken, credit_of, is_taking, is_giving, is_bouncing, shut_seen}
 use Rattle.pipeline_app.specs.declared.answer.Swept.{Swept}
 use Rattle.sched_core.specs.Shutting.{shut_steps}
@@ -66,19 +67,35 @@ seen-turned false = refl
 
 -- ---- replies
 
--- a reply is taken by steps that count as one
-pub Makes-reply : (v : View) (l : ℕ) (e : Event) → RestoresNoOrder v.shape → Makes 1 (credit_of (took_of v l e)) 0 0 (steps_of v l e)
-Makes-reply v l e u =
-    reply_forms (λ t steps. Makes 1 (credit_of t) 0 0 steps) v l e u (record { taken = refl; turned = refl; given = refl; bounced = refl; shut = refl }) (record { taken = refl; turned = refl; given = refl; bounced = refl; shut = refl }) (record { taken = refl; turned = refl; given = refl; bounced = refl; shut = refl })
-    (λ b. sent b) (λ b q n. passed b q n)
-  where
-    sent : (b : Bool) → Makes 1 (credit_of (cond b tooks.Accepted tooks.Kept)) 0 0 (Done l (Forwarded e) ∷ [])
-    sent true = record { taken = refl; turned = refl; given = refl; bounced = refl; shut = refl }
-    sent false = record { taken = refl; turned = refl; given = refl; bounced = refl; shut = refl }
+-- what is accepted from a forward goes with its Done
+Makes-forward : (s : Step) → is_from_of s ≡ true → Makes 0 0 0 0 (s ∷ [])
+Makes-forward (Accept q e (New l)) is = absurd cc
+Makes-forward (Accept q e (Of r n)) is = record { taken = refl; turned = refl; given = refl; bounced = refl; shut = refl }
+Makes-forward (Give l q n) is = absurd cc
+Makes-forward (Done l o) is = absurd cc
+Makes-forward (Turned l e) is = absurd cc
+Makes-forward (Bounced l) is = absurd cc
+Makes-forward Shut is = absurd cc
 
-    passed : (b : Bool) (q n : ℕ) → Makes 1 (credit_of (cond b tooks.Accepted tooks.Kept)) 0 0 (Done l (Forwarded e) ∷ Accept e.queue e (Of q n) ∷ [])
-    passed true q n = record { taken = refl; turned = refl; given = refl; bounced = refl; shut = refl }
-    passed false q n = record { taken = refl; turned = refl; given = refl; bounced = refl; shut = refl }
+Makes-forwards : (steps : List Step) → All (λ s. is_from_of s ≡ true) steps → Makes 0 0 0 0 steps
+Makes-forwards [] all = Makes-none
+Makes-forwards (s ∷ steps) all =
+    Makes-append 0 0 0 0 0 0 0 0 (s ∷ []) steps (Makes-forward s (All-head (λ t. is_from_of t ≡ true) s steps all))
+    (Makes-forwards steps (All-tail (λ t. is_from_of t ≡ true) s steps all))
+
+Makes-answer : (l : ℕ) (o : Outcome) (rest : List Step) → All (λ s. is_from_of s ≡ true) rest → Makes 1 0 0 0 (Done l o ∷ rest)
+Makes-answer l o rest all =
+    Makes-append 1 0 0 0 0 0 0 0 (Done l o ∷ []) rest (record { taken = refl; turned = refl; given = refl; bounced = refl; shut = refl }) (Makes-forwards rest all)
+
+-- a reply is taken by steps that count as one
+pub Makes-reply : (v : View) (l : ℕ) (e : Event) → Makes 1 (credit_of (took_of v l e)) 0 0 (steps_of v l e)
+Makes-reply v l e =
+    reply_forms (λ t steps. Makes 1 (credit_of t) 0 0 steps) v l e (record { taken = refl; turned = refl; given = refl; bounced = refl; shut = refl }) (record { taken = refl; turned = refl; given = refl; bounced = refl; shut = refl })
+    (λ rest all. Makes-answer l Released rest all) sent
+  where
+    sent : (b : Bool) (rest : List Step) → All (λ s. is_from_of s ≡ true) rest → Makes 1 (credit_of (cond b tooks.Accepted tooks.Kept)) 0 0 (Done l (Forwarded e) ∷ rest)
+    sent true rest all = Makes-answer l (Forwarded e) rest all
+    sent false rest all = Makes-answer l (Forwarded e) rest all
 
 -- one reply more
 pub taken_more : (n t : ℕ) (took : Took) (a b c : List Step) → Adds (Makes n t 0 0) a b → Adds (MakesTaken (Some took)) b c → Adds (Makes (n + 1) (t + credit_of took) 0 0) a c

@@ -4,8 +4,8 @@ use Rattle.evt_types.specs.declared.shape.ShapeFault.{ShapeFault}
 use Rattle.evt_types.specs.declared.shape.ShapeFault.TheVariants as shapes
 use Rattle.pipeline_app.specs.declared.fault.AppFault.{AppFault}
 use Rattle.pipeline_app.specs.declared.fault.AppFault.TheVariants.{Read, Write, Document, Memory, NoSeat}
-use Rattle.pipeline_app.specs.declared.fault.DocFault.{DocFault}
-use Rattle.pipeline_app.specs.declared.fault.DocFault.TheVariants.{TooLong, NotToml, UnknownKey, MissingKey, BadValue, Shape, BadCommand}
+use Rattle.play_documents.specs.declared.fault.DocFault.{DocFault}
+use Rattle.play_documents.specs.declared.fault.DocFault.TheVariants.{TooLong, NotToml, UnknownKey, MissingKey, BadValue, Shape, BadCommand}
 
 -- the name of a configuration's refusal, which want of memory isn't
 abbrev pub shape_fault_name : ShapeFault → Option (List ℕ)

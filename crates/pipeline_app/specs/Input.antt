@@ -2,8 +2,8 @@
 use Rattle.std.specs.Prelude.{ℕ, ◌≡◌, ◌<◌, List, length, Option, IfSome}
 use Rattle.pipeline_app.specs.declared.fault.AppFault.{AppFault}
 use Rattle.pipeline_app.specs.declared.fault.AppFault.TheVariants.{Read, Write, Document, Memory, NoSeat}
-use Rattle.pipeline_app.specs.declared.fault.DocFault.TheVariants.{TooLong}
-use Rattle.pipeline_app.specs.declared.input.TheConstants.{MAX_INPUT}
+use Rattle.play_documents.specs.declared.fault.DocFault.TheVariants.{TooLong}
+use Rattle.play_documents.specs.declared.document.TheConstants.{MAX_INPUT}
 
 -- Which faults the reading may answer: that the document is too long where what stood to be read is, a read's and that of memory.
 abbrev pub IsInputFault : Option (List ℕ) → AppFault → Type 0

@@ -4,12 +4,14 @@ use Rattle.std.specs.Io.KnownBytes.{Appends, Keeps}
 use Rattle.evt_types.specs.Plan.{Plan, lanes_of}
 use Rattle.evt_types.specs.Standing.{View, Stands}
 use Rattle.evt_types.specs.declared.step.Step.{Step}
-use Rattle.pipeline_app.specs.Command.{Line, Enqueue, Dequeue, Sweep, Shut}
-use Rattle.pipeline_app.specs.Document.{Planned, IsNamedDoc, document_of}
+use Rattle.play_documents.specs.Command.{Line, Enqueue, Dequeue, Sweep, Shut}
+use Rattle.play_documents.specs.Document.{Planned, IsNamedDoc, document_of}
+use Rattle.play_documents.specs.declared.fault.ReadFault.{ReadFault}
+use Rattle.play_documents.specs.declared.fault.ReadFault.TheVariants as reads
 use Rattle.pipeline_app.specs.Output.{AppendsPrefix}
 use Rattle.pipeline_app.specs.Refusals.{is_new_op, is_stopped}
 use Rattle.pipeline_app.specs.Rig.{HaveLeft}
-use Rattle.pipeline_app.specs.Stopped.{by_lane, undelivered_at, held_at, untaken_at, waiting_in}
+use Rattle.pipeline_app.specs.Stopped.{by_lane, undelivered_at, held_at, untaken_at, kept_in, waiting_in}
 use Rattle.pipeline_app.specs.Swept.{IsSweep}
 use Rattle.pipeline_app.specs.Text.{text_of}
 use Rattle.pipeline_app.specs.declared.answer.Answer.{Answer}
@@ -60,10 +62,11 @@ ArePlayed shut past (c ∷ cs) [] log = ⊥
 ArePlayed shut past (c ∷ cs) (a ∷ more) log =
     (steps : List Step) × IsAnswerTo shut past c a steps × ArePlayed (is_shut_by c shut) (past ++ steps) cs more log
 
--- The report says where the events are: what waits, by queue and number, and of each lane's pairs the last ones, first those
+-- The report says where the events are: what waits, by queue and number, what is kept, and of each lane's pairs the last ones, first those
 -- that its port holds and then those that it hasn't received.
 pub record IsReport (T : List Step) (v : View) (ports : List RigPort) (report : Report) : Type 0 where
   pub waiting : report.waiting.items ≡ waiting_in v
+  pub kept : report.kept.items ≡ kept_in v
   pub lanes : length ports ≡ lanes_of v.shape
   pub left : HaveLeft T ports
   pub held : report.held.items ≡ by_lane held_at 0 ports
@@ -105,6 +108,11 @@ AfterFault known old new app.Read = Keeps old new
 AfterFault known old new (app.Document f) = Keeps old new
 AfterFault known old new app.Memory = Keeps old new
 AfterFault known old new app.NoSeat = Keeps old new
+
+-- the fault of a document's reading, as one of the play
+abbrev pub app_fault : ReadFault → AppFault
+app_fault (reads.Document f) = app.Document f
+app_fault reads.Memory = app.Memory
 
 -- which faults come before the first byte is written: a document's where it is its first
 abbrev pub IsEarlyFault : Option (List ℕ) → AppFault → Type 0

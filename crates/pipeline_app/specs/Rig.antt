@@ -1,8 +1,7 @@
 -- What holds of a device in one thread between two commands.
-use Rattle.std.specs.Prelude.{ℕ, ◌≡◌, ◌+◌, ◌<◌, ◌≤◌, List, length, slice_index_or, vec_len, vec_capacity, Vec}
-use Rattle.std.specs.declared.alloc.Global.{Global}
-use Rattle.evt_types.specs.Plan.{Plan, RestoresNoOrder, lanes_of}
-use Rattle.evt_types.specs.Standing.{Stands}
+use Rattle.std.specs.Prelude.{ℕ, ◌≡◌, ◌+◌, ◌<◌, ◌≤◌, List, length, slice_index_or, vec_len, vec_capacity}
+use Rattle.evt_types.specs.Plan.{Plan, lanes_of}
+use Rattle.evt_types.specs.Standing.{Stands, kept_in}
 use Rattle.evt_types.specs.Transcript.{out}
 use Rattle.evt_types.specs.declared.step.Step.{Step}
 use Rattle.pipeline_app.specs.Pairs.{IsLeftOf, pairs_at}
@@ -21,16 +20,15 @@ HaveLeft T ports = (l : ℕ) (d : RigPort) → l < length ports → IsLeftOf (pa
 
 pub record IsRig (r : Rig) : Type 0 where
   pub stands : Stands r.log.items r.core
-  pub unordered : RestoresNoOrder r.core.shape
   pub small : IsSmall r.core.shape
   pub ports : length r.ports.items ≡ lanes_of r.core.shape
   pub left : HaveLeft r.log.items r.ports.items
 
--- the log has room for n steps more
-abbrev pub HasRoom : ℕ → Vec Step Global → Type 0
-HasRoom n log = vec_len log + n ≤ vec_capacity log
+-- The log has room for n steps more, and for all that the core keeps.
+abbrev pub HasRoom : ℕ → Rig → Type 0
+HasRoom n r = vec_len r.log + (kept_in r.core + n) ≤ vec_capacity r.log
 
--- one became the other by n steps at most
-pub record Grew (n : ℕ) (old new : Vec Step Global) : Type 0 where
-  pub len : vec_len new ≤ vec_len old + n
-  pub capacity : vec_capacity new ≡ vec_capacity old
+-- The log grew by n steps at most, and by what the core keeps no more.
+pub record Grew (n : ℕ) (old new : Rig) : Type 0 where
+  pub len : vec_len new.log + kept_in new.core ≤ vec_len old.log + (kept_in old.core + n)
+  pub capacity : vec_capacity new.log ≡ vec_capacity old.log

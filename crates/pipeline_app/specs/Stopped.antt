@@ -9,17 +9,22 @@ use Rattle.evt_types.specs.declared.event.Op.{Op}
 use Rattle.evt_types.specs.declared.event.Op.TheVariants as ops
 use Rattle.evt_types.specs.declared.event.Reply.{Reply}
 use Rattle.pipeline_app.specs.declared.report.Held.{Held}
+use Rattle.pipeline_app.specs.declared.report.Kept.{Kept}
 use Rattle.pipeline_app.specs.declared.report.Report.{Report}
 use Rattle.pipeline_app.specs.declared.report.Undelivered.{Undelivered}
 use Rattle.pipeline_app.specs.declared.report.Untaken.{Untaken}
 use Rattle.pipeline_app.specs.declared.report.Waiting.{Waiting}
 use Rattle.pipeline_app.specs.declared.rig.Rig.{Rig}
 use Rattle.pipeline_app.specs.declared.rig_port.RigPort.{RigPort}
+use Rattle.sched_core.specs.KeptEvents.{kept_at}
 
 -- ---- an event in its place
 
 abbrev pub waiting_of : ℕ → ℕ → Waiting
 waiting_of q n = record { queue = q; number = n }
+
+abbrev pub kept_of : ℕ → Numbered → Kept
+kept_of q w = record { queue = q; number = w.number; event = w.event }
 
 abbrev pub undelivered_of : ℕ → Delivery → Undelivered
 undelivered_of l d = record { lane = l; queue = d.queue; number = d.number }
@@ -59,9 +64,14 @@ numbers_of ws = map (λ (w : Numbered). w.number) ws
 abbrev pub waiting_in : View → List Waiting
 waiting_in v = flat_map (λ q. map (waiting_of q) (numbers_of (waiting_at v q))) (queues v.shape)
 
+-- the events that are kept, by queue
+abbrev pub kept_in : View → List Kept
+kept_in v = flat_map (λ q. map (kept_of q) (kept_at v q)) (queues v.shape)
+
 -- the report of a device
 pub record IsReportOf (r : Rig) (report : Report) : Type 0 where
   pub waiting : report.waiting.items ≡ waiting_in r.core
+  pub kept : report.kept.items ≡ kept_in r.core
   pub undelivered : report.undelivered.items ≡ by_lane undelivered_at 0 r.ports.items
   pub held : report.held.items ≡ by_lane held_at 0 r.ports.items
   pub untaken : report.untaken.items ≡ by_lane untaken_at 0 r.ports.items

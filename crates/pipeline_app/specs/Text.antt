@@ -21,6 +21,7 @@ use Rattle.pipeline_app.specs.declared.answer.Refused.{Refused}
 use Rattle.pipeline_app.specs.declared.answer.Refused.TheVariants.{Stopped, BadQueue, NothingHeld, Backpressure, Full}
 use Rattle.pipeline_app.specs.declared.answer.Swept.{Swept}
 use Rattle.pipeline_app.specs.declared.report.Held.{Held}
+use Rattle.pipeline_app.specs.declared.report.Kept.{Kept}
 use Rattle.pipeline_app.specs.declared.report.Report.{Report}
 use Rattle.pipeline_app.specs.declared.report.Undelivered.{Undelivered}
 use Rattle.pipeline_app.specs.declared.report.Untaken.{Untaken}
@@ -123,6 +124,9 @@ log_text p T = codes "log\n" ++ lines_after p [] T
 abbrev pub waiting_line : Waiting → List ℕ
 waiting_line w = codes "waiting " ++ place_text w.queue w.number ++ codes "\n"
 
+abbrev pub kept_line : Plan → Kept → List ℕ
+kept_line p k = codes "kept " ++ place_text k.queue k.number ++ codes " " ++ event_text p k.event ++ codes "\n"
+
 unfoldable pub undelivered_line : Undelivered → List ℕ
 undelivered_line u = codes "undelivered l" ++ decimal u.lane ++ codes " " ++ place_text u.queue u.number ++ codes "\n"
 
@@ -141,7 +145,7 @@ credits_text r =
 
 abbrev pub lists_text : Plan → Report → List ℕ
 lists_text p r =
-    flat_map waiting_line r.waiting.items ++ flat_map undelivered_line r.undelivered.items ++ flat_map held_line r.held.items ++ flat_map (untaken_line p) r.untaken.items
+    flat_map waiting_line r.waiting.items ++ flat_map (kept_line p) r.kept.items ++ flat_map undelivered_line r.undelivered.items ++ flat_map held_line r.held.items ++ flat_map (untaken_line p) r.untaken.items
 
 abbrev pub report_text : Plan → Report → List ℕ
 report_text p r = codes "report\n" ++ lists_text p r ++ credits_text r

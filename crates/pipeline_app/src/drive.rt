@@ -1,20 +1,19 @@
 //! A script is played on a device.
 
 ghost use Rattle.std.specs.Prelude.{◌≡◌, IfOk, IfErr, OnOk, map, string_bytes, Some};
-ghost use Rattle.evt_types.specs.Plan.{RestoresNoOrder, lanes_of};
-ghost use Rattle.pipeline_app.specs.Command.{IsPortThere, AllPortsThere, line_of};
+ghost use Rattle.evt_types.specs.Plan.{lanes_of};
+ghost use Rattle.play_documents.specs.Command.{IsPortThere, AllPortsThere, line_of};
 ghost use Rattle.pipeline_app.specs.Play.{IsAnswerTo, ArePlayed, is_shut_by, IsRun, HasRun, WritesRun, AfterFault, IsEarlyFault, IsFaultOf};
 ghost use Rattle.pipeline_app.specs.Rig.{IsRig};
 ghost use Rattle.pipeline_app.specs.Swept.{Adds};
 
 use crate::answer::Answer;
-use crate::command::Command;
-use crate::document::{Document, read_document};
-use crate::fault::AppFault;
+use crate::fault::{AppFault, app_fault};
 use crate::input::read_all;
 use crate::output::write_text;
 use crate::rig::Rig;
 use crate::text::text_of;
+use play_documents::{Command, Document, read_document};
 use std::alloc::{AllocError, Global};
 use std::io::{Read, Write};
 
@@ -71,8 +70,7 @@ impl Rig {
 
 /// The text of the document's run.
 fn run_text(alloc: Global, document: Document) -> Result<String, AllocError>
-    requires unordered { RestoresNoOrder document.shape }
-    requires ports { AllPortsThere document.shape document.commands.items }
+    requires { AllPortsThere document.shape document.commands.items }
     ensures { IfOk result (λ text. IsRun document.shape (map line_of document.commands.items) (string_bytes text)) }
 {
     let Document { shape, commands } = document;
@@ -89,7 +87,7 @@ fn document_text(alloc: Global, bytes: &[u8]) -> Result<String, AppFault>
 {
     match read_document(alloc, bytes) {
         Ok(document) => Ok(run_text(alloc, document)?),
-        Err(fault) => Err(fault),
+        Err(fault) => Err(app_fault(fault)),
     }
 }
 

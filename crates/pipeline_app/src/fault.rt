@@ -1,29 +1,11 @@
 //! Why a run of the program stops.
 
 ghost use Rattle.std.specs.Prelude.{◌≡◌};
+ghost use Rattle.pipeline_app.specs.Play.{app_fault};
 ghost use Rattle.pipeline_app.specs.declared.fault.AppFault.TheVariants.{Memory};
 
-use evt_types::ShapeFault;
+use play_documents::{DocFault, ReadFault};
 use std::alloc::{AllocError, AllocFailed};
-
-/// What is wrong with a document. Each is looked for in the whole document before the next.
-#[derive(Clone, Copy, Debug, PartialEq, Eq)]
-pub enum DocFault {
-    /// It has more bytes than a document may have.
-    TooLong,
-    /// Its bytes are no TOML.
-    NotToml,
-    /// A table has a key that isn't one of its own.
-    UnknownKey,
-    /// A table lacks a key that it needs.
-    MissingKey,
-    /// A value isn't of its key's type, range or texts.
-    BadValue,
-    /// The configuration is refused. What is held is never `Memory`.
-    Shape(ShapeFault),
-    /// The script's line of this number, counted from 1, is no command.
-    BadCommand(u32),
-}
 
 /// Why a run stops before its end.
 #[derive(Clone, Copy, Debug, PartialEq, Eq)]
@@ -53,5 +35,15 @@ impl<T: Drop> From<AllocFailed<T>> for AppFault {
 
     fn from(_error: AllocFailed<T>) -> AppFault {
         AppFault::Memory
+    }
+}
+
+/// What a play makes of the fault of its document's reading.
+pub fn app_fault(fault: ReadFault) -> AppFault
+    ensures { result ≡ app_fault fault }
+{
+    match fault {
+        ReadFault::Document(fault) => AppFault::Document(fault),
+        ReadFault::Memory => AppFault::Memory,
     }
 }

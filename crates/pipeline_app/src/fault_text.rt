@@ -3,10 +3,11 @@
 ghost use Rattle.std.specs.Prelude.{◌≡◌, ◌≤◌, ◌++◌, length, IfSome, option_map};
 ghost use Rattle.pipeline_app.specs.FaultText.{status_of, line_of_fault, shape_fault_name, doc_fault_name, line_number};
 
-use crate::fault::{AppFault, DocFault};
+use crate::fault::AppFault;
 use arrayvec::ArrayString;
 use evt_types::ShapeFault;
 use itoa::Buffer;
+use play_documents::DocFault;
 
 /// What is printed where memory ran out.
 const NO_MEMORY: &str = "evsched: out of memory or seats";

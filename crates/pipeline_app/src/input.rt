@@ -3,12 +3,10 @@
 ghost use Rattle.std.specs.Prelude.{◌≡◌, ◌≤◌, IfOk, IfErr, IfSome, vec_len};
 ghost use Rattle.pipeline_app.specs.Input.{IsInputFault};
 
-use crate::fault::{AppFault, DocFault};
+use crate::fault::AppFault;
+use play_documents::{DocFault, MAX_INPUT};
 use std::alloc::Global;
 use std::io::Read;
-
-/// The most bytes of a document.
-pub const MAX_INPUT: usize = 1_048_576;
 
 /// Reads to the end, but no further than one byte past the most that a document may have.
 pub fn read_all<R: Read>(alloc: Global, reader: &mut R) -> Result<Vec<u8>, AppFault>

@@ -9,6 +9,15 @@ pub struct Waiting {
     pub number: u64,
 }
 
+/// An event that is kept until all that its ordered queue handed out before is answered: the queue and the number of the
+/// event that it was forwarded from.
+#[derive(Clone, Copy, Debug, PartialEq, Eq)]
+pub struct Kept {
+    pub queue: usize,
+    pub number: u64,
+    pub event: Event,
+}
+
 /// An event that its lane was given and that no port has dequeued.
 #[derive(Clone, Copy, Debug, PartialEq, Eq)]
 pub struct Undelivered {
@@ -37,6 +46,8 @@ pub struct Untaken {
 pub struct Report {
     /// By queue and number.
     pub waiting: Vec<Waiting>,
+    /// By queue, in the order in which the events that they were forwarded from were handed out.
+    pub kept: Vec<Kept>,
     /// By lane, oldest first.
     pub undelivered: Vec<Undelivered>,
     /// By port, oldest first.

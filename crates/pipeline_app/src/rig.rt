@@ -1,7 +1,7 @@
 //! A device that one thread plays: the scheduling core, its ports and their credits over plain lists.
 
 ghost use Rattle.std.specs.Prelude.{◌≡◌, ◌<◌, ◌&&◌, [], false, true, nat_lt, slice_index_or, IfOk, OnOk, length};
-ghost use Rattle.evt_types.specs.Plan.{RestoresNoOrder, lanes_of};
+ghost use Rattle.evt_types.specs.Plan.{lanes_of};
 ghost use Rattle.pipeline_app.specs.Refusals.{answer_outcome, is_new_op, is_stopped, outcome_by, outcome_of};
 ghost use Rattle.pipeline_app.specs.Rig.{HaveLeft, IsRig};
 ghost use Rattle.pipeline_app.specs.declared.rig_port.RigPort.{RigPort as PortValue};
@@ -36,7 +36,6 @@ fn new_ports(alloc: Global, shape: &Shape) -> Result<Vec<RigPort>, AllocError>
 impl Rig {
     /// A device in which nothing has happened.
     pub fn new(alloc: Global, shape: Shape) -> Result<Rig, AllocError>
-        requires { RestoresNoOrder shape }
         ensures sound { IfOk result (λ r. IsRig r) }
         ensures shape { IfOk result (λ r. r.core.shape ≡ shape) }
         ensures fresh { IfOk result (λ r. (r.log.items ≡ []) × (r.pool.shut ≡ false)) }

@@ -3,12 +3,13 @@
 ghost use Rattle.std.specs.Prelude.{◌≡◌, ◌<◌, ◌++◌, map, flat_map, length, IfOk, OnOk};
 ghost use Rattle.evt_types.specs.Standing.{waiting_at};
 ghost use Rattle.pipeline_app.specs.Rig.{IsRig};
-ghost use Rattle.pipeline_app.specs.Stopped.{IsReportOf, by_lane, waiting_of, numbers_of, waiting_in, undelivered_of, undelivered_at, held_of, held_at, untaken_of, untaken_at};
+ghost use Rattle.sched_core.specs.KeptEvents.{kept_at};
+ghost use Rattle.pipeline_app.specs.Stopped.{IsReportOf, by_lane, waiting_of, numbers_of, waiting_in, kept_of, kept_in, undelivered_of, undelivered_at, held_of, held_at, untaken_of, untaken_at};
 
-use crate::report::{Held, Report, Undelivered, Untaken, Waiting};
+use crate::report::{Held, Kept, Report, Undelivered, Untaken, Waiting};
 use crate::rig::Rig;
 use crate::rig_port::RigPort;
-use evt_types::{Delivery, Op, Reply};
+use evt_types::{Delivery, Numbered, Op, Reply};
 use std::alloc::{AllocError, Global};
 
 impl Rig {
@@ -18,6 +19,7 @@ impl Rig {
     {
         Ok(Report {
             waiting: self.waiting(alloc)?,
+            kept: self.kept(alloc)?,
             undelivered: undelivered_in(alloc, &self.ports)?,
             held: held_in(alloc, &self.ports)?,
             untaken: untaken_in(alloc, &self.ports)?,
@@ -52,6 +54,42 @@ impl Rig {
         self.core.list_waiting(queue, &mut numbers);
         add_numbers(queue, &numbers, all)
     }
+}
+
+impl Rig {
+    /// The events that are kept, by queue and in hand-out order.
+    fn kept(&self, alloc: Global) -> Result<Vec<Kept>, AllocError>
+        ensures { IfOk result (λ v. v.items ≡ kept_in self.now.core) }
+    {
+        let mut all = Vec::new(alloc);
+        for queue in 0..self.core.shape().queues().len() {
+            self.add_kept(alloc, queue, &mut all)?;
+        }
+        Ok(all)
+    }
+
+    fn add_kept(&self, alloc: Global, queue: usize, all: &mut Vec<Kept>) -> Result<(), AllocError>
+        requires { queue < length self.now.core.shape.queues }
+        ensures { OnOk result (all.new.items ≡ all.old.items ++ map (kept_of queue) (kept_at self.now.core queue)) }
+    {
+        let mut events = Vec::with_capacity(alloc, self.core.places_len(queue))?;
+        self.core.list_kept(queue, &mut events);
+        add_events(queue, &events, all)
+    }
+}
+
+fn add_events(queue: usize, events: &[Numbered], all: &mut Vec<Kept>) -> Result<(), AllocError>
+    ensures { OnOk result (all.new.items ≡ all.old.items ++ map (kept_of queue) events.now) }
+{
+    for kept in events {
+        let Numbered { number, event } = *kept;
+        all.push(Kept {
+            queue,
+            number,
+            event,
+        })?;
+    }
+    Ok(())
 }
 
 fn add_numbers(queue: usize, numbers: &[u64], all: &mut Vec<Waiting>) -> Result<(), AllocError>

@@ -62,11 +62,11 @@ impl Rig {
     /// Where the device was shut, new events are turned away from now on.
     fn see_shut(&mut self)
         requires sound { IsRig self.old }
-        requires room { HasRoom 1 self.old.log }
+        requires room { HasRoom 1 self.old }
         ensures sound { IsRig self.new }
         ensures shape { self.new.core.shape ≡ self.old.core.shape }
         ensures steps { self.new.log.items ≡ self.old.log.items ++ shut_seen self.old.pool.shut self.old.log.items }
-        ensures room { Grew 1 self.old.log self.new.log }
+        ensures room { Grew 1 self.old self.new }
         ensures pool { self.new.pool ≡ self.old.pool }
     {
         if self.pool.is_shut() {
@@ -77,11 +77,11 @@ impl Rig {
     /// Takes the replies of each lane, up to the sweep quantum of each.
     fn take_replies(&mut self) -> Taken
         requires sound { IsRig self.old }
-        requires room { HasRoom (2 * self.old.core.shape.sweep * lanes_of self.old.core.shape) self.old.log }
+        requires room { HasRoom (2 * self.old.core.shape.sweep * lanes_of self.old.core.shape) self.old }
         ensures sound { IsRig self.new }
         ensures shape { self.new.core.shape ≡ self.old.core.shape }
         ensures steps { Adds (Makes result.replies result.turned 0 0) self.old.log.items self.new.log.items }
-        ensures room { Grew (2 * self.old.core.shape.sweep * lanes_of self.old.core.shape) self.old.log self.new.log }
+        ensures room { Grew (2 * self.old.core.shape.sweep * lanes_of self.old.core.shape) self.old self.new }
         ensures pool { self.new.pool ≡ self.old.pool }
     {
         let mut replies = 0;
@@ -98,11 +98,11 @@ impl Rig {
     fn take_lane(&mut self, lane: usize) -> Taken
         requires sound { IsRig self.old }
         requires lane { lane < lanes_of self.old.core.shape }
-        requires room { HasRoom (2 * self.old.core.shape.sweep) self.old.log }
+        requires room { HasRoom (2 * self.old.core.shape.sweep) self.old }
         ensures sound { IsRig self.new }
         ensures shape { self.new.core.shape ≡ self.old.core.shape }
         ensures steps { Adds (Makes result.replies result.turned 0 0) self.old.log.items self.new.log.items }
-        ensures room { Grew (2 * self.old.core.shape.sweep) self.old.log self.new.log }
+        ensures room { Grew (2 * self.old.core.shape.sweep) self.old self.new }
         ensures pool { self.new.pool ≡ self.old.pool }
         ensures quantum { result.replies ≤ self.old.core.shape.sweep }
         ensures turned { result.turned ≤ result.replies }
@@ -125,11 +125,11 @@ impl Rig {
     fn take_one(&mut self, lane: usize) -> Option<Took>
         requires sound { IsRig self.old }
         requires lane { lane < lanes_of self.old.core.shape }
-        requires room { HasRoom 2 self.old.log }
+        requires room { HasRoom 2 self.old }
         ensures sound { IsRig self.new }
         ensures shape { self.new.core.shape ≡ self.old.core.shape }
         ensures steps { Adds (MakesTaken result) self.old.log.items self.new.log.items }
-        ensures room { Grew 2 self.old.log self.new.log }
+        ensures room { Grew 2 self.old self.new }
         ensures pool { self.new.pool ≡ self.old.pool }
     {
         let Some(reply) = self.ports[lane].first_reply() else {
@@ -146,7 +146,7 @@ impl Rig {
     /// Gives waiting events, at most the sweep quantum of each queue, and passes over each lane whose ring is full.
     fn give_events(&mut self) -> Result<(usize, usize), AllocError>
         requires sound { IsRig self.old }
-        requires room { HasRoom (self.old.core.shape.sweep * length self.old.core.shape.queues + lanes_of self.old.core.shape) self.old.log }
+        requires room { HasRoom (self.old.core.shape.sweep * length self.old.core.shape.queues + lanes_of self.old.core.shape) self.old }
         ensures sound { OnOk result (IsRig self.new) }
         ensures shape { self.new.core.shape ≡ self.old.core.shape }
         ensures steps { IfOk result (λ x. Adds (Makes 0 0 x.0 x.1) self.old.log.items self.new.log.items) }
@@ -170,11 +170,11 @@ impl Rig {
     /// Gives what the core proposes, if it proposes anything. The delivery is pushed first.
     fn give_one(&mut self, skips: &mut Skips) -> Result<Option<Gave>, AllocError>
         requires sound { IsRig self.old }
-        requires room { HasRoom 1 self.old.log }
+        requires room { HasRoom 1 self.old }
         ensures sound { OnOk result (IsRig self.new) }
         ensures shape { self.new.core.shape ≡ self.old.core.shape }
         ensures steps { IfOk result (λ gave. Adds (MakesGiven gave) self.old.log.items self.new.log.items) }
-        ensures room { Grew 1 self.old.log self.new.log }
+        ensures room { Grew 1 self.old self.new }
         ensures pool { self.new.pool ≡ self.old.pool }
     {
         let Some(offer) = self.core.propose(skips) else {

@@ -5,7 +5,7 @@ ghost use Rattle.evt_types.specs.Plan.{queue_of};
 ghost use Rattle.pipeline_app.specs.Text as texts;
 
 use crate::answer::{Answer, Behind, Refused, Swept};
-use crate::report::{Held, Report, Undelivered, Untaken, Waiting};
+use crate::report::{Held, Kept, Report, Undelivered, Untaken, Waiting};
 use evt_types::{Delivery, Event, Kind, Op, Outcome, Shape, Source, Step};
 use std::alloc::{AllocError, Global};
 
@@ -275,6 +275,18 @@ fn write_waiting(all: &[Waiting], out: &mut String) -> Result<(), AllocError>
     Ok(())
 }
 
+fn write_kept(shape: &Shape, all: &[Kept], out: &mut String) -> Result<(), AllocError>
+    ensures { OnOk result (string_bytes out.new ≡ string_bytes out.old ++ flat_map (texts.kept_line shape.now) all.now) }
+{
+    for kept in all {
+        let (queue, number) = (kept.queue, kept.number);
+        write!(out, "kept q{queue} #{number} ")?;
+        write_event(shape, &kept.event, out)?;
+        out.push_str("\n")?;
+    }
+    Ok(())
+}
+
 #[tactic(auto, unfolding(crate::specs::Text::undelivered_line))]
 fn write_undelivered_line(undelivered: &Undelivered, out: &mut String) -> Result<(), AllocError>
     ensures { OnOk result (string_bytes out.new ≡ string_bytes out.old ++ texts.undelivered_line undelivered.now) }
@@ -344,6 +356,7 @@ fn write_lists(shape: &Shape, report: &Report, out: &mut String) -> Result<(), A
     ensures { OnOk result (string_bytes out.new ≡ string_bytes out.old ++ texts.lists_text shape.now report.now) }
 {
     write_waiting(&report.waiting, out)?;
+    write_kept(shape, &report.kept, out)?;
     write_undelivered(&report.undelivered, out)?;
     write_held(&report.held, out)?;
     write_untaken(shape, &report.untaken, out)

@@ -24,6 +24,7 @@ returns c =
       stands = c.in_ok-answers.ensures.sound.stands;
       reported = record {
         waiting = c.in_ok-report.ensures.waiting;
+        kept = c.in_ok-report.ensures.kept;
         lanes = c.in_ok-answers.ensures.sound.ports;
         left = c.in_ok-answers.ensures.sound.left;
         held = c.in_ok-report.ensures.held;

@@ -7,7 +7,6 @@ returns-in-Ok-clause-sound c =
     let within = c.shape.invariant.within in
     record {
       stands = rw c.new-in-Ok.ensures.items c.in-Ok.ensures.stands;
-      unordered = rw c.in-Ok.ensures.shape c.requires;
       small = rw c.in-Ok.ensures.shape (subst (λ p. IsSmall p) c.shape.view_is (record { queues = within.queue_count.1; lanes = within.port_count.1; sweep = within.sweep.1 }));
       ports = rw c.in-Ok.ensures.shape c.in_ok-ports.ensures.count;
       left = rw c.new-in-Ok.ensures.items c.in_ok-ports.ensures.empty;

@@ -1,5 +1,5 @@
 use Rattle.std.proofs.Common.{◌≡◌, take, map}
-use Rattle.pipeline_app.specs.Command.{line_of}
+use Rattle.play_documents.specs.Command.{line_of}
 use Rattle.pipeline_app.specs.Play.{ArePlayed, shut_after}
 use Rattle.pipeline_app.specs.Rig.{IsRig}
 use Rattle.pipeline_app.proofs.rig.Rig.obey_all.Given as goal

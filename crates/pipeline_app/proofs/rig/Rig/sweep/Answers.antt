@@ -1,5 +1,6 @@
-use Rattle.std.proofs.Common.{◌≡◌, ◌+◌, ◌-◌, ◌^◌, ◌++◌, sym, ap, ◌∙◌}
+use Rattle.std.proofs.Common.{◌≡◌, ◌+◌, ◌-◌, ◌^◌, ◌++◌, sym, ap, ◌∙◌, arith}
 use Rattle.std.specs.Prelude.{min}
+use Rattle.evt_types.proofs.Fewness.{kept_fit}
 use Rattle.pipeline_app.specs.Swept.{shut_seen}
 use Rattle.pipeline_app.specs.declared.answer.Swept.{Swept}
 use Rattle.pipeline_app.specs.declared.pool.Pool.{Pool}
@@ -9,6 +10,25 @@ use Rattle.pipeline_app.proofs.rig.Rig.sweep.Goals as goal
 
 pub see_shut-requires-clause-sound : goal.see_shut-requires-clause-sound
 see_shut-requires-clause-sound c = IsRig-log c.args.self.now c.reserve.new.self c.requires c.in_ok-reserve.ensures.items
+
+pub see_shut-requires-clause-room : goal.see_shut-requires-clause-room
+see_shut-requires-clause-room c =
+    let few = kept_fit c.args.self.now.core c.args.self.now.log.items c.requires.stands in
+    omega (arith, few, c.log_room-room.ensures, c.in_ok-reserve.ensures.ok)
+
+pub take_replies-taken-requires-clause-room : goal.take_replies-taken-requires-clause-room
+take_replies-taken-requires-clause-room c =
+    let few = kept_fit c.args.self.now.core c.args.self.now.log.items c.requires.stands in
+    let saw = c.see_shut.ensures.room in
+    rw c.see_shut.ensures.shape (omega (arith, few, c.log_room-room.ensures, c.in_ok-reserve.ensures.ok, saw.len, saw.capacity))
+
+pub give_events-requires-clause-room : goal.give_events-requires-clause-room
+give_events-requires-clause-room c =
+    let few = kept_fit c.args.self.now.core c.args.self.now.log.items c.requires.stands in
+    let saw = c.see_shut.ensures.room in
+    let took = rw c.see_shut.ensures.shape at c.take_replies-taken.ensures.room in
+    rw (c.take_replies-taken.ensures.shape, c.see_shut.ensures.shape)
+    (omega (arith, few, c.log_room-room.ensures, c.in_ok-reserve.ensures.ok, saw.len, saw.capacity, took.len, took.capacity))
 
 pub returns-clause-steps : goal.returns-clause-steps
 returns-clause-steps c =

@@ -1,8 +1,0 @@
-use Rattle.std.proofs.Common.{◌≡◌, map, take}
-use Rattle.evt_types.specs.Plan.{port_plan}
-use Rattle.pipeline_app.specs.Drafts.{port_asked}
-use Rattle.pipeline_app.specs.Survey.{port_seen}
-use Rattle.pipeline_app.proofs.drafts.port_drafts.Given as goal
-
-abbrev pub invariant-loop-row : goal.invariant-loop-row
-invariant-loop-row l = map port_plan l.drafts.items ≡ map port_asked (map port_seen (take l.row-index l.rows))

@@ -1,7 +1,0 @@
-use Rattle.std.proofs.Common.{◌∙◌}
-use Rattle.pipeline_app.specs.Field.{is_text}
-use Rattle.pipeline_app.proofs.Keys.{list_any-map}
-use Rattle.pipeline_app.proofs.field.is_known.Goals as goal
-
-pub returns : goal.returns
-returns c = c.is_among.ensures ∙ list_any-map (λ k. is_text k c.args.key.now) (λ k. k.now) c.args.known.now

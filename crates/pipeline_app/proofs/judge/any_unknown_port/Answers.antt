@@ -1,8 +1,0 @@
-use Rattle.std.proofs.Common.{◌∙◌}
-use Rattle.pipeline_app.specs.Judge.{is_unknown_port}
-use Rattle.pipeline_app.specs.Survey.{port_seen}
-use Rattle.pipeline_app.proofs.Keys.{list_any-map}
-use Rattle.pipeline_app.proofs.judge.any_unknown_port.Goals as goal
-
-pub returns : goal.returns
-returns c = c.some_unknown_port.ensures ∙ list_any-map is_unknown_port port_seen c.args.ports.now

@@ -1,0 +1,39 @@
+-- Reading the items of an array in turn.
+use Rattle.std.proofs.Common.{◌≡◌, ℕ, ◌+◌, ◌<◌, ◌≤◌, List, [], ◌∷◌, ◌++◌, length, get_or, drop, Option, Some, None, refl, sym, ap, ◌∙◌, append_assoc, append-nil}
+use Rattle.std.specs.Prelude.{option_map}
+use Rattle.std.proofs.lemmas.List.{at_drop_all}
+use Rattle.toml.proofs.Views.{items_view-drop}
+use Rattle.toml.specs.Data.{Data}
+use Rattle.toml.specs.View.{view, items_view}
+use Rattle.toml.specs.declared.value.Value.{Value}
+use Rattle.play_documents.specs.Field.{items_by}
+
+-- what was read before, and what is still read
+abbrev pub with_front : {A : Type 0} → List A → Option (List A) → Option (List A)
+with_front front read = option_map (λ xs. front ++ xs) read
+
+module _ {A : Type 0} (read : Data → Option A) where
+  -- one item more
+  one_more : (front : List A) (x : A) (o : Option (List A)) → with_front front (option_map (λ xs. x ∷ xs) o) ≡ with_front (front ++ x ∷ []) o
+  one_more front x None = refl
+  one_more front x (Some xs) = ap Some (sym (append_assoc front (x ∷ []) xs))
+
+  pub items-more : (vs : List Value) (i : ℕ) (d : Value) (front : List A) (x : A) (total : Option (List A)) → i < length vs → read (view (get_or vs i d)) ≡ Some x
+      → with_front front (items_by read (items_view (drop i vs))) ≡ total → with_front (front ++ x ∷ []) (items_by read (items_view (drop (i + 1) vs))) ≡ total
+  items-more vs i d front x total lt is so_far =
+      let here : items_by read (items_view (drop i vs)) ≡ option_map (λ xs. x ∷ xs) (items_by read (items_view (drop (i + 1) vs))) = rw (items_view-drop vs i d lt, is) refl in
+      sym (one_more front x (items_by read (items_view (drop (i + 1) vs)))) ∙ ap (with_front front) (sym here) ∙ so_far
+
+  -- an item that is refused
+  pub items-refused : (vs : List Value) (i : ℕ) (d : Value) (front : List A) (total : Option (List A)) → i < length vs → read (view (get_or vs i d)) ≡ None
+      → with_front front (items_by read (items_view (drop i vs))) ≡ total → total ≡ None
+  items-refused vs i d front total lt is so_far =
+      let here : items_by read (items_view (drop i vs)) ≡ None = rw (items_view-drop vs i d lt, is) refl in
+      sym so_far ∙ ap (with_front front) here
+
+  -- no item is left
+  pub items-all : (vs : List Value) (i : ℕ) (front : List A) (total : Option (List A)) → length vs ≤ i
+      → with_front front (items_by read (items_view (drop i vs))) ≡ total → total ≡ Some front
+  items-all vs i front total le so_far =
+      let here : items_by read (items_view (drop i vs)) ≡ Some [] = at_drop_all (λ ws. items_by read (items_view ws)) vs i le in
+      sym so_far ∙ ap (with_front front) here ∙ ap Some (append-nil front)

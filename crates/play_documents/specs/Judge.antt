@@ -1,0 +1,79 @@
+-- The faults that a document's rows show, in their order.
+use Rattle.std.specs.Prelude.{Bool, true, false, not, ◌||◌, Option, Some, None, if◌then◌else◌}
+use Rattle.std.specs.List.{list_any}
+use Rattle.evt_types.specs.declared.draft.Serving.{Serving}
+use Rattle.evt_types.specs.declared.draft.Serving.TheVariants.{Ports, Flows}
+use Rattle.evt_types.specs.declared.event.Kind.{Kind}
+use Rattle.evt_types.specs.declared.event.Kind.TheVariants.{Ordered, Atomic, Parallel}
+use Rattle.play_documents.specs.Field.{is_absent, is_bad, rows}
+use Rattle.play_documents.specs.Survey.{PortSeen, SurveySeen}
+use Rattle.play_documents.specs.declared.fault.DocFault.{DocFault}
+use Rattle.play_documents.specs.declared.fault.DocFault.TheVariants.{UnknownKey, MissingKey, BadValue}
+use Rattle.play_documents.specs.declared.field.Field.{Field}
+use Rattle.play_documents.specs.declared.field.Field.TheVariants.{Absent, Bad, Good}
+use Rattle.play_documents.specs.declared.survey.QueueRow.{QueueRow}
+
+-- some key isn't a queue's, or a port's
+abbrev pub is_unknown_queue : QueueRow → Bool
+is_unknown_queue q = not q.known
+
+abbrev pub is_unknown_port : PortSeen → Bool
+is_unknown_port p = not p.known
+
+-- an atomic queue needs its slots, an ordered one its order
+abbrev pub lacks_size : Field Kind → QueueRow → Bool
+lacks_size (Good Atomic) q = is_absent q.slots
+lacks_size (Good Ordered) q = is_absent q.order
+lacks_size (Good Parallel) q = false
+lacks_size Absent q = false
+lacks_size Bad q = false
+
+abbrev pub lacks_slots : QueueRow → Bool
+lacks_slots q = lacks_size q.kind q
+
+abbrev pub misses_queue : QueueRow → Bool
+misses_queue q = is_absent q.kind || lacks_slots q
+
+abbrev pub misses_port : PortSeen → Bool
+misses_port p = is_absent p.threshold || is_absent p.depth || is_absent p.replies || is_absent p.links
+
+-- some value is refused
+abbrev pub has_bad_queue : QueueRow → Bool
+has_bad_queue q = is_bad q.kind || is_bad q.priority || is_bad q.slots || is_bad q.order || is_bad q.single
+
+abbrev pub has_bad_port : PortSeen → Bool
+has_bad_port p = is_bad p.threshold || is_bad p.depth || is_bad p.replies || is_bad p.implicit || is_bad p.links
+
+-- the device is to be served by flows
+abbrev pub is_by_flows : Field Serving → Bool
+is_by_flows (Good Flows) = true
+is_by_flows (Good Ports) = false
+is_by_flows Absent = false
+is_by_flows Bad = false
+
+-- the four tests of a whole document
+unfoldable pub has_unknown : SurveySeen → Bool
+has_unknown s = not s.known || list_any is_unknown_queue (rows s.queues) || list_any is_unknown_port (rows s.ports)
+
+unfoldable pub has_missing : SurveySeen → Bool
+has_missing s =
+    is_absent s.limit || is_absent s.quantum || is_absent s.sweep || is_absent s.script || is_absent s.queues || is_absent s.ports
+    || list_any misses_queue (rows s.queues) || list_any misses_port (rows s.ports)
+
+unfoldable pub has_bad_top : SurveySeen → Bool
+has_bad_top s = is_bad s.limit || is_bad s.quantum || is_bad s.sweep || is_bad s.serving || is_bad s.script || is_bad s.queues || is_bad s.ports
+
+unfoldable pub has_bad : SurveySeen → Bool
+has_bad s = has_bad_top s || list_any has_bad_queue (rows s.queues) || list_any has_bad_port (rows s.ports)
+
+-- the device serves by its ports alone
+abbrev pub is_unserved : SurveySeen → Bool
+is_unserved s = is_by_flows s.serving
+
+-- the first fault: each is looked for in the whole document before the next
+unfoldable pub first_fault : SurveySeen → Option DocFault
+first_fault s =
+    if has_unknown s then Some UnknownKey
+    else (if has_missing s then Some MissingKey
+    else (if has_bad s then Some BadValue
+    else (if is_unserved s then Some BadValue else None)))

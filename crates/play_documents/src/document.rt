@@ -1,0 +1,154 @@
+//! The reading of a document.
+
+ghost use Rattle.std.specs.Prelude.{◌≡◌, [], map, None, IfOk, IfErr};
+ghost use Rattle.toml.specs.View.{table_view};
+ghost use Rattle.play_documents.specs.Command.{AllPortsThere, line_of};
+ghost use Rattle.play_documents.specs.Document.{Gives, IsNamed, parsed, shape_fault, checked, commands_in, judged, planned_of, document_of};
+ghost use Rattle.play_documents.specs.Drafts.{plan_asked};
+ghost use Rattle.play_documents.specs.Field.{value_or};
+ghost use Rattle.play_documents.specs.Judge.{first_fault};
+ghost use Rattle.play_documents.specs.Survey.{survey_seen};
+
+use crate::command::Command;
+use crate::drafts::draft_of;
+use crate::fault::{DocFault, ReadFault};
+use crate::field::Field;
+use crate::judge::first_fault;
+use crate::script::{ScriptFault, read_script};
+use crate::survey::{Survey, survey_of};
+use evt_types::{Shape, ShapeFault};
+use std::alloc::Global;
+use toml::Table;
+
+/// The most bytes of a document.
+pub const MAX_INPUT: usize = 1_048_576;
+
+/// What a document says: the configuration of a device, and the commands of its script.
+#[derive(Debug, Drop)]
+pub struct Document {
+    /// The configuration.
+    pub shape: Shape,
+    /// The commands of the script, in order.
+    pub commands: Vec<Command>,
+}
+
+/// The table that the bytes write.
+fn parsed(alloc: Global, bytes: &[u8]) -> Result<Table, ReadFault>
+    ensures { Gives table_view result (parsed bytes.now) }
+{
+    match toml::table_from_slice(alloc, bytes) {
+        Ok(table) => Ok(table),
+        Err(error) => {
+            if error.is_memory() {
+                Err(ReadFault::Memory)
+            } else {
+                Err(ReadFault::Document(DocFault::NotToml))
+            }
+        }
+    }
+}
+
+/// The fault of a refused configuration.
+fn shape_fault(fault: ShapeFault) -> ReadFault
+    ensures { result ≡ shape_fault fault }
+{
+    match fault {
+        ShapeFault::QueueCount
+        | ShapeFault::PortCount
+        | ShapeFault::LimitRange
+        | ShapeFault::QuantumRange
+        | ShapeFault::ThresholdRange
+        | ShapeFault::DepthRange
+        | ShapeFault::FlowSlots
+        | ShapeFault::OrderDepth
+        | ShapeFault::SweepRange
+        | ShapeFault::LinkUnknown
+        | ShapeFault::LinkTwice
+        | ShapeFault::QueueUnlinked
+        | ShapeFault::SingleLinkCount => ReadFault::Document(DocFault::Shape(fault)),
+        ShapeFault::Memory => ReadFault::Memory,
+    }
+}
+
+/// The configuration that the rows ask for, checked.
+fn shape_of(alloc: Global, survey: &Survey) -> Result<Shape, ReadFault>
+    requires { first_fault (survey_seen survey.now) ≡ None }
+    ensures { Gives (λ s. s) result (checked (plan_asked (survey_seen survey.now))) }
+{
+    let draft = draft_of(alloc, survey)?;
+    match Shape::build(alloc, &draft) {
+        Ok(shape) => Ok(shape),
+        Err(fault) => Err(shape_fault(fault)),
+    }
+}
+
+/// The script's text.
+fn script_text<'a>(survey: &Survey<'a>) -> &'a str
+    ensures { result.now ≡ value_or [] (survey_seen survey.now).script }
+{
+    match survey.script {
+        Field::Good(script) => script,
+        Field::Absent | Field::Bad => "",
+    }
+}
+
+/// The commands of a script, for so many ports.
+#[tactic(auto, unfolding(crate::specs::Document::commands_in))]
+fn commands_in(alloc: Global, ports: usize, script: &str) -> Result<Vec<Command>, ReadFault>
+    ensures { Gives (λ v. map line_of v.items) result (commands_in ports script.now) }
+{
+    // A script is a part of its document, so it isn't longer.
+    if script.len() > MAX_INPUT {
+        return Err(ReadFault::Memory);
+    }
+    match read_script(alloc, ports, script) {
+        Ok(commands) => Ok(commands),
+        Err(ScriptFault::Memory) => Err(ReadFault::Memory),
+        Err(ScriptFault::BadLine(line)) => Err(ReadFault::Document(DocFault::BadCommand(line))),
+    }
+}
+
+/// What the rows say.
+#[tactic(auto, unfolding(crate::specs::Document::judged))]
+fn judged(alloc: Global, survey: &Survey) -> Result<Document, ReadFault>
+    ensures { Gives planned_of result (judged (survey_seen survey.now)) }
+{
+    if let Some(fault) = first_fault(survey) {
+        return Err(ReadFault::Document(fault));
+    }
+    let shape = match shape_of(alloc, survey) {
+        Ok(shape) => shape,
+        Err(fault) => return Err(fault),
+    };
+    let ports = shape.lanes();
+    let script = script_text(survey);
+    match commands_in(alloc, ports, script) {
+        Ok(commands) => Ok(Document { shape, commands }),
+        Err(fault) => Err(fault),
+    }
+}
+
+/// What the bytes say.
+#[tactic(auto, unfolding(crate::specs::Document::document_of))]
+fn planned(alloc: Global, bytes: &[u8]) -> Result<Document, ReadFault>
+    ensures { Gives planned_of result (document_of bytes.now) }
+{
+    if bytes.len() > MAX_INPUT {
+        return Err(ReadFault::Document(DocFault::TooLong));
+    }
+    let table = match parsed(alloc, bytes) {
+        Ok(table) => table,
+        Err(fault) => return Err(fault),
+    };
+    let survey = survey_of(alloc, &table)?;
+    judged(alloc, &survey)
+}
+
+/// Reads a document: its configuration and its script's commands, or its first fault.
+pub fn read_document(alloc: Global, bytes: &[u8]) -> Result<Document, ReadFault>
+    ensures read { Gives planned_of result (document_of bytes.now) }
+    ensures named { IfErr result IsNamed }
+    ensures ports { IfOk result (λ d. AllPortsThere d.shape d.commands.items) }
+{
+    planned(alloc, bytes)
+}

@@ -1,0 +1,51 @@
+//! Why a document is refused.
+
+ghost use Rattle.std.specs.Prelude.{◌≡◌};
+ghost use Rattle.play_documents.specs.declared.fault.ReadFault.TheVariants.{Memory};
+
+use evt_types::ShapeFault;
+use std::alloc::{AllocError, AllocFailed};
+
+/// What is wrong with a document. Each is looked for in the whole document before the next.
+#[derive(Clone, Copy, Debug, PartialEq, Eq)]
+pub enum DocFault {
+    /// It has more bytes than a document may have.
+    TooLong,
+    /// Its bytes are no TOML.
+    NotToml,
+    /// A table has a key that isn't one of its own.
+    UnknownKey,
+    /// A table lacks a key that it needs.
+    MissingKey,
+    /// A value isn't of its key's type, range or texts.
+    BadValue,
+    /// The configuration is refused. What is held is never `Memory`.
+    Shape(ShapeFault),
+    /// The script's line of this number, counted from 1, is no command.
+    BadCommand(u32),
+}
+
+/// Why the reading of a document ends without one.
+#[derive(Clone, Copy, Debug, PartialEq, Eq)]
+pub enum ReadFault {
+    /// The document is refused.
+    Document(DocFault),
+    /// An allocation was refused.
+    Memory,
+}
+
+impl From<AllocError> for ReadFault {
+    ghost from_gives = { λ _ e. e ≡ Memory };
+
+    fn from(_error: AllocError) -> ReadFault {
+        ReadFault::Memory
+    }
+}
+
+impl<T: Drop> From<AllocFailed<T>> for ReadFault {
+    ghost from_gives = { λ _ e. e ≡ Memory };
+
+    fn from(_error: AllocFailed<T>) -> ReadFault {
+        ReadFault::Memory
+    }
+}

@@ -1,0 +1,200 @@
+//! The faults that a document's rows show.
+
+ghost use Rattle.std.specs.Prelude.{◌≡◌, map};
+ghost use Rattle.std.specs.List.{list_any};
+ghost use Rattle.play_documents.specs.Judge.{is_unknown_queue, is_unknown_port, lacks_slots, misses_queue, misses_port, has_bad_queue, has_bad_port, has_unknown, has_missing, has_bad_top, has_bad, is_unserved, first_fault};
+ghost use Rattle.play_documents.specs.Survey.{port_seen, ports_seen, survey_seen};
+ghost use Rattle.play_documents.specs.Field.{field_map, rows};
+
+use crate::fault::DocFault;
+use crate::field::Field;
+use crate::survey::{PortRow, QueueRow, Survey};
+use evt_types::{Kind, Serving};
+
+/// The queues' rows. Of a field that is no array of tables nothing is looked at.
+pub fn queue_rows<'a>(survey: &'a Survey) -> &'a [QueueRow]
+    ensures { result.now ≡ rows (survey_seen survey.now).queues }
+{
+    match &survey.queues {
+        Field::Good(rows) => rows.as_slice(),
+        Field::Absent | Field::Bad => &[],
+    }
+}
+
+/// The ports' rows.
+pub fn port_rows<'a>(survey: &'a Survey) -> &'a [PortRow]
+    ensures { map port_seen result.now ≡ rows (survey_seen survey.now).ports }
+{
+    match &survey.ports {
+        Field::Good(rows) => rows.as_slice(),
+        Field::Absent | Field::Bad => &[],
+    }
+}
+
+fn lacks_slots(queue: &QueueRow) -> bool
+    ensures { result ≡ lacks_slots queue.now }
+{
+    match queue.kind {
+        Field::Good(Kind::Atomic) => queue.slots.is_absent(),
+        Field::Good(Kind::Ordered) => queue.order.is_absent(),
+        Field::Good(Kind::Parallel) | Field::Absent | Field::Bad => false,
+    }
+}
+
+fn misses_queue(queue: &QueueRow) -> bool
+    ensures { result ≡ misses_queue queue.now }
+{
+    queue.kind.is_absent() || lacks_slots(queue)
+}
+
+fn misses_port(port: &PortRow) -> bool
+    ensures { result ≡ misses_port (port_seen port.now) }
+{
+    port.threshold.is_absent()
+        || port.depth.is_absent()
+        || port.replies.is_absent()
+        || port.links.is_absent()
+}
+
+fn has_bad_queue(queue: &QueueRow) -> bool
+    ensures { result ≡ has_bad_queue queue.now }
+{
+    queue.kind.is_bad()
+        || queue.priority.is_bad()
+        || queue.slots.is_bad()
+        || queue.order.is_bad()
+        || queue.single.is_bad()
+}
+
+fn has_bad_port(port: &PortRow) -> bool
+    ensures { result ≡ has_bad_port (port_seen port.now) }
+{
+    port.threshold.is_bad()
+        || port.depth.is_bad()
+        || port.replies.is_bad()
+        || port.implicit.is_bad()
+        || port.links.is_bad()
+}
+
+fn any_unknown_queue(queues: &[QueueRow]) -> bool
+    ensures { result ≡ list_any is_unknown_queue queues.now }
+{
+    queues.iter().any(|queue| !queue.known)
+}
+
+fn some_unknown_port(ports: &[PortRow]) -> bool
+    ensures { result ≡ list_any (λ p. is_unknown_port (port_seen p)) ports.now }
+{
+    ports.iter().any(|port| !port.known)
+}
+
+fn any_unknown_port(ports: &[PortRow]) -> bool
+    ensures { result ≡ list_any is_unknown_port (map port_seen ports.now) }
+{
+    some_unknown_port(ports)
+}
+
+fn any_misses_queue(queues: &[QueueRow]) -> bool
+    ensures { result ≡ list_any misses_queue queues.now }
+{
+    queues.iter().any(misses_queue)
+}
+
+fn some_misses_port(ports: &[PortRow]) -> bool
+    ensures { result ≡ list_any (λ p. misses_port (port_seen p)) ports.now }
+{
+    ports.iter().any(misses_port)
+}
+
+fn any_misses_port(ports: &[PortRow]) -> bool
+    ensures { result ≡ list_any misses_port (map port_seen ports.now) }
+{
+    some_misses_port(ports)
+}
+
+fn any_bad_queue(queues: &[QueueRow]) -> bool
+    ensures { result ≡ list_any has_bad_queue queues.now }
+{
+    queues.iter().any(has_bad_queue)
+}
+
+fn some_bad_port(ports: &[PortRow]) -> bool
+    ensures { result ≡ list_any (λ p. has_bad_port (port_seen p)) ports.now }
+{
+    ports.iter().any(has_bad_port)
+}
+
+fn any_bad_port(ports: &[PortRow]) -> bool
+    ensures { result ≡ list_any has_bad_port (map port_seen ports.now) }
+{
+    some_bad_port(ports)
+}
+
+/// Whether some table has an unknown key.
+#[tactic(auto, unfolding(crate::specs::Judge::has_unknown))]
+fn has_unknown(survey: &Survey) -> bool
+    ensures { result ≡ has_unknown (survey_seen survey.now) }
+{
+    !survey.known || any_unknown_queue(queue_rows(survey)) || any_unknown_port(port_rows(survey))
+}
+
+/// Whether some table lacks a key.
+#[tactic(auto, unfolding(crate::specs::Judge::has_missing))]
+fn has_missing(survey: &Survey) -> bool
+    ensures { result ≡ has_missing (survey_seen survey.now) }
+{
+    survey.limit.is_absent()
+        || survey.quantum.is_absent()
+        || survey.sweep.is_absent()
+        || survey.script.is_absent()
+        || survey.queues.is_absent()
+        || survey.ports.is_absent()
+        || any_misses_queue(queue_rows(survey))
+        || any_misses_port(port_rows(survey))
+}
+
+#[tactic(auto, unfolding(crate::specs::Judge::has_bad_top))]
+fn has_bad_top(survey: &Survey) -> bool
+    ensures { result ≡ has_bad_top (survey_seen survey.now) }
+{
+    survey.limit.is_bad()
+        || survey.quantum.is_bad()
+        || survey.sweep.is_bad()
+        || survey.serving.is_bad()
+        || survey.script.is_bad()
+        || survey.queues.is_bad()
+        || survey.ports.is_bad()
+}
+
+/// Whether some value is refused.
+#[tactic(auto, unfolding(crate::specs::Judge::has_bad))]
+fn has_bad(survey: &Survey) -> bool
+    ensures { result ≡ has_bad (survey_seen survey.now) }
+{
+    has_bad_top(survey) || any_bad_queue(queue_rows(survey)) || any_bad_port(port_rows(survey))
+}
+
+/// Whether the device doesn't serve it: it serves by its ports alone.
+fn is_unserved(survey: &Survey) -> bool
+    ensures { result ≡ is_unserved (survey_seen survey.now) }
+{
+    matches!(survey.serving, Field::Good(Serving::Flows))
+}
+
+/// The first fault. Each is looked for in the whole document before the next.
+#[tactic(auto, unfolding(crate::specs::Judge::first_fault))]
+pub fn first_fault(survey: &Survey) -> Option<DocFault>
+    ensures { result ≡ first_fault (survey_seen survey.now) }
+{
+    if has_unknown(survey) {
+        Some(DocFault::UnknownKey)
+    } else if has_missing(survey) {
+        Some(DocFault::MissingKey)
+    } else if has_bad(survey) {
+        Some(DocFault::BadValue)
+    } else if is_unserved(survey) {
+        Some(DocFault::BadValue)
+    } else {
+        None
+    }
+}

@@ -1,0 +1,148 @@
+//! The faults of documents, as a play names them.
+
+use crate::parts::{AFTER, BEFORE, LIMITS, PORT, REPLACED, TWO_REPLACED};
+use arrayvec::ArrayString;
+use evt_types::ShapeFault;
+use pipeline_app::{AppFault, DocFault, fault_line, play};
+use std::alloc::Global;
+use std::process::Abort;
+use std::test::Fail;
+
+/// The names of the refused configurations.
+static SHAPE_FAULTS: [(ShapeFault, &str); 13] = [
+    (ShapeFault::QueueCount, "QueueCount"),
+    (ShapeFault::PortCount, "PortCount"),
+    (ShapeFault::LimitRange, "LimitRange"),
+    (ShapeFault::QuantumRange, "QuantumRange"),
+    (ShapeFault::ThresholdRange, "ThresholdRange"),
+    (ShapeFault::DepthRange, "DepthRange"),
+    (ShapeFault::FlowSlots, "FlowSlots"),
+    (ShapeFault::OrderDepth, "OrderDepth"),
+    (ShapeFault::SweepRange, "SweepRange"),
+    (ShapeFault::LinkUnknown, "LinkUnknown"),
+    (ShapeFault::LinkTwice, "LinkTwice"),
+    (ShapeFault::QueueUnlinked, "QueueUnlinked"),
+    (ShapeFault::SingleLinkCount, "SingleLinkCount"),
+];
+
+fn says(rt: &impl Abort, fault: AppFault, line: &str, status: u8) {
+    let mut out = ArrayString::new();
+    out.push_str("old");
+    assert_eq!(rt; fault_line(&fault, &mut out), status);
+    assert_eq!(rt; out.as_str(), line);
+}
+
+/// The good document around a script.
+fn document(alloc: Global, script: &str) -> Result<String, Fail> {
+    Ok(format!(in alloc; "{BEFORE}{script}{AFTER}")?)
+}
+
+/// A text with the first `old` in it replaced.
+fn with(alloc: Global, text: &str, old: &str, new: &str) -> Result<String, Fail> {
+    let (front, rest) = text.split_once(old).ok_or("a part of the document")?;
+    Ok(format!(in alloc; "{front}{new}{rest}")?)
+}
+
+/// Plays a document, which ends with its fault of this name and writes nothing, or is good where there is no name.
+fn is_named(rt: &impl Abort, alloc: Global, bytes: &[u8], name: &str) -> Result<(), Fail> {
+    let mut reader = bytes;
+    let mut written = Vec::new(alloc);
+    match play(alloc, &mut reader, &mut written) {
+        Ok(()) => assert_eq!(rt; "", name),
+        Err(fault) => {
+            let mut line = ArrayString::new();
+            assert_eq!(rt; fault_line(&fault, &mut line), 4);
+            let wanted = format!(in alloc; "evsched: document: {name}")?;
+            assert_eq!(rt; line.as_str(), wanted.as_str());
+            assert!(rt; written.is_empty());
+        }
+    }
+    Ok(())
+}
+
+#[test]
+fn prints_each_fault(rt: HostRuntime) -> Result<(), Fail> {
+    says(&rt, AppFault::Read, "evsched: read failed", 3);
+    says(&rt, AppFault::Write, "evsched: write failed", 3);
+    says(&rt, AppFault::Memory, "evsched: out of memory or seats", 5);
+    says(&rt, AppFault::NoSeat, "evsched: out of memory or seats", 5);
+    says(
+        &rt,
+        AppFault::Document(DocFault::BadCommand(4294967295)),
+        "evsched: document: BadCommand 4294967295",
+        4,
+    );
+    for (fault, name) in &SHAPE_FAULTS {
+        let line = format!(in rt.alloc(); "evsched: document: {name}")?;
+        let fault = AppFault::Document(DocFault::Shape(*fault));
+        says(&rt, fault, line.as_str(), 4);
+    }
+    Ok(())
+}
+
+#[test]
+fn names_the_fault_of_a_part(rt: HostRuntime) -> Result<(), Fail> {
+    let alloc = rt.alloc();
+    is_named(&rt, alloc, b"", "MissingKey")?;
+    is_named(&rt, alloc, b"limit = ", "NotToml")?;
+    is_named(&rt, alloc, b"\xff", "NotToml")?;
+    let good = document(alloc, "sweep\n")?;
+    for (old, new, name) in &REPLACED {
+        let text = with(alloc, &good, old, new)?;
+        is_named(&rt, alloc, text.as_bytes(), name)?;
+    }
+    for (limit, name) in &LIMITS {
+        let line = format!(in alloc; "limit = {limit}\n")?;
+        let text = with(alloc, &good, "limit = 4\n", &line)?;
+        is_named(&rt, alloc, text.as_bytes(), name)?;
+    }
+    Ok(())
+}
+
+#[test]
+fn names_the_first_fault(rt: HostRuntime) -> Result<(), Fail> {
+    let alloc = rt.alloc();
+    let good = document(alloc, "sweep\n")?;
+    for (old, new, old_too, new_too, name) in &TWO_REPLACED {
+        let first = with(alloc, &good, old, new)?;
+        let text = with(alloc, &first, old_too, new_too)?;
+        is_named(&rt, alloc, text.as_bytes(), name)?;
+    }
+    Ok(())
+}
+
+#[test]
+fn names_a_refused_count_of_ports(rt: HostRuntime) -> Result<(), Fail> {
+    let alloc = rt.alloc();
+    let good = document(alloc, "sweep\n")?;
+    // 16 ports and 17.
+    let ports = PORT.repeat(alloc, 14)?;
+    let sixteen = format!(in alloc; "{good}{ports}")?;
+    is_named(&rt, alloc, sixteen.as_bytes(), "")?;
+    let seventeen = format!(in alloc; "{sixteen}{PORT}")?;
+    is_named(&rt, alloc, seventeen.as_bytes(), "PortCount")
+}
+
+#[test]
+fn names_the_bad_line_between_returns(rt: HostRuntime) -> Result<(), Fail> {
+    let alloc = rt.alloc();
+    let text = document(alloc, "\n\nsweep\n\nrel 2\nno\n")?;
+    // A carriage return may stand before each line feed of the document.
+    let returns = text.replace(alloc, "\n", "\r\n")?;
+    is_named(&rt, alloc, returns.as_bytes(), "BadCommand 5")
+}
+
+#[test]
+fn names_a_long_document(rt: HostRuntime) -> Result<(), Fail> {
+    let alloc = rt.alloc();
+    let good = document(alloc, "sweep\n")?;
+    let spaces = " ".repeat(alloc, 1_048_576usize.saturating_sub(good.len()))?;
+    let longest = format!(in alloc; "{good}{spaces}")?;
+    is_named(&rt, alloc, longest.as_bytes(), "")?;
+    let longer = format!(in alloc; "{longest} ")?;
+    is_named(&rt, alloc, longer.as_bytes(), "TooLong")?;
+    let mut bytes = vec![in alloc; 255u8; 1_048_576]?;
+    is_named(&rt, alloc, &bytes, "NotToml")?;
+    bytes.push(255)?;
+    is_named(&rt, alloc, &bytes, "TooLong")
+}

@@ -1,0 +1,62 @@
+//! Why a run stops before its end.
+
+ghost use Rattle.std.specs.Prelude.{◌≡◌, if◌then◌else◌};
+ghost use Rattle.core_bench.specs.Fault.{is_of_words};
+
+use std::alloc::{AllocError, AllocFailed};
+
+/// Why a run stops before its end.
+#[derive(Clone, Copy, Debug, PartialEq, Eq)]
+pub enum BenchFault {
+    /// The command line has not two words.
+    WordCount,
+    /// The first word is no number of 1 to 64.
+    Held,
+    /// The second word is no number of rounds.
+    Rounds,
+    /// The line couldn't be written.
+    Write,
+    /// An allocation was refused.
+    Memory,
+    /// The device was refused.
+    Device,
+    /// The core didn't take a reply, or had nothing to give.
+    Stuck,
+}
+
+impl BenchFault {
+    /// What is said of it.
+    pub fn text(self) -> &'static str {
+        match self {
+            BenchFault::WordCount => "two words are wanted: the unanswered events and the rounds",
+            BenchFault::Held => "the unanswered events must be a number of 1 to 64",
+            BenchFault::Rounds => "the rounds must be a number",
+            BenchFault::Write => "the line can't be written",
+            BenchFault::Memory => "memory is lacking",
+            BenchFault::Device => "the device is refused",
+            BenchFault::Stuck => "the core came to a stop",
+        }
+    }
+
+    /// The status to end with: 2 where the words are at fault.
+    pub fn status(self) -> u8
+        ensures { result ≡ (if is_of_words self then 2 else 1) }
+    {
+        match self {
+            BenchFault::WordCount | BenchFault::Held | BenchFault::Rounds => 2,
+            BenchFault::Write | BenchFault::Memory | BenchFault::Device | BenchFault::Stuck => 1,
+        }
+    }
+}
+
+impl From<AllocError> for BenchFault {
+    fn from(_error: AllocError) -> BenchFault {
+        BenchFault::Memory
+    }
+}
+
+impl<T: Drop> From<AllocFailed<T>> for BenchFault {
+    fn from(_error: AllocFailed<T>) -> BenchFault {
+        BenchFault::Memory
+    }
+}

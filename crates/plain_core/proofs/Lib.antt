@@ -1,0 +1,11 @@
+pub mod Accepts
+pub mod Answered
+pub mod Cores
+pub mod Counts
+pub mod Firsts
+pub mod Gives
+pub mod Leaves
+pub mod News
+pub mod StepRoom
+pub mod Stood
+pub mod Took

@@ -1,0 +1,5 @@
+use Rattle.evt_types.proofs.WholeStands.{stands_bounced}
+use Rattle.plain_core.proofs.state.PlainCore.bounce.Goals as goal
+
+pub returns-clause-stands : goal.returns-clause-stands
+returns-clause-stands c T stands = stands_bounced c.args.self.now T c.args.lane stands c.requires.lane

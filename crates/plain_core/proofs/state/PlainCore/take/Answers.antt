@@ -1,0 +1,30 @@
+use Rattle.std.proofs.Common.{◌++◌, sym, ap, ◌∙◌, subst}
+use Rattle.evt_types.specs.Standing.{View, Stands, steps_of, steps_by, answer_steps, after}
+use Rattle.evt_types.specs.declared.event.Op.TheVariants as ops
+use Rattle.evt_types.specs.declared.step.Outcome.TheVariants.{Released}
+use Rattle.evt_types.proofs.WholeStands.{takes_stand, shape_after}
+use Rattle.plain_core.proofs.state.PlainCore.take.Goals as goal
+
+pub returns-in-New-clause-stands : goal.returns-in-New-clause-stands
+returns-in-New-clause-stands c T stands =
+    let v = c.args.self.now in
+    let both = takes_stand v T c.args.lane c.args.reply.event c.requires.lane c.requires.takes stands in
+    (both.0, subst (Stands (T ++ steps_of v c.args.lane c.args.reply.event)) (ap (λ o. after v (steps_by o v c.args.lane c.args.reply.event)) c.in-New.is ∙ sym c.take_new.ensures.view) both.1)
+
+pub returns-in-Forward-clause-stands : goal.returns-in-Forward-clause-stands
+returns-in-Forward-clause-stands c T stands =
+    let v = c.args.self.now in
+    let both = takes_stand v T c.args.lane c.args.reply.event c.requires.lane c.requires.takes stands in
+    (both.0, subst (Stands (T ++ steps_of v c.args.lane c.args.reply.event)) (ap (λ o. after v (steps_by o v c.args.lane c.args.reply.event)) c.in-Forward.is ∙ sym c.take_forward.ensures.view) both.1)
+
+pub returns-in-Release-clause-stands : goal.returns-in-Release-clause-stands
+returns-in-Release-clause-stands c T stands =
+    let v = c.args.self.now in
+    let both = takes_stand v T c.args.lane c.args.reply.event c.requires.lane c.requires.takes stands in
+    (both.0, subst (Stands (T ++ steps_of v c.args.lane c.args.reply.event)) (ap (λ o. after v (steps_by o v c.args.lane c.args.reply.event)) c.in-Release.is ∙ sym c.take_release.ensures.view) both.1)
+
+pub returns-in-Forward-clause-shape : goal.returns-in-Forward-clause-shape
+returns-in-Forward-clause-shape c = ap (λ (v : View). v.shape) c.take_forward.ensures.view ∙ shape_after c.args.self.now (steps_by ops.Forward c.args.self.now c.args.lane c.args.reply.event)
+
+pub returns-in-Release-clause-shape : goal.returns-in-Release-clause-shape
+returns-in-Release-clause-shape c = ap (λ (v : View). v.shape) c.take_release.ensures.view ∙ shape_after c.args.self.now (answer_steps c.args.self.now c.args.lane Released)

@@ -1,5 +1,5 @@
 -- What contracts see of a core, and what holds of each.
-use Rattle.std.specs.Prelude.{ℕ, ◌≡◌, ◌≤◌, List, [], length, map, All, ◌<◌, ◌^◌}
+use Rattle.std.specs.Prelude.{ℕ, ◌≡◌, ◌≤◌, List, length, map, All, ◌<◌, ◌^◌}
 use Rattle.evt_types.specs.Fault.{IsWithinLimits}
 use Rattle.evt_types.specs.Plan.{bound_of}
 use Rattle.evt_types.specs.Standing.{View, Place, inside_of, entries_of}

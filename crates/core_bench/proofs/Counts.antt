@@ -3,15 +3,15 @@ use Rattle.std.proofs.Common.{◌≡◌, ℕ, ◌+◌, ◌≤◌, ◌<◌, Bool,
 use Rattle.std.proofs.lemmas.Bool.{false≢true}
 use Rattle.std.proofs.lemmas.List.Elements.{All-head, All-tail}
 use Rattle.std.proofs.lemmas.List.Sums.{sum_by-append, sum_by-cons}
-use Rattle.evt_types.proofs.Account.{settled}
-use Rattle.evt_types.proofs.Fewness.{kept_fit, steps_fit}
-use Rattle.evt_types.proofs.Replies.{accepts_of-of}
-use Rattle.evt_types.proofs.Whole.{steps-Lawful}
-use Rattle.evt_types.proofs.WholeStands.{inside_is}
+use Rattle.transcripts.proofs.Account.{settled}
+use Rattle.transcripts.proofs.Fewness.{kept_fit, steps_fit}
+use Rattle.transcripts.proofs.Replies.{accepts_of-of}
+use Rattle.transcripts.proofs.Whole.{steps-Lawful}
+use Rattle.transcripts.proofs.WholeStands.{inside_is}
 use Rattle.evt_types.specs.Plan.{lanes_of}
-use Rattle.evt_types.specs.Replies.{new_count, release_count}
-use Rattle.evt_types.specs.Standing.{View, Stands, inside_of, accepts_of, answer_steps, oldest_at, steps_by, steps_of}
-use Rattle.evt_types.specs.Transcript.{is_from_of, is_new, is_release}
+use Rattle.transcripts.specs.Replies.{new_count, release_count}
+use Rattle.transcripts.specs.Standing.{View, Stands, inside_of, accepts_of, answer_steps, oldest_at, steps_by, steps_of}
+use Rattle.transcripts.specs.Transcript.{is_from_of, is_new, is_release}
 use Rattle.evt_types.specs.declared.event.Event.{Event}
 use Rattle.evt_types.specs.declared.event.Op.{Op}
 use Rattle.evt_types.specs.declared.event.Op.TheVariants as ops

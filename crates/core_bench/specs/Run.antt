@@ -1,7 +1,7 @@
 -- What holds of a run between two calls of its core.
 use Rattle.std.specs.Prelude.{◌≡◌, ◌≤◌, List, vec_capacity}
 use Rattle.evt_types.specs.Plan.{lanes_of}
-use Rattle.evt_types.specs.Standing.{Stands}
+use Rattle.transcripts.specs.Standing.{Stands}
 use Rattle.evt_types.specs.declared.step.Step.{Step}
 use Rattle.sched_core.specs.Sweep.{sweep_steps}
 use Rattle.core_bench.specs.declared.run.Run.{Run}

@@ -1,7 +1,7 @@
 //! Events are handed out until the lane holds so many, and then each round answers one and hands out another.
 
 ghost use Rattle.std.specs.Prelude.{◌≡◌, ◌+◌, IfOk, OnOk};
-ghost use Rattle.evt_types.specs.Standing.{inside_of};
+ghost use Rattle.transcripts.specs.Standing.{inside_of};
 ghost use Rattle.core_bench.specs.Run.{IsRun};
 
 use crate::asked::Asked;

@@ -1,7 +1,7 @@
 //! A core, and the log of the steps of its last call.
 
 ghost use Rattle.std.specs.Prelude.{◌≡◌, ◌+◌, IfOk, OnOk};
-ghost use Rattle.evt_types.specs.Standing.{inside_of};
+ghost use Rattle.transcripts.specs.Standing.{inside_of};
 ghost use Rattle.core_bench.specs.Run.{IsRun};
 
 use crate::device::{SOURCE, WORKER, bench_shape};

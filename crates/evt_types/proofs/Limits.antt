@@ -10,7 +10,8 @@ use Rattle.std.proofs.lemmas.List.Sums.{sum_by-le}
 use Rattle.evt_types.specs.Fault.{outside, bad_threshold, thresholds_bad, bad_depth, depths_bad, bad_slots, atomic_slots, slots_bad}
 use Rattle.evt_types.specs.Fault.{bad_order, orders_bad, has_unknown, link_unknown, has_twice, link_twice, links_to, queue_unlinked}
 use Rattle.evt_types.specs.Fault.{is_shared_single, single_bad, fault_of, IsBetween, IsWithinLimits}
-use Rattle.evt_types.specs.Plan.{Plan, PortPlan, is_atomic, is_ordered, has, queue_of}
+use Rattle.evt_types.specs.Plan.{Plan, PortPlan, is_atomic, is_ordered, queue_of}
+use Rattle.lists.specs.Lists.{has}
 use Rattle.evt_types.specs.declared.draft.QueueDraft.{QueueDraft}
 use Rattle.evt_types.specs.declared.shape.ShapeFault.{ShapeFault}
 use Rattle.evt_types.specs.declared.shape.ShapeFault.TheVariants as faults

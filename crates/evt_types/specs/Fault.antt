@@ -2,7 +2,8 @@
 use Rattle.std.specs.Prelude.{ℕ, ◌≡◌, ◌≢◌, ◌<◌, ◌≤◌, Bool, true, false, ◌&&◌, ◌||◌, List, [], ◌∷◌, ◌==◌, nat_lt, nat_le}
 use Rattle.std.specs.Prelude.{length, count_by, sum_by, All, AllPairs, Option, Some, None, if◌then◌else◌}
 use Rattle.std.specs.List.{list_any}
-use Rattle.evt_types.specs.Plan.{Plan, PortPlan, is_atomic, is_ordered, has, queue_of, queues}
+use Rattle.evt_types.specs.Plan.{Plan, PortPlan, is_atomic, is_ordered, queue_of, queues}
+use Rattle.lists.specs.Lists.{has}
 use Rattle.evt_types.specs.declared.draft.QueueDraft.{QueueDraft}
 use Rattle.evt_types.specs.declared.shape.ShapeFault.{ShapeFault}
 use Rattle.evt_types.specs.declared.shape.ShapeFault.TheVariants as faults

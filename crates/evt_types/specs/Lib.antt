@@ -1,14 +1,7 @@
-pub mod Allowed
-pub mod Check
-pub mod Choice
 pub mod Event
 pub mod Fault
-pub mod Lawful
-pub mod Laws
+pub mod Operation
+pub mod Place
 pub mod Plan
-pub mod Replies
-pub mod Rows
 pub mod Shape
-pub mod Standing
-pub mod Transcript
 pub mod Word

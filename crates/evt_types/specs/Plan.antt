@@ -1,6 +1,7 @@
 -- A device's configuration as contracts see it (Event Device Library, "Queues", "Ports", "Linking Queues and Ports").
 use Rattle.std.specs.Prelude.{ℕ, ◌+◌, ◌/◌, ◌%◌, Bool, true, false, List, [], ◌==◌, length, map, sum_by, slice_index_or, if◌then◌else◌}
-use Rattle.std.specs.List.{list_any, range_with_len}
+use Rattle.std.specs.List.{range_with_len}
+use Rattle.lists.specs.Lists.{has}
 use Rattle.evt_types.specs.declared.draft.Draft.{Draft}
 use Rattle.evt_types.specs.declared.draft.PortDraft.{PortDraft}
 use Rattle.evt_types.specs.declared.draft.QueueDraft.{QueueDraft}
@@ -43,10 +44,6 @@ abbrev pub is_ordered : Kind → Bool
 is_ordered Ordered = true
 is_ordered Atomic = false
 is_ordered Parallel = false
-
--- whether the number is in the list
-abbrev pub has : ℕ → List ℕ → Bool
-has n xs = list_any (λ m. m == n) xs
 
 -- The queue and the port of a number. One that isn't there serves nothing and holds nothing.
 abbrev pub queue_of : Plan → ℕ → QueueDraft

@@ -3,7 +3,8 @@
 ghost use Rattle.std.specs.Prelude.{◌≡◌, nat_lt, nat_le, length, sum_by};
 ghost use Rattle.std.specs.List.{list_any};
 ghost use Rattle.evt_types.specs.Fault as faults;
-ghost use Rattle.evt_types.specs.Plan.{plan_of, queue_of, has};
+ghost use Rattle.evt_types.specs.Plan.{plan_of, queue_of};
+ghost use Rattle.lists.specs.Lists.{has};
 
 use crate::draft::{Draft, QueueDraft};
 use crate::shape::{

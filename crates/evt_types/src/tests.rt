@@ -4,10 +4,6 @@ ghost use Rattle.std.specs.Prelude.{◌≡◌, IfOk};
 
 use crate::draft::{Draft, PortDraft, QueueDraft, Serving};
 use crate::event::{Event, EventFault, Kind, Op};
-use crate::laws::{
-    hand_order_is_restored, inside_settles, lawful_by_steps, sources_once, steps_of_a_reply,
-    steps_of_a_reply_are_few, steps_of_lawful,
-};
 use crate::shape::{Shape, ShapeFault};
 use crate::word::WordFault;
 use std::alloc::{AllocError, Global};
@@ -203,15 +199,4 @@ fn shape_readers(rt: HostRuntime) -> Result<(), Fail> {
     assert_eq!(rt; shape.replies_of(1), 4);
     assert_eq!(rt; shape.bound(), 12);
     Ok(())
-}
-
-#[test]
-fn each_law() {
-    lawful_by_steps();
-    steps_of_lawful();
-    sources_once();
-    hand_order_is_restored();
-    inside_settles();
-    steps_of_a_reply();
-    steps_of_a_reply_are_few();
 }

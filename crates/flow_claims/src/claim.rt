@@ -30,7 +30,7 @@ pub enum Claim {
 
 impl Stint {
     ghost use Rattle.std.specs.Prelude.{◌≡◌, ◌<◌, true, [], ◌∷◌, ◌++◌, length, drop, slice_get, ◌↔◌, IfErr, IfNone, MatchOption, MatchResult};
-    ghost use Rattle.evt_types.specs.Replies.{is_answer};
+    ghost use Rattle.evt_types.specs.Operation.{is_answer};
     ghost use Rattle.lane_rings.specs.Ends.{received_by, seen_deliveries, next_delivery, answered, answers_among, unanswered};
     ghost use Rattle.lane_rings.specs.Identity.{far_id};
     ghost use Rattle.lane_rings.specs.Refusal.{RefusesAnswer};

@@ -1,7 +1,7 @@
 -- The lists of a lane, as its two ends see them: offered and taken at the scheduler's end, received and answered at the holder's.
 use Rattle.std.specs.Prelude.{ℕ, List, Option, count_by, map, drop, slice_get}
 use Rattle.rtrb.specs.Ring.{sent, received, known_items}
-use Rattle.evt_types.specs.Replies.{is_answer}
+use Rattle.evt_types.specs.Operation.{is_answer}
 use Rattle.evt_types.specs.declared.event.Delivery.{Delivery}
 use Rattle.evt_types.specs.declared.event.Reply.{Reply}
 use Rattle.lane_rings.specs.Key.{key}

@@ -1,6 +1,6 @@
 -- Why a reply is refused.
 use Rattle.std.specs.Prelude.{◌≡◌, ◌≢◌, ◌≤◌, true, [], length}
-use Rattle.evt_types.specs.Replies.{is_answer}
+use Rattle.evt_types.specs.Operation.{is_answer}
 use Rattle.evt_types.specs.declared.event.Reply.{Reply}
 use Rattle.lane_rings.specs.Ends.{answered, unanswered}
 use Rattle.lane_rings.specs.Identity.{far_id}

@@ -1,7 +1,7 @@
 //! The holder's end of a lane.
 
 ghost use Rattle.std.specs.Prelude.{◌≡◌, ◌≤◌, length, count_by, map, drop};
-ghost use Rattle.evt_types.specs.Replies.{is_answer};
+ghost use Rattle.evt_types.specs.Operation.{is_answer};
 ghost use Rattle.rtrb.specs.Ring.{sent, received, consumer_capacity};
 ghost use Rattle.lane_rings.specs.Key.{key};
 
@@ -41,7 +41,7 @@ fn is_answering(reply: &Reply) -> bool
 
 impl Far {
     ghost use Rattle.std.specs.Prelude.{◌≡◌, ◌≢◌, ◌<◌, ◌≤◌, ◌↔◌, true, [], ◌∷◌, ◌++◌, length, drop, slice_get, OnOk, IfErr, IfNone, MatchOption, MatchResult};
-    ghost use Rattle.evt_types.specs.Replies.{is_answer};
+    ghost use Rattle.evt_types.specs.Operation.{is_answer};
     ghost use Rattle.lane_rings.specs.Ends.{received_by, seen_deliveries, next_delivery, answered, answers_among, unanswered, held_list};
     ghost use Rattle.lane_rings.specs.Identity.{far_id};
     ghost use Rattle.lane_rings.specs.Refusal.{RefusesAnswer};

@@ -1,7 +1,7 @@
 -- The places, read off the fields.
 use Rattle.std.proofs.Common.{◌≡◌, ℕ, true, not, List, [], ◌∷◌, ◌++◌, map, refl, ap, sym, ◌∙◌, Option, Some, None, zero, suc, slice_get, slice_set, slice_index_or, option_to_list, IsTrue}
 use Rattle.std.proofs.lemmas.Option.{same_Some}
-use Rattle.evt_types.specs.Standing.{Place}
+use Rattle.evt_types.specs.Place.{Place}
 use Rattle.evt_types.specs.declared.event.Event.{Event}
 use Rattle.order_parts.specs.Reorder.{place_of, oldest_answered, is_open, is_answered, forwards_of, resolved, open_place}
 use Rattle.order_parts.specs.declared.reorder.Answer.{Answer}

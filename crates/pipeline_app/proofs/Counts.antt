@@ -6,7 +6,7 @@ use Rattle.std.proofs.lemmas.Bool.{cases_eq, cases_lt, eq-eqb, ne_eqb}
 use Rattle.std.proofs.lemmas.List.{append-nil, get_or-replicate, get_or-set_same, get_or-set_other, get_or_past, length-replicate, take_more}
 use Rattle.std.proofs.lemmas.List.Elements.{filter_map-append}
 use Rattle.evt_types.specs.Plan.{Plan}
-use Rattle.evt_types.specs.Transcript.{accepted, accepted_in}
+use Rattle.transcripts.specs.Transcript.{accepted, accepted_in}
 use Rattle.evt_types.specs.declared.event.Event.{Event}
 use Rattle.evt_types.specs.declared.step.Source.{Source}
 use Rattle.evt_types.specs.declared.step.Step.{Step}

@@ -3,7 +3,8 @@ use Rattle.std.proofs.Common.{◌≡◌, ℕ, zero, suc, Bool, true, false, cond
 use Rattle.std.specs.Prelude.{sum_by}
 use Rattle.std.proofs.lemmas.List.Sums.{sum_by-append, sum_by-cons}
 use Rattle.evt_types.specs.Plan.{is_ordered, queue_of}
-use Rattle.evt_types.specs.Standing.{View, Place, after, kept_in}
+use Rattle.transcripts.specs.Standing.{View, after, kept_in}
+use Rattle.evt_types.specs.Place.{Place}
 use Rattle.evt_types.specs.declared.step.Step.TheVariants.{Give}
 
 abbrev sent_by : List Place → ℕ

@@ -7,8 +7,8 @@ use Rattle.std.proofs.lemmas.Grind.{get_or-set_at}
 use Rattle.std.proofs.lemmas.List.{append-nil, get_or-set_other}
 use Rattle.std.proofs.lemmas.List.Elements.{All-get_or, All-head, All-tail, filter_map-append}
 use Rattle.evt_types.specs.Plan.{Plan, lanes_of}
-use Rattle.evt_types.specs.Standing.{View, Stands, steps_of, steps_by, accepts_of, oldest_at}
-use Rattle.evt_types.specs.Transcript.{given_to, is_from_of, out}
+use Rattle.transcripts.specs.Standing.{View, Stands, steps_of, steps_by, accepts_of, oldest_at}
+use Rattle.transcripts.specs.Transcript.{given_to, is_from_of, out}
 use Rattle.evt_types.specs.declared.event.Event.{Event}
 use Rattle.evt_types.specs.declared.event.Op.{Op}
 use Rattle.evt_types.specs.declared.event.Op.TheVariants.{New, Forward, Release}
@@ -24,7 +24,7 @@ use Rattle.pipeline_app.specs.declared.rig_port.RigPort.{RigPort}
 use Rattle.sched_core.specs.Taken.{is_passed_on, took_by, took_of}
 use Rattle.sched_core.specs.declared.take.Took.{Took}
 use Rattle.sched_core.specs.declared.take.Took.TheVariants as tooks
-use Rattle.evt_types.proofs.Replies.{accepts_of-of}
+use Rattle.transcripts.proofs.Replies.{accepts_of-of}
 use Rattle.pipeline_app.proofs.PortPairs.{IsLeftOf-same, IsLeftOf-trans}
 
 -- a port with less left

@@ -4,16 +4,16 @@ use Rattle.std.specs.Prelude.{◌||◌, ◌&&◌, not, count_by, All}
 use Rattle.std.proofs.lemmas.List.Elements.{All-head, All-tail}
 use Rattle.std.proofs.lemmas.List.Folds.{list_any-append}
 use Rattle.std.proofs.lemmas.List.Sums.{sum_by-append}
-use Rattle.evt_types.specs.Replies.{turned_count}
-use Rattle.evt_types.specs.Standing.{View, Stands, steps_of, view_of}
-use Rattle.evt_types.specs.Transcript.{has_shut, is_from_of, is_shut, is_turned}
+use Rattle.transcripts.specs.Replies.{turned_count}
+use Rattle.transcripts.specs.Standing.{View, Stands, steps_of, view_of}
+use Rattle.transcripts.specs.Transcript.{is_give, has_shut, is_from_of, is_shut, is_turned}
 use Rattle.evt_types.specs.declared.event.Event.{Event}
 use Rattle.evt_types.specs.declared.step.Outcome.{Outcome}
 use Rattle.evt_types.specs.declared.step.Outcome.TheVariants.{Forwarded, Released}
 use Rattle.evt_types.specs.declared.step.Source.TheVariants.{New, Of}
 use Rattle.evt_types.specs.declared.step.Step.{Step}
 use Rattle.evt_types.specs.declared.step.Step.TheVariants.{Accept, Give, Done, Turned, Bounced, Shut}
-use Rattle.pipeline_app.specs.Swept.{Adds, IsSweep, Makes, MakesTaken, credit_of, is_taking, is_giving, is_bouncing, shut_seen}
+use Rattle.pipeline_app.specs.Swept.{Adds, IsSweep, Makes, MakesTaken, credit_of, is_taking, is_bouncing, shut_seen}
 use Rattle.pipeline_app.specs.declared.answer.Swept.{Swept}
 use Rattle.sched_core.specs.Shutting.{shut_steps}
 use Rattle.sched_core.specs.Taken.{took_of}
@@ -41,7 +41,7 @@ pub Makes-append : (a b c d i j k l : ℕ) (xs ys : List Step) → Makes a b c d
 Makes-append a b c d i j k l xs ys h m = record {
   taken = omega (arith, count-append is_taking xs ys, h.taken, m.taken);
   turned = omega (arith, count-append is_turned xs ys, h.turned, m.turned);
-  given = omega (arith, count-append is_giving xs ys, h.given, m.given);
+  given = omega (arith, count-append is_give xs ys, h.given, m.given);
   bounced = omega (arith, count-append is_bouncing xs ys, h.bounced, m.bounced);
   shut = list_any-append is_shut xs ys ∙ (ap (λ b. b || has_shut ys) h.shut ∙ m.shut);
 }

@@ -2,14 +2,15 @@
 use Rattle.std.specs.Prelude.{ℕ, ◌≡◌, Bool, true, false, ◌&&◌, List, [], ◌∷◌, ◌++◌, length, map, Option, Ok, Err, IfSome}
 use Rattle.std.specs.Io.KnownBytes.{Appends, Keeps}
 use Rattle.evt_types.specs.Plan.{Plan, lanes_of}
-use Rattle.evt_types.specs.Standing.{View, Stands}
+use Rattle.transcripts.specs.Standing.{View, Stands}
 use Rattle.evt_types.specs.declared.step.Step.{Step}
 use Rattle.play_documents.specs.Command.{Line, Enqueue, Dequeue, Sweep, Shut}
 use Rattle.play_documents.specs.Document.{Planned, IsNamedDoc, document_of}
 use Rattle.play_documents.specs.declared.fault.ReadFault.{ReadFault}
 use Rattle.play_documents.specs.declared.fault.ReadFault.TheVariants as reads
 use Rattle.pipeline_app.specs.Output.{AppendsPrefix}
-use Rattle.pipeline_app.specs.Refusals.{is_new_op, is_stopped}
+use Rattle.pipeline_app.specs.Refusals.{is_stopped}
+use Rattle.evt_types.specs.Operation.{is_new_op}
 use Rattle.pipeline_app.specs.Rig.{HaveLeft}
 use Rattle.pipeline_app.specs.Stopped.{by_lane, undelivered_at, held_at, untaken_at, kept_in, waiting_in}
 use Rattle.pipeline_app.specs.Swept.{IsSweep}

@@ -41,7 +41,7 @@ outcome_by ops.Release queues pool port queue = answer_outcome port
 abbrev pub outcome_of : Rig → RigPort → Event → Outcome
 outcome_of r port e = outcome_by e.op (length r.core.shape.queues) r.pool port e.queue
 
--- which outcome and which operation a shut device is known by
+-- which outcome a shut device is known by
 abbrev pub is_stopped : Outcome → Bool
 is_stopped (Ok done) = false
 is_stopped (Err Stopped) = true
@@ -49,8 +49,3 @@ is_stopped (Err BadQueue) = false
 is_stopped (Err NothingHeld) = false
 is_stopped (Err (Backpressure free)) = false
 is_stopped (Err Full) = false
-
-abbrev pub is_new_op : Op → Bool
-is_new_op ops.New = true
-is_new_op ops.Forward = false
-is_new_op ops.Release = false

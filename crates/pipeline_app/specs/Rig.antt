@@ -1,8 +1,8 @@
 -- What holds of a device in one thread between two commands.
 use Rattle.std.specs.Prelude.{ℕ, ◌≡◌, ◌+◌, ◌<◌, ◌≤◌, List, length, slice_index_or, vec_len, vec_capacity}
 use Rattle.evt_types.specs.Plan.{Plan, lanes_of}
-use Rattle.evt_types.specs.Standing.{Stands, kept_in}
-use Rattle.evt_types.specs.Transcript.{out}
+use Rattle.transcripts.specs.Standing.{Stands, kept_in}
+use Rattle.transcripts.specs.Transcript.{out}
 use Rattle.evt_types.specs.declared.step.Step.{Step}
 use Rattle.pipeline_app.specs.Pairs.{IsLeftOf, pairs_at}
 use Rattle.pipeline_app.specs.declared.rig.Rig.{Rig}

@@ -1,7 +1,7 @@
 -- What the report says of a device that was stopped.
 use Rattle.std.specs.Prelude.{ℕ, ◌≡◌, ◌+◌, List, [], ◌∷◌, ◌++◌, map, flat_map}
 use Rattle.evt_types.specs.Plan.{queues}
-use Rattle.evt_types.specs.Standing.{View, waiting_at}
+use Rattle.transcripts.specs.Standing.{View, waiting_at}
 use Rattle.evt_types.specs.declared.event.Delivery.{Delivery}
 use Rattle.evt_types.specs.declared.event.Event.{Event}
 use Rattle.evt_types.specs.declared.event.Numbered.{Numbered}

@@ -1,7 +1,7 @@
 -- What a sweep adds to the log.
 use Rattle.std.specs.Prelude.{ℕ, ◌≡◌, ◌+◌, ◌-◌, ◌^◌, Bool, true, false, not, ◌&&◌, List, [], ◌∷◌, ◌++◌, count_by, min, Option, Some, None, if◌then◌else◌}
-use Rattle.evt_types.specs.Replies.{turned_count}
-use Rattle.evt_types.specs.Transcript.{has_shut}
+use Rattle.transcripts.specs.Replies.{turned_count}
+use Rattle.transcripts.specs.Transcript.{has_shut, is_give}
 use Rattle.evt_types.specs.declared.step.Source.TheVariants.{New, Of}
 use Rattle.evt_types.specs.declared.step.Step.{Step}
 use Rattle.evt_types.specs.declared.step.Step.TheVariants.{Accept, Give, Done, Turned, Bounced, Shut}
@@ -23,14 +23,6 @@ is_taking (Give l q n) = false
 is_taking (Bounced l) = false
 is_taking Shut = false
 
-abbrev pub is_giving : Step → Bool
-is_giving (Give l q n) = true
-is_giving (Accept q e s) = false
-is_giving (Done l o) = false
-is_giving (Turned l e) = false
-is_giving (Bounced l) = false
-is_giving Shut = false
-
 abbrev pub is_bouncing : Step → Bool
 is_bouncing (Bounced l) = true
 is_bouncing (Accept q e s) = false
@@ -43,7 +35,7 @@ is_bouncing Shut = false
 pub record Makes (n t g b : ℕ) (steps : List Step) : Type 0 where
   pub taken : count_by is_taking steps ≡ n
   pub turned : turned_count steps ≡ t
-  pub given : count_by is_giving steps ≡ g
+  pub given : count_by is_give steps ≡ g
   pub bounced : count_by is_bouncing steps ≡ b
   pub shut : has_shut steps ≡ false
 

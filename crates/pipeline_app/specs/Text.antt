@@ -2,7 +2,7 @@
 use Rattle.std.specs.Prelude.{ℕ, ◌+◌, ◌^◌, ◌-◌, ◌<◌, false, List, [], ◌∷◌, ◌++◌, length, codes, flat_map, slice_index, slice_set, Result, Ok, Err}
 use Rattle.std.specs.Fmt.{decimal, digits, padded_integral, format_spec}
 use Rattle.evt_types.specs.Plan.{Plan, queue_of}
-use Rattle.evt_types.specs.Transcript.{accepted}
+use Rattle.transcripts.specs.Transcript.{accepted}
 use Rattle.evt_types.specs.Word.{word_of}
 use Rattle.evt_types.specs.declared.event.Delivery.{Delivery}
 use Rattle.evt_types.specs.declared.event.Event.{Event}

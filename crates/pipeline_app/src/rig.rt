@@ -2,7 +2,8 @@
 
 ghost use Rattle.std.specs.Prelude.{◌≡◌, ◌<◌, ◌&&◌, [], false, true, nat_lt, slice_index_or, IfOk, OnOk, length};
 ghost use Rattle.evt_types.specs.Plan.{lanes_of};
-ghost use Rattle.pipeline_app.specs.Refusals.{answer_outcome, is_new_op, is_stopped, outcome_by, outcome_of};
+ghost use Rattle.pipeline_app.specs.Refusals.{answer_outcome, is_stopped, outcome_by, outcome_of};
+ghost use Rattle.evt_types.specs.Operation.{is_new_op};
 ghost use Rattle.pipeline_app.specs.Rig.{HaveLeft, IsRig};
 ghost use Rattle.pipeline_app.specs.declared.rig_port.RigPort.{RigPort as PortValue};
 

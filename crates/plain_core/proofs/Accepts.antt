@@ -4,7 +4,8 @@ use Rattle.std.proofs.lemmas.Bool.{cond-true, cond-false}
 use Rattle.std.proofs.lemmas.List.{append-nil, length-map, length-set, length_push, map-set, get_or-map, get_or_default}
 use Rattle.std.proofs.lemmas.List.Sums.{fold-append, sum_by-set, take_while-cons}
 use Rattle.std.proofs.lemmas.List.Concat.{flat_map-cons}
-use Rattle.evt_types.specs.Standing.{View, Place, after, after_accept, leaving, staying, accepts_from}
+use Rattle.transcripts.specs.Standing.{View, after, after_accept, leaving, staying, accepts_from}
+use Rattle.evt_types.specs.Place.{Place}
 use Rattle.evt_types.specs.declared.event.Event.{Event}
 use Rattle.evt_types.specs.declared.event.Numbered.{Numbered}
 use Rattle.evt_types.specs.declared.step.Step.{Step}

@@ -9,10 +9,11 @@ use Rattle.std.proofs.lemmas.List.Concat.{length-flat_map}
 use Rattle.std.proofs.lemmas.Grind.{flat_map-append}
 use Rattle.std.proofs.lemmas.List.Folds.{length-prefix_len}
 use Rattle.std.proofs.lemmas.List.Sums.{sum_by-set, sum_by-take-drop}
-use Rattle.evt_types.proofs.WholeStands.{places_is, stands_answer}
-use Rattle.evt_types.specs.Lawful.{IsOutcome}
+use Rattle.transcripts.proofs.WholeStands.{places_is, stands_answer}
+use Rattle.transcripts.specs.Lawful.{IsOutcome}
 use Rattle.evt_types.specs.Plan.{queue_of, is_ordered}
-use Rattle.evt_types.specs.Standing.{View, Place, Stands, places_at, unanswered_at, oldest_at, entries_of, may_answer, may_forward, events_of, answered_places, leaving, staying, accepts_from, answer_steps}
+use Rattle.transcripts.specs.Standing.{View, Stands, places_at, unanswered_at, oldest_at, entries_of, may_answer, may_forward, events_of, answered_places, leaving, staying, accepts_from, answer_steps}
+use Rattle.evt_types.specs.Place.{Place}
 use Rattle.evt_types.specs.declared.event.Event.{Event}
 use Rattle.evt_types.specs.declared.event.Numbered.{Numbered}
 use Rattle.evt_types.specs.declared.step.Outcome.{Outcome}

@@ -6,15 +6,16 @@ use Rattle.std.proofs.lemmas.List.{length-append, map-set, drop-map, get_or_defa
 use Rattle.std.proofs.lemmas.List.Elements.{All-nil, All-cons, All-head, All-tail, All-map, All-weaker, All-append}
 use Rattle.std.proofs.lemmas.List.Sums.{sum_by-set}
 use Rattle.std.proofs.lemmas.Option.{same_Some}
-use Rattle.evt_types.proofs.AnsweredPlaces.{IsForward, forwards_formed}
-use Rattle.evt_types.proofs.Lists.{eqb_other}
-use Rattle.evt_types.proofs.PlaceFacts.{Differ, answer_at, places_differ, held_has_place}
-use Rattle.evt_types.proofs.Whole.{steps-Lawful}
-use Rattle.evt_types.proofs.WholeStands.{stands_new}
-use Rattle.evt_types.specs.Lawful.{Lawful, IsOutcome}
+use Rattle.transcripts.proofs.AnsweredPlaces.{IsForward, forwards_formed}
+use Rattle.lists.proofs.Lists.{eqb_other}
+use Rattle.transcripts.proofs.PlaceFacts.{Differ, answer_at, places_differ, held_has_place}
+use Rattle.transcripts.proofs.Whole.{steps-Lawful}
+use Rattle.transcripts.proofs.WholeStands.{stands_new}
+use Rattle.transcripts.specs.Lawful.{Lawful, IsOutcome}
 use Rattle.evt_types.specs.Plan.{Plan, queue_of, lanes_of, bound_of, is_ordered}
-use Rattle.evt_types.specs.Standing.{View, Place, Stands, place_at, places, places_at, unanswered_at, oldest_at, inside_of, entries_of, may_enter, events_of, answer_place, answered_places, leaving, staying, accepts_from, accepts_of, answer_steps, after, after_accept, after_done, places_after}
-use Rattle.evt_types.specs.Transcript.{Held, open_of, forwards}
+use Rattle.transcripts.specs.Standing.{View, Stands, place_at, places, places_at, unanswered_at, oldest_at, inside_of, entries_of, may_enter, events_of, answer_place, answered_places, leaving, staying, accepts_from, accepts_of, answer_steps, after, after_accept, after_done, places_after}
+use Rattle.evt_types.specs.Place.{Place}
+use Rattle.transcripts.specs.Transcript.{Held, open_of, forwards}
 use Rattle.evt_types.specs.declared.draft.QueueDraft.{QueueDraft}
 use Rattle.evt_types.specs.declared.event.Event.{Event}
 use Rattle.evt_types.specs.declared.event.Numbered.{Numbered}

@@ -4,13 +4,14 @@ use Rattle.std.proofs.lemmas.List.{length-map, get_or-map, get_or_past, take_all
 use Rattle.std.proofs.lemmas.List.FromFn.{length-map-range_with_len}
 use Rattle.std.proofs.lemmas.List.Sums.{get_or-le-sum_by}
 use Rattle.std.proofs.lemmas.Bool.{lt-ltb}
-use Rattle.evt_types.proofs.Lists.{eqb_other}
-use Rattle.evt_types.proofs.Sums.{sum_agree}
-use Rattle.evt_types.proofs.ViewLists.{sum_of_map}
-use Rattle.evt_types.proofs.WholeStands.{inside_is}
+use Rattle.lists.proofs.Lists.{eqb_other}
+use Rattle.lists.proofs.Sums.{sum_agree}
+use Rattle.transcripts.proofs.ViewLists.{sum_of_map}
+use Rattle.transcripts.proofs.WholeStands.{inside_is}
 use Rattle.evt_types.specs.Plan.{Plan, lanes_of, bound_of}
-use Rattle.evt_types.specs.Standing.{View, Place, view_of, inside_of, entries_of, waiting_at, places_at, unanswered_at}
-use Rattle.evt_types.specs.Transcript.{Held, inside}
+use Rattle.transcripts.specs.Standing.{View, view_of, inside_of, entries_of, waiting_at, places_at, unanswered_at}
+use Rattle.evt_types.specs.Place.{Place}
+use Rattle.transcripts.specs.Transcript.{Held, inside}
 use Rattle.evt_types.specs.declared.event.Numbered.{Numbered}
 use Rattle.evt_types.specs.declared.step.Step.{Step}
 use Rattle.plain_core.specs.View.{items_in, list_length, forwards_in, place_in, places_in, places_forwards, held_in, unanswered_in, view_in, IsStood, IsPlain}

@@ -5,13 +5,13 @@ use Rattle.std.specs.Option.{IfSome, IfNone}
 use Rattle.std.proofs.lemmas.Bool.{and_from, and_parts, or_cases, or_right, cases_Bool, cases_lt, cond-true, cond-false, false≢true, false_from_ne_true, ltb-true, lt-ltb}
 use Rattle.std.proofs.lemmas.List.{length-map, get_or-map, get_or_default}
 use Rattle.std.proofs.lemmas.List.Elements.{All-map}
-use Rattle.evt_types.proofs.Lists.{All-from_none, list_any-none}
-use Rattle.evt_types.proofs.WholeStands.{offer_is_allowed, offer_is_accepted}
-use Rattle.evt_types.specs.Allowed.{Allowed}
-use Rattle.evt_types.specs.Choice.{Passed, Fits, HasNoOther, HasNoChoice, HasQuota, IsBetterLane, IsChoice, IsOffer, IsServedBefore, WaitsIn, is_earlier}
+use Rattle.lists.proofs.Lists.{All-from_none, list_any-none}
+use Rattle.transcripts.proofs.WholeStands.{offer_is_allowed, offer_is_accepted}
+use Rattle.transcripts.specs.Allowed.{Allowed}
+use Rattle.transcripts.specs.Choice.{Passed, Fits, HasNoOther, HasNoChoice, HasQuota, IsBetterLane, IsChoice, IsOffer, IsServedBefore, WaitsIn, is_earlier}
 use Rattle.evt_types.specs.Plan.{queue_of, lanes_of, level_of, slot_of, serves}
-use Rattle.evt_types.specs.Standing.{View, Stands, waiting_at, unanswered_at}
-use Rattle.evt_types.specs.Transcript.{Held, event_at}
+use Rattle.transcripts.specs.Standing.{View, Stands, waiting_at, unanswered_at}
+use Rattle.transcripts.specs.Transcript.{Held, event_at}
 use Rattle.evt_types.specs.declared.event.Numbered.{Numbered}
 use Rattle.evt_types.specs.declared.step.Step.{Step}
 use Rattle.evt_types.specs.declared.step.Step.TheVariants.{Give}

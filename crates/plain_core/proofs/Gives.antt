@@ -5,15 +5,16 @@ use Rattle.std.proofs.lemmas.Bool.{cond-true, cond-false}
 use Rattle.std.proofs.lemmas.List.{length-map, map-set, map_push, get_or_default, set-get_or}
 use Rattle.std.proofs.lemmas.List.Elements.{All-set}
 use Rattle.std.proofs.lemmas.List.Sums.{sum_by-set, sum_by_push}
-use Rattle.evt_types.proofs.ViewLists.{event_in_some}
-use Rattle.evt_types.proofs.Waits.{waiting-rises}
-use Rattle.evt_types.proofs.WholeStands.{waiting_is, stands_give}
-use Rattle.evt_types.specs.Choice.{IsOffer}
+use Rattle.transcripts.proofs.ViewLists.{event_in_some}
+use Rattle.transcripts.proofs.Waits.{waiting-rises}
+use Rattle.transcripts.proofs.WholeStands.{waiting_is, stands_give}
+use Rattle.transcripts.specs.Choice.{IsOffer}
 use Rattle.evt_types.specs.Fault.{IsBetween}
 use Rattle.evt_types.specs.declared.draft.QueueDraft.{QueueDraft}
 use Rattle.evt_types.specs.Plan.{Plan, PortPlan, queue_of, port_of, slot_of, is_ordered}
-use Rattle.evt_types.specs.Standing.{View, Place, Stands, waiting_at, event_in, slot_in, after_give}
-use Rattle.evt_types.specs.Transcript.{Held}
+use Rattle.transcripts.specs.Standing.{View, Stands, waiting_at, event_in, slot_in, after_give}
+use Rattle.evt_types.specs.Place.{Place}
+use Rattle.transcripts.specs.Transcript.{Held}
 use Rattle.evt_types.specs.declared.event.Numbered.{Numbered}
 use Rattle.evt_types.specs.declared.step.Step.{Step}
 use Rattle.evt_types.specs.declared.step.Step.TheVariants.{Give}

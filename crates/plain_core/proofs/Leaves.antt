@@ -3,8 +3,9 @@ use Rattle.std.proofs.Common.{◌≡◌, ◌≢◌, ℕ, zero, suc, ◌+◌, ◌
 use Rattle.std.proofs.lemmas.Bool.{cond-true, cond-false}
 use Rattle.std.proofs.lemmas.List.{length-append, length-map, length-drop}
 use Rattle.std.proofs.lemmas.List.Elements.{All-nil, All-cons, All-head, All-tail}
-use Rattle.evt_types.proofs.Lists.{eqb_other}
-use Rattle.evt_types.specs.Standing.{Place, leaving, accepts_from}
+use Rattle.lists.proofs.Lists.{eqb_other}
+use Rattle.evt_types.specs.Place.{Place}
+use Rattle.transcripts.specs.Standing.{leaving, accepts_from}
 use Rattle.evt_types.specs.declared.event.Event.{Event}
 use Rattle.evt_types.specs.declared.event.Numbered.{Numbered}
 use Rattle.evt_types.specs.declared.step.Outcome.{Outcome}

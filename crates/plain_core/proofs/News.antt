@@ -4,13 +4,14 @@ use Rattle.std.proofs.lemmas.List.{length-map, length-replicate, get_or-replicat
 use Rattle.std.proofs.lemmas.List.Elements.{All-map, All-weaker}
 use Rattle.std.proofs.lemmas.List.FromFn.{fill_by_all}
 use Rattle.std.proofs.lemmas.List.Folds.{sum_by-replicate}
-use Rattle.evt_types.proofs.ViewLists.{sum_of_none}
-use Rattle.evt_types.proofs.WholeStands.{stands_none}
-use Rattle.evt_types.proofs.WholeViews.{waiting_at_none, accepted_at_none, places_at_none, unanswered_at_none}
+use Rattle.transcripts.proofs.ViewLists.{sum_of_none}
+use Rattle.transcripts.proofs.WholeStands.{stands_none}
+use Rattle.transcripts.proofs.WholeViews.{waiting_at_none, accepted_at_none, places_at_none, unanswered_at_none}
 use Rattle.evt_types.specs.Fault.{IsWithinLimits}
 use Rattle.evt_types.specs.Plan.{Plan, lanes_of, bound_of}
-use Rattle.evt_types.specs.Standing.{View, Place, Stands, view_of, places}
-use Rattle.evt_types.specs.Transcript.{Held, waiting, accepted, unanswered_slots}
+use Rattle.transcripts.specs.Standing.{View, Stands, view_of, places}
+use Rattle.evt_types.specs.Place.{Place}
+use Rattle.transcripts.specs.Transcript.{Held, waiting, accepted, unanswered_slots}
 use Rattle.evt_types.specs.declared.event.Numbered.{Numbered}
 use Rattle.plain_core.proofs.Counts.{entries_sum}
 use Rattle.plain_core.specs.View.{AreEmptyLists, items_in, place_in, places_in, places_forwards, held_in, unanswered_in, view_in, IsPlain}

@@ -1,9 +1,9 @@
 -- How many steps a reply makes at most.
 use Rattle.std.proofs.Common.{ℕ, ◌<◌, ◌≤◌, List, length, arith}
-use Rattle.evt_types.proofs.Fewness.{steps_fit, kept_fit}
+use Rattle.transcripts.proofs.Fewness.{steps_fit, kept_fit}
 use Rattle.evt_types.specs.Fault.{IsWithinLimits}
 use Rattle.evt_types.specs.Plan.{lanes_of}
-use Rattle.evt_types.specs.Standing.{View, Stands, steps_of}
+use Rattle.transcripts.specs.Standing.{View, Stands, steps_of}
 use Rattle.evt_types.specs.declared.event.Event.{Event}
 use Rattle.evt_types.specs.declared.step.Step.{Step}
 use Rattle.sched_core.proofs.Cores.{few_kept}

@@ -2,8 +2,8 @@
 use Rattle.std.proofs.Common.{◌≡◌, Bool, true, false, List, [], ◌∷◌, ◌++◌, ◌⊎◌, inl, inr, sym, ap, ◌∙◌, subst}
 use Rattle.std.proofs.lemmas.Bool.{cases_Bool, cond-true, cond-false}
 use Rattle.std.proofs.lemmas.List.{append-nil}
-use Rattle.evt_types.proofs.WholeStands.{stands_shut}
-use Rattle.evt_types.specs.Standing.{View, Stands}
+use Rattle.transcripts.proofs.WholeStands.{stands_shut}
+use Rattle.transcripts.specs.Standing.{View, Stands}
 use Rattle.evt_types.specs.declared.step.Step.{Step}
 use Rattle.evt_types.specs.declared.step.Step.TheVariants.{Shut}
 use Rattle.sched_core.specs.Shutting.{shut_steps}

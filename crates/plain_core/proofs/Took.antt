@@ -3,9 +3,9 @@ use Rattle.std.proofs.Common.{◌≡◌, ℕ, ◌-◌, Bool, true, false, List, 
 use Rattle.std.specs.List.{list_any}
 use Rattle.std.proofs.lemmas.Bool.{cond-true, cond-false}
 use Rattle.std.proofs.lemmas.List.{length-append, take_all}
-use Rattle.evt_types.proofs.WholeStands.{steps_forward}
-use Rattle.evt_types.specs.Standing.{View, oldest_at, answer_steps, steps_of}
-use Rattle.evt_types.specs.Transcript.{Held}
+use Rattle.transcripts.proofs.WholeStands.{steps_forward}
+use Rattle.transcripts.specs.Standing.{View, oldest_at, answer_steps, steps_of}
+use Rattle.transcripts.specs.Transcript.{Held}
 use Rattle.evt_types.specs.declared.event.Event.{Event}
 use Rattle.evt_types.specs.declared.event.Op.TheVariants as ops
 use Rattle.evt_types.specs.declared.step.Outcome.TheVariants.{Forwarded}

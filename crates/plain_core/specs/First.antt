@@ -1,8 +1,8 @@
 -- Which of two offers comes first, and the first of those that were looked at.
 use Rattle.std.specs.Prelude.{ℕ, ◌≡◌, ◌<◌, Bool, true, false, ◌&&◌, ◌||◌, ◌==◌, nat_lt, List, [], ◌∷◌, length, Option, Some, None, if◌then◌else◌}
-use Rattle.evt_types.specs.Choice.{Passed, Fits, HasQuota, WaitsIn}
+use Rattle.transcripts.specs.Choice.{Passed, Fits, HasQuota, WaitsIn}
 use Rattle.evt_types.specs.Plan.{queue_of, level_of}
-use Rattle.evt_types.specs.Standing.{View, unanswered_at}
+use Rattle.transcripts.specs.Standing.{View, unanswered_at}
 use Rattle.sched_core.specs.Offered.{numbered_in}
 use Rattle.sched_core.specs.declared.offer.Offer.{Offer}
 

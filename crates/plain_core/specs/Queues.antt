@@ -1,7 +1,7 @@
 -- What waits in the queues and the numbers of their next events, as the accepts of a reply change them.
 use Rattle.std.specs.Prelude.{ℕ, ◌≡◌, ◌<◌, ◌≤◌, ◌^◌, All, length, sum, sum_by, ◌+◌, List, [], ◌∷◌, ◌++◌, map, fold, flat_map, slice_set, slice_index, slice_index_or, Bool, true, false, if◌then◌else◌, ◌==◌, Vec, Option, Some, None}
 use Rattle.std.specs.declared.alloc.Global.{Global}
-use Rattle.evt_types.specs.Standing.{Place}
+use Rattle.evt_types.specs.Place.{Place}
 use Rattle.evt_types.specs.declared.event.Event.{Event}
 use Rattle.evt_types.specs.declared.event.Numbered.{Numbered}
 use Rattle.evt_types.specs.declared.step.Outcome.{Outcome}

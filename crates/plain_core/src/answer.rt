@@ -1,7 +1,8 @@
 //! What the answer of an event brings about in the lists of the queues.
 
 ghost use Rattle.std.specs.Prelude.{◌≡◌, ◌+◌, ◌<◌, ◌≤◌, ◌^◌, [], ◌∷◌, ◌++◌, length, map, flat_map, option_to_list, sum, sum_by, vec_len, vec_capacity};
-ghost use Rattle.evt_types.specs.Standing.{Place as PlaceValue, leaving, staying, accepts_from};
+ghost use Rattle.evt_types.specs.Place.{Place as PlaceValue};
+ghost use Rattle.transcripts.specs.Standing.{leaving, staying, accepts_from};
 ghost use Rattle.plain_core.specs.Queues.{queues_in, with_event, with_events, events_in, answered_in, forward_in, MayAccept, IsMore};
 ghost use Rattle.plain_core.specs.View.{HaveRoom, list_length, places_in};
 

@@ -1,7 +1,7 @@
 //! A core in which nothing has happened.
 
 ghost use Rattle.std.specs.Prelude.{◌≡◌, [], replicate, IfOk, IfErr};
-ghost use Rattle.evt_types.specs.Standing.{Stands, view_of};
+ghost use Rattle.transcripts.specs.Standing.{Stands, view_of};
 ghost use Rattle.plain_core.specs.View.{AreEmptyLists};
 
 use crate::state::PlainCore;

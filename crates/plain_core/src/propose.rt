@@ -3,11 +3,11 @@
 
 ghost use Rattle.std.specs.Prelude.{◌≡◌, ◌≢◌, ◌<◌, ◌↔◌, true, false, All, IsTrue, List, length, Some, IfSome, IfNone, map};
 ghost use Rattle.std.specs.List.{list_any};
-ghost use Rattle.evt_types.specs.Allowed.{Allowed};
-ghost use Rattle.evt_types.specs.Choice.{HasNoOther, HasNoChoice, HasQuota, IsChoice, IsOffer, WaitsIn};
+ghost use Rattle.transcripts.specs.Allowed.{Allowed};
+ghost use Rattle.transcripts.specs.Choice.{HasNoOther, HasNoChoice, HasQuota, IsChoice, IsOffer, WaitsIn};
 ghost use Rattle.evt_types.specs.Plan.{lanes_of, queue_of, is_atomic, is_ordered};
-ghost use Rattle.evt_types.specs.Standing.{Stands, places_at, unanswered_at, waiting_at};
-ghost use Rattle.evt_types.specs.Transcript.{event_at, Held};
+ghost use Rattle.transcripts.specs.Standing.{Stands, places_at, unanswered_at, waiting_at};
+ghost use Rattle.transcripts.specs.Transcript.{event_at, Held};
 ghost use Rattle.evt_types.specs.declared.step.Step.{Step as StepValue};
 ghost use Rattle.evt_types.specs.declared.step.Step.TheVariants as steps;
 ghost use Rattle.plain_core.specs.First.{IsCandidate, IsAfter, better_offer, comes_first, is_lower};

@@ -41,7 +41,7 @@ pub(crate) struct Run {
 }
 
 impl Model for Run {
-    ghost use Rattle.evt_types.specs.Standing.{View, Stands};
+    ghost use Rattle.transcripts.specs.Standing.{View, Stands};
 
     ghost Value = { View };
 
@@ -116,7 +116,7 @@ pub(crate) struct PlainRun {
 }
 
 impl Model for PlainRun {
-    ghost use Rattle.evt_types.specs.Standing.{View, Stands};
+    ghost use Rattle.transcripts.specs.Standing.{View, Stands};
 
     ghost Value = { View };
 

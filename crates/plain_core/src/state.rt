@@ -2,8 +2,8 @@
 
 ghost use Rattle.std.specs.Prelude.{◌≡◌, ◌<◌, ◌≤◌, ◌^◌, List, length, sum, sum_by};
 ghost use Rattle.evt_types.specs.Plan.{is_ordered, queue_of};
-ghost use Rattle.evt_types.specs.Standing.{Stands, inside_of, entries_of, kept_in};
-ghost use Rattle.evt_types.specs.Transcript as transcripts;
+ghost use Rattle.transcripts.specs.Standing.{Stands, inside_of, entries_of, kept_in};
+ghost use Rattle.transcripts.specs.Transcript as transcripts;
 ghost use Rattle.evt_types.specs.declared.step.Step.{Step as StepValue};
 ghost use Rattle.plain_core.specs.View.{forwards_in, list_length, places_forwards};
 
@@ -28,7 +28,7 @@ pub struct PlainCore {
 }
 
 impl Model for PlainCore {
-    ghost use Rattle.evt_types.specs.Standing.{View};
+    ghost use Rattle.transcripts.specs.Standing.{View};
 
     ghost Value = { View };
 

@@ -2,9 +2,9 @@
 
 ghost use Rattle.std.specs.Prelude.{◌≡◌, ◌+◌, ◌<◌, ◌≤◌, ◌^◌, false, true, List, ◌++◌, length, Some, slice_get, vec_len, vec_capacity};
 ghost use Rattle.std.specs.List.{list_any};
-ghost use Rattle.evt_types.specs.Lawful.{IsOutcome};
+ghost use Rattle.transcripts.specs.Lawful.{IsOutcome};
 ghost use Rattle.evt_types.specs.Plan.{is_ordered, lanes_of, queue_of};
-ghost use Rattle.evt_types.specs.Standing.{Stands, AreStepsOf, entries_of, may_take, may_enter, may_answer, may_forward, events_of, answer_steps, steps_by, steps_of, after, oldest_at};
+ghost use Rattle.transcripts.specs.Standing.{Stands, AreStepsOf, entries_of, may_take, may_enter, may_answer, may_forward, events_of, answer_steps, steps_by, steps_of, after, oldest_at};
 ghost use Rattle.evt_types.specs.declared.step.Step.{Step as StepValue};
 ghost use Rattle.plain_core.specs.View.{held_in};
 ghost use Rattle.sched_core.specs.Taken.{took_by, took_of, is_accept_of};

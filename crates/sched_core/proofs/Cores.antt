@@ -6,11 +6,12 @@ use Rattle.std.proofs.lemmas.List.{length-set, length-map, length_push, map-set,
 use Rattle.std.proofs.lemmas.List.Elements.{All-set}
 use Rattle.std.proofs.lemmas.List.Sums.{sum_by-le, sum_by-set, sum-map, get_or-le-sum_by}
 use Rattle.std.proofs.lemmas.Option.{same_Some}
-use Rattle.evt_types.proofs.ViewLists.{event_in_at, event_in_some, sum_of_map}
+use Rattle.transcripts.proofs.ViewLists.{event_in_at, event_in_some, sum_of_map}
 use Rattle.evt_types.specs.Fault.{IsWithinLimits}
 use Rattle.evt_types.specs.Plan.{Plan, is_ordered, kept_room, level_of, lanes_of, depth_of, bound_of}
-use Rattle.evt_types.specs.Standing.{View, Place, event_in, inside_of, entries_of, kept_in, may_enter, may_answer, may_forward, oldest_at, waiting_at, next_at, places_at, unanswered_at, after_accept}
-use Rattle.evt_types.specs.Transcript.{Held}
+use Rattle.transcripts.specs.Standing.{View, event_in, inside_of, entries_of, kept_in, may_enter, may_answer, may_forward, oldest_at, waiting_at, next_at, places_at, unanswered_at, after_accept}
+use Rattle.evt_types.specs.Place.{Place}
+use Rattle.transcripts.specs.Transcript.{Held}
 use Rattle.evt_types.specs.declared.draft.QueueDraft.{QueueDraft}
 use Rattle.evt_types.specs.declared.event.Event.{Event}
 use Rattle.evt_types.specs.declared.event.Numbered.{Numbered}

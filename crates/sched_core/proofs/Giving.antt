@@ -5,11 +5,12 @@ use Rattle.std.proofs.lemmas.Bool.{cases_Bool, cond-true, cond-false, lt-ltb, or
 use Rattle.std.proofs.lemmas.List.{length-set, length-map, length_push, map-set, map_push, set-get_or}
 use Rattle.std.proofs.lemmas.List.Elements.{All-set}
 use Rattle.std.proofs.lemmas.List.Sums.{sum_by-append}
-use Rattle.evt_types.proofs.ViewLists.{one_less, event_in_some}
-use Rattle.evt_types.specs.Choice.{HasNoOther, IsOffer}
+use Rattle.transcripts.proofs.ViewLists.{one_less, event_in_some}
+use Rattle.transcripts.specs.Choice.{HasNoOther, IsOffer}
 use Rattle.evt_types.specs.Plan.{queue_of, bound_of, slot_of, is_atomic, is_ordered}
-use Rattle.evt_types.specs.Standing.{View, Place, event_in, slot_in, waiting_at, places_at, unanswered_at, after_give}
-use Rattle.evt_types.specs.Transcript.{Held}
+use Rattle.transcripts.specs.Standing.{View, event_in, slot_in, waiting_at, places_at, unanswered_at, after_give}
+use Rattle.evt_types.specs.Place.{Place}
+use Rattle.transcripts.specs.Transcript.{Held}
 use Rattle.evt_types.specs.declared.event.Numbered.{Numbered}
 use Rattle.order_parts.specs.History.{Entries}
 use Rattle.order_parts.specs.Pins.{Pin, may_pin, pinned}

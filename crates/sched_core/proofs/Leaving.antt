@@ -5,7 +5,8 @@ use Rattle.std.proofs.lemmas.List.{length-map, map-set, set-get_or}
 use Rattle.std.proofs.lemmas.List.Elements.{All-head}
 use Rattle.std.proofs.lemmas.List.Sums.{sum_by-cons, get_or-le-sum_by}
 use Rattle.evt_types.specs.Plan.{bound_of}
-use Rattle.evt_types.specs.Standing.{Place, inside_of, entries_of, kept_in}
+use Rattle.evt_types.specs.Place.{Place}
+use Rattle.transcripts.specs.Standing.{inside_of, entries_of, kept_in}
 use Rattle.evt_types.specs.declared.event.Event.{Event}
 use Rattle.order_parts.specs.Reorder.{Reordering, empty, oldest_answered, after_leave, after_leaving}
 use Rattle.sched_core.proofs.Cores.{kept_after, places_here, same_parts}

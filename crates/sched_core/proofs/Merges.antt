@@ -4,9 +4,9 @@ use Rattle.std.specs.List.{remove}
 use Rattle.std.proofs.lemmas.Bool.{cases_eq, cond-true, cond-false, false_from_ne_true, ltb-true, lt-ltb, and_right}
 use Rattle.std.proofs.lemmas.List.Elements.{All-head, All-tail, All-weaker, All-filter}
 use Rattle.std.proofs.lemmas.List.Sums.{sum_by-cons}
-use Rattle.evt_types.proofs.Lists.{eqb_same, eqb_other, eqb_is, filter-all, filter-none, filter_agree_all, filter_twice, filter-push_true, filter-push_false}
-use Rattle.evt_types.proofs.ViewLists.{rest_differs, rest_rises, mapped_changed}
-use Rattle.evt_types.specs.Lawful.{is_of_level}
+use Rattle.lists.proofs.Lists.{eqb_same, eqb_other, eqb_is, filter-all, filter-none, filter_agree_all, filter_twice, filter-push_true, filter-push_false}
+use Rattle.transcripts.proofs.ViewLists.{rest_differs, rest_rises, mapped_changed}
+use Rattle.transcripts.specs.Lawful.{is_of_level}
 use Rattle.evt_types.specs.Plan.{level_of}
 use Rattle.evt_types.specs.declared.event.Numbered.{Numbered}
 use Rattle.sched_core.specs.Merge.{placed, merged, by_number, levels_of}

@@ -6,7 +6,8 @@ use Rattle.std.proofs.lemmas.List.Elements.{All-nil, All-head, All-tail}
 use Rattle.std.proofs.lemmas.List.Sums.{sum_by-cons}
 use Rattle.std.proofs.lemmas.Option.{none-some}
 use Rattle.evt_types.specs.Plan.{Plan, queue_of, is_ordered}
-use Rattle.evt_types.specs.Standing.{View, Place, places_at, answered_places}
+use Rattle.transcripts.specs.Standing.{View, places_at, answered_places}
+use Rattle.evt_types.specs.Place.{Place}
 use Rattle.evt_types.specs.declared.draft.QueueDraft.{QueueDraft}
 use Rattle.evt_types.specs.declared.event.Event.{Event}
 use Rattle.evt_types.specs.declared.event.Kind.TheVariants.{Parallel}

@@ -3,9 +3,9 @@ use Rattle.std.proofs.Common.{◌≡◌, ◌≢◌, ℕ, zero, suc, ◌+◌, ◌
 use Rattle.std.proofs.lemmas.Bool.{cases_eq, cases_lt, false≢true, cond-true, cond-false}
 use Rattle.std.proofs.lemmas.List.{length-set, length_push, get_or-set_same, get_or-set_other, get_or_past, set-get_or}
 use Rattle.std.proofs.lemmas.Option.{none-some, same_Some, slice_get_within}
-use Rattle.evt_types.proofs.Lists.{slice_get-append_left, slice_get-last, eqb_same, eqb_other, All-slice_get}
+use Rattle.lists.proofs.Lists.{slice_get-append_left, slice_get-last, eqb_same, eqb_other, All-slice_get}
 use Rattle.evt_types.specs.Plan.{Plan, queue_of, is_ordered}
-use Rattle.evt_types.specs.Standing.{Place}
+use Rattle.evt_types.specs.Place.{Place}
 use Rattle.evt_types.specs.declared.event.Event.{Event}
 use Rattle.evt_types.specs.declared.event.Numbered.{Numbered}
 use Rattle.order_parts.specs.Reorder.{Reordering, empty, next_number, open_place, place_at, is_open, after_hand, after_resolve, after_leave}

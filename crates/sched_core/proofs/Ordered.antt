@@ -7,10 +7,11 @@ use Rattle.std.proofs.lemmas.List.Quantifiers.{all_pairs_push}
 use Rattle.std.proofs.lemmas.List.Sums.{sum_by-set}
 use Rattle.std.proofs.lemmas.Nat.{mod_below}
 use Rattle.std.proofs.lemmas.Option.{none-some, same_Some, slice_get_within, get_or_from_slice_get}
-use Rattle.evt_types.proofs.Lists.{AllPairs-drop, slice_get-append_left, slice_get-last, eqb_same}
-use Rattle.evt_types.proofs.PlaceFacts.{answer_at}
+use Rattle.lists.proofs.Lists.{AllPairs-drop, slice_get-append_left, slice_get-last, eqb_same}
+use Rattle.transcripts.proofs.PlaceFacts.{answer_at}
 use Rattle.evt_types.specs.Plan.{Plan}
-use Rattle.evt_types.specs.Standing.{Place, answer_place, events_of}
+use Rattle.evt_types.specs.Place.{Place}
+use Rattle.transcripts.specs.Standing.{answer_place, events_of}
 use Rattle.evt_types.specs.declared.event.Event.{Event}
 use Rattle.evt_types.specs.declared.event.Numbered.{Numbered}
 use Rattle.order_parts.specs.Reorder.{Reordering, next_number, open_place, place_at, is_open, index_of, resolved, after_hand, after_resolve, after_leave, after_leaving, oldest_answered}

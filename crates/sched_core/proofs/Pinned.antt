@@ -5,11 +5,11 @@ use Rattle.std.proofs.lemmas.List.{length-set, length-replicate, get_or-replicat
 use Rattle.std.proofs.lemmas.List.Elements.{All-nil, All-cons, All-head, All-push, All-drop, All-set, All-weaker}
 use Rattle.std.proofs.lemmas.List.Sums.{sum_by-append, sum_by-cons, count_by-le-length}
 use Rattle.std.proofs.lemmas.Option.{same_Some}
-use Rattle.evt_types.proofs.Lists.{eqb_same}
-use Rattle.evt_types.proofs.ViewLists.{sum_of_none}
+use Rattle.lists.proofs.Lists.{eqb_same}
+use Rattle.transcripts.proofs.ViewLists.{sum_of_none}
 use Rattle.evt_types.specs.Fault.{IsWithinLimits, IsBetween}
 use Rattle.evt_types.specs.Plan.{Plan, PortPlan, queue_of, slot_of, depth_of, is_atomic}
-use Rattle.evt_types.specs.Transcript.{Held}
+use Rattle.transcripts.specs.Transcript.{Held}
 use Rattle.evt_types.specs.declared.draft.QueueDraft.{QueueDraft}
 use Rattle.evt_types.specs.declared.event.Kind.TheVariants.{Parallel}
 use Rattle.order_parts.specs.Pins.{Pin, free, pin_at, may_pin, pinned, unpinned}

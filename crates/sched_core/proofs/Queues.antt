@@ -10,9 +10,9 @@ use Rattle.std.proofs.lemmas.List.Sorted.{sum_by-IsPermutation, length_permutati
 use Rattle.std.specs.List.Sorted.{IsNonDecreasing, IsPermutation}
 use Rattle.std.proofs.lemmas.List.Sums.{length-filter, count_by-le-length, sum_by-append, sum_by-cons}
 use Rattle.std.proofs.lemmas.Option.{none-some, get_or_from_slice_get}
-use Rattle.evt_types.proofs.Lists.{All-kept, All-weaker_all, filter-all, eqb_other, slice_get-some}
-use Rattle.evt_types.proofs.ViewLists.{mapped_at, sum_of_map}
-use Rattle.evt_types.specs.Lawful.{is_of_level}
+use Rattle.lists.proofs.Lists.{All-kept, All-weaker_all, filter-all, eqb_other, slice_get-some}
+use Rattle.transcripts.proofs.ViewLists.{mapped_at, sum_of_map}
+use Rattle.transcripts.specs.Lawful.{is_of_level}
 use Rattle.evt_types.specs.Plan.{level_of}
 use Rattle.evt_types.specs.declared.event.Event.{Event}
 use Rattle.evt_types.specs.declared.event.Numbered.{Numbered}

@@ -5,10 +5,11 @@ use Rattle.std.proofs.lemmas.Bool.{cases_Bool, cond-true, cond-false}
 use Rattle.std.proofs.lemmas.List.{length-append, length-set, get_or-set_same, set-get_or}
 use Rattle.std.proofs.lemmas.List.Sums.{take_while-cons, fold-append}
 use Rattle.std.proofs.lemmas.Option.{none-some}
-use Rattle.evt_types.proofs.Lists.{list_any-append, eqb_same, or-false}
+use Rattle.lists.proofs.Lists.{list_any-append, eqb_same, or-false}
 use Rattle.evt_types.specs.Plan.{queue_of, is_ordered}
-use Rattle.evt_types.specs.Standing.{View, Place, places_at, oldest_at, leaving, staying, accepts_from, accepts_of, answered_places, answer_steps, events_of, after, after_step, after_accept, places_after}
-use Rattle.evt_types.specs.Transcript.{Held}
+use Rattle.transcripts.specs.Standing.{View, places_at, oldest_at, leaving, staying, accepts_from, accepts_of, answered_places, answer_steps, events_of, after, after_step, after_accept, places_after}
+use Rattle.evt_types.specs.Place.{Place}
+use Rattle.transcripts.specs.Transcript.{Held}
 use Rattle.evt_types.specs.declared.event.Event.{Event}
 use Rattle.evt_types.specs.declared.step.Outcome.{Outcome}
 use Rattle.evt_types.specs.declared.step.Outcome.TheVariants.{Forwarded}

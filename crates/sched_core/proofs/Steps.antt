@@ -2,10 +2,10 @@
 use Rattle.std.proofs.Common.{◌≡◌, ℕ, ◌+◌, ◌<◌, ◌≤◌, Bool, true, false, cond, List, [], ◌∷◌, ◌++◌, length, Some, refl, sym, ap, ◌∙◌, subst, arith, append-nil, append_assoc}
 use Rattle.std.specs.List.{list_any}
 use Rattle.std.proofs.lemmas.List.{length-append}
-use Rattle.evt_types.proofs.WholeStands.{stands_shut}
+use Rattle.transcripts.proofs.WholeStands.{stands_shut}
 use Rattle.evt_types.specs.Plan.{queue_of, is_ordered}
-use Rattle.evt_types.specs.Standing.{View, Stands, oldest_at, answer_steps, events_of, accepts_from, steps_by, steps_of, after}
-use Rattle.evt_types.specs.Transcript.{Held}
+use Rattle.transcripts.specs.Standing.{View, Stands, oldest_at, answer_steps, events_of, accepts_from, steps_by, steps_of, after}
+use Rattle.transcripts.specs.Transcript.{Held}
 use Rattle.evt_types.specs.declared.event.Event.{Event}
 use Rattle.evt_types.specs.declared.event.Op.TheVariants as ops
 use Rattle.evt_types.specs.declared.step.Outcome.{Outcome}

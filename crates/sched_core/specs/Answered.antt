@@ -1,8 +1,9 @@
 -- An answer by its parts: it is noted first, and then the answered places of its queue leave.
 use Rattle.std.specs.Prelude.{ℕ, List, drop, slice_set, Option, Some, None, if◌then◌else◌}
 use Rattle.evt_types.specs.Plan.{queue_of, is_ordered}
-use Rattle.evt_types.specs.Standing.{View, Place, places_at, oldest_at, unanswered_at, answered_places}
-use Rattle.evt_types.specs.Transcript.{Held}
+use Rattle.transcripts.specs.Standing.{View, places_at, oldest_at, unanswered_at, answered_places}
+use Rattle.evt_types.specs.Place.{Place}
+use Rattle.transcripts.specs.Transcript.{Held}
 use Rattle.evt_types.specs.declared.step.Outcome.{Outcome}
 use Rattle.order_parts.specs.Reorder.{oldest_answered}
 

@@ -1,7 +1,7 @@
 -- The parts of a core: what waits in a queue, what is unanswered on a lane, and what holds of each.
 use Rattle.std.specs.Prelude.{ℕ, ◌≡◌, ◌<◌, ◌≤◌, List, [], length, slice_index_or, All}
 use Rattle.evt_types.specs.Plan.{Plan, depth_of}
-use Rattle.evt_types.specs.Transcript.{Held}
+use Rattle.transcripts.specs.Transcript.{Held}
 use Rattle.order_parts.specs.declared.history.Entry.{Entry}
 use Rattle.order_parts.specs.History.{Entries, entries_of}
 use Rattle.sched_core.specs.Waits.{Waits, AreWaits, no_waits}

@@ -1,6 +1,6 @@
 -- The kept events of a queue: what events that were handed out are forwarded as, while one before them is unanswered.
 use Rattle.std.specs.Prelude.{ℕ, List, flat_map}
-use Rattle.evt_types.specs.Standing.{View, places_at}
+use Rattle.transcripts.specs.Standing.{View, places_at}
 use Rattle.evt_types.specs.declared.event.Numbered.{Numbered}
 use Rattle.order_parts.specs.Reorder.{kept_of}
 

@@ -1,8 +1,8 @@
 -- What is offered, and to whom.
 use Rattle.std.specs.Prelude.{ℕ, ◌≡◌, ◌<◌, ◌≤◌, Bool, false, true, length, nat_le, nat_lt, slice_index_or, List, Option, Some, None, if◌then◌else◌}
-use Rattle.evt_types.specs.Choice.{Passed, Fits, HasNoOther, IsBetterLane, WaitsIn, has_bounced, is_earlier}
+use Rattle.transcripts.specs.Choice.{Passed, Fits, HasNoOther, IsBetterLane, WaitsIn, has_bounced, is_earlier}
 use Rattle.evt_types.specs.Plan.{Plan, lanes_of, depth_of, queue_of, level_of, serves, is_atomic, is_ordered}
-use Rattle.evt_types.specs.Standing.{View, waiting_at, places_at, unanswered_at}
+use Rattle.transcripts.specs.Standing.{View, waiting_at, places_at, unanswered_at}
 use Rattle.sched_core.specs.Waits.{at_level}
 use Rattle.evt_types.specs.declared.event.Delivery.{Delivery}
 use Rattle.evt_types.specs.declared.event.Numbered.{Numbered}

@@ -1,7 +1,7 @@
 -- What holds of the reorder buffers: the places of each ordered queue's, and the place of each unanswered event.
 use Rattle.std.specs.Prelude.{ℕ, ◌≡◌, ◌≢◌, ◌<◌, ◌≤◌, ◌^◌, true, List, [], length, sum_by, slice_get, slice_index_or, Option, Some, None, All, AllPairs, if◌then◌else◌}
 use Rattle.evt_types.specs.Plan.{Plan, queue_of, is_ordered}
-use Rattle.evt_types.specs.Standing.{Place}
+use Rattle.evt_types.specs.Place.{Place}
 use Rattle.evt_types.specs.declared.event.Event.{Event}
 use Rattle.evt_types.specs.declared.event.Numbered.{Numbered}
 use Rattle.evt_types.specs.declared.step.Outcome.{Outcome}

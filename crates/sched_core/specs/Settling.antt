@@ -2,8 +2,9 @@
 -- what they were forwarded as is accepted.
 use Rattle.std.specs.Prelude.{ℕ, ◌≡◌, Bool, ◌||◌, List, ◌++◌, drop, flat_map, slice_set}
 use Rattle.std.specs.List.{list_any}
-use Rattle.evt_types.specs.Standing.{View, Place, places_at, unanswered_at, answered_places, leaving, staying, accepts_from, after}
-use Rattle.evt_types.specs.Transcript.{Held}
+use Rattle.transcripts.specs.Standing.{View, places_at, unanswered_at, answered_places, leaving, staying, accepts_from, after}
+use Rattle.evt_types.specs.Place.{Place}
+use Rattle.transcripts.specs.Transcript.{Held}
 use Rattle.evt_types.specs.declared.step.Outcome.{Outcome}
 use Rattle.evt_types.specs.declared.step.Step.{Step}
 use Rattle.sched_core.specs.Taken.{is_accept_of}

@@ -1,6 +1,6 @@
 -- The step of a shut.
 use Rattle.std.specs.Prelude.{List, [], ◌∷◌, if◌then◌else◌}
-use Rattle.evt_types.specs.Standing.{View}
+use Rattle.transcripts.specs.Standing.{View}
 use Rattle.evt_types.specs.declared.step.Step.{Step}
 use Rattle.evt_types.specs.declared.step.Step.TheVariants.{Shut}
 

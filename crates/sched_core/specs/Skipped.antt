@@ -1,6 +1,6 @@
 -- What a sweep passes over when it begins.
 use Rattle.std.specs.Prelude.{false, replicate}
-use Rattle.evt_types.specs.Choice.{Passed}
+use Rattle.transcripts.specs.Choice.{Passed}
 
 -- no lane's ring has refused a delivery, and of no queue an event was given
 abbrev pub nothing_passed : Passed

@@ -1,8 +1,8 @@
 -- What becomes of a reply.
 use Rattle.std.specs.Prelude.{ℕ, Bool, false, List, Option, Some, None, if◌then◌else◌}
 use Rattle.std.specs.List.{list_any}
-use Rattle.evt_types.specs.Standing.{View, steps_of, oldest_at}
-use Rattle.evt_types.specs.Transcript.{Held, is_pair}
+use Rattle.transcripts.specs.Standing.{View, steps_of, oldest_at}
+use Rattle.transcripts.specs.Transcript.{Held, is_pair}
 use Rattle.evt_types.specs.declared.event.Event.{Event}
 use Rattle.evt_types.specs.declared.event.Op.{Op}
 use Rattle.evt_types.specs.declared.event.Op.TheVariants as ops

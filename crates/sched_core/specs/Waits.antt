@@ -1,6 +1,6 @@
 -- What waits in a queue, seen as one list, whatever holds it.
 use Rattle.std.specs.Prelude.{ℕ, ◌≡◌, ◌+◌, ◌<◌, ◌≤◌, ◌^◌, ◌==◌, List, [], ◌∷◌, ◌++◌, filter, not, length, slice_index_or, All, AllPairs}
-use Rattle.evt_types.specs.Lawful.{is_of_level}
+use Rattle.transcripts.specs.Lawful.{is_of_level}
 use Rattle.evt_types.specs.Plan.{level_of}
 use Rattle.evt_types.specs.declared.event.Event.{Event}
 use Rattle.evt_types.specs.declared.event.Numbered.{Numbered}

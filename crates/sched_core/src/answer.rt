@@ -3,7 +3,7 @@
 ghost use Rattle.std.specs.Prelude.{◌≡◌, ◌+◌, ◌<◌, ◌≤◌, ◌^◌, true, false, [], ◌∷◌, ◌++◌, length, Some, All, IfSome, option_map, option_to_list, vec_len, vec_capacity};
 ghost use Rattle.std.specs.List.{list_any};
 ghost use Rattle.evt_types.specs.Plan.{bound_of, lanes_of, queue_of, is_ordered};
-ghost use Rattle.evt_types.specs.Standing.{inside_of, entries_of, may_answer, oldest_at, places_at, events_of, after_accept};
+ghost use Rattle.transcripts.specs.Standing.{inside_of, entries_of, may_answer, oldest_at, places_at, events_of, after_accept};
 ghost use Rattle.evt_types.specs.declared.event.Event.{Event as EventValue};
 ghost use Rattle.order_parts.specs.Reorder.{left, oldest_answered};
 ghost use Rattle.sched_core.specs.Inner.{held_of};

@@ -1,10 +1,10 @@
 //! Events are given to the lanes.
 
 ghost use Rattle.std.specs.Prelude.{◌≡◌, ◌<◌, List, [], ◌∷◌, ◌++◌, Some, vec_len, vec_capacity};
-ghost use Rattle.evt_types.specs.Choice.{IsOffer};
+ghost use Rattle.transcripts.specs.Choice.{IsOffer};
 ghost use Rattle.evt_types.specs.Plan.{lanes_of};
-ghost use Rattle.evt_types.specs.Standing.{Stands, after};
-ghost use Rattle.evt_types.specs.Transcript.{event_at};
+ghost use Rattle.transcripts.specs.Standing.{Stands, after};
+ghost use Rattle.transcripts.specs.Transcript.{event_at};
 ghost use Rattle.evt_types.specs.declared.step.Step.{Step as StepValue};
 ghost use Rattle.sched_core.specs.Offered.{numbered_in};
 

@@ -2,7 +2,7 @@
 
 ghost use Rattle.std.specs.Prelude.{◌≡◌, [], IfOk, IfErr};
 ghost use Rattle.evt_types.specs.Plan.{lanes_of};
-ghost use Rattle.evt_types.specs.Standing.{Stands, view_of};
+ghost use Rattle.transcripts.specs.Standing.{Stands, view_of};
 ghost use Rattle.sched_core.specs.Inner.{AreEmptyQueues, AreEmptyLanes};
 
 use crate::orders::AllOrders;

@@ -1,11 +1,11 @@
 //! The choice of the event that is given next, and of its lane.
 
 ghost use Rattle.std.specs.Prelude.{◌≡◌, ℕ, ◌<◌, ◌↔◌, true, IsTrue, List, length, Some, IfSome, IfNone};
-ghost use Rattle.evt_types.specs.Allowed.{Allowed};
-ghost use Rattle.evt_types.specs.Choice.{Fits, HasNoOther, HasNone, HasNoChoice, IsBetterLane, IsChoice, IsOffer};
+ghost use Rattle.transcripts.specs.Allowed.{Allowed};
+ghost use Rattle.transcripts.specs.Choice.{Fits, HasNoOther, HasNone, HasNoChoice, IsBetterLane, IsChoice, IsOffer};
 ghost use Rattle.evt_types.specs.Plan.{lanes_of, queue_of, is_atomic};
-ghost use Rattle.evt_types.specs.Standing.{Stands};
-ghost use Rattle.evt_types.specs.Transcript.{event_at};
+ghost use Rattle.transcripts.specs.Standing.{Stands};
+ghost use Rattle.transcripts.specs.Transcript.{event_at};
 ghost use Rattle.evt_types.specs.declared.step.Step.{Step as StepValue};
 ghost use Rattle.evt_types.specs.declared.step.Step.TheVariants as steps;
 ghost use Rattle.sched_core.specs.Offered.{numbered_in, FitsSlot, HasNoneIn, IsOfferIn, IsOfferAt, IsOfferOf, HasNoneAt, level_at, better_of, is_ahead};

@@ -1,7 +1,7 @@
 //! No new event is accepted any more.
 
 ghost use Rattle.std.specs.Prelude.{◌≡◌, ◌<◌, false, true, List, ◌++◌, vec_len, vec_capacity};
-ghost use Rattle.evt_types.specs.Standing.{Stands};
+ghost use Rattle.transcripts.specs.Standing.{Stands};
 ghost use Rattle.evt_types.specs.declared.step.Step.{Step as StepValue};
 ghost use Rattle.sched_core.specs.Shutting.{shut_steps};
 

@@ -1,7 +1,7 @@
 //! What a sweep passes over.
 
 ghost use Rattle.std.specs.Prelude.{◌≡◌, ◌+◌, ◌<◌, true, slice_set, slice_index, nat_lt};
-ghost use Rattle.evt_types.specs.Choice.{has_bounced};
+ghost use Rattle.transcripts.specs.Choice.{has_bounced};
 ghost use Rattle.sched_core.specs.Skipped.{nothing_passed};
 
 use evt_types::{MAX_PORTS, MAX_QUEUES};
@@ -20,7 +20,7 @@ pub struct Skips {
 }
 
 impl Model for Skips {
-    ghost use Rattle.evt_types.specs.Choice.{Passed};
+    ghost use Rattle.transcripts.specs.Choice.{Passed};
 
     ghost Value = { Passed };
 

@@ -1,8 +1,8 @@
 //! What the core holds, and what can be read of it.
 
 ghost use Rattle.std.specs.Prelude.{◌≡◌, ◌+◌, ◌<◌, ◌≤◌, ◌++◌, List, length, map, sum_by, vec_len, vec_capacity};
-ghost use Rattle.evt_types.specs.Standing.{Stands, inside_of, places_at, waiting_at};
-ghost use Rattle.evt_types.specs.Transcript as transcripts;
+ghost use Rattle.transcripts.specs.Standing.{Stands, inside_of, places_at, waiting_at};
+ghost use Rattle.transcripts.specs.Transcript as transcripts;
 ghost use Rattle.evt_types.specs.declared.event.Numbered.{Numbered as NumberedValue};
 ghost use Rattle.evt_types.specs.declared.step.Step.{Step as StepValue};
 ghost use Rattle.evt_types.specs.Plan.{kept_room};
@@ -37,7 +37,7 @@ pub struct Core {
 }
 
 impl Model for Core {
-    ghost use Rattle.evt_types.specs.Standing.{View};
+    ghost use Rattle.transcripts.specs.Standing.{View};
 
     ghost Value = { View };
 

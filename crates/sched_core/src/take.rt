@@ -2,7 +2,7 @@
 
 ghost use Rattle.std.specs.Prelude.{◌≡◌, ◌+◌, ◌<◌, ◌≤◌, true, List, ◌++◌, length, vec_len, vec_capacity};
 ghost use Rattle.evt_types.specs.Plan.{is_ordered, lanes_of, queue_of};
-ghost use Rattle.evt_types.specs.Standing.{Stands, AreStepsOf, may_take, may_enter, may_answer, may_forward, answer_steps, steps_by, steps_of, after};
+ghost use Rattle.transcripts.specs.Standing.{Stands, AreStepsOf, may_take, may_enter, may_answer, may_forward, answer_steps, steps_by, steps_of, after};
 ghost use Rattle.evt_types.specs.declared.step.Step.{Step as StepValue};
 ghost use Rattle.sched_core.specs.Taken.{took_by, took_of};
 

@@ -20,7 +20,7 @@ pub(crate) struct Run {
 }
 
 impl Model for Run {
-    ghost use Rattle.evt_types.specs.Standing.{View, Stands};
+    ghost use Rattle.transcripts.specs.Standing.{View, Stands};
 
     ghost Value = { View };
 

@@ -1,5 +1,5 @@
 use Rattle.std.proofs.Common.{◌≡◌}
-use Rattle.evt_types.specs.Standing.{inside_of}
+use Rattle.transcripts.specs.Standing.{inside_of}
 use Rattle.core_bench.specs.Run.{IsRun}
 use Rattle.core_bench.proofs.run.Run.rounds.Given as goal
 

@@ -1,6 +1,6 @@
 use Rattle.std.proofs.Common.{◌≡◌, ℕ, ◌+◌, ◌-◌, ◌%◌, ◌^◌, List, map, Option, Some, None, IsTrue, slice_get, slice_set, ap, subst, sym, ◌∙◌}
 use Rattle.std.specs.Option.{option_copied_mut}
-use Rattle.evt_types.specs.Standing.{Place}
+use Rattle.evt_types.specs.Place.{Place}
 use Rattle.evt_types.specs.declared.event.Event.{Event}
 use Rattle.order_parts.specs.Reorder.{Reordering, is_open, place_at, place_of, after_resolve}
 use Rattle.order_parts.specs.declared.reorder.Answer.TheVariants.{Resolved}

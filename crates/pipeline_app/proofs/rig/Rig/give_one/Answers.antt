@@ -1,6 +1,6 @@
 use Rattle.std.proofs.Common.{ap, refl, ◌∙◌, length, [], ◌∷◌, arith}
 use Rattle.std.proofs.lemmas.List.{length-append}
-use Rattle.evt_types.specs.Standing.{kept_in}
+use Rattle.transcripts.specs.Standing.{kept_in}
 use Rattle.evt_types.specs.declared.step.Step.TheVariants.{Give}
 use Rattle.pipeline_app.proofs.Keeping.{kept_in-give}
 use Rattle.pipeline_app.proofs.Playing.{IsRig-step, IsRig-give, IsQuiet-bounced}

@@ -1,6 +1,6 @@
 use Rattle.std.proofs.Common.{◌≡◌, ◌+◌, ◌-◌, ◌^◌, ◌++◌, sym, ap, ◌∙◌, arith}
 use Rattle.std.specs.Prelude.{min}
-use Rattle.evt_types.proofs.Fewness.{kept_fit}
+use Rattle.transcripts.proofs.Fewness.{kept_fit}
 use Rattle.pipeline_app.specs.Swept.{shut_seen}
 use Rattle.pipeline_app.specs.declared.answer.Swept.{Swept}
 use Rattle.pipeline_app.specs.declared.pool.Pool.{Pool}

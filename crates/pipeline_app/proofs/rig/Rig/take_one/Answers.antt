@@ -1,7 +1,7 @@
 use Rattle.std.proofs.Common.{length, refl, ap, ◌∙◌, arith}
 use Rattle.std.proofs.lemmas.List.{length-append}
-use Rattle.evt_types.specs.Standing.{kept_in, steps_of}
-use Rattle.evt_types.proofs.Fewness.{steps_fit}
+use Rattle.transcripts.specs.Standing.{kept_in, steps_of}
+use Rattle.transcripts.proofs.Fewness.{steps_fit}
 use Rattle.pipeline_app.proofs.Playing.{IsQuiet-reply, IsRig-quiet}
 use Rattle.pipeline_app.proofs.Sweeps.{Makes-reply}
 use Rattle.pipeline_app.proofs.rig.Rig.take_one.Goals as goal

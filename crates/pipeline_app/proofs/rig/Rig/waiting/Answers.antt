@@ -1,5 +1,5 @@
 use Rattle.std.proofs.Common.{map}
-use Rattle.evt_types.specs.Standing.{waiting_at}
+use Rattle.transcripts.specs.Standing.{waiting_at}
 use Rattle.pipeline_app.specs.Stopped.{waiting_of, numbers_of}
 use Rattle.pipeline_app.proofs.Ranges.{flat_map-range_more}
 use Rattle.pipeline_app.proofs.rig.Rig.waiting.Goals as goal

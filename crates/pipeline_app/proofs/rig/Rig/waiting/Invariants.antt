@@ -1,7 +1,7 @@
 use Rattle.std.proofs.Common.{◌≡◌, map}
 use Rattle.std.specs.Prelude.{flat_map}
 use Rattle.std.specs.List.{range_with_len}
-use Rattle.evt_types.specs.Standing.{waiting_at}
+use Rattle.transcripts.specs.Standing.{waiting_at}
 use Rattle.pipeline_app.specs.Stopped.{waiting_of, numbers_of}
 use Rattle.pipeline_app.proofs.rig.Rig.waiting.Given as goal
 

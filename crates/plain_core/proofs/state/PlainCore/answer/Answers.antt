@@ -1,6 +1,6 @@
 use Rattle.std.proofs.Common.{◌≡◌, ◌<◌, true, false, Some, sym, ◌∙◌, subst, arith}
 use Rattle.evt_types.specs.Plan.{lanes_of, is_ordered, queue_of}
-use Rattle.evt_types.specs.Standing.{View, oldest_at, may_answer}
+use Rattle.transcripts.specs.Standing.{View, oldest_at, may_answer}
 use Rattle.plain_core.proofs.Answered.{answer_some, some_here, oldest_here}
 use Rattle.plain_core.proofs.Counts.{unanswered_count}
 use Rattle.plain_core.specs.View.{held_in, view_in}

@@ -1,8 +1,8 @@
 use Rattle.std.proofs.Common.{◌≡◌, ◌+◌, ◌<◌, ◌≤◌, ◌^◌, ◌++◌, false, length, get_or, Some, option_to_list, sym, ap, ◌∙◌, subst, arith}
 use Rattle.std.proofs.lemmas.List.{length_push}
-use Rattle.evt_types.specs.Lawful.{IsOutcome}
+use Rattle.transcripts.specs.Lawful.{IsOutcome}
 use Rattle.evt_types.specs.Plan.{lanes_of, is_ordered, queue_of}
-use Rattle.evt_types.specs.Standing.{View, oldest_at, entries_of, events_of, answer_steps, after, accepts_from}
+use Rattle.transcripts.specs.Standing.{View, oldest_at, entries_of, events_of, answer_steps, after, accepts_from}
 use Rattle.evt_types.specs.declared.step.Step.TheVariants.{Done}
 use Rattle.plain_core.proofs.Answered.{log_joined, accepts_length, some_here, may_at_once, plain_at_once}
 use Rattle.plain_core.proofs.Cores.{events_is, steps_at_once, view_at_once, holds_some}

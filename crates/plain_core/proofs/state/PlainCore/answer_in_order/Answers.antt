@@ -1,8 +1,8 @@
 use Rattle.std.proofs.Common.{◌≡◌, ◌+◌, ◌<◌, ◌≤◌, ◌^◌, ◌++◌, true, length, get_or, Some, sym, ap, ◌∙◌, subst, arith}
 use Rattle.std.proofs.lemmas.List.{length_push}
-use Rattle.evt_types.specs.Lawful.{IsOutcome}
+use Rattle.transcripts.specs.Lawful.{IsOutcome}
 use Rattle.evt_types.specs.Plan.{lanes_of, is_ordered, queue_of}
-use Rattle.evt_types.specs.Standing.{View, oldest_at, entries_of, events_of, answer_steps, answered_places, leaving, staying, after}
+use Rattle.transcripts.specs.Standing.{View, oldest_at, entries_of, events_of, answer_steps, answered_places, leaving, staying, after}
 use Rattle.evt_types.specs.declared.step.Step.TheVariants.{Done}
 use Rattle.plain_core.proofs.Accepts.{left_steps}
 use Rattle.plain_core.proofs.Answered.{log_joined, left_length, some_here, may_in_order, plain_in_order}

@@ -1,4 +1,4 @@
-use Rattle.evt_types.proofs.WholeStands.{stands_bounced}
+use Rattle.transcripts.proofs.WholeStands.{stands_bounced}
 use Rattle.plain_core.proofs.state.PlainCore.bounce.Goals as goal
 
 pub returns-clause-stands : goal.returns-clause-stands

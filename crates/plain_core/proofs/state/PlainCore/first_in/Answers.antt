@@ -1,5 +1,5 @@
 use Rattle.std.proofs.Common.{◌≡◌, length, get_or, ap, ◌∙◌, arith}
-use Rattle.evt_types.specs.Standing.{waiting_at}
+use Rattle.transcripts.specs.Standing.{waiting_at}
 use Rattle.plain_core.proofs.Firsts.{event_more, events_all}
 use Rattle.plain_core.proofs.state.PlainCore.first_in.Goals as goal
 

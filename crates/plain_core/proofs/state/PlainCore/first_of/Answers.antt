@@ -1,7 +1,7 @@
 use Rattle.std.proofs.Common.{◌≡◌, ◌+◌, ◌<◌, Some, sym, ap, ◌∙◌, subst, arith}
 use Rattle.std.proofs.lemmas.Bool.{false≢true}
 use Rattle.evt_types.specs.Plan.{lanes_of, slot_of}
-use Rattle.evt_types.specs.Standing.{View}
+use Rattle.transcripts.specs.Standing.{View}
 use Rattle.plain_core.proofs.Firsts.{IsFirstOf, candidate_lane, lane_fits, lane_fails}
 use Rattle.plain_core.proofs.state.PlainCore.first_of.Goals as goal
 use Rattle.plain_core.proofs.state.PlainCore.first_of.Goals.{then-fits, else-fits}

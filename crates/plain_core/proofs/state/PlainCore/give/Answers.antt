@@ -1,10 +1,10 @@
 use Rattle.std.proofs.Common.{◌++◌, ◌∷◌, [], ◌==◌, not, sym, ap, ◌∙◌, subst, arith, rules}
 use Rattle.std.proofs.lemmas.Fn.{filter_same}
-use Rattle.evt_types.specs.Choice.{IsOffer}
-use Rattle.evt_types.specs.Standing.{Stands, after_give}
+use Rattle.transcripts.specs.Choice.{IsOffer}
+use Rattle.transcripts.specs.Standing.{Stands, after_give}
 use Rattle.evt_types.specs.declared.event.Numbered.{Numbered}
 use Rattle.evt_types.specs.declared.step.Step.TheVariants.{Give}
-use Rattle.evt_types.proofs.WholeStands.{stands_give, offer_is_accepted}
+use Rattle.transcripts.proofs.WholeStands.{stands_give, offer_is_accepted}
 use Rattle.plain_core.proofs.Counts.{places_count, unanswered_count}
 use Rattle.plain_core.proofs.Gives.{Gives, gives_view, gives_plain, place_fits, entry_fits}
 use Rattle.plain_core.specs.View.{view_in}

@@ -1,6 +1,6 @@
 use Rattle.std.proofs.Common.{◌<◌, length, sym, ap, ◌∙◌, subst, arith}
 use Rattle.std.proofs.lemmas.List.{length-map}
-use Rattle.evt_types.specs.Standing.{View, places_at}
+use Rattle.transcripts.specs.Standing.{View, places_at}
 use Rattle.plain_core.proofs.Counts.{places_count, places_here}
 use Rattle.plain_core.specs.View.{place_in}
 use Rattle.plain_core.proofs.state.PlainCore.handed_out.Goals as goal

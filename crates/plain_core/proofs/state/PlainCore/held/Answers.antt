@@ -1,7 +1,7 @@
 use Rattle.std.proofs.Common.{◌<◌, length, sym, ap, ◌∙◌, subst, arith}
 use Rattle.std.proofs.lemmas.List.{length-map}
 use Rattle.evt_types.specs.Plan.{lanes_of}
-use Rattle.evt_types.specs.Standing.{View, unanswered_at}
+use Rattle.transcripts.specs.Standing.{View, unanswered_at}
 use Rattle.plain_core.proofs.Counts.{unanswered_count, unanswered_here}
 use Rattle.plain_core.specs.View.{held_in}
 use Rattle.plain_core.proofs.state.PlainCore.held.Goals as goal

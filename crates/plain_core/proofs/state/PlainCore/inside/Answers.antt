@@ -1,6 +1,6 @@
 use Rattle.std.proofs.Common.{◌≡◌, sum_by, ap, ◌∙◌, arith}
-use Rattle.evt_types.proofs.WholeStands.{inside_is}
-use Rattle.evt_types.specs.Standing.{inside_of}
+use Rattle.transcripts.proofs.WholeStands.{inside_is}
+use Rattle.transcripts.specs.Standing.{inside_of}
 use Rattle.plain_core.proofs.Counts.{inside_sum, inside_small}
 use Rattle.plain_core.specs.View.{list_length, places_forwards}
 use Rattle.plain_core.proofs.state.PlainCore.inside.Goals as goal

@@ -1,8 +1,8 @@
 use Rattle.std.proofs.Common.{◌≡◌, ◌≢◌, All, ⊎_elim, refl, sym, ap, ◌∙◌, subst, arith}
 use Rattle.std.proofs.lemmas.Bool.{cases_lt}
 use Rattle.evt_types.specs.Plan.{lanes_of}
-use Rattle.evt_types.specs.Standing.{View, unanswered_at}
-use Rattle.evt_types.specs.Transcript.{Held}
+use Rattle.transcripts.specs.Standing.{View, unanswered_at}
+use Rattle.transcripts.specs.Transcript.{Held}
 use Rattle.plain_core.proofs.Counts.{unanswered_past}
 use Rattle.plain_core.proofs.state.PlainCore.is_alone.Goals as goal
 

@@ -1,6 +1,6 @@
 use Rattle.std.proofs.Common.{◌≡◌, ◌≢◌, ◌<◌, All, ℕ}
-use Rattle.evt_types.specs.Standing.{unanswered_at}
-use Rattle.evt_types.specs.Transcript.{Held}
+use Rattle.transcripts.specs.Standing.{unanswered_at}
+use Rattle.transcripts.specs.Transcript.{Held}
 use Rattle.plain_core.proofs.state.PlainCore.is_alone.Given as goal
 
 abbrev pub invariant-loop-other : goal.invariant-loop-other

@@ -1,8 +1,8 @@
 use Rattle.std.proofs.Common.{◌≡◌, ◌≢◌, ◌<◌, ◌↔◌, not, List, All, IsTrue, sym, ap, ◌∙◌, subst, arith}
 use Rattle.std.specs.List.{list_any}
 use Rattle.evt_types.specs.Plan.{lanes_of}
-use Rattle.evt_types.specs.Standing.{View, unanswered_at}
-use Rattle.evt_types.specs.Transcript.{Held}
+use Rattle.transcripts.specs.Standing.{View, unanswered_at}
+use Rattle.transcripts.specs.Transcript.{Held}
 use Rattle.plain_core.proofs.Counts.{unanswered_count, unanswered_here}
 use Rattle.plain_core.proofs.Firsts.{none_held, none_of_slot, not_is}
 use Rattle.plain_core.specs.View.{is_of, unanswered_in}

@@ -1,6 +1,6 @@
 use Rattle.std.proofs.Common.{◌≤◌, [], length, replicate, sym, ap, ◌∙◌, subst}
-use Rattle.evt_types.specs.Standing.{Stands}
-use Rattle.evt_types.proofs.WholeStands.{stands_none}
+use Rattle.transcripts.specs.Standing.{Stands}
+use Rattle.transcripts.proofs.WholeStands.{stands_none}
 use Rattle.plain_core.proofs.News.{new_view, new_plain}
 use Rattle.plain_core.specs.View.{AreEmptyLists}
 use Rattle.plain_core.proofs.state.PlainCore.new.Goals as goal

@@ -1,6 +1,6 @@
 use Rattle.std.proofs.Common.{◌≡◌, ◌+◌, ◌≤◌, length, slice_index, sym, ap, ◌∙◌, subst, arith}
 use Rattle.std.proofs.lemmas.Bool.{ltb-false}
-use Rattle.evt_types.specs.Standing.{View}
+use Rattle.transcripts.specs.Standing.{View}
 use Rattle.plain_core.proofs.Firsts.{IsFirst, queue_more, queue_passed, first_choice, first_none, first_offers, first_keeps}
 use Rattle.plain_core.proofs.state.PlainCore.propose.Goals as goal
 use Rattle.plain_core.proofs.state.PlainCore.propose.Goals.{then-has_quota, else-has_quota}

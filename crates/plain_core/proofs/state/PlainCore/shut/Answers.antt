@@ -1,7 +1,7 @@
 use Rattle.std.proofs.Common.{◌++◌, ◌∷◌, [], true, sym, subst}
-use Rattle.evt_types.specs.Standing.{View, Stands}
+use Rattle.transcripts.specs.Standing.{View, Stands}
 use Rattle.evt_types.specs.declared.step.Step.TheVariants.{Shut}
-use Rattle.evt_types.proofs.WholeStands.{stands_shut}
+use Rattle.transcripts.proofs.WholeStands.{stands_shut}
 use Rattle.plain_core.proofs.Stood.{shut_stands}
 use Rattle.sched_core.specs.Shutting.{shut_steps}
 use Rattle.plain_core.proofs.state.PlainCore.shut.Goals as goal

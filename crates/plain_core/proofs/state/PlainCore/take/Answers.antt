@@ -1,8 +1,8 @@
 use Rattle.std.proofs.Common.{◌++◌, sym, ap, ◌∙◌, subst}
-use Rattle.evt_types.specs.Standing.{View, Stands, steps_of, steps_by, answer_steps, after}
+use Rattle.transcripts.specs.Standing.{View, Stands, steps_of, steps_by, answer_steps, after}
 use Rattle.evt_types.specs.declared.event.Op.TheVariants as ops
 use Rattle.evt_types.specs.declared.step.Outcome.TheVariants.{Released}
-use Rattle.evt_types.proofs.WholeStands.{takes_stand, shape_after}
+use Rattle.transcripts.proofs.WholeStands.{takes_stand, shape_after}
 use Rattle.plain_core.proofs.state.PlainCore.take.Goals as goal
 
 pub returns-in-New-clause-stands : goal.returns-in-New-clause-stands

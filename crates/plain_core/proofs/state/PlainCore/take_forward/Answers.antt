@@ -1,6 +1,6 @@
 use Rattle.std.proofs.Common.{ap, ◌∙◌}
 use Rattle.std.specs.List.{list_any}
-use Rattle.evt_types.specs.Standing.{answer_steps}
+use Rattle.transcripts.specs.Standing.{answer_steps}
 use Rattle.evt_types.specs.declared.step.Outcome.TheVariants.{Forwarded}
 use Rattle.plain_core.proofs.Took.{new_steps, took_accepted, took_kept}
 use Rattle.plain_core.specs.View.{held_in}

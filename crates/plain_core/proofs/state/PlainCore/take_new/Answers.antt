@@ -1,6 +1,6 @@
 use Rattle.std.proofs.Common.{◌≡◌, ◌<◌, true, sym, subst, arith}
 use Rattle.evt_types.specs.Plan.{lanes_of}
-use Rattle.evt_types.specs.Standing.{View, may_enter}
+use Rattle.transcripts.specs.Standing.{View, may_enter}
 use Rattle.plain_core.proofs.Cores.{enter_queue, new_plain}
 use Rattle.plain_core.proofs.Counts.{waiting_count, next_count}
 use Rattle.plain_core.specs.View.{view_in}

@@ -1,5 +1,5 @@
 use Rattle.std.proofs.Common.{arith, ap}
-use Rattle.evt_types.specs.Standing.{entries_of}
+use Rattle.transcripts.specs.Standing.{entries_of}
 use Rattle.plain_core.proofs.state.PlainCore.take_release.Goals as goal
 
 pub answer-requires-clause-entries : goal.answer-requires-clause-entries

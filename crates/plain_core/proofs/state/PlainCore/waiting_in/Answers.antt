@@ -1,5 +1,5 @@
 use Rattle.std.proofs.Common.{◌<◌, length, sym, ap, ◌∙◌, subst, arith}
-use Rattle.evt_types.specs.Standing.{View, waiting_at}
+use Rattle.transcripts.specs.Standing.{View, waiting_at}
 use Rattle.plain_core.proofs.Counts.{waiting_count, waiting_here}
 use Rattle.plain_core.proofs.state.PlainCore.waiting_in.Goals as goal
 

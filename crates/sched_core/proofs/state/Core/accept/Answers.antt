@@ -1,6 +1,6 @@
 use Rattle.std.proofs.Common.{◌<◌, ◌^◌, length, subst, sym, ap, ◌∙◌, arith}
 use Rattle.evt_types.specs.Plan.{bound_of}
-use Rattle.evt_types.specs.Standing.{View, inside_of, entries_of, after_accept}
+use Rattle.transcripts.specs.Standing.{View, inside_of, entries_of, after_accept}
 use Rattle.sched_core.proofs.Cores.{fits_queue, fits_number, core_accepts, view_accepts}
 use Rattle.sched_core.specs.View.{view_in}
 use Rattle.sched_core.proofs.state.Core.accept.Goals as goal

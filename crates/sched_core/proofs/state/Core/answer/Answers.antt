@@ -1,7 +1,7 @@
 use Rattle.std.proofs.Common.{◌≡◌, ◌<◌, ◌≤◌, ◌+◌, ◌^◌, ◌-◌, false, length, All, subst, sym, ap, ◌∙◌, arith}
 use Rattle.std.proofs.lemmas.List.{length-map}
 use Rattle.evt_types.specs.Plan.{bound_of, lanes_of, queue_of, is_ordered}
-use Rattle.evt_types.specs.Standing.{View, entries_of, inside_of, events_of}
+use Rattle.transcripts.specs.Standing.{View, entries_of, inside_of, events_of}
 use Rattle.evt_types.specs.declared.event.Event.{Event}
 use Rattle.order_parts.specs.History.{Entries}
 use Rattle.sched_core.proofs.Answering.{answer_leaves_room, core_answers, forwards_one, more_none, more_one, named_of, oldest_known, oldest_pinned, resolve_is_open, some_inside, view_answers}

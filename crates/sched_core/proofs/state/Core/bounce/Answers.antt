@@ -1,4 +1,4 @@
-use Rattle.evt_types.proofs.WholeStands.{stands_bounced}
+use Rattle.transcripts.proofs.WholeStands.{stands_bounced}
 use Rattle.sched_core.proofs.state.Core.bounce.Goals as goal
 
 pub returns-clause-stands : goal.returns-clause-stands

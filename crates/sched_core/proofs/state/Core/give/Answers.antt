@@ -1,8 +1,8 @@
 use Rattle.std.proofs.Common.{◌≡◌, All, ◌<◌, ◌++◌, ◌∷◌, [], length, refl, subst, sym, ap, ◌∙◌, arith}
-use Rattle.evt_types.specs.Choice.{IsOffer}
-use Rattle.evt_types.specs.Standing.{View, Stands, after_give}
+use Rattle.transcripts.specs.Choice.{IsOffer}
+use Rattle.transcripts.specs.Standing.{View, Stands, after_give}
 use Rattle.evt_types.specs.declared.step.Step.TheVariants.{Give}
-use Rattle.evt_types.proofs.WholeStands.{stands_give, offer_is_accepted}
+use Rattle.transcripts.proofs.WholeStands.{stands_give, offer_is_accepted}
 use Rattle.evt_types.specs.Plan.{level_of}
 use Rattle.evt_types.specs.declared.event.Numbered.{Numbered}
 use Rattle.order_parts.specs.History.{Entries}

@@ -1,6 +1,6 @@
 use Rattle.std.proofs.Common.{ap, ◌∙◌}
-use Rattle.evt_types.specs.Standing.{inside_of}
-use Rattle.evt_types.proofs.WholeStands.{inside_is}
+use Rattle.transcripts.specs.Standing.{inside_of}
+use Rattle.transcripts.proofs.WholeStands.{inside_is}
 use Rattle.sched_core.proofs.state.Core.inside.Goals as goal
 
 pub returns-clause-model : goal.returns-clause-model

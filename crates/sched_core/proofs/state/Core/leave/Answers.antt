@@ -1,6 +1,6 @@
 use Rattle.std.proofs.Common.{◌-◌, ◌<◌, length, option_to_list, subst, sym, ap, ◌∙◌, arith}
 use Rattle.evt_types.specs.Plan.{bound_of}
-use Rattle.evt_types.specs.Standing.{View, inside_of}
+use Rattle.transcripts.specs.Standing.{View, inside_of}
 use Rattle.order_parts.specs.Reorder.{left}
 use Rattle.sched_core.proofs.Leaving.{core_leaves, each_some, left_counts, left_room, leaving_one, some_forwards, view_left, with_orders}
 use Rattle.sched_core.specs.Answered.{after_leave}

@@ -1,4 +1,4 @@
-use Rattle.evt_types.specs.Standing.{places_at}
+use Rattle.transcripts.specs.Standing.{places_at}
 use Rattle.sched_core.proofs.KeptLists.{IsListed}
 use Rattle.sched_core.proofs.state.Core.list_kept.Given as goal
 

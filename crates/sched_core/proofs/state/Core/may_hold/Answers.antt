@@ -1,7 +1,7 @@
 use Rattle.std.proofs.Common.{◌≡◌, ◌<◌, ◌↔◌, true, length, map, IsTrue, sym, ◌∙◌, subst}
-use Rattle.evt_types.specs.Choice.{HasNoOther}
+use Rattle.transcripts.specs.Choice.{HasNoOther}
 use Rattle.evt_types.specs.Plan.{queue_of, is_atomic}
-use Rattle.evt_types.specs.Standing.{View}
+use Rattle.transcripts.specs.Standing.{View}
 use Rattle.sched_core.proofs.Pinned.{may_is_alone, alone_may}
 use Rattle.sched_core.specs.View.{unanswered_in}
 use Rattle.sched_core.proofs.state.Core.may_hold.Goals as goal

@@ -1,5 +1,5 @@
 use Rattle.std.proofs.Common.{◌≡◌, ◌<◌, length, subst, sym, ap, ◌∙◌, arith}
-use Rattle.evt_types.specs.Standing.{View, waiting_at}
+use Rattle.transcripts.specs.Standing.{View, waiting_at}
 use Rattle.sched_core.proofs.Cores.{rises_here, level_here}
 use Rattle.sched_core.proofs.Offers.{offer_found, none_of, none_more, none_in}
 use Rattle.sched_core.specs.Offered.{HasNoneAt, level_at}

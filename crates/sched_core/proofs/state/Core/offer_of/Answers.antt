@@ -1,6 +1,6 @@
 use Rattle.std.proofs.Common.{◌≡◌, ◌<◌, length, All, subst, sym, ap, ◌∙◌, arith}
 use Rattle.evt_types.specs.Plan.{level_of}
-use Rattle.evt_types.specs.Standing.{View, waiting_at}
+use Rattle.transcripts.specs.Standing.{View, waiting_at}
 use Rattle.evt_types.specs.declared.event.Numbered.{Numbered}
 use Rattle.sched_core.proofs.Cores.{levels_there}
 use Rattle.sched_core.proofs.Offers.{none_of, level_more, none_under, offer_first}

@@ -1,7 +1,7 @@
 use Rattle.std.proofs.Common.{◌≡◌, ◌+◌, ◌<◌, ◌≤◌, length, slice_index, sym, ap, ◌∙◌, subst, arith}
 use Rattle.std.proofs.lemmas.Bool.{ltb-true, ltb-false}
-use Rattle.evt_types.specs.Choice.{HasNone}
-use Rattle.evt_types.specs.Standing.{View}
+use Rattle.transcripts.specs.Choice.{HasNone}
+use Rattle.transcripts.specs.Standing.{View}
 use Rattle.sched_core.proofs.Offers.{IsBestBelow, best_queue, best_none, best_later, best_more, best_choice, best_of_none, none_of, offers, offer_keeps}
 use Rattle.sched_core.proofs.state.Core.propose.Goals as goal
 use Rattle.sched_core.proofs.state.Core.propose.Goals.{then-has_quota+then-is_ahead+then-is_some, then-has_quota+then-is_ahead+else-is_some, else-has_quota, else-has_quota-via-then-has_quota+else-is_ahead, else-has_quota-via-else-has_quota}

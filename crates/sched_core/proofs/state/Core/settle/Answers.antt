@@ -1,5 +1,5 @@
 use Rattle.std.proofs.Common.{◌≡◌, Some, None, sym, ap, ◌∙◌}
-use Rattle.evt_types.specs.Standing.{places_at}
+use Rattle.transcripts.specs.Standing.{places_at}
 use Rattle.order_parts.specs.Reorder.{left, oldest_answered}
 use Rattle.sched_core.proofs.Settling.{room_left, settles_forwarded, settles_released}
 use Rattle.sched_core.proofs.state.Core.settle.Goals as goal

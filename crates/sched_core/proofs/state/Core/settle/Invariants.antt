@@ -1,5 +1,5 @@
 use Rattle.std.proofs.Common.{length}
-use Rattle.evt_types.specs.Standing.{places_at}
+use Rattle.transcripts.specs.Standing.{places_at}
 use Rattle.sched_core.proofs.Settling.{IsSettling}
 use Rattle.sched_core.proofs.state.Core.settle.Given as goal
 

@@ -1,5 +1,5 @@
 use Rattle.std.proofs.Common.{subst, sym, true, ◌++◌}
-use Rattle.evt_types.specs.Standing.{View, Stands}
+use Rattle.transcripts.specs.Standing.{View, Stands}
 use Rattle.sched_core.proofs.Steps.{shut_stands}
 use Rattle.sched_core.specs.Shutting.{shut_steps}
 use Rattle.sched_core.proofs.state.Core.shut.Goals as goal

@@ -1,7 +1,7 @@
 use Rattle.std.proofs.Common.{◌++◌, sym, ap, ◌∙◌, subst}
-use Rattle.evt_types.specs.Standing.{View, Stands, answer_steps, steps_of, steps_by, after}
+use Rattle.transcripts.specs.Standing.{View, Stands, answer_steps, steps_of, steps_by, after}
 use Rattle.evt_types.specs.declared.step.Outcome.TheVariants.{Forwarded, Released}
-use Rattle.evt_types.proofs.WholeStands.{shape_after, takes_stand}
+use Rattle.transcripts.proofs.WholeStands.{shape_after, takes_stand}
 use Rattle.sched_core.proofs.state.Core.take.Goals as goal
 
 pub returns-in-New-clause-stands : goal.returns-in-New-clause-stands

@@ -1,6 +1,6 @@
 use Rattle.std.proofs.Common.{◌≡◌, true, subst, sym, ◌∙◌}
 use Rattle.evt_types.specs.Plan.{queue_of, is_ordered}
-use Rattle.evt_types.specs.Standing.{View}
+use Rattle.transcripts.specs.Standing.{View}
 use Rattle.evt_types.specs.declared.step.Outcome.TheVariants.{Forwarded}
 use Rattle.sched_core.proofs.Steps.{settled_log, settled_view}
 use Rattle.sched_core.specs.Inner.{held_of}

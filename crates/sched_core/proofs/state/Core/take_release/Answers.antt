@@ -1,6 +1,6 @@
 use Rattle.std.proofs.Common.{◌≡◌, true, ap, subst, sym, ◌∙◌, arith}
 use Rattle.evt_types.specs.Plan.{queue_of, is_ordered}
-use Rattle.evt_types.specs.Standing.{View, entries_of}
+use Rattle.transcripts.specs.Standing.{View, entries_of}
 use Rattle.evt_types.specs.declared.step.Outcome.TheVariants.{Released}
 use Rattle.sched_core.proofs.Steps.{settled_view}
 use Rattle.sched_core.specs.Inner.{held_of}

@@ -1,6 +1,6 @@
 use Rattle.std.proofs.Common.{◌≡◌, ◌+◌, ◌*◌, ◌<◌, ◌≤◌, subst, sym, ap, ◌∙◌, arith}
 use Rattle.std.proofs.Math.Nat.{mul-le-mul}
-use Rattle.evt_types.proofs.Fewness.{steps_fit, kept_fit}
+use Rattle.transcripts.proofs.Fewness.{steps_fit, kept_fit}
 use Rattle.evt_types.specs.Plan.{Plan, lanes_of}
 use Rattle.sched_core.proofs.tests.Run.take.Goals as goal
 

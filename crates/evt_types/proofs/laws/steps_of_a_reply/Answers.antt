@@ -1,8 +1,0 @@
-use Rattle.evt_types.proofs.Replies.{steps_of_give_none, steps_of-replies}
-use Rattle.evt_types.proofs.laws.steps_of_a_reply.Goals as goal
-
-pub returns-clause-given : goal.returns-clause-given
-returns-clause-given c v l r = steps_of_give_none v l r.event
-
-pub returns-clause-said : goal.returns-clause-said
-returns-clause-said c v l m r = steps_of-replies v l r.event m

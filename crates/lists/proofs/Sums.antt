@@ -1,0 +1,61 @@
+-- Sums over the numbers below n, where the terms change at one place.
+use Rattle.std.specs.Prelude.{ℕ, ◌≡◌, ◌≢◌, ◌<◌, ◌≤◌, ◌+◌, true, ◌||◌, List, [], ◌∷◌, sum_by, All, AllPairs}
+use Rattle.std.specs.List.{range_with_len}
+use Rattle.std.proofs.Common.{refl, sym, ◌∙◌, subst, arith, ⊎_elim, zero, suc, get_or}
+use Rattle.std.proofs.lemmas.Bool.{cases_eq, false≢true, ne_eqb}
+use Rattle.std.proofs.lemmas.List.Elements.{All-head, All-tail}
+use Rattle.std.proofs.lemmas.List.Sums.{sum_by-cons}
+use Rattle.lists.specs.Lists.{has}
+
+sum_same_from : (f g : ℕ → ℕ) (a n : ℕ) → ((k : ℕ) → a ≤ k → f k ≡ g k) → sum_by f (range_with_len a n) ≡ sum_by g (range_with_len a n)
+sum_same_from f g a zero same = refl
+sum_same_from f g a (suc n) same =
+    let rest = sum_same_from f g (a + 1) n (λ k past. same k (omega arith)) in
+    let here : f a ≡ g a = same a (omega arith) in
+    omega (arith, sum_by-cons f a (range_with_len (a + 1) n), sum_by-cons g a (range_with_len (a + 1) n))
+
+-- two functions that agree at each item
+pub sum_agree : {X : Type 0} (f g : X → ℕ) (xs : List X) → All (λ x. f x ≡ g x) xs → sum_by f xs ≡ sum_by g xs
+sum_agree f g [] all = refl
+sum_agree f g (x ∷ xs) all =
+    let rest = sum_agree f g xs (All-tail (λ y. f y ≡ g y) x xs all) in
+    let here : f x ≡ g x = All-head (λ y. f y ≡ g y) x xs all in
+    omega (arith, sum_by-cons f x xs, sum_by-cons g x xs)
+
+-- the terms are the same
+pub sum_same : (f g : ℕ → ℕ) (n : ℕ) → ((k : ℕ) → f k ≡ g k) → sum_by f (range_with_len 0 n) ≡ sum_by g (range_with_len 0 n)
+sum_same f g n same = sum_same_from f g 0 n (λ k past. same k)
+
+sum_changed_from : (f g : ℕ → ℕ) (a n i x y : ℕ) → a ≤ i → i < a + n → f i + x ≡ g i + y → ((k : ℕ) → k ≢ i → f k ≡ g k) → sum_by f (range_with_len a n) + x ≡ sum_by g (range_with_len a n) + y
+sum_changed_from f g a zero i x y from below here same = absurd (omega arith)
+sum_changed_from f g a (suc n) i x y from below here same =
+    ⊎_elim
+    (λ is.
+    let rest = sum_same_from f g (a + 1) n (λ k past. same k (omega arith)) in
+    let first : f a + x ≡ g a + y = subst (λ k. f k + x ≡ g k + y) (sym is) here in
+    omega (arith, sum_by-cons f a (range_with_len (a + 1) n), sum_by-cons g a (range_with_len (a + 1) n)))
+    (λ other.
+    let rest = sum_changed_from f g (a + 1) n i x y (omega arith) (omega arith) here same in
+    let first : f a ≡ g a = same a other in
+    omega (arith, sum_by-cons f a (range_with_len (a + 1) n), sum_by-cons g a (range_with_len (a + 1) n)))
+    (cases_eq a i)
+
+-- the terms are the same but for the one at i
+pub sum_changed : (f g : ℕ → ℕ) (n i x y : ℕ) → i < n → f i + x ≡ g i + y → ((k : ℕ) → k ≢ i → f k ≡ g k) → sum_by f (range_with_len 0 n) + x ≡ sum_by g (range_with_len 0 n) + y
+sum_changed f g n i x y below here same = sum_changed_from f g 0 n i x y (omega arith) (omega arith) here same
+
+-- the same over a list of different numbers
+pub sum_changed_in : (f g : ℕ → ℕ) (xs : List ℕ) (i x y : ℕ) → AllPairs (λ m n. m ≢ n) xs → has i xs ≡ true → f i + x ≡ g i + y → ((k : ℕ) → k ≢ i → f k ≡ g k) → sum_by f xs + x ≡ sum_by g xs + y
+sum_changed_in f g [] i x y once in' here same = absurd (false≢true in')
+sum_changed_in f g (n ∷ ns) i x y once in' here same =
+    ⊎_elim
+    (λ is.
+    let rest = sum_agree f g ns (λ k d l. same (get_or ns k d) (λ e. once 0 (suc k) d (omega arith) (omega arith) (is ∙ sym e))) in
+    let first : f n + x ≡ g n + y = subst (λ k. f k + x ≡ g k + y) (sym is) here in
+    omega (arith, sum_by-cons f n ns, sum_by-cons g n ns))
+    (λ other.
+    let later : has i ns ≡ true = subst (λ b. (b || has i ns) ≡ true) (ne_eqb n i other) in' in
+    let rest = sum_changed_in f g ns i x y (λ j k d lt within. once (suc j) (suc k) d (omega arith) (omega arith)) later here same in
+    let first : f n ≡ g n = same n other in
+    omega (arith, sum_by-cons f n ns, sum_by-cons g n ns))
+    (cases_eq n i)

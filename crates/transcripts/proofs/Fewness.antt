@@ -1,0 +1,195 @@
+-- How many steps a reply takes: two at most beside the kept events that leave. And how many events are kept: no more than the
+-- ordered queues have places.
+use Rattle.std.proofs.Common.{◌≡◌, ◌≢◌, ℕ, suc, ◌+◌, ◌<◌, ◌≤◌, Bool, true, false, cond, ◌==◌, List, [], ◌∷◌, ◌++◌, length, map, drop, set, flat_map, get_or, All, AllPairs, Contains, Option, Some, None, sum_by, ◌⊎◌, inl, inr, refl, sym, ap, ◌∙◌, arith}
+use Rattle.std.specs.List.{prefix_len}
+use Rattle.std.proofs.lemmas.Bool.{cases_Bool, cases_eq, cond-true, cond-false, false≢true}
+use Rattle.std.proofs.lemmas.List.{length-append, length-map, length-take-le}
+use Rattle.std.proofs.lemmas.List.Concat.{length-flat_map}
+use Rattle.std.proofs.lemmas.List.Elements.{All-head, All-tail}
+use Rattle.std.proofs.lemmas.List.FromFn.{length-map-range_with_len}
+use Rattle.std.proofs.lemmas.List.Sums.{prefix_len-le-length, sum_by-cons, sum_by-le, sum_by-set, sum_by-take-drop}
+use Rattle.std.proofs.lemmas.Option.{slice_get_within, get_or_from_slice_get}
+use Rattle.evt_types.specs.Plan.{queue_of, lanes_of, is_ordered, kept_room}
+use Rattle.transcripts.specs.Standing.{View, Stands, view_of, places, places_at, unanswered_at, oldest_at, kept_in, events_of, answer_place, answered_places, leaving, staying, accepts_from, accepts_of, answer_steps, steps_by, steps_of, places_after, after_done, after_step, after}
+use Rattle.evt_types.specs.Place.{Place}
+use Rattle.transcripts.specs.Transcript.{Held, is_from_of}
+use Rattle.evt_types.specs.declared.event.Event.{Event}
+use Rattle.evt_types.specs.declared.event.Op.{Op}
+use Rattle.evt_types.specs.declared.event.Op.TheVariants as ops
+use Rattle.evt_types.specs.declared.step.Outcome.{Outcome}
+use Rattle.evt_types.specs.declared.step.Outcome.TheVariants.{Forwarded, Released}
+use Rattle.evt_types.specs.declared.step.Source.TheVariants.{New, Of}
+use Rattle.evt_types.specs.declared.step.Step.{Step}
+use Rattle.evt_types.specs.declared.step.Step.TheVariants.{Accept, Give, Done, Turned, Bounced, Shut}
+use Rattle.transcripts.proofs.AnsweredPlaces.{places_plain}
+use Rattle.lists.proofs.Lists.{eqb_same, eqb_other}
+use Rattle.transcripts.proofs.PlaceFacts.{Differ, answer_none, places_differ, place_forwards, places_fit, held_has_place}
+use Rattle.transcripts.proofs.Replies.{accepts_of-of}
+use Rattle.lists.proofs.Sums.{sum_agree}
+use Rattle.transcripts.proofs.WholeStands.{places_is}
+
+-- ---- sums
+
+-- each term is at most the one at its place in the other list
+sums_below : {X Y : Type 0} (f : X → ℕ) (g : Y → ℕ) (d : X) (e : Y) (xs : List X) (ys : List Y) → length xs ≡ length ys
+    → ((k : ℕ) → k < length xs → f (get_or xs k d) ≤ g (get_or ys k e)) → sum_by f xs ≤ sum_by g ys
+sums_below f g d e [] ys same below = omega arith
+sums_below f g d e (x ∷ xs) [] same below = absurd (omega (arith, same))
+sums_below f g d e (x ∷ xs) (y ∷ ys) same below =
+    let rest = sums_below f g d e xs ys (omega (arith, same)) (λ k lt. below (suc k) (omega arith)) in
+    let here : f x ≤ g y = below 0 (omega arith) in
+    omega (arith, sum_by-cons f x xs, sum_by-cons g y ys)
+
+-- ---- what places were forwarded as
+
+abbrev sent_as : Place → ℕ
+sent_as x = length x.forwards
+
+abbrev sent_by : List Place → ℕ
+sent_by ps = sum_by sent_as ps
+
+-- the places that leave, and those that stay
+left_and_stayed : (ps : List Place) → sent_by (leaving ps) + sent_by (staying ps) ≡ sent_by ps
+left_and_stayed ps =
+    let k : ℕ = prefix_len (λ (x : Place). x.answered) ps in
+    let same : length (leaving ps) ≡ k = length-take-le k ps (prefix_len-le-length (λ (x : Place). x.answered) ps) in
+    ap (λ n. sent_by (leaving ps) + sent_by (drop n ps)) same ∙ sum_by-take-drop sent_as ps k
+
+-- an event is accepted for each that the places were forwarded as
+accepts_count : (q : ℕ) (ps : List Place) → length (flat_map (λ (x : Place). accepts_from q x.number x.forwards) ps) ≡ sent_by ps
+accepts_count q ps =
+    length-flat_map (λ (x : Place). accepts_from q x.number x.forwards) ps
+    ∙ sum_agree (λ (x : Place). length (accepts_from q x.number x.forwards)) sent_as ps (λ k d lt. length-map (get_or ps k d).forwards _)
+
+events_few : (o : Outcome) → length (events_of o) ≤ 1
+events_few (Forwarded e) = omega arith
+events_few Released = omega arith
+
+-- of places with different numbers an answer adds one event at most
+answered_few : (n : ℕ) (o : Outcome) (ps : List Place) → AllPairs Differ ps → sent_by (map (answer_place n o) ps) ≤ sent_by ps + 1
+answered_few n o [] differ = omega arith
+answered_few n o (x ∷ ps) differ =
+    by_number (answered_few n o ps (λ i j d lt within. differ (suc i) (suc j) d (omega arith) (omega arith))) (cases_eq x.number n)
+  where
+    new : Place
+    new = record { number = n; answered = true; forwards = x.forwards ++ events_of o }
+
+    rest : List Place
+    rest = map (answer_place n o) ps
+
+    by_number : sent_by rest ≤ sent_by ps + 1 → (x.number ≡ n) ⊎ (x.number ≢ n) → sent_by (map (answer_place n o) (x ∷ ps)) ≤ sent_by (x ∷ ps) + 1
+    by_number more (inl same) =
+        let first : answer_place n o x ≡ new = cond-true (x.number == n) new x (ap (λ m. m == n) same ∙ eqb_same n) in
+        let others : rest ≡ ps = answer_none ps n o (λ k d lt e. differ 0 (suc k) d (omega arith) (omega arith) (same ∙ sym e)) in
+        omega (
+          arith,
+          sum_by-cons sent_as (answer_place n o x) rest,
+          ap sent_as first,
+          ap sent_by others,
+          length-append x.forwards (events_of o),
+          events_few o,
+          sum_by-cons sent_as x ps,
+        )
+    by_number more (inr other) =
+        let first : answer_place n o x ≡ x = cond-false (x.number == n) new x (eqb_other x.number n other) in
+        omega (arith, sum_by-cons sent_as (answer_place n o x) rest, ap sent_as first, more, sum_by-cons sent_as x ps)
+
+-- ---- what is kept
+
+-- an event that is accepted from a forward leaves the places as they are
+accept_keeps : (v : View) (s : Step) → is_from_of s ≡ true → (after_step v s).places ≡ v.places
+accept_keeps v (Accept q e c) h = refl
+accept_keeps v (Give l q n) h = absurd (false≢true h)
+accept_keeps v (Done l o) h = absurd (false≢true h)
+accept_keeps v (Turned l e) h = refl
+accept_keeps v (Bounced l) h = refl
+accept_keeps v Shut h = refl
+
+accepts_keep : (v : View) (steps : List Step) → All (λ s. is_from_of s ≡ true) steps → (after v steps).places ≡ v.places
+accepts_keep v [] all = refl
+accepts_keep v (s ∷ steps) all =
+    accepts_keep (after_step v s) steps (All-tail (λ t. is_from_of t ≡ true) s steps all)
+    ∙ accept_keeps v s (All-head (λ t. is_from_of t ≡ true) s steps all)
+
+-- each queue has its places
+places_long : (v : View) (T : List Step) → Stands T v → length v.places ≡ length v.shape.queues
+unfolding view_of
+places_long v T stands =
+    ap (λ (u : View). length u.places) stands.holds ∙ length-map-range_with_len (places v.shape T) 0 (length v.shape.queues)
+
+-- no more events are kept than the ordered queues have places
+pub kept_fit : (v : View) (T : List Step) → Stands T v → kept_in v ≤ sum_by kept_room v.shape.queues
+kept_fit v T stands = sums_below sent_by kept_room [] _ v.places v.shape.queues (places_long v T stands)
+    (λ q lt. by_kind q (omega (arith, places_long v T stands)) (cases_Bool (is_ordered (queue_of v.shape q).kind)))
+  where
+    by_kind : (q : ℕ) → q < length v.shape.queues → (is_ordered (queue_of v.shape q).kind ≡ true) ⊎ (is_ordered (queue_of v.shape q).kind ≡ false)
+        → sent_by (places_at v q) ≤ kept_room (queue_of v.shape q)
+    by_kind q h (inl ordered) =
+        let one : All (λ (x : Place). length x.forwards ≤ 1) (places_at v q) = λ k d lt. (place_forwards v T q stands h k d lt).0 in
+        omega (
+          arith,
+          sum_by-le sent_as 1 (places_at v q) one,
+          places_fit v T q stands h ordered,
+          cond-true (is_ordered (queue_of v.shape q).kind) (queue_of v.shape q).order 0 ordered,
+        )
+    by_kind q h (inr plain) = omega (arith, ap sent_by (places_is v T q stands h ∙ places_plain v.shape T q plain))
+
+-- ---- the steps of a reply
+
+-- the lane's oldest event is answered
+answer_few : (v : View) (T : List Step) (l : ℕ) (o : Outcome) → Stands T v → l < lanes_of v.shape
+    → length (answer_steps v l o) + kept_in (after v (answer_steps v l o)) ≤ kept_in v + 2
+answer_few v T l o stands lane =
+    omega (
+      arith,
+      ap (sum_by sent_by) (accepts_keep (after_done v l o) (accepts_of v (oldest_at v l) o) (accepts_of-of v (oldest_at v l) o)),
+      by_oldest (oldest_at v l) refl,
+    )
+  where
+    -- of an ordered queue: its places that leave are accepted, and the others stay
+    restored : (h : Held) → oldest_at v l ≡ Some h → is_ordered (queue_of v.shape h.queue).kind ≡ true
+        → length (flat_map (λ (x : Place). accepts_from h.queue x.number x.forwards) (leaving (answered_places v h.queue h.number o)))
+        + sum_by sent_by (set v.places h.queue (staying (answered_places v h.queue h.number o))) ≤ kept_in v + 1
+    restored h is ordered =
+        let oldest : Contains (unanswered_at v l) h = (0, slice_get_within (unanswered_at v l) 0 h is, get_or_from_slice_get (unanswered_at v l) 0 h h is) in
+        let there : h.queue < length v.shape.queues = (held_has_place v T l h stands lane oldest ordered).0 in
+        let answered : List Place = answered_places v h.queue h.number o in
+        omega (
+          arith,
+          accepts_count h.queue (leaving answered),
+          sum_by-set sent_by v.places h.queue (staying answered) [] (omega (arith, places_long v T stands)),
+          left_and_stayed answered,
+          answered_few h.number o (places_at v h.queue) (places_differ v T h.queue stands there),
+        )
+
+    by_oldest : (h : Option Held) → oldest_at v l ≡ h → length (accepts_of v h o) + sum_by sent_by (places_after v h o) ≤ kept_in v + 1
+    by_oldest None is = omega arith
+    by_oldest (Some h) is = by_kind (is_ordered (queue_of v.shape h.queue).kind) refl
+      where
+        accepts : List Step
+        accepts = flat_map (λ (x : Place). accepts_from h.queue x.number x.forwards) (leaving (answered_places v h.queue h.number o))
+
+        stays : List (List Place)
+        stays = set v.places h.queue (staying (answered_places v h.queue h.number o))
+
+        by_kind : (b : Bool) → is_ordered (queue_of v.shape h.queue).kind ≡ b
+            → length (cond b accepts (accepts_from h.queue h.number (events_of o))) + sum_by sent_by (cond b stays v.places) ≤ kept_in v + 1
+        by_kind true ordered = restored h is ordered
+        by_kind false plain = omega (arith, length-map (events_of o) (λ (e : Event). Accept e.queue e (Of h.queue h.number)), events_few o)
+
+reply_few : (v : View) (T : List Step) (l : ℕ) (e : Event) → Stands T v → l < lanes_of v.shape → (o : Op)
+    → length (steps_by o v l e) + kept_in (after v (steps_by o v l e)) ≤ kept_in v + 2
+reply_few v T l e stands lane ops.New = by_shut v.shut
+  where
+    by_shut : (b : Bool)
+        → length (cond b (Turned l e ∷ []) (Accept e.queue e (New l) ∷ [])) + kept_in (after v (cond b (Turned l e ∷ []) (Accept e.queue e (New l) ∷ [])))
+        ≤ kept_in v + 2
+    by_shut true = omega arith
+    by_shut false = omega arith
+reply_few v T l e stands lane ops.Forward = answer_few v T l (Forwarded e) stands lane
+reply_few v T l e stands lane ops.Release = answer_few v T l Released stands lane
+
+-- the steps of a reply and the events that are kept after them are two at most beside those that were kept
+pub steps_fit : (v : View) (T : List Step) (l : ℕ) (e : Event) → Stands T v → l < lanes_of v.shape
+    → length (steps_of v l e) + kept_in (after v (steps_of v l e)) ≤ kept_in v + 2
+steps_fit v T l e stands lane = reply_few v T l e stands lane e.op

@@ -1,0 +1,214 @@
+-- What holds of the places of an ordered queue wherever a core stands: they have different numbers, the first waits for its answer,
+-- a place that waits was forwarded as nothing and any other as one event at most, and each unanswered event has one that waits.
+use Rattle.std.proofs.Common.{◌≡◌, ◌≢◌, ℕ, zero, suc, ◌+◌, ◌<◌, ◌≤◌, Bool, true, false, ◌==◌, List, [], ◌∷◌, ◌++◌, length, map, set, take_while, get_or, All, AllPairs, Contains, ◌⊎◌, inl, inr, ⊎_elim, refl, sym, ap, ◌∙◌, subst, arith}
+use Rattle.std.proofs.lemmas.Bool.{cases_Bool, false≢true, cond-true, cond-false, cond_both}
+use Rattle.std.proofs.lemmas.List.{length-append, length-map, get_or-append-add}
+use Rattle.std.proofs.lemmas.List.Elements.{All-nil, All-head, All-tail, All-contains, All-drop, All-map, Contains-append_right}
+use Rattle.transcripts.specs.Allowed.{AllowedAfter}
+use Rattle.evt_types.specs.Plan.{Plan, queue_of, lanes_of, is_ordered}
+use Rattle.lists.specs.Lists.{has}
+use Rattle.transcripts.specs.Standing.{View, Stands, places, place_at, places_at, unanswered_at, events_of, answer_place}
+use Rattle.evt_types.specs.Place.{Place}
+use Rattle.transcripts.specs.Transcript.{out, answers, unanswered, unanswered_slots, Held, held_at, hand, is_answered, forwards, open_of}
+use Rattle.lists.specs.Lists.{from_first}
+use Rattle.evt_types.specs.declared.step.Outcome.{Outcome}
+use Rattle.evt_types.specs.declared.step.Step.{Step}
+use Rattle.transcripts.proofs.AnsweredPlaces.{places_ordered, places_plain}
+use Rattle.transcripts.proofs.Facts.{IsGiven, Facts}
+use Rattle.lists.proofs.Lists.{eqb_same, eqb_other, has-Contains}
+use Rattle.transcripts.proofs.OpenPlaces.{front_and_rest, front_or_rest, front_passes}
+use Rattle.transcripts.proofs.Sources.{Once, Single-allowed}
+use Rattle.transcripts.proofs.Whole.{Known-allowed, steps-Lawful}
+use Rattle.transcripts.proofs.WholeStands.{places_is, unanswered_is}
+
+-- ---- lists
+
+AllPairs-back : {X : Type 0} (R : X → X → Type 0) (xs ys : List X) → AllPairs R (xs ++ ys) → AllPairs R ys
+AllPairs-back R xs ys all i j d lt within =
+    let long = length-append xs ys in
+    subst (λ x. R x (get_or ys j d)) (get_or-append-add xs ys i d)
+    (subst (R (get_or (xs ++ ys) (length xs + i) d)) (get_or-append-add xs ys j d)
+    (all (length xs + i) (length xs + j) d (omega arith) (omega arith)))
+
+Contains-map : {X Y : Type 0} (f : X → Y) (xs : List X) (x : X) → Contains xs x → Contains (map f xs) (f x)
+Contains-map f [] x c = absurd (no_place c.0 c.1)
+  where
+    no_place : (k : ℕ) → k < 0 → ⊥
+    no_place k lt = omega arith
+Contains-map f (y ∷ ys) x (zero, within, is) = (zero, omega arith, ap f is)
+Contains-map f (y ∷ ys) x (suc k, within, is) = Contains-append_right (f y ∷ []) (map f ys) (f x) (Contains-map f ys x (k, omega arith, is))
+
+-- the first that fails
+rest_fails : (p : ℕ → Bool) (xs : List ℕ) (n : ℕ) (ns : List ℕ) → from_first p xs ≡ n ∷ ns → p n ≡ false
+rest_fails p [] n ns e = absurd (nil-cons n ns e)
+  where
+    nil-cons : (n : ℕ) (ns : List ℕ) → [] ≡ n ∷ ns → ⊥
+    nil-cons n ns e = cc
+rest_fails p (x ∷ xs) n ns e = by_case (rest_fails p xs n ns) (cases_Bool (p x))
+  where
+    heads : (a b : ℕ) (as' bs : List ℕ) → a ∷ as' ≡ b ∷ bs → a ≡ b
+    heads a b as' bs e = cc
+
+    by_case : (from_first p xs ≡ n ∷ ns → p n ≡ false) → (p x ≡ true) ⊎ (p x ≡ false) → p n ≡ false
+    by_case more (inl passes) = more (sym (cond-true (p x) (from_first p xs) (x ∷ xs) passes) ∙ e)
+    by_case more (inr fails) = ap p (sym (heads x n xs ns (sym (cond-false (p x) (from_first p xs) (x ∷ xs) fails) ∙ e))) ∙ fails
+
+-- ---- one place is answered
+
+abbrev pub Differ : Place → Place → Type 0
+Differ x y = x.number ≢ y.number
+
+-- an answer to a number that no place has changes none
+pub answer_none : (ps : List Place) (n : ℕ) (o : Outcome) → All (λ (y : Place). y.number ≢ n) ps → map (answer_place n o) ps ≡ ps
+answer_none [] n o all = refl
+answer_none (y ∷ ps) n o all =
+    ap (λ z. z ∷ map (answer_place n o) ps) (cond-false (y.number == n)
+    (record { number = n; answered = true; forwards = y.forwards ++ events_of o }) y
+    (eqb_other y.number n (All-head (λ (z : Place). z.number ≢ n) y ps all)))
+    ∙ ap (λ zs. y ∷ zs) (answer_none ps n o (All-tail (λ (z : Place). z.number ≢ n) y ps all))
+
+-- of places with different numbers an answer changes the one of its number alone
+pub answer_at : (ps : List Place) (i n : ℕ) (o : Outcome) (d : Place) → AllPairs Differ ps → i < length ps → (get_or ps i d).number ≡ n
+    → map (answer_place n o) ps ≡ set ps i (record { number = n; answered = true; forwards = (get_or ps i d).forwards ++ events_of o })
+answer_at [] i n o d differ within is = absurd (omega arith)
+answer_at (x ∷ ps) zero n o d differ within is =
+    ap (λ y. y ∷ map (answer_place n o) ps) (cond-true (x.number == n)
+    (record { number = n; answered = true; forwards = x.forwards ++ events_of o }) x (ap (λ m. m == n) is ∙ eqb_same n))
+    ∙ ap (λ ys. record { number = n; answered = true; forwards = x.forwards ++ events_of o } ∷ ys)
+    (answer_none ps n o (λ k e lt same. differ 0 (suc k) e (omega arith) (omega arith) (is ∙ sym same)))
+answer_at (x ∷ ps) (suc i) n o d differ within is =
+    let apart : x.number ≢ n = λ same. differ 0 (suc i) d (omega arith) (omega arith) (same ∙ sym is) in
+    ap (λ y. y ∷ map (answer_place n o) ps) (cond-false (x.number == n)
+    (record { number = n; answered = true; forwards = x.forwards ++ events_of o }) x (eqb_other x.number n apart))
+    ∙ ap (λ ys. x ∷ ys) (answer_at ps i n o d (λ j k e lt in'. differ (suc j) (suc k) e (omega arith) (omega arith)) (omega arith) is)
+
+-- ---- the places of a lawful transcript
+
+allowed_of : (v : View) (T : List Step) → Stands T v → AllowedAfter v.shape [] T
+allowed_of v T stands = (steps-Lawful v.shape T stands.lawful).steps
+
+once_of : (v : View) (T : List Step) → Stands T v → Once T
+once_of v T stands = (Single-allowed v.shape T (allowed_of v T stands)).once
+
+facts_of : (v : View) (T : List Step) → Stands T v → Facts v.shape T
+facts_of v T stands = (Single-allowed v.shape T (allowed_of v T stands)).facts
+
+-- what holds of each open number's place holds of each place
+each_place : (p : Plan) (T : List Step) (q : ℕ) (P : Place → Type 0) → ((n : ℕ) → P (place_at T q n)) → All P (places p T q)
+each_place p T q P holds =
+    cond_both (is_ordered (queue_of p q).kind) (map (place_at T q) (open_of T q)) [] (All P)
+    (λ _. All-map P (place_at T q) (open_of T q) (λ k d lt. holds (get_or (open_of T q) k d))) (λ _. All-nil P)
+
+open_once : (T : List Step) (q : ℕ) → AllPairs (λ m n. m ≢ n) (hand T q) → AllPairs (λ m n. m ≢ n) (open_of T q)
+unfolding open_of
+open_once T q once =
+    AllPairs-back (λ m n. m ≢ n) (take_while (is_answered T q) (hand T q)) (from_first (is_answered T q) (hand T q))
+    (subst (AllPairs (λ m n. m ≢ n)) (sym (front_and_rest (is_answered T q) (hand T q))) once)
+
+places_once : (T : List Step) (q : ℕ) (ns : List ℕ) → AllPairs (λ m n. m ≢ n) ns → AllPairs Differ (map (place_at T q) ns)
+places_once T q ns once i j d lt within same =
+    let inside : j < length ns = omega (arith, within, length-map ns (place_at T q)) in
+    once i j 0 lt inside (sym (number_at ns i d (omega arith)) ∙ (same ∙ number_at ns j d inside))
+  where
+    number_at : (ms : List ℕ) (k : ℕ) (e : Place) → k < length ms → (get_or (map (place_at T q) ms) k e).number ≡ get_or ms k 0
+    number_at [] k e h = absurd (omega arith)
+    number_at (m ∷ ms) zero e h = refl
+    number_at (m ∷ ms) (suc k) e h = number_at ms k e (omega arith)
+
+pub places_differ : (v : View) (T : List Step) (q : ℕ) → Stands T v → q < length v.shape.queues → AllPairs Differ (places_at v q)
+places_differ v T q stands h =
+    subst (AllPairs Differ) (sym (places_is v T q stands h))
+    (cond_both (is_ordered (queue_of v.shape q).kind) (map (place_at T q) (open_of T q)) [] (AllPairs Differ)
+    (λ _. places_once T q (open_of T q) (open_once T q ((facts_of v T stands).once q))) (λ _ i j d lt within. absurd (omega arith)))
+
+-- a place has one event at most, and none while it waits for its answer
+pub place_forwards : (v : View) (T : List Step) (q : ℕ) → Stands T v → q < length v.shape.queues
+    → All (λ (x : Place). (length x.forwards ≤ 1) × (x.answered ≡ false → x.forwards ≡ [])) (places_at v q)
+place_forwards v T q stands h =
+    let once : Once T = once_of v T stands in
+    subst (All (λ (x : Place). (length x.forwards ≤ 1) × (x.answered ≡ false → x.forwards ≡ []))) (sym (places_is v T q stands h))
+    (each_place v.shape T q (λ (x : Place). (length x.forwards ≤ 1) × (x.answered ≡ false → x.forwards ≡ []))
+    (λ n. (once.one q n, λ waits. once.unsent q n waits)))
+
+-- the first place waits for its answer
+pub first_waits : (v : View) (T : List Step) (q : ℕ) (x : Place) (rest : List Place) → Stands T v → q < length v.shape.queues
+    → places_at v q ≡ x ∷ rest → x.answered ≡ false
+unfolding open_of
+first_waits v T q x rest stands h e = by_kind (cases_Bool (is_ordered (queue_of v.shape q).kind))
+  where
+    nil-cons : (y : Place) (ys : List Place) → [] ≡ y ∷ ys → ⊥
+    nil-cons y ys e = cc
+
+    heads : (a b : Place) (as' bs : List Place) → a ∷ as' ≡ b ∷ bs → a ≡ b
+    heads a b as' bs e = cc
+
+    by_open : (ns : List ℕ) → from_first (is_answered T q) (hand T q) ≡ ns → map (place_at T q) ns ≡ x ∷ rest → x.answered ≡ false
+    by_open [] is same = absurd (nil-cons x rest same)
+    by_open (n ∷ ns) is same =
+        ap (λ (y : Place). y.answered) (sym (heads (place_at T q n) x (map (place_at T q) ns) rest same)) ∙ rest_fails (is_answered T q)
+        (hand T q) n ns is
+
+    by_kind : (is_ordered (queue_of v.shape q).kind ≡ true) ⊎ (is_ordered (queue_of v.shape q).kind ≡ false) → x.answered ≡ false
+    by_kind (inl ordered) = by_open (open_of T q) refl (sym (places_is v T q stands h ∙ places_ordered v.shape T q ordered) ∙ e)
+    by_kind (inr plain) = absurd (nil-cons x rest (sym (places_is v T q stands h ∙ places_plain v.shape T q plain) ∙ e))
+
+-- no ordered queue has more places than its order
+pub places_fit : (v : View) (T : List Step) (q : ℕ) → Stands T v → q < length v.shape.queues → is_ordered (queue_of v.shape q).kind ≡ true
+    → length (places_at v q) ≤ (queue_of v.shape q).order
+places_fit v T q stands h ordered =
+    subst (λ n. n ≤ (queue_of v.shape q).order)
+    (sym (ap length (places_is v T q stands h ∙ places_ordered v.shape T q ordered) ∙ length-map (open_of T q) (place_at T q)))
+    ((Known-allowed v.shape T (allowed_of v T stands)).places q ordered)
+
+held_queues : (p : Plan) (T : List Step) (l : ℕ) → Facts p T → All (λ (x : ℕ × ℕ). x.0 < length p.queues) (unanswered T l)
+unfolding unanswered
+held_queues p T l f = All-drop (λ (x : ℕ × ℕ). x.0 < length p.queues) (length (answers T l)) (out T l) (f.queues l)
+
+held_given : (p : Plan) (T : List Step) (l : ℕ) → Facts p T → All (IsGiven T) (unanswered T l)
+unfolding unanswered
+held_given p T l f = All-drop (IsGiven T) (length (answers T l)) (out T l) (f.out l)
+
+-- an event that a lane holds of an ordered queue has a place there that waits for its answer
+pub held_has_place : (v : View) (T : List Step) (l : ℕ) (h : Held) → Stands T v → l < lanes_of v.shape → Contains (unanswered_at v l) h
+    → is_ordered (queue_of v.shape h.queue).kind ≡ true
+    → (h.queue < length v.shape.queues) × Contains (places_at v h.queue) (record { number = h.number; answered = false; forwards = [] })
+unfolding open_of
+held_has_place v T l h stands lane holds ordered = All-contains P (unanswered_slots v.shape T l) h each
+    (subst (λ hs. Contains hs h) (unanswered_is v T l stands lane) holds) ordered
+  where
+    P : Held → Type 0
+    P k = is_ordered (queue_of v.shape k.queue).kind ≡ true
+        → (k.queue < length v.shape.queues) × Contains (places_at v k.queue) (record { number = k.number; answered = false; forwards = [] })
+
+    once : Once T
+    once = once_of v T stands
+
+    f : Facts v.shape T
+    f = facts_of v T stands
+
+    -- an unanswered pair's number is open
+    is_open : (x : ℕ × ℕ) → is_answered T x.0 x.1 ≡ false → has x.1 (hand T x.0) ≡ true → has x.1 (from_first (is_answered T x.0) (hand T x.0)) ≡ true
+    is_open x waits in' =
+        ⊎_elim
+        (λ front. absurd (false≢true (sym waits ∙ All-contains (λ m. is_answered T x.0 m ≡ true) (take_while (is_answered T x.0) (hand T x.0)) x.1
+        (front_passes (is_answered T x.0) (hand T x.0)) (has-Contains (take_while (is_answered T x.0) (hand T x.0)) x.1 front))))
+        (λ rest. rest) (front_or_rest (is_answered T x.0) x.1 (hand T x.0) in')
+
+    place_is : (x : ℕ × ℕ) → is_answered T x.0 x.1 ≡ false → place_at T x.0 x.1 ≡ record { number = x.1; answered = false; forwards = [] }
+    place_is x waits =
+        ap (λ b. record { number = x.1; answered = b; forwards = forwards T x.0 x.1 }) waits
+        ∙ ap (λ es. record { number = x.1; answered = false; forwards = es }) (once.unsent x.0 x.1 waits)
+
+    pair : (x : ℕ × ℕ) → x.0 < length v.shape.queues → is_answered T x.0 x.1 ≡ false → has x.1 (hand T x.0) ≡ true → P (held_at v.shape T x)
+    pair x there waits in' is = (
+      there,
+      subst (λ ps. Contains ps (record { number = x.1; answered = false; forwards = [] }))
+          (sym (places_is v T x.0 stands there ∙ places_ordered v.shape T x.0 is))
+          (subst (Contains (map (place_at T x.0) (open_of T x.0))) (place_is x waits)
+          (Contains-map (place_at T x.0) (open_of T x.0) x.1 (has-Contains (open_of T x.0) x.1 (is_open x waits in')))),
+    )
+
+    each : All P (unanswered_slots v.shape T l)
+    each =
+        All-map P (held_at v.shape T) (unanswered T l)
+        (λ k d lt. pair (get_or (unanswered T l) k d) (held_queues v.shape T l f k d lt) (once.unended l k d lt) (held_given v.shape T l f k d lt))

@@ -1,0 +1,60 @@
+//! Laws of lawful transcripts. Each function does nothing: its contract is the law.
+
+ghost use Rattle.std.specs.Prelude.{◌≡◌, ℕ, ◌+◌, ◌<◌, ◌≤◌, ◌==◌, true, false, List, [], ◌∷◌, length, sum_by, if◌then◌else◌, All, Contains};
+ghost use Rattle.transcripts.specs.Allowed.{StepsLawful};
+ghost use Rattle.transcripts.specs.Lawful.{Lawful};
+ghost use Rattle.transcripts.specs.Laws.{IsAcceptedOnce, IsAnsweredTo, IsStrictlyRising, IsSublist, KeepsNoneTo, NeverStepsBack};
+ghost use Rattle.evt_types.specs.Plan.{Plan, is_atomic, is_ordered, kept_room, lanes_of, queue_of};
+ghost use Rattle.transcripts.specs.Replies.{new_count, release_count, replies_in, said};
+ghost use Rattle.transcripts.specs.Standing.{Stands, View, after, kept_in, steps_of};
+ghost use Rattle.transcripts.specs.Transcript.{is_give, hand, inside, sources, taken};
+ghost use Rattle.evt_types.specs.declared.event.Event.{Event};
+ghost use Rattle.evt_types.specs.declared.event.Reply.{Reply};
+ghost use Rattle.evt_types.specs.declared.step.Step.{Step};
+
+/// A transcript of which each step was allowed, and that is settled at its end, is lawful.
+pub fn lawful_by_steps()
+    ensures { (p : Plan) (T : List Step) → StepsLawful p T → Lawful p T }
+{}
+
+/// Each step of a lawful transcript was allowed after the steps before it.
+pub fn steps_of_lawful()
+    ensures { (p : Plan) (T : List Step) → Lawful p T → StepsLawful p T }
+{}
+
+/// From each number at most one event is accepted. So the numbers with an Accept are a sublist of an ordered queue's hand-out,
+/// and those of one flow and level of an atomic queue rise.
+pub fn sources_once()
+    ensures once { (p : Plan) (T : List Step) (q : ℕ) → Lawful p T → IsAcceptedOnce T q }
+    ensures one { (p : Plan) (T : List Step) (q n : ℕ) → Lawful p T → length (taken T q n) ≤ 1 }
+    ensures ordered { (p : Plan) (T : List Step) (q : ℕ) → is_ordered (queue_of p q).kind ≡ true → Lawful p T → IsSublist (sources T q) (hand T q) }
+    ensures atomic { (p : Plan) (T : List Step) (q : ℕ) → is_atomic (queue_of p q).kind ≡ true → Lawful p T → IsStrictlyRising p T q }
+{}
+
+/// Events are accepted from numbers that were handed out. An ordered queue restores the order of its hand-out: taken by their
+/// numbers' places in it, the events accepted from its forwards never step back. And once a front of the hand-out is answered,
+/// nothing of it is kept: all that it was forwarded as is accepted.
+pub fn hand_order_is_restored()
+    ensures handed { (p : Plan) (T : List Step) (q : ℕ) → Lawful p T → All (Contains (hand T q)) (sources T q) }
+    ensures order { (p : Plan) (T : List Step) (q : ℕ) → is_ordered (queue_of p q).kind ≡ true → Lawful p T → NeverStepsBack T q }
+    ensures kept { (p : Plan) (T : List Step) (q k : ℕ) → Lawful p T → IsAnsweredTo T q k → KeepsNoneTo T q k }
+{}
+
+/// What is inside (the events that wait, are kept or are unanswered, whatever the kinds of the queues) and what was released make
+/// up what was accepted as new.
+pub fn inside_settles()
+    ensures { (p : Plan) (T : List Step) → Lawful p T → inside p T + release_count T ≡ new_count T }
+{}
+
+/// By the steps of a reply no event is given, and its lane alone says something: the reply.
+pub fn steps_of_a_reply()
+    ensures given { (v : View) (l : ℕ) (r : Reply) → All (λ s. is_give s ≡ false) (steps_of v l r.event) }
+    ensures said { (v : View) (l m : ℕ) (r : Reply) → replies_in (steps_of v l r.event) m ≡ (if m == l then said r ∷ [] else []) }
+{}
+
+/// The steps of a reply are two at most beside the kept events that it lets go, and no more events are kept than the ordered queues
+/// have places. So a row of replies takes two steps each, and one for each event that was kept before.
+pub fn steps_of_a_reply_are_few()
+    ensures steps { (v : View) (T : List Step) (l : ℕ) (e : Event) → Stands T v → l < lanes_of v.shape → length (steps_of v l e) + kept_in (after v (steps_of v l e)) ≤ kept_in v + 2 }
+    ensures kept { (v : View) (T : List Step) → Stands T v → kept_in v ≤ sum_by kept_room v.shape.queues }
+{}

@@ -1,0 +1,10 @@
+//! What a transcript of a scheduler says, when it is lawful, what a scheduling core holds of it and may do next: definitions,
+//! in `specs`, and the laws that follow from them, each the contract of a function that does nothing.
+#![tactic(auto)]
+
+mod laws;
+
+pub use laws::{
+    hand_order_is_restored, inside_settles, lawful_by_steps, sources_once, steps_of_a_reply,
+    steps_of_a_reply_are_few, steps_of_lawful,
+};

@@ -1,0 +1,3 @@
+pub mod LogsLawful
+pub mod Refused
+pub mod Sound

@@ -1,0 +1,31 @@
+-- The logs of specs/Rows.antt, which a device has to write, are lawful: by computing the test.
+use Rattle.std.proofs.Common.{refl}
+use Rattle.worked_logs.proofs.Sound.{StepsLawful-test}
+use Rattle.transcripts.proofs.Whole.{Lawful-steps}
+use Rattle.transcripts.specs.Lawful.{Lawful}
+use Rattle.worked_logs.specs.Logs.{one_worker, two_workers, two_stages, first_event, one_flow_two_ports, two_flows_one_slot, second_forwarded_first, first_released, mixed_levels}
+use Rattle.transcripts.specs.Transcript.{accepted, out, answers, unanswered, ended, sent, forwards, hand, waiting, taken, sources, kept, open_of, inside}
+
+pub first_event_lawful : Lawful one_worker first_event
+unfolding accepted out answers unanswered ended sent forwards hand waiting taken sources kept open_of inside
+first_event_lawful = Lawful-steps one_worker first_event (StepsLawful-test one_worker first_event refl)
+
+pub one_flow_two_ports_lawful : Lawful two_workers one_flow_two_ports
+unfolding accepted out answers unanswered ended sent forwards hand waiting taken sources kept open_of inside
+one_flow_two_ports_lawful = Lawful-steps two_workers one_flow_two_ports (StepsLawful-test two_workers one_flow_two_ports refl)
+
+pub two_flows_one_slot_lawful : Lawful two_workers two_flows_one_slot
+unfolding accepted out answers unanswered ended sent forwards hand waiting taken sources kept open_of inside
+two_flows_one_slot_lawful = Lawful-steps two_workers two_flows_one_slot (StepsLawful-test two_workers two_flows_one_slot refl)
+
+pub second_forwarded_first_lawful : Lawful two_stages second_forwarded_first
+unfolding accepted out answers unanswered ended sent forwards hand waiting taken sources kept open_of inside
+second_forwarded_first_lawful = Lawful-steps two_stages second_forwarded_first (StepsLawful-test two_stages second_forwarded_first refl)
+
+pub first_released_lawful : Lawful two_stages first_released
+unfolding accepted out answers unanswered ended sent forwards hand waiting taken sources kept open_of inside
+first_released_lawful = Lawful-steps two_stages first_released (StepsLawful-test two_stages first_released refl)
+
+pub mixed_levels_lawful : Lawful two_stages mixed_levels
+unfolding accepted out answers unanswered ended sent forwards hand waiting taken sources kept open_of inside
+mixed_levels_lawful = Lawful-steps two_stages mixed_levels (StepsLawful-test two_stages mixed_levels refl)

@@ -1,0 +1,82 @@
+-- The wrong logs of specs/Rows.antt, each refused by the clause that it breaks.
+use Rattle.std.specs.Prelude.{ℕ, ◌≡◌, ◌≤◌, true, List, [], ◌∷◌, length, All}
+use Rattle.std.proofs.Common.{refl, ap, sym, arith, suc}
+use Rattle.std.proofs.Math.Dec.{lit<, lit≤}
+use Rattle.std.proofs.lemmas.Bool.{true≢false, both_ways}
+use Rattle.std.proofs.lemmas.List.Elements.{All-contains}
+use Rattle.std.proofs.lemmas.List.Sums.{AllPass-from_list_all}
+use Rattle.transcripts.specs.Lawful.{Lawful}
+use Rattle.worked_logs.specs.Logs.{one_worker, two_workers, two_stages, passed_on, given_twice, overtaken, split_slot, accepted_early, kept_for_good, accepted_twice, new_after_shut, turned_before_shut, shut_twice, not_linked, answered_early}
+use Rattle.transcripts.specs.Transcript.{accepted, out, answers, unanswered, Held, hand, ended, sent, forwards, taken, sources, kept, is_answered}
+use Rattle.lists.specs.Lists.{upto}
+use Rattle.evt_types.specs.declared.event.Numbered.{Numbered}
+use Rattle.evt_types.specs.declared.step.Step.TheVariants.{Shut}
+
+-- (once)
+pub given_twice_refused : Lawful two_workers given_twice → ⊥
+unfolding hand
+given_twice_refused h = (h.once 3 (lit≤ tt)).once 0 0 1 0 (lit< tt) (lit< tt) refl
+
+-- (flow)
+first_number : List Numbered → ℕ
+first_number [] = 0
+first_number (w ∷ ws) = w.number
+
+pub overtaken_refused : Lawful two_workers overtaken → ⊥
+unfolding first_number accepted hand
+overtaken_refused h =
+    let is_prefix = (h.flow 3 (lit≤ tt)).atomic 0 refl 7 2 in
+    let same : ◌≡◌ {A = ℕ} 1 0 = ap first_number is_prefix.1 in absurd (omega arith)
+
+-- (alone)
+no_held : Held
+no_held = record { queue = 0; number = 0; slot = 0 }
+
+pub split_slot_refused : Lawful two_workers split_slot → ⊥
+unfolding accepted out answers unanswered
+split_slot_refused h = h.alone 7 (lit≤ tt) 0 refl 1 2 (omega arith) 0 no_held (lit< tt) 0 no_held (lit< tt) refl refl refl
+
+-- (order)
+pub accepted_early_refused : Lawful two_stages accepted_early → ⊥
+unfolding out answers hand sources ended
+accepted_early_refused h = true≢false (sym (((h.order 6 (lit≤ tt)).ordered 0 refl).answered 0 0 (lit< tt) 0 0 (lit< tt)))
+
+-- (prompt)
+all_answered : All (λ m. is_answered kept_for_good 0 m ≡ true) (upto 1 (hand kept_for_good 0))
+unfolding out answers hand ended
+all_answered = AllPass-from_list_all (is_answered kept_for_good 0) (upto 1 (hand kept_for_good 0)) refl
+
+pub kept_for_good_refused : Lawful two_stages kept_for_good → ⊥
+unfolding out answers hand sent forwards taken kept
+kept_for_good_refused h =
+    let waits_for = (h.prompt.end 0 0 (0, passed_on 20) (lit< tt)).1 in
+    let answered = All-contains (λ m. is_answered kept_for_good 0 m ≡ true) (upto 1 (hand kept_for_good 0)) waits_for.0 all_answered waits_for.1 in
+    both_ways (is_answered kept_for_good 0 waits_for.0) waits_for.2 answered
+
+-- (origin)
+pub accepted_twice_refused : Lawful two_stages accepted_twice → ⊥
+unfolding out answers sent forwards taken
+accepted_twice_refused h =
+    let is_prefix = h.origin 5 (lit≤ tt) 0 0 in
+    let short : suc (suc (length is_prefix.0)) ≡ 1 = ap length is_prefix.1 in absurd (omega arith)
+
+-- (closed)
+pub new_after_shut_refused : Lawful one_worker new_after_shut → ⊥
+new_after_shut_refused h = true≢false ((h.closed 2 (lit≤ tt)).no_new 0 Shut (lit< tt))
+
+pub turned_before_shut_refused : Lawful one_worker turned_before_shut → ⊥
+turned_before_shut_refused h = true≢false ((h.closed 2 (lit≤ tt)).no_turned 0 Shut (lit< tt))
+
+pub shut_twice_refused : Lawful one_worker shut_twice → ⊥
+shut_twice_refused h = true≢false ((h.closed 2 (lit≤ tt)).one 0 Shut (lit< tt))
+
+-- (linked)
+pub not_linked_refused : Lawful one_worker not_linked → ⊥
+unfolding accepted out
+not_linked_refused h = true≢false (sym (h.linked 2 (lit≤ tt) 0 0 (0, 0) (lit< tt)))
+
+-- (answers)
+pub answered_early_refused : Lawful one_worker answered_early → ⊥
+unfolding out answers
+answered_early_refused h =
+    let none_left : 1 ≤ 0 = h.answers 2 (lit≤ tt) 1 in absurd (omega arith)

@@ -1,0 +1,18 @@
+use Rattle.worked_logs.proofs.Refused.{given_twice_refused, overtaken_refused, split_slot_refused, accepted_early_refused, kept_for_good_refused, accepted_twice_refused, new_after_shut_refused, turned_before_shut_refused, shut_twice_refused, not_linked_refused, answered_early_refused}
+use Rattle.worked_logs.proofs.logs.wrong_logs_are_refused.Goals as goal
+
+pub returns : goal.returns
+returns c =
+    record {
+      given_twice = given_twice_refused;
+      overtaken = overtaken_refused;
+      split_slot = split_slot_refused;
+      accepted_early = accepted_early_refused;
+      kept_for_good = kept_for_good_refused;
+      accepted_twice = accepted_twice_refused;
+      new_after_shut = new_after_shut_refused;
+      turned_before_shut = turned_before_shut_refused;
+      shut_twice = shut_twice_refused;
+      not_linked = not_linked_refused;
+      answered_early = answered_early_refused;
+    }

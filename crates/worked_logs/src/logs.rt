@@ -1,0 +1,30 @@
+//! Laws on worked logs: what a device has to write is lawful, and what it mustn't write is not.
+
+ghost use Rattle.transcripts.specs.Lawful.{Lawful};
+ghost use Rattle.worked_logs.specs.Logs.{one_worker, two_workers, two_stages, first_event, one_flow_two_ports, two_flows_one_slot, second_forwarded_first, first_released, mixed_levels};
+ghost use Rattle.worked_logs.specs.Logs.{given_twice, overtaken, split_slot, accepted_early, kept_for_good, accepted_twice, new_after_shut, turned_before_shut, shut_twice, not_linked, answered_early};
+
+/// The logs of worked examples are lawful.
+pub fn worked_logs_are_lawful()
+    ensures first_event { Lawful one_worker first_event }
+    ensures one_flow_two_ports { Lawful two_workers one_flow_two_ports }
+    ensures two_flows_one_slot { Lawful two_workers two_flows_one_slot }
+    ensures second_forwarded_first { Lawful two_stages second_forwarded_first }
+    ensures first_released { Lawful two_stages first_released }
+    ensures mixed_levels { Lawful two_stages mixed_levels }
+{}
+
+/// Logs that break a promise are not lawful.
+pub fn wrong_logs_are_refused()
+    ensures given_twice { ¬ Lawful two_workers given_twice }
+    ensures overtaken { ¬ Lawful two_workers overtaken }
+    ensures split_slot { ¬ Lawful two_workers split_slot }
+    ensures accepted_early { ¬ Lawful two_stages accepted_early }
+    ensures kept_for_good { ¬ Lawful two_stages kept_for_good }
+    ensures accepted_twice { ¬ Lawful two_stages accepted_twice }
+    ensures new_after_shut { ¬ Lawful one_worker new_after_shut }
+    ensures turned_before_shut { ¬ Lawful one_worker turned_before_shut }
+    ensures shut_twice { ¬ Lawful one_worker shut_twice }
+    ensures not_linked { ¬ Lawful one_worker not_linked }
+    ensures answered_early { ¬ Lawful one_worker answered_early }
+{}

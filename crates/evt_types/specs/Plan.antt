@@ -1,5 +1,5 @@
 -- A device's configuration as contracts see it (Event Device Library, "Queues", "Ports", "Linking Queues and Ports").
-use Rattle.std.specs.Prelude.{ℕ, ◌+◌, ◌/◌, ◌%◌, Bool, true, false, List, [], ◌==◌, length, map, sum_by, slice_index_or, if◌then◌else◌}
+use Rattle.std.specs.Prelude.{ℕ, ◌+◌, ◌/◌, ◌%◌, Bool, true, false, List, [], length, map, sum_by, slice_index_or, if◌then◌else◌}
 use Rattle.std.specs.List.{range_with_len}
 use Rattle.lists.specs.Lists.{has}
 use Rattle.evt_types.specs.declared.draft.Draft.{Draft}

@@ -126,18 +126,6 @@ All-has P n (x ∷ xs) all h =
     (λ other. All-has P n xs (All-tail P x xs all) (subst (λ b. (b || has n xs) ≡ true) other h))
     (cases_Bool (x == n))
 
-pub has-get_or : (xs : List ℕ) (k d : ℕ) → k < length xs → has (get_or xs k d) xs ≡ true
-has-get_or [] k d h = absurd (omega arith)
-has-get_or (x ∷ xs) zero d h = or_left (x == x) (has x xs) (eqb_same x)
-has-get_or (x ∷ xs) (suc k) d h = or_right (x == get_or xs k d) (has (get_or xs k d) xs) (has-get_or xs k d (omega arith))
-
--- each item of the list is in it
-pub All-has_itself : (xs : List ℕ) → All (λ n. has n xs ≡ true) xs
-All-has_itself xs k d h = has-get_or xs k d h
-
-pub Contains-has : (xs : List ℕ) (n : ℕ) → Contains xs n → has n xs ≡ true
-Contains-has xs n c = subst (λ m. has m xs ≡ true) c.2 (has-get_or xs c.0 n c.1)
-
 pub has-Contains : (xs : List ℕ) (n : ℕ) → has n xs ≡ true → Contains xs n
 has-Contains xs n h = All-has (Contains xs) n xs (λ k d l. Contains-get_or xs k d l) h
 
@@ -273,9 +261,6 @@ All-differs n xs h =
 pub has_none : (n : ℕ) (xs : List ℕ) → All (λ m. m ≢ n) xs → has n xs ≡ false
 has_none n xs all = list_any-none (λ m. m == n) xs (All-weaker (λ m. m ≢ n) (λ m. (m == n) ≡ false) (λ m k. eqb_other m n k) xs all)
 
-pub AllPairs-weaker : {X : Type 0} (R S : X → X → Type 0) (xs : List X) → ((x y : X) → R x y → S x y) → AllPairs R xs → AllPairs S xs
-AllPairs-weaker R S xs to all i j d lt within = to (get_or xs i d) (get_or xs j d) (all i j d lt within)
-
 pub AllPairs-drop : {X : Type 0} (R : X → X → Type 0) (n : ℕ) (xs : List X) → AllPairs R xs → AllPairs R (drop n xs)
 AllPairs-drop R n xs all i j d lt within =
     subst (λ x. R x (get_or (drop n xs) j d)) (sym (get_or-drop n xs i d))
@@ -301,24 +286,6 @@ All-filter_map P h (x ∷ xs) all =
     by_case None new ys rest = rest
     by_case (Some y) new ys rest = All-cons P y ys (new y refl) rest
 
--- what is given of an item is among what is given of all
-pub All-filter_mapped : {X Y : Type 0} (h : X → Option Y) (xs : List X) → All (λ x. (y : Y) → h x ≡ Some y → Contains (filter_map h xs) y) xs
-All-filter_mapped {X} {Y} h [] = All-nil (λ x. (y : Y) → h x ≡ Some y → Contains {X = Y} [] y)
-All-filter_mapped {X} {Y} h (x ∷ xs) =
-    All-cons (λ z. (y : Y) → h z ≡ Some y → Contains (filter_map h (x ∷ xs)) y) x xs
-    (λ y e. subst (λ o. Contains (cons_option o (filter_map h xs)) y) (sym e) (zero, omega arith, refl))
-    (All-weaker (λ z. (y : Y) → h z ≡ Some y → Contains (filter_map h xs) y) (λ z. (y : Y) → h z ≡ Some y → Contains (filter_map h (x ∷ xs)) y)
-    (λ z k y e. more (h x) (filter_map h xs) y (k y e)) xs (All-filter_mapped h xs))
-  where
-    more : (o : Option Y) (ys : List Y) (y : Y) → Contains ys y → Contains (cons_option o ys) y
-    more None ys y c = c
-    more (Some z) ys y c = Contains-append_right (z ∷ []) ys y c
-
-pub Contains-filter_map : {X Y : Type 0} (h : X → Option Y) (xs : List X) (x : X) (y : Y) → Contains xs x → h x ≡ Some y
-    → Contains (filter_map h xs) y
-Contains-filter_map {X} {Y} h xs x y c e =
-    All-contains (λ z. (u : Y) → h z ≡ Some u → Contains (filter_map h xs) u) xs x (All-filter_mapped h xs) c y e
-
 pub All-unmap : {X Y : Type 0} (P : Y → Type 0) (f : X → Y) (xs : List X) → All P (map f xs) → All (λ x. P (f x)) xs
 All-unmap P f [] all = All-nil (λ x. P (f x))
 All-unmap P f (x ∷ xs) all = All-cons (λ z. P (f z)) x xs (All-head P (f x) (map f xs) all) (All-unmap P f xs (All-tail P (f x) (map f xs) all))
@@ -326,23 +293,6 @@ All-unmap P f (x ∷ xs) all = All-cons (λ z. P (f z)) x xs (All-head P (f x) (
 pub All-back : {X : Type 0} (P : X → Type 0) (xs ys : List X) → All P (xs ++ ys) → All P ys
 All-back P [] ys all = all
 All-back P (x ∷ xs) ys all = All-back P xs ys (All-tail P x (xs ++ ys) all)
-
--- each item of the first list with each of the second
-pub AllPairs-across : {X : Type 0} (R : X → X → Type 0) (xs ys : List X) → AllPairs R (xs ++ ys) → All (λ x. All (R x) ys) xs
-AllPairs-across R [] ys all = All-nil (λ x. All (R x) ys)
-AllPairs-across R (x ∷ xs) ys all =
-    All-cons (λ z. All (R z) ys) x xs (All-back (R x) xs ys (λ k d lt. all 0 (suc k) d (omega arith) (omega arith)))
-    (AllPairs-across R xs ys (λ i j d lt within. all (suc i) (suc j) d (omega arith) (omega arith)))
-
--- where some item passes: what follows from each item that does
-pub list_any-then : {X : Type 0} (test : X → Bool) (P : X → Type 0) (C : Type 0) (xs : List X) → All P xs → ((x : X) → P x → test x ≡ true → C)
-    → list_any test xs ≡ true → C
-list_any-then test P C [] all to h = absurd (false≢true h)
-list_any-then test P C (x ∷ xs) all to h =
-    ⊎_elim
-    (λ yes. to x (All-head P x xs all) yes)
-    (λ no. list_any-then test P C xs (All-tail P x xs all) to (subst (λ b. (b || list_any test xs) ≡ true) no h))
-    (cases_Bool (test x))
 
 pub option_length : {X : Type 0} (o : Option X) → length (cons_option o []) ≤ 1
 option_length None = omega arith
@@ -360,15 +310,6 @@ upto-more n (m ∷ ms) ys h = ap (λ zs. m ∷ zs) (by_case (m == n) h (upto-mor
   where
     by_case : (b : Bool) → (b || has n ms) ≡ true → (has n ms ≡ true → upto n (ms ++ ys) ≡ upto n ms)
         → cond b [] (upto n (ms ++ ys)) ≡ cond b [] (upto n ms)
-    by_case true k more = refl
-    by_case false k more = more k
-
--- n itself is among those as far as it
-pub upto-itself : (n : ℕ) (xs : List ℕ) → has n xs ≡ true → has n (upto n xs) ≡ true
-upto-itself n [] h = h
-upto-itself n (m ∷ ms) h = by_case (m == n) h (upto-itself n ms)
-  where
-    by_case : (b : Bool) → (b || has n ms) ≡ true → (has n ms ≡ true → has n (upto n ms) ≡ true) → (b || has n (cond b [] (upto n ms))) ≡ true
     by_case true k more = refl
     by_case false k more = more k
 

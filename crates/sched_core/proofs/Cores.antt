@@ -9,7 +9,7 @@ use Rattle.std.proofs.lemmas.Option.{same_Some}
 use Rattle.transcripts.proofs.ViewLists.{event_in_at, event_in_some, sum_of_map}
 use Rattle.evt_types.specs.Fault.{IsWithinLimits}
 use Rattle.evt_types.specs.Plan.{Plan, is_ordered, kept_room, level_of, lanes_of, depth_of, bound_of}
-use Rattle.transcripts.specs.Standing.{View, event_in, inside_of, entries_of, kept_in, may_enter, may_answer, may_forward, oldest_at, waiting_at, next_at, places_at, unanswered_at, after_accept}
+use Rattle.transcripts.specs.Standing.{View, event_in, inside_of, entries_of, kept_in, may_enter, may_answer, oldest_at, waiting_at, next_at, places_at, unanswered_at, after_accept}
 use Rattle.evt_types.specs.Place.{Place}
 use Rattle.transcripts.specs.Transcript.{Held}
 use Rattle.evt_types.specs.declared.draft.QueueDraft.{QueueDraft}
@@ -176,13 +176,6 @@ enter_parts v q unshut may =
     let parts = and_parts (nat_lt q (length v.shape.queues)) (v.shut || room) may in
     let rest = and_parts (nat_lt (inside_of v) (bound_of v.shape)) (nat_lt (entries_of v) (2 ^ 63)) (subst (λ b. (b || room) ≡ true) unshut parts.1) in
     (ltb-true q (length v.shape.queues) parts.0, ltb-true (inside_of v) (bound_of v.shape) rest.0, ltb-true (entries_of v) (2 ^ 63) rest.1)
-
--- what a lane forwards has an event that it answers, a queue and a number
-pub forward_parts : (v : View) (l q : ℕ) → may_forward v l q ≡ true → (may_answer v l ≡ true) × (q < length v.shape.queues) × (entries_of v < 2 ^ 63)
-forward_parts v l q may =
-    let parts = and_parts (may_answer v l) (nat_lt q (length v.shape.queues) && nat_lt (entries_of v) (2 ^ 63)) may in
-    let rest = and_parts (nat_lt q (length v.shape.queues)) (nat_lt (entries_of v) (2 ^ 63)) parts.1 in
-    (parts.0, ltb-true q (length v.shape.queues) rest.0, ltb-true (entries_of v) (2 ^ 63) rest.1)
 
 pub answer_parts : (v : View) (l : ℕ) → may_answer v l ≡ true → 0 < length (unanswered_at v l)
 answer_parts v l may = ltb-true 0 (length (unanswered_at v l)) may

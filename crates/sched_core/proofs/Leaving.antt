@@ -1,14 +1,14 @@
 -- A core after a place leaves: its view, and that what holds of each core holds of it.
 use Rattle.std.proofs.Common.{◌≡◌, ℕ, ◌+◌, ◌<◌, ◌≤◌, ◌^◌, List, [], ◌∷◌, length, map, drop, set, All, Option, Some, None, option_to_list, refl, sym, ap, ◌∙◌, subst, arith}
 use Rattle.std.specs.Option.{IfSome}
-use Rattle.std.proofs.lemmas.List.{length-map, map-set, set-get_or}
+use Rattle.std.proofs.lemmas.List.{length-map, map-set}
 use Rattle.std.proofs.lemmas.List.Elements.{All-head}
 use Rattle.std.proofs.lemmas.List.Sums.{sum_by-cons, get_or-le-sum_by}
 use Rattle.evt_types.specs.Plan.{bound_of}
 use Rattle.evt_types.specs.Place.{Place}
 use Rattle.transcripts.specs.Standing.{inside_of, entries_of, kept_in}
 use Rattle.evt_types.specs.declared.event.Event.{Event}
-use Rattle.order_parts.specs.Reorder.{Reordering, empty, oldest_answered, after_leave, after_leaving}
+use Rattle.order_parts.specs.Reorder.{Reordering, oldest_answered, after_leave, after_leaving}
 use Rattle.sched_core.proofs.Cores.{kept_after, places_here, same_parts}
 use Rattle.sched_core.proofs.OrderFacts.{leaving_keeps}
 use Rattle.sched_core.proofs.OrderMoves.{left_places}
@@ -57,10 +57,6 @@ core_leaves a q n m x core h e counted entered =
       few = omega arith;
       places = left_places a.shape a.queues.items a.orders (map entries_in a.lanes.items) q core.places h;
     }
-
--- where no place leaves, all is as it was
-pub none_leaves : (a : Inside) (q : ℕ) → oldest_answered (order_at a.orders q).places ≡ None → left_orders a.orders q ≡ a.orders
-none_leaves a q e = ap (λ o. set a.orders q (after_leaving (order_at a.orders q) o)) e ∙ set-get_or a.orders q (empty 0)
 
 pub view_left : (a : Inside) (q n m : ℕ) → IsCore a → q < length a.shape.queues → view_in (with_orders a (left_orders a.orders q) n m) ≡ view_leaves (view_in a) q
 view_left a q n m core h =

@@ -151,10 +151,6 @@ offer_at v s q c i w (Some x) is number fits best =
       best = λ m fits_m. best m (subst (Fits v s m q) number.0 fits_m);
     }
 
-pub none_at_place : (v : View) (s : Passed) (q c i : ℕ) (w : Numbered) (o : Option Offer) → Some w ≡ slice_get (level_at v q c) i → IfNone o ((m : ℕ) → ¬ Fits v s m q w) → IfNone o (HasNoneAt v s q c i)
-none_at_place v s q c i w None is none = λ d m fits. none m (subst (Fits v s m q) (get_or_from_slice_get (level_at v q c) i w d (sym is)) fits)
-none_at_place v s q c i w (Some x) is none = tt
-
 -- ---- the levels of a queue
 
 -- nothing can be given of the levels below n

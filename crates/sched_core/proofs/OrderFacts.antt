@@ -1,22 +1,18 @@
 -- What the reorder buffers of a device say of its view, and how many events are inside as the places are answered and leave.
-use Rattle.std.proofs.Common.{◌≡◌, ℕ, zero, suc, ◌+◌, ◌<◌, ◌≤◌, ◌^◌, true, false, nat_lt, List, [], ◌∷◌, ◌++◌, length, map, drop, set, get_or, All, Option, Some, None, slice_get, ◌⊎◌, inl, inr, refl, sym, ap, ◌∙◌, subst, arith}
+use Rattle.std.proofs.Common.{◌≡◌, ℕ, zero, suc, ◌+◌, ◌<◌, ◌≤◌, ◌^◌, true, false, List, [], ◌∷◌, length, map, drop, get_or, All, Some, slice_get, ◌⊎◌, inl, inr, refl, sym, ap, ◌∙◌, subst, arith}
 use Rattle.std.proofs.lemmas.Bool.{cases_Bool, cond-true, cond-false}
-use Rattle.std.proofs.lemmas.List.{map-set}
 use Rattle.std.proofs.lemmas.List.Elements.{All-nil, All-head, All-tail}
 use Rattle.std.proofs.lemmas.List.Sums.{sum_by-cons}
 use Rattle.std.proofs.lemmas.Option.{none-some}
 use Rattle.evt_types.specs.Plan.{Plan, queue_of, is_ordered}
-use Rattle.transcripts.specs.Standing.{View, places_at, answered_places}
 use Rattle.evt_types.specs.Place.{Place}
 use Rattle.evt_types.specs.declared.draft.QueueDraft.{QueueDraft}
-use Rattle.evt_types.specs.declared.event.Event.{Event}
 use Rattle.evt_types.specs.declared.event.Kind.TheVariants.{Parallel}
-use Rattle.order_parts.specs.Reorder.{Reordering, empty, open_place, oldest_answered, after_hand, after_resolve, after_leave, after_leaving}
+use Rattle.order_parts.specs.Reorder.{Reordering, empty, oldest_answered}
 use Rattle.order_parts.specs.declared.history.Entry.{Entry}
-use Rattle.sched_core.specs.Ordered.{ArePlaces, IsOrder, KeepsOne, IsGivenOf, order_of, order_at, waits_at, entries_at, entry_at, kept_of, outcome_of, places_in}
+use Rattle.sched_core.specs.Ordered.{ArePlaces, IsOrder, KeepsOne, IsGivenOf, order_of, order_at, waits_at, entries_at, entry_at, kept_of, places_in}
 use Rattle.sched_core.specs.Waits.{Waits}
-use Rattle.sched_core.proofs.Ordered.{leaving_is, resolve_answers}
-use Rattle.sched_core.proofs.OrderMoves.{queue_there}
+use Rattle.sched_core.proofs.Ordered.{leaving_is}
 
 -- ---- nothing has happened
 
@@ -68,35 +64,6 @@ order_small p q limits h = by_kind (cases_Bool (is_ordered (queue_of p q).kind))
 
 -- ---- the buffers and the view
 
--- an ordered queue's depth, and another's
-pub order_of-ordered : (p : Plan) (q : ℕ) → is_ordered (queue_of p q).kind ≡ true → order_of p q ≡ (queue_of p q).order
-order_of-ordered p q ordered = cond-true (is_ordered (queue_of p q).kind) (queue_of p q).order 0 ordered
-
-pub order_of-plain : (p : Plan) (q : ℕ) → is_ordered (queue_of p q).kind ≡ false → order_of p q ≡ 0
-order_of-plain p q plain = cond-false (is_ordered (queue_of p q).kind) (queue_of p q).order 0 plain
-
--- a queue that restores no order has no places
-pub plain_none : (p : Plan) (ws : List Waits) (rs : List Reordering) (us : List (List Entry)) (q : ℕ) → ArePlaces p ws rs us → q < length p.queues
-    → is_ordered (queue_of p q).kind ≡ false → (order_at rs q).places ≡ []
-plain_none p ws rs us q a h plain = none_of (order_at rs q).places few
-  where
-    few : length (order_at rs q).places ≤ 0
-    few =
-        let o = a.each q h in
-        let within = o.within in
-        let room = o.room in
-        let none = order_of-plain p q plain in
-        omega arith
-
-    none_of : (xs : List Place) → length xs ≤ 0 → xs ≡ []
-    none_of [] le = refl
-    none_of (x ∷ xs) le = absurd (omega arith)
-
--- whether there is room for a place more
-pub room_is : (p : Plan) (ws : List Waits) (rs : List Reordering) (us : List (List Entry)) (q : ℕ) → ArePlaces p ws rs us → q < length p.queues
-    → is_ordered (queue_of p q).kind ≡ true → nat_lt (length (order_at rs q).places) (order_at rs q).depth ≡ nat_lt (length (order_at rs q).places) (queue_of p q).order
-room_is p ws rs us q a h ordered = ap (nat_lt (length (order_at rs q).places)) ((a.each q h).room ∙ order_of-ordered p q ordered)
-
 pub places_within : (p : Plan) (ws : List Waits) (rs : List Reordering) (us : List (List Entry)) (q : ℕ) → ArePlaces p ws rs us → q < length p.queues
     → length (order_at rs q).places ≤ order_of p q
 places_within p ws rs us q a h = subst (λ n. length (order_at rs q).places ≤ n) (a.each q h).room (a.each q h).within
@@ -125,55 +92,9 @@ leaving_keeps p ws rs us q x a h e =
     let is = leaving_is (order_at rs q).places x e in
     All-head (KeepsOne p) x (drop 1 (order_at rs q).places) (subst (All (KeepsOne p)) is.0 (a.each q h).keeps)
 
--- fewer places are left
-pub leaving_shorter : (xs : List Place) (x : Place) → oldest_answered xs ≡ Some x → length (drop 1 xs) + 1 ≡ length xs
-leaving_shorter xs x e =
-    let is = leaving_is xs x e in
-    sym (ap (λ (ys : List Place). length ys) is.0 ∙ omega arith)
-
--- the answer of an entry, as the view has it
-pub answers_places : (p : Plan) (ws : List Waits) (rs : List Reordering) (us : List (List Entry)) (l k : ℕ) (y : Entry) (f : Option Event) (v : View) → ArePlaces p ws rs us
-    → entry_at us l k ≡ Some y → is_ordered (queue_of p y.queue).kind ≡ true → places_at v y.queue ≡ (order_at rs y.queue).places
-    → (after_resolve (order_at rs y.queue) y.place f).places ≡ answered_places v y.queue y.number (outcome_of f)
-answers_places p ws rs us l k y f v a at ordered same =
-    resolve_answers p (order_of p y.queue) (waits_at ws y.queue) (order_at rs y.queue) y f (a.each y.queue (queue_there p ws rs us l k y a at ordered)) (a.held l k y at ordered)
-    ∙ ap (map _) (sym same)
-
 -- ---- the view's places after a small move
 
 pub places_here : (rs : List Reordering) (q : ℕ) → get_or (map places_in rs) q [] ≡ (order_at rs q).places
 places_here [] q = refl
 places_here (r ∷ rs) zero = refl
 places_here (r ∷ rs) (suc q) = places_here rs q
-
--- the places of a view whose buffers these are
-pub places_are : (v : View) (rs : List Reordering) (q : ℕ) → v.places ≡ map places_in rs → places_at v q ≡ (order_at rs q).places
-places_are v rs q is = ap (λ (ps : List (List Place)). get_or ps q []) is ∙ places_here rs q
-
-places_set : (v : View) (rs : List Reordering) (q : ℕ) (r : Reordering) (xs : List Place) → v.places ≡ map places_in rs → r.places ≡ xs
-    → map places_in (set rs q r) ≡ set v.places q xs
-places_set v rs q r xs is same = map-set places_in rs q r ∙ (ap (set (map places_in rs) q) same ∙ ap (λ (ps : List (List Place)). set ps q xs) (sym is))
-
-pub given_view : (v : View) (rs : List Reordering) (q n : ℕ) → v.places ≡ map places_in rs
-    → map places_in (set rs q (after_hand (order_at rs q) n)) ≡ set v.places q (places_at v q ++ open_place n ∷ [])
-given_view v rs q n is =
-    places_set v rs q (after_hand (order_at rs q) n) (places_at v q ++ open_place n ∷ []) is (ap (λ xs. xs ++ open_place n ∷ []) (sym (places_are v rs q is)))
-
-pub answered_view-places : (p : Plan) (ws : List Waits) (rs : List Reordering) (us : List (List Entry)) (l k : ℕ) (y : Entry) (f : Option Event) (v : View) → ArePlaces p ws rs us
-    → entry_at us l k ≡ Some y → is_ordered (queue_of p y.queue).kind ≡ true → v.places ≡ map places_in rs
-    → map places_in (set rs y.queue (after_resolve (order_at rs y.queue) y.place f)) ≡ set v.places y.queue (answered_places v y.queue y.number (outcome_of f))
-answered_view-places p ws rs us l k y f v a at ordered is =
-    places_set v rs y.queue (after_resolve (order_at rs y.queue) y.place f) (answered_places v y.queue y.number (outcome_of f)) is
-    (answers_places p ws rs us l k y f v a at ordered (places_are v rs y.queue is))
-
-pub after_leave-some : (r : Reordering) (x : Place) → oldest_answered r.places ≡ Some x → (after_leave r).places ≡ drop 1 r.places
-after_leave-some r x e = ap (λ o. (after_leaving r o).places) e
-
-pub after_leave-none : (r : Reordering) → oldest_answered r.places ≡ None → after_leave r ≡ r
-after_leave-none r e = ap (after_leaving r) e
-
-pub left_view : (v : View) (rs : List Reordering) (q : ℕ) (x : Place) → v.places ≡ map places_in rs → oldest_answered (order_at rs q).places ≡ Some x
-    → map places_in (set rs q (after_leave (order_at rs q))) ≡ set v.places q (drop 1 (places_at v q))
-left_view v rs q x is e =
-    places_set v rs q (after_leave (order_at rs q)) (drop 1 (places_at v q)) is
-    (after_leave-some (order_at rs q) x e ∙ ap (drop 1) (sym (places_are v rs q is)))

@@ -1,10 +1,9 @@
 -- The answered places at a queue's front leave one after the other.
-use Rattle.std.proofs.Common.{◌≡◌, ℕ, ◌+◌, ◌<◌, ◌≤◌, Bool, true, false, ◌&&◌, ◌||◌, ◌==◌, List, [], ◌∷◌, ◌++◌, length, drop, set, get_or, flat_map, Some, None, Vec, Global, vec_len, vec_capacity, ◌⊎◌, inl, inr, refl, sym, ap, ◌∙◌, subst, arith, append_assoc, append-nil}
+use Rattle.std.proofs.Common.{◌≡◌, ℕ, ◌+◌, ◌<◌, ◌≤◌, Bool, true, false, ◌&&◌, ◌||◌, ◌==◌, List, [], ◌∷◌, ◌++◌, length, drop, set, get_or, flat_map, Some, None, Vec, Global, vec_len, vec_capacity, refl, sym, ap, ◌∙◌, subst, arith, append_assoc, append-nil}
 use Rattle.std.specs.List.{list_any}
-use Rattle.std.proofs.lemmas.Bool.{cases_Bool, cond-true, cond-false}
-use Rattle.std.proofs.lemmas.List.{length-append, length-set, get_or-set_same, set-get_or}
+use Rattle.std.proofs.lemmas.Bool.{cond-true, cond-false}
+use Rattle.std.proofs.lemmas.List.{length-append, length-set, get_or-set_same}
 use Rattle.std.proofs.lemmas.List.Sums.{take_while-cons, fold-append}
-use Rattle.std.proofs.lemmas.Option.{none-some}
 use Rattle.lists.proofs.Lists.{list_any-append, eqb_same, or-false}
 use Rattle.evt_types.specs.Plan.{queue_of, is_ordered}
 use Rattle.transcripts.specs.Standing.{View, places_at, oldest_at, leaving, staying, accepts_from, accepts_of, answered_places, answer_steps, events_of, after, after_step, after_accept, places_after}
@@ -12,14 +11,13 @@ use Rattle.evt_types.specs.Place.{Place}
 use Rattle.transcripts.specs.Transcript.{Held}
 use Rattle.evt_types.specs.declared.event.Event.{Event}
 use Rattle.evt_types.specs.declared.step.Outcome.{Outcome}
-use Rattle.evt_types.specs.declared.step.Outcome.TheVariants.{Forwarded}
 use Rattle.evt_types.specs.declared.step.Source.TheVariants.{Of}
 use Rattle.evt_types.specs.declared.step.Step.{Step}
 use Rattle.evt_types.specs.declared.step.Step.TheVariants.{Accept, Done}
 use Rattle.order_parts.specs.Reorder.{oldest_answered, left}
 use Rattle.sched_core.specs.Settling.{with_places_at, leaving_steps, flush_steps, flushed, after_leaving_of, answered_view, IsOnTheWay}
 use Rattle.sched_core.specs.Answered.{after_answer, after_leave, places_answered, rest_behind}
-use Rattle.sched_core.specs.Taken.{is_accept_of, is_passed_on}
+use Rattle.sched_core.specs.Taken.{is_accept_of}
 use Rattle.sched_core.proofs.OrderLists.{set-set}
 use Rattle.sched_core.proofs.Ordered.{leaving_is}
 
@@ -30,14 +28,6 @@ leaving-cons x xs done = take_while-cons (λ (y : Place). y.answered) x xs ∙ c
 
 pub staying-cons : (x : Place) (xs : List Place) → x.answered ≡ true → staying (x ∷ xs) ≡ staying xs
 staying-cons x xs done = ap (λ (ys : List Place). drop (length ys) (x ∷ xs)) (leaving-cons x xs done)
-
-pub leaving-none : (xs : List Place) → oldest_answered xs ≡ None → leaving xs ≡ []
-leaving-none [] e = refl
-leaving-none (x ∷ xs) e = by_case (cases_Bool x.answered)
-  where
-    by_case : (x.answered ≡ true) ⊎ (x.answered ≡ false) → leaving (x ∷ xs) ≡ []
-    by_case (inl done) = absurd (none-some x (sym e ∙ cond-true x.answered (Some x) None done))
-    by_case (inr waits) = take_while-cons (λ (y : Place). y.answered) x xs ∙ cond-false x.answered (x ∷ leaving xs) [] waits
 
 -- ---- accepting changes no place
 
@@ -52,10 +42,6 @@ accepts_with v q r n xs (e ∷ es) = accepts_with (after_accept v e.queue e) q r
 pub accepts_places : (v : View) (q n : ℕ) (es : List Event) → (after v (accepts_from q n es)).places ≡ v.places
 accepts_places v q n [] = refl
 accepts_places v q n (e ∷ es) = accepts_places (after_accept v e.queue e) q n es
-
-pub accepts_shape : (v : View) (q n : ℕ) (es : List Event) → (after v (accepts_from q n es)).shape ≡ v.shape
-accepts_shape v q n [] = refl
-accepts_shape v q n (e ∷ es) = accepts_shape (after_accept v e.queue e) q n es
 
 -- ---- one place leaves
 
@@ -95,15 +81,6 @@ flushed-turn v q x h e =
     ∙ (after-append (with_places_at v q (staying (places_at u q))) ss (flush_steps u q) ∙ ap (λ w. after w (flush_steps u q)) (sym other)))
 
 -- ---- no place leaves any more
-
-pub flush_steps-end : (v : View) (q : ℕ) → oldest_answered (places_at v q) ≡ None → flush_steps v q ≡ []
-flush_steps-end v q e = ap (flat_map (λ (y : Place). accepts_from q y.number y.forwards)) (leaving-none (places_at v q) e)
-
-pub flushed-end : (v : View) (q : ℕ) → oldest_answered (places_at v q) ≡ None → flushed v q ≡ v
-flushed-end v q e =
-    ap (after (with_places_at v q (staying (places_at v q)))) (flush_steps-end v q e)
-    ∙ (ap (λ (ys : List Place). with_places_at v q (drop (length ys) (places_at v q))) (leaving-none (places_at v q) e)
-    ∙ ap (λ (ps : List (List Place)). record v { places = ps }) (set-get_or v.places q []))
 
 -- ---- the lane's oldest event is answered
 
@@ -169,22 +146,7 @@ passed_turn v q mine x h e =
     ap (list_any (is_accept_of q mine)) (flush_steps-turn v q x h e)
     ∙ list_any-append (is_accept_of q mine) (accepts_from q x.number x.forwards) (flush_steps (after_leaving_of v q x) q)
 
-pub is_passed_on-ordered : (v : View) (l : ℕ) (h : Held) (o : Outcome) → oldest_at v l ≡ Some h → is_ordered (queue_of v.shape h.queue).kind ≡ true → h.queue < length v.places
-    → is_passed_on (oldest_at v l) (answer_steps v l o) ≡ list_any (is_accept_of h.queue h.number) (flush_steps (answered_view v l h o) h.queue)
-is_passed_on-ordered v l h o oldest ordered there =
-    ap (λ x. is_passed_on x (answer_steps v l o)) oldest ∙ ap (list_any (is_accept_of h.queue h.number)) (answer_steps-ordered v l h o oldest ordered there)
-
-pub is_passed_on-plain : (v : View) (l : ℕ) (h : Held) (e : Event) → oldest_at v l ≡ Some h → is_ordered (queue_of v.shape h.queue).kind ≡ false
-    → is_passed_on (oldest_at v l) (answer_steps v l (Forwarded e)) ≡ true
-is_passed_on-plain v l h e oldest plain =
-    ap (λ x. is_passed_on x (answer_steps v l (Forwarded e))) oldest
-    ∙ (ap (list_any (is_accept_of h.queue h.number)) (answer_steps-plain v l h (Forwarded e) oldest plain)
-    ∙ (passed_one h.queue h.number h.number e ∙ eqb_same h.number))
-
 -- ---- the way from the answer to the end
-
-pub way-start : (v : View) (q mine : ℕ) (log : List Step) → IsOnTheWay q mine v log v log false
-way-start v q mine log = record { view = refl; steps = refl; passes = refl }
 
 pub way-turn : (q mine : ℕ) (start : View) (first : List Step) (v : View) (log : List Step) (passed : Bool) (x : Place) → IsOnTheWay q mine start first v log passed
     → q < length v.places → oldest_answered (places_at v q) ≡ Some x
@@ -220,16 +182,6 @@ way-forwarded q mine start first v log passed n d way h e =
     subst (λ b. IsOnTheWay q mine start first (after_accept (with_places_at v q (drop 1 (places_at v q))) d.queue d) (log ++ Accept d.queue d (Of q n) ∷ []) (passed || b))
     (passed_one q mine n d) (way-turn q mine start first v log passed (left (n, Some d)) way h e)
 
-pub way-end : (q mine : ℕ) (start : View) (first : List Step) (v : View) (log : List Step) (passed : Bool) → IsOnTheWay q mine start first v log passed
-    → oldest_answered (places_at v q) ≡ None
-    → (v ≡ flushed start q) × (log ≡ first ++ flush_steps start q) × (passed ≡ list_any (is_accept_of q mine) (flush_steps start q))
-way-end q mine start first v log passed way e =
-    let none : flush_steps v q ≡ [] = flush_steps-end v q e in (
-      sym (flushed-end v q e) ∙ way.view,
-      sym (append-nil log) ∙ (ap (λ ss. log ++ ss) (sym none) ∙ way.steps),
-      sym (or-false passed) ∙ (ap (λ ss. passed || list_any (is_accept_of q mine) ss) (sym none) ∙ way.passes),
-    )
-
 -- ---- one turn of the loop
 
 -- the same, with what else stays on the way
@@ -264,14 +216,6 @@ settles_forwarded q mine start first v u w log new passed n d s oldest is accept
       there = subst (λ (x : View). q < length x.places) (sym same) (subst (λ k. q < k) (sym (length-set v.places q (drop 1 (places_at v q)))) s.there);
       room = room ∙ s.room;
     }
-
--- fewer places are left
-pub fewer_places : (v u : View) (q : ℕ) (x : Place) → q < length v.places → oldest_answered (places_at v q) ≡ Some x → u.places ≡ (after_leave v q).places → length (places_at u q) < length (places_at v q)
-fewer_places v u q x h oldest is =
-    let left : (after_leave v q).places ≡ set v.places q (drop 1 (places_at v q)) = ap (λ o. set v.places q (rest_behind (places_at v q) o)) oldest in
-    let now : places_at u q ≡ drop 1 (places_at v q) = ap (λ (ps : List (List Place)). get_or ps q []) (is ∙ left) ∙ get_or-set_same v.places q (drop 1 (places_at v q)) [] h in
-    let long : length (places_at v q) ≡ length (drop 1 (places_at v q)) + 1 = ap length (leaving_is (places_at v q) x oldest).0 ∙ omega arith in
-    omega (arith, ap length now, long)
 
 -- there is room for what is accepted
 pub room_left : (q mine : ℕ) (start : View) (first : Vec Step Global) (v : View) (log : Vec Step Global) (passed : Bool) (n : ℕ) (d : Event) → IsSettling q mine start first v log passed

@@ -1,23 +1,17 @@
 -- The steps of a reply and of a shut, and what they make of a core's view.
 use Rattle.std.proofs.Common.{◌≡◌, ℕ, ◌+◌, ◌<◌, ◌≤◌, Bool, true, false, cond, List, [], ◌∷◌, ◌++◌, length, Some, refl, sym, ap, ◌∙◌, subst, arith, append-nil, append_assoc}
-use Rattle.std.specs.List.{list_any}
 use Rattle.std.proofs.lemmas.List.{length-append}
 use Rattle.transcripts.proofs.WholeStands.{stands_shut}
 use Rattle.evt_types.specs.Plan.{queue_of, is_ordered}
-use Rattle.transcripts.specs.Standing.{View, Stands, oldest_at, answer_steps, events_of, accepts_from, steps_by, steps_of, after}
+use Rattle.transcripts.specs.Standing.{View, Stands, oldest_at, answer_steps, events_of, accepts_from, after}
 use Rattle.transcripts.specs.Transcript.{Held}
-use Rattle.evt_types.specs.declared.event.Event.{Event}
-use Rattle.evt_types.specs.declared.event.Op.TheVariants as ops
 use Rattle.evt_types.specs.declared.step.Outcome.{Outcome}
-use Rattle.evt_types.specs.declared.step.Outcome.TheVariants.{Forwarded}
 use Rattle.evt_types.specs.declared.step.Step.{Step}
 use Rattle.evt_types.specs.declared.step.Step.TheVariants.{Done, Shut}
-use Rattle.sched_core.proofs.Settling.{after_answer-ordered, after_answer-plain, after_answer_is, answer_steps-ordered, answer_steps-plain, is_passed_on-ordered, is_passed_on-plain}
+use Rattle.sched_core.proofs.Settling.{after_answer-ordered, after_answer-plain, after_answer_is, answer_steps-ordered, answer_steps-plain}
 use Rattle.sched_core.specs.Answered.{after_answer}
 use Rattle.sched_core.specs.Settling.{flush_steps, flushed}
 use Rattle.sched_core.specs.Shutting.{shut_steps}
-use Rattle.sched_core.specs.Taken.{took_by, is_accept_of, is_passed_on}
-use Rattle.sched_core.specs.declared.take.Took.TheVariants as tooks
 
 -- ---- an answer to an ordered queue's event
 
@@ -38,15 +32,6 @@ module _ (v u : View) (l : ℕ) (h : Held) (o : Outcome) (oldest : oldest_at v l
       let all : length (answer_steps v l o) ≡ length (flush_steps u h.queue) + 1 = ap length settled_steps ∙ omega arith in
       omega arith
 
--- what becomes of a forward
-pub settled_took : (v u : View) (l : ℕ) (h : Held) (e : Event) (b : Bool) → e.op ≡ ops.Forward → oldest_at v l ≡ Some h → is_ordered (queue_of v.shape h.queue).kind ≡ true → h.queue < length v.places → u ≡ after_answer v l (Forwarded e)
-    → b ≡ list_any (is_accept_of h.queue h.number) (flush_steps u h.queue) → cond b tooks.Accepted tooks.Kept ≡ took_by ops.Forward v l e
-settled_took v u l h e b op oldest ordered there noted is =
-    let passed : is_passed_on (oldest_at v l) (steps_of v l e) ≡ b =
-    ap (λ x. is_passed_on (oldest_at v l) (steps_by x v l e)) op
-    ∙ (is_passed_on-ordered v l h (Forwarded e) oldest ordered there ∙ (ap (λ w. list_any (is_accept_of h.queue h.number) (flush_steps w h.queue)) (sym (noted ∙ after_answer_is v l h (Forwarded e) oldest ordered)) ∙ sym is)) in
-    sym (ap (λ x. cond x tooks.Accepted tooks.Kept) passed)
-
 -- ---- an answer to another queue's event
 
 module _ (v u : View) (l : ℕ) (h : Held) (o : Outcome) (oldest : oldest_at v l ≡ Some h) (plain : is_ordered (queue_of v.shape h.queue).kind ≡ false) (noted : u ≡ after_answer v l o) where
@@ -64,10 +49,6 @@ module _ (v u : View) (l : ℕ) (h : Held) (o : Outcome) (oldest : oldest_at v l
       let long : length mid ≡ length old + 1 = ap length done ∙ length-append old (Done l o ∷ []) in
       let all : length (answer_steps v l o) ≡ length (accepts_from h.queue h.number (events_of o)) + 1 = ap length (answer_steps-plain v l h o oldest plain) ∙ omega arith in
       omega arith
-
-pub plain_took : (v : View) (l : ℕ) (h : Held) (e : Event) → e.op ≡ ops.Forward → oldest_at v l ≡ Some h → is_ordered (queue_of v.shape h.queue).kind ≡ false → tooks.Accepted ≡ took_by ops.Forward v l e
-plain_took v l h e op oldest plain =
-    sym (ap (λ x. cond x tooks.Accepted tooks.Kept) (ap (λ x. is_passed_on (oldest_at v l) (steps_by x v l e)) op ∙ is_passed_on-plain v l h e oldest plain))
 
 -- ---- a shut
 

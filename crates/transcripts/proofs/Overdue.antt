@@ -16,7 +16,7 @@ use Rattle.evt_types.specs.declared.step.Step.{Step}
 use Rattle.evt_types.specs.declared.step.Step.TheVariants.{Accept, Give}
 use Rattle.transcripts.proofs.Facts.{Facts, no_forwards, not_answered}
 use Rattle.lists.proofs.Lists.{eqb_same, All-front, All-has, All-weaker_all}
-use Rattle.transcripts.proofs.OpenPlaces.{tag, tagged, First, front_and_rest, front_agree, front-push, has_each, has_front, upto_front, upto_rest, tagged-append, tagged_agree, All-tagged}
+use Rattle.transcripts.proofs.OpenPlaces.{tag, tagged, First, front_and_rest, front_agree, front-push, has_each, upto_front, upto_rest, tagged-append, tagged_agree, All-tagged}
 use Rattle.transcripts.proofs.Pushes.{given_of-same, given_of-other, source_in-same, is_pair-queue, is_pair-number, taken_in_is, taken_in-same, taken_in-other, taken-some, hand-none, hand-some, forwards-none, kept_of-none, kept_of-nil, is_answered-none}
 
 -- ---- the overdue events
@@ -50,13 +50,6 @@ late_once p T q once = by_kind (is_ordered (queue_of p q).kind)
     by_kind : (b : Bool) → AllPairs (λ m n. m ≢ n) (cond b (take_while (is_answered T q) (hand T q)) (hand T q))
     by_kind true = front_once
     by_kind false = once
-
-pub late_in_hand : (p : Plan) (T : List Step) (q n : ℕ) → has n (late_of p T q) ≡ true → has n (hand T q) ≡ true
-late_in_hand p T q n h = by_kind (is_ordered (queue_of p q).kind) h
-  where
-    by_kind : (b : Bool) → has n (cond b (take_while (is_answered T q) (hand T q)) (hand T q)) ≡ true → has n (hand T q) ≡ true
-    by_kind true k = has_front (is_answered T q) n (hand T q) k
-    by_kind false k = k
 
 -- ---- settled
 

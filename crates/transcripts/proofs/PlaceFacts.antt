@@ -1,7 +1,7 @@
 -- What holds of the places of an ordered queue wherever a core stands: they have different numbers, the first waits for its answer,
 -- a place that waits was forwarded as nothing and any other as one event at most, and each unanswered event has one that waits.
-use Rattle.std.proofs.Common.{◌≡◌, ◌≢◌, ℕ, zero, suc, ◌+◌, ◌<◌, ◌≤◌, Bool, true, false, ◌==◌, List, [], ◌∷◌, ◌++◌, length, map, set, take_while, get_or, All, AllPairs, Contains, ◌⊎◌, inl, inr, ⊎_elim, refl, sym, ap, ◌∙◌, subst, arith}
-use Rattle.std.proofs.lemmas.Bool.{cases_Bool, false≢true, cond-true, cond-false, cond_both}
+use Rattle.std.proofs.Common.{◌≡◌, ◌≢◌, ℕ, zero, suc, ◌+◌, ◌<◌, ◌≤◌, true, false, ◌==◌, List, [], ◌∷◌, ◌++◌, length, map, set, take_while, get_or, All, AllPairs, Contains, ⊎_elim, refl, sym, ap, ◌∙◌, subst, arith}
+use Rattle.std.proofs.lemmas.Bool.{false≢true, cond-true, cond-false, cond_both}
 use Rattle.std.proofs.lemmas.List.{length-append, length-map, get_or-append-add}
 use Rattle.std.proofs.lemmas.List.Elements.{All-nil, All-head, All-tail, All-contains, All-drop, All-map, Contains-append_right}
 use Rattle.transcripts.specs.Allowed.{AllowedAfter}
@@ -13,7 +13,7 @@ use Rattle.transcripts.specs.Transcript.{out, answers, unanswered, unanswered_sl
 use Rattle.lists.specs.Lists.{from_first}
 use Rattle.evt_types.specs.declared.step.Outcome.{Outcome}
 use Rattle.evt_types.specs.declared.step.Step.{Step}
-use Rattle.transcripts.proofs.AnsweredPlaces.{places_ordered, places_plain}
+use Rattle.transcripts.proofs.AnsweredPlaces.{places_ordered}
 use Rattle.transcripts.proofs.Facts.{IsGiven, Facts}
 use Rattle.lists.proofs.Lists.{eqb_same, eqb_other, has-Contains}
 use Rattle.transcripts.proofs.OpenPlaces.{front_and_rest, front_or_rest, front_passes}
@@ -37,21 +37,6 @@ Contains-map f [] x c = absurd (no_place c.0 c.1)
     no_place k lt = omega arith
 Contains-map f (y ∷ ys) x (zero, within, is) = (zero, omega arith, ap f is)
 Contains-map f (y ∷ ys) x (suc k, within, is) = Contains-append_right (f y ∷ []) (map f ys) (f x) (Contains-map f ys x (k, omega arith, is))
-
--- the first that fails
-rest_fails : (p : ℕ → Bool) (xs : List ℕ) (n : ℕ) (ns : List ℕ) → from_first p xs ≡ n ∷ ns → p n ≡ false
-rest_fails p [] n ns e = absurd (nil-cons n ns e)
-  where
-    nil-cons : (n : ℕ) (ns : List ℕ) → [] ≡ n ∷ ns → ⊥
-    nil-cons n ns e = cc
-rest_fails p (x ∷ xs) n ns e = by_case (rest_fails p xs n ns) (cases_Bool (p x))
-  where
-    heads : (a b : ℕ) (as' bs : List ℕ) → a ∷ as' ≡ b ∷ bs → a ≡ b
-    heads a b as' bs e = cc
-
-    by_case : (from_first p xs ≡ n ∷ ns → p n ≡ false) → (p x ≡ true) ⊎ (p x ≡ false) → p n ≡ false
-    by_case more (inl passes) = more (sym (cond-true (p x) (from_first p xs) (x ∷ xs) passes) ∙ e)
-    by_case more (inr fails) = ap p (sym (heads x n xs ns (sym (cond-false (p x) (from_first p xs) (x ∷ xs) fails) ∙ e))) ∙ fails
 
 -- ---- one place is answered
 
@@ -129,28 +114,6 @@ place_forwards v T q stands h =
     subst (All (λ (x : Place). (length x.forwards ≤ 1) × (x.answered ≡ false → x.forwards ≡ []))) (sym (places_is v T q stands h))
     (each_place v.shape T q (λ (x : Place). (length x.forwards ≤ 1) × (x.answered ≡ false → x.forwards ≡ []))
     (λ n. (once.one q n, λ waits. once.unsent q n waits)))
-
--- the first place waits for its answer
-pub first_waits : (v : View) (T : List Step) (q : ℕ) (x : Place) (rest : List Place) → Stands T v → q < length v.shape.queues
-    → places_at v q ≡ x ∷ rest → x.answered ≡ false
-unfolding open_of
-first_waits v T q x rest stands h e = by_kind (cases_Bool (is_ordered (queue_of v.shape q).kind))
-  where
-    nil-cons : (y : Place) (ys : List Place) → [] ≡ y ∷ ys → ⊥
-    nil-cons y ys e = cc
-
-    heads : (a b : Place) (as' bs : List Place) → a ∷ as' ≡ b ∷ bs → a ≡ b
-    heads a b as' bs e = cc
-
-    by_open : (ns : List ℕ) → from_first (is_answered T q) (hand T q) ≡ ns → map (place_at T q) ns ≡ x ∷ rest → x.answered ≡ false
-    by_open [] is same = absurd (nil-cons x rest same)
-    by_open (n ∷ ns) is same =
-        ap (λ (y : Place). y.answered) (sym (heads (place_at T q n) x (map (place_at T q) ns) rest same)) ∙ rest_fails (is_answered T q)
-        (hand T q) n ns is
-
-    by_kind : (is_ordered (queue_of v.shape q).kind ≡ true) ⊎ (is_ordered (queue_of v.shape q).kind ≡ false) → x.answered ≡ false
-    by_kind (inl ordered) = by_open (open_of T q) refl (sym (places_is v T q stands h ∙ places_ordered v.shape T q ordered) ∙ e)
-    by_kind (inr plain) = absurd (nil-cons x rest (sym (places_is v T q stands h ∙ places_plain v.shape T q plain) ∙ e))
 
 -- no ordered queue has more places than its order
 pub places_fit : (v : View) (T : List Step) (q : ℕ) → Stands T v → q < length v.shape.queues → is_ordered (queue_of v.shape q).kind ≡ true

@@ -6,7 +6,7 @@ use Rattle.std.proofs.lemmas.Bool.{or_left, or_right, and_from, and_left, and_ri
 use Rattle.std.proofs.lemmas.List.{length-append, length-drop, map-append, drop-map, drop_all, length-map}
 use Rattle.std.proofs.lemmas.List.Concat.{flat_map-append, length-flat_map}
 use Rattle.std.proofs.lemmas.List.Elements.{filter_map-append, All-weaker}
-use Rattle.std.proofs.lemmas.Option.{slice_get_within, none-some, same_Some, cond_some}
+use Rattle.std.proofs.lemmas.Option.{none-some, same_Some, cond_some}
 use Rattle.evt_types.specs.Plan.{Plan}
 use Rattle.transcripts.specs.Transcript.{accepted_in, accepted, numbered, entered, event_at, slot_if, slot_at, given_to, out, answer_of, answers, unanswered, Held, held_at, unanswered_slots, next_pair, ends, ended, is_pair, is_answered, with_event, sends, sent, sent_for, forwards, given_of, hand, taken_in, taken, source_in, sources, kept_of, kept, open_of, is_shut, has_shut}
 use Rattle.lists.specs.Lists.{from_first}
@@ -47,9 +47,6 @@ given_of-other l q r n h = cond-false (r == q) (Some n) None (eqb_other r q h)
 
 pub source_in-same : (q r n : ℕ) (e : Event) → source_in r (Accept q e (Of r n)) ≡ Some n
 source_in-same q r n e = cond-true (r == r) (Some n) None (eqb_same r)
-
-pub source_in-other : (q r s n : ℕ) (e : Event) → r ≢ s → source_in s (Accept q e (Of r n)) ≡ None
-source_in-other q r s n e h = cond-false (r == s) (Some n) None (eqb_other r s h)
 
 pub is_pair-same : (q n : ℕ) → is_pair q n (q, n) ≡ true
 is_pair-same q n = and_from (q == q) (n == n) (eqb_same q) (eqb_same n)
@@ -340,9 +337,6 @@ length-unanswered P l = length-drop (length (answers P l)) (out P l)
 pub next_pair-some : (P : List Step) (l : ℕ) → 0 < length (unanswered P l) → (x : ℕ × ℕ) × (next_pair P l ≡ Some x)
 next_pair-some P l h = slice_get-some (out P l) (length (answers P l)) (omega (arith, length-unanswered P l))
 
-pub next_pair-within : (P : List Step) (l : ℕ) (x : ℕ × ℕ) → next_pair P l ≡ Some x → length (answers P l) < length (out P l)
-next_pair-within P l x h = slice_get_within (out P l) (length (answers P l)) x h
-
 -- it is the first unanswered one
 pub unanswered-next : (P : List Step) (l : ℕ) (x : ℕ × ℕ) → next_pair P l ≡ Some x → unanswered P l ≡ x ∷ drop 1 (unanswered P l)
 unfolding unanswered
@@ -432,12 +426,6 @@ length-kept P q =
     length-flat_map (λ n. map (λ e. (n, e)) (kept_of P q n)) (hand P q) ∙ simp length-map
 
 -- ---- open_of
-
-pub open_of-none : (P : List Step) (q : ℕ) (s : Step) → given_of q s ≡ None → ends P s ≡ None → open_of (P ++ s ∷ []) q ≡ open_of P q
-unfolding open_of
-open_of-none P q s h k =
-    ap (from_first (is_answered (P ++ s ∷ []) q)) (hand-none P q s h)
-    ∙ from_first-agree (is_answered (P ++ s ∷ []) q) (is_answered P q) (hand P q) (λ n. is_answered-none P q n s k)
 
 -- no answer opens a place
 pub open_of-le : (P : List Step) (q : ℕ) (s : Step) → given_of q s ≡ None → length (open_of (P ++ s ∷ []) q) ≤ length (open_of P q)

@@ -306,10 +306,6 @@ Rising-allowed p T all = AllowedAfter_keeps p (Rising p) (Rising-push p) [] T (R
 
 -- ---- what follows
 
--- each number from which a forward was accepted is answered
-pub sources_answered : (p : Plan) (T : List Step) (q : ℕ) → AllowedAfter p [] T → All (λ m. is_answered T q m ≡ true) (sources T q)
-sources_answered p T q all = (Rising-allowed p T all).sources q
-
 -- a forward from an atomic queue's pair that the lane answers next may be accepted once it is answered: it comes from no lower number
 pub next_rises : (p : Plan) (T : List Step) (l : ℕ) (x : ℕ × ℕ) → AllowedAfter p [] T → next_pair T l ≡ Some x
     → is_atomic (queue_of p x.0).kind ≡ true

@@ -259,7 +259,3 @@ steps-Lawful p T h =
 -- an allowed step that leaves the transcript settled
 pub Lawful-push : (p : Plan) (T : List Step) (s : Step) → Lawful p T → Allowed p T s → IsSettled p (T ++ s ∷ []) → Lawful p (T ++ s ∷ [])
 Lawful-push p T s h a end = Lawful-steps p (T ++ s ∷ []) (record { steps = AllowedAfter-push p [] T s (steps-Lawful p T h).steps a; end = end })
-
--- each step of a lawful transcript was allowed
-pub Lawful-allowed : (p : Plan) (T : List Step) (k : ℕ) → k < length T → Lawful p T → Allowed p (take k T) (get_or T k Shut)
-Lawful-allowed p T k lt h = AllowedAfter-at p [] T k Shut lt (steps-Lawful p T h).steps

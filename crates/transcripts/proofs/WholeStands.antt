@@ -292,20 +292,8 @@ stands_answer v T l o stands lane some outcome =
 
 -- ---- a reply
 
-pub steps_new : (v : View) (l : ℕ) (e : Event) → e.op ≡ ops.New → v.shut ≡ false → steps_of v l e ≡ Accept e.queue e (New l) ∷ []
-steps_new v l e op unshut =
-    subst (λ o. steps_by o v l e ≡ Accept e.queue e (New l) ∷ []) (sym op)
-    (cond-false v.shut (Turned l e ∷ []) (Accept e.queue e (New l) ∷ []) unshut)
-
-pub steps_turned : (v : View) (l : ℕ) (e : Event) → e.op ≡ ops.New → v.shut ≡ true → steps_of v l e ≡ Turned l e ∷ []
-steps_turned v l e op shut =
-    subst (λ o. steps_by o v l e ≡ Turned l e ∷ []) (sym op) (cond-true v.shut (Turned l e ∷ []) (Accept e.queue e (New l) ∷ []) shut)
-
 pub steps_forward : (v : View) (l : ℕ) (e : Event) → e.op ≡ ops.Forward → steps_of v l e ≡ answer_steps v l (Forwarded e)
 steps_forward v l e op = ap (λ o. steps_by o v l e) op
-
-pub steps_release : (v : View) (l : ℕ) (e : Event) → e.op ≡ ops.Release → steps_of v l e ≡ answer_steps v l Released
-steps_release v l e op = ap (λ o. steps_by o v l e) op
 
 -- a NEW is accepted, or turned away by a core that is shut
 stands_enter : (v : View) (T : List Step) (l : ℕ) (e : Event) → Stands T v → l < lanes_of v.shape → e.op ≡ ops.New → may_enter v e.queue ≡ true

@@ -1,5 +1,5 @@
 -- Words for laws of lawful transcripts: the calls in src/laws.rt prove them.
-use Rattle.std.specs.Prelude.{ℕ, ◌≡◌, ◌≢◌, ◌<◌, Bool, true, false, List, [], take, filter, All, AllPairs, Some, slice_get}
+use Rattle.std.specs.Prelude.{ℕ, ◌≡◌, ◌≢◌, ◌<◌, Bool, true, List, [], take, filter, All, AllPairs, Some, slice_get}
 use Rattle.evt_types.specs.Plan.{Plan}
 use Rattle.transcripts.specs.Lawful.{keeps_with}
 use Rattle.transcripts.specs.Transcript.{hand, sources, kept_of, is_answered}

@@ -1,5 +1,5 @@
 -- What a lane says to the scheduler, as replies and as the steps that take them.
-use Rattle.std.specs.Prelude.{ℕ, Bool, true, false, List, ◌==◌, count_by, filter_map, Option, Some, None, if◌then◌else◌}
+use Rattle.std.specs.Prelude.{ℕ, List, ◌==◌, count_by, filter_map, Option, Some, None, if◌then◌else◌}
 use Rattle.transcripts.specs.Transcript.{is_new, is_turned, is_release}
 use Rattle.evt_types.specs.declared.event.Event.{Event}
 use Rattle.evt_types.specs.declared.event.Op.{Op}

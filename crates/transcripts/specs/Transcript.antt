@@ -1,9 +1,9 @@
 -- What a transcript says: the words by which the promises on a device are made. Each is read off the whole list of steps.
 -- A queue or lane that isn't there has empty lists, so no word needs a bound.
-use Rattle.std.specs.Prelude.{ℕ, ◌+◌, Bool, true, false, not, ◌&&◌, List, [], ◌∷◌, ◌++◌, ◌==◌, length, map, drop, filter, sum_by, Option, Some, None, slice_get, filter_map, flat_map, if◌then◌else◌}
+use Rattle.std.specs.Prelude.{ℕ, ◌+◌, Bool, true, false, not, ◌&&◌, List, [], ◌∷◌, ◌==◌, length, map, drop, filter, sum_by, Option, Some, None, slice_get, filter_map, flat_map, if◌then◌else◌}
 use Rattle.std.specs.List.{list_any}
 use Rattle.evt_types.specs.Plan.{Plan, lanes, queues, slot_of}
-use Rattle.lists.specs.Lists.{has, with_past, upto, from_first}
+use Rattle.lists.specs.Lists.{has, with_past, from_first}
 use Rattle.evt_types.specs.declared.event.Event.{Event}
 use Rattle.evt_types.specs.declared.event.Numbered.{Numbered}
 use Rattle.evt_types.specs.declared.step.Outcome.{Outcome}

@@ -3,11 +3,11 @@ use Rattle.std.specs.Prelude.{◌≡◌, ◌≤◌, List, vec_capacity}
 use Rattle.evt_types.specs.Plan.{lanes_of}
 use Rattle.transcripts.specs.Standing.{Stands}
 use Rattle.evt_types.specs.declared.step.Step.{Step}
-use Rattle.sched_core.specs.Sweep.{sweep_steps}
+use Rattle.transcripts.specs.Sweep.{sweep_room}
 use Rattle.core_bench.specs.declared.run.Run.{Run}
 
 -- two lanes, a log with room for the steps of any one call, and a core that stands at some transcript
 pub record IsRun (r : Run) : Type 0 where
   pub lanes : lanes_of r.core.shape ≡ 2
-  pub room : sweep_steps r.core.shape ≤ vec_capacity r.log
+  pub room : sweep_room r.core.shape ≤ vec_capacity r.log
   pub stands : (T : List Step) × Stands T r.core

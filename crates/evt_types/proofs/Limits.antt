@@ -12,6 +12,7 @@ use Rattle.evt_types.specs.Fault.{bad_order, orders_bad, has_unknown, link_unkno
 use Rattle.evt_types.specs.Fault.{is_shared_single, single_bad, fault_of, IsBetween, IsWithinLimits}
 use Rattle.evt_types.specs.Plan.{Plan, PortPlan, is_atomic, is_ordered, queue_of}
 use Rattle.lists.specs.Lists.{has}
+use Rattle.evt_types.specs.declared.shape.TheConstants.{MAX_ALL_REPLIES, MAX_ALL_SLOTS, MAX_DEPTH, MAX_LIMIT, MAX_ORDER, MAX_PORTS, MAX_QUEUES, MAX_SLOTS, MAX_SWEEP}
 use Rattle.evt_types.specs.declared.draft.QueueDraft.{QueueDraft}
 use Rattle.evt_types.specs.declared.shape.ShapeFault.{ShapeFault}
 use Rattle.evt_types.specs.declared.shape.ShapeFault.TheVariants as faults
@@ -33,15 +34,15 @@ none_met ((false, f) ∷ xs) h = (refl, none_met xs h)
 -- the tests of `fault_of`, in its order
 abbrev tests : Plan → List (Bool × ShapeFault)
 tests p =
-    (outside 1 16 (length p.queues), faults.QueueCount)
-    ∷ (outside 1 16 (length p.ports), faults.PortCount)
-    ∷ (outside 1 4096 p.limit, faults.LimitRange)
+    (outside 1 MAX_QUEUES (length p.queues), faults.QueueCount)
+    ∷ (outside 1 MAX_PORTS (length p.ports), faults.PortCount)
+    ∷ (outside 1 MAX_LIMIT p.limit, faults.LimitRange)
     ∷ (p.quantum == 0 || nat_lt p.limit p.quantum, faults.QuantumRange)
     ∷ (thresholds_bad p, faults.ThresholdRange)
     ∷ (depths_bad p, faults.DepthRange)
     ∷ (slots_bad p, faults.FlowSlots)
     ∷ (orders_bad p, faults.OrderDepth)
-    ∷ (outside 1 64 p.sweep, faults.SweepRange)
+    ∷ (outside 1 MAX_SWEEP p.sweep, faults.SweepRange)
     ∷ (link_unknown p, faults.LinkUnknown)
     ∷ (link_twice p, faults.LinkTwice)
     ∷ (queue_unlinked p, faults.QueueUnlinked)
@@ -82,26 +83,26 @@ thresholds_between : (p : Plan) → thresholds_bad p ≡ false → All (λ (port
 unfolding thresholds_bad
 thresholds_between p h k d short = between p.quantum p.limit (slice_index_or p.ports k d).threshold (each_fails (bad_threshold p) p.ports h k d short)
 
-depth_between : (port : PortPlan) → bad_depth port ≡ false → IsBetween 1 64 port.depth × IsBetween 1 64 port.replies
+depth_between : (port : PortPlan) → bad_depth port ≡ false → IsBetween 1 MAX_DEPTH port.depth × IsBetween 1 MAX_DEPTH port.replies
 depth_between port h =
-    let parts = or_parts (outside 1 64 port.depth) (outside 1 64 port.replies) h in
-    (between 1 64 port.depth parts.0, between 1 64 port.replies parts.1)
+    let parts = or_parts (outside 1 MAX_DEPTH port.depth) (outside 1 MAX_DEPTH port.replies) h in
+    (between 1 MAX_DEPTH port.depth parts.0, between 1 MAX_DEPTH port.replies parts.1)
 
-depths_between : (p : Plan) → depths_bad p ≡ false → All (λ (port : PortPlan). IsBetween 1 64 port.depth × IsBetween 1 64 port.replies) p.ports
+depths_between : (p : Plan) → depths_bad p ≡ false → All (λ (port : PortPlan). IsBetween 1 MAX_DEPTH port.depth × IsBetween 1 MAX_DEPTH port.replies) p.ports
 unfolding depths_bad
 depths_between p h k d short = depth_between (slice_index_or p.ports k d) (each_fails bad_depth p.ports h k d short)
 
-slot_parts : (p : Plan) → slots_bad p ≡ false → (list_any bad_slots p.queues ≡ false) × (nat_lt 128 (sum_by atomic_slots p.queues) ≡ false)
+slot_parts : (p : Plan) → slots_bad p ≡ false → (list_any bad_slots p.queues ≡ false) × (nat_lt MAX_ALL_SLOTS (sum_by atomic_slots p.queues) ≡ false)
 unfolding slots_bad
-slot_parts p h = or_parts (list_any bad_slots p.queues) (nat_lt 128 (sum_by atomic_slots p.queues)) h
+slot_parts p h = or_parts (list_any bad_slots p.queues) (nat_lt MAX_ALL_SLOTS (sum_by atomic_slots p.queues)) h
 
-slots_between : (q : QueueDraft) → bad_slots q ≡ false → is_atomic q.kind ≡ true → IsBetween 1 64 q.slots
-slots_between q h atomic = between 1 64 q.slots (guarded (is_atomic q.kind) (outside 1 64 q.slots) h atomic)
+slots_between : (q : QueueDraft) → bad_slots q ≡ false → is_atomic q.kind ≡ true → IsBetween 1 MAX_SLOTS q.slots
+slots_between q h atomic = between 1 MAX_SLOTS q.slots (guarded (is_atomic q.kind) (outside 1 MAX_SLOTS q.slots) h atomic)
 
-order_between : (q : QueueDraft) → bad_order q ≡ false → is_ordered q.kind ≡ true → IsBetween 1 256 q.order
-order_between q h ordered = between 1 256 q.order (guarded (is_ordered q.kind) (outside 1 256 q.order) h ordered)
+order_between : (q : QueueDraft) → bad_order q ≡ false → is_ordered q.kind ≡ true → IsBetween 1 MAX_ORDER q.order
+order_between q h ordered = between 1 MAX_ORDER q.order (guarded (is_ordered q.kind) (outside 1 MAX_ORDER q.order) h ordered)
 
-orders_between : (p : Plan) → orders_bad p ≡ false → All (λ (q : QueueDraft). is_ordered q.kind ≡ true → IsBetween 1 256 q.order) p.queues
+orders_between : (p : Plan) → orders_bad p ≡ false → All (λ (q : QueueDraft). is_ordered q.kind ≡ true → IsBetween 1 MAX_ORDER q.order) p.queues
 unfolding orders_bad
 orders_between p h k d short = order_between (slice_index_or p.queues k d) (each_fails bad_order p.queues h k d short)
 
@@ -131,17 +132,17 @@ unshared p h q there single =
 within_tests : (p : Plan) → NoneMet (tests p) → IsWithinLimits p
 within_tests p (queues, (ports, (limit, (quantum, (thresholds, (depths, (slots, (orders, (sweep, (unknown, (twice, (unlinked, (shared, _))))))))))))) =
     record {
-      queue_count = between 1 16 (length p.queues) queues;
-      port_count = between 1 16 (length p.ports) ports;
-      limit = between 1 4096 p.limit limit;
+      queue_count = between 1 MAX_QUEUES (length p.queues) queues;
+      port_count = between 1 MAX_PORTS (length p.ports) ports;
+      limit = between 1 MAX_LIMIT p.limit limit;
       quantum = quantum_between p.limit p.quantum quantum;
       thresholds = thresholds_between p thresholds;
       depths = λ k d short. (depths_between p depths k d short).0;
       replies = λ k d short. (depths_between p depths k d short).1;
       slots = λ k d short. slots_between (slice_index_or p.queues k d) (each_fails bad_slots p.queues (slot_parts p slots).0 k d short);
-      all_slots = ltb-false 128 (sum_by atomic_slots p.queues) (slot_parts p slots).1;
+      all_slots = ltb-false MAX_ALL_SLOTS (sum_by atomic_slots p.queues) (slot_parts p slots).1;
       orders = orders_between p orders;
-      sweep = between 1 64 p.sweep sweep;
+      sweep = between 1 MAX_SWEEP p.sweep sweep;
       links_known = links_known p unknown;
       links_once = links_once p twice;
       linked = linked p unlinked;
@@ -152,7 +153,7 @@ pub within : (p : Plan) → fault_of p ≡ None → IsWithinLimits p
 within p h = within_tests p (none_met (tests p) h)
 
 -- the replies of all ports
-pub replies_few : (p : Plan) → IsWithinLimits p → sum_by (λ (port : PortPlan). port.replies) p.ports ≤ 1024
+pub replies_few : (p : Plan) → IsWithinLimits p → sum_by (λ (port : PortPlan). port.replies) p.ports ≤ MAX_ALL_REPLIES
 replies_few p w =
     let each = sum_by-le (λ (port : PortPlan). port.replies) 64 p.ports (λ k d h. (w.replies k d h).1) in
     let few = w.port_count in

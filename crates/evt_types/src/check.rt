@@ -59,7 +59,7 @@ fn atomic_slots(queue: &QueueDraft) -> u32
 
 /// Whether the slots of all atomic queues together are too many.
 fn exceeds_slots(queues: &[QueueDraft]) -> bool
-    ensures { result ≡ nat_lt 128 (sum_by faults.atomic_slots queues.now) }
+    ensures { result ≡ nat_lt MAX_ALL_SLOTS (sum_by faults.atomic_slots queues.now) }
 {
     let mut left = MAX_ALL_SLOTS;
     for queue in queues {

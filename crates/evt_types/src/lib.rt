@@ -17,8 +17,8 @@ pub use event::{
     Delivery, Event, EventFault, Kind, MAX_EVENT_TYPES, MAX_FLOWS, Numbered, Op, Reply,
 };
 pub use shape::{
-    MAX_ALL_SLOTS, MAX_DEPTH, MAX_LIMIT, MAX_ORDER, MAX_PORTS, MAX_QUEUES, MAX_SLOTS, MAX_SWEEP,
-    Shape, ShapeFault,
+    MAX_ALL_REPLIES, MAX_ALL_SLOTS, MAX_BOUND, MAX_DEPTH, MAX_LIMIT, MAX_ORDER, MAX_PORTS,
+    MAX_QUEUES, MAX_SLOTS, MAX_SWEEP, Shape, ShapeFault,
 };
 pub use step::{Outcome, Source, Step};
 pub use word::WordFault;

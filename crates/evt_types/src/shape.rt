@@ -26,6 +26,10 @@ pub const MAX_ALL_SLOTS: u32 = 128;
 pub const MAX_ORDER: u32 = 256;
 /// The highest sweep quantum.
 pub const MAX_SWEEP: u32 = 64;
+/// The most room of all reply rings together.
+pub const MAX_ALL_REPLIES: usize = MAX_PORTS * MAX_DEPTH as usize;
+/// The most events that may be inside for a NEW to be taken.
+pub const MAX_BOUND: usize = MAX_LIMIT as usize + MAX_ALL_REPLIES;
 
 /// The configuration of a device, checked against all limits.
 #[derive(Debug, Drop)]
@@ -88,9 +92,9 @@ fn copied_ports(alloc: Global, ports: &[PortDraft]) -> Result<Vec<PortDraft>, Al
 
 /// The replies of all ports.
 fn replies_in(ports: &[PortDraft]) -> usize
-    requires { sum_by (λ port. port.replies) ports.now ≤ 1024 }
+    requires { sum_by (λ port. port.replies) ports.now ≤ MAX_ALL_REPLIES }
     ensures value { result ≡ sum_by (λ port. port.replies) ports.now }
-    ensures few { result ≤ 1024 }
+    ensures few { result ≤ MAX_ALL_REPLIES }
 {
     ports.iter().map(|port| port.replies as usize).sum()
 }
@@ -142,7 +146,7 @@ impl Shape {
     /// How many replies of a lane, and how many events of a queue, one sweep takes and gives.
     pub fn sweep(&self) -> u32
         ensures value { result ≡ self.now.sweep }
-        ensures range { (1 ≤ result) × (result ≤ 64) }
+        ensures range { (1 ≤ result) × (result ≤ MAX_SWEEP) }
     {
         self.sweep
     }
@@ -157,7 +161,7 @@ impl Shape {
     /// The queues.
     pub fn queues(&self) -> &[QueueDraft]
         ensures value { result.now ≡ self.now.queues }
-        ensures few { (1 ≤ length result.now) × (length result.now ≤ 16) }
+        ensures few { (1 ≤ length result.now) × (length result.now ≤ MAX_QUEUES) }
     {
         &self.queues
     }
@@ -172,7 +176,7 @@ impl Shape {
     /// How many lanes there are.
     pub fn lanes(&self) -> usize
         ensures value { result ≡ plans.lanes_of self.now }
-        ensures few { (1 ≤ result) × (result ≤ 16) }
+        ensures few { (1 ≤ result) × (result ≤ MAX_PORTS) }
     {
         self.ports.len()
     }
@@ -204,7 +208,7 @@ impl Shape {
     pub fn depth_of(&self, lane: usize) -> usize
         requires { lane < plans.lanes_of self.now }
         ensures value { result ≡ plans.depth_of self.now lane }
-        ensures range { (1 ≤ result) × (result ≤ 64) }
+        ensures range { (1 ≤ result) × (result ≤ MAX_DEPTH) }
     {
         self.ports[lane].depth as usize
     }
@@ -213,7 +217,7 @@ impl Shape {
     pub fn replies_of(&self, lane: usize) -> usize
         requires { lane < plans.lanes_of self.now }
         ensures value { result ≡ plans.replies_of self.now lane }
-        ensures range { (1 ≤ result) × (result ≤ 64) }
+        ensures range { (1 ≤ result) × (result ≤ MAX_DEPTH) }
     {
         self.ports[lane].replies as usize
     }
@@ -221,7 +225,7 @@ impl Shape {
     /// How many events may be inside for a NEW to be taken: the limit, and the replies of all lanes.
     pub fn bound(&self) -> usize
         ensures value { result ≡ plans.bound_of self.now }
-        ensures small { result ≤ 5120 }
+        ensures small { result ≤ MAX_BOUND }
     {
         self.limit as usize + replies_in(&self.ports)
     }

@@ -1,10 +1,11 @@
--- Sums over the numbers below n, where the terms change at one place.
-use Rattle.std.specs.Prelude.{ℕ, ◌≡◌, ◌≢◌, ◌<◌, ◌≤◌, ◌+◌, true, ◌||◌, List, [], ◌∷◌, sum_by, All, AllPairs}
+-- Sums over the numbers below n, where the terms change at one place, and how many items there are, key by key.
+use Rattle.std.specs.Prelude.{ℕ, ◌≡◌, ◌≢◌, ◌<◌, ◌≤◌, ◌+◌, ◌*◌, Bool, true, cond, ◌||◌, ◌==◌, List, [], ◌∷◌, length, sum_by, count_by, All, AllPairs}
 use Rattle.std.specs.List.{range_with_len}
-use Rattle.std.proofs.Common.{refl, sym, ◌∙◌, subst, arith, ⊎_elim, zero, suc, get_or}
+use Rattle.std.proofs.Common.{refl, sym, ap, ◌∙◌, subst, arith, ⊎_elim, zero, suc, get_or, eq-eqb}
 use Rattle.std.proofs.lemmas.Bool.{cases_eq, false≢true, ne_eqb}
 use Rattle.std.proofs.lemmas.List.Elements.{All-head, All-tail}
-use Rattle.std.proofs.lemmas.List.Sums.{sum_by-cons}
+use Rattle.std.proofs.lemmas.List.FromFn.{length-range_with_len}
+use Rattle.std.proofs.lemmas.List.Sums.{sum_by-cons, sum_by-le}
 use Rattle.lists.specs.Lists.{has}
 
 sum_same_from : (f g : ℕ → ℕ) (a n : ℕ) → ((k : ℕ) → a ≤ k → f k ≡ g k) → sum_by f (range_with_len a n) ≡ sum_by g (range_with_len a n)
@@ -59,3 +60,32 @@ sum_changed_in f g (n ∷ ns) i x y once in' here same =
     let first : f n ≡ g n = same n other in
     omega (arith, sum_by-cons f n ns, sum_by-cons g n ns))
     (cases_eq n i)
+
+-- ---- how many items there are, key by key
+
+-- each item counts at its own key
+counted : {X : Type 0} (key : X → ℕ) (n : ℕ) (xs : List X) → All (λ x. key x < n) xs → length xs ≡ sum_by (λ k. count_by (λ x. key x == k) xs) (range_with_len 0 n)
+counted key n [] all = sym (zeros 0 n)
+  where
+    zeros : (a m : ℕ) → sum_by (λ k. 0) (range_with_len a m) ≡ 0
+    zeros a zero = refl
+    zeros a (suc m) = omega (arith, sum_by-cons (λ k. 0) a (range_with_len (a + 1) m), zeros (a + 1) m)
+counted key n (x ∷ xs) all =
+    let one_if : Bool → ℕ = λ b. cond b 1 0 in
+    let rest = counted key n xs (All-tail (λ y. key y < n) x xs all) in
+    let here : key x < n = All-head (λ y. key y < n) x xs all in
+    let one : count_by (λ y. key y == key x) xs + 1 ≡ count_by (λ y. key y == key x) (x ∷ xs) + 0 =
+    omega (arith, sum_by-cons (λ y. cond (key y == key x) 1 0) x xs, ap one_if (eq-eqb (key x) (key x) refl)) in
+    let changed = sum_changed (λ k. count_by (λ y. key y == k) xs) (λ k. count_by (λ y. key y == k) (x ∷ xs)) n (key x) 1 0 here one
+    (λ k other. sym (omega (arith, sum_by-cons (λ y. cond (key y == k) 1 0) x xs, ap one_if (ne_eqb (key x) k (λ e. other (sym e)))))) in
+    omega (arith, rest, changed)
+
+-- where no key has more than so many items, and the keys are below n
+pub length_by_keys : {X : Type 0} (key : X → ℕ) (n most : ℕ) (xs : List X) → All (λ x. key x < n) xs → ((k : ℕ) → count_by (λ x. key x == k) xs ≤ most) → length xs ≤ n * most
+length_by_keys key n most xs all few =
+    omega (
+      arith,
+      counted key n xs all,
+      sum_by-le (λ k. count_by (λ x. key x == k) xs) most (range_with_len 0 n) (λ k d h. few (get_or (range_with_len 0 n) k d)),
+      ap (λ m. m * most) (length-range_with_len 0 n),
+    )

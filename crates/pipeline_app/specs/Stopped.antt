@@ -16,7 +16,7 @@ use Rattle.pipeline_app.specs.declared.report.Untaken.{Untaken}
 use Rattle.pipeline_app.specs.declared.report.Waiting.{Waiting}
 use Rattle.pipeline_app.specs.declared.rig.Rig.{Rig}
 use Rattle.pipeline_app.specs.declared.rig_port.RigPort.{RigPort}
-use Rattle.sched_core.specs.KeptEvents.{kept_at}
+use Rattle.transcripts.specs.Standing.{kept_at}
 
 -- ---- an event in its place
 

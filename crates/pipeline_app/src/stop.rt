@@ -3,7 +3,7 @@
 ghost use Rattle.std.specs.Prelude.{◌≡◌, ◌<◌, ◌++◌, map, flat_map, length, IfOk, OnOk};
 ghost use Rattle.transcripts.specs.Standing.{waiting_at};
 ghost use Rattle.pipeline_app.specs.Rig.{IsRig};
-ghost use Rattle.sched_core.specs.KeptEvents.{kept_at};
+ghost use Rattle.transcripts.specs.Standing.{kept_at};
 ghost use Rattle.pipeline_app.specs.Stopped.{IsReportOf, by_lane, waiting_of, numbers_of, waiting_in, kept_of, kept_in, undelivered_of, undelivered_at, held_of, held_at, untaken_of, untaken_at};
 
 use crate::report::{Held, Kept, Report, Undelivered, Untaken, Waiting};

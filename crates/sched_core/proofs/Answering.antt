@@ -7,7 +7,7 @@ use Rattle.std.proofs.lemmas.List.Elements.{All-head}
 use Rattle.std.proofs.lemmas.List.Sums.{sum_by-set, get_or-le-sum_by}
 use Rattle.transcripts.proofs.ViewLists.{sum_of_map}
 use Rattle.evt_types.specs.Fault.{IsWithinLimits}
-use Rattle.evt_types.specs.Plan.{Plan, queue_of, bound_of, is_ordered}
+use Rattle.evt_types.specs.Plan.{Plan, queue_of, bound_of, is_ordered, kept_room}
 use Rattle.transcripts.specs.Standing.{View, inside_of, entries_of, kept_in, oldest_at, places_at, unanswered_at, answer_place, events_of}
 use Rattle.transcripts.specs.Transcript.{Held}
 use Rattle.evt_types.specs.declared.event.Event.{Event}
@@ -22,16 +22,16 @@ use Rattle.sched_core.proofs.Ordered.{resolve_answers, resolve_keeps}
 use Rattle.sched_core.proofs.Pinned.{oldest_known as known_of, oldest_pinned as pinned_of, pins_answered}
 use Rattle.sched_core.specs.Answered.{places_answered, after_answer}
 use Rattle.sched_core.specs.Inner.{held_of}
-use Rattle.sched_core.specs.Ordered.{ArePlaces, IsOrder, StandsIn, entry_at, entries_at, kept_of, order_at, order_of, outcome_of, waits_at}
+use Rattle.sched_core.specs.Ordered.{ArePlaces, IsOrder, StandsIn, entry_at, entries_at, kept_of, order_at, outcome_of, waits_at, places_in}
 use Rattle.sched_core.specs.Orders.{is_restoring, resolved_in}
 use Rattle.sched_core.specs.Pinned.{ArePins, pins_at, pin_in, with_pin}
-use Rattle.sched_core.specs.View.{waiting_in, next_in, places_in, unanswered_in, entries_in, view_in, IsCore}
+use Rattle.sched_core.specs.View.{waiting_in, next_in, unanswered_in, entries_in, view_in, IsCore}
 use Rattle.sched_core.specs.declared.state.Core.TheInside.{Inside}
 
 -- ---- a queue's buffer
 
 -- a queue restores an order where its buffer has room for places
-pub restoring_is : (p : Plan) (r : Reordering) (q : ℕ) → IsWithinLimits p → q < length p.queues → r.depth ≡ order_of p q → is_restoring r ≡ is_ordered (queue_of p q).kind
+pub restoring_is : (p : Plan) (r : Reordering) (q : ℕ) → IsWithinLimits p → q < length p.queues → r.depth ≡ kept_room (queue_of p q) → is_restoring r ≡ is_ordered (queue_of p q).kind
 restoring_is p r q limits h depth = by_kind (cases_Bool (is_ordered (queue_of p q).kind))
   where
     by_kind : (is_ordered (queue_of p q).kind ≡ true) ⊎ (is_ordered (queue_of p q).kind ≡ false) → is_restoring r ≡ is_ordered (queue_of p q).kind
@@ -144,21 +144,21 @@ resolved_by a i y f core h oldest there named = by_kind (is_ordered (queue_of a.
     lane : i < length us
     lane = subst (λ n. i < n) (sym (length-map a.lanes.items entries_in)) h
 
-    depth : r.depth ≡ order_of a.shape y.queue
+    depth : r.depth ≡ kept_room (queue_of a.shape y.queue)
     depth = (core.places.each y.queue there).room
 
     by_kind : (b : Bool) → is_ordered (queue_of a.shape y.queue).kind ≡ b → IsResolved a i y f b
     by_kind true ordered =
         let restoring : is_restoring r ≡ true = restoring_is a.shape r y.queue core.limits there depth ∙ ordered in
         let now : resolved_in r y.place f ≡ after_resolve r y.place f = cond-true (is_restoring r) (after_resolve r y.place f) r restoring in
-        let order : IsOrder a.shape (order_of a.shape y.queue) (waits_at a.queues.items y.queue) r = core.places.each y.queue there in
+        let order : IsOrder a.shape (kept_room (queue_of a.shape y.queue)) (waits_at a.queues.items y.queue) r = core.places.each y.queue there in
         let stands : StandsIn r y = core.places.held i 0 y oldest ordered in
         record {
           restoring = restoring;
           places = subst (λ s. ArePlaces a.shape a.queues.items (set a.orders y.queue s) (set us i (drop 1 (entries_at us i)))) (sym now)
               (answered_place a.shape a.queues.items a.orders us i y f core.places lane oldest ordered named);
-          kept = ap (λ (s : Reordering). kept_of s.places) now ∙ (resolve_keeps a.shape (order_of a.shape y.queue) (waits_at a.queues.items y.queue) r y f order stands ∙ ap (λ n. kept_of r.places + n) (more_kept f));
-          shown = ap (λ (s : Reordering). s.places) now ∙ resolve_answers a.shape (order_of a.shape y.queue) (waits_at a.queues.items y.queue) r y f order stands;
+          kept = ap (λ (s : Reordering). kept_of s.places) now ∙ (resolve_keeps a.shape (kept_room (queue_of a.shape y.queue)) (waits_at a.queues.items y.queue) r y f order stands ∙ ap (λ n. kept_of r.places + n) (more_kept f));
+          shown = ap (λ (s : Reordering). s.places) now ∙ resolve_answers a.shape (kept_room (queue_of a.shape y.queue)) (waits_at a.queues.items y.queue) r y f order stands;
         }
     by_kind false plain =
         let restoring : is_restoring r ≡ false = restoring_is a.shape r y.queue core.limits there depth ∙ plain in

@@ -8,6 +8,7 @@ use Rattle.std.proofs.lemmas.List.Sums.{sum_by-le, sum_by-set, sum-map, get_or-l
 use Rattle.std.proofs.lemmas.Option.{same_Some}
 use Rattle.transcripts.proofs.ViewLists.{event_in_at, event_in_some, sum_of_map}
 use Rattle.evt_types.specs.Fault.{IsWithinLimits}
+use Rattle.evt_types.specs.declared.shape.TheConstants.{MAX_ORDER, MAX_QUEUES}
 use Rattle.evt_types.specs.Plan.{Plan, is_ordered, kept_room, level_of, lanes_of, depth_of, bound_of}
 use Rattle.transcripts.specs.Standing.{View, event_in, inside_of, entries_of, kept_in, may_enter, may_answer, oldest_at, waiting_at, next_at, places_at, unanswered_at, after_accept}
 use Rattle.evt_types.specs.Place.{Place}
@@ -18,8 +19,8 @@ use Rattle.evt_types.specs.declared.event.Numbered.{Numbered}
 use Rattle.order_parts.specs.Reorder.{Reordering, empty}
 use Rattle.sched_core.proofs.OrderMoves.{accepted_places}
 use Rattle.sched_core.specs.Inner.{IsQueueOf, HaveRoom, held_of}
-use Rattle.sched_core.specs.Ordered.{ArePlaces, kept_of, order_at, waits_at}
-use Rattle.sched_core.specs.View.{waiting_in, next_in, places_in, unanswered_in, entries_in, view_in, IsCore}
+use Rattle.sched_core.specs.Ordered.{ArePlaces, kept_of, order_at, waits_at, places_in}
+use Rattle.sched_core.specs.View.{waiting_in, next_in, unanswered_in, entries_in, view_in, IsCore}
 use Rattle.order_parts.specs.declared.history.Entry.{Entry}
 use Rattle.order_parts.specs.History.{Entries}
 use Rattle.sched_core.specs.Waits.{Waits, AreWaits, at_level, no_waits, with_event}
@@ -229,12 +230,12 @@ only_level a i old w core h is waits k d lt same =
     ap level_of (same_Some u.event w.event (sym other ∙ (ap (event_in old.waiting) same ∙ mine)))
 
 -- no more events are kept than the ordered queues have places
-pub few_kept : (p : Plan) → IsWithinLimits p → sum_by kept_room p.queues ≤ 4096
+pub few_kept : (p : Plan) → IsWithinLimits p → sum_by kept_room p.queues ≤ MAX_QUEUES * MAX_ORDER
 few_kept p limits =
-    let all : sum_by kept_room p.queues ≤ length p.queues * 256 = sum_by-le kept_room 256 p.queues (λ k d h. by_kind (get_or p.queues k d) (limits.orders k d h) (cases_Bool (is_ordered (get_or p.queues k d).kind))) in
+    let all : sum_by kept_room p.queues ≤ length p.queues * MAX_ORDER = sum_by-le kept_room MAX_ORDER p.queues (λ k d h. by_kind (get_or p.queues k d) (limits.orders k d h) (cases_Bool (is_ordered (get_or p.queues k d).kind))) in
     let few = limits.queue_count in
     omega arith
   where
-    by_kind : (q : QueueDraft) → (is_ordered q.kind ≡ true → (1 ≤ q.order) × (q.order ≤ 256)) → (is_ordered q.kind ≡ true) ⊎ (is_ordered q.kind ≡ false) → kept_room q ≤ 256
-    by_kind q within (inl ordered) = subst (λ n. n ≤ 256) (sym (cond-true (is_ordered q.kind) q.order 0 ordered)) (within ordered).1
-    by_kind q within (inr plain) = subst (λ n. n ≤ 256) (sym (cond-false (is_ordered q.kind) q.order 0 plain)) (omega arith)
+    by_kind : (q : QueueDraft) → (is_ordered q.kind ≡ true → (1 ≤ q.order) × (q.order ≤ MAX_ORDER)) → (is_ordered q.kind ≡ true) ⊎ (is_ordered q.kind ≡ false) → kept_room q ≤ MAX_ORDER
+    by_kind q within (inl ordered) = subst (λ n. n ≤ MAX_ORDER) (sym (cond-true (is_ordered q.kind) q.order 0 ordered)) (within ordered).1
+    by_kind q within (inr plain) = subst (λ n. n ≤ MAX_ORDER) (sym (cond-false (is_ordered q.kind) q.order 0 plain)) (omega arith)

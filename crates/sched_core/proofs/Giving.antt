@@ -7,7 +7,7 @@ use Rattle.std.proofs.lemmas.List.Elements.{All-set}
 use Rattle.std.proofs.lemmas.List.Sums.{sum_by-append}
 use Rattle.transcripts.proofs.ViewLists.{one_less, event_in_some}
 use Rattle.transcripts.specs.Choice.{HasNoOther, IsOffer}
-use Rattle.evt_types.specs.Plan.{queue_of, bound_of, slot_of, is_atomic, is_ordered}
+use Rattle.evt_types.specs.Plan.{queue_of, bound_of, slot_of, is_atomic, is_ordered, kept_room}
 use Rattle.transcripts.specs.Standing.{View, event_in, slot_in, waiting_at, places_at, unanswered_at, after_give}
 use Rattle.evt_types.specs.Place.{Place}
 use Rattle.transcripts.specs.Transcript.{Held}
@@ -21,10 +21,10 @@ use Rattle.sched_core.proofs.Cores.{held_sum, in_view, kept_after, next_here, ne
 use Rattle.sched_core.proofs.OrderMoves.{given_place, given_plain}
 use Rattle.sched_core.proofs.Pinned.{alone_may, pin_room, slot_within, pins_given}
 use Rattle.sched_core.specs.Inner.{IsQueueOf, held_of}
-use Rattle.sched_core.specs.Ordered.{ArePlaces, entries_at, kept_of, order_at, order_of, waits_at}
+use Rattle.sched_core.specs.Ordered.{ArePlaces, entries_at, kept_of, order_at, waits_at, places_in}
 use Rattle.sched_core.specs.Orders.{has_place, handed, is_restoring}
 use Rattle.sched_core.specs.Pinned.{slots_of, pin_in, with_pin, ArePins}
-use Rattle.sched_core.specs.View.{waiting_in, next_in, places_in, unanswered_in, entries_in, view_in, IsCore}
+use Rattle.sched_core.specs.View.{waiting_in, next_in, unanswered_in, entries_in, view_in, IsCore}
 use Rattle.sched_core.specs.Waits.{Waits, AreWaits, without_number}
 use Rattle.sched_core.specs.declared.state.Core.TheInside.{Inside}
 
@@ -63,7 +63,7 @@ offer_place a v l i w core same offered = by_kind (cases_Bool (is_ordered (queue
     offer : IsOffer (view_in a) l i w
     offer = subst (λ u. IsOffer u l i w) (sym same) offered
 
-    depth : r.depth ≡ order_of a.shape i
+    depth : r.depth ≡ kept_room (queue_of a.shape i)
     depth = (core.places.each i offer.queue).room
 
     by_kind : (is_ordered (queue_of a.shape i).kind ≡ true) ⊎ (is_ordered (queue_of a.shape i).kind ≡ false) → IsTrue (has_place r)
@@ -91,7 +91,7 @@ handed_by a l i w y core offer waits below k queue number place = by_kind (is_or
     lane : l < length us
     lane = subst (λ n. l < n) (sym (length-map a.lanes.items entries_in)) k
 
-    depth : r.depth ≡ order_of a.shape i
+    depth : r.depth ≡ kept_room (queue_of a.shape i)
     depth = (core.places.each i offer.queue).room
 
     at_queue : (P : ℕ → Type 0) → P i → P y.queue

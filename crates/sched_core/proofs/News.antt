@@ -9,7 +9,7 @@ use Rattle.std.specs.List.{sum, sum_by}
 use Rattle.transcripts.proofs.ViewLists.{sum_of_map, sum_of_none}
 use Rattle.transcripts.proofs.WholeViews.{waiting_at_none, accepted_at_none, unanswered_at_none, places_at_none}
 use Rattle.evt_types.specs.Fault.{IsWithinLimits}
-use Rattle.evt_types.specs.Plan.{Plan, level_of, kept_room, lanes_of, depth_of, bound_of}
+use Rattle.evt_types.specs.Plan.{Plan, level_of, kept_room, lanes_of, depth_of, bound_of, queue_of}
 use Rattle.evt_types.specs.Place.{Place}
 use Rattle.transcripts.specs.Standing.{view_of, places}
 use Rattle.transcripts.specs.Transcript.{Held, waiting, accepted, unanswered_slots}
@@ -18,10 +18,10 @@ use Rattle.evt_types.specs.declared.event.Numbered.{Numbered}
 use Rattle.order_parts.specs.Pins.{Pin}
 use Rattle.order_parts.specs.Reorder.{Reordering, empty}
 use Rattle.sched_core.proofs.OrderFacts.{new_places, order_small}
-use Rattle.sched_core.specs.Ordered.{kept_of, order_at, order_of}
+use Rattle.sched_core.specs.Ordered.{kept_of, order_at, places_in}
 use Rattle.sched_core.specs.Inner.{IsQueueOf, IsEmptyQueue, AreEmptyQueues, IsBare, IsEmptyLane, AreEmptyLanes, held_of}
 use Rattle.sched_core.specs.Pinned.{AreFreePins}
-use Rattle.sched_core.specs.View.{waiting_in, next_in, places_in, unanswered_in, entries_in, view_in, IsCore}
+use Rattle.sched_core.specs.View.{waiting_in, next_in, unanswered_in, entries_in, view_in, IsCore}
 use Rattle.order_parts.specs.declared.history.Entry.{Entry}
 use Rattle.order_parts.specs.History.{Entries}
 use Rattle.sched_core.specs.Waits.{Waits, AreWaits, no_waits}
@@ -88,7 +88,7 @@ no_places p = All-map (λ (ps : List Place). ps ≡ []) places_in (new_orders p)
 nothing_kept : (p : Plan) → sum_by kept_of (map places_in (new_orders p)) ≡ 0
 nothing_kept p = sum_of_none kept_of (map places_in (new_orders p)) (All-weaker (λ (ps : List Place). ps ≡ []) (λ ps. kept_of ps ≡ 0) (λ ps e. ap kept_of e) (map places_in (new_orders p)) (no_places p))
 
-fresh_order : (p : Plan) (q : ℕ) → q < length p.queues → order_at (new_orders p) q ≡ empty (order_of p q)
+fresh_order : (p : Plan) (q : ℕ) → q < length p.queues → order_at (new_orders p) q ≡ empty (kept_room (queue_of p q))
 fresh_order p q h = get_or-map (λ (d : QueueDraft). empty (kept_room d)) p.queues q _ (empty 0) h
 
 nothing_held : (ls : List Entries) (p : Plan) (n : ℕ) → AreEmptyLanes p n ls → sum_by (λ (xs : List Held). length xs) (map unanswered_in ls) ≡ 0

@@ -4,26 +4,26 @@ use Rattle.std.proofs.lemmas.Bool.{cases_Bool, cond-true, cond-false}
 use Rattle.std.proofs.lemmas.List.Elements.{All-nil, All-head, All-tail}
 use Rattle.std.proofs.lemmas.List.Sums.{sum_by-cons}
 use Rattle.std.proofs.lemmas.Option.{none-some}
-use Rattle.evt_types.specs.Plan.{Plan, queue_of, is_ordered}
+use Rattle.evt_types.specs.Plan.{Plan, queue_of, is_ordered, kept_room}
 use Rattle.evt_types.specs.Place.{Place}
 use Rattle.evt_types.specs.declared.draft.QueueDraft.{QueueDraft}
 use Rattle.evt_types.specs.declared.event.Kind.TheVariants.{Parallel}
 use Rattle.order_parts.specs.Reorder.{Reordering, empty, oldest_answered}
 use Rattle.order_parts.specs.declared.history.Entry.{Entry}
-use Rattle.sched_core.specs.Ordered.{ArePlaces, IsOrder, KeepsOne, IsGivenOf, order_of, order_at, waits_at, entries_at, entry_at, kept_of, places_in}
+use Rattle.sched_core.specs.Ordered.{ArePlaces, IsOrder, KeepsOne, IsGivenOf, order_at, waits_at, entries_at, entry_at, kept_of, places_in}
 use Rattle.sched_core.specs.Waits.{Waits}
 use Rattle.sched_core.proofs.Ordered.{leaving_is}
 
 -- ---- nothing has happened
 
 pub new_places : (p : Plan) (ws : List Waits) (rs : List Reordering) (us : List (List Entry)) → length ws ≡ length p.queues → length rs ≡ length p.queues
-    → ((q : ℕ) → q < length p.queues → order_at rs q ≡ empty (order_of p q)) → ((q : ℕ) → q < length p.queues → order_of p q < 2 ^ 64)
+    → ((q : ℕ) → q < length p.queues → order_at rs q ≡ empty (kept_room (queue_of p q))) → ((q : ℕ) → q < length p.queues → kept_room (queue_of p q) < 2 ^ 64)
     → All (λ (ys : List Entry). ys ≡ []) us → ArePlaces p ws rs us
 new_places p ws rs us queues count fresh small bare =
     record {
       queues = queues;
       count = count;
-      each = λ q h. subst (IsOrder p (order_of p q) (waits_at ws q)) (sym (fresh q h)) (order_new (order_of p q) (waits_at ws q) (small q h));
+      each = λ q h. subst (IsOrder p (kept_room (queue_of p q)) (waits_at ws q)) (sym (fresh q h)) (order_new (kept_room (queue_of p q)) (waits_at ws q) (small q h));
       held = λ l k y at. absurd (none_there us bare l k y at);
       once = λ l m j k y z at. absurd (none_there us bare l j y at);
     }
@@ -50,10 +50,10 @@ new_places p ws rs us queues count fresh small bare =
     none_there xs all l k y at = none-some y (sym (ap (λ ys. slice_get ys k) (bare_at xs all l)) ∙ at)
 
 -- a depth that is within the limits is small
-pub order_small : (p : Plan) (q : ℕ) → All (λ (d : QueueDraft). is_ordered d.kind ≡ true → (1 ≤ d.order) × (d.order ≤ 256)) p.queues → q < length p.queues → order_of p q < 2 ^ 64
+pub order_small : (p : Plan) (q : ℕ) → All (λ (d : QueueDraft). is_ordered d.kind ≡ true → (1 ≤ d.order) × (d.order ≤ 256)) p.queues → q < length p.queues → kept_room (queue_of p q) < 2 ^ 64
 order_small p q limits h = by_kind (cases_Bool (is_ordered (queue_of p q).kind))
   where
-    by_kind : (is_ordered (queue_of p q).kind ≡ true) ⊎ (is_ordered (queue_of p q).kind ≡ false) → order_of p q < 2 ^ 64
+    by_kind : (is_ordered (queue_of p q).kind ≡ true) ⊎ (is_ordered (queue_of p q).kind ≡ false) → kept_room (queue_of p q) < 2 ^ 64
     by_kind (inl ordered) =
         let most = limits q (record { kind = Parallel; priority = 0; slots = 0; order = 0; single = false }) h ordered in
         subst (λ n. n < 2 ^ 64) (sym (cond-true (is_ordered (queue_of p q).kind) (queue_of p q).order 0 ordered)) (small (queue_of p q).order most.1)
@@ -65,12 +65,12 @@ order_small p q limits h = by_kind (cases_Bool (is_ordered (queue_of p q).kind))
 -- ---- the buffers and the view
 
 pub places_within : (p : Plan) (ws : List Waits) (rs : List Reordering) (us : List (List Entry)) (q : ℕ) → ArePlaces p ws rs us → q < length p.queues
-    → length (order_at rs q).places ≤ order_of p q
+    → length (order_at rs q).places ≤ kept_room (queue_of p q)
 places_within p ws rs us q a h = subst (λ n. length (order_at rs q).places ≤ n) (a.each q h).room (a.each q h).within
 
 -- no more events are kept than there are places
 pub kept_within : (p : Plan) (ws : List Waits) (rs : List Reordering) (us : List (List Entry)) (q : ℕ) → ArePlaces p ws rs us → q < length p.queues
-    → kept_of (order_at rs q).places ≤ order_of p q
+    → kept_of (order_at rs q).places ≤ kept_room (queue_of p q)
 kept_within p ws rs us q a h =
     let le = places_within p ws rs us q a h in
     let each = kept_each (order_at rs q).places (a.each q h).keeps in

@@ -4,13 +4,13 @@ use Rattle.std.proofs.lemmas.Bool.{cases_eq, cases_lt, false≢true, cond-true, 
 use Rattle.std.proofs.lemmas.List.{length-set, length_push, get_or-set_same, get_or-set_other, get_or_past, set-get_or}
 use Rattle.std.proofs.lemmas.Option.{none-some, same_Some, slice_get_within}
 use Rattle.lists.proofs.Lists.{slice_get-append_left, slice_get-last, eqb_same, eqb_other, All-slice_get}
-use Rattle.evt_types.specs.Plan.{Plan, queue_of, is_ordered}
+use Rattle.evt_types.specs.Plan.{Plan, queue_of, is_ordered, kept_room}
 use Rattle.evt_types.specs.Place.{Place}
 use Rattle.evt_types.specs.declared.event.Event.{Event}
 use Rattle.evt_types.specs.declared.event.Numbered.{Numbered}
 use Rattle.order_parts.specs.Reorder.{Reordering, empty, next_number, open_place, place_at, is_open, after_hand, after_resolve, after_leave}
 use Rattle.order_parts.specs.declared.history.Entry.{Entry}
-use Rattle.sched_core.specs.Ordered.{ArePlaces, IsOrder, HavePlaces, HasPlace, AreOnce, StandsIn, order_of, order_at, waits_at, entries_at, entry_at}
+use Rattle.sched_core.specs.Ordered.{ArePlaces, IsOrder, HavePlaces, HasPlace, AreOnce, StandsIn, order_at, waits_at, entries_at, entry_at}
 use Rattle.sched_core.specs.Waits.{Waits, no_waits, with_event, without_number}
 use Rattle.sched_core.proofs.OrderLists.{slice_get-drop_one}
 use Rattle.sched_core.proofs.Ordered.{order_accepts, order_gives, order_hands, order_answers, order_leaves, waits_apart, stands_hands, stands_new, stands_answers, stands_leaves, may_resolve}
@@ -18,29 +18,29 @@ use Rattle.sched_core.proofs.Ordered.{order_accepts, order_gives, order_hands, o
 -- ---- one queue's buffer changes, and what waits there
 
 abbrev Each : Plan → List Waits → List Reordering → Type 0
-Each p ws rs = (q : ℕ) → q < length p.queues → IsOrder p (order_of p q) (waits_at ws q) (order_at rs q)
+Each p ws rs = (q : ℕ) → q < length p.queues → IsOrder p (kept_room (queue_of p q)) (waits_at ws q) (order_at rs q)
 
 each_set : (p : Plan) (ws : List Waits) (rs : List Reordering) (q : ℕ) (w : Waits) (r : Reordering) → q < length ws → q < length rs → Each p ws rs
-    → IsOrder p (order_of p q) w r → Each p (set ws q w) (set rs q r)
+    → IsOrder p (kept_room (queue_of p q)) w r → Each p (set ws q w) (set rs q r)
 each_set p ws rs q w r h k each new i lt = by_case (cases_eq i q)
   where
-    here : IsOrder p (order_of p q) (waits_at (set ws q w) q) (order_at (set rs q r) q)
+    here : IsOrder p (kept_room (queue_of p q)) (waits_at (set ws q w) q) (order_at (set rs q r) q)
     here =
-        subst (IsOrder p (order_of p q) (waits_at (set ws q w) q)) (sym (get_or-set_same rs q r (empty 0) k))
-        (subst (λ x. IsOrder p (order_of p q) x r) (sym (get_or-set_same ws q w (no_waits 0) h)) new)
+        subst (IsOrder p (kept_room (queue_of p q)) (waits_at (set ws q w) q)) (sym (get_or-set_same rs q r (empty 0) k))
+        (subst (λ x. IsOrder p (kept_room (queue_of p q)) x r) (sym (get_or-set_same ws q w (no_waits 0) h)) new)
 
-    by_case : (i ≡ q) ⊎ (i ≢ q) → IsOrder p (order_of p i) (waits_at (set ws q w) i) (order_at (set rs q r) i)
-    by_case (inl same) = subst (λ n. IsOrder p (order_of p n) (waits_at (set ws q w) n) (order_at (set rs q r) n)) (sym same) here
+    by_case : (i ≡ q) ⊎ (i ≢ q) → IsOrder p (kept_room (queue_of p i)) (waits_at (set ws q w) i) (order_at (set rs q r) i)
+    by_case (inl same) = subst (λ n. IsOrder p (kept_room (queue_of p n)) (waits_at (set ws q w) n) (order_at (set rs q r) n)) (sym same) here
     by_case (inr other) =
-        subst (IsOrder p (order_of p i) (waits_at (set ws q w) i)) (sym (get_or-set_other rs q i r (empty 0) other))
-        (subst (λ x. IsOrder p (order_of p i) x (order_at rs i)) (sym (get_or-set_other ws q i w (no_waits 0) other)) (each i lt))
+        subst (IsOrder p (kept_room (queue_of p i)) (waits_at (set ws q w) i)) (sym (get_or-set_other rs q i r (empty 0) other))
+        (subst (λ x. IsOrder p (kept_room (queue_of p i)) x (order_at rs i)) (sym (get_or-set_other ws q i w (no_waits 0) other)) (each i lt))
 
 each_waits : (p : Plan) (ws : List Waits) (rs : List Reordering) (q : ℕ) (w : Waits) → q < length ws → q < length rs → Each p ws rs
-    → IsOrder p (order_of p q) w (order_at rs q) → Each p (set ws q w) rs
+    → IsOrder p (kept_room (queue_of p q)) w (order_at rs q) → Each p (set ws q w) rs
 each_waits p ws rs q w h k each new = subst (Each p (set ws q w)) (set-get_or rs q (empty 0)) (each_set p ws rs q w (order_at rs q) h k each new)
 
 each_orders : (p : Plan) (ws : List Waits) (rs : List Reordering) (q : ℕ) (r : Reordering) → q < length ws → q < length rs → Each p ws rs
-    → IsOrder p (order_of p q) (waits_at ws q) r → Each p ws (set rs q r)
+    → IsOrder p (kept_room (queue_of p q)) (waits_at ws q) r → Each p ws (set rs q r)
 each_orders p ws rs q r h k each new = subst (λ us. Each p us (set rs q r)) (set-get_or ws q (no_waits 0)) (each_set p ws rs q (waits_at ws q) r h k each new)
 
 -- the events that stand in it
@@ -162,7 +162,7 @@ accepted_places p ws rs us q e a h =
     record {
       queues = length-set ws q (with_event (waits_at ws q) e) ∙ a.queues;
       count = a.count;
-      each = each_waits p ws rs q (with_event (waits_at ws q) e) (omega arith) (omega arith) a.each (order_accepts p (order_of p q) (waits_at ws q) (order_at rs q) e (a.each q h));
+      each = each_waits p ws rs q (with_event (waits_at ws q) e) (omega arith) (omega arith) a.each (order_accepts p (kept_room (queue_of p q)) (waits_at ws q) (order_at rs q) e (a.each q h));
       held = a.held;
       once = a.once;
     }
@@ -184,9 +184,9 @@ waits_other : (p : Plan) (ws : List Waits) (rs : List Reordering) (us : List (Li
     → Contains (waits_at ws y.queue).waiting v → (m j : ℕ) (z : Entry) → entry_at us m j ≡ Some z → z.queue ≡ y.queue → is_ordered (queue_of p z.queue).kind ≡ true → z.number ≢ y.number
 waits_other p ws rs us v y a is waits m j z at queue ordered number =
     let stands : StandsIn (order_at rs z.queue) z = a.held m j z at ordered in
-    let o : IsOrder p (order_of p z.queue) (waits_at ws z.queue) (order_at rs z.queue) = a.each z.queue (queue_there p ws rs us m j z a at ordered) in
+    let o : IsOrder p (kept_room (queue_of p z.queue)) (waits_at ws z.queue) (order_at rs z.queue) = a.each z.queue (queue_there p ws rs us m j z a at ordered) in
     let c : Contains (waits_at ws z.queue).waiting v = subst (λ q. Contains (waits_at ws q).waiting v) (sym queue) waits in
-    let apart = waits_apart p (order_of p z.queue) (waits_at ws z.queue) (order_at rs z.queue) v o c in
+    let apart = waits_apart p (kept_room (queue_of p z.queue)) (waits_at ws z.queue) (order_at rs z.queue) v o c in
     All-slice_get (λ (x : Place). v.number ≢ x.number) (order_at rs z.queue).places stands.0 (open_place z.number) apart stands.1.there (sym (number ∙ is))
 
 -- of a queue that restores no order
@@ -201,7 +201,7 @@ given_plain p ws rs us l y a h lane plain =
     record {
       queues = length-set ws q w ∙ a.queues;
       count = a.count;
-      each = each_waits p ws rs q w (omega arith) (omega arith) a.each (order_gives p (order_of p q) (waits_at ws q) (order_at rs q) y.number (a.each q h));
+      each = each_waits p ws rs q w (omega arith) (omega arith) a.each (order_gives p (kept_room (queue_of p q)) (waits_at ws q) (order_at rs q) y.number (a.each q h));
       held = held_pushed p rs us l y lane a.held (λ ordered. absurd (false≢true (sym plain ∙ ordered)));
       once = once_pushed p us l y lane a.once (λ m j z at queue ordered number. false≢true (sym plain ∙ subst (λ i. is_ordered (queue_of p i).kind ≡ true) queue ordered));
     }
@@ -217,9 +217,9 @@ given_place p ws rs us l v y a h lane waits is lt room place =
     let q : ℕ = y.queue in
     let r : Reordering = order_at rs q in
     let w : Waits = without_number (waits_at ws q) y.number in
-    let new : IsOrder p (order_of p q) w (after_hand r y.number) =
-    subst (λ n. IsOrder p (order_of p q) (without_number (waits_at ws q) n) (after_hand r n)) (sym is)
-    (order_hands p (order_of p q) (waits_at ws q) r v (a.each q h) waits lt room) in
+    let new : IsOrder p (kept_room (queue_of p q)) w (after_hand r y.number) =
+    subst (λ n. IsOrder p (kept_room (queue_of p q)) (without_number (waits_at ws q) n) (after_hand r n)) (sym is)
+    (order_hands p (kept_room (queue_of p q)) (waits_at ws q) r v (a.each q h) waits lt room) in
     let there : q < length rs = omega arith in
     let others : HavePlaces p (set rs q (after_hand r y.number)) us =
     λ m j z at. has_place_set p rs q (after_hand r y.number) z there (λ same ordered stands. stands_hands r z y.number stands) (a.held m j z at) in
@@ -251,7 +251,7 @@ answered_plain p ws rs us l a lane =
 pub answer_is_open : (p : Plan) (ws : List Waits) (rs : List Reordering) (us : List (List Entry)) (l k : ℕ) (y : Entry) → ArePlaces p ws rs us → entry_at us l k ≡ Some y
     → is_ordered (queue_of p y.queue).kind ≡ true → IsTrue (is_open (place_at (order_at rs y.queue) y.place))
 answer_is_open p ws rs us l k y a at ordered =
-    may_resolve p (order_of p y.queue) (waits_at ws y.queue) (order_at rs y.queue) y (a.each y.queue (queue_there p ws rs us l k y a at ordered)) (a.held l k y at ordered)
+    may_resolve p (kept_room (queue_of p y.queue)) (waits_at ws y.queue) (order_at rs y.queue) y (a.each y.queue (queue_there p ws rs us l k y a at ordered)) (a.held l k y at ordered)
 
 -- of an ordered queue: its place is resolved
 pub answered_place : (p : Plan) (ws : List Waits) (rs : List Reordering) (us : List (List Entry)) (l : ℕ) (y : Entry) (f : Option Event) → ArePlaces p ws rs us
@@ -263,17 +263,17 @@ answered_place p ws rs us l y f a lane at ordered named =
     let q : ℕ = y.queue in
     let r : Reordering = order_at rs q in
     let there : q < length p.queues = queue_there p ws rs us l 0 y a at ordered in
-    let o : IsOrder p (order_of p q) (waits_at ws q) r = a.each q there in
+    let o : IsOrder p (kept_room (queue_of p q)) (waits_at ws q) r = a.each q there in
     let mine : StandsIn r y = a.held l 0 y at ordered in
     let here : q < length rs = omega arith in
     record {
       queues = a.queues;
       count = length-set rs q (after_resolve r y.place f) ∙ a.count;
-      each = each_orders p ws rs q (after_resolve r y.place f) (omega arith) here a.each (order_answers p (order_of p q) (waits_at ws q) r y f o mine named);
+      each = each_orders p ws rs q (after_resolve r y.place f) (omega arith) here a.each (order_answers p (kept_room (queue_of p q)) (waits_at ws q) r y f o mine named);
       held = λ m j z is.
           let old : entry_at us m (shift l m + j) ≡ Some z = sym (entry_popped us l m j lane) ∙ is in
           has_place_set p rs q (after_resolve r y.place f) z here
-          (λ same restores stands. stands_answers p (order_of p q) (waits_at ws q) r y z f o mine (others_differ p us l m j y z a.once at old same restores) stands)
+          (λ same restores stands. stands_answers p (kept_room (queue_of p q)) (waits_at ws q) r y z f o mine (others_differ p us l m j y z a.once at old same restores) stands)
           (a.held m (shift l m + j) z old);
       once = once_popped p us l lane a.once;
     }
@@ -290,7 +290,7 @@ left_places p ws rs us q a h =
     record {
       queues = a.queues;
       count = length-set rs q (after_leave r) ∙ a.count;
-      each = each_orders p ws rs q (after_leave r) (omega arith) here a.each (order_leaves p (order_of p q) (waits_at ws q) r (a.each q h));
+      each = each_orders p ws rs q (after_leave r) (omega arith) here a.each (order_leaves p (kept_room (queue_of p q)) (waits_at ws q) r (a.each q h));
       held = λ l k y at. has_place_set p rs q (after_leave r) y here (λ same ordered stands. stands_leaves r y stands) (a.held l k y at);
       once = a.once;
     }

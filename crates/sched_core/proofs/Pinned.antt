@@ -8,6 +8,7 @@ use Rattle.std.proofs.lemmas.Option.{same_Some}
 use Rattle.lists.proofs.Lists.{eqb_same}
 use Rattle.transcripts.proofs.ViewLists.{sum_of_none}
 use Rattle.evt_types.specs.Fault.{IsWithinLimits, IsBetween}
+use Rattle.evt_types.specs.declared.shape.TheConstants.{MAX_DEPTH, MAX_SLOTS}
 use Rattle.evt_types.specs.Plan.{Plan, PortPlan, queue_of, slot_of, depth_of, is_atomic}
 use Rattle.transcripts.specs.Transcript.{Held}
 use Rattle.evt_types.specs.declared.draft.QueueDraft.{QueueDraft}
@@ -189,13 +190,13 @@ alone_may p us ps q slot l pins h alone = by_kind (cases_Bool (is_atomic (queue_
 
 -- a lane that isn't full leaves room in a pin
 pub pin_room : (p : Plan) (us : List (List Held)) (ps : List (List Pin)) (q slot l : ℕ) → ArePins p us ps → IsWithinLimits p → q < length p.queues → l < length p.ports
-    → length (entries_at us l) < depth_of p l → may_pin (pin_in ps q slot) l ≡ true → (pin_in ps q slot).count < 64
+    → length (entries_at us l) < depth_of p l → may_pin (pin_in ps q slot) l ≡ true → (pin_in ps q slot).count < MAX_DEPTH
 pin_room p us ps q slot l pins limits h k room may = by_kind (cases_Bool (is_atomic (queue_of p q).kind))
   where
-    by_kind : (is_atomic (queue_of p q).kind ≡ true) ⊎ (is_atomic (queue_of p q).kind ≡ false) → (pin_in ps q slot).count < 64
+    by_kind : (is_atomic (queue_of p q).kind ≡ true) ⊎ (is_atomic (queue_of p q).kind ≡ false) → (pin_in ps q slot).count < MAX_DEPTH
     by_kind (inl atomic) =
         let unknown : PortPlan = record { threshold = 0; depth = 0; replies = 0; implicit = false; links = [] } in
-        let depth : IsBetween 1 64 (depth_of p l) = limits.depths l unknown k in
+        let depth : IsBetween 1 MAX_DEPTH (depth_of p l) = limits.depths l unknown k in
         let few = count_by-le-length (is_of q slot) (entries_at us l) in
         let all = pins.held q slot l atomic ∙ count_on_may l (pin_in ps q slot) may in
         omega arith
@@ -205,7 +206,7 @@ pin_room p us ps q slot l pins limits h k room may = by_kind (cases_Bool (is_ato
 pub slot_within : (p : Plan) (q flow : ℕ) → IsWithinLimits p → q < length p.queues → is_atomic (queue_of p q).kind ≡ true → slot_of p q flow < slots_of p q
 slot_within p q flow limits h atomic =
     let unknown : QueueDraft = record { kind = Parallel; priority = 0; slots = 0; order = 0; single = false } in
-    let some : IsBetween 1 64 (queue_of p q).slots = limits.slots q unknown h atomic in
+    let some : IsBetween 1 MAX_SLOTS (queue_of p q).slots = limits.slots q unknown h atomic in
     let slot = cond-true (is_atomic (queue_of p q).kind) (flow % (queue_of p q).slots) 0 atomic in
     let slots = cond-true (is_atomic (queue_of p q).kind) (queue_of p q).slots 0 atomic in
     omega arith

@@ -1,6 +1,5 @@
 pub mod Answered
 pub mod Inner
-pub mod KeptEvents
 pub mod Merge
 pub mod Offered
 pub mod Ordered
@@ -9,7 +8,6 @@ pub mod Pinned
 pub mod Settling
 pub mod Shutting
 pub mod Skipped
-pub mod Sweep
 pub mod Taken
 pub mod View
 pub mod Waits

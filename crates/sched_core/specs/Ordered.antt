@@ -1,6 +1,6 @@
 -- What holds of the reorder buffers: the places of each ordered queue's, and the place of each unanswered event.
-use Rattle.std.specs.Prelude.{ℕ, ◌≡◌, ◌≢◌, ◌<◌, ◌≤◌, ◌^◌, true, List, [], length, sum_by, slice_get, slice_index_or, Option, Some, None, All, AllPairs, if◌then◌else◌}
-use Rattle.evt_types.specs.Plan.{Plan, queue_of, is_ordered}
+use Rattle.std.specs.Prelude.{ℕ, ◌≡◌, ◌≢◌, ◌<◌, ◌≤◌, ◌^◌, true, List, [], length, sum_by, slice_get, slice_index_or, Option, Some, None, All, AllPairs}
+use Rattle.evt_types.specs.Plan.{Plan, kept_room, queue_of, is_ordered}
 use Rattle.evt_types.specs.Place.{Place}
 use Rattle.evt_types.specs.declared.event.Event.{Event}
 use Rattle.evt_types.specs.declared.event.Numbered.{Numbered}
@@ -9,10 +9,6 @@ use Rattle.evt_types.specs.declared.step.Outcome.TheVariants.{Forwarded, Release
 use Rattle.order_parts.specs.Reorder.{Reordering, empty, number_of, open_place}
 use Rattle.order_parts.specs.declared.history.Entry.{Entry}
 use Rattle.sched_core.specs.Waits.{Waits, no_waits}
-
--- how many places the queue's buffer has room for: another queue restores no order and has none
-abbrev pub order_of : Plan → ℕ → ℕ
-order_of p q = if is_ordered (queue_of p q).kind then (queue_of p q).order else 0
 
 -- the buffer of a queue, and what waits in it
 abbrev pub order_at : List Reordering → ℕ → Reordering
@@ -89,6 +85,6 @@ AreOnce p us =
 pub record ArePlaces (p : Plan) (ws : List Waits) (rs : List Reordering) (us : List (List Entry)) : Type 0 where
   pub queues : length ws ≡ length p.queues
   pub count : length rs ≡ length p.queues
-  pub each : (q : ℕ) → q < length p.queues → IsOrder p (order_of p q) (waits_at ws q) (order_at rs q)
+  pub each : (q : ℕ) → q < length p.queues → IsOrder p (kept_room (queue_of p q)) (waits_at ws q) (order_at rs q)
   pub held : HavePlaces p rs us
   pub once : AreOnce p us

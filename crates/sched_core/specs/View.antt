@@ -3,14 +3,12 @@ use Rattle.std.specs.Prelude.{ℕ, ◌≡◌, ◌≤◌, List, length, map, All,
 use Rattle.evt_types.specs.Fault.{IsWithinLimits}
 use Rattle.evt_types.specs.Plan.{bound_of}
 use Rattle.transcripts.specs.Standing.{View, inside_of, entries_of}
-use Rattle.evt_types.specs.Place.{Place}
 use Rattle.transcripts.specs.Transcript.{Held}
 use Rattle.evt_types.specs.declared.event.Numbered.{Numbered}
-use Rattle.order_parts.specs.Reorder.{Reordering}
 use Rattle.order_parts.specs.declared.history.Entry.{Entry}
 use Rattle.sched_core.specs.Inner.{IsQueueOf, HaveRoom, held_of}
 use Rattle.order_parts.specs.History.{Entries}
-use Rattle.sched_core.specs.Ordered.{ArePlaces}
+use Rattle.sched_core.specs.Ordered.{ArePlaces, places_in}
 use Rattle.sched_core.specs.Pinned.{ArePins}
 use Rattle.sched_core.specs.Waits.{Waits}
 use Rattle.sched_core.specs.declared.state.Core.TheInside.{Inside}
@@ -23,9 +21,6 @@ next_in q = q.next
 
 abbrev pub unanswered_in : Entries → List Held
 unanswered_in l = map held_of l.entries
-
-abbrev pub places_in : Reordering → List Place
-places_in r = r.places
 
 abbrev pub entries_in : Entries → List Entry
 entries_in l = l.entries

@@ -4,7 +4,7 @@ ghost use Rattle.std.specs.Prelude.{◌≡◌, ◌<◌, ◌^◌, ◌&&◌, true,
 ghost use Rattle.order_parts.specs.Reorder.{empty, next_number, place_at, is_open, after_resolve, kept_of, left, oldest_answered, after_leave, open_place};
 ghost use Rattle.sched_core.specs.Orders.{IsBuffer, is_restoring, has_place, handed, resolved_in};
 ghost use Rattle.sched_core.specs.Ordered.{order_at};
-ghost use Rattle.evt_types.specs.Plan.{kept_room};
+ghost use Rattle.evt_types.specs.Plan as plans;
 
 use evt_types::{Event, Numbered, QueueDraft};
 use order_parts::Reorder;
@@ -29,9 +29,9 @@ impl Model for AllOrders {
     ghost invariant = { AreOrders };
 }
 
-/// How many open events the queue may have: none are counted where it restores no order.
-pub fn order_of(queue: &QueueDraft) -> usize
-    ensures value { result ≡ kept_room queue.now }
+/// How many events the queue may keep: none where it restores no order.
+pub fn kept_room(queue: &QueueDraft) -> usize
+    ensures value { result ≡ plans.kept_room queue.now }
     ensures small { result < 2 ^ 32 }
 {
     if queue.kind.is_ordered() {
@@ -43,9 +43,9 @@ pub fn order_of(queue: &QueueDraft) -> usize
 
 /// The buffer of the queue, if it restores an order.
 fn buffer(alloc: Global, queue: &QueueDraft) -> Result<Option<Reorder>, AllocError>
-    ensures { IfOk result (λ o. IsBuffer (kept_room queue.now) o) }
+    ensures { IfOk result (λ o. IsBuffer (plans.kept_room queue.now) o) }
 {
-    match order_of(queue) {
+    match kept_room(queue) {
         0 => Ok(None),
         depth => Ok(Some(Reorder::new(alloc, depth)?)),
     }
@@ -54,7 +54,7 @@ fn buffer(alloc: Global, queue: &QueueDraft) -> Result<Option<Reorder>, AllocErr
 impl AllOrders {
     /// The buffers of these queues, without places.
     pub fn new(alloc: Global, queues: &[QueueDraft]) -> Result<AllOrders, AllocError>
-        ensures { IfOk result (λ o. o ≡ map (λ q. empty (kept_room q)) queues.now) }
+        ensures { IfOk result (λ o. o ≡ map (λ q. empty (plans.kept_room q)) queues.now) }
     {
         let mut orders = Vec::with_capacity(alloc, queues.len())?;
         for queue in queues {

@@ -5,7 +5,7 @@ ghost use Rattle.evt_types.specs.Fault.{atomic_slots};
 ghost use Rattle.order_parts.specs.Pins.{may_pin, pinned, unpinned};
 ghost use Rattle.sched_core.specs.Pinned.{AreFreePins, pins_at, pin_in, with_pin};
 
-use evt_types::{QueueDraft, Shape};
+use evt_types::{MAX_DEPTH, QueueDraft, Shape};
 use order_parts::Pins;
 use std::alloc::{AllocError, Global};
 use std::marker::Model;
@@ -64,7 +64,7 @@ impl AllPins {
     pub fn pin(&mut self, queue: usize, slot: usize, lane: usize)
         requires there { queue < length self.old }
         requires may { IsTrue (may_pin (pin_in self.old queue slot) lane) }
-        requires room { (pin_in self.old queue slot).count < 64 }
+        requires room { (pin_in self.old queue slot).count < MAX_DEPTH }
         ensures { self.new ≡ with_pin self.old queue slot (pinned (pin_in self.old queue slot) lane) }
     {
         let pins = &mut self.queues[queue];

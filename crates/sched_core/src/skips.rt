@@ -4,14 +4,11 @@ ghost use Rattle.std.specs.Prelude.{◌≡◌, ◌+◌, ◌<◌, true, slice_set
 ghost use Rattle.transcripts.specs.Choice.{has_bounced};
 ghost use Rattle.sched_core.specs.Skipped.{nothing_passed};
 
-use evt_types::{MAX_PORTS, MAX_QUEUES};
+use evt_types::{MAX_PORTS, MAX_QUEUES, MAX_SWEEP};
 use std::marker::Model;
 
 /// How many lanes some device has.
 pub const MAX_LANES: usize = MAX_PORTS;
-/// How often one sweep may give from one queue.
-const MAX_GIVEN: u32 = 64;
-
 /// The lanes whose ring refused a delivery in this sweep, and how many events of each queue were given in it.
 #[derive(Drop)]
 pub struct Skips {
@@ -40,7 +37,7 @@ impl Skips {
 
     /// The lane's ring refused a delivery.
     pub fn bounced(&mut self, lane: usize)
-        requires { lane < 16 }
+        requires { lane < MAX_LANES }
         ensures { self.new ≡ record self.old { bounced = slice_set self.old.bounced lane true } }
     {
         self.bounced[lane] = true;
@@ -48,8 +45,8 @@ impl Skips {
 
     /// An event of the queue was given.
     pub fn given(&mut self, queue: usize)
-        requires queue { queue < 16 }
-        requires count { slice_index self.old.given queue < 64 }
+        requires queue { queue < MAX_QUEUES }
+        requires count { slice_index self.old.given queue < MAX_SWEEP }
         ensures { self.new ≡ record self.old { given = slice_set self.old.given queue (slice_index self.old.given queue + 1) } }
     {
         self.given[queue] += 1;
@@ -64,7 +61,7 @@ impl Skips {
 
     /// Whether fewer events of the queue were given than the sweep quantum.
     pub fn has_quota(&self, queue: usize, sweep: u32) -> bool
-        requires { queue < 16 }
+        requires { queue < MAX_QUEUES }
         ensures { result ≡ nat_lt (slice_index self.now.given queue) sweep }
     {
         self.given[queue] < sweep

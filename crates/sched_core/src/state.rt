@@ -1,18 +1,17 @@
 //! What the core holds, and what can be read of it.
 
 ghost use Rattle.std.specs.Prelude.{◌≡◌, ◌+◌, ◌<◌, ◌≤◌, ◌++◌, List, length, map, sum_by, vec_len, vec_capacity};
-ghost use Rattle.transcripts.specs.Standing.{Stands, inside_of, places_at, waiting_at};
+ghost use Rattle.transcripts.specs.Standing.{Stands, inside_of, kept_at, kept_under, places_at, waiting_at};
+ghost use Rattle.transcripts.specs.Sweep.{IsSweep, Sweeping, sweep_room, sweep_steps};
 ghost use Rattle.transcripts.specs.Transcript as transcripts;
+ghost use Rattle.evt_types.specs.Plan as plans;
 ghost use Rattle.evt_types.specs.declared.event.Numbered.{Numbered as NumberedValue};
 ghost use Rattle.evt_types.specs.declared.step.Step.{Step as StepValue};
-ghost use Rattle.evt_types.specs.Plan.{kept_room};
-ghost use Rattle.sched_core.specs.KeptEvents.{kept_at};
-ghost use Rattle.sched_core.specs.Sweep.{sweep_steps};
 
-use crate::orders::{AllOrders, order_of};
+use crate::orders::{AllOrders, kept_room};
 use crate::pins::AllPins;
 use crate::queue::Queue;
-use evt_types::{Numbered, QueueDraft, Shape};
+use evt_types::{MAX_QUEUES, Numbered, QueueDraft, Shape};
 use order_parts::History;
 use std::alloc::AllocError;
 use std::marker::Model;
@@ -28,9 +27,9 @@ pub struct Core {
     pub(crate) orders: AllOrders,
     pub(crate) lanes: Vec<History>,
     pub(crate) pins: AllPins,
-    /// How many events wait or are unanswered.
+    /// How many events wait, are kept or are unanswered.
     pub(crate) inside: usize,
-    /// How many events were accepted.
+    /// How many events were accepted or are kept.
     pub(crate) entries: u64,
     /// Whether new events are turned away.
     pub(crate) shut: bool,
@@ -48,12 +47,12 @@ impl Model for Core {
     ghost invariant = { IsCore };
 }
 
-/// How many events the queues may keep.
-fn kept_room(queues: &[QueueDraft]) -> usize
-    requires { length queues.now ≤ 16 }
-    ensures { result ≡ sum_by kept_room queues.now }
+/// How many events all queues may keep.
+fn all_kept_room(queues: &[QueueDraft]) -> usize
+    requires { length queues.now ≤ MAX_QUEUES }
+    ensures { result ≡ sum_by plans.kept_room queues.now }
 {
-    queues.iter().map(order_of).sum()
+    queues.iter().map(kept_room).sum()
 }
 
 impl Core {
@@ -64,7 +63,7 @@ impl Core {
         &self.shape
     }
 
-    /// How many events wait or are unanswered.
+    /// How many events wait, are kept or are unanswered.
     pub fn inside(&self) -> usize
         ensures value { result ≡ inside_of self.now }
         ensures model { (T : List StepValue) → Stands T self.now → result ≡ transcripts.inside self.now.shape T }
@@ -75,11 +74,12 @@ impl Core {
     /// Room in a log that is enough for one sweep: the shut step, for each reply taken its answer and one event accepted,
     /// the events that were kept, each event given, and each lane whose ring was full.
     pub fn log_room(&self) -> usize
-        ensures { result ≡ sweep_steps self.now.shape }
+        ensures value { result ≡ sweep_room self.now.shape }
+        ensures fits { (T : List StepValue) (s : Sweeping) → Stands T self.now → IsSweep self.now s → length (sweep_steps self.now s) ≤ result }
     {
         let sweep = self.shape.sweep() as usize;
         let queues = self.shape.queues();
-        let kept = kept_room(queues);
+        let kept = all_kept_room(queues);
         let lanes = self.shape.lanes();
         1 + 2 * sweep * lanes + kept + sweep * queues.len() + lanes
     }
@@ -115,6 +115,7 @@ impl Core {
         requires queue { queue < length self.now.shape.queues }
         requires room { vec_len into.old + length (places_at self.now queue) ≤ vec_capacity into.old }
         ensures kept { into.new.items ≡ into.old.items ++ kept_at self.now queue }
+        ensures model { (T : List StepValue) → Stands T self.now → into.new.items ≡ into.old.items ++ map kept_under (transcripts.kept T queue) }
         ensures room { vec_capacity into.new ≡ vec_capacity into.old }
     {
         for index in 0..self.orders.len(queue) {

@@ -2,7 +2,7 @@
 
 ghost use Rattle.std.specs.Prelude.{◌≡◌, ◌+◌, ◌<◌, ◌≤◌, true, List, ◌++◌, length, vec_len, vec_capacity};
 ghost use Rattle.evt_types.specs.Plan.{is_ordered, lanes_of, queue_of};
-ghost use Rattle.transcripts.specs.Standing.{Stands, AreStepsOf, may_take, may_enter, may_answer, may_forward, answer_steps, steps_by, steps_of, after};
+ghost use Rattle.transcripts.specs.Standing.{Stands, AreStepsOf, may_be_taken, may_take, may_enter, may_answer, may_forward, answer_steps, steps_by, steps_of, after};
 ghost use Rattle.evt_types.specs.declared.step.Step.{Step as StepValue};
 ghost use Rattle.sched_core.specs.Taken.{took_by, took_of};
 
@@ -30,7 +30,8 @@ impl Core {
     /// Whether the lane's reply may be taken now.
     pub fn takes(&self, lane: usize, reply: &Reply) -> bool
         requires lane { lane < lanes_of self.now.shape }
-        ensures { result ≡ may_take self.now lane reply.now.event }
+        ensures value { result ≡ may_take self.now lane reply.now.event }
+        ensures model { (T : List StepValue) → Stands T self.now → result ≡ may_be_taken self.now.shape T lane reply.now.event }
     {
         let queue = usize::from(reply.event.queue);
         match reply.event.op {

@@ -19,7 +19,9 @@ pub mod Rising
 pub mod Rooms
 pub mod Shuts
 pub mod Sources
+pub mod Sweeps
 pub mod ViewLists
+pub mod ViewTells
 pub mod Waits
 pub mod Whole
 pub mod WholeStands

@@ -40,7 +40,7 @@ use Rattle.transcripts.proofs.WholeViews.{waiting_of_view, places_of_view, unans
 allowed_of : (p : Plan) (T : List Step) → Lawful p T → AllowedAfter p [] T
 allowed_of p T lawful = (steps-Lawful p T lawful).steps
 
-facts_of : (p : Plan) (T : List Step) → Lawful p T → Facts p T
+pub facts_of : (p : Plan) (T : List Step) → Lawful p T → Facts p T
 facts_of p T lawful = Facts-allowed p T (allowed_of p T lawful)
 
 settled_of : (p : Plan) (T : List Step) → Lawful p T → IsSettled p T
@@ -60,7 +60,7 @@ places_is v T q stands h = ap (λ u. places_at u q) stands.holds ∙ places_of_v
 pub unanswered_is : (v : View) (T : List Step) (l : ℕ) → Stands T v → l < lanes_of v.shape → unanswered_at v l ≡ unanswered_slots v.shape T l
 unanswered_is v T l stands h = ap (λ u. unanswered_at u l) stands.holds ∙ unanswered_of_view v.shape T l h
 
-unanswered_count : (v : View) (T : List Step) (l : ℕ) → Stands T v → l < lanes_of v.shape → length (unanswered_at v l) ≡ length (unanswered T l)
+pub unanswered_count : (v : View) (T : List Step) (l : ℕ) → Stands T v → l < lanes_of v.shape → length (unanswered_at v l) ≡ length (unanswered T l)
 unanswered_count v T l stands h = ap length (unanswered_is v T l stands h) ∙ length-map (unanswered T l) _
 
 -- ---- how many are inside
@@ -86,6 +86,13 @@ places_count p T q lawful = by_kind (cases_Bool (is_ordered (queue_of p q).kind)
 sums_agree : (a b c x y z : ℕ) → a ≡ x → b ≡ y → c ≡ z → a + b + c ≡ x + y + z
 sums_agree a b c x y z e f g = cc
 
+pub kept_of_view : (p : Plan) (T : List Step) → Lawful p T → kept_in (view_of p T) ≡ sum_by (λ q. length (kept T q)) (queues p)
+unfolding view_of
+kept_of_view p T lawful =
+    sum_of_map (λ ps. sum_by (λ (x : Place). length x.forwards) ps) (places p T) (queues p)
+    ∙ sum_agree (λ q. sum_by (λ (x : Place). length x.forwards) (places p T q)) (λ q. length (kept T q)) (queues p)
+    (λ k d h. places_count p T (get_or (queues p) k d) lawful)
+
 inside_of_view : (p : Plan) (T : List Step) → Lawful p T → standing.inside_of (view_of p T) ≡ inside p T
 unfolding view_of inside
 inside_of_view p T lawful =
@@ -93,11 +100,7 @@ inside_of_view p T lawful =
     (λ (xs : List Numbered). length xs) (waiting T) (queues p) in
     let held : sum_by (λ (xs : List Held). length xs) (map (unanswered_slots p T) (lanes p)) ≡ sum_by (λ l. length (unanswered T l)) (lanes p) =
     sum_of_map (λ (xs : List Held). length xs) (unanswered_slots p T) (lanes p) ∙ sum_agree _ _ (lanes p) (λ k d h. length-map (unanswered T _) _) in
-    let keeps : kept_in (view_of p T) ≡ sum_by (λ q. length (kept T q)) (queues p) =
-    sum_of_map (λ ps. sum_by (λ (x : Place). length x.forwards) ps) (places p T) (queues p)
-    ∙ sum_agree (λ q. sum_by (λ (x : Place). length x.forwards) (places p T q)) (λ q. length (kept T q)) (queues p)
-    (λ k d h. places_count p T (get_or (queues p) k d) lawful) in
-    sums_agree _ _ _ _ _ _ waits keeps held
+    sums_agree _ _ _ _ _ _ waits (kept_of_view p T lawful) held
 
 pub inside_is : (v : View) (T : List Step) → Stands T v → standing.inside_of v ≡ inside v.shape T
 inside_is v T stands = ap standing.inside_of stands.holds ∙ inside_of_view v.shape T stands.lawful

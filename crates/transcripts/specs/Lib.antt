@@ -4,4 +4,5 @@ pub mod Lawful
 pub mod Laws
 pub mod Replies
 pub mod Standing
+pub mod Sweep
 pub mod Transcript

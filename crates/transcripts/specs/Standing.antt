@@ -3,7 +3,7 @@ use Rattle.std.specs.Prelude.{ℕ, ◌≡◌, ◌+◌, ◌^◌, Bool, true, fals
 use Rattle.evt_types.specs.Place.{Place}
 use Rattle.evt_types.specs.Plan.{Plan, queues, lanes, bound_of, queue_of, slot_of, is_ordered}
 use Rattle.transcripts.specs.Lawful.{Lawful}
-use Rattle.transcripts.specs.Transcript.{accepted, waiting, unanswered_slots, Held, open_of, forwards, is_answered, is_from_of, has_shut}
+use Rattle.transcripts.specs.Transcript.{accepted, waiting, inside, entries, unanswered, unanswered_slots, Held, open_of, forwards, is_answered, is_from_of, has_shut}
 use Rattle.evt_types.specs.declared.event.Event.{Event}
 use Rattle.evt_types.specs.declared.event.Numbered.{Numbered}
 use Rattle.evt_types.specs.declared.event.Op.{Op}
@@ -93,6 +93,38 @@ may_take_by ops.Release v l e = may_answer v l
 -- whether the lane's reply with this event may be taken
 abbrev pub may_take : View → ℕ → Event → Bool
 may_take v l e = may_take_by e.op v l e
+
+-- The same by the transcript: the queue is there, what is inside and what was accepted or is kept leave room for a NEW while
+-- Shut isn't in the transcript, and an answer answers something.
+abbrev pub may_enter_at : Plan → List Step → ℕ → Bool
+may_enter_at p T q = nat_lt q (length p.queues) && (has_shut T || (nat_lt (inside p T) (bound_of p) && nat_lt (entries p T) (2 ^ 63)))
+
+abbrev pub may_answer_at : List Step → ℕ → Bool
+may_answer_at T l = nat_lt 0 (length (unanswered T l))
+
+abbrev pub may_forward_at : Plan → List Step → ℕ → ℕ → Bool
+may_forward_at p T l q = may_answer_at T l && (nat_lt q (length p.queues) && nat_lt (entries p T) (2 ^ 63))
+
+abbrev pub may_be_taken_by : Op → Plan → List Step → ℕ → Event → Bool
+may_be_taken_by ops.New p T l e = may_enter_at p T e.queue
+may_be_taken_by ops.Forward p T l e = may_forward_at p T l e.queue
+may_be_taken_by ops.Release p T l e = may_answer_at T l
+
+abbrev pub may_be_taken : Plan → List Step → ℕ → Event → Bool
+may_be_taken p T l e = may_be_taken_by e.op p T l e
+
+-- ---- what is kept
+
+-- what a place keeps, under its event's number, and a kept event with the number that it was forwarded from
+abbrev pub kept_in_place : Place → List Numbered
+kept_in_place x = map (λ (e : Event). record { number = x.number; event = e }) x.forwards
+
+abbrev pub kept_under : ℕ × Event → Numbered
+kept_under x = record { number = x.0; event = x.1 }
+
+-- the queue's kept events by what a core holds, in hand-out order
+abbrev pub kept_at : View → ℕ → List Numbered
+kept_at v q = flat_map kept_in_place (places_at v q)
 
 -- ---- the steps of a reply
 

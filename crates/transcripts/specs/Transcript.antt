@@ -209,6 +209,10 @@ unfoldable pub inside : Plan → List Step → ℕ
 inside p T =
     sum_by (λ q. length (waiting T q)) (queues p) + sum_by (λ q. length (kept T q)) (queues p) + sum_by (λ l. length (unanswered T l)) (lanes p)
 
+-- how many events were accepted or are kept
+unfoldable pub entries : Plan → List Step → ℕ
+entries p T = sum_by (λ q. length (accepted T q)) (queues p) + sum_by (λ q. length (kept T q)) (queues p)
+
 -- ---- single steps
 
 abbrev pub is_shut : Step → Bool

@@ -1,13 +1,14 @@
 //! Laws of lawful transcripts. Each function does nothing: its contract is the law.
 
-ghost use Rattle.std.specs.Prelude.{◌≡◌, ℕ, ◌+◌, ◌<◌, ◌≤◌, ◌==◌, true, false, List, [], ◌∷◌, length, sum_by, if◌then◌else◌, All, Contains};
+ghost use Rattle.std.specs.Prelude.{◌≡◌, ℕ, ◌+◌, ◌<◌, ◌≤◌, ◌==◌, true, false, List, [], ◌∷◌, length, map, sum_by, if◌then◌else◌, All, Contains};
 ghost use Rattle.transcripts.specs.Allowed.{StepsLawful};
 ghost use Rattle.transcripts.specs.Lawful.{Lawful};
 ghost use Rattle.transcripts.specs.Laws.{IsAcceptedOnce, IsAnsweredTo, IsStrictlyRising, IsSublist, KeepsNoneTo, NeverStepsBack};
 ghost use Rattle.evt_types.specs.Plan.{Plan, is_atomic, is_ordered, kept_room, lanes_of, queue_of};
 ghost use Rattle.transcripts.specs.Replies.{new_count, release_count, replies_in, said};
-ghost use Rattle.transcripts.specs.Standing.{Stands, View, after, kept_in, steps_of};
-ghost use Rattle.transcripts.specs.Transcript.{is_give, hand, inside, sources, taken};
+ghost use Rattle.transcripts.specs.Standing.{Stands, View, after, entries_of, inside_of, kept_at, kept_in, kept_under, may_be_taken, may_take, steps_of};
+ghost use Rattle.transcripts.specs.Sweep.{IsSweep, Sweeping, sweep_room, sweep_steps};
+ghost use Rattle.transcripts.specs.Transcript.{entries, is_give, hand, inside, kept, sources, taken};
 ghost use Rattle.evt_types.specs.declared.event.Event.{Event};
 ghost use Rattle.evt_types.specs.declared.event.Reply.{Reply};
 ghost use Rattle.evt_types.specs.declared.step.Step.{Step};
@@ -57,4 +58,19 @@ pub fn steps_of_a_reply()
 pub fn steps_of_a_reply_are_few()
     ensures steps { (v : View) (T : List Step) (l : ℕ) (e : Event) → Stands T v → l < lanes_of v.shape → length (steps_of v l e) + kept_in (after v (steps_of v l e)) ≤ kept_in v + 2 }
     ensures kept { (v : View) (T : List Step) → Stands T v → kept_in v ≤ sum_by kept_room v.shape.queues }
+{}
+
+/// What a core holds that stands at a transcript tells how many events are inside, how many were accepted or are kept, which
+/// replies may be taken, and what is kept.
+pub fn a_view_tells()
+    ensures inside { (v : View) (T : List Step) → Stands T v → inside_of v ≡ inside v.shape T }
+    ensures entries { (v : View) (T : List Step) → Stands T v → entries_of v ≡ entries v.shape T }
+    ensures takes { (v : View) (T : List Step) (l : ℕ) (e : Event) → Stands T v → l < lanes_of v.shape → may_take v l e ≡ may_be_taken v.shape T l e }
+    ensures kept { (v : View) (T : List Step) (q : ℕ) → Stands T v → q < length v.shape.queues → kept_at v q ≡ map kept_under (kept T q) }
+{}
+
+/// The steps of a sweep (it sees that the device is shut, takes replies of each lane and gives events of each queue up to the sweep
+/// quantum, and finds each lane's ring full once at most) are no more than there is room for.
+pub fn a_sweep_fits()
+    ensures { (v : View) (T : List Step) (s : Sweeping) → Stands T v → IsSweep v s → length (sweep_steps v s) ≤ sweep_room v.shape }
 {}

@@ -1,3 +1,4 @@
+use Rattle.evt_types.specs.declared.shape.TheConstants.{MAX_DEPTH}
 use Rattle.std.proofs.Common.{◌<◌, sym, subst}
 use Rattle.evt_types.specs.Fault.{IsBetween}
 use Rattle.evt_types.specs.Plan.{Plan, PortPlan, lanes_of}
@@ -8,4 +9,4 @@ pub returns-clause-range : goal.returns-clause-range
 returns-clause-range c =
     let there = subst (λ (p : Plan). c.args.lane < lanes_of p) (sym c.self.view_is) c.requires in
     let each = c.self.invariant.within.replies in
-    port_at (λ (port : PortPlan). IsBetween 1 64 port.replies) c.self.inside.ports.items c.args.lane c.index.result.now there c.index.ensures each
+    port_at (λ (port : PortPlan). IsBetween 1 MAX_DEPTH port.replies) c.self.inside.ports.items c.args.lane c.index.result.now there c.index.ensures each

@@ -1,7 +1,7 @@
 use Rattle.std.proofs.Common.{map}
 use Rattle.pipeline_app.specs.Stopped.{kept_of}
 use Rattle.pipeline_app.proofs.Ranges.{flat_map-range_more}
-use Rattle.sched_core.specs.KeptEvents.{kept_at}
+use Rattle.transcripts.specs.Standing.{kept_at}
 use Rattle.pipeline_app.proofs.rig.Rig.kept.Goals as goal
 
 pub loop-queue-preserved : goal.loop-queue-preserved

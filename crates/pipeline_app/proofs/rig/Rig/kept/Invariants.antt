@@ -2,7 +2,7 @@ use Rattle.std.proofs.Common.{◌≡◌, map}
 use Rattle.std.specs.Prelude.{flat_map}
 use Rattle.std.specs.List.{range_with_len}
 use Rattle.pipeline_app.specs.Stopped.{kept_of}
-use Rattle.sched_core.specs.KeptEvents.{kept_at}
+use Rattle.transcripts.specs.Standing.{kept_at}
 use Rattle.pipeline_app.proofs.rig.Rig.kept.Given as goal
 
 abbrev pub invariant-loop-queue : goal.invariant-loop-queue

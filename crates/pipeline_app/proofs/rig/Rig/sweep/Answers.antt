@@ -14,13 +14,13 @@ see_shut-requires-clause-sound c = IsRig-log c.args.self.now c.reserve.new.self 
 pub see_shut-requires-clause-room : goal.see_shut-requires-clause-room
 see_shut-requires-clause-room c =
     let few = kept_fit c.args.self.now.core c.args.self.now.log.items c.requires.stands in
-    omega (arith, few, c.log_room-room.ensures, c.in_ok-reserve.ensures.ok)
+    omega (arith, few, c.log_room-room.ensures.value, c.in_ok-reserve.ensures.ok)
 
 pub take_replies-taken-requires-clause-room : goal.take_replies-taken-requires-clause-room
 take_replies-taken-requires-clause-room c =
     let few = kept_fit c.args.self.now.core c.args.self.now.log.items c.requires.stands in
     let saw = c.see_shut.ensures.room in
-    rw c.see_shut.ensures.shape (omega (arith, few, c.log_room-room.ensures, c.in_ok-reserve.ensures.ok, saw.len, saw.capacity))
+    rw c.see_shut.ensures.shape (omega (arith, few, c.log_room-room.ensures.value, c.in_ok-reserve.ensures.ok, saw.len, saw.capacity))
 
 pub give_events-requires-clause-room : goal.give_events-requires-clause-room
 give_events-requires-clause-room c =
@@ -28,7 +28,7 @@ give_events-requires-clause-room c =
     let saw = c.see_shut.ensures.room in
     let took = rw c.see_shut.ensures.shape at c.take_replies-taken.ensures.room in
     rw (c.take_replies-taken.ensures.shape, c.see_shut.ensures.shape)
-    (omega (arith, few, c.log_room-room.ensures, c.in_ok-reserve.ensures.ok, saw.len, saw.capacity, took.len, took.capacity))
+    (omega (arith, few, c.log_room-room.ensures.value, c.in_ok-reserve.ensures.ok, saw.len, saw.capacity, took.len, took.capacity))
 
 pub returns-clause-steps : goal.returns-clause-steps
 returns-clause-steps c =

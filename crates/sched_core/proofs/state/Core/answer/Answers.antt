@@ -7,8 +7,8 @@ use Rattle.order_parts.specs.History.{Entries}
 use Rattle.sched_core.proofs.Answering.{answer_leaves_room, core_answers, forwards_one, more_none, more_one, named_of, oldest_known, oldest_pinned, resolve_is_open, some_inside, view_answers}
 use Rattle.sched_core.specs.Answered.{after_answer}
 use Rattle.sched_core.specs.Orders.{is_restoring}
-use Rattle.sched_core.specs.Ordered.{order_at}
-use Rattle.sched_core.specs.View.{places_in, view_in}
+use Rattle.sched_core.specs.Ordered.{order_at, places_in}
+use Rattle.sched_core.specs.View.{view_in}
 use Rattle.sched_core.proofs.state.Core.answer.Goals as goal
 use Rattle.sched_core.proofs.state.Core.answer.Goals.{then-kept, else-kept}
 

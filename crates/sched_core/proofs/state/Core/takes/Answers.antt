@@ -1,0 +1,25 @@
+use Rattle.std.proofs.Common.{sym, ap, ◌∙◌}
+use Rattle.evt_types.specs.declared.event.Op.{Op}
+use Rattle.transcripts.specs.Standing.{may_enter, may_forward, may_take_by}
+use Rattle.transcripts.proofs.ViewTells.{may_take_is}
+use Rattle.sched_core.proofs.state.Core.takes.Goals as goal
+
+pub returns-in-New-clause-model : goal.returns-in-New-clause-model
+returns-in-New-clause-model c T stands =
+    c.may_enter.ensures
+    ∙ (ap (may_enter c.args.self.now) c.from-queue.ensures
+    ∙ (ap (λ (o : Op). may_take_by o c.args.self.now c.args.lane c.args.reply.now.event) (sym c.in-New.is)
+    ∙ may_take_is c.args.self.now T c.args.lane c.args.reply.now.event stands c.requires.lane))
+
+pub returns-in-Forward-clause-model : goal.returns-in-Forward-clause-model
+returns-in-Forward-clause-model c T stands =
+    c.may_forward.ensures
+    ∙ (ap (may_forward c.args.self.now c.args.lane) c.from-queue.ensures
+    ∙ (ap (λ (o : Op). may_take_by o c.args.self.now c.args.lane c.args.reply.now.event) (sym c.in-Forward.is)
+    ∙ may_take_is c.args.self.now T c.args.lane c.args.reply.now.event stands c.requires.lane))
+
+pub returns-in-Release-clause-model : goal.returns-in-Release-clause-model
+returns-in-Release-clause-model c T stands =
+    c.may_answer.ensures
+    ∙ (ap (λ (o : Op). may_take_by o c.args.self.now c.args.lane c.args.reply.now.event) (sym c.in-Release.is)
+    ∙ may_take_is c.args.self.now T c.args.lane c.args.reply.now.event stands c.requires.lane)

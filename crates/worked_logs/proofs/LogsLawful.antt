@@ -1,9 +1,9 @@
--- The logs of specs/Rows.antt, which a device has to write, are lawful: by computing the test.
+-- The logs of specs/Logs.antt, which a device has to write, are lawful: by computing the test.
 use Rattle.std.proofs.Common.{refl}
 use Rattle.worked_logs.proofs.Sound.{StepsLawful-test}
 use Rattle.transcripts.proofs.Whole.{Lawful-steps}
 use Rattle.transcripts.specs.Lawful.{Lawful}
-use Rattle.worked_logs.specs.Logs.{one_worker, two_workers, two_stages, first_event, one_flow_two_ports, two_flows_one_slot, second_forwarded_first, first_released, mixed_levels}
+use Rattle.worked_logs.specs.Logs.{one_worker, two_workers, two_stages, atomic_stages, first_event, one_flow_two_ports, two_flows_one_slot, second_forwarded_first, first_released, mixed_levels, full_ring, turned_away}
 use Rattle.transcripts.specs.Transcript.{accepted, out, answers, unanswered, ended, sent, forwards, hand, waiting, taken, sources, kept, open_of, inside}
 
 pub first_event_lawful : Lawful one_worker first_event
@@ -29,3 +29,11 @@ first_released_lawful = Lawful-steps two_stages first_released (StepsLawful-test
 pub mixed_levels_lawful : Lawful two_stages mixed_levels
 unfolding accepted out answers unanswered ended sent forwards hand waiting taken sources kept open_of inside
 mixed_levels_lawful = Lawful-steps two_stages mixed_levels (StepsLawful-test two_stages mixed_levels refl)
+
+pub full_ring_lawful : Lawful one_worker full_ring
+unfolding accepted out answers unanswered ended sent forwards hand waiting taken sources kept open_of inside
+full_ring_lawful = Lawful-steps one_worker full_ring (StepsLawful-test one_worker full_ring refl)
+
+pub turned_away_lawful : Lawful atomic_stages turned_away
+unfolding accepted out answers unanswered ended sent forwards hand waiting taken sources kept open_of inside
+turned_away_lawful = Lawful-steps atomic_stages turned_away (StepsLawful-test atomic_stages turned_away refl)

@@ -1,14 +1,15 @@
--- The wrong logs of specs/Rows.antt, each refused by the clause that it breaks.
-use Rattle.std.specs.Prelude.{ℕ, ◌≡◌, ◌≤◌, true, List, [], ◌∷◌, length, All}
+-- The wrong logs of specs/Logs.antt, each refused by the clause that it breaks.
+use Rattle.std.specs.Prelude.{ℕ, ◌≡◌, ◌<◌, ◌≤◌, true, List, [], ◌∷◌, length, All}
 use Rattle.std.proofs.Common.{refl, ap, sym, arith, suc}
 use Rattle.std.proofs.Math.Dec.{lit<, lit≤}
 use Rattle.std.proofs.lemmas.Bool.{true≢false, both_ways}
 use Rattle.std.proofs.lemmas.List.Elements.{All-contains}
 use Rattle.std.proofs.lemmas.List.Sums.{AllPass-from_list_all}
 use Rattle.transcripts.specs.Lawful.{Lawful}
-use Rattle.worked_logs.specs.Logs.{one_worker, two_workers, two_stages, passed_on, given_twice, overtaken, split_slot, accepted_early, kept_for_good, accepted_twice, new_after_shut, turned_before_shut, shut_twice, not_linked, answered_early}
+use Rattle.worked_logs.specs.Logs.{one_worker, two_workers, two_stages, atomic_stages, passed_on, given_twice, overtaken, split_slot, accepted_early, kept_for_good, accepted_twice, new_after_shut, turned_before_shut, shut_twice, not_linked, answered_early, beyond_depth, exchanged, accepted_backwards, no_such_queue, given_before}
 use Rattle.transcripts.specs.Transcript.{accepted, out, answers, unanswered, Held, hand, ended, sent, forwards, taken, sources, kept, is_answered}
 use Rattle.lists.specs.Lists.{upto}
+use Rattle.evt_types.specs.declared.event.Event.{Event}
 use Rattle.evt_types.specs.declared.event.Numbered.{Numbered}
 use Rattle.evt_types.specs.declared.step.Step.TheVariants.{Shut}
 
@@ -80,3 +81,37 @@ pub answered_early_refused : Lawful one_worker answered_early → ⊥
 unfolding out answers
 answered_early_refused h =
     let none_left : 1 ≤ 0 = h.answers 2 (lit≤ tt) 1 in absurd (omega arith)
+
+-- (room)
+pub beyond_depth_refused : Lawful one_worker beyond_depth → ⊥
+unfolding out answers unanswered
+beyond_depth_refused h =
+    let within : 5 ≤ 4 = (h.room 10 (lit≤ tt)).lanes 1 in absurd (omega arith)
+
+-- (origin)
+first_payload : List Event → ℕ
+first_payload [] = 0
+first_payload (e ∷ es) = e.payload
+
+pub exchanged_refused : Lawful two_stages exchanged → ⊥
+unfolding first_payload out answers sent forwards taken
+exchanged_refused h =
+    let is_prefix = h.origin 4 (lit≤ tt) 0 0 in
+    let same : ◌≡◌ {A = ℕ} 11 10 = ap first_payload is_prefix.1 in absurd (omega arith)
+
+-- (order)
+pub accepted_backwards_refused : Lawful atomic_stages accepted_backwards → ⊥
+unfolding accepted sources
+accepted_backwards_refused h =
+    let rising : 1 ≤ 0 = (h.order 8 (lit≤ tt)).atomic 0 refl 0 1 0 (lit< tt) (lit< tt) refl in absurd (omega arith)
+
+-- (formed)
+pub no_such_queue_refused : Lawful one_worker no_such_queue → ⊥
+no_such_queue_refused h =
+    let there : 5 < 1 = (h.formed 0 Shut (lit< tt)).entry.queue in absurd (omega arith)
+
+-- (once): what is given was accepted
+pub given_before_refused : Lawful one_worker given_before → ⊥
+unfolding accepted hand
+given_before_refused h =
+    let there : 0 < 0 = (h.once 1 (lit≤ tt)).accepted 0 0 0 (lit< tt) in absurd (omega arith)

@@ -11,7 +11,7 @@ use Rattle.evt_types.specs.declared.event.Op.TheVariants as ops
 use Rattle.evt_types.specs.declared.step.Outcome.TheVariants.{Forwarded, Released}
 use Rattle.evt_types.specs.declared.step.Source.TheVariants.{New, Of}
 use Rattle.evt_types.specs.declared.step.Step.{Step}
-use Rattle.evt_types.specs.declared.step.Step.TheVariants.{Accept, Give, Done, Turned, Shut}
+use Rattle.evt_types.specs.declared.step.Step.TheVariants.{Accept, Give, Done, Turned, Bounced, Shut}
 
 -- ---- the devices
 
@@ -32,8 +32,8 @@ ordered_queue = record { kind = Ordered; priority = 128; slots = 0; order = 8; s
 abbrev pub parallel_queue : QueueDraft
 parallel_queue = record { kind = Parallel; priority = 128; slots = 0; order = 0; single = false }
 
--- Port 0 brings events in. An atomic queue for port 1, the same for ports 1 and 2, and an ordered queue for both with a
--- parallel one for port 2.
+-- Port 0 brings events in. An atomic queue for port 1, the same for ports 1 and 2, an ordered queue for both with a parallel
+-- one for port 2, and an atomic queue before a parallel one.
 abbrev pub one_worker : Plan
 one_worker = device_with (atomic_queue ∷ []) (port_with [] ∷ port_with (0 ∷ []) ∷ [])
 
@@ -42,6 +42,9 @@ two_workers = device_with (atomic_queue ∷ []) (port_with [] ∷ port_with (0 �
 
 abbrev pub two_stages : Plan
 two_stages = device_with (ordered_queue ∷ parallel_queue ∷ []) (port_with [] ∷ port_with (0 ∷ []) ∷ port_with (0 ∷ 1 ∷ []) ∷ [])
+
+abbrev pub atomic_stages : Plan
+atomic_stages = device_with (atomic_queue ∷ parallel_queue ∷ []) (port_with [] ∷ port_with (0 ∷ []) ∷ port_with (0 ∷ 1 ∷ []) ∷ [])
 
 -- ---- the events
 
@@ -109,6 +112,16 @@ mixed_levels =
     ∷ Done 1 (Forwarded (forwarded_event 7 (lit< tt) 0 20)) ∷ Accept 1 (forwarded_event 7 (lit< tt) 0 20) (Of 0 1)
     ∷ Accept 1 (forwarded_event 7 (lit< tt) 255 10) (Of 0 0) ∷ Give 2 1 0 ∷ Give 2 1 1 ∷ []
 
+-- a lane whose ring is full is given the event later
+abbrev pub full_ring : List Step
+full_ring = entry (new_event 7 (lit< tt) 128 1) ∷ Bounced 1 ∷ Give 1 0 0 ∷ Done 1 Released ∷ []
+
+-- after Shut new events are turned away, and what is inside is still given, answered and passed on
+abbrev pub turned_away : List Step
+turned_away =
+    entry (new_event 7 (lit< tt) 128 1) ∷ Give 1 0 0 ∷ Shut ∷ Turned 0 (new_event 8 (lit< tt) 128 2) ∷ Done 1 (Forwarded (forwarded_event 7 (lit< tt) 128 10))
+    ∷ Accept 1 (forwarded_event 7 (lit< tt) 128 10) (Of 0 0) ∷ Turned 0 (new_event 9 (lit< tt) 128 3) ∷ Give 2 1 0 ∷ Done 2 Released ∷ []
+
 -- ---- wrong logs, which no device may write
 
 -- an event of flow 7 that is brought in, and what one is forwarded as
@@ -161,3 +174,27 @@ not_linked = entry (brought 1) ∷ Give 0 0 0 ∷ []
 -- a lane answers before it was given anything
 abbrev pub answered_early : List Step
 answered_early = entry (brought 1) ∷ Done 1 Released ∷ Give 1 0 0 ∷ []
+
+-- a lane is given one event more than its depth
+abbrev pub beyond_depth : List Step
+beyond_depth =
+    entry (brought 1) ∷ entry (brought 2) ∷ entry (brought 3) ∷ entry (brought 4) ∷ entry (brought 5) ∷ Give 1 0 0 ∷ Give 1 0 1 ∷ Give 1 0 2 ∷ Give 1 0 3
+    ∷ Give 1 0 4 ∷ []
+
+-- another event is accepted than was forwarded
+abbrev pub exchanged : List Step
+exchanged = entry (brought 1) ∷ Give 1 0 0 ∷ Done 1 (Forwarded (passed_on 10)) ∷ Accept 1 (passed_on 11) (Of 0 0) ∷ []
+
+-- of two events of one flow of an atomic queue the later one's forward is accepted first
+abbrev pub accepted_backwards : List Step
+accepted_backwards =
+    entry (brought 1) ∷ entry (brought 2) ∷ Give 1 0 0 ∷ Give 1 0 1 ∷ Done 1 (Forwarded (passed_on 10)) ∷ Done 1 (Forwarded (passed_on 20))
+    ∷ Accept 1 (passed_on 20) (Of 0 1) ∷ Accept 1 (passed_on 10) (Of 0 0) ∷ []
+
+-- an event is accepted into a queue that isn't there
+abbrev pub no_such_queue : List Step
+no_such_queue = Accept 5 (event_with ops.New 5 7 (lit< tt) 128 1) (New 0) ∷ []
+
+-- a number is given that wasn't accepted
+abbrev pub given_before : List Step
+given_before = Give 1 0 0 ∷ entry (brought 1) ∷ []

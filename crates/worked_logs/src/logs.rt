@@ -1,8 +1,8 @@
 //! Laws on worked logs: what a device has to write is lawful, and what it mustn't write is not.
 
 ghost use Rattle.transcripts.specs.Lawful.{Lawful};
-ghost use Rattle.worked_logs.specs.Logs.{one_worker, two_workers, two_stages, first_event, one_flow_two_ports, two_flows_one_slot, second_forwarded_first, first_released, mixed_levels};
-ghost use Rattle.worked_logs.specs.Logs.{given_twice, overtaken, split_slot, accepted_early, kept_for_good, accepted_twice, new_after_shut, turned_before_shut, shut_twice, not_linked, answered_early};
+ghost use Rattle.worked_logs.specs.Logs.{one_worker, two_workers, two_stages, atomic_stages, first_event, one_flow_two_ports, two_flows_one_slot, second_forwarded_first, first_released, mixed_levels, full_ring, turned_away};
+ghost use Rattle.worked_logs.specs.Logs.{given_twice, overtaken, split_slot, accepted_early, kept_for_good, accepted_twice, new_after_shut, turned_before_shut, shut_twice, not_linked, answered_early, beyond_depth, exchanged, accepted_backwards, no_such_queue, given_before};
 
 /// The logs of worked examples are lawful.
 pub fn worked_logs_are_lawful()
@@ -12,6 +12,8 @@ pub fn worked_logs_are_lawful()
     ensures second_forwarded_first { Lawful two_stages second_forwarded_first }
     ensures first_released { Lawful two_stages first_released }
     ensures mixed_levels { Lawful two_stages mixed_levels }
+    ensures full_ring { Lawful one_worker full_ring }
+    ensures turned_away { Lawful atomic_stages turned_away }
 {}
 
 /// Logs that break a promise are not lawful.
@@ -27,4 +29,9 @@ pub fn wrong_logs_are_refused()
     ensures shut_twice { ¬ Lawful one_worker shut_twice }
     ensures not_linked { ¬ Lawful one_worker not_linked }
     ensures answered_early { ¬ Lawful one_worker answered_early }
+    ensures beyond_depth { ¬ Lawful one_worker beyond_depth }
+    ensures exchanged { ¬ Lawful two_stages exchanged }
+    ensures accepted_backwards { ¬ Lawful atomic_stages accepted_backwards }
+    ensures no_such_queue { ¬ Lawful one_worker no_such_queue }
+    ensures given_before { ¬ Lawful one_worker given_before }
 {}

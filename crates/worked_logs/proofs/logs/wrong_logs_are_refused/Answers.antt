@@ -1,4 +1,4 @@
-use Rattle.worked_logs.proofs.Refused.{given_twice_refused, overtaken_refused, split_slot_refused, accepted_early_refused, kept_for_good_refused, accepted_twice_refused, new_after_shut_refused, turned_before_shut_refused, shut_twice_refused, not_linked_refused, answered_early_refused}
+use Rattle.worked_logs.proofs.Refused.{given_twice_refused, overtaken_refused, split_slot_refused, accepted_early_refused, kept_for_good_refused, accepted_twice_refused, new_after_shut_refused, turned_before_shut_refused, shut_twice_refused, not_linked_refused, answered_early_refused, beyond_depth_refused, exchanged_refused, accepted_backwards_refused, no_such_queue_refused, given_before_refused}
 use Rattle.worked_logs.proofs.logs.wrong_logs_are_refused.Goals as goal
 
 pub returns : goal.returns
@@ -15,4 +15,9 @@ returns c =
       shut_twice = shut_twice_refused;
       not_linked = not_linked_refused;
       answered_early = answered_early_refused;
+      beyond_depth = beyond_depth_refused;
+      exchanged = exchanged_refused;
+      accepted_backwards = accepted_backwards_refused;
+      no_such_queue = no_such_queue_refused;
+      given_before = given_before_refused;
     }

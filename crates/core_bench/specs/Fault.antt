@@ -1,11 +1,13 @@
 -- Which faults are of the command line.
 use Rattle.std.specs.Prelude.{Bool, true, false}
 use Rattle.core_bench.specs.declared.fault.BenchFault.{BenchFault}
-use Rattle.core_bench.specs.declared.fault.BenchFault.TheVariants.{WordCount, Held, Rounds, Write, Memory, Device, Stuck}
+use Rattle.core_bench.specs.declared.fault.BenchFault.TheVariants.{WordCount, Held, Flows, Waiting, Rounds, Write, Memory, Device, Stuck}
 
 abbrev pub is_of_words : BenchFault → Bool
 is_of_words WordCount = true
 is_of_words Held = true
+is_of_words Flows = true
+is_of_words Waiting = true
 is_of_words Rounds = true
 is_of_words Write = false
 is_of_words Memory = false

@@ -4,7 +4,9 @@ ghost use Rattle.std.specs.Prelude.{◌≡◌, IfOk};
 ghost use Rattle.evt_types.specs.Plan.{lanes_of};
 
 use crate::fault::BenchFault;
-use evt_types::{Draft, Kind, MAX_DEPTH, MAX_SLOTS, PortDraft, QueueDraft, Serving, Shape};
+use evt_types::{
+    Draft, Kind, MAX_DEPTH, MAX_LIMIT, MAX_SLOTS, PortDraft, QueueDraft, Serving, Shape,
+};
 use std::alloc::{AllocError, Global};
 
 /// The lane of the port that brings events in.
@@ -15,7 +17,7 @@ pub const WORKER: usize = 1;
 /// A port that is linked to these queues.
 fn port(alloc: Global, links: &[u32]) -> Result<PortDraft, AllocError> {
     Ok(PortDraft {
-        threshold: MAX_DEPTH,
+        threshold: MAX_LIMIT,
         depth: MAX_DEPTH,
         replies: MAX_DEPTH,
         implicit: false,
@@ -35,7 +37,7 @@ pub fn bench_shape(alloc: Global) -> Result<Shape, BenchFault>
         single: false,
     };
     let draft = Draft {
-        limit: MAX_DEPTH,
+        limit: MAX_LIMIT,
         quantum: 1,
         sweep: 1,
         serving: Serving::Ports,

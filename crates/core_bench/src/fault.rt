@@ -8,11 +8,15 @@ use std::alloc::{AllocError, AllocFailed};
 /// Why a run stops before its end.
 #[derive(Clone, Copy, Debug, PartialEq, Eq)]
 pub enum BenchFault {
-    /// The command line has not two words.
+    /// The command line has not four words.
     WordCount,
     /// The first word is no number of 1 to 64.
     Held,
-    /// The second word is no number of rounds.
+    /// The second word is no number of 1 to 64.
+    Flows,
+    /// The third word is no number of events.
+    Waiting,
+    /// The fourth word is no number of rounds.
     Rounds,
     /// The line couldn't be written.
     Write,
@@ -28,8 +32,12 @@ impl BenchFault {
     /// What is said of it.
     pub fn text(self) -> &'static str {
         match self {
-            BenchFault::WordCount => "two words are wanted: the unanswered events and the rounds",
+            BenchFault::WordCount => {
+                "four words are wanted: the unanswered events, the flows, the waiting events and the rounds"
+            },
             BenchFault::Held => "the unanswered events must be a number of 1 to 64",
+            BenchFault::Flows => "the flows must be a number of 1 to 64",
+            BenchFault::Waiting => "the waiting events must be a number",
             BenchFault::Rounds => "the rounds must be a number",
             BenchFault::Write => "the line can't be written",
             BenchFault::Memory => "memory is lacking",
@@ -43,7 +51,11 @@ impl BenchFault {
         ensures { result ≡ (if is_of_words self then 2 else 1) }
     {
         match self {
-            BenchFault::WordCount | BenchFault::Held | BenchFault::Rounds => 2,
+            BenchFault::WordCount
+            | BenchFault::Held
+            | BenchFault::Flows
+            | BenchFault::Waiting
+            | BenchFault::Rounds => 2,
             BenchFault::Write | BenchFault::Memory | BenchFault::Device | BenchFault::Stuck => 1,
         }
     }

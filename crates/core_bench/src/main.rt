@@ -1,4 +1,5 @@
-//! The program `core_bench`: the scheduling core hands out and takes back events while a lane holds so many unanswered ones.
+//! The program `core_bench`: the scheduling core hands out and takes back events while a lane holds so many unanswered ones and
+//! so many wait.
 #![tactic(auto)]
 
 mod asked;
@@ -30,8 +31,15 @@ fn print_rounds<R: AllocGlobal + Env + Print>(rt: &R) -> Result<(), BenchFault> 
     let words = words(rt)?;
     let asked = read_words(&words)?;
     let inside = inside_after(rt.alloc(), asked)?;
-    let Asked { held, rounds } = asked;
-    match println!(rt; "held={held} rounds={rounds} inside={inside}") {
+    let Asked {
+        held,
+        flows,
+        waiting,
+        rounds,
+    } = asked;
+    match println!(rt;
+        "held={held} flows={flows} waiting={waiting} rounds={rounds} inside={inside}"
+    ) {
         Ok(()) => Ok(()),
         Err(_) => Err(BenchFault::Write),
     }

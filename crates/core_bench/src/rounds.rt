@@ -1,10 +1,10 @@
-//! Events are handed out until the lane holds so many, and then each round answers one and hands out another.
+//! Events are handed out until the lane holds so many, others wait, and then each round answers one and hands out another.
 
-ghost use Rattle.std.specs.Prelude.{◌≡◌, ◌+◌, IfOk, OnOk};
+ghost use Rattle.std.specs.Prelude.{◌≡◌, ◌+◌, ◌≤◌, IfOk, OnOk};
 ghost use Rattle.transcripts.specs.Standing.{inside_of};
 ghost use Rattle.core_bench.specs.Run.{IsRun};
 
-use crate::asked::Asked;
+use crate::asked::{Asked, MAX_FLOWS};
 use crate::fault::BenchFault;
 use crate::run::Run;
 use std::alloc::Global;
@@ -19,6 +19,18 @@ impl Run {
         for number in 0..held {
             self.enter(number)?;
             self.give()?;
+        }
+        Ok(())
+    }
+
+    /// So many new events wait.
+    fn queue_up(&mut self, waiting: u64) -> Result<(), BenchFault>
+        requires { IsRun self.old }
+        ensures run { OnOk result (IsRun self.new) }
+        ensures inside { OnOk result (inside_of self.new.core ≡ inside_of self.old.core + waiting) }
+    {
+        for number in 0..waiting {
+            self.enter(number)?;
         }
         Ok(())
     }
@@ -47,12 +59,14 @@ impl Run {
     }
 }
 
-/// How many events are inside after the rounds that are asked for: as many as the lane was to hold.
+/// How many events are inside after the rounds that are asked for: as many as the lane was to hold, and as were to wait.
 pub fn inside_after(alloc: Global, asked: Asked) -> Result<usize, BenchFault>
-    ensures { IfOk result (λ n. n ≡ asked.held) }
+    requires { (1 ≤ asked.flows) × (asked.flows ≤ MAX_FLOWS) }
+    ensures { IfOk result (λ n. n ≡ asked.held + asked.waiting) }
 {
-    let mut run = Run::new(alloc)?;
+    let mut run = Run::new(alloc, asked.flows)?;
     run.fill(asked.held)?;
+    run.queue_up(asked.waiting)?;
     run.rounds(asked.rounds)?;
     Ok(run.core.inside())
 }

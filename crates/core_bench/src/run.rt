@@ -1,31 +1,32 @@
 //! A core, and the log of the steps of its last call.
 
-ghost use Rattle.std.specs.Prelude.{◌≡◌, ◌+◌, IfOk, OnOk};
+ghost use Rattle.std.specs.Prelude.{◌≡◌, ◌+◌, ◌≤◌, IfOk, OnOk};
 ghost use Rattle.transcripts.specs.Standing.{inside_of};
 ghost use Rattle.core_bench.specs.Run.{IsRun};
 
+use crate::asked::MAX_FLOWS;
 use crate::device::{SOURCE, WORKER, bench_shape};
 use crate::fault::BenchFault;
 use evt_types::{Event, Op, Reply, Step};
 use sched_core::{Core, Skips, Took};
 use std::alloc::Global;
 
-/// How many flows the events have.
-const FLOWS: u64 = 64;
-
 /// A core, and the log of the steps of its last call: it is emptied before each call, so no time goes into its growth.
 #[derive(Drop)]
 pub struct Run {
     pub core: Core,
     pub log: Vec<Step>,
+    /// Of how many flows the events are.
+    pub flows: u64,
 }
 
-/// The new event of this number.
-fn new_event(number: u64) -> Event
+/// The new event of this number, of one of so many flows.
+fn new_event(number: u64, flows: u64) -> Event
+    requires { (1 ≤ flows) × (flows ≤ MAX_FLOWS) }
     ensures { result.op ≡ Op.New }
 {
     Event {
-        flow: (number % FLOWS) as u32,
+        flow: (number % flows) as u32,
         sub_type: 0,
         event_type: 0,
         op: Op::New,
@@ -38,7 +39,8 @@ fn new_event(number: u64) -> Event
 
 impl Run {
     /// A run of a device in which nothing has happened.
-    pub fn new(alloc: Global) -> Result<Run, BenchFault>
+    pub fn new(alloc: Global, flows: u64) -> Result<Run, BenchFault>
+        requires { (1 ≤ flows) × (flows ≤ MAX_FLOWS) }
         ensures run { IfOk result (λ r. IsRun r) }
         ensures inside { IfOk result (λ r. inside_of r.core ≡ 0) }
     {
@@ -46,7 +48,7 @@ impl Run {
         match Core::new(alloc, shape) {
             Ok(core) => {
                 let log = Vec::with_capacity(alloc, core.log_room())?;
-                Ok(Run { core, log })
+                Ok(Run { core, log, flows })
             }
             Err((memory, _)) => Err(BenchFault::from(memory)),
         }
@@ -59,7 +61,7 @@ impl Run {
         ensures inside { OnOk result (inside_of self.new.core ≡ inside_of self.old.core + 1) }
     {
         let reply = Reply {
-            event: new_event(number),
+            event: new_event(number, self.flows),
         };
         if !self.core.takes(SOURCE, &reply) {
             return Err(BenchFault::Stuck);

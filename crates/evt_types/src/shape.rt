@@ -11,11 +11,11 @@ use std::alloc::{AllocError, Global};
 use std::marker::Model;
 
 /// The most queues of a device.
-pub const MAX_QUEUES: usize = 16;
+pub const MAX_QUEUES: usize = 32;
 /// The most ports.
-pub const MAX_PORTS: usize = 16;
+pub const MAX_PORTS: usize = 32;
 /// The highest limit on the events inside.
-pub const MAX_LIMIT: u32 = 4096;
+pub const MAX_LIMIT: u32 = 16384;
 /// The most events that a port holds, and the most room of a reply ring.
 pub const MAX_DEPTH: u32 = 64;
 /// The most slots of an atomic queue.

@@ -125,8 +125,8 @@ fn refused_numbers(rt: HostRuntime) -> Result<(), Fail> {
     for (limit, slots, fault) in [
         (4, 4, None),
         (0, 4, Some(ShapeFault::LimitRange)),
-        (4096, 4, None),
-        (4097, 4, Some(ShapeFault::LimitRange)),
+        (16384, 4, None),
+        (16385, 4, Some(ShapeFault::LimitRange)),
         (4, 64, None),
         (4, 65, Some(ShapeFault::FlowSlots)),
     ] {
@@ -163,7 +163,7 @@ fn refused_links(rt: HostRuntime) -> Result<(), Fail> {
         refusal(alloc, 4, &queues, &unlinked)?,
         Some(ShapeFault::QueueUnlinked)
     );
-    let many: [&[u32]; 17] = [&[]; 17];
+    let many: [&[u32]; 33] = [&[]; 33];
     assert_eq!(rt;
         refusal(alloc, 4, &queues, &many)?,
         Some(ShapeFault::PortCount)

@@ -1,18 +1,15 @@
-//! A scheduling core that does what the definitions say by searching plain lists. It holds the view of a transcript as it
-//! is defined, keeps no counter and no order but the lists' own, and serves the tests of the product's core as its measure.
+//! A scheduling core for tests to measure the product's core by. It does what the definitions say, in the plainest way: it
+//! keeps lists of all that was ever accepted and handed out, and finds each answer by going over them. Its calls promise
+//! nothing but that they end and never panic, so its worth lies in being read, and in being told apart from another core.
 #![tactic(auto)]
 
-mod answer;
-mod give;
-mod new;
-mod place;
-mod propose;
-#[cfg(test)]
-mod runs;
-mod shut;
+mod choice;
+mod offer;
+mod reply;
+mod skips;
 mod state;
-mod take;
-#[cfg(test)]
-mod tests;
 
+pub use offer::PlainOffer;
+pub use reply::PlainTook;
+pub use skips::PlainSkips;
 pub use state::PlainCore;

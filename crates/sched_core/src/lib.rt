@@ -14,10 +14,6 @@ mod shut;
 mod skips;
 mod state;
 mod take;
-#[cfg(test)]
-mod tests;
-#[cfg(test)]
-mod tests_ordered;
 
 pub use offer::Offer;
 pub use skips::Skips;

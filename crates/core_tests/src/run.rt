@@ -1,0 +1,106 @@
+//! The core with the log of its steps.
+
+use crate::moves::{Made, Move};
+use evt_types::{Delivery, Event, MAX_PORTS, MAX_QUEUES, MAX_SWEEP, Reply, Shape, Step};
+use sched_core::{Core, Offer, Skips, Took};
+use std::alloc::Global;
+use std::marker::Model;
+use std::test::Fail;
+
+/// A core, what its sweep passes over, and the log of all steps that it has made.
+#[derive(Drop)]
+pub(crate) struct Run {
+    pub(crate) core: Core,
+    pub(crate) skips: Skips,
+    pub(crate) log: Vec<Step>,
+}
+
+impl Model for Run {
+    ghost use Rattle.transcripts.specs.Standing.{View, Stands};
+
+    ghost Value = { View };
+
+    ghost view = { λ a. a.core };
+
+    ghost invariant = { λ a. Stands a.log.items a.core };
+}
+
+impl Run {
+    /// A core in which nothing has happened.
+    pub(crate) fn new(alloc: Global, shape: Shape) -> Result<Run, Fail> {
+        let log = Vec::new(alloc);
+        let skips = Skips::none();
+        match Core::new(alloc, shape) {
+            Ok(core) => Ok(Run { core, skips, log }),
+            Err((memory, _)) => Err(Fail::from(memory)),
+        }
+    }
+
+    /// What comes of each of the moves.
+    pub(crate) fn play(&mut self, alloc: Global, moves: &[Move]) -> Result<Vec<Made>, Fail> {
+        let mut all = Vec::new(alloc);
+        for step in moves {
+            all.push(self.make(*step)?)?;
+        }
+        Ok(all)
+    }
+
+    /// What comes of a move.
+    pub(crate) fn make(&mut self, step: Move) -> Result<Made, Fail> {
+        match step {
+            Move::Reply { lane, event } => Ok(Made::Took(self.take(lane, event)?)),
+            Move::Give => Ok(Made::Proposed(self.give()?)),
+            Move::Bounce => Ok(Made::Proposed(self.bounce()?)),
+            Move::Shut => {
+                self.log.reserve(1)?;
+                self.core.shut(&mut self.log);
+                Ok(Made::Nothing)
+            }
+            Move::NextSweep => {
+                self.skips = Skips::none();
+                Ok(Made::Nothing)
+            }
+        }
+    }
+
+    /// Takes a reply, where it may be taken.
+    fn take(&mut self, lane: usize, event: Event) -> Result<Option<Took>, Fail> {
+        let reply = Reply { event };
+        let shape = self.core.shape();
+        // The quantum is 1 at least, so what is enough for a sweep is enough for a reply.
+        let _ = shape.sweep();
+        if shape.lanes() <= lane || !self.core.takes(lane, &reply) {
+            return Ok(None);
+        }
+        let room = self.core.log_room();
+        self.log.reserve(room)?;
+        Ok(Some(self.core.take(lane, reply, &mut self.log)))
+    }
+
+    /// Gives what is proposed.
+    fn give(&mut self) -> Result<Option<Offer>, Fail> {
+        let Some(offer) = self.core.propose(&self.skips) else {
+            return Ok(None);
+        };
+        self.log.reserve(1)?;
+        self.core.give(offer, &mut self.log);
+        let Delivery { queue, .. } = offer.delivery;
+        if queue < MAX_QUEUES && self.skips.has_quota(queue, MAX_SWEEP) {
+            self.skips.given(queue);
+        }
+        Ok(Some(offer))
+    }
+
+    /// The lane of what is proposed has no room.
+    fn bounce(&mut self) -> Result<Option<Offer>, Fail> {
+        let Some(offer) = self.core.propose(&self.skips) else {
+            return Ok(None);
+        };
+        self.log.reserve(1)?;
+        self.core.bounce(offer.lane, &mut self.log);
+        if offer.lane < MAX_PORTS {
+            self.skips.bounced(offer.lane);
+        }
+        Ok(Some(offer))
+    }
+}

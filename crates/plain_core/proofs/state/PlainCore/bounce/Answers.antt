@@ -1,5 +1,0 @@
-use Rattle.transcripts.proofs.WholeStands.{stands_bounced}
-use Rattle.plain_core.proofs.state.PlainCore.bounce.Goals as goal
-
-pub returns-clause-stands : goal.returns-clause-stands
-returns-clause-stands c T stands = stands_bounced c.args.self.now T c.args.lane stands c.requires.lane

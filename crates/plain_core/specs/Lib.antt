@@ -1,3 +1,0 @@
-pub mod First
-pub mod Queues
-pub mod View

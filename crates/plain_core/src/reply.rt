@@ -1,0 +1,142 @@
+//! Replies of the lanes are taken.
+
+use crate::state::{Accepted, PlainCore};
+use evt_types::{Event, Op, Outcome, Source, Step};
+use std::alloc::AllocError;
+
+/// How many events a core accepts in all.
+const MAX_ENTRIES: u64 = 1 << 63;
+
+/// What became of a reply.
+#[derive(Clone, Copy, Debug, PartialEq, Eq)]
+pub enum PlainTook {
+    /// Its event waits in its queue.
+    Accepted,
+    /// Its event is kept until all that was handed out before is answered.
+    Kept,
+    /// The event that it answers is done with.
+    Released,
+    /// It was turned away, since the core is shut.
+    Turned,
+}
+
+impl PlainCore {
+    /// Whether the lane's reply may be taken now.
+    pub fn takes(&self, lane: usize, event: Event) -> bool {
+        if lane >= self.shape.lanes() {
+            return false;
+        }
+        let is_there = self.queue(usize::from(event.queue)).is_some();
+        let has_room = self.inside() < self.shape.bound();
+        match event.op {
+            Op::New => is_there && (self.is_shut() || (has_room && self.has_numbers())),
+            Op::Forward => is_there && self.oldest(lane).is_some() && self.has_numbers(),
+            Op::Release => self.oldest(lane).is_some(),
+        }
+    }
+
+    /// Whether one more event may be accepted, now or later, beside those that were and those that are kept.
+    fn has_numbers(&self) -> bool {
+        let accepted = self.accepted.len() as u64;
+        accepted.saturating_add(self.kept_len() as u64) < MAX_ENTRIES
+    }
+
+    /// The place of the lane's oldest unanswered event among the hand-outs.
+    fn oldest(&self, lane: usize) -> Option<usize> {
+        self.handed
+            .iter()
+            .position(|out| out.lane == lane && !out.is_answered())
+    }
+
+    /// Takes the lane's reply, if it may be taken.
+    pub fn take(&mut self, lane: usize, event: Event) -> Result<Option<PlainTook>, AllocError> {
+        if !self.takes(lane, event) {
+            return Ok(None);
+        }
+        match event.op {
+            Op::New => Ok(Some(self.enter(lane, event)?)),
+            Op::Forward => self.answer(lane, Outcome::Forwarded(event)),
+            Op::Release => self.answer(lane, Outcome::Released),
+        }
+    }
+
+    /// A new event is accepted, or turned away.
+    fn enter(&mut self, lane: usize, event: Event) -> Result<PlainTook, AllocError> {
+        if self.is_shut() {
+            self.log.push(Step::Turned { lane, event })?;
+            return Ok(PlainTook::Turned);
+        }
+        self.accept(event, Source::New { lane })?;
+        Ok(PlainTook::Accepted)
+    }
+
+    /// The event waits in its queue, under the number of events that the queue has accepted before.
+    fn accept(&mut self, event: Event, source: Source) -> Result<(), AllocError> {
+        let queue = usize::from(event.queue);
+        let before = self.accepted.iter().filter(|other| other.queue == queue);
+        let number = before.count() as u64;
+        self.log.push(Step::Accept {
+            queue,
+            event,
+            source,
+        })?;
+        self.accepted.push(Accepted {
+            queue,
+            number,
+            event,
+            is_given: false,
+        })?;
+        Ok(())
+    }
+
+    /// The lane's oldest unanswered event, if there is one, is answered so.
+    fn answer(&mut self, lane: usize, outcome: Outcome) -> Result<Option<PlainTook>, AllocError> {
+        let Some(place) = self.oldest(lane) else {
+            return Ok(None);
+        };
+        self.log.push(Step::Done { lane, outcome })?;
+        if let Some(out) = self.handed.get_mut(place) {
+            out.answer = Some(outcome);
+        }
+        self.pass_on()?;
+        Ok(Some(match outcome {
+            Outcome::Released => PlainTook::Released,
+            Outcome::Forwarded(_) if self.is_kept(place) => PlainTook::Kept,
+            Outcome::Forwarded(_) => PlainTook::Accepted,
+        }))
+    }
+
+    /// Whether what the hand-out at this place was forwarded as is kept still.
+    fn is_kept(&self, place: usize) -> bool {
+        let out = self.handed.get(place);
+        out.is_some_and(|out| out.kept().is_some())
+    }
+
+    /// Accepts what was forwarded and need not be kept any more, in hand-out order.
+    fn pass_on(&mut self) -> Result<(), AllocError> {
+        for place in 0..self.handed.len() {
+            if let Some((event, source)) = self.due(place) {
+                self.accept(event, source)?;
+                if let Some(out) = self.handed.get_mut(place) {
+                    out.is_passed_on = true;
+                }
+            }
+        }
+        Ok(())
+    }
+
+    /// What the hand-out at this place was forwarded as, if it is to be accepted now: of an ordered queue's event, once all
+    /// that the queue handed out before is answered.
+    fn due(&self, place: usize) -> Option<(Event, Source)> {
+        let out = self.handed.get(place)?;
+        let event = out.kept()?;
+        let queue = out.queue;
+        let is_ordered = self.queue(queue)?.kind.is_ordered();
+        let mut before = self.handed.iter().take(place);
+        if is_ordered && !before.all(|other| other.queue != queue || other.is_answered()) {
+            return None;
+        }
+        let number = out.number;
+        Some((event, Source::Of { queue, number }))
+    }
+}

@@ -1,2 +1,7 @@
+pub mod Filters
+pub mod Fronts
 pub mod Lists
+pub mod Ranges
+pub mod Sorted
 pub mod Sums
+pub mod Writes

@@ -1,5 +1,5 @@
 -- Sums over the numbers below n, where the terms change at one place, and how many items there are, key by key.
-use Rattle.std.specs.Prelude.{ℕ, ◌≡◌, ◌≢◌, ◌<◌, ◌≤◌, ◌+◌, ◌*◌, Bool, true, cond, ◌||◌, ◌==◌, List, [], ◌∷◌, length, sum_by, count_by, All, AllPairs}
+use Rattle.std.specs.Prelude.{ℕ, ◌≡◌, ◌≢◌, ◌<◌, ◌≤◌, ◌+◌, ◌*◌, Bool, true, cond, ◌||◌, ◌==◌, List, [], ◌∷◌, length, map, sum_by, count_by, All, AllPairs}
 use Rattle.std.specs.List.{range_with_len}
 use Rattle.std.proofs.Common.{refl, sym, ap, ◌∙◌, subst, arith, ⊎_elim, zero, suc, get_or, eq-eqb}
 use Rattle.std.proofs.lemmas.Bool.{cases_eq, false≢true, ne_eqb}
@@ -60,6 +60,16 @@ sum_changed_in f g (n ∷ ns) i x y once in' here same =
     let first : f n ≡ g n = same n other in
     omega (arith, sum_by-cons f n ns, sum_by-cons g n ns))
     (cases_eq n i)
+
+-- ---- sums over a list
+
+pub sum_of_map : {X Y : Type 0} (f : Y → ℕ) (g : X → Y) (xs : List X) → sum_by f (map g xs) ≡ sum_by (λ x. f (g x)) xs
+sum_of_map f g [] = refl
+sum_of_map f g (x ∷ xs) = sum_by-cons f (g x) (map g xs) ∙ (ap (λ n. f (g x) + n) (sum_of_map f g xs) ∙ sym (sum_by-cons (λ y. f (g y)) x xs))
+
+pub sum_of_none : {X : Type 0} (f : X → ℕ) (xs : List X) → All (λ x. f x ≡ 0) xs → sum_by f xs ≡ 0
+sum_of_none f [] all = refl
+sum_of_none f (x ∷ xs) all = sum_by-cons f x xs ∙ (ap (λ n. n + sum_by f xs) (All-head (λ y. f y ≡ 0) x xs all) ∙ (omega (arith, sum_of_none f xs (All-tail (λ y. f y ≡ 0) x xs all))))
 
 -- ---- how many items there are, key by key
 

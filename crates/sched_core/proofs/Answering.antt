@@ -5,7 +5,7 @@ use Rattle.std.proofs.lemmas.Bool.{cases_Bool, cond-true, cond-false, lt-ltb}
 use Rattle.std.proofs.lemmas.List.{length-set, length-drop, length-map, map-set, drop-map, get_or-map, set-get_or}
 use Rattle.std.proofs.lemmas.List.Elements.{All-head}
 use Rattle.std.proofs.lemmas.List.Sums.{sum_by-set, get_or-le-sum_by}
-use Rattle.transcripts.proofs.ViewLists.{sum_of_map}
+use Rattle.lists.proofs.Sums.{sum_of_map}
 use Rattle.evt_types.specs.Fault.{IsWithinLimits}
 use Rattle.evt_types.specs.Plan.{Plan, queue_of, bound_of, is_ordered, kept_room}
 use Rattle.transcripts.specs.Standing.{View, inside_of, entries_of, kept_in, oldest_at, places_at, unanswered_at, answer_place, events_of}

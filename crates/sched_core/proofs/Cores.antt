@@ -6,7 +6,8 @@ use Rattle.std.proofs.lemmas.List.{length-set, length-map, length_push, map-set,
 use Rattle.std.proofs.lemmas.List.Elements.{All-set}
 use Rattle.std.proofs.lemmas.List.Sums.{sum_by-le, sum_by-set, sum-map, get_or-le-sum_by}
 use Rattle.std.proofs.lemmas.Option.{same_Some}
-use Rattle.transcripts.proofs.ViewLists.{event_in_at, event_in_some, sum_of_map}
+use Rattle.transcripts.proofs.ViewLists.{event_in_at, event_in_some}
+use Rattle.lists.proofs.Sums.{sum_of_map}
 use Rattle.evt_types.specs.Fault.{IsWithinLimits}
 use Rattle.evt_types.specs.declared.shape.TheConstants.{MAX_ORDER, MAX_QUEUES}
 use Rattle.evt_types.specs.Plan.{Plan, is_ordered, kept_room, level_of, lanes_of, depth_of, bound_of}

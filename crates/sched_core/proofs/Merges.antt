@@ -5,7 +5,8 @@ use Rattle.std.proofs.lemmas.Bool.{cases_eq, cond-true, cond-false, false_from_n
 use Rattle.std.proofs.lemmas.List.Elements.{All-head, All-tail, All-weaker, All-filter}
 use Rattle.std.proofs.lemmas.List.Sums.{sum_by-cons}
 use Rattle.lists.proofs.Lists.{eqb_same, eqb_other, eqb_is, filter-all, filter-none, filter_agree_all, filter_twice, filter-push_true, filter-push_false}
-use Rattle.transcripts.proofs.ViewLists.{rest_differs, rest_rises, mapped_changed}
+use Rattle.transcripts.proofs.ViewLists.{rest_differs, rest_rises}
+use Rattle.lists.proofs.Ranges.{mapped_changed}
 use Rattle.transcripts.specs.Lawful.{is_of_level}
 use Rattle.evt_types.specs.Plan.{level_of}
 use Rattle.evt_types.specs.declared.event.Numbered.{Numbered}

@@ -6,7 +6,7 @@ use Rattle.std.proofs.lemmas.List.Elements.{All-nil, All-push, All-map, All-weak
 use Rattle.std.proofs.lemmas.List.FromFn.{fill_by_all}
 use Rattle.std.proofs.lemmas.List.Sums.{sum-map}
 use Rattle.std.specs.List.{sum, sum_by}
-use Rattle.transcripts.proofs.ViewLists.{sum_of_map, sum_of_none}
+use Rattle.lists.proofs.Sums.{sum_of_map, sum_of_none}
 use Rattle.transcripts.proofs.WholeViews.{waiting_at_none, accepted_at_none, unanswered_at_none, places_at_none}
 use Rattle.evt_types.specs.Fault.{IsWithinLimits}
 use Rattle.evt_types.specs.Plan.{Plan, level_of, kept_room, lanes_of, depth_of, bound_of, queue_of}

@@ -19,7 +19,7 @@ use Rattle.evt_types.specs.declared.step.Step.{Step}
 use Rattle.evt_types.specs.declared.step.Step.TheVariants.{Give}
 use Rattle.sched_core.specs.Offered.{numbered_in, FitsSlot, HasNoneAt, HasNoneIn, IsOfferAt, IsOfferIn, IsOfferOf, better_of, is_ahead, level_at}
 use Rattle.sched_core.specs.Waits.{IsRising}
-use Rattle.sched_core.proofs.Kept.{passes, was_there}
+use Rattle.lists.proofs.Filters.{passes, was_there}
 use Rattle.sched_core.proofs.Queues.{level_rises}
 use Rattle.std.proofs.lemmas.Option.{get_or_from_slice_get}
 use Rattle.sched_core.specs.declared.offer.Offer.{Offer}

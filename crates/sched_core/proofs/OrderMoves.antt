@@ -12,7 +12,7 @@ use Rattle.order_parts.specs.Reorder.{Reordering, empty, next_number, open_place
 use Rattle.order_parts.specs.declared.history.Entry.{Entry}
 use Rattle.sched_core.specs.Ordered.{ArePlaces, IsOrder, HavePlaces, HasPlace, AreOnce, StandsIn, order_at, waits_at, entries_at, entry_at}
 use Rattle.sched_core.specs.Waits.{Waits, no_waits, with_event, without_number}
-use Rattle.sched_core.proofs.OrderLists.{slice_get-drop_one}
+use Rattle.lists.proofs.Writes.{slice_get-drop_one}
 use Rattle.sched_core.proofs.Ordered.{order_accepts, order_gives, order_hands, order_answers, order_leaves, waits_apart, stands_hands, stands_new, stands_answers, stands_leaves, may_resolve}
 
 -- ---- one queue's buffer changes, and what waits there

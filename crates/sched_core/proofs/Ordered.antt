@@ -18,7 +18,8 @@ use Rattle.order_parts.specs.Reorder.{Reordering, next_number, open_place, place
 use Rattle.order_parts.specs.declared.history.Entry.{Entry}
 use Rattle.sched_core.specs.Ordered.{IsOrder, IsGivenOf, KeepsOne, StandsAt, StandsIn, outcome_of, kept_of}
 use Rattle.sched_core.specs.Waits.{Waits, with_event, without_number}
-use Rattle.sched_core.proofs.OrderLists.{back_of, counted_on, slice_get-set_other, slice_get-drop_one, AllPairs-set_like}
+use Rattle.sched_core.proofs.PlaceNumbers.{back_of, counted_on}
+use Rattle.lists.proofs.Writes.{slice_get-set_other, slice_get-drop_one, AllPairs-set_like}
 
 -- ---- the events that wait change
 

@@ -6,7 +6,7 @@ use Rattle.std.proofs.lemmas.List.Elements.{All-nil, All-cons, All-head, All-pus
 use Rattle.std.proofs.lemmas.List.Sums.{sum_by-append, sum_by-cons, count_by-le-length}
 use Rattle.std.proofs.lemmas.Option.{same_Some}
 use Rattle.lists.proofs.Lists.{eqb_same}
-use Rattle.transcripts.proofs.ViewLists.{sum_of_none}
+use Rattle.lists.proofs.Sums.{sum_of_none}
 use Rattle.evt_types.specs.Fault.{IsWithinLimits, IsBetween}
 use Rattle.evt_types.specs.declared.shape.TheConstants.{MAX_DEPTH, MAX_SLOTS}
 use Rattle.evt_types.specs.Plan.{Plan, PortPlan, queue_of, slot_of, depth_of, is_atomic}

@@ -11,7 +11,8 @@ use Rattle.std.specs.List.Sorted.{IsNonDecreasing, IsPermutation}
 use Rattle.std.proofs.lemmas.List.Sums.{length-filter, count_by-le-length, sum_by-append, sum_by-cons}
 use Rattle.std.proofs.lemmas.Option.{none-some, get_or_from_slice_get}
 use Rattle.lists.proofs.Lists.{All-kept, All-weaker_all, filter-all, eqb_other, slice_get-some}
-use Rattle.transcripts.proofs.ViewLists.{mapped_at, sum_of_map}
+use Rattle.lists.proofs.Ranges.{mapped_at}
+use Rattle.lists.proofs.Sums.{sum_of_map}
 use Rattle.transcripts.specs.Lawful.{is_of_level}
 use Rattle.evt_types.specs.Plan.{level_of}
 use Rattle.evt_types.specs.declared.event.Event.{Event}
@@ -21,7 +22,7 @@ use Rattle.sched_core.specs.Merge.{by_number, levels_of, waits_in, IsQueue}
 use Rattle.sched_core.specs.Waits.{Waits, AreWaits, IsPlaceOf, IsRising, at_level, with_event, without_number}
 use Rattle.sched_core.specs.declared.queue.Queue.TheInside.{Inside}
 use Rattle.sched_core.proofs.Merges.{merges_back, by_number_sum, levels_with, levels_without, remove_is_filter, is_other}
-use Rattle.sched_core.proofs.Sorted.{sorted_same, tail_sorted, tail_is}
+use Rattle.lists.proofs.Sorted.{sorted_same, tail_sorted, tail_is}
 use borrow.Rule.Slice.PartMut.{mid_of, put_mid}
 
 -- the list of a level

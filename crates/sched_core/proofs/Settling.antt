@@ -18,7 +18,7 @@ use Rattle.order_parts.specs.Reorder.{oldest_answered, left}
 use Rattle.sched_core.specs.Settling.{with_places_at, leaving_steps, flush_steps, flushed, after_leaving_of, answered_view, IsOnTheWay}
 use Rattle.sched_core.specs.Answered.{after_answer, after_leave, places_answered, rest_behind}
 use Rattle.sched_core.specs.Taken.{is_accept_of}
-use Rattle.sched_core.proofs.OrderLists.{set-set}
+use Rattle.lists.proofs.Writes.{set-set}
 use Rattle.sched_core.proofs.Ordered.{leaving_is}
 
 -- ---- the places at the front

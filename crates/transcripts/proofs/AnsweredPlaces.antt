@@ -20,7 +20,7 @@ use Rattle.evt_types.specs.declared.step.Step.TheVariants.{Accept, Give, Done, T
 use Rattle.transcripts.proofs.Account.{taken_allowed}
 use Rattle.transcripts.proofs.Facts.{Facts, AllowedAfter_keeps, next_pair_is_given}
 use Rattle.lists.proofs.Lists.{eqb_same, eqb_other, map_agree, from_first-agree, All-option, All-weaker_all}
-use Rattle.transcripts.proofs.OpenPlaces.{tag, tagged, front_passes, front-map, rest-map, front_after, rest_after, has_each, has_front, tagged-append, tagged_agree, tagged_none, tagged_nil, tagged_single, map-tagged, flat_map-map}
+use Rattle.lists.proofs.Fronts.{tag, tagged, front_passes, front-map, rest-map, front_after, rest_after, has_each, has_front, tagged-append, tagged_agree, tagged_none, tagged_nil, tagged_single, map-tagged, flat_map-map}
 use Rattle.transcripts.proofs.Overdue.{overdue, late_ordered, late_plain, overdue_stays, settled_overdue, untaken, open_untaken}
 use Rattle.transcripts.proofs.Pushes.{is_pair-queue, is_pair-number, hand-none, taken-none, forwards-none, forwards-some, forwards-other, forwards-sends, is_answered-more, is_answered-same, is_answered-other, unanswered-next}
 use Rattle.transcripts.proofs.Sources.{Single-allowed}

@@ -13,7 +13,7 @@ use Rattle.transcripts.specs.Lawful.{Lawful}
 use Rattle.transcripts.specs.Laws.{IsAnsweredTo, KeepsNoneTo, NeverStepsBack}
 use Rattle.evt_types.specs.declared.step.Step.{Step}
 use Rattle.lists.proofs.Lists.{eqb_same, eqb_other, has-Contains}
-use Rattle.transcripts.proofs.OpenPlaces.{tagged_nil}
+use Rattle.lists.proofs.Fronts.{tagged_nil}
 use Rattle.transcripts.proofs.Overdue.{late_of, late_ordered, late_plain, settled_overdue}
 use Rattle.transcripts.proofs.Sources.{Single-allowed, accepted_once}
 use Rattle.transcripts.proofs.Whole.{Known-allowed, steps-Lawful}

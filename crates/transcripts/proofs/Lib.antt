@@ -7,7 +7,6 @@ pub mod Fewness
 pub mod Flows
 pub mod HandOrder
 pub mod Insides
-pub mod OpenPlaces
 pub mod Orders
 pub mod Origins
 pub mod Overdue

@@ -16,7 +16,7 @@ use Rattle.evt_types.specs.declared.step.Step.{Step}
 use Rattle.evt_types.specs.declared.step.Step.TheVariants.{Accept, Give}
 use Rattle.transcripts.proofs.Facts.{Facts, no_forwards, not_answered}
 use Rattle.lists.proofs.Lists.{eqb_same, All-front, All-has, All-weaker_all}
-use Rattle.transcripts.proofs.OpenPlaces.{tag, tagged, First, front_and_rest, front_agree, front-push, has_each, upto_front, upto_rest, tagged-append, tagged_agree, All-tagged}
+use Rattle.lists.proofs.Fronts.{tag, tagged, First, front_and_rest, front_agree, front-push, has_each, upto_front, upto_rest, tagged-append, tagged_agree, All-tagged}
 use Rattle.transcripts.proofs.Pushes.{given_of-same, given_of-other, source_in-same, is_pair-queue, is_pair-number, taken_in_is, taken_in-same, taken_in-other, taken-some, hand-none, hand-some, forwards-none, kept_of-none, kept_of-nil, is_answered-none}
 
 -- ---- the overdue events

@@ -18,7 +18,7 @@ use Rattle.evt_types.specs.declared.step.Step.TheVariants.{Done}
 use Rattle.transcripts.proofs.AnsweredPlaces.{IsForward, forwards_formed, accept_from, done_overdue_other, done_overdue_plain, done_overdue_ordered}
 use Rattle.transcripts.proofs.Facts.{Facts, Facts-allowed, AllowedAfter-push, next_pair-queue}
 use Rattle.lists.proofs.Lists.{slice_get-drop, upto-more}
-use Rattle.transcripts.proofs.OpenPlaces.{tag, First, front_and_rest, front_or_rest, front_upto, has_each, has_front, upto_front, tagged_first, All-tag, All-tagged, All-tagged_items}
+use Rattle.lists.proofs.Fronts.{tag, First, front_and_rest, front_or_rest, front_upto, has_each, has_front, upto_front, tagged_first, All-tag, All-tagged, All-tagged_items}
 use Rattle.transcripts.proofs.Overdue.{late_of, overdue, late_ordered, late_once, overdue_settled, overdue_accept, overdue_accept_other, open_untaken}
 use Rattle.transcripts.proofs.Pushes.{source_in-same, hand-none, sources-some, sources-none, event_at-none}
 use Rattle.transcripts.proofs.Rising.{kind_is_one, next_rises}

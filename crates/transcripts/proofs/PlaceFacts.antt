@@ -16,7 +16,7 @@ use Rattle.evt_types.specs.declared.step.Step.{Step}
 use Rattle.transcripts.proofs.AnsweredPlaces.{places_ordered}
 use Rattle.transcripts.proofs.Facts.{IsGiven, Facts}
 use Rattle.lists.proofs.Lists.{eqb_same, eqb_other, has-Contains}
-use Rattle.transcripts.proofs.OpenPlaces.{front_and_rest, front_or_rest, front_passes}
+use Rattle.lists.proofs.Fronts.{front_and_rest, front_or_rest, front_passes}
 use Rattle.transcripts.proofs.Sources.{Once, Single-allowed}
 use Rattle.transcripts.proofs.Whole.{Known-allowed, steps-Lawful}
 use Rattle.transcripts.proofs.WholeStands.{places_is, unanswered_is}

@@ -1,5 +1,5 @@
 -- The steps of a sweep fit the room that is made for them.
-use Rattle.std.proofs.Common.{◌≡◌, ℕ, ◌+◌, ◌*◌, ◌<◌, ◌≤◌, true, false, List, [], ◌∷◌, ◌++◌, length, sum_by, filter_map, All, ◌⊎◌, inl, inr, ⊎_elim, refl, sym, ap, ◌∙◌, subst, arith, append_assoc}
+use Rattle.std.proofs.Common.{◌≡◌, ℕ, ◌+◌, ◌*◌, ◌<◌, ◌≤◌, false, List, [], ◌∷◌, ◌++◌, length, sum_by, filter_map, All, ◌⊎◌, inl, inr, refl, sym, ap, ◌∙◌, subst, arith}
 use Rattle.std.proofs.lemmas.List.{length-append}
 use Rattle.std.proofs.lemmas.List.Elements.{All-nil, All-cons, All-head, All-tail}
 use Rattle.evt_types.specs.Plan.{Plan, kept_room, lanes_of}
@@ -7,7 +7,7 @@ use Rattle.evt_types.specs.declared.event.Event.{Event}
 use Rattle.evt_types.specs.declared.step.Step.{Step}
 use Rattle.evt_types.specs.declared.step.Step.TheVariants.{Accept, Give, Done, Turned, Bounced, Shut}
 use Rattle.lists.proofs.Sums.{length_by_keys}
-use Rattle.transcripts.specs.Standing.{View, Stands, may_take, steps_of, after, kept_in}
+use Rattle.transcripts.specs.Standing.{View, Stands, steps_of, after, kept_in}
 use Rattle.transcripts.specs.Sweep.{IsOffered, IsSweep, MayBeTaken, Sweeping, bounced_lane, given_queue, replies_steps, sweep_room, sweep_steps}
 use Rattle.transcripts.proofs.Fewness.{kept_fit, steps_fit}
 use Rattle.transcripts.proofs.WholeStands.{shape_after, stands_shut, takes_stand}

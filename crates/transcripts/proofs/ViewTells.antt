@@ -1,21 +1,19 @@
 -- What a view tells of its transcript: how many events were accepted or are kept, which replies may be taken, and what is kept.
-use Rattle.std.proofs.Common.{◌≡◌, ℕ, ◌+◌, ◌<◌, ◌^◌, Bool, true, false, ◌&&◌, ◌||◌, nat_lt, List, [], ◌∷◌, ◌++◌, length, map, sum, sum_by, flat_map, ◌⊎◌, inl, inr, refl, sym, ap, ◌∙◌}
+use Rattle.std.proofs.Common.{◌≡◌, ℕ, ◌+◌, ◌<◌, ◌^◌, true, false, ◌&&◌, ◌||◌, nat_lt, List, [], ◌∷◌, ◌++◌, length, map, sum_by, flat_map, ◌⊎◌, inl, inr, refl, sym, ap, ◌∙◌}
 use Rattle.std.proofs.lemmas.Bool.{cases_Bool}
 use Rattle.std.proofs.lemmas.List.{map-append}
 use Rattle.evt_types.specs.Plan.{Plan, queue_of, lanes_of, bound_of, is_ordered, queues}
-use Rattle.evt_types.specs.Place.{Place}
 use Rattle.evt_types.specs.declared.event.Event.{Event}
-use Rattle.evt_types.specs.declared.event.Numbered.{Numbered}
 use Rattle.evt_types.specs.declared.event.Op.{Op}
 use Rattle.evt_types.specs.declared.event.Op.TheVariants as ops
 use Rattle.evt_types.specs.declared.step.Step.{Step}
 use Rattle.transcripts.specs.Lawful.{Lawful}
-use Rattle.transcripts.specs.Standing.{View, Stands, view_of, places, place_at, places_at, kept_in, inside_of, entries_of, may_enter, may_answer, may_forward, may_take_by, may_take, may_enter_at, may_answer_at, may_forward_at, may_be_taken_by, may_be_taken, kept_in_place, kept_under, kept_at}
-use Rattle.transcripts.specs.Transcript.{accepted, inside, entries, kept, forwards, open_of, has_shut, unanswered}
+use Rattle.transcripts.specs.Standing.{View, Stands, view_of, places, place_at, kept_in, inside_of, entries_of, may_enter, may_answer, may_forward, may_take_by, may_take, may_enter_at, may_answer_at, may_forward_at, may_be_taken_by, may_be_taken, kept_in_place, kept_under, kept_at}
+use Rattle.transcripts.specs.Transcript.{accepted, inside, entries, kept, forwards, open_of, has_shut}
 use Rattle.transcripts.proofs.AnsweredPlaces.{places_ordered, places_plain}
-use Rattle.transcripts.proofs.OpenPlaces.{tag, tagged}
+use Rattle.lists.proofs.Fronts.{tag, tagged}
 use Rattle.transcripts.proofs.Overdue.{kept_plain, kept_is_open, settled_overdue}
-use Rattle.transcripts.proofs.ViewLists.{sum_of_map}
+use Rattle.lists.proofs.Sums.{sum_of_map}
 use Rattle.transcripts.proofs.Whole.{Known-allowed, steps-Lawful}
 use Rattle.transcripts.proofs.WholeStands.{facts_of, kept_of_view, inside_is, shut_is, places_is, unanswered_count}
 

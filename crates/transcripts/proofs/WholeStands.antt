@@ -24,13 +24,13 @@ use Rattle.evt_types.specs.declared.step.Step.TheVariants.{Accept, Give, Done, T
 use Rattle.transcripts.proofs.AnsweredPlaces.{accept_from, places_ordered, places_plain, leaving_accepts, done_overdue_plain, done_overdue_ordered}
 use Rattle.transcripts.proofs.Facts.{Facts, Facts-allowed, Facts-push, next_pair-queue}
 use Rattle.lists.proofs.Lists.{filter_map-none}
-use Rattle.transcripts.proofs.OpenPlaces.{tag, tagged, map_tag}
+use Rattle.lists.proofs.Fronts.{tag, tagged, map_tag}
 use Rattle.transcripts.proofs.Overdue.{overdue, settled_stays, settled_give, settled_overdue, kept_plain, kept_is_open}
 use Rattle.transcripts.proofs.Pending.{Settles, pending_all, answered_pending}
 use Rattle.transcripts.proofs.Pushes.{given_to-other, next_pair-some}
 use Rattle.transcripts.proofs.Replies.{steps_by-form}
 use Rattle.lists.proofs.Sums.{sum_agree}
-use Rattle.transcripts.proofs.ViewLists.{sum_of_map}
+use Rattle.lists.proofs.Sums.{sum_of_map}
 use Rattle.transcripts.proofs.Waits.{waiting_at as accepted_at, waiting_is_not_given}
 use Rattle.transcripts.proofs.Whole.{Known-allowed, Lawful-push, Lawful-steps, steps-Lawful}
 use Rattle.transcripts.proofs.WholeViews.{waiting_of_view, places_of_view, unanswered_of_view, oldest_of_view, shape_of_view, shut_of_view, view_accept, view_give, view_done, view_same, view_shut}

@@ -18,7 +18,8 @@ use Rattle.transcripts.proofs.AnsweredPlaces.{places_stay, places_ordered, place
 use Rattle.transcripts.proofs.Facts.{Facts, unanswered_is_accepted, next_pair-queue, no_forwards, not_answered}
 use Rattle.lists.proofs.Lists.{map_agree}
 use Rattle.transcripts.proofs.Pushes.{accepted-some, accepted-none, accepted_in-same, accepted_in-other, given_of-same, given_of-other, given_to-same, given_to-other, answer_of-same, answer_of-other, unanswered_slots-push, unanswered-next, brings, has_shut-none, has_shut-push, slot_at-none, hand-none, forwards-none, is_answered-none, open_of-some}
-use Rattle.transcripts.proofs.ViewLists.{mapped_at, mapped_same, mapped_changed, event_in_some}
+use Rattle.lists.proofs.Ranges.{mapped_at, mapped_same, mapped_changed}
+use Rattle.transcripts.proofs.ViewLists.{event_in_some}
 use Rattle.transcripts.proofs.Waits.{waiting-none, waiting-give, waiting-accepts, waiting-rises, waiting_is_not_given, waiting_at as accepted_at}
 
 -- ---- the parts of a view

@@ -2,7 +2,7 @@ use Rattle.std.proofs.Common.{◌≡◌, ◌++◌, length, refl, arith}
 use Rattle.sched_core.specs.Waits.{at_level}
 use Rattle.sched_core.proofs.Merges.{four_lengths}
 use Rattle.sched_core.proofs.Queues.{more_room, level_within, numbers_at, listed}
-use Rattle.sched_core.proofs.Sorted.{four_lists}
+use Rattle.lists.proofs.Sorted.{four_lists}
 use Rattle.std.proofs.lemmas.List.Sorted.{IsNonDecreasingBy-from_sort}
 use Rattle.sched_core.proofs.queue.Queue.list_numbers.Goals as goal
 

@@ -1,28 +1,7 @@
--- Lists of which one item changes or the first leaves, and numbers modulo 2 ^ 64.
-use Rattle.std.proofs.Common.{◌≡◌, ◌≢◌, ℕ, zero, suc, ◌+◌, ◌-◌, ◌<◌, ◌%◌, ◌^◌, List, [], ◌∷◌, length, drop, set, get_or, AllPairs, slice_get, ◌⊎◌, inl, inr, refl, sym, ap, ◌∙◌, subst, arith}
-use Rattle.std.proofs.Math.Nat.{mod-add-mod, add-mod_right, mod-eq_of_lt}
+-- Lists of which one item is written or the first leaves.
+use Rattle.std.proofs.Common.{◌≡◌, ◌≢◌, ℕ, zero, suc, ◌<◌, List, [], ◌∷◌, length, drop, set, get_or, AllPairs, slice_get, ◌⊎◌, inl, inr, refl, sym, ap, ◌∙◌, subst, arith}
 use Rattle.std.proofs.lemmas.Bool.{cases_eq}
 use Rattle.std.proofs.lemmas.List.{length-set, get_or-set_same, get_or-set_other, get_or_default}
-
--- ---- numbers of places
-
--- the place of a number is found where the number was counted
-pub back_of : (f k : ℕ) → f < 2 ^ 64 → k < 2 ^ 64 → ((f + k) % 2 ^ 64 + (2 ^ 64 - f)) % 2 ^ 64 ≡ k
-back_of f k first small =
-    mod-add-mod (f + k) (2 ^ 64) (2 ^ 64 - f)
-    ∙ (ap (λ n. n % 2 ^ 64) sum ∙ (add-mod_right k (2 ^ 64) ∙ mod-eq_of_lt small))
-  where
-    sum : (f + k) + (2 ^ 64 - f) ≡ k + 2 ^ 64
-    sum = omega arith
-
--- counted on from the next first
-pub counted_on : (f k : ℕ) → ((f + 1) % 2 ^ 64 + k) % 2 ^ 64 ≡ (f + suc k) % 2 ^ 64
-counted_on f k = mod-add-mod (f + 1) (2 ^ 64) k ∙ ap (λ n. n % 2 ^ 64) sum
-  where
-    sum : (f + 1) + k ≡ f + suc k
-    sum = omega arith
-
--- ---- one item is written
 
 pub slice_get-set_other : {X : Type 0} (xs : List X) (i j : ℕ) (x : X) → j ≢ i → slice_get (set xs i x) j ≡ slice_get xs j
 slice_get-set_other [] i j x h = refl

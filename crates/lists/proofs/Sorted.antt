@@ -6,7 +6,7 @@ use Rattle.std.proofs.Common.{take_at, drop_at, append_assoc}
 use Rattle.std.proofs.lemmas.List.Sums.{sum_by-cons}
 use borrow.Rule.Slice.PartMut.{mid_of, put_mid, post_of}
 use Rattle.std.specs.List.Sorted.{IsNonDecreasing}
-use Rattle.transcripts.proofs.ViewLists.{sum_of_none}
+use Rattle.lists.proofs.Sums.{sum_of_none}
 
 abbrev one_if : Bool → ℕ
 one_if true = 1

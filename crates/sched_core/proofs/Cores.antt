@@ -1,7 +1,7 @@
 -- A core after a call: its view, and that what holds of each core holds of it.
-use Rattle.std.proofs.Common.{◌≡◌, ◌≢◌, ℕ, ◌+◌, ◌*◌, ◌<◌, ◌≤◌, Bool, true, false, ◌&&◌, ◌||◌, nat_lt, ◌^◌, List, [], ◌∷◌, ◌++◌, length, map, set, get_or, All, AllPairs, Contains, Some, sum, sum_by, slice_get, ◌⊎◌, inl, inr, refl, sym, ap, ◌∙◌, subst, arith}
+use Rattle.std.proofs.Common.{◌≡◌, ◌≢◌, ℕ, ◌+◌, ◌*◌, ◌<◌, ◌≤◌, Bool, true, false, ◌^◌, List, [], ◌∷◌, ◌++◌, length, map, set, get_or, All, AllPairs, Contains, Some, sum, sum_by, slice_get, ◌⊎◌, inl, inr, refl, sym, ap, ◌∙◌, subst, arith}
 use Rattle.std.specs.Vec.{with_item}
-use Rattle.std.proofs.lemmas.Bool.{and_parts, cases_Bool, cases_eq, cond-true, cond-false, ltb-true}
+use Rattle.std.proofs.lemmas.Bool.{cases_Bool, cases_eq, cond-true, cond-false}
 use Rattle.std.proofs.lemmas.List.{length-set, length-map, length_push, map-set, get_or-map, get_or-set_same, get_or-set_other, get_or_default}
 use Rattle.std.proofs.lemmas.List.Elements.{All-set}
 use Rattle.std.proofs.lemmas.List.Sums.{sum_by-le, sum_by-set, sum-map, get_or-le-sum_by}
@@ -10,8 +10,8 @@ use Rattle.transcripts.proofs.ViewLists.{event_in_at, event_in_some}
 use Rattle.lists.proofs.Sums.{sum_of_map}
 use Rattle.evt_types.specs.Fault.{IsWithinLimits}
 use Rattle.evt_types.specs.declared.shape.TheConstants.{MAX_ORDER, MAX_QUEUES}
-use Rattle.evt_types.specs.Plan.{Plan, is_ordered, kept_room, level_of, lanes_of, depth_of, bound_of}
-use Rattle.transcripts.specs.Standing.{View, event_in, inside_of, entries_of, kept_in, may_enter, may_answer, oldest_at, waiting_at, next_at, places_at, unanswered_at, after_accept}
+use Rattle.evt_types.specs.Plan.{Plan, is_ordered, kept_room, level_of, depth_of, bound_of}
+use Rattle.transcripts.specs.Standing.{View, event_in, inside_of, entries_of, kept_in, waiting_at, next_at, places_at, unanswered_at, after_accept}
 use Rattle.evt_types.specs.Place.{Place}
 use Rattle.transcripts.specs.Transcript.{Held}
 use Rattle.evt_types.specs.declared.draft.QueueDraft.{QueueDraft}
@@ -170,34 +170,6 @@ view_accepts a i old new e h is value =
     refl
 
 -- ---- what the conditions say
-
--- a queue that may accept an event is there, and there is room
-pub enter_parts : (v : View) (q : ℕ) → v.shut ≡ false → may_enter v q ≡ true → (q < length v.shape.queues) × (inside_of v < bound_of v.shape) × (entries_of v < 2 ^ 63)
-enter_parts v q unshut may =
-    let room : Bool = nat_lt (inside_of v) (bound_of v.shape) && nat_lt (entries_of v) (2 ^ 63) in
-    let parts = and_parts (nat_lt q (length v.shape.queues)) (v.shut || room) may in
-    let rest = and_parts (nat_lt (inside_of v) (bound_of v.shape)) (nat_lt (entries_of v) (2 ^ 63)) (subst (λ b. (b || room) ≡ true) unshut parts.1) in
-    (ltb-true q (length v.shape.queues) parts.0, ltb-true (inside_of v) (bound_of v.shape) rest.0, ltb-true (entries_of v) (2 ^ 63) rest.1)
-
-pub answer_parts : (v : View) (l : ℕ) → may_answer v l ≡ true → 0 < length (unanswered_at v l)
-answer_parts v l may = ltb-true 0 (length (unanswered_at v l)) may
-
--- the lane has an event to answer
-pub holds_some : (a : Inside) (i : ℕ) (old : Entries) → i < length a.lanes.items → old ≡ get_or a.lanes.items i old → may_answer (view_in a) i ≡ true → 0 < length old.entries
-holds_some a i old h is may =
-    let some : 0 < length (unanswered_at (view_in a) i) = answer_parts (view_in a) i may in
-    let here : length (unanswered_at (view_in a) i) ≡ length old.entries = ap length (unanswered_here a i old h is) ∙ length-map old.entries held_of in
-    omega arith
-
--- the lane's oldest event is the view's
-pub oldest_here : (a : Inside) (v : View) (i : ℕ) (old : Entries) (y : Entry) → IsCore a → view_in a ≡ v → i < lanes_of v.shape → old ≡ get_or a.lanes.items i old → slice_get old.entries 0 ≡ Some y → oldest_at v i ≡ Some (held_of y)
-oldest_here a v i old y core same lane is oldest = subst (λ u. oldest_at u i ≡ Some (held_of y)) same (first_here a i old y h is oldest)
-  where
-    there : i < lanes_of a.shape
-    there = subst (λ (u : View). i < lanes_of u.shape) (sym same) lane
-
-    h : i < length a.lanes.items
-    h = omega (arith, there, core.lanes)
 
 -- what waits in the view waits in the queue
 pub waits_here : (a : Inside) (i : ℕ) (old : Waits) (w : Numbered) → i < length a.queues.items → old ≡ get_or a.queues.items i old → Contains (waiting_at (view_in a) i) w → Contains old.waiting w

@@ -1,8 +1,7 @@
 -- What the reorder buffers of a device say of its view, and how many events are inside as the places are answered and leave.
-use Rattle.std.proofs.Common.{◌≡◌, ℕ, zero, suc, ◌+◌, ◌<◌, ◌≤◌, ◌^◌, true, false, List, [], ◌∷◌, length, map, drop, get_or, All, Some, slice_get, ◌⊎◌, inl, inr, refl, sym, ap, ◌∙◌, subst, arith}
+use Rattle.std.proofs.Common.{◌≡◌, ℕ, zero, suc, ◌<◌, ◌≤◌, ◌^◌, true, false, List, [], ◌∷◌, length, map, drop, get_or, All, Some, slice_get, ◌⊎◌, inl, inr, refl, sym, ap, ◌∙◌, subst, arith}
 use Rattle.std.proofs.lemmas.Bool.{cases_Bool, cond-true, cond-false}
 use Rattle.std.proofs.lemmas.List.Elements.{All-nil, All-head, All-tail}
-use Rattle.std.proofs.lemmas.List.Sums.{sum_by-cons}
 use Rattle.std.proofs.lemmas.Option.{none-some}
 use Rattle.evt_types.specs.Plan.{Plan, queue_of, is_ordered, kept_room}
 use Rattle.evt_types.specs.Place.{Place}
@@ -10,7 +9,7 @@ use Rattle.evt_types.specs.declared.draft.QueueDraft.{QueueDraft}
 use Rattle.evt_types.specs.declared.event.Kind.TheVariants.{Parallel}
 use Rattle.order_parts.specs.Reorder.{Reordering, empty, oldest_answered}
 use Rattle.order_parts.specs.declared.history.Entry.{Entry}
-use Rattle.sched_core.specs.Ordered.{ArePlaces, IsOrder, KeepsOne, IsGivenOf, order_at, waits_at, entries_at, entry_at, kept_of, places_in}
+use Rattle.sched_core.specs.Ordered.{ArePlaces, IsOrder, KeepsOne, IsGivenOf, order_at, waits_at, entries_at, entry_at, places_in}
 use Rattle.sched_core.specs.Waits.{Waits}
 use Rattle.sched_core.proofs.Ordered.{leaving_is}
 
@@ -63,27 +62,6 @@ order_small p q limits h = by_kind (cases_Bool (is_ordered (queue_of p q).kind))
     by_kind (inr plain) = subst (λ n. n < 2 ^ 64) (sym (cond-false (is_ordered (queue_of p q).kind) (queue_of p q).order 0 plain)) (omega arith)
 
 -- ---- the buffers and the view
-
-pub places_within : (p : Plan) (ws : List Waits) (rs : List Reordering) (us : List (List Entry)) (q : ℕ) → ArePlaces p ws rs us → q < length p.queues
-    → length (order_at rs q).places ≤ kept_room (queue_of p q)
-places_within p ws rs us q a h = subst (λ n. length (order_at rs q).places ≤ n) (a.each q h).room (a.each q h).within
-
--- no more events are kept than there are places
-pub kept_within : (p : Plan) (ws : List Waits) (rs : List Reordering) (us : List (List Entry)) (q : ℕ) → ArePlaces p ws rs us → q < length p.queues
-    → kept_of (order_at rs q).places ≤ kept_room (queue_of p q)
-kept_within p ws rs us q a h =
-    let le = places_within p ws rs us q a h in
-    let each = kept_each (order_at rs q).places (a.each q h).keeps in
-    omega arith
-  where
-    kept_each : (xs : List Place) → All (KeepsOne p) xs → kept_of xs ≤ length xs
-    kept_each [] all = omega arith
-    kept_each (x ∷ xs) all =
-        let first : KeepsOne p x = All-head (KeepsOne p) x xs all in
-        let one : length x.forwards ≤ 1 = first.0 in
-        let rest : kept_of xs ≤ length xs = kept_each xs (All-tail (KeepsOne p) x xs all) in
-        let long : length (x ∷ xs) ≡ length xs + 1 = omega arith in
-        omega (arith, one, rest, long, sum_by-cons (λ (y : Place). length y.forwards) x xs)
 
 -- what a place that leaves keeps
 pub leaving_keeps : (p : Plan) (ws : List Waits) (rs : List Reordering) (us : List (List Entry)) (q : ℕ) (x : Place) → ArePlaces p ws rs us → q < length p.queues

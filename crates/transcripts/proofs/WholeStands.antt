@@ -295,9 +295,6 @@ stands_answer v T l o stands lane some outcome =
 
 -- ---- a reply
 
-pub steps_forward : (v : View) (l : ℕ) (e : Event) → e.op ≡ ops.Forward → steps_of v l e ≡ answer_steps v l (Forwarded e)
-steps_forward v l e op = ap (λ o. steps_by o v l e) op
-
 -- a NEW is accepted, or turned away by a core that is shut
 stands_enter : (v : View) (T : List Step) (l : ℕ) (e : Event) → Stands T v → l < lanes_of v.shape → e.op ≡ ops.New → may_enter v e.queue ≡ true
     → (b : Bool) → v.shut ≡ b

@@ -185,28 +185,16 @@ pub fn tables_at<'a>(
     }
 }
 
-fn is_among(known: &[&str], key: &str) -> bool
-    ensures { result ≡ list_any (λ k. is_text k.now key.now) known.now }
-{
-    known.iter().any(|name| *name == key)
-}
-
 /// Whether the key is one of these.
 fn is_known(known: &[&str], key: &str) -> bool
     ensures { result ≡ is_known (map (λ k. k.now) known.now) key.now }
 {
-    is_among(known, key)
-}
-
-fn all_known(known: &[&str], table: &Table) -> bool
-    ensures { result ≡ list_all (λ k. is_known (map (λ w. w.now) known.now) (string_bytes k)) (keys_of table.now.entries) }
-{
-    table.keys().all(|key| is_known(known, key.as_str()))
+    known.iter().any(|name| *name == key)
 }
 
 /// Whether each key of the table is one of these.
 pub fn knows(known: &[&str], table: &Table) -> bool
     ensures { result ≡ knows (map (λ k. k.now) known.now) (table_view table.now) }
 {
-    all_known(known, table)
+    table.keys().all(|key| is_known(known, key.as_str()))
 }

@@ -17,11 +17,14 @@ fn bring_forward(events: &mut [Numbered], place: usize)
     events[..place + 1].rotate_right(1);
 }
 
-/// Takes the event at this place out. The others keep their order.
+/// Takes the event at this place out. The others keep their order. The oldest one leaves without any of them being moved.
 pub(crate) fn take_out(list: &mut HeapCircularBuffer<Numbered>, place: usize) -> Option<Numbered>
     ensures value { result ≡ slice_get list.old.items place }
     ensures rest { list.new ≡ buffer (remove list.old.items place) list.old.capacity }
 {
+    if place == 0 {
+        return list.pop_front();
+    }
     if place >= list.len() {
         return None;
     }

@@ -1,6 +1,7 @@
 //! Which lane holds each slot of an atomic queue.
 
 ghost use Rattle.std.specs.Prelude.{◌≡◌, ◌<◌, length, replicate, slice_set, IfOk, IsTrue};
+ghost use Rattle.evt_types.specs.declared.shape.TheConstants.{MAX_DEPTH};
 ghost use Rattle.order_parts.specs.Pins.{free, pin_at, may_pin, pinned, unpinned};
 
 use crate::Memory;
@@ -58,7 +59,7 @@ impl Pins {
     pub fn pin(&mut self, slot: usize, lane: usize)
         requires there { slot < length self.old }
         requires may { IsTrue (may_pin (pin_at self.old slot) lane) }
-        requires room { (pin_at self.old slot).count < 64 }
+        requires room { (pin_at self.old slot).count < MAX_DEPTH }
         ensures { self.new ≡ slice_set self.old slot (pinned (pin_at self.old slot) lane) }
     {
         let hold = &mut self.holds[slot];

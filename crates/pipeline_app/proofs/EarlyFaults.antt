@@ -10,10 +10,11 @@ use Rattle.pipeline_app.specs.declared.fault.AppFault.{AppFault}
 use Rattle.pipeline_app.specs.declared.fault.AppFault.TheVariants.{Read, Write, Document, Memory, NoSeat}
 use Rattle.play_documents.specs.declared.fault.DocFault.{DocFault}
 use Rattle.play_documents.specs.declared.fault.DocFault.TheVariants.{TooLong}
+use Rattle.play_documents.specs.declared.document.TheConstants.{MAX_INPUT}
 
-too_long : (input : List ℕ) → 1048576 < length input → document_of input ≡ Err TooLong
+too_long : (input : List ℕ) → MAX_INPUT < length input → document_of input ≡ Err TooLong
 unfolding document_of
-too_long input h = rw (lt-ltb 1048576 (length input) h) refl
+too_long input h = rw (lt-ltb MAX_INPUT (length input) h) refl
 
 long_named : (f : DocFault) → f ≡ TooLong → IsNamedDoc f
 long_named f e = subst IsNamedDoc (sym e) tt

@@ -30,7 +30,7 @@ fn command<'a>(alloc: Global) -> Result<Command<'a>, AllocError> {
 /// Puts what clap prints into `text`, and gives the status.
 fn refused(alloc: Global, error: &Error, text: &mut String) -> u8
     ensures status { IsStatus result }
-    ensures memory { result ≡ 5 → text.new ≡ text.old }
+    ensures memory { result ≡ NO_MEMORY → text.new ≡ text.old }
 {
     if error.kind() == ErrorKind::OutOfMemory {
         return NO_MEMORY;
@@ -47,7 +47,7 @@ fn refused(alloc: Global, error: &Error, text: &mut String) -> u8
 pub fn choice(alloc: Global, words: &[&str], text: &mut String) -> Result<Choice, u8>
     ensures ok { OnOk result (text.new ≡ text.old) }
     ensures status { IfErr result IsStatus }
-    ensures memory { result ≡ Err 5 → text.new ≡ text.old }
+    ensures memory { result ≡ Err NO_MEMORY → text.new ≡ text.old }
 {
     let Ok(command) = command(alloc) else {
         return Err(NO_MEMORY);

@@ -8,7 +8,7 @@ ghost use Rattle.pipeline_app.specs.Rig.{IsRig};
 ghost use Rattle.pipeline_app.specs.Swept.{Adds};
 
 use crate::answer::Answer;
-use crate::fault::{AppFault, app_fault};
+use crate::fault::AppFault;
 use crate::input::read_all;
 use crate::output::write_text;
 use crate::rig::Rig;
@@ -85,10 +85,8 @@ fn document_text(alloc: Global, bytes: &[u8]) -> Result<String, AppFault>
     ensures run { IfOk result (λ text. HasRun (Some bytes.now) (string_bytes text)) }
     ensures fault { IfErr result (IsEarlyFault (Some bytes.now)) }
 {
-    match read_document(alloc, bytes) {
-        Ok(document) => Ok(run_text(alloc, document)?),
-        Err(fault) => Err(app_fault(fault)),
-    }
+    let document = read_document(alloc, bytes)?;
+    Ok(run_text(alloc, document)?)
 }
 
 /// The text of the run of the document that the reader gives.
@@ -96,10 +94,8 @@ fn played_text<R: Read>(alloc: Global, reader: &mut R) -> Result<String, AppFaul
     ensures run { IfOk result (λ text. HasRun (R.remaining reader.old) (string_bytes text)) }
     ensures fault { IfErr result (IsEarlyFault (R.remaining reader.old)) }
 {
-    match read_all(alloc, reader) {
-        Ok(bytes) => document_text(alloc, &bytes),
-        Err(fault) => Err(fault),
-    }
+    let bytes = read_all(alloc, reader)?;
+    document_text(alloc, &bytes)
 }
 
 /// Reads a document, plays its script on a device in one thread, and writes the answers, the log and the report. The text
@@ -113,8 +109,6 @@ pub fn play<R: Read, W: Write>(
     ensures err { IfErr result (AfterFault (R.remaining reader.old) (W.contents writer.old) (W.contents writer.new)) }
     ensures fault { IfErr result (IsFaultOf (R.remaining reader.old)) }
 {
-    match played_text(alloc, reader) {
-        Ok(text) => write_text(writer, text.as_bytes()),
-        Err(fault) => Err(fault),
-    }
+    let text = played_text(alloc, reader)?;
+    write_text(writer, text.as_bytes())
 }

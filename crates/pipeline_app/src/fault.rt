@@ -38,12 +38,13 @@ impl<T: Drop> From<AllocFailed<T>> for AppFault {
     }
 }
 
-/// What a play makes of the fault of its document's reading.
-pub fn app_fault(fault: ReadFault) -> AppFault
-    ensures { result ≡ app_fault fault }
-{
-    match fault {
-        ReadFault::Document(fault) => AppFault::Document(fault),
-        ReadFault::Memory => AppFault::Memory,
+impl From<ReadFault> for AppFault {
+    ghost from_gives = { λ fault e. e ≡ app_fault fault };
+
+    fn from(fault: ReadFault) -> AppFault {
+        match fault {
+            ReadFault::Document(fault) => AppFault::Document(fault),
+            ReadFault::Memory => AppFault::Memory,
+        }
     }
 }

@@ -1,10 +1,10 @@
 -- Each fault of a document has a name: a refused configuration's is never want of memory.
-use Rattle.std.proofs.Common.{◌≡◌, ◌≢◌, ◌==◌, ◌||◌, ℕ, Bool, true, false, cond, nat_lt, List, [], length, Option, Some, None, Result, Ok, Err, ap, subst}
+use Rattle.std.proofs.Common.{◌≡◌, ◌≢◌, ℕ, Bool, true, false, cond, List, [], Option, Some, None, Result, Ok, Err, ap, subst}
 use Rattle.std.specs.Prelude.{IfSome, IfErr}
 use Rattle.std.specs.Str.{is_utf8}
 use Rattle.toml.specs.Data.{Members}
 use Rattle.toml.specs.Parse.{parse_document}
-use Rattle.evt_types.specs.Fault.{fault_of, outside, thresholds_bad, depths_bad, slots_bad, orders_bad, link_unknown, link_twice, queue_unlinked, single_bad}
+use Rattle.evt_types.specs.Fault.{fault_of}
 use Rattle.evt_types.specs.Plan.{Plan, lanes_of}
 use Rattle.evt_types.specs.declared.shape.ShapeFault.{ShapeFault}
 use Rattle.evt_types.specs.declared.shape.ShapeFault.TheVariants as shapes
@@ -56,8 +56,7 @@ refusal_by false false false false false false false false false false false fal
 
 refusal_named : (p : Plan) → IfSome (fault_of p) (λ r. r ≢ shapes.Memory)
 refusal_named p =
-    refusal_by (outside 1 16 (length p.queues)) (outside 1 16 (length p.ports)) (outside 1 4096 p.limit) (p.quantum == 0 || nat_lt p.limit p.quantum) (thresholds_bad p) (depths_bad p) (slots_bad p) (orders_bad p)
-    (outside 1 64 p.sweep) (link_unknown p) (link_twice p) (queue_unlinked p) (single_bad p)
+    refusal_by _ _ _ _ _ _ _ _ _ _ _ _ _
 
 plan_named : (o : Option ShapeFault) (p : Plan) (f : DocFault) → IfSome o (λ g. g ≢ shapes.Memory) → plan_or_fault p o ≡ Err f → IsNamedDoc f
 plan_named None p f h e = absurd cc
@@ -123,7 +122,7 @@ long_named false rest f more e = more e
 document_named : (bytes : List ℕ) (f : DocFault) → document_of bytes ≡ Err f → IsNamedDoc f
 unfolding document_of
 document_named bytes f e =
-    long_named (nat_lt 1048576 (length bytes)) _ f (bind_named (parsed bytes) _ f (parsed_named bytes f) (λ t. judged_named (survey_of t) f)) e
+    long_named _ _ f (bind_named (parsed bytes) _ f (parsed_named bytes f) (λ t. judged_named (survey_of t) f)) e
 
 -- what was answered has a name
 pub gives-named : (bytes : List ℕ) (r : Result Document ReadFault) → Gives planned_of r (document_of bytes) → IfErr r IsNamed

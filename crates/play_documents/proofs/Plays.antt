@@ -123,17 +123,17 @@ below_by false limit n m t e = absurd cc
 
 port_there : (ports : ℕ) (word : List ℕ) (p : ℕ) → port_number ports word ≡ Some p → p < ports
 port_there ports word p e =
-    let found = bind_some (below ports) (number 18446744073709551615 word) p e in
+    let found = bind_some (below ports) (number _ word) p e in
     below_by (nat_lt found.0 ports) ports found.0 p refl found.2
 
 good_event : (o : Op) (ports : ℕ) (p q f r x : List ℕ) (l : Line) → event_line o ports p q f r x ≡ Some l → IsGood ports l
 unfolding event_line
 good_event o ports p q f r x l e =
     let a = bind_some _ (port_number ports p) l e in
-    let b = bind_some _ (number 255 q) l a.2 in
-    let c = bind_some _ (number 1048575 f) l b.2 in
-    let d = bind_some _ (number 255 r) l c.2 in
-    let y = bind_some _ (number 18446744073709551615 x) l d.2 in
+    let b = bind_some _ (number _ q) l a.2 in
+    let c = bind_some _ (number _ f) l b.2 in
+    let d = bind_some _ (number _ r) l c.2 in
+    let y = bind_some _ (number _ x) l d.2 in
     subst (IsGood ports) (some_is (Enqueue a.0 (event_fields o b.0 c.0 d.0 y.0)) l y.2) (port_there ports p a.0 a.1)
 
 good_release : (ports : ℕ) (p : List ℕ) (o : Option ℕ) (l : Line) → ((n : ℕ) → o ≡ Some n → n < ports) → option_map (λ port. Enqueue port release_fields) o ≡ Some l → IsGood ports l
@@ -144,7 +144,7 @@ good_dequeue : (ports : ℕ) (p most : List ℕ) (l : Line) → dequeue_line por
 unfolding dequeue_line
 good_dequeue ports p most l e =
     let a = bind_some _ (port_number ports p) l e in
-    let b = bind_some _ (number 64 most) l a.2 in
+    let b = bind_some _ (number _ most) l a.2 in
     subst (IsGood ports) (some_is (Dequeue a.0 b.0) l b.2) (port_there ports p a.0 a.1)
 
 -- a command that stands under a test of its name
@@ -236,7 +236,7 @@ short_enough false rest x e = e
 pub playable : (bytes : List ℕ) (x : Planned) → document_of bytes ≡ Ok x → IsPlayable x
 unfolding document_of
 playable bytes x e =
-    let a = bind_ok (parsed bytes) _ x (short_enough (nat_lt 1048576 (length bytes)) _ x e) in
+    let a = bind_ok (parsed bytes) _ x (short_enough _ _ x e) in
     playable_rows (survey_of a.0) x a.2
 
 pub gives-ports : (bytes : List ℕ) (r : Result Document ReadFault) → Gives planned_of r (document_of bytes) → IfOk r (λ d. AllPortsThere d.shape d.commands.items)

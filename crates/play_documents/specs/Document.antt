@@ -13,6 +13,7 @@ use Rattle.play_documents.specs.Field.{value_or}
 use Rattle.play_documents.specs.Judge.{first_fault}
 use Rattle.play_documents.specs.Script.{script_of}
 use Rattle.play_documents.specs.Survey.{SurveySeen, survey_of}
+use Rattle.play_documents.specs.declared.document.TheConstants.{MAX_INPUT}
 use Rattle.play_documents.specs.declared.document.Document.{Document}
 use Rattle.play_documents.specs.declared.fault.ReadFault.{ReadFault}
 use Rattle.play_documents.specs.declared.fault.ReadFault.TheVariants as reads
@@ -98,7 +99,7 @@ judged s =
 -- what the bytes say: the configuration and the commands, or the first fault
 unfoldable pub document_of : List ℕ → Result Planned DocFault
 document_of bytes =
-    if nat_lt 1048576 (length bytes) then Err doc.TooLong
+    if nat_lt MAX_INPUT (length bytes) then Err doc.TooLong
     else (do
       table ← parsed bytes
       judged (survey_of table))

@@ -1,5 +1,5 @@
 -- What a TOML table has at a key.
-use Rattle.std.specs.Prelude.{ℕ, Bool, true, false, ◌&&◌, nat_eq, ℤ, pos, negsuc, List, [], ◌∷◌, nat_le, Option, Some, None, option_map, option_and_then, if◌then◌else◌}
+use Rattle.std.specs.Prelude.{ℕ, ◌-◌, ◌^◌, Bool, true, false, ◌&&◌, nat_eq, ℤ, pos, negsuc, List, [], ◌∷◌, nat_le, Option, Some, None, option_map, option_and_then, if◌then◌else◌}
 use Rattle.std.specs.List.{list_any}
 use Rattle.std.specs.Cmp.Lexicographic.{pointwise}
 use Rattle.toml.specs.Data.{Data, Items, no_items, item, Members, no_members, member, get_member, as_str, as_bool, as_table, as_integer, as_array}
@@ -58,7 +58,7 @@ items_by read no_items = Some []
 items_by read (item d ds) = option_and_then (λ x. option_map (λ xs. x ∷ xs) (items_by read ds)) (read d)
 
 abbrev pub numbers_of : Data → Option (List ℕ)
-numbers_of d = option_and_then (items_by (number_of 4294967295)) (as_array d)
+numbers_of d = option_and_then (items_by (number_of (2 ^ 32 - 1))) (as_array d)
 
 abbrev pub tables_of : Data → Option (List Members)
 tables_of d = option_and_then (items_by as_table) (as_array d)

@@ -1,15 +1,17 @@
 -- What a script says: its commands, or the number of its first bad line.
-use Rattle.std.specs.Prelude.{◌≡◌, ℕ, ◌+◌, ◌==◌, List, [], ◌∷◌, length, map, codes, Option, Some, None, option_map, option_and_then, Result, Ok, Err, if◌then◌else◌}
+use Rattle.std.specs.Prelude.{◌≡◌, ℕ, ◌+◌, ◌-◌, ◌^◌, ◌==◌, List, [], ◌∷◌, length, map, codes, Option, Some, None, option_map, option_and_then, Result, Ok, Err, if◌then◌else◌}
 use Rattle.std.specs.Prelude.{Vec}
 use Rattle.std.specs.declared.alloc.Global.{Global}
 use Rattle.std.specs.List.{slice_split}
 use Rattle.std.specs.Str.Lines.{strip_carriage_return}
 use Rattle.play_documents.specs.Command.{Line, Enqueue, Dequeue, Sweep, Shut, line_of, event_fields, release_fields}
+use Rattle.evt_types.specs.declared.event.TheConstants.{MAX_FLOWS}
 use Rattle.evt_types.specs.declared.event.Op.{Op}
 use Rattle.evt_types.specs.declared.event.Op.TheVariants as ops
 use Rattle.play_documents.specs.Field.{is_text}
 use Rattle.play_documents.specs.Words.{number, port_number}
 use Rattle.play_documents.specs.declared.command.Command.{Command}
+use Rattle.play_documents.specs.declared.script.TheConstants.{MAX_BYTE, MAX_DEQUEUE}
 use Rattle.play_documents.specs.declared.script.ScriptFault.{ScriptFault}
 use Rattle.play_documents.specs.declared.script.ScriptFault.TheVariants.{Memory, BadLine}
 
@@ -24,10 +26,10 @@ entry_op name = if is_text name (codes "new") then Some ops.New else if is_text 
 unfoldable pub event_line : Op → ℕ → List ℕ → List ℕ → List ℕ → List ℕ → List ℕ → Option Line
 event_line op ports p q flow prio payload = do
   port ← port_number ports p
-  queue ← number 255 q
-  flow ← number 1048575 flow
-  priority ← number 255 prio
-  payload ← number 18446744073709551615 payload
+  queue ← number MAX_BYTE q
+  flow ← number (MAX_FLOWS - 1) flow
+  priority ← number MAX_BYTE prio
+  payload ← number (2 ^ 64 - 1) payload
   Some (Enqueue port (event_fields op queue flow priority payload))
 
 -- `rel P`
@@ -38,7 +40,7 @@ release_line ports p = option_map (λ port. Enqueue port release_fields) (port_n
 unfoldable pub dequeue_line : ℕ → List ℕ → List ℕ → Option Line
 dequeue_line ports p most = do
   port ← port_number ports p
-  max ← number 64 most
+  max ← number MAX_DEQUEUE most
   Some (Dequeue port max)
 
 -- the command of a line's words

@@ -1,5 +1,5 @@
 -- A document's table as plain rows.
-use Rattle.std.specs.Prelude.{ℕ, Bool, List, [], ◌∷◌, map, codes, Vec, if◌then◌else◌}
+use Rattle.std.specs.Prelude.{ℕ, ◌-◌, ◌^◌, Bool, List, [], ◌∷◌, map, codes, Vec, if◌then◌else◌}
 use Rattle.std.specs.declared.alloc.Global.{Global}
 use Rattle.toml.specs.Data.{Members}
 use Rattle.evt_types.specs.declared.draft.Serving.{Serving}
@@ -9,6 +9,7 @@ use Rattle.evt_types.specs.declared.event.Kind.TheVariants as kinds
 use Rattle.play_documents.specs.Field.{field_map, number_at, flag_at, text_at, numbers_at, tables_at, is_text, knows}
 use Rattle.play_documents.specs.declared.field.Field.{Field}
 use Rattle.play_documents.specs.declared.field.Field.TheVariants.{Absent, Bad, Good}
+use Rattle.play_documents.specs.declared.script.TheConstants.{MAX_BYTE}
 use Rattle.play_documents.specs.declared.survey.PortRow.{PortRow}
 use Rattle.play_documents.specs.declared.survey.QueueRow.{QueueRow}
 use Rattle.play_documents.specs.declared.survey.Survey.{Survey}
@@ -87,9 +88,9 @@ queue_row ms =
     record {
       known = knows (codes "kind" ∷ codes "priority" ∷ codes "slots" ∷ codes "order" ∷ codes "single" ∷ []) ms;
       kind = kind_at (codes "kind") ms;
-      priority = number_at 255 (codes "priority") ms;
-      slots = number_at 4294967295 (codes "slots") ms;
-      order = number_at 4294967295 (codes "order") ms;
+      priority = number_at MAX_BYTE (codes "priority") ms;
+      slots = number_at (2 ^ 32 - 1) (codes "slots") ms;
+      order = number_at (2 ^ 32 - 1) (codes "order") ms;
       single = flag_at (codes "single") ms;
     }
 
@@ -97,9 +98,9 @@ unfoldable pub port_row : Members → PortSeen
 port_row ms =
     record {
       known = knows (codes "threshold" ∷ codes "depth" ∷ codes "replies" ∷ codes "implicit" ∷ codes "links" ∷ []) ms;
-      threshold = number_at 4294967295 (codes "threshold") ms;
-      depth = number_at 4294967295 (codes "depth") ms;
-      replies = number_at 4294967295 (codes "replies") ms;
+      threshold = number_at (2 ^ 32 - 1) (codes "threshold") ms;
+      depth = number_at (2 ^ 32 - 1) (codes "depth") ms;
+      replies = number_at (2 ^ 32 - 1) (codes "replies") ms;
       implicit = flag_at (codes "implicit") ms;
       links = numbers_at (codes "links") ms;
     }
@@ -114,9 +115,9 @@ unfoldable pub survey_of : Members → SurveySeen
 survey_of ms =
     record {
       known = knows (codes "limit" ∷ codes "quantum" ∷ codes "sweep" ∷ codes "serving" ∷ codes "script" ∷ codes "queue" ∷ codes "port" ∷ []) ms;
-      limit = number_at 4294967295 (codes "limit") ms;
-      quantum = number_at 4294967295 (codes "quantum") ms;
-      sweep = number_at 4294967295 (codes "sweep") ms;
+      limit = number_at (2 ^ 32 - 1) (codes "limit") ms;
+      quantum = number_at (2 ^ 32 - 1) (codes "quantum") ms;
+      sweep = number_at (2 ^ 32 - 1) (codes "sweep") ms;
       serving = serving_at (codes "serving") ms;
       script = text_at (codes "script") ms;
       queues = queues_at ms;

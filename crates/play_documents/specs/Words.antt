@@ -1,5 +1,5 @@
 -- The numbers in a script's lines.
-use Rattle.std.specs.Prelude.{ℕ, Bool, false, not, ◌&&◌, ◌==◌, nat_le, nat_lt, List, [], ◌∷◌, Option, Some, None, option_and_then, if◌then◌else◌}
+use Rattle.std.specs.Prelude.{ℕ, ◌-◌, ◌^◌, Bool, false, not, ◌&&◌, ◌==◌, nat_le, nat_lt, List, [], ◌∷◌, Option, Some, None, option_and_then, if◌then◌else◌}
 use Rattle.std.specs.Str.{all_ascii_digits}
 use Rattle.std.specs.Char.{is_ascii_digit}
 use Rattle.std.specs.Str.Parse.{digits_value}
@@ -19,4 +19,4 @@ below limit n = if nat_lt n limit then Some n else None
 
 -- the number of a port, of which there are so many
 abbrev pub port_number : ℕ → List ℕ → Option ℕ
-port_number ports word = option_and_then (below ports) (number 18446744073709551615 word)
+port_number ports word = option_and_then (below ports) (number (2 ^ 64 - 1) word)

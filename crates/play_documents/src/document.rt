@@ -116,16 +116,9 @@ fn judged(alloc: Global, survey: &Survey) -> Result<Document, ReadFault>
     if let Some(fault) = first_fault(survey) {
         return Err(ReadFault::Document(fault));
     }
-    let shape = match shape_of(alloc, survey) {
-        Ok(shape) => shape,
-        Err(fault) => return Err(fault),
-    };
-    let ports = shape.lanes();
-    let script = script_text(survey);
-    match commands_in(alloc, ports, script) {
-        Ok(commands) => Ok(Document { shape, commands }),
-        Err(fault) => Err(fault),
-    }
+    let shape = shape_of(alloc, survey)?;
+    let commands = commands_in(alloc, shape.lanes(), script_text(survey))?;
+    Ok(Document { shape, commands })
 }
 
 /// What the bytes say.
@@ -136,10 +129,7 @@ fn planned(alloc: Global, bytes: &[u8]) -> Result<Document, ReadFault>
     if bytes.len() > MAX_INPUT {
         return Err(ReadFault::Document(DocFault::TooLong));
     }
-    let table = match parsed(alloc, bytes) {
-        Ok(table) => table,
-        Err(fault) => return Err(fault),
-    };
+    let table = parsed(alloc, bytes)?;
     let survey = survey_of(alloc, &table)?;
     judged(alloc, &survey)
 }

@@ -69,7 +69,7 @@ fn value_at<'a>(table: &'a Table, key: &str) -> Option<&'a Value>
 
 /// The value as a number of 32 bits.
 fn number_of(value: &Value) -> Option<u32>
-    ensures { result ≡ number_of 4294967295 (view value.now) }
+    ensures { result ≡ number_of u32.MAX (view value.now) }
 {
     match value.as_integer() {
         Some(number) => u32::try_from(number).ok(),
@@ -79,7 +79,7 @@ fn number_of(value: &Value) -> Option<u32>
 
 /// The value as a number of eight bits.
 fn byte_of(value: &Value) -> Option<u8>
-    ensures { result ≡ number_of 255 (view value.now) }
+    ensures { result ≡ number_of u8.MAX (view value.now) }
 {
     match value.as_integer() {
         Some(number) => u8::try_from(number).ok(),
@@ -89,7 +89,7 @@ fn byte_of(value: &Value) -> Option<u8>
 
 /// The number at a key.
 pub fn number_at(table: &Table, key: &str) -> Field<u32>
-    ensures { result ≡ number_at 4294967295 key.now (table_view table.now) }
+    ensures { result ≡ number_at u32.MAX key.now (table_view table.now) }
 {
     match value_at(table, key) {
         Some(value) => good_or_bad(number_of(value)),
@@ -99,7 +99,7 @@ pub fn number_at(table: &Table, key: &str) -> Field<u32>
 
 /// The number of eight bits at a key.
 pub fn byte_at(table: &Table, key: &str) -> Field<u8>
-    ensures { result ≡ number_at 255 key.now (table_view table.now) }
+    ensures { result ≡ number_at u8.MAX key.now (table_view table.now) }
 {
     match value_at(table, key) {
         Some(value) => good_or_bad(byte_of(value)),
@@ -129,7 +129,7 @@ pub fn text_at<'a>(table: &'a Table, key: &str) -> Field<&'a str>
 
 /// The values as numbers, where all of them are.
 fn numbers_in(alloc: Global, values: &Array) -> Result<Option<Vec<u32>>, AllocError>
-    ensures { IfOk result (λ r. option_map (λ v. v.items) r ≡ items_by (number_of 4294967295) (array_view values.now)) }
+    ensures { IfOk result (λ r. option_map (λ v. v.items) r ≡ items_by (number_of u32.MAX) (array_view values.now)) }
 {
     let mut numbers = Vec::new(alloc);
     for value in values {
@@ -185,28 +185,16 @@ pub fn tables_at<'a>(
     }
 }
 
-fn is_among(known: &[&str], key: &str) -> bool
-    ensures { result ≡ list_any (λ k. is_text k.now key.now) known.now }
-{
-    known.iter().any(|name| *name == key)
-}
-
 /// Whether the key is one of these.
 fn is_known(known: &[&str], key: &str) -> bool
     ensures { result ≡ is_known (map (λ k. k.now) known.now) key.now }
 {
-    is_among(known, key)
-}
-
-fn all_known(known: &[&str], table: &Table) -> bool
-    ensures { result ≡ list_all (λ k. is_known (map (λ w. w.now) known.now) (string_bytes k)) (keys_of table.now.entries) }
-{
-    table.keys().all(|key| is_known(known, key.as_str()))
+    known.iter().any(|name| *name == key)
 }
 
 /// Whether each key of the table is one of these.
 pub fn knows(known: &[&str], table: &Table) -> bool
     ensures { result ≡ knows (map (λ k. k.now) known.now) (table_view table.now) }
 {
-    all_known(known, table)
+    table.keys().all(|key| is_known(known, key.as_str()))
 }

@@ -82,16 +82,10 @@ fn any_unknown_queue(queues: &[QueueRow]) -> bool
     queues.iter().any(|queue| !queue.known)
 }
 
-fn some_unknown_port(ports: &[PortRow]) -> bool
-    ensures { result ≡ list_any (λ p. is_unknown_port (port_seen p)) ports.now }
-{
-    ports.iter().any(|port| !port.known)
-}
-
 fn any_unknown_port(ports: &[PortRow]) -> bool
     ensures { result ≡ list_any is_unknown_port (map port_seen ports.now) }
 {
-    some_unknown_port(ports)
+    ports.iter().any(|port| !port.known)
 }
 
 fn any_misses_queue(queues: &[QueueRow]) -> bool
@@ -100,16 +94,10 @@ fn any_misses_queue(queues: &[QueueRow]) -> bool
     queues.iter().any(misses_queue)
 }
 
-fn some_misses_port(ports: &[PortRow]) -> bool
-    ensures { result ≡ list_any (λ p. misses_port (port_seen p)) ports.now }
-{
-    ports.iter().any(misses_port)
-}
-
 fn any_misses_port(ports: &[PortRow]) -> bool
     ensures { result ≡ list_any misses_port (map port_seen ports.now) }
 {
-    some_misses_port(ports)
+    ports.iter().any(misses_port)
 }
 
 fn any_bad_queue(queues: &[QueueRow]) -> bool
@@ -118,16 +106,10 @@ fn any_bad_queue(queues: &[QueueRow]) -> bool
     queues.iter().any(has_bad_queue)
 }
 
-fn some_bad_port(ports: &[PortRow]) -> bool
-    ensures { result ≡ list_any (λ p. has_bad_port (port_seen p)) ports.now }
-{
-    ports.iter().any(has_bad_port)
-}
-
 fn any_bad_port(ports: &[PortRow]) -> bool
     ensures { result ≡ list_any has_bad_port (map port_seen ports.now) }
 {
-    some_bad_port(ports)
+    ports.iter().any(has_bad_port)
 }
 
 /// Whether some table has an unknown key.

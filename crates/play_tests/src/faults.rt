@@ -115,12 +115,12 @@ fn names_the_first_fault(rt: HostRuntime) -> Result<(), Fail> {
 fn names_a_refused_count_of_ports(rt: HostRuntime) -> Result<(), Fail> {
     let alloc = rt.alloc();
     let good = document(alloc, "sweep\n")?;
-    // 16 ports and 17.
-    let ports = PORT.repeat(alloc, 14)?;
-    let sixteen = format!(in alloc; "{good}{ports}")?;
-    is_named(&rt, alloc, sixteen.as_bytes(), "")?;
-    let seventeen = format!(in alloc; "{sixteen}{PORT}")?;
-    is_named(&rt, alloc, seventeen.as_bytes(), "PortCount")
+    // 32 ports and 33.
+    let ports = PORT.repeat(alloc, 30)?;
+    let most = format!(in alloc; "{good}{ports}")?;
+    is_named(&rt, alloc, most.as_bytes(), "")?;
+    let one_more = format!(in alloc; "{most}{PORT}")?;
+    is_named(&rt, alloc, one_more.as_bytes(), "PortCount")
 }
 
 #[test]

@@ -18,8 +18,8 @@ pub const PORTS: &str =
 
 /// The ports with the highest thresholds.
 pub const MOST_PORTS: &str =
-    "[[port]]\nthreshold = 4096\ndepth = 4\nreplies = 4\nimplicit = false\nlinks = []\n\
-    [[port]]\nthreshold = 4096\ndepth = 4\nreplies = 4\nimplicit = false\nlinks = [0]\n";
+    "[[port]]\nthreshold = 16384\ndepth = 4\nreplies = 4\nimplicit = false\nlinks = []\n\
+    [[port]]\nthreshold = 16384\ndepth = 4\nreplies = 4\nimplicit = false\nlinks = [0]\n";
 
 /// A port more, linked to nothing.
 pub const PORT: &str =
@@ -51,7 +51,7 @@ pub static LIMITS: [(&str, &str); 28] = [
     ("2020-02-30", "NotToml"),
     ("4\nlimit = 4", "NotToml"),
     ("0", "LimitRange"),
-    ("4097", "LimitRange"),
+    ("16385", "LimitRange"),
     ("4294967295", "LimitRange"),
     ("0x4", ""),
     ("0o4", ""),
@@ -234,7 +234,7 @@ pub static TWO_REPLACED: [(&str, &str, &str, &str, &str); 17] = [
     ("sweep\n\"", "sweeep\n\"", "[0]", "[1]", "LinkUnknown"),
     ("sweep\n\"", "sweeep\n\"", "[0]", "[-1]", "BadValue"),
     // The most credits, with the thresholds at the limit.
-    ("limit = 4\n", "limit = 4096\n", PORTS, MOST_PORTS, ""),
+    ("limit = 4\n", "limit = 16384\n", PORTS, MOST_PORTS, ""),
     // Three atomic queues of 43 slots each, all of one port.
     (
         QUEUE,

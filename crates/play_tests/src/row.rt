@@ -101,6 +101,7 @@ pub struct Row {
     pub name: &'static str,
     pub limit: u32,
     pub quantum: u32,
+    pub sweep: u32,
     pub queues: &'static str,
     pub ports: &'static [Port],
     pub script: &'static str,
@@ -110,9 +111,13 @@ pub struct Row {
 impl Row {
     /// The document of the row.
     fn document(&self, alloc: Global) -> Result<String, Fail> {
-        let (limit, quantum, queues, script) = (self.limit, self.quantum, self.queues, self.script);
+        let (limit, quantum, sweep) = (self.limit, self.quantum, self.sweep);
+        let (queues, script) = (self.queues, self.script);
         let mut text = String::new(alloc);
-        writeln!(text, "limit = {limit}\nquantum = {quantum}\nsweep = 8")?;
+        writeln!(
+            text,
+            "limit = {limit}\nquantum = {quantum}\nsweep = {sweep}"
+        )?;
         write!(text, "script = \"\"\"\n{script}\"\"\"\n{queues}")?;
         for port in self.ports {
             let Port {

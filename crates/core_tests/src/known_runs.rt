@@ -5,7 +5,8 @@ use crate::moves::{
 };
 use crate::run::Run;
 use crate::shapes::{event_of, forward, new_event, one_worker, queue, queue_of, two_workers};
-use evt_types::{Event, Kind, Op, Outcome, Source, Step};
+use crate::steps::{done, entered, given, passed_on};
+use evt_types::{Event, Kind, Op, Step};
 use sched_core::Skips;
 use std::alloc::Global;
 use std::test::Fail;
@@ -15,76 +16,28 @@ fn event_for(queue: u8, priority: u8, payload: u64) -> Event {
     event_of(Op::New, queue, 7, priority, payload)
 }
 
-/// The step by which the lane is given the event of this number of the queue.
-fn given(lane: usize, queue: usize, number: u64) -> Step {
-    Step::Give {
-        lane,
-        queue,
-        number,
-    }
-}
-
-/// The step by which the queue accepts what the first event of the first queue was forwarded as.
-fn passed_on(queue: usize, event: Event) -> Step {
-    Step::Accept {
-        queue,
-        event,
-        source: Source::Of {
-            queue: 0,
-            number: 0,
-        },
-    }
-}
-
-/// Two events of one slot went to one lane, which answered them.
-fn one_slot_answered(alloc: Global) -> Result<Run, Fail> {
-    let mut run = Run::new(alloc, two_workers(alloc, 4, &[queue(Kind::Atomic)])?)?;
-    let (first, second) = (new_event(3, 1), new_event(7, 2));
-    let moves = [
-        enter(first),
-        enter(second),
-        Move::Give,
-        Move::Give,
-        release(1),
-        release(1),
-    ];
-    let made = run.play(alloc, &moves)?;
-    let wanted = [
-        ACCEPTED,
-        ACCEPTED,
-        proposed(1, 0, first),
-        proposed(1, 1, second),
-        RELEASED,
-        RELEASED,
-    ];
-    if made.as_slice() != wanted.as_slice() {
-        return Err(Fail::from("one lane is given the slot's events"));
-    }
-    Ok(run)
-}
-
 #[test]
 fn two_flows_of_one_slot(rt: HostRuntime) -> Result<(), Fail> {
     let alloc = rt.alloc();
-    let mut run = one_slot_answered(alloc)?;
+    let mut run = Run::new(alloc, two_workers(alloc, 4, &[queue(Kind::Atomic)])?)?;
+    let (first, second) = (new_event(3, 1), new_event(7, 2));
+    run.play(&[
+        (enter(first), ACCEPTED),
+        (enter(second), ACCEPTED),
+        (Move::Give, proposed(1, 0, first)),
+        (Move::Give, proposed(1, 1, second)),
+        (release(1), RELEASED),
+        (release(1), RELEASED),
+    ])?;
     assert_eq!(rt; run.core.inside(), 0);
     let (third, fourth) = (new_event(5, 3), new_event(7, 4));
-    let moves = [
-        enter(third),
-        enter(fourth),
-        Move::Give,
-        Move::Give,
-        Move::Give,
-    ];
-    let made = run.play(alloc, &moves)?;
-    let wanted = [
-        ACCEPTED,
-        ACCEPTED,
-        proposed(1, 2, third),
-        proposed(2, 3, fourth),
-        NONE_LEFT,
-    ];
-    assert_eq!(rt; made.as_slice(), wanted.as_slice());
+    run.play(&[
+        (enter(third), ACCEPTED),
+        (enter(fourth), ACCEPTED),
+        (Move::Give, proposed(1, 2, third)),
+        (Move::Give, proposed(2, 3, fourth)),
+        (Move::Give, NONE_LEFT),
+    ])?;
     assert_eq!(rt; run.log.len(), 10);
     Ok(())
 }
@@ -92,27 +45,15 @@ fn two_flows_of_one_slot(rt: HostRuntime) -> Result<(), Fail> {
 /// Of three events two were given, to lanes that hold one event each.
 fn blocked(alloc: Global) -> Result<Run, Fail> {
     let mut run = Run::new(alloc, two_workers(alloc, 1, &[queue(Kind::Atomic)])?)?;
-    let (first, third) = (new_event(7, 1), new_event(5, 3));
-    let moves = [
-        enter(first),
-        enter(new_event(7, 2)),
-        enter(third),
-        Move::Give,
-        Move::Give,
-        Move::Give,
-    ];
-    let made = run.play(alloc, &moves)?;
-    let wanted = [
-        ACCEPTED,
-        ACCEPTED,
-        ACCEPTED,
-        proposed(1, 0, first),
-        proposed(2, 2, third),
-        NONE_LEFT,
-    ];
-    if made.as_slice() != wanted.as_slice() {
-        return Err(Fail::from("the blocked flow waits alone"));
-    }
+    let (first, second, third) = (new_event(7, 1), new_event(7, 2), new_event(5, 3));
+    run.play(&[
+        (enter(first), ACCEPTED),
+        (enter(second), ACCEPTED),
+        (enter(third), ACCEPTED),
+        (Move::Give, proposed(1, 0, first)),
+        (Move::Give, proposed(2, 2, third)),
+        (Move::Give, NONE_LEFT),
+    ])?;
     Ok(run)
 }
 
@@ -135,9 +76,11 @@ fn a_sweep_passes_over(rt: HostRuntime) -> Result<(), Fail> {
     let mut run = Run::new(alloc, two_workers(alloc, 4, &[queue(Kind::Atomic)])?)?;
     assert_eq!(rt; run.core.log_room(), 60);
     let event = new_event(3, 1);
-    let made = run.play(alloc, &[enter(event), Move::Bounce, Move::Give])?;
-    let wanted = [ACCEPTED, proposed(1, 0, event), proposed(2, 0, event)];
-    assert_eq!(rt; made.as_slice(), wanted.as_slice());
+    run.play(&[
+        (enter(event), ACCEPTED),
+        (Move::Bounce, proposed(1, 0, event)),
+        (Move::Give, proposed(2, 0, event)),
+    ])?;
     assert_eq!(rt; run.log.len(), 3);
     Ok(())
 }
@@ -158,30 +101,23 @@ fn a_forward_to_a_parallel_queue(rt: HostRuntime) -> Result<(), Fail> {
     let queues = [queue(Kind::Atomic), queue(Kind::Parallel)];
     let mut run = Run::new(alloc, two_workers(alloc, 4, &queues)?)?;
     let (event, forwarded) = (new_event(7, 1), forward(1, 10));
-    let made = run.play(alloc, &[enter(event), Move::Give, pass(1, forwarded)])?;
-    assert_eq!(rt;
-        made.as_slice(),
-        [ACCEPTED, proposed(1, 0, event), ACCEPTED].as_slice()
-    );
+    run.play(&[
+        (enter(event), ACCEPTED),
+        (Move::Give, proposed(1, 0, event)),
+        (pass(1, forwarded), ACCEPTED),
+    ])?;
     assert_eq!(rt; run.core.inside(), 1);
-    let made = run.play(alloc, &[Move::Give])?;
-    assert_eq!(rt; made.as_slice(), [proposed(1, 0, forwarded)].as_slice());
-    let steps = [
-        Step::Accept {
-            queue: 0,
-            event,
-            source: Source::New { lane: 0 },
-        },
-        given(1, 0, 0),
-        Step::Done {
-            lane: 1,
-            outcome: Outcome::Forwarded(forwarded),
-        },
-        passed_on(1, forwarded),
-        given(1, 1, 0),
-    ];
-    assert_eq!(rt; run.log.as_slice(), steps.as_slice());
-    Ok(())
+    run.play(&[(Move::Give, proposed(1, 0, forwarded))])?;
+    run.has_logged(
+        0,
+        &[
+            entered(event),
+            given(1, 0, 0),
+            done(1, forwarded),
+            passed_on(0, forwarded),
+            given(1, 1, 0),
+        ],
+    )
 }
 
 #[test]
@@ -189,57 +125,41 @@ fn a_parallel_queue_and_two_lanes(rt: HostRuntime) -> Result<(), Fail> {
     let alloc = rt.alloc();
     let mut run = Run::new(alloc, two_workers(alloc, 4, &[queue(Kind::Parallel)])?)?;
     let (first, second) = (new_event(7, 1), new_event(7, 2));
-    let moves = [enter(first), enter(second), Move::Give, Move::Give];
-    let made = run.play(alloc, &moves)?;
-    let wanted = [
-        ACCEPTED,
-        ACCEPTED,
-        proposed(1, 0, first),
-        proposed(2, 1, second),
-    ];
-    assert_eq!(rt; made.as_slice(), wanted.as_slice());
-    Ok(())
+    run.play(&[
+        (enter(first), ACCEPTED),
+        (enter(second), ACCEPTED),
+        (Move::Give, proposed(1, 0, first)),
+        (Move::Give, proposed(2, 1, second)),
+    ])
 }
 
 #[test]
 fn a_shut_core(rt: HostRuntime) -> Result<(), Fail> {
     let alloc = rt.alloc();
     let mut run = Run::new(alloc, two_workers(alloc, 4, &[queue(Kind::Atomic)])?)?;
-    let (event, late) = (new_event(7, 1), new_event(7, 2));
-    let forwarded = forward(0, 10);
-    let moves = [
-        enter(event),
-        Move::Give,
-        Move::Shut,
-        Move::Shut,
-        enter(late),
-        pass(1, forwarded),
-    ];
-    let made = run.play(alloc, &moves)?;
-    let wanted = [
-        ACCEPTED,
-        proposed(1, 0, event),
-        Made::Nothing,
-        Made::Nothing,
-        TURNED,
-        ACCEPTED,
-    ];
-    assert_eq!(rt; made.as_slice(), wanted.as_slice());
+    let (event, late, forwarded) = (new_event(7, 1), new_event(7, 2), forward(0, 10));
+    run.play(&[
+        (enter(event), ACCEPTED),
+        (Move::Give, proposed(1, 0, event)),
+        (Move::Shut, Made::Nothing),
+        (Move::Shut, Made::Nothing),
+        (enter(late), TURNED),
+        (pass(1, forwarded), ACCEPTED),
+    ])?;
     assert_eq!(rt; run.core.inside(), 1);
-    let after_give = [
-        Step::Shut,
-        Step::Turned {
-            lane: 0,
-            event: late,
-        },
-        Step::Done {
-            lane: 1,
-            outcome: Outcome::Forwarded(forwarded),
-        },
-        passed_on(0, forwarded),
-    ];
-    assert_eq!(rt; run.log.get(2..), Some(after_give.as_slice()));
-    Ok(())
+    let turned = Step::Turned {
+        lane: 0,
+        event: late,
+    };
+    run.has_logged(
+        2,
+        &[
+            Step::Shut,
+            turned,
+            done(1, forwarded),
+            passed_on(0, forwarded),
+        ],
+    )
 }
 
 #[test]
@@ -251,18 +171,13 @@ fn the_queue_of_the_lowest_priority_is_served_first(rt: HostRuntime) -> Result<(
     ];
     let mut run = Run::new(alloc, one_worker(alloc, 8, &queues)?)?;
     let (first, second) = (event_for(0, 128, 1), event_for(1, 128, 2));
-    let moves = [enter(first), enter(second), Move::Give, Move::Give];
-    let made = run.play(alloc, &moves)?;
-    let wanted = [
-        ACCEPTED,
-        ACCEPTED,
-        proposed(1, 0, second),
-        proposed(1, 0, first),
-    ];
-    assert_eq!(rt; made.as_slice(), wanted.as_slice());
-    let gives = [given(1, 1, 0), given(1, 0, 0)];
-    assert_eq!(rt; run.log.get(2..), Some(gives.as_slice()));
-    Ok(())
+    run.play(&[
+        (enter(first), ACCEPTED),
+        (enter(second), ACCEPTED),
+        (Move::Give, proposed(1, 0, second)),
+        (Move::Give, proposed(1, 0, first)),
+    ])?;
+    run.has_logged(2, &[given(1, 1, 0), given(1, 0, 0)])
 }
 
 #[test]
@@ -270,23 +185,13 @@ fn a_later_event_of_a_lower_level_is_given_first(rt: HostRuntime) -> Result<(), 
     let alloc = rt.alloc();
     let mut run = Run::new(alloc, one_worker(alloc, 8, &[queue(Kind::Atomic)])?)?;
     let (first, second) = (event_for(0, 64, 1), event_for(0, 63, 2));
-    let moves = [
-        enter(first),
-        enter(second),
-        Move::Give,
-        Move::Give,
-        Move::Give,
-    ];
-    let made = run.play(alloc, &moves)?;
-    let wanted = [
-        ACCEPTED,
-        ACCEPTED,
-        proposed(1, 1, second),
-        proposed(1, 0, first),
-        NONE_LEFT,
-    ];
-    assert_eq!(rt; made.as_slice(), wanted.as_slice());
-    Ok(())
+    run.play(&[
+        (enter(first), ACCEPTED),
+        (enter(second), ACCEPTED),
+        (Move::Give, proposed(1, 1, second)),
+        (Move::Give, proposed(1, 0, first)),
+        (Move::Give, NONE_LEFT),
+    ])
 }
 
 #[test]
@@ -294,23 +199,12 @@ fn a_sweep_gives_no_more_of_a_queue_than_its_quantum(rt: HostRuntime) -> Result<
     let alloc = rt.alloc();
     let mut run = Run::new(alloc, one_worker(alloc, 1, &[queue(Kind::Atomic)])?)?;
     let (first, second) = (new_event(7, 1), new_event(7, 2));
-    let moves = [
-        enter(first),
-        enter(second),
-        Move::Give,
-        Move::Give,
-        Move::NextSweep,
-        Move::Give,
-    ];
-    let made = run.play(alloc, &moves)?;
-    let wanted = [
-        ACCEPTED,
-        ACCEPTED,
-        proposed(1, 0, first),
-        NONE_LEFT,
-        Made::Nothing,
-        proposed(1, 1, second),
-    ];
-    assert_eq!(rt; made.as_slice(), wanted.as_slice());
-    Ok(())
+    run.play(&[
+        (enter(first), ACCEPTED),
+        (enter(second), ACCEPTED),
+        (Move::Give, proposed(1, 0, first)),
+        (Move::Give, NONE_LEFT),
+        (Move::NextSweep, Made::Nothing),
+        (Move::Give, proposed(1, 1, second)),
+    ])
 }

@@ -20,3 +20,5 @@ mod plain_run;
 mod run;
 #[cfg(test)]
 mod shapes;
+#[cfg(test)]
+mod steps;

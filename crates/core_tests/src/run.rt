@@ -7,6 +7,14 @@ use std::alloc::Global;
 use std::marker::Model;
 use std::test::Fail;
 
+/// A move of which something else came than what was wanted.
+#[derive(Debug, Drop)]
+struct Unexpected {
+    step: Move,
+    made: Made,
+    wanted: Made,
+}
+
 /// A core, what its sweep passes over, and the log of all steps that it has made.
 #[derive(Drop)]
 pub(crate) struct Run {
@@ -36,13 +44,28 @@ impl Run {
         }
     }
 
-    /// What comes of each of the moves.
-    pub(crate) fn play(&mut self, alloc: Global, moves: &[Move]) -> Result<Vec<Made>, Fail> {
-        let mut all = Vec::new(alloc);
-        for step in moves {
-            all.push(self.make(*step)?)?;
+    /// Makes the moves. What comes of each must be what stands beside it.
+    pub(crate) fn play(&mut self, moves: &[(Move, Made)]) -> Result<(), Fail> {
+        for (step, wanted) in moves {
+            let made = self.make(*step)?;
+            if made != *wanted {
+                return Err(Fail::from(Unexpected {
+                    step: *step,
+                    made,
+                    wanted: *wanted,
+                }));
+            }
         }
-        Ok(all)
+        Ok(())
+    }
+
+    /// The steps of the log from this one on must be these.
+    pub(crate) fn has_logged(&self, start: usize, wanted: &[Step]) -> Result<(), Fail> {
+        if self.log.get(start..) == Some(wanted) {
+            Ok(())
+        } else {
+            Err(Fail::from("other steps were logged"))
+        }
     }
 
     /// What comes of a move.

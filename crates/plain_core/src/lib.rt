@@ -1,6 +1,6 @@
-//! A scheduling core for tests to measure the product's core by. It does what the definitions say, in the plainest way: it
-//! keeps lists of all that was ever accepted and handed out, and finds each answer by going over them. Its calls promise
-//! nothing but that they end and never panic, so its worth lies in being read, and in being told apart from another core.
+//! A scheduling core for tests to measure the product's core by. It does what the definitions say in the plainest way: it
+//! keeps lists of all that was ever accepted and handed out, and finds each answer by going over them. What it is worth lies
+//! in being read. Its calls promise nothing but that they end and never panic, so there is no edit that they would refuse.
 #![tactic(auto)]
 
 mod choice;

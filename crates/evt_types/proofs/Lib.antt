@@ -1,4 +1,5 @@
 pub mod Events
+pub mod FlowLanes
 pub mod Limits
 pub mod Plans
 pub mod Words

@@ -7,12 +7,12 @@ use Rattle.std.proofs.lemmas.List.Folds.{list_any_at}
 use Rattle.std.proofs.lemmas.List.FromFn.{length-range_with_len, get_or-range_with_len}
 use Rattle.std.proofs.lemmas.List.Kept.{AllPairs-cons}
 use Rattle.std.proofs.lemmas.List.Sums.{sum_by-le}
-use Rattle.evt_types.specs.Fault.{outside, bad_threshold, thresholds_bad, bad_depth, depths_bad, bad_slots, atomic_slots, slots_bad}
+use Rattle.evt_types.specs.Fault.{outside, bad_threshold, thresholds_bad, bad_depth, depths_bad, bad_slots, slots_bad}
 use Rattle.evt_types.specs.Fault.{bad_order, orders_bad, has_unknown, link_unknown, has_twice, link_twice, links_to, queue_unlinked}
 use Rattle.evt_types.specs.Fault.{is_shared_single, single_bad, fault_of, IsBetween, IsWithinLimits}
-use Rattle.evt_types.specs.Plan.{Plan, PortPlan, is_atomic, is_ordered, queue_of}
+use Rattle.evt_types.specs.Plan.{Plan, PortPlan, atomic_slots, is_atomic, is_ordered, queue_of}
 use Rattle.lists.specs.Lists.{has}
-use Rattle.evt_types.specs.declared.shape.TheConstants.{MAX_ALL_REPLIES, MAX_ALL_SLOTS, MAX_DEPTH, MAX_LIMIT, MAX_ORDER, MAX_PORTS, MAX_QUEUES, MAX_SLOTS, MAX_SWEEP}
+use Rattle.evt_types.specs.declared.shape.TheConstants.{MAX_PORT_REPLIES, MAX_ALL_SLOTS, MAX_DEPTH, MAX_LIMIT, MAX_ORDER, MAX_PORTS, MAX_QUEUES, MAX_SLOTS, MAX_SWEEP}
 use Rattle.evt_types.specs.declared.draft.QueueDraft.{QueueDraft}
 use Rattle.evt_types.specs.declared.shape.ShapeFault.{ShapeFault}
 use Rattle.evt_types.specs.declared.shape.ShapeFault.TheVariants as faults
@@ -153,7 +153,7 @@ pub within : (p : Plan) → fault_of p ≡ None → IsWithinLimits p
 within p h = within_tests p (none_met (tests p) h)
 
 -- the replies of all ports
-pub replies_few : (p : Plan) → IsWithinLimits p → sum_by (λ (port : PortPlan). port.replies) p.ports ≤ MAX_ALL_REPLIES
+pub replies_few : (p : Plan) → IsWithinLimits p → sum_by (λ (port : PortPlan). port.replies) p.ports ≤ MAX_PORT_REPLIES
 replies_few p w =
     let each = sum_by-le (λ (port : PortPlan). port.replies) 64 p.ports (λ k d h. (w.replies k d h).1) in
     let few = w.port_count in

@@ -1,6 +1,7 @@
--- The events that are made.
+-- The events that are made, and what a delivered one is known by.
 use Rattle.std.specs.Prelude.{ℕ, ◌≡◌}
 use Rattle.std.proofs.Common.{lit<}
+use Rattle.evt_types.specs.declared.event.Delivery.{Delivery}
 use Rattle.evt_types.specs.declared.event.Event.{Event}
 use Rattle.evt_types.specs.declared.event.Op.{Op}
 use Rattle.evt_types.specs.declared.event.Op.TheVariants as ops
@@ -31,3 +32,11 @@ release_event =
       flow_fits = lit< tt;
       event_type_fits = lit< tt;
     }
+
+-- what the holder of an event forwards: the event with another queue and payload
+abbrev pub forwarded_event : Event → ℕ → ℕ → Event
+forwarded_event e q x = record e { op = ops.Forward; queue = q; payload = x }
+
+-- the queue and the number of a delivery, by which it is known until it is answered
+abbrev pub pair_of : Delivery → ℕ × ℕ
+pair_of d = (d.queue, d.number)

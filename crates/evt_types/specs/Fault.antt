@@ -2,7 +2,7 @@
 use Rattle.std.specs.Prelude.{ℕ, ◌≡◌, ◌≢◌, ◌<◌, ◌≤◌, Bool, true, false, ◌&&◌, ◌||◌, List, [], ◌∷◌, ◌==◌, nat_lt, nat_le}
 use Rattle.std.specs.Prelude.{length, count_by, sum_by, All, AllPairs, Option, Some, None, if◌then◌else◌}
 use Rattle.std.specs.List.{list_any}
-use Rattle.evt_types.specs.Plan.{Plan, PortPlan, is_atomic, is_ordered, queue_of, queues}
+use Rattle.evt_types.specs.Plan.{Plan, PortPlan, atomic_slots, is_atomic, is_ordered, queue_of, queues}
 use Rattle.lists.specs.Lists.{has}
 use Rattle.evt_types.specs.declared.shape.TheConstants.{MAX_ALL_SLOTS, MAX_DEPTH, MAX_LIMIT, MAX_ORDER, MAX_PORTS, MAX_QUEUES, MAX_SLOTS, MAX_SWEEP}
 use Rattle.evt_types.specs.declared.draft.QueueDraft.{QueueDraft}
@@ -32,10 +32,6 @@ depths_bad p = list_any bad_depth p.ports
 -- an atomic queue with no slot or too many
 abbrev pub bad_slots : QueueDraft → Bool
 bad_slots q = is_atomic q.kind && outside 1 MAX_SLOTS q.slots
-
--- an atomic queue's slots count; another queue has none
-abbrev pub atomic_slots : QueueDraft → ℕ
-atomic_slots q = if is_atomic q.kind then q.slots else 0
 
 -- some atomic queue has bad slots, or all together have too many
 unfoldable pub slots_bad : Plan → Bool

@@ -3,6 +3,7 @@
 ghost use Rattle.std.specs.Prelude.{◌≡◌, nat_lt, nat_le, length, sum_by};
 ghost use Rattle.std.specs.List.{list_any};
 ghost use Rattle.evt_types.specs.Fault as faults;
+ghost use Rattle.evt_types.specs.Plan as plans;
 ghost use Rattle.evt_types.specs.Plan.{plan_of, queue_of};
 ghost use Rattle.lists.specs.Lists.{has};
 
@@ -46,9 +47,9 @@ fn has_bad_depth(draft: &Draft) -> bool
         || is_outside(MAX_DEPTH, port.replies))
 }
 
-/// The slots that count towards the sum.
-fn atomic_slots(queue: &QueueDraft) -> u32
-    ensures { result ≡ faults.atomic_slots queue.now }
+/// The queue's slots; a queue that isn't atomic has none.
+pub(crate) fn atomic_slots(queue: &QueueDraft) -> u32
+    ensures { result ≡ plans.atomic_slots queue.now }
 {
     if queue.kind.is_atomic() {
         queue.slots
@@ -59,7 +60,7 @@ fn atomic_slots(queue: &QueueDraft) -> u32
 
 /// Whether the slots of all atomic queues together are too many.
 fn exceeds_slots(queues: &[QueueDraft]) -> bool
-    ensures { result ≡ nat_lt MAX_ALL_SLOTS (sum_by faults.atomic_slots queues.now) }
+    ensures { result ≡ nat_lt MAX_ALL_SLOTS (sum_by plans.atomic_slots queues.now) }
 {
     let mut left = MAX_ALL_SLOTS;
     for queue in queues {

@@ -76,7 +76,7 @@ pub struct Event {
 
 impl Event {
     ghost use Rattle.std.specs.Prelude.{◌≡◌, ◌<◌, ◌≤◌, ◌^◌, ◌↔◌, IfOk};
-    ghost use Rattle.evt_types.specs.Event.{IsEvent, release_event};
+    ghost use Rattle.evt_types.specs.Event.{IsEvent, forwarded_event, release_event};
     ghost use Rattle.evt_types.specs.Plan.{level_of};
     ghost use Rattle.evt_types.specs.Word.{word_of};
 
@@ -128,6 +128,22 @@ impl Event {
         }
     }
 
+    /// The event that the holder of this one forwards to the queue, with this payload; all else of it stays.
+    pub fn forwarded(&self, queue: u8, payload: u64) -> Event
+        ensures { result ≡ forwarded_event self.now queue payload }
+    {
+        Event {
+            flow: self.flow,
+            sub_type: self.sub_type,
+            event_type: self.event_type,
+            op: Op::Forward,
+            queue,
+            priority: self.priority,
+            impl_opaque: self.impl_opaque,
+            payload,
+        }
+    }
+
     /// The level at which it is served, from 0 for the first to 3.
     pub fn level(&self) -> usize
         ensures { result ≡ level_of self.now }
@@ -174,7 +190,8 @@ impl Default for Event {
     }
 }
 
-/// An event of a queue on its way to a port: its number counts the events that the queue accepted, from 0.
+/// An event of a queue on its way to a port: its number counts the events that the queue accepted, from 0. While it is held it is
+/// known by the pair of both.
 #[derive(Clone, Copy, Debug, PartialEq, Eq, Default)]
 pub struct Delivery {
     pub event: Event,

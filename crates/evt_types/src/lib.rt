@@ -6,6 +6,7 @@ mod check;
 mod code;
 mod draft;
 mod event;
+mod flows;
 mod shape;
 mod step;
 #[cfg(test)]
@@ -16,9 +17,10 @@ pub use draft::{Draft, PortDraft, QueueDraft, Serving};
 pub use event::{
     Delivery, Event, EventFault, Kind, MAX_EVENT_TYPES, MAX_FLOWS, Numbered, Op, Reply,
 };
+pub use flows::{FLOW_DEPTH, FlowLane};
 pub use shape::{
-    MAX_ALL_REPLIES, MAX_ALL_SLOTS, MAX_BOUND, MAX_DEPTH, MAX_LIMIT, MAX_ORDER, MAX_PORTS,
-    MAX_QUEUES, MAX_SLOTS, MAX_SWEEP, Shape, ShapeFault,
+    MAX_ALL_REPLIES, MAX_ALL_SLOTS, MAX_BOUND, MAX_DEPTH, MAX_LANES, MAX_LIMIT, MAX_ORDER,
+    MAX_PORTS, MAX_QUEUES, MAX_SLOTS, MAX_SWEEP, Shape, ShapeFault,
 };
 pub use step::{Outcome, Source, Step};
 pub use word::WordFault;

@@ -7,6 +7,7 @@ ghost use Rattle.evt_types.specs.Plan.{plan_of, port_plan};
 
 use crate::check::{first_fault, is_linked};
 use crate::draft::{Draft, PortDraft, QueueDraft, Serving};
+use crate::flows::{FLOW_DEPTH, FlowLane, all_flow_links, all_flows};
 use std::alloc::{AllocError, Global};
 use std::marker::Model;
 
@@ -26,8 +27,12 @@ pub const MAX_ALL_SLOTS: u32 = 128;
 pub const MAX_ORDER: u32 = 256;
 /// The highest sweep quantum.
 pub const MAX_SWEEP: u32 = 64;
+/// The most lanes: one for each port, and one for each slot of an atomic queue.
+pub const MAX_LANES: usize = MAX_PORTS + MAX_ALL_SLOTS as usize;
+/// The most room of the ports' reply rings together.
+const MAX_PORT_REPLIES: usize = MAX_PORTS * MAX_DEPTH as usize;
 /// The most room of all reply rings together.
-pub const MAX_ALL_REPLIES: usize = MAX_PORTS * MAX_DEPTH as usize;
+pub const MAX_ALL_REPLIES: usize = MAX_PORT_REPLIES + MAX_ALL_SLOTS as usize * FLOW_DEPTH as usize;
 /// The most events that may be inside for a NEW to be taken.
 pub const MAX_BOUND: usize = MAX_LIMIT as usize + MAX_ALL_REPLIES;
 
@@ -40,6 +45,9 @@ pub struct Shape {
     serving: Serving,
     queues: Vec<QueueDraft>,
     ports: Vec<PortDraft>,
+    flows: Vec<FlowLane>,
+    /// For each port the places of the flow lanes of its links.
+    flow_links: Vec<Vec<usize>>,
 }
 
 impl Model for Shape {
@@ -92,17 +100,37 @@ fn copied_ports(alloc: Global, ports: &[PortDraft]) -> Result<Vec<PortDraft>, Al
 
 /// The replies of all ports.
 fn replies_in(ports: &[PortDraft]) -> usize
-    requires { sum_by (λ port. port.replies) ports.now ≤ MAX_ALL_REPLIES }
+    requires { sum_by (λ port. port.replies) ports.now ≤ MAX_PORT_REPLIES }
     ensures value { result ≡ sum_by (λ port. port.replies) ports.now }
-    ensures few { result ≤ MAX_ALL_REPLIES }
+    ensures few { result ≤ MAX_PORT_REPLIES }
 {
     ports.iter().map(|port| port.replies as usize).sum()
 }
 
 impl Shape {
+    /// Keeps a copy of a configuration in which nothing is refused.
+    fn copied(alloc: Global, draft: &Draft) -> Result<Shape, AllocError>
+        requires { fault_of (plan_of draft.now) ≡ None }
+        ensures { IfOk result (λ s. s ≡ plan_of draft.now) }
+    {
+        let queues = Vec::from_slice(alloc, &draft.queues)?;
+        let ports = copied_ports(alloc, &draft.ports)?;
+        let flows = all_flows(alloc, draft)?;
+        let flow_links = all_flow_links(alloc, &flows, &draft.ports)?;
+        Ok(Shape {
+            limit: draft.limit,
+            quantum: draft.quantum,
+            sweep: draft.sweep,
+            serving: draft.serving,
+            queues,
+            ports,
+            flows,
+            flow_links,
+        })
+    }
+
     /// Checks a configuration, and keeps a copy of it.
     pub fn build(alloc: Global, draft: &Draft) -> Result<Shape, ShapeFault>
-        requires { draft.now.serving ≡ Serving.Ports }
         ensures built { IfOk result (λ s. s ≡ plan_of draft.now) }
         ensures sound { OnOk result (fault_of (plan_of draft.now) ≡ None) }
         ensures refused { (f : ShapeFault) → fault_of (plan_of draft.now) ≡ Some f → result ≡ Err f }
@@ -111,20 +139,10 @@ impl Shape {
         if let Some(fault) = first_fault(draft) {
             return Err(fault);
         }
-        let Ok(queues) = Vec::from_slice(alloc, &draft.queues) else {
-            return Err(ShapeFault::Memory);
-        };
-        let Ok(ports) = copied_ports(alloc, &draft.ports) else {
-            return Err(ShapeFault::Memory);
-        };
-        Ok(Shape {
-            limit: draft.limit,
-            quantum: draft.quantum,
-            sweep: draft.sweep,
-            serving: draft.serving,
-            queues,
-            ports,
-        })
+        match Shape::copied(alloc, draft) {
+            Ok(shape) => Ok(shape),
+            Err(_) => Err(ShapeFault::Memory),
+        }
     }
 
     /// How many events may be inside.
@@ -173,12 +191,28 @@ impl Shape {
         &self.ports
     }
 
-    /// How many lanes there are.
+    /// The queue and the slot of each flow lane, by queue, then slot; with `Serving::Ports` there are none.
+    pub fn flows(&self) -> &[FlowLane]
+        ensures value { result.now ≡ plans.flow_lanes self.now }
+        ensures few { length result.now ≤ MAX_ALL_SLOTS }
+    {
+        &self.flows
+    }
+
+    /// The flow lanes of the atomic queues that the port is linked to, rising; they are numbered from 0, in the order of `flows`.
+    pub fn flow_links(&self, port: usize) -> &[usize]
+        requires { port < length self.now.ports }
+        ensures { result.now ≡ plans.flow_links self.now port }
+    {
+        &self.flow_links[port]
+    }
+
+    /// How many lanes there are: one for each port, then the flow lanes.
     pub fn lanes(&self) -> usize
         ensures value { result ≡ plans.lanes_of self.now }
-        ensures few { (1 ≤ result) × (result ≤ MAX_PORTS) }
+        ensures few { (1 ≤ result) × (result ≤ MAX_LANES) }
     {
-        self.ports.len()
+        self.ports.len() + self.flows.len()
     }
 
     /// The slot of the queue into which the flow falls.
@@ -194,14 +228,27 @@ impl Shape {
         }
     }
 
+    /// Whether the queue's events are handed to flow lanes.
+    fn has_flow_lanes(&self, queue: usize) -> bool
+        requires { queue < length self.now.queues }
+        ensures { result ≡ plans.has_flow_lanes self.now queue }
+    {
+        self.serving == Serving::Flows && self.queues[queue].kind.is_atomic()
+    }
+
     /// Whether the lane is handed events of this slot of the queue.
     pub fn serves(&self, lane: usize, queue: usize, slot: usize) -> bool
         requires lane { lane < plans.lanes_of self.now }
         requires queue { queue < length self.now.queues }
         ensures { result ≡ plans.serves self.now lane queue slot }
     {
-        let _ = slot;
-        is_linked(&self.ports[lane].links, queue)
+        let ports = self.ports.len();
+        if lane < ports {
+            is_linked(&self.ports[lane].links, queue) && !self.has_flow_lanes(queue)
+        } else {
+            let flow = self.flows[lane - ports];
+            flow.queue == queue && flow.slot == slot
+        }
     }
 
     /// How many events the lane's holder may hold.
@@ -210,7 +257,11 @@ impl Shape {
         ensures value { result ≡ plans.depth_of self.now lane }
         ensures range { (1 ≤ result) × (result ≤ MAX_DEPTH) }
     {
-        self.ports[lane].depth as usize
+        if lane < self.ports.len() {
+            self.ports[lane].depth as usize
+        } else {
+            FLOW_DEPTH as usize
+        }
     }
 
     /// The room of the lane's reply ring.
@@ -219,7 +270,11 @@ impl Shape {
         ensures value { result ≡ plans.replies_of self.now lane }
         ensures range { (1 ≤ result) × (result ≤ MAX_DEPTH) }
     {
-        self.ports[lane].replies as usize
+        if lane < self.ports.len() {
+            self.ports[lane].replies as usize
+        } else {
+            FLOW_DEPTH as usize
+        }
     }
 
     /// How many events may be inside for a NEW to be taken: the limit, and the replies of all lanes.
@@ -227,6 +282,6 @@ impl Shape {
         ensures value { result ≡ plans.bound_of self.now }
         ensures small { result ≤ MAX_BOUND }
     {
-        self.limit as usize + replies_in(&self.ports)
+        self.limit as usize + replies_in(&self.ports) + FLOW_DEPTH as usize * self.flows.len()
     }
 }

@@ -4,7 +4,7 @@ use Rattle.std.specs.List.{range_with_len}
 use Rattle.std.proofs.Common.{refl, sym, ap, ◌∙◌, subst, arith, ⊎_elim, zero, suc, get_or, eq-eqb}
 use Rattle.std.proofs.lemmas.Bool.{cases_eq, false≢true, ne_eqb}
 use Rattle.std.proofs.lemmas.List.Elements.{All-head, All-tail}
-use Rattle.std.proofs.lemmas.List.FromFn.{length-range_with_len}
+use Rattle.std.proofs.lemmas.List.FromFn.{length-range_with_len, fill_by_all}
 use Rattle.std.proofs.lemmas.List.Sums.{sum_by-cons, sum_by-le}
 use Rattle.lists.specs.Lists.{has}
 
@@ -99,3 +99,8 @@ length_by_keys key n most xs all few =
       sum_by-le (λ k. count_by (λ x. key x == k) xs) most (range_with_len 0 n) (λ k d h. few (get_or (range_with_len 0 n) k d)),
       ap (λ m. m * most) (length-range_with_len 0 n),
     )
+
+-- a sum over the numbers below a bound is one over the items that stand there
+pub sum_by_place : {X : Type 0} (f : X → ℕ) (xs : List X) (d : X) → sum_by (λ k. f (get_or xs k d)) (range_with_len 0 (length xs)) ≡ sum_by f xs
+sum_by_place f xs d =
+    sym (sum_of_map f (λ k. get_or xs k d) (range_with_len 0 (length xs))) ∙ ap (λ ys. sum_by f ys) (sym (fill_by_all (λ k. get_or xs k d) xs (length xs) d refl (λ k h. refl)))

@@ -80,6 +80,9 @@ pub lanes_are : (p : Plan) → lanes_of p ≡ length p.ports + length (flow_lane
 unfolding lanes_of
 lanes_are p = refl
 
+pub port_is_lane : (p : Plan) (l : ℕ) → l < length p.ports → l < lanes_of p
+port_is_lane p l own = omega (arith, lanes_are p)
+
 -- the flow lane of a number past the ports'
 pub flow_at_is : (p : Plan) (l : ℕ) (d : FlowLane) → length p.ports ≤ l → l < lanes_of p → flow_at p l ≡ Some (get_or (flow_lanes p) (l - length p.ports) d)
 flow_at_is p l d past h =

@@ -5,6 +5,7 @@ use Rattle.std.proofs.lemmas.List.{length-append, length_push}
 use Rattle.std.proofs.lemmas.List.Elements.{All-nil, All-push, All-weaker}
 use Rattle.std.proofs.lemmas.List.Sums.{sum_by_push}
 use Rattle.std.proofs.lemmas.Option.{slice_get_within}
+use Rattle.evt_types.proofs.FlowLanes.{port_is_lane}
 use Rattle.transcripts.proofs.Facts.{Facts, Facts-none, Facts-push, AllowedAfter_keeps}
 use Rattle.transcripts.proofs.Insides.{inside_new, inside_of, inside_give, inside_release, inside_forward, inside_turned, inside_bounced, inside_shut}
 use Rattle.transcripts.proofs.Pushes.{taken_in_is, taken-some, taken-none, forwards-push}
@@ -133,11 +134,11 @@ HasQueue p (Bounced l) = Unit {0}
 HasQueue p Shut = Unit {0}
 
 pub formed_lane : (p : Plan) (s : Step) → IsFormed p s → HasLane p s
-formed_lane p (Accept q e (New l)) f = f.lane
+formed_lane p (Accept q e (New l)) f = port_is_lane p l f.lane
 formed_lane p (Accept q e (Of r n)) f = tt
 formed_lane p (Give l q n) f = f.lane
 formed_lane p (Done l o) f = f.0
-formed_lane p (Turned l e) f = f.lane
+formed_lane p (Turned l e) f = port_is_lane p l f.lane
 formed_lane p (Bounced l) f = f
 formed_lane p Shut f = tt
 

@@ -45,7 +45,7 @@ may_forward_is v T l q stands lane =
     ∙ ap (λ n. may_answer_at T l && (nat_lt q (length v.shape.queues) && nat_lt n (2 ^ 63))) (entries_is v T stands)
 
 may_take_by_is : (o : Op) (v : View) (T : List Step) (l : ℕ) (e : Event) → Stands T v → l < lanes_of v.shape → may_take_by o v l e ≡ may_be_taken_by o v.shape T l e
-may_take_by_is ops.New v T l e stands lane = may_enter_is v T e.queue stands
+may_take_by_is ops.New v T l e stands lane = ap (λ b. nat_lt l (length v.shape.ports) && b) (may_enter_is v T e.queue stands)
 may_take_by_is ops.Forward v T l e stands lane = may_forward_is v T l e.queue stands lane
 may_take_by_is ops.Release v T l e stands lane = may_answer_is v T l stands lane
 

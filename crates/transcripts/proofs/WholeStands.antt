@@ -117,7 +117,7 @@ stands_push : (v w : View) (T : List Step) (s : Step) → Stands T v → Allowed
     → w ≡ view_of v.shape (T ++ s ∷ []) → Stands (T ++ s ∷ []) w
 stands_push v w T s stands may settled e = stands_at v.shape w (T ++ s ∷ []) (Lawful-push v.shape T s stands.lawful may settled) e
 
-pub stands_new : (v : View) (T : List Step) (l : ℕ) (e : Event) → Stands T v → l < lanes_of v.shape → e.op ≡ ops.New → v.shut ≡ false
+pub stands_new : (v : View) (T : List Step) (l : ℕ) (e : Event) → Stands T v → l < length v.shape.ports → e.op ≡ ops.New → v.shut ≡ false
     → e.queue < length v.shape.queues → standing.inside_of v < bound_of v.shape
     → Stands (T ++ Accept e.queue e (New l) ∷ []) (after_accept v e.queue e)
 stands_new v T l e stands lane op unshut queue room =
@@ -132,14 +132,14 @@ stands_new v T l e stands lane op unshut queue room =
     (settled_stays p T (Accept e.queue e (New l)) f (λ q. refl) refl refl (λ q n. refl) (settled_of p T stands.lawful))
     (ap (λ u. after_accept u e.queue e) stands.holds ∙ sym (view_accept p T e.queue e (New l) f queue))
 
-pub stands_turned : (v : View) (T : List Step) (l : ℕ) (e : Event) → Stands T v → l < lanes_of v.shape → e.op ≡ ops.New → v.shut ≡ true
-    → Stands (T ++ Turned l e ∷ []) v
-stands_turned v T l e stands lane op shut =
+pub stands_turned : (v : View) (T : List Step) (l : ℕ) (e : Event) → Stands T v → l < length v.shape.ports → e.op ≡ ops.New → v.shut ≡ true
+    → e.queue < length v.shape.queues → Stands (T ++ Turned l e ∷ []) v
+stands_turned v T l e stands lane op shut queue =
     let p : Plan = v.shape in
     let f : Facts p T = facts_of p T stands.lawful in
     stands_push v v T (Turned l e) stands
     (record {
-      formed = record { lane = lane; operation = op };
+      formed = record { queue = queue; operation = op; lane = lane };
       prompt = λ _. settled_of p T stands.lawful;
       needs = sym (shut_is v T stands) ∙ shut;
     })
@@ -296,10 +296,13 @@ stands_answer v T l o stands lane some outcome =
 -- ---- a reply
 
 -- a NEW is accepted, or turned away by a core that is shut
-stands_enter : (v : View) (T : List Step) (l : ℕ) (e : Event) → Stands T v → l < lanes_of v.shape → e.op ≡ ops.New → may_enter v e.queue ≡ true
+stands_enter : (v : View) (T : List Step) (l : ℕ) (e : Event) → Stands T v → l < length v.shape.ports → e.op ≡ ops.New → may_enter v e.queue ≡ true
     → (b : Bool) → v.shut ≡ b
     → Stands (T ++ cond b (Turned l e ∷ []) (Accept e.queue e (New l) ∷ [])) (after v (cond b (Turned l e ∷ []) (Accept e.queue e (New l) ∷ [])))
-stands_enter v T l e stands lane op may true shut = stands_turned v T l e stands lane op shut
+stands_enter v T l e stands lane op may true shut =
+    let parts = and_parts (nat_lt e.queue (length v.shape.queues))
+    (v.shut || (nat_lt (standing.inside_of v) (bound_of v.shape) && nat_lt (entries_of v) (2 ^ 63))) may in
+    stands_turned v T l e stands lane op shut (ltb-true e.queue (length v.shape.queues) parts.0)
 stands_enter v T l e stands lane op may false shut =
     let parts = and_parts (nat_lt e.queue (length v.shape.queues))
     (v.shut || (nat_lt (standing.inside_of v) (bound_of v.shape) && nat_lt (entries_of v) (2 ^ 63))) may in
@@ -311,7 +314,9 @@ stands_enter v T l e stands lane op may false shut =
 
 stands_by : (v : View) (T : List Step) (l : ℕ) (e : Event) → Stands T v → l < lanes_of v.shape → (o : Op) → e.op ≡ o → may_take_by o v l e ≡ true
     → Stands (T ++ steps_by o v l e) (after v (steps_by o v l e))
-stands_by v T l e stands lane ops.New op may = stands_enter v T l e stands lane op may v.shut refl
+stands_by v T l e stands lane ops.New op may =
+    let parts = and_parts (nat_lt l (length v.shape.ports)) (may_enter v e.queue) may in
+    stands_enter v T l e stands (ltb-true l (length v.shape.ports) parts.0) op parts.1 v.shut refl
 stands_by v T l e stands lane ops.Forward op may =
     let parts = and_parts (nat_lt 0 (length (unanswered_at v l))) (nat_lt e.queue (length v.shape.queues) && nat_lt (entries_of v) (2 ^ 63)) may in
     let there = and_parts (nat_lt e.queue (length v.shape.queues)) (nat_lt (entries_of v) (2 ^ 63)) parts.1 in

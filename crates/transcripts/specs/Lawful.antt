@@ -29,10 +29,11 @@ pub record IsEntry (p : Plan) (q : ℕ) (e : Event) : Type 0 where
   pub queue : q < length p.queues
   pub named : e.queue ≡ q
 
+-- of a port's own lane: a flow lane has answers alone
 pub record IsNewEntry (p : Plan) (q : ℕ) (e : Event) (l : ℕ) : Type 0 where
   pub entry : IsEntry p q e
   pub operation : e.op ≡ ops.New
-  pub lane : l < lanes_of p
+  pub lane : l < length p.ports
 
 pub record IsForwardEntry (p : Plan) (q : ℕ) (e : Event) (r : ℕ) : Type 0 where
   pub entry : IsEntry p q e
@@ -49,8 +50,9 @@ IsOutcome p (Forwarded e) = (e.queue < length p.queues) × (e.op ≡ ops.Forward
 IsOutcome p Released = Unit {0}
 
 pub record IsTurnedAway (p : Plan) (l : ℕ) (e : Event) : Type 0 where
-  pub lane : l < lanes_of p
+  pub queue : e.queue < length p.queues
   pub operation : e.op ≡ ops.New
+  pub lane : l < length p.ports
 
 abbrev pub IsFormed : Plan → Step → Type 0
 IsFormed p (Accept q e (New l)) = IsNewEntry p q e l

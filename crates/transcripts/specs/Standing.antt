@@ -85,8 +85,9 @@ may_answer v l = nat_lt 0 (length (unanswered_at v l))
 abbrev pub may_forward : View → ℕ → ℕ → Bool
 may_forward v l q = may_answer v l && (nat_lt q (length v.shape.queues) && nat_lt (entries_of v) (2 ^ 63))
 
+-- a NEW comes on a port's own lane
 abbrev pub may_take_by : Op → View → ℕ → Event → Bool
-may_take_by ops.New v l e = may_enter v e.queue
+may_take_by ops.New v l e = nat_lt l (length v.shape.ports) && may_enter v e.queue
 may_take_by ops.Forward v l e = may_forward v l e.queue
 may_take_by ops.Release v l e = may_answer v l
 
@@ -94,8 +95,8 @@ may_take_by ops.Release v l e = may_answer v l
 abbrev pub may_take : View → ℕ → Event → Bool
 may_take v l e = may_take_by e.op v l e
 
--- The same by the transcript: the queue is there, what is inside and what was accepted or is kept leave room for a NEW while
--- Shut isn't in the transcript, and an answer answers something.
+-- The same by the transcript: the queue is there, a NEW is a port's, what is inside and what was accepted or is kept leave room for
+-- it while Shut isn't in the transcript, and an answer answers something.
 abbrev pub may_enter_at : Plan → List Step → ℕ → Bool
 may_enter_at p T q = nat_lt q (length p.queues) && (has_shut T || (nat_lt (inside p T) (bound_of p) && nat_lt (entries p T) (2 ^ 63)))
 
@@ -106,7 +107,7 @@ abbrev pub may_forward_at : Plan → List Step → ℕ → ℕ → Bool
 may_forward_at p T l q = may_answer_at T l && (nat_lt q (length p.queues) && nat_lt (entries p T) (2 ^ 63))
 
 abbrev pub may_be_taken_by : Op → Plan → List Step → ℕ → Event → Bool
-may_be_taken_by ops.New p T l e = may_enter_at p T e.queue
+may_be_taken_by ops.New p T l e = nat_lt l (length p.ports) && may_enter_at p T e.queue
 may_be_taken_by ops.Forward p T l e = may_forward_at p T l e.queue
 may_be_taken_by ops.Release p T l e = may_answer_at T l
 

@@ -9,7 +9,8 @@ use Rattle.lists.proofs.Lists.{eqb_same}
 use Rattle.lists.proofs.Sums.{sum_of_none}
 use Rattle.evt_types.specs.Fault.{IsWithinLimits, IsBetween}
 use Rattle.evt_types.specs.declared.shape.TheConstants.{MAX_DEPTH, MAX_SLOTS}
-use Rattle.evt_types.specs.Plan.{Plan, PortPlan, queue_of, slot_of, depth_of, is_atomic}
+use Rattle.evt_types.proofs.FlowLanes.{depth_within}
+use Rattle.evt_types.specs.Plan.{Plan, queue_of, slot_of, depth_of, is_atomic, lanes_of}
 use Rattle.transcripts.specs.Transcript.{Held}
 use Rattle.evt_types.specs.declared.draft.QueueDraft.{QueueDraft}
 use Rattle.evt_types.specs.declared.event.Kind.TheVariants.{Parallel}
@@ -189,14 +190,13 @@ alone_may p us ps q slot l pins h alone = by_kind (cases_Bool (is_atomic (queue_
     by_kind (inr plain) lane = ap (λ (y : Pin). may_pin y l) (free_plain p us ps q slot pins h plain)
 
 -- a lane that isn't full leaves room in a pin
-pub pin_room : (p : Plan) (us : List (List Held)) (ps : List (List Pin)) (q slot l : ℕ) → ArePins p us ps → IsWithinLimits p → q < length p.queues → l < length p.ports
+pub pin_room : (p : Plan) (us : List (List Held)) (ps : List (List Pin)) (q slot l : ℕ) → ArePins p us ps → IsWithinLimits p → q < length p.queues → l < lanes_of p
     → length (entries_at us l) < depth_of p l → may_pin (pin_in ps q slot) l ≡ true → (pin_in ps q slot).count < MAX_DEPTH
 pin_room p us ps q slot l pins limits h k room may = by_kind (cases_Bool (is_atomic (queue_of p q).kind))
   where
     by_kind : (is_atomic (queue_of p q).kind ≡ true) ⊎ (is_atomic (queue_of p q).kind ≡ false) → (pin_in ps q slot).count < MAX_DEPTH
     by_kind (inl atomic) =
-        let unknown : PortPlan = record { threshold = 0; depth = 0; replies = 0; implicit = false; links = [] } in
-        let depth : IsBetween 1 MAX_DEPTH (depth_of p l) = limits.depths l unknown k in
+        let depth : IsBetween 1 MAX_DEPTH (depth_of p l) = depth_within p l limits k in
         let few = count_by-le-length (is_of q slot) (entries_at us l) in
         let all = pins.held q slot l atomic ∙ count_on_may l (pin_in ps q slot) may in
         omega arith

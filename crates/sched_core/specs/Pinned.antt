@@ -1,7 +1,6 @@
 -- The pins of all queues, and how they agree with the unanswered events.
 use Rattle.std.specs.Prelude.{ℕ, ◌≡◌, ◌<◌, Bool, true, ◌&&◌, ◌==◌, List, [], length, count_by, replicate, slice_index_or, slice_set, if◌then◌else◌, All}
-use Rattle.evt_types.specs.Fault.{atomic_slots}
-use Rattle.evt_types.specs.Plan.{Plan, queue_of, is_atomic}
+use Rattle.evt_types.specs.Plan.{Plan, atomic_slots, queue_of, is_atomic}
 use Rattle.transcripts.specs.Transcript.{Held}
 use Rattle.order_parts.specs.Pins.{Pin, free, pin_at}
 

@@ -1,7 +1,7 @@
 -- What contracts see of a core, and what holds of each.
 use Rattle.std.specs.Prelude.{ℕ, ◌≡◌, ◌≤◌, List, length, map, All, ◌<◌, ◌^◌}
 use Rattle.evt_types.specs.Fault.{IsWithinLimits}
-use Rattle.evt_types.specs.Plan.{bound_of}
+use Rattle.evt_types.specs.Plan.{bound_of, lanes_of}
 use Rattle.transcripts.specs.Standing.{View, inside_of, entries_of}
 use Rattle.transcripts.specs.Transcript.{Held}
 use Rattle.evt_types.specs.declared.event.Numbered.{Numbered}
@@ -42,7 +42,7 @@ view_in a =
 pub record IsCore (a : Inside) : Type 0 where
   pub limits : IsWithinLimits a.shape
   pub queues : length a.queues.items ≡ length a.shape.queues
-  pub lanes : length a.lanes.items ≡ length a.shape.ports
+  pub lanes : length a.lanes.items ≡ lanes_of a.shape
   pub sound : All (IsQueueOf (bound_of a.shape)) a.queues.items
   pub room : HaveRoom a.shape a.lanes.items
   pub pins : ArePins a.shape (map unanswered_in a.lanes.items) a.pins

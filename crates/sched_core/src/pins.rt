@@ -1,7 +1,7 @@
 //! Which lane holds each slot of each queue.
 
 ghost use Rattle.std.specs.Prelude.{◌≡◌, ◌<◌, length, IfOk, IsTrue};
-ghost use Rattle.evt_types.specs.Fault.{atomic_slots};
+ghost use Rattle.evt_types.specs.Plan.{atomic_slots};
 ghost use Rattle.order_parts.specs.Pins.{may_pin, pinned, unpinned};
 ghost use Rattle.sched_core.specs.Pinned.{AreFreePins, pins_at, pin_in, with_pin};
 

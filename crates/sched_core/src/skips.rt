@@ -4,11 +4,9 @@ ghost use Rattle.std.specs.Prelude.{◌≡◌, ◌+◌, ◌<◌, true, slice_set
 ghost use Rattle.transcripts.specs.Choice.{has_bounced};
 ghost use Rattle.sched_core.specs.Skipped.{nothing_passed};
 
-use evt_types::{MAX_PORTS, MAX_QUEUES, MAX_SWEEP};
+use evt_types::{MAX_LANES, MAX_QUEUES, MAX_SWEEP};
 use std::marker::Model;
 
-/// How many lanes some device has.
-pub const MAX_LANES: usize = MAX_PORTS;
 /// The lanes whose ring refused a delivery in this sweep, and how many events of each queue were given in it.
 #[derive(Drop)]
 pub struct Skips {

@@ -1,6 +1,6 @@
 //! Replies of the lanes are taken.
 
-ghost use Rattle.std.specs.Prelude.{◌≡◌, ◌+◌, ◌<◌, ◌≤◌, true, List, ◌++◌, length, vec_len, vec_capacity};
+ghost use Rattle.std.specs.Prelude.{◌≡◌, ◌+◌, ◌<◌, ◌≤◌, nat_lt, ◌&&◌, true, List, ◌++◌, length, vec_len, vec_capacity};
 ghost use Rattle.evt_types.specs.Plan.{is_ordered, lanes_of, queue_of};
 ghost use Rattle.transcripts.specs.Standing.{Stands, AreStepsOf, may_be_taken, may_take, may_enter, may_answer, may_forward, answer_steps, steps_by, steps_of, after};
 ghost use Rattle.evt_types.specs.declared.step.Step.{Step as StepValue};
@@ -35,10 +35,17 @@ impl Core {
     {
         let queue = usize::from(reply.event.queue);
         match reply.event.op {
-            Op::New => self.may_enter(queue),
+            Op::New => self.may_bring(lane, queue),
             Op::Forward => self.may_forward(lane, queue),
             Op::Release => self.may_answer(lane),
         }
+    }
+
+    /// Whether the lane may bring a new event for the queue: it must be a port's own.
+    fn may_bring(&self, lane: usize, queue: usize) -> bool
+        ensures { result ≡ (nat_lt lane (length self.now.shape.ports) && may_enter self.now queue) }
+    {
+        lane < self.shape.ports().len() && self.may_enter(queue)
     }
 
     /// Whether a new event for the queue may be taken: once the core is shut it is turned away, and needs no room.

@@ -1,4 +1,4 @@
-use Rattle.evt_types.specs.declared.shape.TheConstants.{MAX_ORDER, MAX_PORTS, MAX_QUEUES, MAX_SWEEP}
+use Rattle.evt_types.specs.declared.shape.TheConstants.{MAX_LANES, MAX_ORDER, MAX_QUEUES, MAX_SWEEP}
 use Rattle.std.proofs.Common.{◌≡◌, ℕ, ◌≤◌, ◌+◌, ◌*◌, length, sum_by, subst, sym, ap, arith, ◌∙◌}
 use Rattle.std.proofs.Math.Nat.{mul-le-mul}
 use Rattle.evt_types.specs.Plan.{Plan, kept_room, lanes_of}
@@ -11,20 +11,20 @@ use Rattle.sched_core.proofs.state.Core.log_room.Goals as goal
 pub overflow_add-result-2 : goal.overflow_add-result-2
 overflow_add-result-2 c =
     let kept : c.all_kept_room-kept.result ≤ MAX_QUEUES * MAX_ORDER = subst (λ n. n ≤ MAX_QUEUES * MAX_ORDER) (sym (c.all_kept_room-kept.ensures ∙ ap (sum_by kept_room) c.queues-queues.ensures.value)) (few_kept c.self.inside.shape c.self.invariant.limits) in
-    let taken : c.sweep-sweep.result * c.lanes-lanes.result ≤ MAX_SWEEP * MAX_PORTS = mul-le-mul c.sweep-sweep.ensures.range.1 c.lanes-lanes.ensures.few.1 in
+    let taken : c.sweep-sweep.result * c.lanes-lanes.result ≤ MAX_SWEEP * MAX_LANES = mul-le-mul c.sweep-sweep.ensures.range.1 c.lanes-lanes.ensures.few.1 in
     omega arith
 
 pub overflow_add-result-3 : goal.overflow_add-result-3
 overflow_add-result-3 c =
     let kept : c.all_kept_room-kept.result ≤ MAX_QUEUES * MAX_ORDER = subst (λ n. n ≤ MAX_QUEUES * MAX_ORDER) (sym (c.all_kept_room-kept.ensures ∙ ap (sum_by kept_room) c.queues-queues.ensures.value)) (few_kept c.self.inside.shape c.self.invariant.limits) in
-    let taken : c.sweep-sweep.result * c.lanes-lanes.result ≤ MAX_SWEEP * MAX_PORTS = mul-le-mul c.sweep-sweep.ensures.range.1 c.lanes-lanes.ensures.few.1 in
+    let taken : c.sweep-sweep.result * c.lanes-lanes.result ≤ MAX_SWEEP * MAX_LANES = mul-le-mul c.sweep-sweep.ensures.range.1 c.lanes-lanes.ensures.few.1 in
     let given : c.sweep-sweep.result * length c.queues-queues.result.now ≤ MAX_SWEEP * MAX_QUEUES = mul-le-mul c.sweep-sweep.ensures.range.1 c.queues-queues.ensures.few.1 in
     omega arith
 
 pub overflow_add-result-4 : goal.overflow_add-result-4
 overflow_add-result-4 c =
     let kept : c.all_kept_room-kept.result ≤ MAX_QUEUES * MAX_ORDER = subst (λ n. n ≤ MAX_QUEUES * MAX_ORDER) (sym (c.all_kept_room-kept.ensures ∙ ap (sum_by kept_room) c.queues-queues.ensures.value)) (few_kept c.self.inside.shape c.self.invariant.limits) in
-    let taken : c.sweep-sweep.result * c.lanes-lanes.result ≤ MAX_SWEEP * MAX_PORTS = mul-le-mul c.sweep-sweep.ensures.range.1 c.lanes-lanes.ensures.few.1 in
+    let taken : c.sweep-sweep.result * c.lanes-lanes.result ≤ MAX_SWEEP * MAX_LANES = mul-le-mul c.sweep-sweep.ensures.range.1 c.lanes-lanes.ensures.few.1 in
     let given : c.sweep-sweep.result * length c.queues-queues.result.now ≤ MAX_SWEEP * MAX_QUEUES = mul-le-mul c.sweep-sweep.ensures.range.1 c.queues-queues.ensures.few.1 in
     omega arith
 

@@ -1,4 +1,4 @@
-use Rattle.std.proofs.Common.{sym, ap, ◌∙◌}
+use Rattle.std.proofs.Common.{sym, ap, ◌∙◌, ◌&&◌, nat_lt, length}
 use Rattle.evt_types.specs.declared.event.Op.{Op}
 use Rattle.transcripts.specs.Standing.{may_enter, may_forward, may_take_by}
 use Rattle.transcripts.proofs.ViewTells.{may_take_is}
@@ -6,8 +6,8 @@ use Rattle.sched_core.proofs.state.Core.takes.Goals as goal
 
 pub returns-in-New-clause-model : goal.returns-in-New-clause-model
 returns-in-New-clause-model c T stands =
-    c.may_enter.ensures
-    ∙ (ap (may_enter c.args.self.now) c.from-queue.ensures
+    c.may_bring.ensures
+    ∙ (ap (λ q. nat_lt c.args.lane (length c.args.self.now.shape.ports) && may_enter c.args.self.now q) c.from-queue.ensures
     ∙ (ap (λ (o : Op). may_take_by o c.args.self.now c.args.lane c.args.reply.now.event) (sym c.in-New.is)
     ∙ may_take_is c.args.self.now T c.args.lane c.args.reply.now.event stands c.requires.lane))
 

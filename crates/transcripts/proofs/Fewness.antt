@@ -14,6 +14,7 @@ use Rattle.transcripts.specs.Standing.{View, Stands, view_of, places, places_at,
 use Rattle.evt_types.specs.Place.{Place}
 use Rattle.transcripts.specs.Transcript.{Held, is_from_of}
 use Rattle.evt_types.specs.declared.event.Event.{Event}
+use Rattle.evt_types.specs.declared.event.Kind.TheVariants.{Parallel}
 use Rattle.evt_types.specs.declared.event.Op.{Op}
 use Rattle.evt_types.specs.declared.event.Op.TheVariants as ops
 use Rattle.evt_types.specs.declared.step.Outcome.{Outcome}
@@ -111,35 +112,30 @@ accepts_keep v (s ∷ steps) all =
     accepts_keep (after_step v s) steps (All-tail (λ t. is_from_of t ≡ true) s steps all)
     ∙ accept_keeps v s (All-head (λ t. is_from_of t ≡ true) s steps all)
 
--- each queue has its places
-places_long : (v : View) (T : List Step) → Stands T v → length v.places ≡ length v.shape.queues
-unfolding view_of
-places_long v T stands =
-    ap (λ (u : View). length u.places) stands.holds ∙ length-map-range_with_len (places v.shape T) 0 (length v.shape.queues)
+-- ---- what the bounds need of a view
+
+-- An ordered queue has no more places than its order, of different numbers, each forwarded once at most; another has none. What a
+-- lane's oldest event is to answer is of a queue that is there.
+pub record AreSound (v : View) : Type 0 where
+  pub long : length v.places ≡ length v.shape.queues
+  pub differ : (q : ℕ) → q < length v.shape.queues → AllPairs Differ (places_at v q)
+  pub one : (q : ℕ) → q < length v.shape.queues → All (λ (x : Place). length x.forwards ≤ 1) (places_at v q)
+  pub fit : (q : ℕ) → q < length v.shape.queues → length (places_at v q) ≤ kept_room (queue_of v.shape q)
+  pub there : (l : ℕ) (h : Held) → l < lanes_of v.shape → is_ordered (queue_of v.shape h.queue).kind ≡ true → oldest_at v l ≡ Some h → h.queue < length v.shape.queues
 
 -- no more events are kept than the ordered queues have places
-pub kept_fit : (v : View) (T : List Step) → Stands T v → kept_in v ≤ sum_by kept_room v.shape.queues
-kept_fit v T stands = sums_below sent_by kept_room [] _ v.places v.shape.queues (places_long v T stands)
-    (λ q lt. by_kind q (omega (arith, places_long v T stands)) (cases_Bool (is_ordered (queue_of v.shape q).kind)))
-  where
-    by_kind : (q : ℕ) → q < length v.shape.queues → (is_ordered (queue_of v.shape q).kind ≡ true) ⊎ (is_ordered (queue_of v.shape q).kind ≡ false)
-        → sent_by (places_at v q) ≤ kept_room (queue_of v.shape q)
-    by_kind q h (inl ordered) =
-        let one : All (λ (x : Place). length x.forwards ≤ 1) (places_at v q) = λ k d lt. (place_forwards v T q stands h k d lt).0 in
-        omega (
-          arith,
-          sum_by-le sent_as 1 (places_at v q) one,
-          places_fit v T q stands h ordered,
-          cond-true (is_ordered (queue_of v.shape q).kind) (queue_of v.shape q).order 0 ordered,
-        )
-    by_kind q h (inr plain) = omega (arith, ap sent_by (places_is v T q stands h ∙ places_plain v.shape T q plain))
+pub sound_kept : (v : View) → AreSound v → kept_in v ≤ sum_by kept_room v.shape.queues
+sound_kept v sound =
+    sums_below sent_by kept_room [] (record { kind = Parallel; priority = 0; slots = 0; order = 0; single = false }) v.places v.shape.queues sound.long
+    (λ q lt. let there : q < length v.shape.queues = omega (arith, sound.long) in
+    omega (arith, sum_by-le sent_as 1 (places_at v q) (sound.one q there), sound.fit q there))
 
 -- ---- the steps of a reply
 
 -- the lane's oldest event is answered
-answer_few : (v : View) (T : List Step) (l : ℕ) (o : Outcome) → Stands T v → l < lanes_of v.shape
+answer_few : (v : View) (l : ℕ) (o : Outcome) → AreSound v → l < lanes_of v.shape
     → length (answer_steps v l o) + kept_in (after v (answer_steps v l o)) ≤ kept_in v + 2
-answer_few v T l o stands lane =
+answer_few v l o sound lane =
     omega (
       arith,
       ap (sum_by sent_by) (accepts_keep (after_done v l o) (accepts_of v (oldest_at v l) o) (accepts_of-of v (oldest_at v l) o)),
@@ -151,15 +147,14 @@ answer_few v T l o stands lane =
         → length (flat_map (λ (x : Place). accepts_from h.queue x.number x.forwards) (leaving (answered_places v h.queue h.number o)))
         + sum_by sent_by (set v.places h.queue (staying (answered_places v h.queue h.number o))) ≤ kept_in v + 1
     restored h is ordered =
-        let oldest : Contains (unanswered_at v l) h = (0, slice_get_within (unanswered_at v l) 0 h is, get_or_from_slice_get (unanswered_at v l) 0 h h is) in
-        let there : h.queue < length v.shape.queues = (held_has_place v T l h stands lane oldest ordered).0 in
+        let there : h.queue < length v.shape.queues = sound.there l h lane ordered is in
         let answered : List Place = answered_places v h.queue h.number o in
         omega (
           arith,
           accepts_count h.queue (leaving answered),
-          sum_by-set sent_by v.places h.queue (staying answered) [] (omega (arith, places_long v T stands)),
+          sum_by-set sent_by v.places h.queue (staying answered) [] (omega (arith, sound.long)),
           left_and_stayed answered,
-          answered_few h.number o (places_at v h.queue) (places_differ v T h.queue stands there),
+          answered_few h.number o (places_at v h.queue) (sound.differ h.queue there),
         )
 
     by_oldest : (h : Option Held) → oldest_at v l ≡ h → length (accepts_of v h o) + sum_by sent_by (places_after v h o) ≤ kept_in v + 1
@@ -177,19 +172,50 @@ answer_few v T l o stands lane =
         by_kind true ordered = restored h is ordered
         by_kind false plain = omega (arith, length-map (events_of o) (λ (e : Event). Accept e.queue e (Of h.queue h.number)), events_few o)
 
-reply_few : (v : View) (T : List Step) (l : ℕ) (e : Event) → Stands T v → l < lanes_of v.shape → (o : Op)
+reply_few : (v : View) (l : ℕ) (e : Event) → AreSound v → l < lanes_of v.shape → (o : Op)
     → length (steps_by o v l e) + kept_in (after v (steps_by o v l e)) ≤ kept_in v + 2
-reply_few v T l e stands lane ops.New = by_shut v.shut
+reply_few v l e sound lane ops.New = by_shut v.shut
   where
     by_shut : (b : Bool)
         → length (cond b (Turned l e ∷ []) (Accept e.queue e (New l) ∷ [])) + kept_in (after v (cond b (Turned l e ∷ []) (Accept e.queue e (New l) ∷ [])))
         ≤ kept_in v + 2
     by_shut true = omega arith
     by_shut false = omega arith
-reply_few v T l e stands lane ops.Forward = answer_few v T l (Forwarded e) stands lane
-reply_few v T l e stands lane ops.Release = answer_few v T l Released stands lane
+reply_few v l e sound lane ops.Forward = answer_few v l (Forwarded e) sound lane
+reply_few v l e sound lane ops.Release = answer_few v l Released sound lane
 
 -- the steps of a reply and the events that are kept after them are two at most beside those that were kept
+pub sound_steps : (v : View) (l : ℕ) (e : Event) → AreSound v → l < lanes_of v.shape
+    → length (steps_of v l e) + kept_in (after v (steps_of v l e)) ≤ kept_in v + 2
+sound_steps v l e sound lane = reply_few v l e sound lane e.op
+
+-- ---- a view that stands at a transcript
+
+places_long : (v : View) (T : List Step) → Stands T v → length v.places ≡ length v.shape.queues
+unfolding view_of
+places_long v T stands =
+    ap (λ (u : View). length u.places) stands.holds ∙ length-map-range_with_len (places v.shape T) 0 (length v.shape.queues)
+
+stands_fit : (v : View) (T : List Step) (q : ℕ) → Stands T v → q < length v.shape.queues → (b : Bool) → is_ordered (queue_of v.shape q).kind ≡ b
+    → length (places_at v q) ≤ cond b (queue_of v.shape q).order 0
+stands_fit v T q stands h true ordered = places_fit v T q stands h ordered
+stands_fit v T q stands h false plain = omega (arith, ap length (places_is v T q stands h ∙ places_plain v.shape T q plain))
+
+stands_sound : (v : View) (T : List Step) → Stands T v → AreSound v
+stands_sound v T stands =
+    record {
+      long = places_long v T stands;
+      differ = λ q h. places_differ v T q stands h;
+      one = λ q h k d lt. (place_forwards v T q stands h k d lt).0;
+      fit = λ q h. stands_fit v T q stands h (is_ordered (queue_of v.shape q).kind) refl;
+      there = λ l h lane ordered is.
+        let oldest : Contains (unanswered_at v l) h = (0, slice_get_within (unanswered_at v l) 0 h is, get_or_from_slice_get (unanswered_at v l) 0 h h is) in
+        (held_has_place v T l h stands lane oldest ordered).0;
+    }
+
+pub kept_fit : (v : View) (T : List Step) → Stands T v → kept_in v ≤ sum_by kept_room v.shape.queues
+kept_fit v T stands = sound_kept v (stands_sound v T stands)
+
 pub steps_fit : (v : View) (T : List Step) (l : ℕ) (e : Event) → Stands T v → l < lanes_of v.shape
     → length (steps_of v l e) + kept_in (after v (steps_of v l e)) ≤ kept_in v + 2
-steps_fit v T l e stands lane = reply_few v T l e stands lane e.op
+steps_fit v T l e stands lane = sound_steps v l e (stands_sound v T stands) lane

@@ -14,4 +14,5 @@ pub mod Ordered
 pub mod Pinned
 pub mod Queues
 pub mod Settling
+pub mod Sound
 pub mod Steps

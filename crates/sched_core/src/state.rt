@@ -1,7 +1,7 @@
 //! What the core holds, and what can be read of it.
 
 ghost use Rattle.std.specs.Prelude.{◌≡◌, ◌+◌, ◌<◌, ◌≤◌, ◌++◌, List, length, map, sum_by, vec_len, vec_capacity};
-ghost use Rattle.transcripts.specs.Standing.{Stands, inside_of, kept_at, kept_under, places_at, waiting_at};
+ghost use Rattle.transcripts.specs.Standing.{Stands, inside_of, kept_at, kept_in, kept_under, places_at, waiting_at};
 ghost use Rattle.transcripts.specs.Sweep.{IsSweep, Sweeping, sweep_room, sweep_steps};
 ghost use Rattle.transcripts.specs.Transcript as transcripts;
 ghost use Rattle.evt_types.specs.Plan as plans;
@@ -75,6 +75,7 @@ impl Core {
     /// the events that were kept, each event given, and each lane whose ring was full.
     pub fn log_room(&self) -> usize
         ensures value { result ≡ sweep_room self.now.shape }
+        ensures kept { kept_in self.now ≤ sum_by plans.kept_room self.now.shape.queues }
         ensures fits { (T : List StepValue) (s : Sweeping) → Stands T self.now → IsSweep self.now s → length (sweep_steps self.now s) ≤ result }
     {
         let sweep = self.shape.sweep() as usize;

@@ -2,7 +2,7 @@
 
 ghost use Rattle.std.specs.Prelude.{◌≡◌, ◌+◌, ◌<◌, ◌≤◌, nat_lt, ◌&&◌, true, List, ◌++◌, length, vec_len, vec_capacity};
 ghost use Rattle.evt_types.specs.Plan.{is_ordered, lanes_of, queue_of};
-ghost use Rattle.transcripts.specs.Standing.{Stands, AreStepsOf, may_be_taken, may_take, may_enter, may_answer, may_forward, answer_steps, steps_by, steps_of, after};
+ghost use Rattle.transcripts.specs.Standing.{Stands, AreStepsOf, may_be_taken, may_take, may_enter, may_answer, may_forward, answer_steps, steps_by, steps_of, after, kept_in};
 ghost use Rattle.evt_types.specs.declared.step.Step.{Step as StepValue};
 ghost use Rattle.sched_core.specs.Taken.{took_by, took_of};
 
@@ -27,12 +27,16 @@ pub enum Took {
 const MAX_ENTRIES: u64 = 1 << 63;
 
 impl Core {
-    /// Whether the lane's reply may be taken now.
+    /// Whether the lane's reply may be taken now: it is an answer and the lane has something to answer, or a NEW of a port's own
+    /// lane and, unless the core is shut, there is room for it; and the queue that it names is there. Whether or not, its steps would
+    /// be two at most beside the kept events that it lets go.
     pub fn takes(&self, lane: usize, reply: &Reply) -> bool
         requires lane { lane < lanes_of self.now.shape }
         ensures value { result ≡ may_take self.now lane reply.now.event }
         ensures model { (T : List StepValue) → Stands T self.now → result ≡ may_be_taken self.now.shape T lane reply.now.event }
+        ensures few { length (steps_of self.now lane reply.now.event) + kept_in (after self.now (steps_of self.now lane reply.now.event)) ≤ kept_in self.now + 2 }
     {
+        let _ = &self.shape;
         let queue = usize::from(reply.event.queue);
         match reply.event.op {
             Op::New => self.may_bring(lane, queue),

@@ -4,8 +4,10 @@ use Rattle.std.proofs.Math.Nat.{mul-le-mul}
 use Rattle.evt_types.specs.Plan.{Plan, kept_room, lanes_of}
 use Rattle.transcripts.specs.Standing.{View}
 use Rattle.transcripts.specs.Sweep.{sweep_room, sweep_steps}
+use Rattle.transcripts.proofs.Fewness.{AreSound, sound_kept}
 use Rattle.transcripts.proofs.Sweeps.{sweep_fits}
 use Rattle.sched_core.proofs.Cores.{few_kept}
+use Rattle.sched_core.proofs.Sound.{core_sound}
 use Rattle.sched_core.proofs.state.Core.log_room.Goals as goal
 
 pub overflow_add-result-2 : goal.overflow_add-result-2
@@ -27,6 +29,9 @@ overflow_add-result-4 c =
     let taken : c.sweep-sweep.result * c.lanes-lanes.result ≤ MAX_SWEEP * MAX_LANES = mul-le-mul c.sweep-sweep.ensures.range.1 c.lanes-lanes.ensures.few.1 in
     let given : c.sweep-sweep.result * length c.queues-queues.result.now ≤ MAX_SWEEP * MAX_QUEUES = mul-le-mul c.sweep-sweep.ensures.range.1 c.queues-queues.ensures.few.1 in
     omega arith
+
+pub returns-clause-kept : goal.returns-clause-kept
+returns-clause-kept c = sound_kept c.args.self.now (subst AreSound c.self.view_is (core_sound c.self.inside c.self.invariant))
 
 pub returns-clause-fits : goal.returns-clause-fits
 returns-clause-fits c T s stands sweep =

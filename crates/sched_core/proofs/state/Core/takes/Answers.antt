@@ -1,7 +1,9 @@
-use Rattle.std.proofs.Common.{sym, ap, ◌∙◌, ◌&&◌, nat_lt, length}
+use Rattle.std.proofs.Common.{sym, subst, ap, ◌∙◌, ◌&&◌, nat_lt, length}
 use Rattle.evt_types.specs.declared.event.Op.{Op}
 use Rattle.transcripts.specs.Standing.{may_enter, may_forward, may_take_by}
 use Rattle.transcripts.proofs.ViewTells.{may_take_is}
+use Rattle.transcripts.proofs.Fewness.{AreSound, sound_steps}
+use Rattle.sched_core.proofs.Sound.{core_sound}
 use Rattle.sched_core.proofs.state.Core.takes.Goals as goal
 
 pub returns-in-New-clause-model : goal.returns-in-New-clause-model
@@ -23,3 +25,15 @@ returns-in-Release-clause-model c T stands =
     c.may_answer.ensures
     ∙ (ap (λ (o : Op). may_take_by o c.args.self.now c.args.lane c.args.reply.now.event) (sym c.in-Release.is)
     ∙ may_take_is c.args.self.now T c.args.lane c.args.reply.now.event stands c.requires.lane)
+
+pub returns-in-New-clause-few : goal.returns-in-New-clause-few
+returns-in-New-clause-few c =
+    sound_steps c.args.self.now c.args.lane c.args.reply.now.event (subst AreSound c.self.view_is (core_sound c.self.inside c.self.invariant)) c.requires.lane
+
+pub returns-in-Forward-clause-few : goal.returns-in-Forward-clause-few
+returns-in-Forward-clause-few c =
+    sound_steps c.args.self.now c.args.lane c.args.reply.now.event (subst AreSound c.self.view_is (core_sound c.self.inside c.self.invariant)) c.requires.lane
+
+pub returns-in-Release-clause-few : goal.returns-in-Release-clause-few
+returns-in-Release-clause-few c =
+    sound_steps c.args.self.now c.args.lane c.args.reply.now.event (subst AreSound c.self.view_is (core_sound c.self.inside c.self.invariant)) c.requires.lane

@@ -1,0 +1,29 @@
+-- Each core holds what bounds the steps of a reply, and what may be kept, at whatever transcript it stands.
+use Rattle.std.proofs.Common.{◌≡◌, ◌<◌, ◌≤◌, length, map, slice_get, Some, subst, sym, ap, ◌∙◌, arith}
+use Rattle.std.proofs.lemmas.List.{length-map}
+use Rattle.evt_types.specs.Place.{Place}
+use Rattle.evt_types.specs.Plan.{kept_room, lanes_of, queue_of}
+use Rattle.sched_core.specs.Ordered.{order_at, places_in, waits_at, IsOrder}
+use Rattle.sched_core.specs.View.{IsCore, unanswered_in, view_in}
+use Rattle.sched_core.specs.declared.state.Core.TheInside.{Inside}
+use Rattle.sched_core.proofs.Cores.{in_view, places_here}
+use Rattle.sched_core.proofs.Pinned.{oldest_known as known_of}
+use Rattle.transcripts.specs.Standing.{View, places_at}
+use Rattle.transcripts.specs.Transcript.{Held}
+use Rattle.transcripts.proofs.Fewness.{AreSound}
+use Rattle.transcripts.proofs.PlaceFacts.{Differ}
+use Rattle.std.specs.List.{All, AllPairs}
+
+pub core_sound : (a : Inside) → IsCore a → AreSound (view_in a)
+core_sound a core =
+    record {
+      long = length-map a.orders places_in ∙ core.places.count;
+      differ = λ q h. subst (AllPairs Differ) (sym (places_here a q core h)) (core.places.each q h).distinct;
+      one = λ q h. subst (All (λ (x : Place). length x.forwards ≤ 1)) (sym (places_here a q core h)) (λ k d lt. ((core.places.each q h).keeps k d lt).0);
+      fit = λ q h.
+        let room = core.places.each q h in
+        subst (λ xs. length xs ≤ kept_room (queue_of a.shape q)) (sym (places_here a q core h)) (omega (arith, room.room, room.within));
+      there = λ l h lane ordered is.
+        let within : l < length a.lanes.items = omega (arith, core.lanes, lane) in
+        known_of a.shape (map unanswered_in a.lanes.items) a.pins l h core.pins (in_view a l within) is;
+    }

@@ -212,6 +212,15 @@ pub struct Numbered {
     pub event: Event,
 }
 
+/// An event that an ordered queue keeps until all before it is answered, with the queue and the number of the event that was
+/// forwarded as it.
+#[derive(Clone, Copy, Debug, PartialEq, Eq, Default)]
+pub struct KeptEvent {
+    pub queue: usize,
+    pub number: u64,
+    pub event: Event,
+}
+
 /// Why no event was made.
 #[derive(Clone, Copy, Debug, PartialEq, Eq)]
 pub enum EventFault {

@@ -15,7 +15,7 @@ mod word;
 
 pub use draft::{Draft, PortDraft, QueueDraft, Serving};
 pub use event::{
-    Delivery, Event, EventFault, Kind, MAX_EVENT_TYPES, MAX_FLOWS, Numbered, Op, Reply,
+    Delivery, Event, EventFault, KeptEvent, Kind, MAX_EVENT_TYPES, MAX_FLOWS, Numbered, Op, Reply,
 };
 pub use flows::{FLOW_DEPTH, FlowLane};
 pub use shape::{

@@ -7,7 +7,7 @@ use Rattle.std.proofs.lemmas.List.Elements.{All-push, All-filter, All-weaker}
 use Rattle.std.proofs.lemmas.List.Kept.{AllPairs-filter}
 use Rattle.std.proofs.lemmas.List.Quantifiers.{all_pairs_push}
 use Rattle.std.proofs.lemmas.List.Sorted.{sum_by-IsPermutation, length_permutation}
-use Rattle.std.specs.List.Sorted.{IsNonDecreasing, IsPermutation}
+use Rattle.std.specs.List.Sorted.{IsNonDecreasingBy, IsPermutation}
 use Rattle.std.proofs.lemmas.List.Sums.{length-filter, count_by-le-length, sum_by-append, sum_by-cons}
 use Rattle.std.proofs.lemmas.Option.{none-some, get_or_from_slice_get}
 use Rattle.lists.proofs.Lists.{All-kept, All-weaker_all, filter-all, eqb_other, slice_get-some}
@@ -22,7 +22,8 @@ use Rattle.sched_core.specs.Merge.{by_number, levels_of, waits_in, IsQueue}
 use Rattle.sched_core.specs.Waits.{Waits, AreWaits, IsPlaceOf, IsRising, at_level, with_event, without_number}
 use Rattle.sched_core.specs.declared.queue.Queue.TheInside.{Inside}
 use Rattle.sched_core.proofs.Merges.{merges_back, by_number_sum, levels_with, levels_without, remove_is_filter, is_other}
-use Rattle.lists.proofs.Sorted.{sorted_same, tail_sorted, tail_is}
+use Rattle.lists.proofs.Sorted.{none_off, off, second, seconds_in_order, sorted_same, tail_is, tail_sorted, with_first}
+use Rattle.transcripts.specs.Transcript.{pairs_of}
 use borrow.Rule.Slice.PartMut.{mid_of, put_mid}
 
 -- the list of a level
@@ -131,28 +132,29 @@ removed_lists a q n c i (Some w) l queue view lt only place value rest =
 
 -- ---- numbers
 
--- one number more
-pub numbers_more : (before xs ys : List ℕ) (ws : List Numbered) (i : ℕ) (w : Numbered) → i < length ws → Some w ≡ slice_get ws i → xs ≡ before ++ map (λ (u : Numbered). u.number) (take i ws) → ys ≡ xs ++ w.number ∷ [] → ys ≡ before ++ map (λ (u : Numbered). u.number) (take (i + 1) ws)
-numbers_more before xs ys ws i w h is e f =
+-- one pair more
+pub pairs_more :
+    (q : ℕ) (before xs ys : List (ℕ × ℕ)) (ws : List Numbered) (i : ℕ) (w : Numbered) → i < length ws → Some w ≡ slice_get ws i → xs ≡ before ++ pairs_of q (take i ws)
+    → ys ≡ xs ++ (q, w.number) ∷ [] → ys ≡ before ++ pairs_of q (take (i + 1) ws)
+pairs_more q before xs ys ws i w h is e f =
     f
-    ∙ (ap (λ zs. zs ++ w.number ∷ []) e
-    ∙ (append_assoc before (map (λ (u : Numbered). u.number) (take i ws)) (w.number ∷ [])
-    ∙ ap (λ zs. before ++ zs) (sym (map_push (λ (u : Numbered). u.number) (take i ws) w) ∙ ap (map (λ (u : Numbered). u.number)) (ap (λ (u : Numbered). take i ws ++ u ∷ []) (sym (get_or_from_slice_get ws i w w (sym is))) ∙ sym (take_more ws i w h)))))
+    ∙ (ap (λ zs. zs ++ (q, w.number) ∷ []) e
+    ∙ (append_assoc before (pairs_of q (take i ws)) ((q, w.number) ∷ [])
+    ∙ ap (λ zs. before ++ zs) (sym (map_push (λ (u : Numbered). (q, u.number)) (take i ws) w) ∙ ap (pairs_of q) (ap (λ (u : Numbered). take i ws ++ u ∷ []) (sym (get_or_from_slice_get ws i w w (sym is))) ∙ sym (take_more ws i w h)))))
 
 pub none_at : (ws : List Numbered) (i : ℕ) → i < length ws → None ≡ slice_get ws i → ⊥
 none_at ws i h is = let some = slice_get-some ws i h in none-some some.0 (is ∙ some.1)
 
-pub more_room : (into new : Vec ℕ Global) (ws : List Numbered) → new.items ≡ into.items ++ map (λ (u : Numbered). u.number) ws → vec_len new ≡ vec_len into + length ws
-more_room into new ws items =
+pub more_room : (q : ℕ) (into new : Vec (ℕ × ℕ) Global) (ws : List Numbered) → new.items ≡ into.items ++ pairs_of q ws → vec_len new ≡ vec_len into + length ws
+more_room q into new ws items =
     let a : vec_len into ≡ length into.items = into.ok.0 in
     let b : vec_len new ≡ length new.items = new.ok.0 in
-    let e : length new.items ≡ length into.items + length ws = ap length items ∙ (length-append into.items (map (λ (u : Numbered). u.number) ws) ∙ ap (λ n. length into.items + n) (length-map ws (λ (u : Numbered). u.number))) in
+    let e : length new.items ≡ length into.items + length ws = ap length items ∙ (length-append into.items (pairs_of q ws) ∙ ap (λ n. length into.items + n) (length-map ws (λ (u : Numbered). (q, u.number)))) in
     omega arith
 
 pub level_within : (c : ℕ) (ws : List Numbered) → length (at_level c ws) ≤ length ws
 level_within c ws = subst (λ n. n ≤ length ws) (sym (length-filter (is_of_level c) ws)) (count_by-le-length (is_of_level c) ws)
 
--- the numbers of a level
 abbrev pub numbers_at : ℕ → List Numbered → List ℕ
 numbers_at c ws = map (λ (u : Numbered). u.number) (at_level c ws)
 
@@ -185,29 +187,60 @@ rising_numbers (w ∷ ws) rises i j d lt within =
     let less : (get_or (w ∷ ws) i w).number < (get_or (w ∷ ws) j w).number = rises i j w lt h in
     omega arith
 
--- the numbers of the levels one after the other, put in order, are the numbers of what waits
-pub sorted_numbers : (ws : List Numbered) (xs sorted : List ℕ) → IsRising ws → All (λ (w : Numbered). level_of w.event < 4) ws
-    → xs ≡ numbers_at 0 ws ++ (numbers_at 1 ws ++ (numbers_at 2 ws ++ numbers_at 3 ws)) → IsPermutation xs sorted → IsNonDecreasing sorted → sorted ≡ map (λ (u : Numbered). u.number) ws
-sorted_numbers ws xs sorted rises levels is permutes order =
-    sorted_same (map (λ (u : Numbered). u.number) ws) sorted (rising_numbers ws rises) order (λ f. same f)
-  where
-    same : (f : ℕ → ℕ) → sum_by f (map (λ (u : Numbered). u.number) ws) ≡ sum_by f sorted
-    same f =
-        let whole = four_sum f ws rises levels in
-        let p : sum_by f sorted ≡ sum_by f xs = sum_by-IsPermutation f xs sorted permutes in
-        let e : sum_by f xs ≡ sum_by f (numbers_at 0 ws ++ (numbers_at 1 ws ++ (numbers_at 2 ws ++ numbers_at 3 ws))) = ap (sum_by f) is in
-        let a = sum_by-append f (numbers_at 0 ws) (numbers_at 1 ws ++ (numbers_at 2 ws ++ numbers_at 3 ws)) in
-        let b = sum_by-append f (numbers_at 1 ws) (numbers_at 2 ws ++ numbers_at 3 ws) in
-        let c = sum_by-append f (numbers_at 2 ws) (numbers_at 3 ws) in
-        omega arith
+-- the pairs of the levels one after the other
+abbrev pub pairs_at : ℕ → ℕ → List Numbered → List (ℕ × ℕ)
+pairs_at q c ws = pairs_of q (at_level c ws)
 
--- the numbers after those that were there before
-pub listed : (ws : List Numbered) (now items before xs sorted : List ℕ) (n s : ℕ) → IsRising ws → All (λ (w : Numbered). level_of w.event < 4) ws
-    → now ≡ items → items ≡ before ++ xs → xs ≡ numbers_at 0 ws ++ (numbers_at 1 ws ++ (numbers_at 2 ws ++ numbers_at 3 ws)) → s ≡ length before → n ≡ length items
-    → IsPermutation (mid_of s (length now - s) now) sorted → IsNonDecreasing sorted
-    → take n (put_mid s (length now - s) now sorted ++ drop (length (put_mid s (length now - s) now sorted)) items) ≡ before ++ map (λ (u : Numbered). u.number) ws
-listed ws now items before xs sorted n s rises levels same is four start end permutes order =
+abbrev pub pairs_by_level : ℕ → List Numbered → List (ℕ × ℕ)
+pairs_by_level q ws = pairs_at q 0 ws ++ (pairs_at q 1 ws ++ (pairs_at q 2 ws ++ pairs_at q 3 ws))
+
+seconds_of : (q : ℕ) (ws : List Numbered) → map second (pairs_of q ws) ≡ map (λ (u : Numbered). u.number) ws
+seconds_of q [] = refl
+seconds_of q (w ∷ ws) = ap (λ ns. w.number ∷ ns) (seconds_of q ws)
+
+pairs_are : (q : ℕ) (ws : List Numbered) → map (λ n. (q, n)) (map (λ (u : Numbered). u.number) ws) ≡ pairs_of q ws
+pairs_are q [] = refl
+pairs_are q (w ∷ ws) = ap (λ ps. (q, w.number) ∷ ps) (pairs_are q ws)
+
+sum_of_pairs : (f : ℕ × ℕ → ℕ) (q : ℕ) (ws : List Numbered) → sum_by f (pairs_of q ws) ≡ sum_by (λ n. f (q, n)) (map (λ (u : Numbered). u.number) ws)
+sum_of_pairs f q ws = ap (sum_by f) (sym (pairs_are q ws)) ∙ sum_of_map f (λ n. (q, n)) (map (λ (u : Numbered). u.number) ws)
+
+pairs_sum : (f : ℕ × ℕ → ℕ) (q : ℕ) (ws : List Numbered) → IsRising ws → All (λ (w : Numbered). level_of w.event < 4) ws → sum_by f (pairs_by_level q ws) ≡ sum_by f (pairs_of q ws)
+pairs_sum f q ws rises levels =
+    let whole = four_sum (λ n. f (q, n)) ws rises levels in
+    let a = sum_by-append f (pairs_at q 0 ws) (pairs_at q 1 ws ++ (pairs_at q 2 ws ++ pairs_at q 3 ws)) in
+    let b = sum_by-append f (pairs_at q 1 ws) (pairs_at q 2 ws ++ pairs_at q 3 ws) in
+    let c = sum_by-append f (pairs_at q 2 ws) (pairs_at q 3 ws) in
+    let l0 = sum_of_pairs f q (at_level 0 ws) in
+    let l1 = sum_of_pairs f q (at_level 1 ws) in
+    let l2 = sum_of_pairs f q (at_level 2 ws) in
+    let l3 = sum_of_pairs f q (at_level 3 ws) in
+    let all = sum_of_pairs f q ws in
+    omega arith
+
+-- put in order by their numbers they are the pairs of what waits
+pub sorted_pairs : (q : ℕ) (ws : List Numbered) (xs sorted : List (ℕ × ℕ)) → IsRising ws → All (λ (w : Numbered). level_of w.event < 4) ws
+    → xs ≡ pairs_by_level q ws → IsPermutation xs sorted → IsNonDecreasingBy second sorted → sorted ≡ pairs_of q ws
+sorted_pairs q ws xs sorted rises levels is permutes order =
+    with_first q sorted (same (off q) ∙ (ap (sum_by (off q)) (sym (pairs_are q ws)) ∙ none_off q (map (λ (u : Numbered). u.number) ws)))
+    ∙ (ap (map (λ n. (q, n))) numbers ∙ pairs_are q ws)
+  where
+    same : (f : ℕ × ℕ → ℕ) → sum_by f sorted ≡ sum_by f (pairs_of q ws)
+    same f = sum_by-IsPermutation f xs sorted permutes ∙ (ap (sum_by f) is ∙ pairs_sum f q ws rises levels)
+
+    numbers : map second sorted ≡ map (λ (u : Numbered). u.number) ws
+    numbers =
+        sorted_same (map (λ (u : Numbered). u.number) ws) (map second sorted) (rising_numbers ws rises) (seconds_in_order sorted order)
+        (λ f. ap (sum_by f) (sym (seconds_of q ws))
+        ∙ (sum_of_map f second (pairs_of q ws) ∙ (sym (same (λ x. f (second x))) ∙ sym (sum_of_map f second sorted))))
+
+-- the pairs after those that were there before
+pub listed : (q : ℕ) (ws : List Numbered) (now items before xs sorted : List (ℕ × ℕ)) (n s : ℕ) → IsRising ws → All (λ (w : Numbered). level_of w.event < 4) ws
+    → now ≡ items → items ≡ before ++ xs → xs ≡ pairs_by_level q ws → s ≡ length before → n ≡ length items
+    → IsPermutation (mid_of s (length now - s) now) sorted → IsNonDecreasingBy second sorted
+    → take n (put_mid s (length now - s) now sorted ++ drop (length (put_mid s (length now - s) now sorted)) items) ≡ before ++ pairs_of q ws
+listed q ws now items before xs sorted n s rises levels same is four start end permutes order =
     let here : IsPermutation (mid_of s (length items - s) items) sorted = subst (λ zs. IsPermutation (mid_of s (length zs - s) zs) sorted) same permutes in
     let moved : IsPermutation xs sorted = subst (λ zs. IsPermutation zs sorted) (tail_is items before xs s is start) here in
-    subst (λ zs. take n (put_mid s (length zs - s) zs sorted ++ drop (length (put_mid s (length zs - s) zs sorted)) items) ≡ before ++ map (λ (u : Numbered). u.number) ws) (sym same)
-    (tail_sorted items before xs sorted n s is start end (length_permutation xs sorted moved) ∙ ap (λ zs. before ++ zs) (sorted_numbers ws xs sorted rises levels four moved order))
+    subst (λ zs. take n (put_mid s (length zs - s) zs sorted ++ drop (length (put_mid s (length zs - s) zs sorted)) items) ≡ before ++ pairs_of q ws) (sym same)
+    (tail_sorted items before xs sorted n s is start end (length_permutation xs sorted moved) ∙ ap (λ zs. before ++ zs) (sorted_pairs q ws xs sorted rises levels four moved order))

@@ -21,9 +21,9 @@ core_sound a core =
       differ = λ q h. subst (AllPairs Differ) (sym (places_here a q core h)) (core.places.each q h).distinct;
       one = λ q h. subst (All (λ (x : Place). length x.forwards ≤ 1)) (sym (places_here a q core h)) (λ k d lt. ((core.places.each q h).keeps k d lt).0);
       fit = λ q h.
-        let room = core.places.each q h in
-        subst (λ xs. length xs ≤ kept_room (queue_of a.shape q)) (sym (places_here a q core h)) (omega (arith, room.room, room.within));
+          let room = core.places.each q h in
+          subst (λ xs. length xs ≤ kept_room (queue_of a.shape q)) (sym (places_here a q core h)) (omega (arith, room.room, room.within));
       there = λ l h lane ordered is.
-        let within : l < length a.lanes.items = omega (arith, core.lanes, lane) in
-        known_of a.shape (map unanswered_in a.lanes.items) a.pins l h core.pins (in_view a l within) is;
+          let within : l < length a.lanes.items = omega (arith, core.lanes, lane) in
+          known_of a.shape (map unanswered_in a.lanes.items) a.pins l h core.pins (in_view a l within) is;
     }

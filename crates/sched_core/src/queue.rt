@@ -2,6 +2,7 @@
 
 ghost use Rattle.std.specs.Prelude.{◌≡◌, ◌≢◌, ◌+◌, ◌<◌, ◌≤◌, ◌^◌, ◌++◌, length, map, slice_get, option_copied, vec_len, vec_capacity, All, IfOk, IfSome, IfNone};
 ghost use Rattle.evt_types.specs.Plan.{level_of};
+ghost use Rattle.transcripts.specs.Transcript.{pairs_of};
 ghost use Rattle.evt_types.specs.declared.event.Numbered.{Numbered as NumberedValue};
 ghost use Rattle.sched_core.specs.Waits.{AreWaits, IsPlaceOf, at_level, no_waits, with_event, without_number};
 
@@ -107,32 +108,32 @@ impl Queue {
         self.len(0) + self.len(1) + self.len(2) + self.len(3)
     }
 
-    /// Appends the numbers of the level's waiting events.
-    fn push_numbers(&self, level: usize, into: &mut Vec<u64>)
+    /// Appends the queue's number with that of each of the level's waiting events.
+    fn push_pairs(&self, queue: usize, level: usize, into: &mut Vec<(usize, u64)>)
         requires level { level < 4 }
         requires room { vec_len into.old + length (at_level level self.now.waiting) ≤ vec_capacity into.old }
-        ensures numbers { into.new.items ≡ into.old.items ++ map (λ (w : NumberedValue). w.number) (at_level level self.now.waiting) }
+        ensures pairs { into.new.items ≡ into.old.items ++ pairs_of queue (at_level level self.now.waiting) }
         ensures room { vec_capacity into.new ≡ vec_capacity into.old }
         ensures waits { AreWaits self.now }
     {
         for place in 0..self.len(level) {
             if let Some(waiting) = self.at(level, place) {
-                into.push_reserved(waiting.number);
+                into.push_reserved((queue, waiting.number));
             }
         }
     }
 
-    /// Appends the numbers of the waiting events, rising.
-    pub fn list_numbers(&self, into: &mut Vec<u64>)
+    /// Appends the queue's number with that of each waiting event, rising.
+    pub fn list_pairs(&self, queue: usize, into: &mut Vec<(usize, u64)>)
         requires { vec_len into.old + length self.now.waiting ≤ vec_capacity into.old }
-        ensures numbers { into.new.items ≡ into.old.items ++ map (λ (w : NumberedValue). w.number) self.now.waiting }
+        ensures pairs { into.new.items ≡ into.old.items ++ pairs_of queue self.now.waiting }
         ensures room { vec_capacity into.new ≡ vec_capacity into.old }
     {
         let start = into.len();
-        self.push_numbers(0, into);
-        self.push_numbers(1, into);
-        self.push_numbers(2, into);
-        self.push_numbers(3, into);
-        into[start..].sort_unstable();
+        self.push_pairs(queue, 0, into);
+        self.push_pairs(queue, 1, into);
+        self.push_pairs(queue, 2, into);
+        self.push_pairs(queue, 3, into);
+        into[start..].sort_unstable_by_key(|pair| pair.1);
     }
 }

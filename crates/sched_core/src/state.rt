@@ -1,17 +1,17 @@
 //! What the core holds, and what can be read of it.
 
 ghost use Rattle.std.specs.Prelude.{◌≡◌, ◌+◌, ◌<◌, ◌≤◌, ◌++◌, List, length, map, sum_by, vec_len, vec_capacity};
-ghost use Rattle.transcripts.specs.Standing.{Stands, inside_of, kept_at, kept_in, kept_under, places_at, waiting_at};
+ghost use Rattle.transcripts.specs.Standing.{Stands, inside_of, kept_at, kept_event, kept_in, places_at, waiting_at};
 ghost use Rattle.transcripts.specs.Sweep.{IsSweep, Sweeping, sweep_room, sweep_steps};
 ghost use Rattle.transcripts.specs.Transcript as transcripts;
+ghost use Rattle.transcripts.specs.Transcript.{kept_events, pairs_of};
 ghost use Rattle.evt_types.specs.Plan as plans;
-ghost use Rattle.evt_types.specs.declared.event.Numbered.{Numbered as NumberedValue};
 ghost use Rattle.evt_types.specs.declared.step.Step.{Step as StepValue};
 
 use crate::orders::{AllOrders, kept_room};
 use crate::pins::AllPins;
 use crate::queue::Queue;
-use evt_types::{MAX_QUEUES, Numbered, QueueDraft, Shape};
+use evt_types::{KeptEvent, MAX_QUEUES, QueueDraft, Shape};
 use order_parts::History;
 use std::alloc::AllocError;
 use std::marker::Model;
@@ -93,14 +93,15 @@ impl Core {
         self.queues[queue].count()
     }
 
-    /// Appends the numbers of the queue's waiting events, rising.
-    pub fn list_waiting(&self, queue: usize, into: &mut Vec<u64>)
+    /// Appends the queue and the number of each of the queue's waiting events, by rising number.
+    pub fn list_waiting(&self, queue: usize, into: &mut Vec<(usize, u64)>)
         requires queue { queue < length self.now.shape.queues }
         requires room { vec_len into.old + length (waiting_at self.now queue) ≤ vec_capacity into.old }
-        ensures numbers { into.new.items ≡ into.old.items ++ map (λ (w : NumberedValue). w.number) (waiting_at self.now queue) }
+        ensures pairs { into.new.items ≡ into.old.items ++ pairs_of queue (waiting_at self.now queue) }
+        ensures model { (T : List StepValue) → Stands T self.now → into.new.items ≡ into.old.items ++ pairs_of queue (transcripts.waiting T queue) }
         ensures room { vec_capacity into.new ≡ vec_capacity into.old }
     {
-        self.queues[queue].list_numbers(into);
+        self.queues[queue].list_pairs(queue, into);
     }
 
     /// How many places of an ordered queue's hand-out haven't left; of another queue there are none.
@@ -111,17 +112,21 @@ impl Core {
         self.orders.len(queue)
     }
 
-    /// Appends the queue's kept events in hand-out order, each under the number of the event that it was forwarded from.
-    pub fn list_kept(&self, queue: usize, into: &mut Vec<Numbered>)
+    /// Appends the queue's kept events in hand-out order, each under the queue and the number of the event that it was forwarded from.
+    pub fn list_kept(&self, queue: usize, into: &mut Vec<KeptEvent>)
         requires queue { queue < length self.now.shape.queues }
         requires room { vec_len into.old + length (places_at self.now queue) ≤ vec_capacity into.old }
-        ensures kept { into.new.items ≡ into.old.items ++ kept_at self.now queue }
-        ensures model { (T : List StepValue) → Stands T self.now → into.new.items ≡ into.old.items ++ map kept_under (transcripts.kept T queue) }
+        ensures kept { into.new.items ≡ into.old.items ++ map (kept_event queue) (kept_at self.now queue) }
+        ensures model { (T : List StepValue) → Stands T self.now → into.new.items ≡ into.old.items ++ kept_events T queue }
         ensures room { vec_capacity into.new ≡ vec_capacity into.old }
     {
         for index in 0..self.orders.len(queue) {
             if let Some(kept) = self.orders.kept_at(queue, index) {
-                into.push_reserved(kept);
+                into.push_reserved(KeptEvent {
+                    queue,
+                    number: kept.number,
+                    event: kept.event,
+                });
             }
         }
     }

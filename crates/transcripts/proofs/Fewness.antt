@@ -209,8 +209,8 @@ stands_sound v T stands =
       one = λ q h k d lt. (place_forwards v T q stands h k d lt).0;
       fit = λ q h. stands_fit v T q stands h (is_ordered (queue_of v.shape q).kind) refl;
       there = λ l h lane ordered is.
-        let oldest : Contains (unanswered_at v l) h = (0, slice_get_within (unanswered_at v l) 0 h is, get_or_from_slice_get (unanswered_at v l) 0 h h is) in
-        (held_has_place v T l h stands lane oldest ordered).0;
+          let oldest : Contains (unanswered_at v l) h = (0, slice_get_within (unanswered_at v l) 0 h is, get_or_from_slice_get (unanswered_at v l) 0 h h is) in
+          (held_has_place v T l h stands lane oldest ordered).0;
     }
 
 pub kept_fit : (v : View) (T : List Step) → Stands T v → kept_in v ≤ sum_by kept_room v.shape.queues

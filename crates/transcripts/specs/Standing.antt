@@ -5,6 +5,7 @@ use Rattle.evt_types.specs.Plan.{Plan, queues, lanes, bound_of, queue_of, slot_o
 use Rattle.transcripts.specs.Lawful.{Lawful}
 use Rattle.transcripts.specs.Transcript.{accepted, waiting, inside, entries, unanswered, unanswered_slots, Held, open_of, forwards, is_answered, is_from_of, has_shut}
 use Rattle.evt_types.specs.declared.event.Event.{Event}
+use Rattle.evt_types.specs.declared.event.KeptEvent.{KeptEvent}
 use Rattle.evt_types.specs.declared.event.Numbered.{Numbered}
 use Rattle.evt_types.specs.declared.event.Op.{Op}
 use Rattle.evt_types.specs.declared.event.Op.TheVariants as ops
@@ -116,9 +117,13 @@ may_be_taken p T l e = may_be_taken_by e.op p T l e
 
 -- ---- what is kept
 
--- what a place keeps, under its event's number, and a kept event with the number that it was forwarded from
+-- what a place keeps, under its event's number, the same as it is reported, and a kept event with the number that it was forwarded
+-- from
 abbrev pub kept_in_place : Place → List Numbered
 kept_in_place x = map (λ (e : Event). record { number = x.number; event = e }) x.forwards
+
+abbrev pub kept_event : ℕ → Numbered → KeptEvent
+kept_event q w = record { queue = q; number = w.number; event = w.event }
 
 abbrev pub kept_under : ℕ × Event → Numbered
 kept_under x = record { number = x.0; event = x.1 }

@@ -5,6 +5,7 @@ use Rattle.std.specs.List.{list_any}
 use Rattle.evt_types.specs.Plan.{Plan, lanes, queues, slot_of}
 use Rattle.lists.specs.Lists.{has, with_past, from_first}
 use Rattle.evt_types.specs.declared.event.Event.{Event}
+use Rattle.evt_types.specs.declared.event.KeptEvent.{KeptEvent}
 use Rattle.evt_types.specs.declared.event.Numbered.{Numbered}
 use Rattle.evt_types.specs.declared.step.Outcome.{Outcome}
 use Rattle.evt_types.specs.declared.step.Outcome.TheVariants.{Forwarded, Released}
@@ -153,6 +154,10 @@ hand T q = filter_map (given_of q) T
 unfoldable pub waiting : List Step → ℕ → List Numbered
 waiting T q = filter (λ (w : Numbered). not (has w.number (hand T q))) (entered T q)
 
+-- the (queue, number) pairs of a queue's events
+abbrev pub pairs_of : ℕ → List Numbered → List (ℕ × ℕ)
+pairs_of q ws = map (λ (w : Numbered). (q, w.number)) ws
+
 abbrev pub named : ℕ → Option Event → Option Numbered
 named n None = None
 named n (Some e) = Some (record { number = n; event = e })
@@ -199,6 +204,10 @@ kept_of T q n = drop (length (taken T q n)) (forwards T q n)
 -- the queue's kept events, each with the number that it was forwarded from, in hand-out order
 unfoldable pub kept : List Step → ℕ → List (ℕ × Event)
 kept T q = flat_map (λ n. map (λ e. (n, e)) (kept_of T q n)) (hand T q)
+
+-- the same as they are reported
+abbrev pub kept_events : List Step → ℕ → List KeptEvent
+kept_events T q = map (λ (x : ℕ × Event). record { queue = q; number = x.0; event = x.1 }) (kept T q)
 
 -- the hand-out from its first unanswered number on
 unfoldable pub open_of : List Step → ℕ → List ℕ

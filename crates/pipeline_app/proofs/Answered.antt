@@ -11,8 +11,8 @@ use Rattle.evt_types.specs.declared.step.Step.TheVariants.{Accept, Give, Done, T
 use Rattle.play_documents.specs.Command.{Line, line_of}
 use Rattle.pipeline_app.specs.Play.{ArePlayed, IsAnswerTo, is_shut_by, shut_after}
 use Rattle.pipeline_app.specs.Swept.{Adds}
-use Rattle.pipeline_app.specs.Text.{IsInRange}
-use Rattle.pipeline_app.specs.declared.answer.Answer.{Answer}
+use Rattle.play_text.specs.Text.{IsInRange}
+use Rattle.play_text.specs.declared.answer.Answer.{Answer}
 use Rattle.play_documents.specs.declared.command.Command.{Command}
 
 -- one command more

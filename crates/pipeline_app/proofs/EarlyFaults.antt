@@ -2,12 +2,13 @@
 use Rattle.std.proofs.Common.{◌≡◌, ℕ, ◌<◌, List, Option, Some, None, Err, length, refl, sym, ap, subst, ◌∙◌}
 use Rattle.std.proofs.lemmas.Bool.{lt-ltb}
 use Rattle.play_documents.specs.Document.{IsNamed, IsNamedDoc, Fails, document_of}
-use Rattle.pipeline_app.specs.Input.{IsInputFault}
+use Rattle.play_command.specs.Input.{IsInputFault}
 use Rattle.play_documents.specs.declared.fault.ReadFault.{ReadFault}
 use Rattle.play_documents.specs.declared.fault.ReadFault.TheVariants as reads
-use Rattle.pipeline_app.specs.Play.{IsEarlyFault, app_fault}
-use Rattle.pipeline_app.specs.declared.fault.AppFault.{AppFault}
-use Rattle.pipeline_app.specs.declared.fault.AppFault.TheVariants.{Read, Write, Document, Memory, NoSeat}
+use Rattle.pipeline_app.specs.Play.{IsEarlyFault}
+use Rattle.play_command.specs.Fault.{app_fault}
+use Rattle.play_command.specs.declared.fault.AppFault.{AppFault}
+use Rattle.play_command.specs.declared.fault.AppFault.TheVariants.{Read, Write, Document, Memory, NoSeat}
 use Rattle.play_documents.specs.declared.fault.DocFault.{DocFault}
 use Rattle.play_documents.specs.declared.fault.DocFault.TheVariants.{TooLong}
 use Rattle.play_documents.specs.declared.document.TheConstants.{MAX_INPUT}

@@ -1,7 +1,5 @@
 pub mod Answered
-pub mod Counts
 pub mod EarlyFaults
-pub mod HexWords
 pub mod Keeping
 pub mod Playing
 pub mod PortPairs

@@ -14,7 +14,7 @@ use Rattle.evt_types.specs.declared.step.Source.TheVariants.{New, Of}
 use Rattle.evt_types.specs.declared.step.Step.{Step}
 use Rattle.evt_types.specs.declared.step.Step.TheVariants.{Accept, Give, Done, Turned, Bounced, Shut}
 use Rattle.pipeline_app.specs.Swept.{Adds, IsSweep, Makes, MakesTaken, credit_of, is_taking, is_bouncing, shut_seen}
-use Rattle.pipeline_app.specs.declared.answer.Swept.{Swept}
+use Rattle.play_text.specs.declared.answer.Swept.{Swept}
 use Rattle.sched_core.specs.Shutting.{shut_steps}
 use Rattle.sched_core.specs.Taken.{took_of}
 use Rattle.sched_core.specs.declared.take.Took.{Took}

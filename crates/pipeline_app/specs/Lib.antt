@@ -1,11 +1,6 @@
-pub mod CommandLine
-pub mod FaultText
-pub mod Input
-pub mod Output
 pub mod Pairs
 pub mod Play
 pub mod Refusals
 pub mod Rig
 pub mod Stopped
 pub mod Swept
-pub mod Text

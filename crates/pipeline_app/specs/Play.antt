@@ -6,20 +6,18 @@ use Rattle.transcripts.specs.Standing.{View, Stands}
 use Rattle.evt_types.specs.declared.step.Step.{Step}
 use Rattle.play_documents.specs.Command.{Line, Enqueue, Dequeue, Sweep, Shut}
 use Rattle.play_documents.specs.Document.{Planned, IsNamedDoc, document_of}
-use Rattle.play_documents.specs.declared.fault.ReadFault.{ReadFault}
-use Rattle.play_documents.specs.declared.fault.ReadFault.TheVariants as reads
-use Rattle.pipeline_app.specs.Output.{AppendsPrefix}
+use Rattle.play_command.specs.Output.{AppendsPrefix}
 use Rattle.pipeline_app.specs.Refusals.{is_stopped}
 use Rattle.evt_types.specs.Operation.{is_new_op}
 use Rattle.pipeline_app.specs.Rig.{HaveLeft}
 use Rattle.pipeline_app.specs.Stopped.{by_lane, undelivered_at, held_at, untaken_at, kept_in, waiting_in}
 use Rattle.pipeline_app.specs.Swept.{IsSweep}
-use Rattle.pipeline_app.specs.Text.{text_of}
-use Rattle.pipeline_app.specs.declared.answer.Answer.{Answer}
-use Rattle.pipeline_app.specs.declared.answer.Answer.TheVariants as answers
-use Rattle.pipeline_app.specs.declared.fault.AppFault.{AppFault}
-use Rattle.pipeline_app.specs.declared.fault.AppFault.TheVariants as app
-use Rattle.pipeline_app.specs.declared.report.Report.{Report}
+use Rattle.play_text.specs.Text.{text_of}
+use Rattle.play_text.specs.declared.answer.Answer.{Answer}
+use Rattle.play_text.specs.declared.answer.Answer.TheVariants as answers
+use Rattle.play_command.specs.declared.fault.AppFault.{AppFault}
+use Rattle.play_command.specs.declared.fault.AppFault.TheVariants as app
+use Rattle.play_text.specs.declared.report.Report.{Report}
 use Rattle.pipeline_app.specs.declared.rig_port.RigPort.{RigPort}
 
 -- after the command the device is shut
@@ -109,11 +107,6 @@ AfterFault known old new app.Read = Keeps old new
 AfterFault known old new (app.Document f) = Keeps old new
 AfterFault known old new app.Memory = Keeps old new
 AfterFault known old new app.NoSeat = Keeps old new
-
--- the fault of a document's reading, as one of the play
-abbrev pub app_fault : ReadFault → AppFault
-app_fault (reads.Document f) = app.Document f
-app_fault reads.Memory = app.Memory
 
 -- which faults come before the first byte is written: a document's where it is its first
 abbrev pub IsEarlyFault : Option (List ℕ) → AppFault → Type 0

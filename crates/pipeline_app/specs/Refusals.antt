@@ -3,8 +3,8 @@ use Rattle.std.specs.Prelude.{ℕ, ◌+◌, ◌-◌, ◌==◌, Bool, true, false
 use Rattle.evt_types.specs.declared.event.Event.{Event}
 use Rattle.evt_types.specs.declared.event.Op.{Op}
 use Rattle.evt_types.specs.declared.event.Op.TheVariants as ops
-use Rattle.pipeline_app.specs.declared.answer.Refused.{Refused}
-use Rattle.pipeline_app.specs.declared.answer.Refused.TheVariants.{Stopped, BadQueue, NothingHeld, Backpressure, Full}
+use Rattle.play_text.specs.declared.answer.Refused.{Refused}
+use Rattle.play_text.specs.declared.answer.Refused.TheVariants.{Stopped, BadQueue, NothingHeld, Backpressure, Full}
 use Rattle.pipeline_app.specs.declared.pool.Pool.{Pool}
 use Rattle.pipeline_app.specs.declared.rig.Rig.{Rig}
 use Rattle.pipeline_app.specs.declared.rig_port.RigPort.{RigPort}

@@ -8,12 +8,12 @@ use Rattle.evt_types.specs.declared.event.Numbered.{Numbered}
 use Rattle.evt_types.specs.declared.event.Op.{Op}
 use Rattle.evt_types.specs.declared.event.Op.TheVariants as ops
 use Rattle.evt_types.specs.declared.event.Reply.{Reply}
-use Rattle.pipeline_app.specs.declared.report.Held.{Held}
-use Rattle.pipeline_app.specs.declared.report.Kept.{Kept}
-use Rattle.pipeline_app.specs.declared.report.Report.{Report}
-use Rattle.pipeline_app.specs.declared.report.Undelivered.{Undelivered}
-use Rattle.pipeline_app.specs.declared.report.Untaken.{Untaken}
-use Rattle.pipeline_app.specs.declared.report.Waiting.{Waiting}
+use Rattle.play_text.specs.declared.report.Held.{Held}
+use Rattle.play_text.specs.declared.report.Kept.{Kept}
+use Rattle.play_text.specs.declared.report.Report.{Report}
+use Rattle.play_text.specs.declared.report.Undelivered.{Undelivered}
+use Rattle.play_text.specs.declared.report.Untaken.{Untaken}
+use Rattle.play_text.specs.declared.report.Waiting.{Waiting}
 use Rattle.pipeline_app.specs.declared.rig.Rig.{Rig}
 use Rattle.pipeline_app.specs.declared.rig_port.RigPort.{RigPort}
 use Rattle.transcripts.specs.Standing.{kept_at}

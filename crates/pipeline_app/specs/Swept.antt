@@ -5,7 +5,7 @@ use Rattle.transcripts.specs.Transcript.{has_shut, is_give}
 use Rattle.evt_types.specs.declared.step.Source.TheVariants.{New, Of}
 use Rattle.evt_types.specs.declared.step.Step.{Step}
 use Rattle.evt_types.specs.declared.step.Step.TheVariants.{Accept, Give, Done, Turned, Bounced, Shut}
-use Rattle.pipeline_app.specs.declared.answer.Swept.{Swept}
+use Rattle.play_text.specs.declared.answer.Swept.{Swept}
 use Rattle.pipeline_app.specs.declared.rig.Rig.{Rig}
 use Rattle.pipeline_app.specs.declared.sweep.Gave.{Gave}
 use Rattle.pipeline_app.specs.declared.sweep.Gave.TheVariants as gaves

@@ -7,13 +7,10 @@ ghost use Rattle.pipeline_app.specs.Play.{IsAnswerTo, ArePlayed, is_shut_by, IsR
 ghost use Rattle.pipeline_app.specs.Rig.{IsRig};
 ghost use Rattle.pipeline_app.specs.Swept.{Adds};
 
-use crate::answer::Answer;
-use crate::fault::AppFault;
-use crate::input::read_all;
-use crate::output::write_text;
 use crate::rig::Rig;
-use crate::text::text_of;
+use play_command::{AppFault, read_all, write_text};
 use play_documents::{Command, Document, read_document};
+use play_text::{Answer, text_of};
 use std::alloc::{AllocError, Global};
 use std::io::{Read, Write};
 

@@ -7,10 +7,10 @@ ghost use Rattle.evt_types.specs.Operation.{is_new_op};
 ghost use Rattle.pipeline_app.specs.Rig.{HaveLeft, IsRig};
 ghost use Rattle.pipeline_app.specs.declared.rig_port.RigPort.{RigPort as PortValue};
 
-use crate::answer::{Behind, Refused};
 use crate::pool::Pool;
 use crate::rig_port::RigPort;
 use evt_types::{Delivery, Event, Op, Shape, Step};
+use play_text::{Behind, Refused};
 use sched_core::Core;
 use std::alloc::{AllocError, Global};
 

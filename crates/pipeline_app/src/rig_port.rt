@@ -4,9 +4,9 @@ ghost use Rattle.std.specs.Prelude.{◌≡◌, ◌++◌, ◌∷◌, [], false, n
 ghost use Rattle.pipeline_app.specs.Pairs.{IsLeftOf, pairs_at};
 ghost use Rattle.pipeline_app.specs.Refusals.{answer_outcome, is_stopped, new_outcome};
 
-use crate::answer::{Behind, Refused};
 use crate::pool::Pool;
 use evt_types::{Delivery, Event, PortDraft, Reply};
+use play_text::{Behind, Refused};
 use std::alloc::{AllocError, Global};
 use std::collections::VecDeque;
 

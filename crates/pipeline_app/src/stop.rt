@@ -6,10 +6,10 @@ ghost use Rattle.pipeline_app.specs.Rig.{IsRig};
 ghost use Rattle.transcripts.specs.Standing.{kept_at};
 ghost use Rattle.pipeline_app.specs.Stopped.{IsReportOf, by_lane, waiting_of, numbers_of, waiting_in, kept_of, kept_in, undelivered_of, undelivered_at, held_of, held_at, untaken_of, untaken_at};
 
-use crate::report::{Held, Kept, Report, Undelivered, Untaken, Waiting};
 use crate::rig::Rig;
 use crate::rig_port::RigPort;
 use evt_types::{Delivery, Numbered, Op, Reply};
+use play_text::{Held, Kept, Report, Undelivered, Untaken, Waiting};
 use std::alloc::{AllocError, Global};
 
 impl Rig {

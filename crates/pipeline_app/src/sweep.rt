@@ -5,8 +5,8 @@ ghost use Rattle.evt_types.specs.Plan.{lanes_of};
 ghost use Rattle.pipeline_app.specs.Rig.{IsRig, HasRoom, Grew};
 ghost use Rattle.pipeline_app.specs.Swept.{Adds, Makes, MakesTaken, MakesGiven, Sweeps, credit_of, shut_seen};
 
-use crate::answer::Swept;
 use crate::rig::Rig;
+use play_text::Swept;
 use sched_core::{Offer, Skips, Took};
 use std::alloc::AllocError;
 

@@ -1,5 +1,5 @@
 use Rattle.std.proofs.Common.{◌≡◌, Result, Ok, Err, IfOk, ap, ◌∙◌}
-use Rattle.pipeline_app.specs.Text.{text_of}
+use Rattle.play_text.specs.Text.{text_of}
 use Rattle.pipeline_app.proofs.drive.run_text.Goals as goal
 
 -- what follows from what holds of an `Ok`

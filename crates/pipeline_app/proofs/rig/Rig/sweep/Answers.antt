@@ -2,7 +2,7 @@ use Rattle.std.proofs.Common.{◌≡◌, ◌+◌, ◌-◌, ◌^◌, ◌++◌, sy
 use Rattle.std.specs.Prelude.{min}
 use Rattle.transcripts.proofs.Fewness.{kept_fit}
 use Rattle.pipeline_app.specs.Swept.{shut_seen}
-use Rattle.pipeline_app.specs.declared.answer.Swept.{Swept}
+use Rattle.play_text.specs.declared.answer.Swept.{Swept}
 use Rattle.pipeline_app.specs.declared.pool.Pool.{Pool}
 use Rattle.pipeline_app.proofs.Playing.{IsRig-log}
 use Rattle.pipeline_app.proofs.Sweeps.{IsSweep-of}

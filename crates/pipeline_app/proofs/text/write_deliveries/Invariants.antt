@@ -1,7 +1,0 @@
-use Rattle.std.proofs.Common.{◌≡◌, ◌++◌, take}
-use Rattle.std.specs.Prelude.{flat_map, string_bytes}
-use Rattle.pipeline_app.specs.Text.{delivery_line}
-use Rattle.pipeline_app.proofs.text.write_deliveries.Given as goal
-
-abbrev pub invariant-loop-delivery : goal.invariant-loop-delivery
-invariant-loop-delivery l = string_bytes l.out ≡ string_bytes l.initial.out ++ flat_map (delivery_line l.shape) (take l.delivery-index l.deliveries)

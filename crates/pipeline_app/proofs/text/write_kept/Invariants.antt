@@ -1,7 +1,0 @@
-use Rattle.std.proofs.Common.{◌≡◌, ◌++◌, take}
-use Rattle.std.specs.Prelude.{flat_map, string_bytes}
-use Rattle.pipeline_app.specs.Text.{kept_line}
-use Rattle.pipeline_app.proofs.text.write_kept.Given as goal
-
-abbrev pub invariant-loop-kept : goal.invariant-loop-kept
-invariant-loop-kept l = string_bytes l.out ≡ string_bytes l.initial.out ++ flat_map (kept_line l.shape) (take l.kept-index l.all)

@@ -1,5 +1,5 @@
 -- Each kind of step keeps the rule, whatever the pool is when the word changes, and tells the seat what its `Play` says.
-use Rattle.std.proofs.Common.{◌≡◌, ℕ, ◌+◌, ◌-◌, ◌*◌, ◌/◌, ◌%◌, ◌<◌, ◌≤◌, ◌⊎◌, ⊎_elim, inl, inr, ◌||◌, eqb, eqb-true, [], set, get_or, All, IsTrue, refl, sym, ap, subst, ◌∙◌, arith}
+use Rattle.std.proofs.Common.{◌≡◌, ℕ, ◌+◌, ◌-◌, ◌*◌, ◌/◌, ◌%◌, ◌<◌, ◌≤◌, ◌⊎◌, ⊎_elim, inl, inr, ◌||◌, eqb, eqb-true, [], set, get_or, sum_by, All, IsTrue, refl, sym, ap, subst, ◌∙◌, arith}
 use Rattle.std.specs.Prelude.{bit_or}
 use Rattle.std.proofs.lemmas.List.{length-set, get_or-set_same}
 use Rattle.std.proofs.lemmas.List.Elements.{All-set, All-push}
@@ -8,9 +8,9 @@ use lib.ListN.{get_elem?}
 use prog.Atomic.{either}
 use Rattle.atomic_table.specs.Table.{step, Act, keeps, Valid, carried_after, stepped, Allows, Splits, Joins}
 use Rattle.atomic_table.proofs.Lists.{exchanged}
-use Rattle.seat_sums.specs.Sums.{total, count}
+use Rattle.seat_sums.specs.Sums.{count}
 use Rattle.seat_sums.proofs.Counts.{of_count, to_count, to_count_none, count_le, count-or}
-use Rattle.seat_sums.proofs.Totals.{All-at, other_place, total-set, total-split, total-join, term_le, terms_le, alone}
+use Rattle.seat_sums.proofs.Sums.{All-at, other_place, sum_by-changed, sum_by-split, sum_by-joined, term_le, terms_le, all_of}
 use Rattle.credit_pool.specs.declared.account.Account.{Account}
 use Rattle.credit_pool.specs.Accounts.{free_of, is_shut, IsShut, after_look, after_draw, after_give, after_shut, rest_of, part_of, after_join, spent_account}
 use Rattle.credit_pool.specs.Rule.{Pool, word_of, IsEmpty, Balanced, Reads, Stood, Sitting, Loads, Draws, Gives, FetchesOr}
@@ -36,31 +36,30 @@ placed limit s id new v w b me may =
     let half = ap free_of put in
     record {
       one_word = length-set s.words 0 new ∙ b.one_word;
-      sum = omega (arith, half, b.sum, may.sum, total-set (λ u. u.drawn) s.views id v w me, total-set (λ u. u.returned) s.views id v w me);
+      sum = omega (arith, half, b.sum, may.sum, sum_by-changed (λ u. u.drawn) s.views id v w me, sum_by-changed (λ u. u.returned) s.views id v w me);
       within = omega (arith, half, may.within);
-      parts = omega (arith, b.parts, may.parts, total-set (λ u. u.parts) s.views id v w me);
+      parts = omega (arith, b.parts, may.parts, sum_by-changed (λ u. u.parts) s.views id v w me);
       idle = All-set (λ u. u.parts ≡ 0 → IsEmpty u) s.views id w (λ z. absurd (omega (arith, may.parts, may.has_part))) b.idle;
       saw = subst P (sym put) (All-set (λ u. IsTrue u.saw_shut → IsShut new) s.views id w may.saw (λ k d h seen. may.bit_stays (b.saw k d h seen)));
       was_set = λ shut. still_set (may.was_set (ap (λ k. k % 2) (sym put) ∙ shut));
     }
   where
-    still_set : IsShut (word_of s) ⊎ IsTrue w.set_shut → 0 < total (λ u. count u.set_shut) (set s.views id w)
-    still_set (inl old) = omega (arith, b.was_set old, may.set_stays, total-set (λ u. count u.set_shut) s.views id v w me)
-    still_set (inr here) = omega (arith, to_count w.set_shut here, may.set_stays, total-set (λ u. count u.set_shut) s.views id v w me, term_le (λ u. count u.set_shut) s.views id v me)
+    still_set : IsShut (word_of s) ⊎ IsTrue w.set_shut → 0 < sum_by (λ u. count u.set_shut) (set s.views id w)
+    still_set (inl old) = omega (arith, b.was_set old, may.set_stays, sum_by-changed (λ u. count u.set_shut) s.views id v w me)
+    still_set (inr here) = omega (arith, to_count w.set_shut here, may.set_stays, sum_by-changed (λ u. count u.set_shut) s.views id v w me, term_le (λ u. count u.set_shut) s.views id v me)
 
 -- with all parts, the seat has all that a seat without parts has not
-all_of : (limit : ℕ) (s : Pool) (id : ℕ) (v : Account) → Balanced limit s → get_elem? s.views id ≡ some v → v.parts ≡ 64
-    → (f : Account → ℕ) → ((u : Account) → IsEmpty u → f u ≡ 0) → total f s.views ≡ f v
-all_of limit s id v b me whole f zero_of =
-    alone (λ u. u.parts) f s.views id v (λ j u e z. zero_of u (All-at (λ x. x.parts ≡ 0 → IsEmpty x) s.views j u b.idle e z)) me (b.parts ∙ sym whole)
+all_with : (limit : ℕ) (s : Pool) (id : ℕ) (v : Account) → Balanced limit s → get_elem? s.views id ≡ some v → v.parts ≡ 64
+    → (f : Account → ℕ) → ((u : Account) → IsEmpty u → f u ≡ 0) → sum_by f s.views ≡ f v
+all_with limit s id v b me whole = all_of (λ u. u.parts) IsEmpty 64 s.views id v b.idle b.parts me whole
 
 -- what the seat may know of the word that it finds
 reads : (limit : ℕ) (s : Pool) (id : ℕ) (v : Account) → v.limit ≡ limit → Balanced limit s → get_elem? s.views id ≡ some v → Reads v (word_of s)
 reads limit s id v same b me = record {
   within = omega (arith, b.within, same);
   saw = All-at (λ u. IsTrue u.saw_shut → IsShut (word_of s)) s.views id v b.saw me;
-  whole = λ all. omega (arith, b.sum, same, all_of limit s id v b me all (λ u. u.drawn) (λ u e. e.drawn), all_of limit s id v b me all (λ u. u.returned) (λ u e. e.returned));
-  whole_set = λ all shut. of_count v.set_shut (omega (arith, b.was_set shut, all_of limit s id v b me all (λ u. count u.set_shut) (λ u e. to_count_none u.set_shut e.set_shut)));
+  whole = λ all. omega (arith, b.sum, same, all_with limit s id v b me all (λ u. u.drawn) (λ u e. e.drawn), all_with limit s id v b me all (λ u. u.returned) (λ u e. e.returned));
+  whole_set = λ all shut. of_count v.set_shut (omega (arith, b.was_set shut, all_with limit s id v b me all (λ u. count u.set_shut) (λ u e. to_count_none u.set_shut e.set_shut)));
 }
 
 -- the pool in which it finds the word
@@ -202,17 +201,17 @@ splits limit id v parts s b here =
     let Idle : Account → Type 0 = λ u. u.parts ≡ 0 → IsEmpty u in
     let Saw : Account → Type 0 = λ u. IsTrue u.saw_shut → IsShut (word_of s) in
     let saw : IsTrue v.saw_shut → IsShut (word_of s) = All-at Saw s.views id v b.saw here in
-    let drawn = total-split (λ u. u.drawn) s.views id v (rest_of v) (part_of v) here in
-    let returned = total-split (λ u. u.returned) s.views id v (rest_of v) (part_of v) here in
+    let drawn = sum_by-split (λ u. u.drawn) s.views id v (rest_of v) (part_of v) here in
+    let returned = sum_by-split (λ u. u.returned) s.views id v (rest_of v) (part_of v) here in
     let idle = All-set Idle s.views id (rest_of v) (λ z. absurd (omega arith)) b.idle in
     record {
       one_word = b.one_word;
       sum = omega (arith, b.sum, drawn, returned);
       within = b.within;
-      parts = omega (arith, b.parts, total-split (λ u. u.parts) s.views id v (rest_of v) (part_of v) here);
+      parts = omega (arith, b.parts, sum_by-split (λ u. u.parts) s.views id v (rest_of v) (part_of v) here);
       idle = All-push Idle (set s.views id (rest_of v)) (part_of v) idle (λ z. absurd (omega arith));
       saw = All-push Saw (set s.views id (rest_of v)) (part_of v) (All-set Saw s.views id (rest_of v) saw b.saw) saw;
-      was_set = λ shut. omega (arith, b.was_set shut, total-split (λ u. count u.set_shut) s.views id v (rest_of v) (part_of v) here);
+      was_set = λ shut. omega (arith, b.was_set shut, sum_by-split (λ u. count u.set_shut) s.views id v (rest_of v) (part_of v) here);
     }
 
 -- one seat takes the account and the parts of another, which is spent
@@ -223,16 +222,16 @@ joins limit id other v w part s b here ne there =
     let Idle : Account → Type 0 = λ u. u.parts ≡ 0 → IsEmpty u in
     let Saw : Account → Type 0 = λ u. IsTrue u.saw_shut → IsShut (word_of s) in
     let saw : Saw both = λ h. ⊎_elim (All-at Saw s.views id v b.saw here) (All-at Saw s.views other w b.saw there') (either_true v.saw_shut w.saw_shut h) in
-    let drawn = total-join (λ u. u.drawn) s.views id other v w both spent_account here there in
-    let returned = total-join (λ u. u.returned) s.views id other v w both spent_account here there in
-    let set_by = total-join (λ u. count u.set_shut) s.views id other v w both spent_account here there in
+    let drawn = sum_by-joined (λ u. u.drawn) s.views id other v w both spent_account here there in
+    let returned = sum_by-joined (λ u. u.returned) s.views id other v w both spent_account here there in
+    let set_by = sum_by-joined (λ u. count u.set_shut) s.views id other v w both spent_account here there in
     let two = terms_le (λ u. count u.set_shut) s.views id other v w ne here there' in
     let idle = All-set Idle s.views id both (λ z. absurd (omega arith)) b.idle in
     record {
       one_word = b.one_word;
       sum = omega (arith, b.sum, drawn, returned);
       within = b.within;
-      parts = omega (arith, b.parts, total-join (λ u. u.parts) s.views id other v w both spent_account here there);
+      parts = omega (arith, b.parts, sum_by-joined (λ u. u.parts) s.views id other v w both spent_account here there);
       idle = All-set Idle (set s.views id both) other spent_account (λ _. record { drawn = refl; returned = refl; set_shut = refl }) idle;
       saw = All-set Saw (set s.views id both) other spent_account (λ h. absurd cc) (All-set Saw s.views id both saw b.saw);
       was_set = λ shut. omega (arith, b.was_set shut, count-or v.set_shut w.set_shut, count_le both.set_shut, two, set_by);

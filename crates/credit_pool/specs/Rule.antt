@@ -1,11 +1,10 @@
 -- The rule of the credit word, which holds between any two steps of any seats, and what the kinds of step on the word tell the seat that steps.
-use Rattle.std.specs.Prelude.{◌≡◌, ◌≢◌, ℕ, ◌+◌, ◌-◌, ◌/◌, ◌<◌, ◌≤◌, false, length, slice_index, All, IsTrue}
+use Rattle.std.specs.Prelude.{◌≡◌, ◌≢◌, ℕ, ◌+◌, ◌-◌, ◌/◌, ◌<◌, ◌≤◌, false, length, slice_index, sum_by, count_by, All, IsTrue}
 use mathlib.Core.Option.{some}
 use lib.ListN.{get_elem?}
 use Rattle.atomic_table.specs.Table.{State, Me, Step}
 use Rattle.credit_pool.specs.declared.account.Account.{Account}
 use Rattle.credit_pool.specs.Accounts.{free_of, IsShut, after_look, after_draw, after_give, after_shut}
-use Rattle.seat_sums.specs.Sums.{total, count}
 
 -- the pool's one word, and the accounts of all seats
 abbrev pub Pool : Type 0
@@ -23,14 +22,14 @@ pub record IsEmpty (v : Account) : Type 0 where
 pub record Balanced (limit : ℕ) (s : Pool) : Type 0 where
   pub one_word : length s.words ≡ 1
   -- free credits and all that was drawn are the limit and all that was returned (Software Eventdev, "Credit Quanta": one shared pool)
-  pub sum : free_of (word_of s) + total (λ v. v.drawn) s.views ≡ limit + total (λ v. v.returned) s.views
+  pub sum : free_of (word_of s) + sum_by (λ v. v.drawn) s.views ≡ limit + sum_by (λ v. v.returned) s.views
   pub within : free_of (word_of s) ≤ limit
   -- a seat has parts, and a seat without parts no account (own)
-  pub parts : total (λ v. v.parts) s.views ≡ 64
+  pub parts : sum_by (λ v. v.parts) s.views ≡ 64
   pub idle : All (λ v. v.parts ≡ 0 → IsEmpty v) s.views
   -- who read or set the shut bit reads it ever after, and it is set only where a seat's account says that it set it (own)
   pub saw : All (λ v. IsTrue v.saw_shut → IsShut (word_of s)) s.views
-  pub was_set : IsShut (word_of s) → 0 < total (λ v. count v.set_shut) s.views
+  pub was_set : IsShut (word_of s) → 0 < count_by (λ v. v.set_shut) s.views
 
 -- What any read tells the seat with the account v of the word that it read.
 pub record Reads (v : Account) (word : ℕ) : Type 0 where

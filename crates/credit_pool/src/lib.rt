@@ -7,6 +7,7 @@
 
 mod account;
 mod answer;
+mod laws;
 mod pool;
 mod rule;
 #[cfg(test)]
@@ -14,4 +15,8 @@ mod tests;
 
 pub use account::Account;
 pub use answer::{Draw, Give};
+pub use laws::{
+    a_split_and_a_join_change_no_sum, a_step_changes_one_account, credits_add_up,
+    every_step_keeps_the_rule, parts_add_up, the_bit_has_its_cause,
+};
 pub use pool::{CreditSeat, Credits, Memory};

@@ -10,8 +10,6 @@ mod answer;
 mod laws;
 mod pool;
 mod rule;
-#[cfg(test)]
-mod tests;
 
 pub use account::Account;
 pub use answer::{Draw, Give};

@@ -2,7 +2,8 @@
 //!
 //! Bit 0 of the word says that the pool is shut, and the higher bits are the free credits.
 //! Each thread steps with a seat, whose account says what was drawn and returned through it. Between any two steps of any seats,
-//! the free credits and all that was drawn are the limit and all that was returned.
+//! the free credits and all that was drawn are the limit and all that was returned: the functions that do nothing are the laws of
+//! the pool, of each such state and of each step.
 #![tactic(auto)]
 
 mod account;

@@ -40,13 +40,14 @@ fn is_answering(reply: &Reply) -> bool
 }
 
 impl Far {
-    ghost use Rattle.std.specs.Prelude.{◌≡◌, ◌≢◌, ◌<◌, ◌≤◌, ◌↔◌, true, [], ◌∷◌, ◌++◌, length, drop, slice_get, OnOk, IfErr, IfNone, MatchOption, MatchResult};
+    ghost use Rattle.std.specs.Prelude.{◌≡◌, ◌≢◌, ◌<◌, ◌≤◌, ◌↔◌, true, false, [], ◌∷◌, ◌++◌, length, drop, slice_get, IsTrue, OnOk, IfErr, IfNone, MatchOption, MatchResult};
     ghost use Rattle.evt_types.specs.Operation.{is_answer};
     ghost use Rattle.lane_rings.specs.Ends.{received_by, seen_deliveries, next_delivery, answered, answers_among, unanswered, held_list};
     ghost use Rattle.lane_rings.specs.Identity.{far_id};
     ghost use Rattle.lane_rings.specs.Refusal.{RefusesAnswer};
 
-    /// Takes the oldest delivery out of the ring; it is then held until it is answered. Wants `held` below the lane's depth.
+    /// Takes the oldest delivery out of the ring; it is then held until it is answered. Wants `is_full` to be false:
+    /// fewer are held than the lane's depth.
     /// `None` where no delivery is seen; the scheduler may have offered one by the next call.
     pub fn receive(&mut self) -> Option<Delivery>
         requires { length (unanswered self.old) < (far_id self.old).depth }
@@ -73,7 +74,7 @@ impl Far {
     #[tactic(auto, using(crate::proofs::Histories::of_held))]
     pub fn answer(&mut self, reply: Reply) -> Result<(), AnswerFault>
         ensures lane { far_id self.new ≡ far_id self.old }
-        ensures received { received_by self.new ≡ received_by self.old }
+        ensures received { (received_by self.new ≡ received_by self.old) × (seen_deliveries self.new ≡ seen_deliveries self.old) }
         ensures answered { MatchResult result
             (λ _. answered self.new ≡ answered self.old ++ reply ∷ [])
             (λ _. answered self.new ≡ answered self.old) }
@@ -103,6 +104,14 @@ impl Far {
         ensures fewer { answers_among (answered self.now) ≤ length (received_by self.now) }
     {
         self.history.len()
+    }
+
+    /// Whether as many deliveries are held as the lane's depth allows; where not, `receive` may be called.
+    pub fn is_full(&self) -> bool
+        ensures full { IsTrue result ↔ (length (unanswered self.now) ≡ (far_id self.now).depth) }
+        ensures room { result ≡ false → length (unanswered self.now) < (far_id self.now).depth }
+    {
+        self.held() == self.history.capacity()
     }
 
     /// The queue and the number of the oldest delivery that is held, which the next FORWARD or RELEASE answers.

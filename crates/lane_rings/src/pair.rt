@@ -38,11 +38,12 @@ pub fn lane(alloc: Global, depth: usize, replies: usize) -> Result<(Near, Far), 
     Ok((near, far))
 }
 
-/// Brings the two ends of one lane together, and shows what is left in it.
+/// Brings the two ends of one lane together, and shows what is left in it: no more than its rings have room for.
 pub fn beside(near: Near, far: Far) -> Beside
     requires { near_id near ≡ far_id far }
     ensures undelivered { offered near ≡ received_by far ++ undelivered result }
     ensures untaken { answered far ≡ taken near ++ untaken result }
+    ensures room { (length (undelivered result) ≤ (near_id near).depth) × (length (untaken result) ≤ (near_id near).room) }
     ensures held { still_held result ≡ held_list far }
     ensures fewer { answers_among (answered far) ≤ length (received_by far) }
 {
@@ -55,6 +56,9 @@ pub fn beside(near: Near, far: Far) -> Beside
         replies: mut answers,
         history,
     } = far;
+    // First each producer, which then knows how many slots are free, and so how many items are left.
+    offers.slots_beside(&mut receipts);
+    answers.slots_beside(&mut takings);
     receipts.slots_beside(&mut offers);
     takings.slots_beside(&mut answers);
     Beside {

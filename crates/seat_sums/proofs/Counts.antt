@@ -1,4 +1,4 @@
--- A bit as a number, so that a total of it is how many elements have the bit.
+-- A bit as a number, so that a sum of it is how many elements have the bit.
 use Rattle.std.proofs.Common.{◌≡◌, ◌+◌, ◌<◌, ◌≤◌, Bool, true, false, ◌||◌, refl, ap, arith}
 use Rattle.seat_sums.specs.Sums.{count}
 

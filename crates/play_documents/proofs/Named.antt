@@ -1,11 +1,11 @@
 -- Each fault of a document has a name: a refused configuration's is never want of memory.
-use Rattle.std.proofs.Common.{◌≡◌, ◌≢◌, ℕ, Bool, true, false, cond, List, [], Option, Some, None, Result, Ok, Err, ap, subst}
+use Rattle.std.proofs.Common.{◌≡◌, ◌≢◌, ℕ, Bool, true, false, cond, List, [], Option, Some, None, Result, Ok, Err, ap, subst, length}
 use Rattle.std.specs.Prelude.{IfSome, IfErr}
 use Rattle.std.specs.Str.{is_utf8}
 use Rattle.toml.specs.Data.{Members}
 use Rattle.toml.specs.Parse.{parse_document}
 use Rattle.evt_types.specs.Fault.{fault_of}
-use Rattle.evt_types.specs.Plan.{Plan, lanes_of}
+use Rattle.evt_types.specs.Plan.{Plan}
 use Rattle.evt_types.specs.declared.shape.ShapeFault.{ShapeFault}
 use Rattle.evt_types.specs.declared.shape.ShapeFault.TheVariants as shapes
 use Rattle.play_documents.specs.Command.{Line}
@@ -98,7 +98,7 @@ unfolding judged
 judged_named s f e =
     rows_named (first_fault s) _ f (first_named s)
     (bind_named (checked (plan_asked s)) _ f (checked_named (plan_asked s) f)
-    (λ p. bind_named (commands_in (lanes_of p) (value_or [] s.script)) _ f (commands_named (lanes_of p) (value_or [] s.script) f) (λ commands k. absurd cc)))
+    (λ p. bind_named (commands_in (length p.ports) (value_or [] s.script)) _ f (commands_named (length p.ports) (value_or [] s.script) f) (λ commands k. absurd cc)))
     e
 
 -- ---- the bytes

@@ -6,7 +6,7 @@ use Rattle.std.specs.Str.Lines.{strip_carriage_return}
 use Rattle.std.proofs.lemmas.Bool.Decides.{nat_tests}
 use Rattle.std.proofs.lemmas.List.Elements.{All-from_recursion}
 use Rattle.evt_types.specs.Fault.{fault_of}
-use Rattle.evt_types.specs.Plan.{Plan, lanes_of}
+use Rattle.evt_types.specs.Plan.{Plan}
 use Rattle.evt_types.specs.declared.draft.Serving.TheVariants.{Ports, Flows}
 use Rattle.evt_types.specs.declared.event.Op.{Op}
 use Rattle.evt_types.specs.declared.shape.ShapeFault.{ShapeFault}
@@ -213,9 +213,17 @@ ports_there ports (commands.Shut ∷ cs) h = (tt, ports_there ports cs h.1)
 
 -- ---- a document
 
--- the commands' ports are there
+-- the commands' ports are there, and the device serves by its ports
 abbrev pub IsPlayable : Planned → Type 0
-IsPlayable x = AllByRecursion (IsGood (lanes_of x.plan)) x.commands
+IsPlayable x = AllByRecursion (IsGood (length x.plan.ports)) x.commands × (x.plan.serving ≡ Ports)
+
+checked_is : (p : Plan) (f : Option ShapeFault) (s : Plan) → plan_or_fault p f ≡ Ok s → s ≡ p
+checked_is p None s e = cc
+checked_is p (Some f) s e = absurd cc
+
+asked_by_ports : (s : SurveySeen) (p : Plan) → first_fault s ≡ None → checked (plan_asked s) ≡ Ok p → p.serving ≡ Ports
+unfolding checked plan_asked
+asked_by_ports s p none is = ap (λ (q : Plan). q.serving) (checked_is (plan_asked s) (fault_of (plan_asked s)) p is) ∙ by_ports s none
 
 no_fault : {A : Type 0} (f : Option DocFault) (rest : Result A DocFault) (x : A) → unless_fault f rest ≡ Ok x → (f ≡ None) × (rest ≡ Ok x)
 no_fault None rest x e = (refl, e)
@@ -226,8 +234,9 @@ unfolding judged
 playable_rows s x e =
     let none = no_fault (first_fault s) _ x e in
     let a = bind_ok (checked (plan_asked s)) _ x none.1 in
-    let b = bind_ok (commands_in (lanes_of a.0) (value_or [] s.script)) _ x a.2 in
-    subst IsPlayable (ok_is (record { plan = a.0; commands = b.0 }) x b.2) (good_script (lanes_of a.0) (value_or [] s.script) b.0 b.1)
+    let b = bind_ok (commands_in (length a.0.ports) (value_or [] s.script)) _ x a.2 in
+    subst IsPlayable (ok_is (record { plan = a.0; commands = b.0 }) x b.2)
+    (good_script (length a.0.ports) (value_or [] s.script) b.0 b.1, asked_by_ports s a.0 none.0 a.1)
 
 short_enough : {A : Type 0} (b : Bool) (rest : Result A DocFault) (x : A) → cond b (Err doc.TooLong) rest ≡ Ok x → rest ≡ Ok x
 short_enough true rest x e = absurd cc
@@ -241,6 +250,10 @@ playable bytes x e =
 
 pub gives-ports : (bytes : List ℕ) (r : Result Document ReadFault) → Gives planned_of r (document_of bytes) → IfOk r (λ d. AllPortsThere d.shape d.commands.items)
 gives-ports bytes (Ok d) e =
-    let lines = playable bytes (planned_of d) e in
-    All-from_recursion (IsPortThere (lanes_of d.shape)) d.commands.items (ports_there (lanes_of d.shape) d.commands.items lines)
+    let lines = (playable bytes (planned_of d) e).0 in
+    All-from_recursion (IsPortThere (length d.shape.ports)) d.commands.items (ports_there (length d.shape.ports) d.commands.items lines)
 gives-ports bytes (Err f) e = tt
+
+pub gives-serving : (bytes : List ℕ) (r : Result Document ReadFault) → Gives planned_of r (document_of bytes) → IfOk r (λ d. d.shape.serving ≡ Ports)
+gives-serving bytes (Ok d) e = (playable bytes (planned_of d) e).1
+gives-serving bytes (Err f) e = tt

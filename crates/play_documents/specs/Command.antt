@@ -1,6 +1,6 @@
 -- A script's commands as plain data.
-use Rattle.std.specs.Prelude.{ℕ, ◌<◌, List, All}
-use Rattle.evt_types.specs.Plan.{Plan, lanes_of}
+use Rattle.std.specs.Prelude.{ℕ, ◌<◌, List, All, length}
+use Rattle.evt_types.specs.Plan.{Plan}
 use Rattle.evt_types.specs.declared.event.Event.{Event}
 use Rattle.evt_types.specs.declared.event.Op.{Op}
 use Rattle.evt_types.specs.declared.event.Op.TheVariants as ops
@@ -61,4 +61,4 @@ IsPortThere ports commands.Sweep = Unit {0}
 IsPortThere ports commands.Shut = Unit {0}
 
 abbrev pub AllPortsThere : Plan → List Command → Type 0
-AllPortsThere p cs = All (IsPortThere (lanes_of p)) cs
+AllPortsThere p cs = All (IsPortThere (length p.ports)) cs

@@ -4,7 +4,7 @@ use Rattle.std.specs.Str.{is_utf8}
 use Rattle.toml.specs.Data.{Members}
 use Rattle.toml.specs.Parse.{parse_document}
 use Rattle.evt_types.specs.Fault.{fault_of}
-use Rattle.evt_types.specs.Plan.{Plan, lanes_of}
+use Rattle.evt_types.specs.Plan.{Plan}
 use Rattle.evt_types.specs.declared.shape.ShapeFault.{ShapeFault}
 use Rattle.evt_types.specs.declared.shape.ShapeFault.TheVariants as shapes
 use Rattle.play_documents.specs.Command.{Line, line_of}
@@ -93,7 +93,7 @@ unfoldable pub judged : SurveySeen → Result Planned DocFault
 judged s =
     unless_fault (first_fault s) (do
       plan ← checked (plan_asked s)
-      commands ← commands_in (lanes_of plan) (value_or [] s.script)
+      commands ← commands_in (length plan.ports) (value_or [] s.script)
       Ok (record { plan = plan; commands = commands }))
 
 -- what the bytes say: the configuration and the commands, or the first fault

@@ -6,8 +6,8 @@ ghost use Rattle.play_documents.specs.Command.{AllPortsThere, line_of};
 ghost use Rattle.play_documents.specs.Document.{Gives, IsNamed, parsed, shape_fault, checked, commands_in, judged, planned_of, document_of};
 ghost use Rattle.play_documents.specs.Drafts.{plan_asked};
 ghost use Rattle.play_documents.specs.Field.{value_or};
-ghost use Rattle.play_documents.specs.Judge.{first_fault};
 ghost use Rattle.play_documents.specs.Survey.{survey_seen};
+ghost use Rattle.evt_types.specs.declared.draft.Serving.TheVariants.{Ports};
 
 use crate::command::Command;
 use crate::drafts::draft_of;
@@ -72,7 +72,6 @@ fn shape_fault(fault: ShapeFault) -> ReadFault
 
 /// The configuration that the rows ask for, checked.
 fn shape_of(alloc: Global, survey: &Survey) -> Result<Shape, ReadFault>
-    requires { first_fault (survey_seen survey.now) ≡ None }
     ensures { Gives (λ s. s) result (checked (plan_asked (survey_seen survey.now))) }
 {
     let draft = draft_of(alloc, survey)?;
@@ -117,7 +116,7 @@ fn judged(alloc: Global, survey: &Survey) -> Result<Document, ReadFault>
         return Err(ReadFault::Document(fault));
     }
     let shape = shape_of(alloc, survey)?;
-    let commands = commands_in(alloc, shape.lanes(), script_text(survey))?;
+    let commands = commands_in(alloc, shape.ports().len(), script_text(survey))?;
     Ok(Document { shape, commands })
 }
 
@@ -134,11 +133,12 @@ fn planned(alloc: Global, bytes: &[u8]) -> Result<Document, ReadFault>
     judged(alloc, &survey)
 }
 
-/// Reads a document: its configuration and its script's commands, or its first fault.
+/// Reads a document: its configuration, which is served by its ports, and its script's commands, or its first fault.
 pub fn read_document(alloc: Global, bytes: &[u8]) -> Result<Document, ReadFault>
     ensures read { Gives planned_of result (document_of bytes.now) }
     ensures named { IfErr result IsNamed }
     ensures ports { IfOk result (λ d. AllPortsThere d.shape d.commands.items) }
+    ensures serving { IfOk result (λ d. d.shape.serving ≡ Ports) }
 {
     planned(alloc, bytes)
 }

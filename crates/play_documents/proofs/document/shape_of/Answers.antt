@@ -1,13 +1,8 @@
-use Rattle.std.proofs.Common.{ap, ◌∙◌}
 use Rattle.evt_types.specs.Plan.{Plan, plan_of}
 use Rattle.play_documents.specs.Drafts.{plan_asked}
 use Rattle.play_documents.specs.Survey.{survey_seen}
-use Rattle.play_documents.proofs.Plays.{by_ports, checked-Ok, shape-Fails}
+use Rattle.play_documents.proofs.Plays.{checked-Ok, shape-Fails}
 use Rattle.play_documents.proofs.document.shape_of.Goals as goal
-
-pub build-requires : goal.build-requires
-unfolding plan_asked
-build-requires c = ap (λ (p : Plan). p.serving) c.in_ok-draft.ensures ∙ by_ports (survey_seen c.args.survey.now) c.requires
 
 pub returns-in-Ok : goal.returns-in-Ok
 returns-in-Ok c =

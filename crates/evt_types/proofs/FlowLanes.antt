@@ -11,11 +11,12 @@ use Rattle.lists.proofs.Sums.{sum_agree, sum_by_place}
 use Rattle.lists.specs.Lists.{has}
 use Rattle.evt_types.specs.Fault.{IsBetween, IsWithinLimits}
 use Rattle.evt_types.specs.Plan.{Plan, PortPlan, atomic_slots, slot_lanes, lanes_at, lanes_by_slot, flow_lanes, lanes_of, flow_at, depth_of, replies_of, port_of, queue_in, is_flows, is_linked_flow, is_lane_of, has_flow_lanes, linked_places, serves, flow_depth, bound_of}
+use Rattle.evt_types.specs.declared.draft.Serving.TheVariants.{Ports}
 use Rattle.evt_types.specs.declared.draft.QueueDraft.{QueueDraft}
 use Rattle.evt_types.specs.declared.event.Kind.TheVariants.{Parallel}
 use Rattle.evt_types.specs.declared.flows.FlowLane.{FlowLane}
 use Rattle.evt_types.specs.declared.flows.TheConstants.{FLOW_DEPTH}
-use Rattle.evt_types.specs.declared.shape.TheConstants.{MAX_ALL_SLOTS, MAX_DEPTH}
+use Rattle.evt_types.specs.declared.shape.TheConstants.{MAX_ALL_SLOTS, MAX_DEPTH, MAX_LANES}
 
 -- one slot more
 pub slot_lanes_more : (q n : ℕ) → slot_lanes q (n + 1) ≡ slot_lanes q n ++ record { queue = q; slot = n } ∷ []
@@ -79,6 +80,14 @@ serves_flow p l q slot h =
 pub lanes_are : (p : Plan) → lanes_of p ≡ length p.ports + length (flow_lanes p)
 unfolding lanes_of
 lanes_are p = refl
+
+pub lanes_few : (p : Plan) → IsWithinLimits p → lanes_of p ≤ MAX_LANES
+lanes_few p w = let count = w.port_count in omega (arith, lanes_are p, flows_few p w)
+
+-- served by its ports, a device has no other lanes
+pub lanes_by_ports : (p : Plan) → p.serving ≡ Ports → lanes_of p ≡ length p.ports
+unfolding flow_lanes
+lanes_by_ports p by = omega (arith, lanes_are p, ap (λ s. length (if is_flows s then lanes_by_slot p.queues else [])) by)
 
 pub port_is_lane : (p : Plan) (l : ℕ) → l < length p.ports → l < lanes_of p
 port_is_lane p l own = omega (arith, lanes_are p)

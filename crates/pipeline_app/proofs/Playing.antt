@@ -125,7 +125,7 @@ pub IsRig-from : (r : Rig) (core : View) (ports : Vec RigPort Global) (pool : Po
 IsRig-from r core ports pool log h stands e count left = record {
   stands = stands;
   small = rw e h.small;
-  ports = count ∙ (h.ports ∙ ap (λ (p : Plan). length p.ports) (sym e));
+  ports = count ∙ (h.ports ∙ ap lanes_of (sym e));
   left = left;
 }
 

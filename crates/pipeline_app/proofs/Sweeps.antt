@@ -13,7 +13,7 @@ use Rattle.evt_types.specs.declared.step.Outcome.TheVariants.{Forwarded, Release
 use Rattle.evt_types.specs.declared.step.Source.TheVariants.{New, Of}
 use Rattle.evt_types.specs.declared.step.Step.{Step}
 use Rattle.evt_types.specs.declared.step.Step.TheVariants.{Accept, Give, Done, Turned, Bounced, Shut}
-use Rattle.pipeline_app.specs.Swept.{Adds, IsSweep, Makes, MakesTaken, credit_of, is_taking, is_bouncing, shut_seen}
+use Rattle.pipeline_app.specs.Swept.{Adds, IsSweep, Makes, MakesGiven, MakesTaken, credit_of, is_taking, is_bouncing, shut_seen}
 use Rattle.play_text.specs.declared.answer.Swept.{Swept}
 use Rattle.sched_core.specs.Shutting.{shut_steps}
 use Rattle.sched_core.specs.Taken.{took_of}
@@ -126,6 +126,13 @@ given_more n m i j a b c h k = Adds-trans (Makes 0 0 n m) (Makes 0 0 i j) (Makes
 -- ---- a sweep
 
 -- what it sees, takes and gives, one after the other
+-- none more
+pub given_none : (n m : ℕ) (a b c : List Step) → Adds (Makes 0 0 n m) a b → Adds (MakesGiven None) b c → Adds (Makes 0 0 n m) a c
+given_none n m a b c first second =
+    let same_n : n + 0 ≡ n = omega arith in
+    let same_m : m + 0 ≡ m = omega arith in
+    subst (λ k. Adds (Makes 0 0 k m) a c) same_n (subst (λ k. Adds (Makes 0 0 (n + 0) k) a c) same_m (given_more n m 0 0 a b c first second))
+
 pub IsSweep-of : (shut : Bool) (a b c d : List Step) (swept : Swept) (t : ℕ) → b ≡ a ++ shut_seen shut a → Adds (Makes swept.taken t 0 0) b c → Adds (Makes 0 0 swept.given swept.bounced) c d
     → (steps : List Step) × (d ≡ a ++ steps) × IsSweep shut a swept steps × (turned_count steps ≡ t)
 IsSweep-of shut a b c d swept t saw h k =

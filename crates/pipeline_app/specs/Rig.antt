@@ -3,7 +3,7 @@ use Rattle.std.specs.Prelude.{ℕ, ◌≡◌, ◌+◌, ◌<◌, ◌≤◌, List,
 use Rattle.evt_types.specs.Plan.{Plan, lanes_of}
 use Rattle.transcripts.specs.Standing.{Stands, kept_in}
 use Rattle.transcripts.specs.Transcript.{out}
-use Rattle.evt_types.specs.declared.shape.TheConstants.{MAX_PORTS, MAX_QUEUES, MAX_SWEEP}
+use Rattle.evt_types.specs.declared.shape.TheConstants.{MAX_LANES, MAX_QUEUES, MAX_SWEEP}
 use Rattle.evt_types.specs.declared.step.Step.{Step}
 use Rattle.pipeline_app.specs.Pairs.{IsLeftOf, pairs_at}
 use Rattle.pipeline_app.specs.declared.rig.Rig.{Rig}
@@ -12,7 +12,7 @@ use Rattle.pipeline_app.specs.declared.rig_port.RigPort.{RigPort}
 -- the sizes that matter to a sweep
 pub record IsSmall (p : Plan) : Type 0 where
   pub queues : length p.queues ≤ MAX_QUEUES
-  pub lanes : lanes_of p ≤ MAX_PORTS
+  pub lanes : lanes_of p ≤ MAX_LANES
   pub sweep : p.sweep ≤ MAX_SWEEP
 
 -- What each port has are the last pairs that its lane was given.

@@ -4,7 +4,7 @@ use Rattle.evt_types.specs.Plan.{queues}
 use Rattle.transcripts.specs.Standing.{View, waiting_at}
 use Rattle.evt_types.specs.declared.event.Delivery.{Delivery}
 use Rattle.evt_types.specs.declared.event.Event.{Event}
-use Rattle.evt_types.specs.declared.event.Numbered.{Numbered}
+use Rattle.evt_types.specs.declared.event.KeptEvent.{KeptEvent}
 use Rattle.evt_types.specs.declared.event.Op.{Op}
 use Rattle.evt_types.specs.declared.event.Op.TheVariants as ops
 use Rattle.evt_types.specs.declared.event.Reply.{Reply}
@@ -16,15 +16,16 @@ use Rattle.play_text.specs.declared.report.Untaken.{Untaken}
 use Rattle.play_text.specs.declared.report.Waiting.{Waiting}
 use Rattle.pipeline_app.specs.declared.rig.Rig.{Rig}
 use Rattle.pipeline_app.specs.declared.rig_port.RigPort.{RigPort}
-use Rattle.transcripts.specs.Standing.{kept_at}
+use Rattle.transcripts.specs.Standing.{kept_at, kept_event}
+use Rattle.transcripts.specs.Transcript.{pairs_of}
 
 -- ---- an event in its place
 
-abbrev pub waiting_of : ℕ → ℕ → Waiting
-waiting_of q n = record { queue = q; number = n }
+abbrev pub waiting_of : ℕ × ℕ → Waiting
+waiting_of x = record { queue = x.0; number = x.1 }
 
-abbrev pub kept_of : ℕ → Numbered → Kept
-kept_of q w = record { queue = q; number = w.number; event = w.event }
+abbrev pub kept_of : KeptEvent → Kept
+kept_of x = record { queue = x.queue; number = x.number; event = x.event }
 
 abbrev pub undelivered_of : ℕ → Delivery → Undelivered
 undelivered_of l d = record { lane = l; queue = d.queue; number = d.number }
@@ -58,15 +59,12 @@ abbrev pub untaken_at : ℕ → RigPort → List Untaken
 untaken_at l port = flat_map (untaken_of l) port.replies.items
 
 -- the numbers of the events that wait, by queue
-abbrev pub numbers_of : List Numbered → List ℕ
-numbers_of ws = map (λ (w : Numbered). w.number) ws
-
 abbrev pub waiting_in : View → List Waiting
-waiting_in v = flat_map (λ q. map (waiting_of q) (numbers_of (waiting_at v q))) (queues v.shape)
+waiting_in v = flat_map (λ q. map waiting_of (pairs_of q (waiting_at v q))) (queues v.shape)
 
 -- the events that are kept, by queue
 abbrev pub kept_in : View → List Kept
-kept_in v = flat_map (λ q. map (kept_of q) (kept_at v q)) (queues v.shape)
+kept_in v = flat_map (λ q. map kept_of (map (kept_event q) (kept_at v q))) (queues v.shape)
 
 -- the report of a device
 pub record IsReportOf (r : Rig) (report : Report) : Type 0 where

@@ -1,7 +1,8 @@
 //! A script is played on a device.
 
-ghost use Rattle.std.specs.Prelude.{◌≡◌, IfOk, IfErr, OnOk, map, string_bytes, Some};
+ghost use Rattle.std.specs.Prelude.{◌≡◌, All, IfOk, IfErr, OnOk, map, string_bytes, Some};
 ghost use Rattle.evt_types.specs.Plan.{lanes_of};
+ghost use Rattle.evt_types.specs.declared.draft.Serving.TheVariants as servings;
 ghost use Rattle.play_documents.specs.Command.{IsPortThere, AllPortsThere, line_of};
 ghost use Rattle.pipeline_app.specs.Play.{IsAnswerTo, ArePlayed, is_shut_by, IsRun, HasRun, WritesRun, AfterFault, IsEarlyFault, IsFaultOf};
 ghost use Rattle.pipeline_app.specs.Rig.{IsRig};
@@ -51,7 +52,7 @@ impl Rig {
     /// Carries the commands out, one after the other.
     fn obey_all(&mut self, alloc: Global, commands: &[Command]) -> Result<Vec<Answer>, AllocError>
         requires sound { IsRig self.old }
-        requires ports { AllPortsThere self.old.core.shape commands.now }
+        requires ports { All (IsPortThere (lanes_of self.old.core.shape)) commands.now }
         ensures sound { OnOk result (IsRig self.new) }
         ensures shape { self.new.core.shape ≡ self.old.core.shape }
         ensures answers { IfOk result (λ v. ArePlayed self.old.pool.shut self.old.log.items (map line_of commands.now) v.items self.new.log.items) }
@@ -67,7 +68,8 @@ impl Rig {
 
 /// The text of the document's run.
 fn run_text(alloc: Global, document: Document) -> Result<String, AllocError>
-    requires { AllPortsThere document.shape document.commands.items }
+    requires ports { AllPortsThere document.shape document.commands.items }
+    requires serving { document.shape.serving ≡ servings.Ports }
     ensures { IfOk result (λ text. IsRun document.shape (map line_of document.commands.items) (string_bytes text)) }
 {
     let Document { shape, commands } = document;

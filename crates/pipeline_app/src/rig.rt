@@ -2,6 +2,7 @@
 
 ghost use Rattle.std.specs.Prelude.{◌≡◌, ◌<◌, ◌&&◌, [], false, true, nat_lt, slice_index_or, IfOk, OnOk, length};
 ghost use Rattle.evt_types.specs.Plan.{lanes_of};
+ghost use Rattle.evt_types.specs.declared.draft.Serving.TheVariants as servings;
 ghost use Rattle.pipeline_app.specs.Refusals.{answer_outcome, is_stopped, outcome_by, outcome_of};
 ghost use Rattle.evt_types.specs.Operation.{is_new_op};
 ghost use Rattle.pipeline_app.specs.Rig.{HaveLeft, IsRig};
@@ -24,6 +25,7 @@ pub struct Rig {
 }
 
 fn new_ports(alloc: Global, shape: &Shape) -> Result<Vec<RigPort>, AllocError>
+    requires { shape.now.serving ≡ servings.Ports }
     ensures count { IfOk result (λ ports. length ports.items ≡ lanes_of shape.now) }
     ensures empty { IfOk result (λ ports. HaveLeft [] ports.items) }
 {
@@ -37,6 +39,7 @@ fn new_ports(alloc: Global, shape: &Shape) -> Result<Vec<RigPort>, AllocError>
 impl Rig {
     /// A device in which nothing has happened.
     pub fn new(alloc: Global, shape: Shape) -> Result<Rig, AllocError>
+        requires { shape.serving ≡ servings.Ports }
         ensures sound { IfOk result (λ r. IsRig r) }
         ensures shape { IfOk result (λ r. r.core.shape ≡ shape) }
         ensures fresh { IfOk result (λ r. (r.log.items ≡ []) × (r.pool.shut ≡ false)) }

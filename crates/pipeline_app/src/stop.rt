@@ -3,12 +3,13 @@
 ghost use Rattle.std.specs.Prelude.{◌≡◌, ◌<◌, ◌++◌, map, flat_map, length, IfOk, OnOk};
 ghost use Rattle.transcripts.specs.Standing.{waiting_at};
 ghost use Rattle.pipeline_app.specs.Rig.{IsRig};
-ghost use Rattle.transcripts.specs.Standing.{kept_at};
-ghost use Rattle.pipeline_app.specs.Stopped.{IsReportOf, by_lane, waiting_of, numbers_of, waiting_in, kept_of, kept_in, undelivered_of, undelivered_at, held_of, held_at, untaken_of, untaken_at};
+ghost use Rattle.transcripts.specs.Standing.{kept_at, kept_event};
+ghost use Rattle.transcripts.specs.Transcript.{pairs_of};
+ghost use Rattle.pipeline_app.specs.Stopped.{IsReportOf, by_lane, waiting_of, waiting_in, kept_of, kept_in, undelivered_of, undelivered_at, held_of, held_at, untaken_of, untaken_at};
 
 use crate::rig::Rig;
 use crate::rig_port::RigPort;
-use evt_types::{Delivery, Numbered, Op, Reply};
+use evt_types::{Delivery, KeptEvent, Op, Reply};
 use play_text::{Held, Kept, Report, Undelivered, Untaken, Waiting};
 use std::alloc::{AllocError, Global};
 
@@ -48,11 +49,11 @@ impl Rig {
         all: &mut Vec<Waiting>,
     ) -> Result<(), AllocError>
         requires { queue < length self.now.core.shape.queues }
-        ensures { OnOk result (all.new.items ≡ all.old.items ++ map (waiting_of queue) (numbers_of (waiting_at self.now.core queue))) }
+        ensures { OnOk result (all.new.items ≡ all.old.items ++ map waiting_of (pairs_of queue (waiting_at self.now.core queue))) }
     {
-        let mut numbers = Vec::with_capacity(alloc, self.core.waiting_len(queue))?;
-        self.core.list_waiting(queue, &mut numbers);
-        add_numbers(queue, &numbers, all)
+        let mut pairs = Vec::with_capacity(alloc, self.core.waiting_len(queue))?;
+        self.core.list_waiting(queue, &mut pairs);
+        add_pairs(&pairs, all)
     }
 }
 
@@ -70,36 +71,39 @@ impl Rig {
 
     fn add_kept(&self, alloc: Global, queue: usize, all: &mut Vec<Kept>) -> Result<(), AllocError>
         requires { queue < length self.now.core.shape.queues }
-        ensures { OnOk result (all.new.items ≡ all.old.items ++ map (kept_of queue) (kept_at self.now.core queue)) }
+        ensures { OnOk result (all.new.items ≡ all.old.items ++ map kept_of (map (kept_event queue) (kept_at self.now.core queue))) }
     {
         let mut events = Vec::with_capacity(alloc, self.core.places_len(queue))?;
         self.core.list_kept(queue, &mut events);
-        add_events(queue, &events, all)
+        add_events(&events, all)
     }
 }
 
-fn add_events(queue: usize, events: &[Numbered], all: &mut Vec<Kept>) -> Result<(), AllocError>
-    ensures { OnOk result (all.new.items ≡ all.old.items ++ map (kept_of queue) events.now) }
+fn reported(kept: &KeptEvent) -> Kept
+    ensures { result ≡ kept_of kept.now }
+{
+    Kept {
+        queue: kept.queue,
+        number: kept.number,
+        event: kept.event,
+    }
+}
+
+fn add_events(events: &[KeptEvent], all: &mut Vec<Kept>) -> Result<(), AllocError>
+    ensures { OnOk result (all.new.items ≡ all.old.items ++ map kept_of events.now) }
 {
     for kept in events {
-        let Numbered { number, event } = *kept;
-        all.push(Kept {
-            queue,
-            number,
-            event,
-        })?;
+        all.push(reported(kept))?;
     }
     Ok(())
 }
 
-fn add_numbers(queue: usize, numbers: &[u64], all: &mut Vec<Waiting>) -> Result<(), AllocError>
-    ensures { OnOk result (all.new.items ≡ all.old.items ++ map (waiting_of queue) numbers.now) }
+fn add_pairs(pairs: &[(usize, u64)], all: &mut Vec<Waiting>) -> Result<(), AllocError>
+    ensures { OnOk result (all.new.items ≡ all.old.items ++ map waiting_of pairs.now) }
 {
-    for number in numbers {
-        all.push(Waiting {
-            queue,
-            number: *number,
-        })?;
+    for pair in pairs {
+        let (queue, number) = *pair;
+        all.push(Waiting { queue, number })?;
     }
     Ok(())
 }

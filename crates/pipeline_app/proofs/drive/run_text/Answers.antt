@@ -1,4 +1,7 @@
-use Rattle.std.proofs.Common.{◌≡◌, Result, Ok, Err, IfOk, ap, ◌∙◌}
+use Rattle.std.proofs.Common.{◌≡◌, Result, Ok, Err, IfOk, length, All, subst, sym, ap, ◌∙◌}
+use Rattle.evt_types.specs.Plan.{lanes_of}
+use Rattle.evt_types.proofs.FlowLanes.{lanes_by_ports}
+use Rattle.play_documents.specs.Command.{IsPortThere}
 use Rattle.play_text.specs.Text.{text_of}
 use Rattle.pipeline_app.proofs.drive.run_text.Goals as goal
 
@@ -6,6 +9,12 @@ use Rattle.pipeline_app.proofs.drive.run_text.Goals as goal
 if_ok : {X E : Type 0} (P Q : X → Type 0) (r : Result X E) → ((x : X) → P x → Q x) → IfOk r P → IfOk r Q
 if_ok P Q (Ok x) f h = f x h
 if_ok P Q (Err e) f h = tt
+
+pub obey_all-requires-clause-ports : goal.obey_all-requires-clause-ports
+obey_all-requires-clause-ports c =
+    let ports : length c.args.document.shape.ports ≡ lanes_of c.in_ok-rig.rig.core.shape =
+    sym (lanes_by_ports c.args.document.shape c.requires.serving) ∙ ap lanes_of (sym c.in_ok-rig.ensures.shape) in
+    rw c.deref.ensures.value (subst (λ n. All (IsPortThere n) c.args.document.commands.items) ports c.requires.ports)
 
 pub returns : goal.returns
 returns c =

@@ -10,12 +10,16 @@ use std::{env, io};
 /// The status after a command line that is refused.
 const REFUSED: u8 = 2;
 
+/// Prints a line on standard error.
+fn complain(rt: &impl Eprint, line: &str) {
+    let _ = eprintln!(rt; "{line}");
+}
+
 /// Prints the line of a fault, and gives its status.
 fn failed(rt: &impl Eprint, fault: &AppFault) -> u8 {
     let mut line = ArrayString::new();
     let status = fault_line(fault, &mut line);
-    let text = line.as_str();
-    let _ = eprintln!(rt; "{text}");
+    complain(rt, line.as_str());
     status
 }
 
@@ -41,22 +45,26 @@ fn args<R: AllocGlobal + Env + Eprint>(rt: &R) -> Result<Vec<String>, u8> {
             .collect(rt.alloc())
             .map_err(|_| failed(rt, &AppFault::Memory)),
         Err(error) if error.kind() == io::ErrorKind::InvalidData => {
-            let _ = eprintln!(rt; "evsched: a word of the command line isn't UTF-8");
+            complain(rt, "evsched: a word of the command line isn't UTF-8");
             Err(REFUSED)
         }
         Err(_) => Err(failed(rt, &AppFault::Memory)),
     }
 }
 
+/// Plays the script of the document on standard input, and gives the status.
+fn played<R: AllocGlobal + Input + Print + Eprint>(rt: &R) -> u8 {
+    match play(rt.alloc(), &mut rt.reader(), &mut io::writer(rt)) {
+        Ok(()) => 0,
+        Err(fault) => failed(rt, &fault),
+    }
+}
+
 /// Does what the words after the program's name ask for, and gives the status.
 fn run<R: AllocGlobal + Env + Input + Print + Eprint>(rt: &R, words: &[&str]) -> u8 {
-    let alloc = rt.alloc();
-    let mut text = String::new(alloc);
-    match choice(alloc, words, &mut text) {
-        Ok(Choice::Play) => match play(alloc, &mut rt.reader(), &mut io::writer(rt)) {
-            Ok(()) => 0,
-            Err(fault) => failed(rt, &fault),
-        },
+    let mut text = String::new(rt.alloc());
+    match choice(rt.alloc(), words, &mut text) {
+        Ok(Choice::Play) => played(rt),
         Err(status) => explained(rt, status, text.as_str()),
     }
 }

@@ -8,8 +8,6 @@ mod draft;
 mod event;
 mod shape;
 mod step;
-#[cfg(test)]
-mod tests;
 mod word;
 
 pub use draft::{Draft, PortDraft, QueueDraft, Serving};

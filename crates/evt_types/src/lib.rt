@@ -9,8 +9,6 @@ mod event;
 mod flows;
 mod shape;
 mod step;
-#[cfg(test)]
-mod tests;
 mod word;
 
 pub use draft::{Draft, PortDraft, QueueDraft, Serving};

@@ -3,7 +3,5 @@
 
 mod levels;
 mod list;
-#[cfg(test)]
-mod tests;
 
 pub use levels::{Levels, Memory};

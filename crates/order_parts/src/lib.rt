@@ -5,8 +5,6 @@
 mod history;
 mod pins;
 mod reorder;
-#[cfg(test)]
-mod tests;
 
 pub use history::{Entry, History};
 pub use pins::Pins;

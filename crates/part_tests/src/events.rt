@@ -2,10 +2,10 @@
 
 ghost use Rattle.std.specs.Prelude.{◌≡◌, IfOk};
 
-use crate::draft::{Draft, PortDraft, QueueDraft, Serving};
-use crate::event::{Event, EventFault, Kind, Op};
-use crate::shape::{Shape, ShapeFault};
-use crate::word::WordFault;
+use evt_types::{
+    Draft, Event, EventFault, Kind, Op, PortDraft, QueueDraft, Serving, Shape, ShapeFault,
+    WordFault,
+};
 use std::alloc::{AllocError, Global};
 use std::test::Fail;
 
@@ -179,24 +179,33 @@ fn refused_links(rt: HostRuntime) -> Result<(), Fail> {
     Ok(())
 }
 
-#[test]
-fn shape_readers(rt: HostRuntime) -> Result<(), Fail> {
-    let alloc = rt.alloc();
+/// A device with one atomic queue, a port that brings events in, and one that handles them.
+fn small_shape(alloc: Global) -> Result<Shape, Fail>
+    ensures { IfOk result (λ shape. shape.serving ≡ Serving.Ports) }
+{
     let links: [&[u32]; 2] = [&[], &[0]];
     let draft = draft_of(alloc, 4, &[atomic_queue(4)], &links)?;
     let shape = Shape::build(alloc, &draft)?;
-    assert_eq!(rt; shape.limit(), 4);
-    assert_eq!(rt; shape.quantum(), 2);
-    assert_eq!(rt; shape.sweep(), 8);
+    Ok(shape)
+}
+
+#[test]
+fn parts_of_a_shape(rt: HostRuntime) -> Result<(), Fail> {
+    let shape = small_shape(rt.alloc())?;
+    assert_eq!(rt; (shape.limit(), shape.quantum(), shape.sweep()), (4, 2, 8));
     assert_eq!(rt; shape.serving(), Serving::Ports);
     assert_eq!(rt; shape.queues(), [atomic_queue(4)].as_slice());
-    assert_eq!(rt; shape.ports().len(), 2);
-    assert_eq!(rt; shape.lanes(), 2);
-    assert_eq!(rt; shape.queues().len(), 1);
+    assert_eq!(rt; (shape.ports().len(), shape.lanes()), (2, 2));
+    Ok(())
+}
+
+#[test]
+fn answers_of_a_shape(rt: HostRuntime) -> Result<(), Fail> {
+    let shape = small_shape(rt.alloc())?;
+    assert_eq!(rt; (shape.lanes(), shape.queues().len()), (2, 1));
     assert_eq!(rt; shape.slot_of(0, 7), 3);
     assert!(rt; !shape.serves(0, 0, 3) && shape.serves(1, 0, 3));
-    assert_eq!(rt; shape.depth_of(1), 4);
-    assert_eq!(rt; shape.replies_of(1), 4);
+    assert_eq!(rt; (shape.depth_of(1), shape.replies_of(1)), (4, 4));
     assert_eq!(rt; shape.bound(), 12);
     Ok(())
 }

@@ -5,8 +5,8 @@ ghost use Rattle.order_parts.specs.History.{entries_of};
 ghost use Rattle.order_parts.specs.Pins.{free};
 ghost use Rattle.order_parts.specs.Reorder.{empty};
 
-use crate::{Entry, History, Memory, Pins, Reorder};
 use evt_types::{Event, EventFault, Op};
+use order_parts::{Entry, History, Memory, Pins, Reorder};
 use std::alloc::Global;
 use std::test::Fail;
 

@@ -1,18 +1,23 @@
 //! The command line.
 
-use pipeline_app::{Choice, choice};
+use play_command::{Choice, choice};
+
+/// The words after the program's name, what they ask for or the status to end with, and a part of what is printed.
+static LINES: [(&[&str], Result<Choice, u8>, &str); 6] = [
+    (&["play"], Ok(Choice::Play), ""),
+    (&["--help"], Err(0), "play"),
+    (&["help"], Err(0), "play"),
+    (&[], Err(2), "play"),
+    (&["stop"], Err(2), "stop"),
+    (&["play", "now"], Err(2), "now"),
+];
 
 #[test]
 fn reads_the_command_line(rt: HostRuntime) {
-    let alloc = rt.alloc();
-    let mut text = String::new(alloc);
-    assert_eq!(rt; choice(alloc, &["play"], &mut text), Ok(Choice::Play));
-    assert!(rt; text.is_empty());
-    assert_eq!(rt; choice(alloc, &["--help"], &mut text), Err(0));
-    assert!(rt; text.as_str().contains("play"));
-    assert_eq!(rt; choice(alloc, &["help"], &mut text), Err(0));
-    assert_eq!(rt; choice(alloc, &[], &mut text), Err(2));
-    assert_eq!(rt; choice(alloc, &["stop"], &mut text), Err(2));
-    assert!(rt; text.as_str().contains("stop"));
-    assert_eq!(rt; choice(alloc, &["play", "now"], &mut text), Err(2));
+    for (words, wanted, part) in &LINES {
+        let mut text = String::new(rt.alloc());
+        assert_eq!(rt; choice(rt.alloc(), words, &mut text), *wanted);
+        assert_eq!(rt; text.is_empty(), wanted.is_ok());
+        assert!(rt; text.as_str().contains(part));
+    }
 }

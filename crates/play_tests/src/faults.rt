@@ -3,10 +3,32 @@
 use crate::parts::{AFTER, BEFORE, LIMITS, PORT, REPLACED, TWO_REPLACED};
 use arrayvec::ArrayString;
 use evt_types::ShapeFault;
-use pipeline_app::{AppFault, DocFault, fault_line, play};
+use pipeline_app::play;
+use play_command::{AppFault, fault_line};
+use play_documents::DocFault;
 use std::alloc::Global;
 use std::process::Abort;
 use std::test::Fail;
+
+/// Documents of few bytes, with their faults.
+static FEW_BYTES: [(&[u8], &str); 3] = [
+    (b"", "MissingKey"),
+    (b"limit = ", "NotToml"),
+    (b"\xff", "NotToml"),
+];
+
+/// Faults with their lines and statuses.
+static FAULTS: [(AppFault, &str, u8); 5] = [
+    (AppFault::Read, "evsched: read failed", 3),
+    (AppFault::Write, "evsched: write failed", 3),
+    (AppFault::Memory, "evsched: out of memory or seats", 5),
+    (AppFault::NoSeat, "evsched: out of memory or seats", 5),
+    (
+        AppFault::Document(DocFault::BadCommand(4294967295)),
+        "evsched: document: BadCommand 4294967295",
+        4,
+    ),
+];
 
 /// The names of the refused configurations.
 static SHAPE_FAULTS: [(ShapeFault, &str); 13] = [
@@ -32,6 +54,13 @@ fn says(rt: &impl Abort, fault: AppFault, line: &str, status: u8) {
     assert_eq!(rt; out.as_str(), line);
 }
 
+/// A document's fault has this name.
+fn has_name(rt: &impl Abort, alloc: Global, fault: AppFault, name: &str) -> Result<(), Fail> {
+    let line = format!(in alloc; "evsched: document: {name}")?;
+    says(rt, fault, line.as_str(), 4);
+    Ok(())
+}
+
 /// The good document around a script.
 fn document(alloc: Global, script: &str) -> Result<String, Fail> {
     Ok(format!(in alloc; "{BEFORE}{script}{AFTER}")?)
@@ -48,34 +77,33 @@ fn is_named(rt: &impl Abort, alloc: Global, bytes: &[u8], name: &str) -> Result<
     let mut reader = bytes;
     let mut written = Vec::new(alloc);
     match play(alloc, &mut reader, &mut written) {
-        Ok(()) => assert_eq!(rt; "", name),
-        Err(fault) => {
-            let mut line = ArrayString::new();
-            assert_eq!(rt; fault_line(&fault, &mut line), 4);
-            let wanted = format!(in alloc; "evsched: document: {name}")?;
-            assert_eq!(rt; line.as_str(), wanted.as_str());
-            assert!(rt; written.is_empty());
+        Ok(()) => {
+            assert_eq!(rt; "", name);
+            Ok(())
         }
+        Err(fault) => {
+            assert!(rt; written.is_empty());
+            has_name(rt, alloc, fault, name)
+        }
+    }
+}
+
+#[test]
+fn prints_each_fault(rt: HostRuntime) -> Result<(), Fail> {
+    for (fault, line, status) in &FAULTS {
+        says(&rt, *fault, line, *status);
+    }
+    for (fault, name) in &SHAPE_FAULTS {
+        let fault = AppFault::Document(DocFault::Shape(*fault));
+        has_name(&rt, rt.alloc(), fault, name)?;
     }
     Ok(())
 }
 
 #[test]
-fn prints_each_fault(rt: HostRuntime) -> Result<(), Fail> {
-    says(&rt, AppFault::Read, "evsched: read failed", 3);
-    says(&rt, AppFault::Write, "evsched: write failed", 3);
-    says(&rt, AppFault::Memory, "evsched: out of memory or seats", 5);
-    says(&rt, AppFault::NoSeat, "evsched: out of memory or seats", 5);
-    says(
-        &rt,
-        AppFault::Document(DocFault::BadCommand(4294967295)),
-        "evsched: document: BadCommand 4294967295",
-        4,
-    );
-    for (fault, name) in &SHAPE_FAULTS {
-        let line = format!(in rt.alloc(); "evsched: document: {name}")?;
-        let fault = AppFault::Document(DocFault::Shape(*fault));
-        says(&rt, fault, line.as_str(), 4);
+fn names_the_fault_of_few_bytes(rt: HostRuntime) -> Result<(), Fail> {
+    for (bytes, name) in &FEW_BYTES {
+        is_named(&rt, rt.alloc(), bytes, name)?;
     }
     Ok(())
 }
@@ -83,14 +111,18 @@ fn prints_each_fault(rt: HostRuntime) -> Result<(), Fail> {
 #[test]
 fn names_the_fault_of_a_part(rt: HostRuntime) -> Result<(), Fail> {
     let alloc = rt.alloc();
-    is_named(&rt, alloc, b"", "MissingKey")?;
-    is_named(&rt, alloc, b"limit = ", "NotToml")?;
-    is_named(&rt, alloc, b"\xff", "NotToml")?;
     let good = document(alloc, "sweep\n")?;
     for (old, new, name) in &REPLACED {
         let text = with(alloc, &good, old, new)?;
         is_named(&rt, alloc, text.as_bytes(), name)?;
     }
+    Ok(())
+}
+
+#[test]
+fn names_the_fault_of_a_limit(rt: HostRuntime) -> Result<(), Fail> {
+    let alloc = rt.alloc();
+    let good = document(alloc, "sweep\n")?;
     for (limit, name) in &LIMITS {
         let line = format!(in alloc; "limit = {limit}\n")?;
         let text = with(alloc, &good, "limit = 4\n", &line)?;
@@ -115,12 +147,13 @@ fn names_the_first_fault(rt: HostRuntime) -> Result<(), Fail> {
 fn names_a_refused_count_of_ports(rt: HostRuntime) -> Result<(), Fail> {
     let alloc = rt.alloc();
     let good = document(alloc, "sweep\n")?;
-    // 32 ports and 33.
-    let ports = PORT.repeat(alloc, 30)?;
-    let most = format!(in alloc; "{good}{ports}")?;
-    is_named(&rt, alloc, most.as_bytes(), "")?;
-    let one_more = format!(in alloc; "{most}{PORT}")?;
-    is_named(&rt, alloc, one_more.as_bytes(), "PortCount")
+    // 32 ports and 33: the good document has two.
+    for (count, name) in [(30, ""), (31, "PortCount")] {
+        let ports = PORT.repeat(alloc, count)?;
+        let text = format!(in alloc; "{good}{ports}")?;
+        is_named(&rt, alloc, text.as_bytes(), name)?;
+    }
+    Ok(())
 }
 
 #[test]
@@ -136,13 +169,20 @@ fn names_the_bad_line_between_returns(rt: HostRuntime) -> Result<(), Fail> {
 fn names_a_long_document(rt: HostRuntime) -> Result<(), Fail> {
     let alloc = rt.alloc();
     let good = document(alloc, "sweep\n")?;
-    let spaces = " ".repeat(alloc, 1_048_576usize.saturating_sub(good.len()))?;
-    let longest = format!(in alloc; "{good}{spaces}")?;
-    is_named(&rt, alloc, longest.as_bytes(), "")?;
-    let longer = format!(in alloc; "{longest} ")?;
-    is_named(&rt, alloc, longer.as_bytes(), "TooLong")?;
-    let mut bytes = vec![in alloc; 255u8; 1_048_576]?;
-    is_named(&rt, alloc, &bytes, "NotToml")?;
-    bytes.push(255)?;
-    is_named(&rt, alloc, &bytes, "TooLong")
+    for (len, name) in [(1_048_576usize, ""), (1_048_577, "TooLong")] {
+        let spaces = " ".repeat(alloc, len.saturating_sub(good.len()))?;
+        let text = format!(in alloc; "{good}{spaces}")?;
+        is_named(&rt, alloc, text.as_bytes(), name)?;
+    }
+    Ok(())
+}
+
+#[test]
+fn names_many_bytes_that_are_no_text(rt: HostRuntime) -> Result<(), Fail> {
+    let alloc = rt.alloc();
+    for (len, name) in [(1_048_576, "NotToml"), (1_048_577, "TooLong")] {
+        let bytes = vec![in alloc; 255u8; len]?;
+        is_named(&rt, alloc, &bytes, name)?;
+    }
+    Ok(())
 }

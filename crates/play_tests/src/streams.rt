@@ -1,6 +1,7 @@
 //! Readers and writers that give and take little, and fail.
 
-use pipeline_app::{AppFault, DocFault, read_all, write_text};
+use play_command::{AppFault, read_all, write_text};
+use play_documents::DocFault;
 use std::io::{Error, ErrorKind, Read, Result as IoResult, Write};
 use std::test::Fail;
 

@@ -4,7 +4,7 @@ use Rattle.rtrb.specs.Ring.{sent, received, known_items}
 use Rattle.evt_types.specs.Operation.{is_answer}
 use Rattle.evt_types.specs.declared.event.Delivery.{Delivery}
 use Rattle.evt_types.specs.declared.event.Reply.{Reply}
-use Rattle.lane_rings.specs.Key.{key}
+use Rattle.evt_types.specs.Event.{pair_of}
 use Rattle.lane_rings.specs.declared.far.Far.{Far}
 use Rattle.lane_rings.specs.declared.near.Near.{Near}
 
@@ -50,4 +50,4 @@ unanswered far = drop (answers_among (answered far)) (received_by far)
 
 -- the queue and the number of each of these
 abbrev pub held_list : Far → List (ℕ × ℕ)
-held_list far = map key (unanswered far)
+held_list far = map pair_of (unanswered far)

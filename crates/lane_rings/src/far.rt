@@ -3,7 +3,7 @@
 ghost use Rattle.std.specs.Prelude.{◌≡◌, ◌≤◌, length, count_by, map, drop};
 ghost use Rattle.evt_types.specs.Operation.{is_answer};
 ghost use Rattle.rtrb.specs.Ring.{sent, received, consumer_capacity};
-ghost use Rattle.lane_rings.specs.Key.{key};
+ghost use Rattle.evt_types.specs.Event.{pair_of};
 
 use circular_buffer::HeapCircularBuffer;
 use evt_types::{Delivery, Op, Reply};
@@ -25,7 +25,7 @@ pub struct Far {
     pub(crate) replies: Producer<Reply>,
     pub(crate) history: HeapCircularBuffer<(usize, u64)>,
     pub ghost fewer: { count_by is_answer (sent replies) ≤ length (received deliveries) },
-    ghost history_is: { history.items ≡ map key (drop (count_by is_answer (sent replies)) (received deliveries)) },
+    ghost history_is: { history.items ≡ map pair_of (drop (count_by is_answer (sent replies)) (received deliveries)) },
     ghost room: { history.capacity ≡ consumer_capacity deliveries },
 }
 

@@ -2,6 +2,7 @@ pub mod Account
 pub mod Alones
 pub mod AnsweredPlaces
 pub mod ByLane
+pub mod Entries
 pub mod Facts
 pub mod Fewness
 pub mod Flows

@@ -60,6 +60,13 @@ pub fn steps_of_a_reply_are_few()
     ensures kept { (v : View) (T : List Step) → Stands T v → kept_in v ≤ sum_by kept_room v.shape.queues }
 {}
 
+/// Each step adds one at most to what was accepted or is kept. So that is never more than the steps, by the transcript and by what
+/// a core holds of it.
+pub fn entries_are_few()
+    ensures steps { (p : Plan) (T : List Step) → Lawful p T → entries p T ≤ length T }
+    ensures held { (v : View) (T : List Step) → Stands T v → entries_of v ≤ length T }
+{}
+
 /// What a core holds that stands at a transcript tells how many events are inside, how many were accepted or are kept, which
 /// replies may be taken, and what is kept.
 pub fn a_view_tells()

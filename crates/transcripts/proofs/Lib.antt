@@ -5,6 +5,7 @@ pub mod ByLane
 pub mod Entries
 pub mod Facts
 pub mod Fewness
+pub mod FlowAlone
 pub mod Flows
 pub mod HandOrder
 pub mod Insides

@@ -2,9 +2,10 @@
 
 ghost use Rattle.std.specs.Prelude.{◌≡◌, ℕ, ◌+◌, ◌<◌, ◌≤◌, ◌==◌, true, false, List, [], ◌∷◌, length, map, sum_by, if◌then◌else◌, All, Contains};
 ghost use Rattle.transcripts.specs.Allowed.{StepsLawful};
+ghost use Rattle.transcripts.specs.Choice.{HasNoOther};
 ghost use Rattle.transcripts.specs.Lawful.{Lawful};
 ghost use Rattle.transcripts.specs.Laws.{IsAcceptedOnce, IsAnsweredTo, IsStrictlyRising, IsSublist, KeepsNoneTo, NeverStepsBack};
-ghost use Rattle.evt_types.specs.Plan.{Plan, is_atomic, is_ordered, kept_room, lanes_of, queue_of};
+ghost use Rattle.evt_types.specs.Plan.{Plan, has_flow_lanes, is_atomic, is_ordered, kept_room, lanes_of, queue_of, serves};
 ghost use Rattle.transcripts.specs.Replies.{new_count, release_count, replies_in, said};
 ghost use Rattle.transcripts.specs.Standing.{Stands, View, after, entries_of, inside_of, kept_at, kept_in, kept_under, may_be_taken, may_take, steps_of};
 ghost use Rattle.transcripts.specs.Sweep.{IsSweep, Sweeping, sweep_room, sweep_steps};
@@ -80,4 +81,11 @@ pub fn a_view_tells()
 /// quantum, and finds each lane's ring full once at most) are no more than there is room for.
 pub fn a_sweep_fits()
     ensures { (v : View) (T : List Step) (s : Sweeping) → Stands T v → IsSweep v s → length (sweep_steps v s) ≤ sweep_room v.shape }
+{}
+
+/// Where flows have lanes of their own, each slot of an atomic queue is served by one lane alone. So no other lane ever has an
+/// unanswered event of the slot, and the scheduler need not look for one.
+pub fn flow_lanes_stand_alone()
+    ensures lane { (p : Plan) (l m q s : ℕ) → has_flow_lanes p q ≡ true → serves p l q s ≡ true → serves p m q s ≡ true → l ≡ m }
+    ensures alone { (v : View) (T : List Step) (l q s : ℕ) → Stands T v → has_flow_lanes v.shape q ≡ true → serves v.shape l q s ≡ true → HasNoOther v l q s }
 {}

@@ -1,5 +1,5 @@
 -- With flow lanes a slot of an atomic queue is served by one lane alone, so no other lane has an unanswered event of it.
-use Rattle.std.proofs.Common.{◌≡◌, ◌≢◌, ℕ, ◌-◌, ◌<◌, ◌≤◌, Bool, true, false, not, ◌&&◌, ◌==◌, List, [], length, map, drop, All, Option, Some, None, ◌⊎◌, inl, inr, refl, sym, ap, ◌∙◌, subst, arith, if◌then◌else◌}
+use Rattle.std.proofs.Common.{◌≡◌, ◌≢◌, ℕ, ◌-◌, ◌<◌, ◌≤◌, Bool, true, false, not, ◌&&◌, ◌==◌, List, [], length, All, Option, Some, None, ◌⊎◌, inl, inr, refl, sym, ap, ◌∙◌, subst, arith, if◌then◌else◌}
 use Rattle.std.proofs.lemmas.Bool.{cases_lt, false≢true, and_parts, and_right}
 use Rattle.std.proofs.lemmas.List.{get_or_past, take_all}
 use Rattle.std.proofs.lemmas.List.Elements.{All-nil, All-map, All-weaker, All-drop}
@@ -53,7 +53,8 @@ serves_by_flow p l q slot flows h = by_case (cases_lt l (length p.ports))
   where
     by_case : (l < length p.ports) ⊎ (length p.ports ≤ l) → (length p.ports ≤ l) × (flow_at p l ≡ Some (flow_of q slot))
     by_case (inl own) =
-        let none : (has q (port_of p l).links && not (has_flow_lanes p q)) ≡ false = and_right (has q (port_of p l).links) (not (has_flow_lanes p q)) (ap not flows) in
+        let none : (has q (port_of p l).links && not (has_flow_lanes p q)) ≡ false =
+        and_right (has q (port_of p l).links) (not (has_flow_lanes p q)) (ap not flows) in
         absurd (false≢true (sym none ∙ (sym (serves_port p l q slot own) ∙ h)))
     by_case (inr past) = (past, flow_is q slot (flow_at p l) (sym (serves_flow p l q slot past) ∙ h))
 

@@ -9,6 +9,7 @@ pub mod FlowAlone
 pub mod Flows
 pub mod HandOrder
 pub mod Insides
+pub mod OneAnswer
 pub mod Orders
 pub mod Origins
 pub mod Overdue

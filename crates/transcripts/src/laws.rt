@@ -7,7 +7,7 @@ ghost use Rattle.transcripts.specs.Lawful.{Lawful};
 ghost use Rattle.transcripts.specs.Laws.{IsAcceptedOnce, IsAnsweredTo, IsStrictlyRising, IsSublist, KeepsNoneTo, NeverStepsBack};
 ghost use Rattle.evt_types.specs.Plan.{Plan, has_flow_lanes, is_atomic, is_ordered, kept_room, lanes_of, queue_of, serves};
 ghost use Rattle.transcripts.specs.Replies.{new_count, release_count, replies_in, said};
-ghost use Rattle.transcripts.specs.Standing.{Stands, View, after, entries_of, inside_of, kept_at, kept_in, kept_under, may_be_taken, may_take, steps_of};
+ghost use Rattle.transcripts.specs.Standing.{AreStepsOf, Stands, View, after, entries_of, inside_of, kept_at, kept_in, kept_under, may_be_taken, may_take, steps_of};
 ghost use Rattle.transcripts.specs.Sweep.{IsSweep, Sweeping, sweep_room, sweep_steps};
 ghost use Rattle.transcripts.specs.Transcript.{entries, is_give, hand, inside, kept, sources, taken};
 ghost use Rattle.evt_types.specs.declared.event.Event.{Event};
@@ -48,10 +48,12 @@ pub fn inside_settles()
     ensures { (p : Plan) (T : List Step) → Lawful p T → inside p T + release_count T ≡ new_count T }
 {}
 
-/// By the steps of a reply no event is given, and its lane alone says something: the reply.
+/// By the steps of a reply no event is given, and its lane alone says something: the reply. And a reply has one list of steps alone:
+/// of an answer these are the answer and then, in one order, the Accepts of the kept events that wait for no other.
 pub fn steps_of_a_reply()
     ensures given { (v : View) (l : ℕ) (r : Reply) → All (λ s. is_give s ≡ false) (steps_of v l r.event) }
     ensures said { (v : View) (l m : ℕ) (r : Reply) → replies_in (steps_of v l r.event) m ≡ (if m == l then said r ∷ [] else []) }
+    ensures unique { (p : Plan) (T : List Step) (l : ℕ) (e : Event) (xs ys : List Step) → Lawful p T → AreStepsOf p T l e xs → AreStepsOf p T l e ys → xs ≡ ys }
 {}
 
 /// The steps of a reply are two at most beside the kept events that it lets go, and no more events are kept than the ordered queues

@@ -3,7 +3,8 @@ use Rattle.std.proofs.Common.{◌≡◌, ℕ, List, [], ◌∷◌, ◌++◌, Opt
 use Rattle.std.specs.Prelude.{map, option_to_list}
 use Rattle.std.proofs.lemmas.List.{map-append}
 use Rattle.evt_types.specs.declared.event.Delivery.{Delivery}
-use Rattle.pipeline_app.specs.Pairs.{IsLeftOf, pair_of}
+use Rattle.evt_types.specs.Event.{pair_of}
+use Rattle.pipeline_app.specs.Pairs.{IsLeftOf}
 
 pub IsLeftOf-refl : (xs : List (ℕ × ℕ)) → IsLeftOf xs xs
 IsLeftOf-refl xs = ([], refl)

@@ -1,10 +1,7 @@
 -- The (queue, number) pairs of deliveries, and what a port still has of those that its lane was given.
 use Rattle.std.specs.Prelude.{ℕ, ◌≡◌, List, ◌++◌, map}
-use Rattle.evt_types.specs.declared.event.Delivery.{Delivery}
+use Rattle.evt_types.specs.Event.{pair_of}
 use Rattle.pipeline_app.specs.declared.rig_port.RigPort.{RigPort}
-
-abbrev pub pair_of : Delivery → ℕ × ℕ
-pair_of d = (d.queue, d.number)
 
 -- what the port holds, oldest first, and then what it hasn't received
 abbrev pub held_pairs : RigPort → List (ℕ × ℕ)

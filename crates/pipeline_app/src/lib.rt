@@ -10,8 +10,4 @@ mod stop;
 mod sweep;
 
 pub use drive::play;
-pub use play_command::{AppFault, Choice, choice, fault_line, read_all, write_text};
-pub use play_documents::DocFault;
-pub use play_text::{
-    Answer, Behind, Held, Kept, Refused, Report, Swept, Undelivered, Untaken, Waiting,
-};
+pub use play_command::{AppFault, Choice, choice, fault_line};

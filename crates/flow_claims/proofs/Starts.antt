@@ -14,7 +14,7 @@ use Rattle.flow_claims.specs.Lists.{no_lists, lists_of, IsOf}
 use Rattle.flow_claims.specs.Stints.{below}
 use Rattle.flow_claims.specs.Seats.{first_seating}
 use Rattle.flow_claims.specs.Rule.{busy, IsLane, IsSeat, Claimed}
-use Rattle.flow_claims.proofs.Keeps.{busy_free}
+use Rattle.flow_claims.proofs.WordReads.{busy_free, not_below}
 
 -- nothing was received or answered
 abbrev pub IsFresh : Far → Type 0
@@ -57,6 +57,8 @@ starts lanes fresh =
           record {
             recorded = tt;
             counted = omega (arith, word lane lt);
+            done = λ k d lt. absurd (omega (arith, lt));
+            closed = λ some. absurd (omega (arith, some, not_below lane 0 (omega arith)));
             final = λ k d lt. absurd (omega (arith, lt));
             surrendered = λ k d lt. absurd (omega (arith, lt));
             free = λ z. (at.far, (at.home, at.of_lane, fresh_lists at.far at.fresh), fresh_answered at.far at.fresh);

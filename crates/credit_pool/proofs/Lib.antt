@@ -1,2 +1,4 @@
 pub mod Numbers
+pub mod Pools
 pub mod Keeps
+pub mod Changes

@@ -1,5 +1,5 @@
 -- The credit word as a number: what an exchange and the fetch_or make of it, and how its bit is noted.
-use Rattle.std.proofs.Common.{◌≡◌, ℕ, ◌+◌, ◌-◌, ◌*◌, ◌/◌, ◌%◌, ◌<◌, ◌≤◌, Bool, true, false, ◌||◌, ◌⊎◌, inl, inr, refl, ◌∙◌, arith}
+use Rattle.std.proofs.Common.{◌≡◌, ℕ, ◌+◌, ◌-◌, ◌*◌, ◌/◌, ◌%◌, ◌<◌, ◌≤◌, Bool, true, false, ◌||◌, ◌⊎◌, inl, inr, refl, ap, ◌∙◌, arith}
 use Rattle.std.specs.Prelude.{bit_or}
 use Rattle.std.proofs.lemmas.Nat.{or_mod, or_shr}
 use Rattle.std.specs.Int.Bits.{or_zero_r}
@@ -40,3 +40,6 @@ shut_bit word = or_mod word 1 1 ∙ or_one (word % 2) (omega arith)
 pub either_true : (a b : Bool) → (a || b) ≡ true → (a ≡ true) ⊎ (b ≡ true)
 either_true true b h = inl refl
 either_true false b h = inr h
+
+pub either_stays : (a b : Bool) → a ≡ true → (a || b) ≡ true
+either_stays a b h = ap (λ c. c || b) h

@@ -1,4 +1,5 @@
 pub mod Accounts
 pub mod Rule
+pub mod Steps
 pub mod Answers
 pub mod Pool

@@ -30,9 +30,9 @@ pub struct CreditSeat {
 }
 
 impl Credits {
-    ghost use Rattle.credit_pool.specs.Accounts.{after_draw, after_give, after_join, after_look, after_shut, first_account, free_of, part_of, rest_of, IsShut, Stays};
+    ghost use Rattle.credit_pool.specs.Accounts.{after_draw, after_give, after_join, after_look, after_shut, first_account, free_of, part_of, rest_of, IsOpen, IsShut, Stays};
     ghost use Rattle.credit_pool.specs.Answers.{AnswersDraw, AnswersGive};
-    ghost use Rattle.credit_pool.specs.Rule.{Reads, Stood};
+    ghost use Rattle.credit_pool.specs.Rule.{Reads};
     ghost use Rattle.credit_pool.specs.Pool.{account, limit_of, IsSeatOf};
 
     /// A pool of `limit` credits, at most 2^32, all free, and its first seat, which has all 64 parts.
@@ -130,6 +130,7 @@ impl Credits {
         requires { IsSeatOf self.now seat.old }
         ensures seat { IsSeatOf self.now seat.new }
         ensures account { account seat.new ≡ after_shut (account seat.old) }
+        ensures stays { Stays (after_shut (account seat.old)) (account seat.new) }
     {
         self.set_bit(seat);
     }
@@ -142,9 +143,6 @@ impl Credits {
         ensures free { result.0 ≡ free_of (account seat.new).last }
         ensures bit { IsTrue result.1 ↔ IsShut (account seat.new).last }
         ensures shut { IsTrue (account seat.old).saw_shut → IsTrue result.1 }
-
-        // The word stood in a pool whose free credits and all that was drawn are the limit and all that was returned.
-        ensures sum { Stood (account seat.old) (account seat.new).last }
         ensures read { Reads (account seat.old) (account seat.new).last }
         ensures stays { Stays (account seat.old) (account seat.new) }
     {
@@ -168,7 +166,6 @@ impl Credits {
         requires { IsSeatOf self.now seat.old }
         ensures seat { IsSeatOf self.now seat.new }
         ensures account { account seat.new ≡ after_look result (account seat.old) }
-        ensures sum { Stood (account seat.old) result }
         ensures read { Reads (account seat.old) result }
     {
         self.table.shared.load::<Load>(&mut seat.seat, 0)
@@ -177,6 +174,7 @@ impl Credits {
     // It draws where it finds `word`.
     fn exchange_to_draw(&self, seat: &mut CreditSeat, word: u64, n: u64) -> u64
         requires seat { IsSeatOf self.now seat.old }
+        requires open { IsOpen word }
         requires free { n ≤ free_of word }
         ensures seat { IsSeatOf self.now seat.new }
         ensures drawn { result ≡ word → account seat.new ≡ after_draw n (after_look word (account seat.old)) }

@@ -1,6 +1,7 @@
 //! The one rule of the credit word, and the six kinds of step under it.
 ghost use Rattle.credit_pool.specs.Accounts.{after_join, first_account, part_of, rest_of, spent_account};
-ghost use Rattle.credit_pool.specs.Rule.{Balanced, Draws, FetchesOr, Gives, Loads};
+ghost use Rattle.credit_pool.specs.Rule.{Balanced};
+ghost use Rattle.credit_pool.specs.Steps.{Draws, FetchesOr, Gives, Loads};
 
 use crate::account::Account;
 use atomic_table::{Join, Play, Split, TableRule};

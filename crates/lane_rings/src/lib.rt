@@ -6,8 +6,6 @@ mod far;
 mod near;
 mod pair;
 mod rests;
-#[cfg(test)]
-mod tests;
 
 pub use far::{AnswerFault, Far};
 pub use near::Near;

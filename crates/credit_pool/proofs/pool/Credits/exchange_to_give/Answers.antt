@@ -1,7 +1,7 @@
 -- The exchange of a return keeps the rule.
 use Rattle.std.proofs.Common.{rules}
-use Rattle.credit_pool.proofs.Keeps.{gives}
+use Rattle.credit_pool.proofs.Keeps.{give_exchanges}
 use Rattle.credit_pool.proofs.pool.Credits.exchange_to_give.Goals as goal
 
 pub compare_exchange-requires : goal.compare_exchange-requires
-compare_exchange-requires c = (search rules, search rules, gives _ _ _ _ _ _ (search rules) (search rules) (search rules))
+compare_exchange-requires c = (search rules, search rules, give_exchanges _ _ _ _ _ _ (search rules) (search rules) (search rules))

@@ -1,6 +1,6 @@
 use Rattle.std.proofs.Common.{◌≡◌}
 use Rattle.lane_rings.specs.Identity.{far_id}
-use Rattle.lane_rings.proofs.tests.hold.Given as goal
+use Rattle.ring_tests.proofs.lanes.hold.Given as goal
 
 abbrev pub invariant-loop : goal.invariant-loop
-invariant-loop g l = far_id l.far ≡ far_id l.initial.far
+invariant-loop l = far_id l.far ≡ far_id l.initial.far

@@ -1,17 +1,19 @@
-//! Known values, and both ends in threads of their own.
+//! The lane: known values, and both ends in threads of their own.
 
 ghost use Rattle.std.specs.Prelude.{◌≡◌};
 ghost use Rattle.lane_rings.specs.Identity.{near_id, far_id};
 
-use crate::{AnswerFault, Far, Near, beside, lane};
 use evt_types::{Delivery, Event, Op, Reply};
-use std::sync::Wait;
+use lane_rings::{AnswerFault, Far, Near, beside, lane};
 use std::test::Fail;
 use std::thread;
 use std::thread::Threads;
 
 /// How many deliveries and replies pass between two threads.
 const PASSES: u64 = 100_000;
+
+/// In how many turns in a row nothing may pass at an end before it gives up, and the test fails.
+const PATIENCE: u32 = 10_000_000;
 
 fn event(op: Op, payload: u64) -> Event {
     Event {
@@ -64,14 +66,13 @@ fn lane_calls(rt: HostRuntime) -> Result<(), Fail> {
 }
 
 /// Offers the numbers from 0 on, and receives each; whether all came.
-fn pass(near: &mut Near, far: &mut Far, depth: usize, count: u64) -> bool
-    requires { (far_id far.old).depth ≡ depth }
+fn pass(near: &mut Near, far: &mut Far, count: u64) -> bool
     ensures near { near_id near.new ≡ near_id near.old }
     ensures far { far_id far.new ≡ far_id far.old }
 {
     for number in 0..count {
         let offered = near.offer(delivery(number));
-        if offered.is_err() || far.held() >= depth || far.receive() != Some(delivery(number)) {
+        if offered.is_err() || far.is_full() || far.receive() != Some(delivery(number)) {
             return false;
         }
     }
@@ -92,7 +93,7 @@ fn what_is_left(rt: HostRuntime) -> Result<(), Fail> {
     assert_eq!(rt; near.peek(), None);
     assert_eq!(rt; near.take(), None);
     assert_eq!(rt; far.receive(), None);
-    assert!(rt; pass(&mut near, &mut far, 4, 3));
+    assert!(rt; pass(&mut near, &mut far, 3));
     assert_eq!(rt; near.offer(delivery(9)), Ok(()));
     assert_eq!(rt; far.answer(reply(Op::New, 8)), Ok(()));
     assert_eq!(rt; far.answer(reply(Op::Forward, 9)), Ok(()));
@@ -115,7 +116,7 @@ fn refused_answers(rt: HostRuntime) -> Result<(), Fail> {
     let (mut near, mut far) = lane(rt.alloc(), 2, 1)?;
     assert!(rt; refuses(&mut far, reply(Op::Forward, 0), AnswerFault::NothingHeld));
     assert!(rt; refuses(&mut far, reply(Op::Release, 0), AnswerFault::NothingHeld));
-    assert!(rt; pass(&mut near, &mut far, 2, 2));
+    assert!(rt; pass(&mut near, &mut far, 2));
     assert_eq!(rt; far.answer(reply(Op::New, 1)), Ok(()));
     assert!(rt;
         refuses(
@@ -139,6 +140,7 @@ fn refused_answers(rt: HostRuntime) -> Result<(), Fail> {
         )
     );
     assert_eq!(rt; (far.held(), far.oldest()), (2, Some((3, 0))));
+    assert!(rt; far.is_full());
     assert_eq!(rt; near.take(), Some(reply(Op::New, 1)));
     assert_eq!(rt; far.answer(reply(Op::Forward, 5)), Ok(()));
     assert!(rt;
@@ -149,6 +151,7 @@ fn refused_answers(rt: HostRuntime) -> Result<(), Fail> {
         )
     );
     assert_eq!(rt; (far.held(), far.oldest()), (1, Some((3, 1))));
+    assert!(rt; !far.is_full());
     let mut rests = beside(near, far);
     assert_eq!(rt; rests.next_undelivered(), None);
     assert_eq!(rt; rests.next_untaken(), Some(reply(Op::Forward, 5)));
@@ -158,48 +161,52 @@ fn refused_answers(rt: HostRuntime) -> Result<(), Fail> {
     Ok(())
 }
 
-/// Offers each number below `PASSES`, and takes a reply for each; whether all replies came in order.
-fn schedule(rt: &impl Wait, near: Near) -> (Near, bool)
+/// Offers each number below `PASSES`, and takes a reply for each; whether all replies came, in order.
+fn schedule(near: Near) -> (Near, bool)
     ensures { near_id result.0 ≡ near_id near }
 {
     let mut near = near;
-    let (mut offered, mut taken) = (0, 0);
+    let (mut offered, mut taken, mut idle) = (0, 0, 0);
     let mut in_order = true;
-    for _ in rt.forever() {
-        if taken >= PASSES {
+    for _ in 0..u64::MAX {
+        if taken >= PASSES || idle >= PATIENCE {
             break;
         }
+        idle += 1;
         if offered < PASSES && near.offer(delivery(offered)).is_ok() {
             offered += 1;
+            idle = 0;
         }
         match near.take() {
             Some(back) => {
                 in_order = in_order && back == reply(Op::Forward, taken);
                 taken += 1;
+                idle = 0;
             }
             None => thread::yield_now(),
         }
     }
-    (near, in_order)
+    (near, in_order && taken == PASSES)
 }
 
-/// Receives `PASSES` deliveries, and answers each; whether all deliveries came in order.
-fn hold(rt: &impl Wait, far: Far, depth: usize) -> (Far, bool)
-    requires { (far_id far).depth ≡ depth }
+/// Receives `PASSES` deliveries, and answers each; whether all deliveries came, in order.
+fn hold(far: Far) -> (Far, bool)
     ensures { far_id result.0 ≡ far_id far }
 {
     let mut far = far;
-    let (mut received, mut answered) = (0, 0);
+    let (mut received, mut answered, mut idle) = (0, 0, 0);
     let mut in_order = true;
-    for _ in rt.forever() {
-        if answered >= PASSES {
+    for _ in 0..u64::MAX {
+        if answered >= PASSES || idle >= PATIENCE {
             break;
         }
-        if received < PASSES && far.held() < depth {
+        idle += 1;
+        if received < PASSES && !far.is_full() {
             match far.receive() {
                 Some(next) => {
                     in_order = in_order && next == delivery(received);
                     received += 1;
+                    idle = 0;
                 }
                 None => thread::yield_now(),
             }
@@ -207,26 +214,25 @@ fn hold(rt: &impl Wait, far: Far, depth: usize) -> (Far, bool)
         if let Some((_, number)) = far.oldest() {
             if far.answer(reply(Op::Forward, number)).is_ok() {
                 answered += 1;
+                idle = 0;
             }
         }
     }
-    (far, in_order)
+    (far, in_order && answered == PASSES)
 }
 
 /// Runs both ends at once; whether all came in order and nothing is left.
-fn pass_across<R: Threads + Wait + Sync>(rt: &R, near: Near, far: Far, depth: usize) -> bool
-    requires lane { near_id near ≡ far_id far }
-    requires depth { (far_id far).depth ≡ depth }
+fn pass_across<R: Threads + Sync>(rt: &R, near: Near, far: Far) -> bool
+    requires { near_id near ≡ far_id far }
 {
     let ((near, replies_in_order), (far, deliveries_in_order)) = thread::join(
         rt,
         move || -> (Near, bool)
             ensures { near_id result.0 ≡ near_id near }
-        { schedule(rt, near) },
+        { schedule(near) },
         move || -> (Far, bool)
-            requires { (far_id far).depth ≡ depth }
             ensures { far_id result.0 ≡ far_id far }
-        { hold(rt, far, depth) },
+        { hold(far) },
     );
     let mut rests = beside(near, far);
     let is_empty = rests.next_undelivered().is_none()
@@ -239,7 +245,7 @@ fn pass_across<R: Threads + Wait + Sync>(rt: &R, near: Near, far: Far, depth: us
 fn two_threads(rt: HostRuntime) -> Result<(), Fail> {
     for depth in [1, 7, 64] {
         let (near, far) = lane(rt.alloc(), depth, 5)?;
-        assert!(rt; pass_across(&rt, near, far, depth), "depth {depth}");
+        assert!(rt; pass_across(&rt, near, far), "depth {depth}");
     }
     Ok(())
 }

@@ -1,9 +1,9 @@
-//! The calls in one thread, and four threads that draw and give back at once.
+//! The credit pool: the calls in one thread, and four threads that draw and give back at once.
 ghost use Rattle.std.specs.Prelude.{◌≡◌, ◌+◌, ◌≤◌, ◌^◌};
 ghost use Rattle.credit_pool.specs.Accounts.{Stays};
 ghost use Rattle.credit_pool.specs.Pool.{account, limit_of, IsSeatOf};
 
-use crate::{CreditSeat, Credits, Draw, Give};
+use credit_pool::{CreditSeat, Credits, Draw, Give};
 use std::test::Fail;
 use std::thread::{Threads, join};
 

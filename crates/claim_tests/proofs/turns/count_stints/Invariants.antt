@@ -1,7 +1,7 @@
 use Rattle.std.proofs.Common.{◌≡◌}
 use Rattle.flow_claims.specs.Seats.{HoldsNone}
 use Rattle.flow_claims.specs.Claims.{seating, port_of, IsSeatOf}
-use Rattle.flow_claims.proofs.tests.count_stints.Given as goal
+use Rattle.claim_tests.proofs.turns.count_stints.Given as goal
 
 abbrev pub invariant-loop-lane : goal.invariant-loop-lane
 invariant-loop-lane l =

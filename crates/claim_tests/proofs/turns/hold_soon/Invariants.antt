@@ -1,7 +1,7 @@
 use Rattle.std.proofs.Common.{◌≡◌}
 use Rattle.flow_claims.specs.Seats.{HoldsNone}
 use Rattle.flow_claims.specs.Claims.{seating, port_of, IsSeatOf}
-use Rattle.flow_claims.proofs.tests.hold_soon.Given as goal
+use Rattle.claim_tests.proofs.turns.hold_soon.Given as goal
 
 abbrev pub invariant-loop : goal.invariant-loop
 invariant-loop l =

@@ -1,7 +1,7 @@
 use Rattle.std.proofs.Common.{◌≡◌}
 use Rattle.flow_claims.specs.Seats.{HoldsNone}
 use Rattle.flow_claims.specs.Claims.{seating, port_of, IsSeatOf}
-use Rattle.flow_claims.proofs.tests.take_turns.Given as goal
+use Rattle.claim_tests.proofs.turns.take_turns.Given as goal
 
 abbrev pub invariant-loop-turn : goal.invariant-loop-turn
 invariant-loop-turn l =

@@ -1,15 +1,12 @@
 -- What the rule says of a board: holders, numbers and lists of stints.
-use Rattle.std.proofs.Common.{◌≡◌, ◌≢◌, ℕ, zero, suc, ◌+◌, ◌*◌, ◌/◌, ◌%◌, ◌<◌, ◌≤◌, ◌⊎◌, inl, inr, ⊎_elim, Bool, true, false, List, [], ◌∷◌, ◌++◌, length, get_or, slice_get, Option, Some, None, All, Contains, refl, sym, ap, ◌∙◌, subst, arith, sum_by}
+use Rattle.std.proofs.Common.{◌≡◌, ◌≢◌, ℕ, suc, ◌+◌, ◌/◌, ◌%◌, ◌<◌, ◌≤◌, ◌⊎◌, inl, inr, ⊎_elim, List, [], length, get_or, slice_get, Option, Some, None, All, Contains, refl, sym, ◌∙◌, subst, arith, sum_by}
 use Rattle.std.specs.List.{range_with_len}
 use Rattle.std.proofs.lemmas.List.Elements.{All-contains, All-weaker}
 use Rattle.std.proofs.lemmas.Option.{none-some}
-use mathlib.Core.Option as O
-use mathlib.Core.Logic.{dite}
-use native.Mathlib.Decide.{ℕ_discrete, dec_le}
+use native.Mathlib.Decide.{dec_le}
 use lib.ListN.{get_elem?}
 use Rattle.lane_rings.specs.Ends.{unanswered}
 use Rattle.lane_rings.specs.declared.far.Far.{Far}
-use Rattle.seat_sums.specs.Sums.{count}
 use Rattle.seat_sums.proofs.Sums.{All-at, term_le, terms_le}
 use Rattle.seat_sums.proofs.Counts.{of_count}
 use Rattle.flow_claims.specs.declared.seating.Begun.{Begun}
@@ -18,12 +15,12 @@ use Rattle.flow_claims.specs.declared.seating.Seating.{Seating}
 use Rattle.flow_claims.specs.Lists.{no_lists, GoesOn}
 use Rattle.flow_claims.specs.Stints.{IsDone, IsRecordFrom, at_lane, times, gives_up, stints_of, below}
 use Rattle.flow_claims.specs.Seats.{find_lane, stint_at, first_seating}
-use Rattle.flow_claims.specs.Rule.{Board, word_at, home_at, busy, opens, closed_by, IsLane, IsHeld, IsSeat, Claimed}
-use Rattle.flow_claims.specs.Laws.{Sits, IsAtHome, IsAway, IsHeldByOne, IsInOneList, WasClosed, WasSurrendered}
+use Rattle.flow_claims.specs.Rule.{Board, word_at, home_at, busy, opens, closed_by, IsHeld, IsSeat, Claimed}
+use Rattle.flow_claims.specs.Laws.{Sits, IsAtHome, IsHeldByOne, IsInOneList, WasClosed, WasSurrendered}
 use Rattle.flow_claims.proofs.Choices.{some_term, All-place}
 use Rattle.flow_claims.proofs.Held.{found_lane, found_has, none_found, none_open}
 use Rattle.flow_claims.proofs.Records.{some_stint, record_start, record_next, record_grows, last_is}
-use Rattle.flow_claims.proofs.WordReads.{busy_le, busy_free, busy_over, busy_held, sum_of_ones, reads}
+use Rattle.flow_claims.proofs.WordReads.{busy_free, busy_over, busy_held, sum_of_ones, reads}
 use Rattle.flow_claims.proofs.Keeps.{at_most_one}
 use Rattle.flow_claims.proofs.ByLane.{sum_by_key}
 

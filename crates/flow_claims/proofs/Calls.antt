@@ -1,11 +1,10 @@
 -- What the steps of a call make of a seat, put together.
-use Rattle.std.proofs.Common.{◌≡◌, ◌≢◌, ℕ, zero, suc, ◌+◌, ◌-◌, ◌*◌, ◌/◌, ◌%◌, ◌<◌, ◌≤◌, Bool, eqb, List, [], ◌∷◌, ◌++◌, map, length, drop, take, reverse, get_or, slice_get, Option, Some, None, All, refl, sym, ap, ◌∙◌, subst, arith, append-nil, append_assoc}
+use Rattle.std.proofs.Common.{◌≡◌, ◌≢◌, ℕ, zero, suc, ◌+◌, ◌-◌, ◌*◌, ◌/◌, ◌%◌, ◌<◌, Bool, eqb, List, [], ◌∷◌, ◌++◌, map, length, drop, take, reverse, get_or, slice_get, Option, Some, None, All, refl, sym, ap, ◌∙◌, subst, arith, append-nil, append_assoc}
 use Rattle.std.proofs.lemmas.List.{drop_all, length-map, length-append, length-take, map_push, take_more, reverse-append}
 use Rattle.std.proofs.lemmas.Option.{none-some, same_Some, slice_get_within, get_or_from_slice_get}
 use Rattle.std.proofs.lemmas.List.Elements.{All-append, All-push}
 use mathlib.Core.Option as O
 use Rattle.atomic_table.specs.Table.{step, rest}
-use Rattle.lane_rings.specs.Ends.{unanswered}
 use Rattle.lane_rings.specs.Identity.{far_id}
 use Rattle.lane_rings.specs.declared.far.Far.{Far}
 use Rattle.flow_claims.specs.declared.seating.Begun.{Begun}

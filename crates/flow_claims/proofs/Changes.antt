@@ -1,13 +1,13 @@
 -- What a step of a seat, a split or a join may change.
-use Rattle.std.proofs.Common.{◌≡◌, ◌≢◌, ℕ, ◌+◌, ◌*◌, ◌/◌, ◌%◌, ◌<◌, ◌≤◌, ◌⊎◌, ⊎_elim, Bool, eqb, List, [], ◌∷◌, ◌++◌, length, set, get_or, Option, Some, None, All, refl, sym, ap, ◌∙◌, subst, arith, sum_by, append-nil}
-use Rattle.std.proofs.lemmas.List.Sums.{sum_by-cons, sum_by-append}
+use Rattle.std.proofs.Common.{◌≡◌, ◌≢◌, ℕ, ◌+◌, ◌/◌, ◌%◌, ◌<◌, ◌≤◌, ⊎_elim, Bool, eqb, List, [], ◌∷◌, ◌++◌, length, set, Option, Some, None, refl, sym, ap, ◌∙◌, subst, arith, sum_by, append-nil}
+use Rattle.std.proofs.lemmas.List.Sums.{sum_by-append}
 use Rattle.std.proofs.lemmas.List.Elements.{All-nil, All-cons, All-contains}
 use mathlib.Core.Option as O
 use mathlib.Core.Option.{some-injective}
 use mathlib.Core.Logic.{dite}
 use native.Mathlib.Decide.{ℕ_discrete, dec_le}
 use lib.ListN.{get_elem?}
-use Rattle.atomic_table.proofs.Lists.{set_here, set_else}
+use Rattle.atomic_table.proofs.Lists.{set_here}
 use Rattle.lane_rings.specs.declared.far.Far.{Far}
 use Rattle.seat_sums.proofs.Sums.{sum_by-changed, sum_by-split, sum_by-joined, place_below, other_place}
 use Rattle.flow_claims.specs.declared.seating.Begun.{Begun}
@@ -15,13 +15,13 @@ use Rattle.flow_claims.specs.declared.seating.Past.{Past}
 use Rattle.flow_claims.specs.declared.seating.Seating.{Seating}
 use Rattle.flow_claims.specs.Stints.{at_lane, gives_up, stints_of, below}
 use Rattle.flow_claims.specs.Seats.{find_lane, stint_at, past_of, rest_of, part_of, after_join, spent_seating}
-use Rattle.flow_claims.specs.Rule.{Board, word_at, closed_by, Claimed}
-use Rattle.flow_claims.specs.Steps.{Sitting, WordStep, Probes, Begins, Fronts, Finishes, Closes, in_hand, ends_first}
+use Rattle.flow_claims.specs.Rule.{Board, word_at, closed_by}
+use Rattle.flow_claims.specs.Steps.{Sitting, WordStep, Begins, Finishes, Closes, in_hand, ends_first}
 use Rattle.flow_claims.specs.Laws.{Sits, IsKind, IsStep, WereOpen, MayChange, SameInAll}
 use Rattle.flow_claims.proofs.Held.{found_here}
 use Rattle.flow_claims.proofs.Records.{some_stint}
 use Rattle.flow_claims.proofs.WordReads.{given_up}
-use Rattle.flow_claims.proofs.Boards.{Knows, knows, counts}
+use Rattle.flow_claims.proofs.Boards.{knows, counts}
 
 -- what a step leaves of what the seat knows: its finished stints, of which it has more only where they were open
 pub record Advances (v w : Seating) : Type 0 where

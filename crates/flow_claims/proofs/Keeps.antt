@@ -1,28 +1,28 @@
 -- Each kind of step on a port's way keeps the rule, whatever the board is when the word changes, and tells the seat what its `Play` says.
-use Rattle.std.proofs.Common.{◌≡◌, ◌≢◌, ℕ, ◌+◌, ◌-◌, ◌*◌, ◌/◌, ◌%◌, ◌<◌, ◌≤◌, ◌⊎◌, inl, inr, ⊎_elim, Bool, true, false, cond, eqb, List, [], ◌∷◌, ◌++◌, map, length, drop, set, get_or, slice_get, Option, Some, None, All, Contains, refl, sym, ap, ◌∙◌, subst, arith, eq-eqb, ne_eqb, eqb-true, append-nil, sum_by}
-use Rattle.std.proofs.lemmas.List.{set-get_or, length-set, length-append}
-use Rattle.std.proofs.lemmas.List.Elements.{All-nil, All-cons, All-head, All-tail, All-weaker, All-contains, All-contains_itself, All-push, Contains-push}
+use Rattle.std.proofs.Common.{◌≡◌, ◌≢◌, ℕ, ◌+◌, ◌-◌, ◌*◌, ◌/◌, ◌%◌, ◌<◌, ◌≤◌, ◌⊎◌, inl, inr, ⊎_elim, Bool, true, eqb, List, [], ◌∷◌, ◌++◌, map, length, set, get_or, slice_get, Option, Some, All, Contains, refl, sym, ap, ◌∙◌, subst, arith, eq-eqb, ne_eqb, eqb-true, append-nil, sum_by}
+use Rattle.std.proofs.lemmas.List.{set-get_or, length-append}
+use Rattle.std.proofs.lemmas.List.Elements.{All-nil, All-cons, All-head, All-tail, All-weaker, All-contains_itself, All-push}
 use mathlib.Core.Option as O
 use native.Mathlib.Decide.{dec_le}
 use lib.ListN.{get_elem?}
 use prog.Atomic.{either}
-use Rattle.atomic_table.specs.Table.{step, Act, keeps, takes, gives, rest, Valid, homes_after, carried_after, stepped, Allows}
+use Rattle.atomic_table.specs.Table.{step, Act, keeps, takes, gives, Valid, homes_after, carried_after, stepped, Allows}
 use Rattle.atomic_table.proofs.Lists.{exchanged}
 use Rattle.lane_rings.specs.Ends.{unanswered}
 use Rattle.lane_rings.specs.declared.far.Far.{Far}
 use Rattle.seat_sums.specs.Sums.{count}
-use Rattle.std.proofs.lemmas.List.Sums.{sum_by-cons, sum_by-append}
-use Rattle.seat_sums.proofs.Sums.{All-at, sum_by-changed, terms_le, term_le}
+use Rattle.std.proofs.lemmas.List.Sums.{sum_by-append}
+use Rattle.seat_sums.proofs.Sums.{All-at, sum_by-changed, term_le}
 use Rattle.flow_claims.specs.declared.seating.Begun.{Begun}
 use Rattle.flow_claims.specs.declared.seating.Past.{Past}
 use Rattle.flow_claims.specs.declared.seating.Seating.{Seating}
 use Rattle.flow_claims.specs.Lists.{lists_of, no_lists, GoesOn, IsOf}
-use Rattle.flow_claims.specs.Stints.{last_end, IsDone, IsRecordFrom, gives_up}
+use Rattle.flow_claims.specs.Stints.{IsDone, gives_up}
 use Rattle.flow_claims.specs.Seats.{find_lane, without, fronted, slot_of, begun_by, past_of, after_look, after_begin, after_front}
 use Rattle.flow_claims.specs.Rule.{Board, word_at, home_at, busy, opens, closed_by, IsHome, IsLane, IsHeld, IsSeat, Claimed}
 use Rattle.flow_claims.specs.Steps.{Sitting, Probes, Begins, Fronts, Finishes, in_hand, ends_first}
 use Rattle.flow_claims.proofs.Choices.{get_last}
-use Rattle.flow_claims.proofs.Held.{found_lane, found_has, sum_without, All-without, none_found, none_of_lane, opens_first, opens_other, opens_here, opens_more, fronted_is}
+use Rattle.flow_claims.proofs.Held.{found_has, sum_without, All-without, none_found, none_of_lane, opens_first, opens_other, opens_more, fronted_is}
 use Rattle.flow_claims.proofs.Records.{record_more, last_more}
 use Rattle.flow_claims.proofs.Slots.{Brings, bring, brings}
 use Rattle.flow_claims.proofs.WordReads.{busy_le, busy_free, busy_over, busy_held, reads}

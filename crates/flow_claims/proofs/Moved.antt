@@ -1,7 +1,7 @@
 -- The rule after one view changed, and after one lane's word, slot and record changed with one view.
-use Rattle.std.proofs.Common.{◌≡◌, ◌≢◌, ℕ, ◌+◌, ◌-◌, ◌*◌, ◌/◌, ◌%◌, ◌<◌, ◌≤◌, ◌⊎◌, inl, inr, ⊎_elim, Bool, true, false, cond, eqb, List, [], ◌∷◌, ◌++◌, length, set, get_or, slice_get, Option, Some, None, All, Contains, refl, sym, ap, ◌∙◌, subst, arith, eq-eqb, ne_eqb, sum_by}
+use Rattle.std.proofs.Common.{◌≡◌, ◌≢◌, ℕ, ◌+◌, ◌<◌, inl, inr, ⊎_elim, cond, eqb, List, ◌++◌, length, set, get_or, slice_get, Option, Some, All, Contains, sym, ap, ◌∙◌, subst, arith, eq-eqb, ne_eqb, sum_by}
 use Rattle.std.proofs.lemmas.List.{length-set, get_or-set_same, get_or-set_other}
-use Rattle.std.proofs.lemmas.List.Elements.{All-nil, All-append, All-contains, All-weaker}
+use Rattle.std.proofs.lemmas.List.Elements.{All-append, All-contains, All-weaker}
 use mathlib.Core.Option as O
 use mathlib.Core.Logic.{dite}
 use native.Mathlib.Decide.{ℕ_discrete}
@@ -9,15 +9,15 @@ use lib.ListN.{get_elem?}
 use Rattle.atomic_table.proofs.Lists.{set_here, set_else}
 use Rattle.lane_rings.specs.declared.far.Far.{Far}
 use Rattle.seat_sums.specs.Sums.{count}
-use Rattle.std.proofs.lemmas.List.Sums.{sum_by-cons, sum_by-append}
-use Rattle.seat_sums.proofs.Sums.{All-at, sum_by-changed, terms_le, term_le, place_below}
+use Rattle.std.proofs.lemmas.List.Sums.{sum_by-append}
+use Rattle.seat_sums.proofs.Sums.{All-at, sum_by-changed, terms_le}
 use Rattle.flow_claims.specs.declared.seating.Begun.{Begun}
 use Rattle.flow_claims.specs.declared.seating.Past.{Past}
 use Rattle.flow_claims.specs.declared.seating.Seating.{Seating}
 use Rattle.flow_claims.specs.Lists.{no_lists}
-use Rattle.flow_claims.specs.Stints.{IsRecordFrom, at_lane, times, below}
-use Rattle.flow_claims.specs.Rule.{Board, Home, word_at, home_at, busy, opens, closed_by, IsHome, IsLane, IsHeld, IsSpent, IsSeat, Claimed}
-use Rattle.flow_claims.proofs.Choices.{by_number, get_before, All-replaced, All-both}
+use Rattle.flow_claims.specs.Stints.{at_lane, times, below}
+use Rattle.flow_claims.specs.Rule.{Board, Home, word_at, home_at, busy, opens, closed_by, IsLane, IsHeld, IsSeat, Claimed}
+use Rattle.flow_claims.proofs.Choices.{get_before, All-replaced, All-both}
 use Rattle.flow_claims.proofs.Held.{none_of_lane}
 use Rattle.flow_claims.proofs.Records.{record_numbers, all_at_lane, none_at_lane}
 

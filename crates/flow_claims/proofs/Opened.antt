@@ -1,17 +1,14 @@
 -- Stints that are open in a seat: what the seat has of them, and that they stay open where it has the same.
-use Rattle.std.proofs.Common.{◌≡◌, ◌≢◌, ℕ, ◌+◌, ◌<◌, ◌≤◌, Bool, List, [], ◌∷◌, ◌++◌, length, drop, Option, Some, None, All, refl, sym, ap, ◌∙◌, subst, arith, append-nil}
-use Rattle.std.proofs.lemmas.List.{drop_all}
-use Rattle.std.proofs.lemmas.List.Elements.{All-cons, All-push}
+use Rattle.std.proofs.Common.{◌≡◌, ◌≢◌, ℕ, Bool, List, length, drop, Option, Some, None, All, refl, sym, ap, ◌∙◌, subst}
+use Rattle.std.proofs.lemmas.List.Elements.{All-push}
 use Rattle.std.proofs.lemmas.Option.{none-some, same_Some}
 use Rattle.lane_rings.specs.declared.far.Far.{Far}
 use Rattle.flow_claims.specs.declared.claim.Stint.{Stint}
 use Rattle.flow_claims.specs.declared.seating.Begun.{Begun}
-use Rattle.flow_claims.specs.declared.seating.LaneLists.{LaneLists}
-use Rattle.flow_claims.specs.declared.seating.Past.{Past}
 use Rattle.flow_claims.specs.declared.seating.Seating.{Seating}
 use Rattle.flow_claims.specs.Lists.{lists_of, GoesOn, IsOf}
-use Rattle.flow_claims.specs.Seats.{stint_at, past_of, without, finished_by, after_end, IsPorts}
-use Rattle.flow_claims.specs.Open.{number_in, start_in, IsOpen, received_so_far, answered_so_far}
+use Rattle.flow_claims.specs.Seats.{stint_at, past_of, finished_by, after_end, IsPorts}
+use Rattle.flow_claims.specs.Open.{number_in, start_in, IsOpen}
 use Rattle.flow_claims.specs.Answers.{IsEnded}
 use Rattle.flow_claims.proofs.Held.{found_lane, found_has, All-without}
 

@@ -1,13 +1,13 @@
 -- A split and a join keep the rule.
-use Rattle.std.proofs.Common.{◌≡◌, ◌≢◌, ℕ, ◌+◌, ◌-◌, ◌<◌, ◌≤◌, List, [], ◌∷◌, ◌++◌, length, set, get_or, slice_get, Option, Some, All, refl, sym, ap, ◌∙◌, subst, arith, eqb, sum_by}
+use Rattle.std.proofs.Common.{◌≡◌, ℕ, ◌+◌, ◌<◌, List, [], ◌∷◌, ◌++◌, length, set, get_or, slice_get, Some, refl, sym, ap, ◌∙◌, arith, eqb, sum_by}
 use Rattle.std.proofs.lemmas.List.Elements.{All-nil, All-set, All-push, All-append}
 use mathlib.Core.Option as O
 use lib.ListN.{get_elem?}
 use Rattle.atomic_table.specs.Table.{Splits, Joins}
 use Rattle.lane_rings.specs.declared.far.Far.{Far}
 use Rattle.seat_sums.specs.Sums.{count}
-use Rattle.std.proofs.lemmas.List.Sums.{sum_by-cons, sum_by-append}
-use Rattle.seat_sums.proofs.Sums.{All-at, other_place, sum_by-changed, sum_by-split, sum_by-joined, terms_le}
+use Rattle.std.proofs.lemmas.List.Sums.{sum_by-append}
+use Rattle.seat_sums.proofs.Sums.{All-at, other_place, sum_by-split, sum_by-joined}
 use Rattle.flow_claims.specs.declared.seating.Begun.{Begun}
 use Rattle.flow_claims.specs.declared.seating.Past.{Past}
 use Rattle.flow_claims.specs.declared.seating.Seating.{Seating}

@@ -1,5 +1,5 @@
 -- The record of a lane: one stint more, its numbers, and its sums.
-use Rattle.std.proofs.Common.{◌≡◌, ◌≢◌, ℕ, zero, suc, ◌+◌, ◌<◌, ◌≤◌, Bool, true, false, cond, eqb, ◌==◌, nat_lt, List, [], ◌∷◌, ◌++◌, length, drop, slice_get, Option, Some, None, All, Contains, refl, sym, ap, ◌∙◌, subst, arith, eq-eqb, ne_eqb, ltb-true, ltb-false, append-nil, append_assoc, sum_by}
+use Rattle.std.proofs.Common.{◌≡◌, ◌≢◌, ℕ, zero, suc, ◌+◌, ◌<◌, ◌≤◌, Bool, true, false, cond, eqb, ◌==◌, nat_lt, List, [], ◌∷◌, ◌++◌, length, drop, slice_get, Some, All, Contains, refl, sym, ap, ◌∙◌, arith, eq-eqb, ne_eqb, ltb-true, ltb-false, append-nil, append_assoc, sum_by}
 use Rattle.std.proofs.lemmas.List.Elements.{All-nil, All-cons, All-head, All-tail}
 use Rattle.std.proofs.lemmas.Option.{none-some, same_Some}
 use Rattle.evt_types.specs.declared.event.Delivery.{Delivery}
@@ -8,7 +8,7 @@ use Rattle.seat_sums.specs.Sums.{count}
 use Rattle.std.proofs.lemmas.List.Sums.{sum_by-cons, sum_by-append}
 use Rattle.flow_claims.specs.declared.seating.LaneLists.{LaneLists}
 use Rattle.flow_claims.specs.declared.seating.Past.{Past}
-use Rattle.flow_claims.specs.Lists.{GoesOn, no_lists}
+use Rattle.flow_claims.specs.Lists.{GoesOn}
 use Rattle.flow_claims.specs.Stints.{last_end, IsDone, IsRecordFrom, at_lane, gives_up, below, left_in, received_in, answered_in, received_in_all, answered_in_all}
 use native.Mathlib.Decide.{dec_le}
 use Rattle.flow_claims.proofs.Choices.{by_number}

@@ -1,11 +1,11 @@
 -- The act by which the slot of a lane comes before the others that the seat has: they go home and are taken again, and it last.
-use Rattle.std.proofs.Common.{◌≡◌, ◌≢◌, ℕ, ◌+◌, ◌<◌, ◌≤◌, Bool, true, false, cond, eqb, ◌==◌, List, [], ◌∷◌, ◌++◌, map, set, Option, Some, None, All, refl, sym, ap, ◌∙◌, subst, subst₂, arith, option_to_list}
-use Rattle.std.proofs.lemmas.List.{set-set, set_comm, length-set}
-use Rattle.std.proofs.lemmas.List.Elements.{All-head, All-tail, All-cons}
+use Rattle.std.proofs.Common.{◌≡◌, ◌≢◌, ℕ, ◌≤◌, cond, ◌==◌, List, [], ◌∷◌, ◌++◌, map, set, Option, Some, None, All, refl, sym, ap, ◌∙◌, subst, subst₂, arith, option_to_list}
+use Rattle.std.proofs.lemmas.List.{set-set, set_comm}
+use Rattle.std.proofs.lemmas.List.Elements.{All-head, All-tail}
 use Rattle.std.proofs.lemmas.Option.{none-some}
 use mathlib.Core.Option as O
 use lib.ListN.{get_elem?}
-use Rattle.atomic_table.specs.Table.{Act, keeps, takes, gives, chain, rest, put_back, carried_after, homes_after, Valid}
+use Rattle.atomic_table.specs.Table.{Act, keeps, takes, gives, chain, rest, carried_after, homes_after, Valid}
 use Rattle.atomic_table.proofs.Lists.{set_here, set_else, set_again}
 use Rattle.seat_sums.proofs.Sums.{place_below}
 use Rattle.lane_rings.specs.declared.far.Far.{Far}

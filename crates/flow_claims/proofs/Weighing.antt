@@ -1,5 +1,5 @@
 -- What was received and answered in the open stints of a seat: nothing at the claim, and nothing of it is lost at the end.
-use Rattle.std.proofs.Common.{◌≡◌, ◌≢◌, ℕ, ◌+◌, ◌≤◌, Bool, List, [], ◌∷◌, ◌++◌, length, drop, Option, Some, None, All, refl, sym, ap, ◌∙◌, subst, arith, sum_by}
+use Rattle.std.proofs.Common.{◌≡◌, ◌≢◌, ℕ, Bool, List, [], ◌∷◌, length, drop, All, refl, ap, ◌∙◌, arith, sum_by}
 use Rattle.std.proofs.lemmas.List.{drop_all}
 use Rattle.std.proofs.lemmas.List.Sums.{sum_by-cons, sum_by-append}
 use Rattle.std.proofs.lemmas.List.Elements.{All-head, All-tail, All-weaker}
@@ -15,7 +15,7 @@ use Rattle.flow_claims.specs.declared.seating.Begun.{Begun}
 use Rattle.flow_claims.specs.declared.seating.Past.{Past}
 use Rattle.flow_claims.specs.declared.seating.Seating.{Seating}
 use Rattle.flow_claims.specs.Lists.{lists_of}
-use Rattle.flow_claims.specs.Seats.{stint_at, begun_by, after_look, after_begin}
+use Rattle.flow_claims.specs.Seats.{stint_at, begun_by}
 use Rattle.flow_claims.specs.Open.{start_in, IsOpen, received_so_far, answered_so_far}
 use Rattle.flow_claims.specs.Stints.{received_in, answered_in}
 use Rattle.flow_claims.specs.Weights.{weight_received, weight_answered, weight_received_so_far, weight_answered_so_far, received_weight, answered_weight}

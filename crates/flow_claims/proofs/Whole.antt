@@ -1,34 +1,29 @@
 -- A seat with all parts closes each lane in turn, and has the lane's whole record among its finished stints.
-use Rattle.std.proofs.Common.{◌≡◌, ◌≢◌, ℕ, zero, suc, ◌+◌, ◌-◌, ◌*◌, ◌/◌, ◌%◌, ◌<◌, ◌≤◌, ◌⊎◌, inl, inr, ⊎_elim, Bool, true, false, cond, eqb, nat_lt, List, [], ◌∷◌, ◌++◌, length, set, get_or, slice_get, Option, Some, None, All, Contains, refl, sym, ap, ◌∙◌, subst, arith, eq-eqb, ne_eqb, eqb-true, append-nil, sum_by}
-use Rattle.std.proofs.lemmas.List.Elements.{All-nil, All-cons, All-head, All-tail, All-weaker, All-contains, All-contains_itself, All-from_get_or}
-use Rattle.std.proofs.lemmas.Option.{none-some, same_Some, slice_get-get_or}
+use Rattle.std.proofs.Common.{◌≡◌, ◌≢◌, ℕ, ◌+◌, ◌*◌, ◌/◌, ◌%◌, ◌<◌, inl, ⊎_elim, true, eqb, List, [], ◌++◌, length, set, get_or, slice_get, Some, None, All, Contains, refl, sym, ap, ◌∙◌, subst, arith, ne_eqb, eqb-true, append-nil, sum_by}
+use Rattle.std.proofs.lemmas.List.Elements.{All-nil, All-weaker, All-contains, All-contains_itself}
+use Rattle.std.proofs.lemmas.Option.{same_Some, slice_get-get_or}
 use mathlib.Core.Option as O
 use lib.ListN.{get_elem?}
-use Rattle.atomic_table.specs.Table.{step, Act, keeps, takes, Allows}
+use Rattle.atomic_table.specs.Table.{step, takes, Allows}
 use Rattle.atomic_table.proofs.Lists.{set_here}
-use Rattle.evt_types.specs.declared.event.Delivery.{Delivery}
-use Rattle.evt_types.specs.declared.event.Reply.{Reply}
-use Rattle.lane_rings.specs.Ends.{received_by, answered}
 use Rattle.lane_rings.specs.declared.far.Far.{Far}
 use Rattle.seat_sums.specs.Sums.{count}
-use Rattle.std.proofs.lemmas.List.Sums.{sum_by-cons}
-use Rattle.seat_sums.proofs.Sums.{All-at, sum_by-changed, term_le, place_below}
-use Rattle.flow_claims.specs.declared.seating.Begun.{Begun}
+use Rattle.seat_sums.proofs.Sums.{All-at, term_le, place_below}
 use Rattle.flow_claims.specs.declared.seating.LaneLists.{LaneLists}
 use Rattle.flow_claims.specs.declared.seating.Past.{Past}
 use Rattle.flow_claims.specs.declared.seating.Seating.{Seating}
-use Rattle.flow_claims.specs.Lists.{no_lists, lists_of, IsOf}
-use Rattle.flow_claims.specs.Stints.{last_end, IsDone, IsRecordFrom, at_lane, times, gives_up, stints_of, below, left_in, received_in, answered_in}
+use Rattle.flow_claims.specs.Lists.{no_lists, lists_of}
+use Rattle.flow_claims.specs.Stints.{at_lane, times, gives_up, stints_of, below, left_in, received_in, answered_in}
 use Rattle.flow_claims.specs.Seats.{find_lane, after_close}
 use Rattle.flow_claims.specs.Ends.{IsEnd}
-use Rattle.flow_claims.specs.Rule.{Board, word_at, home_at, busy, opens, closed_by, IsHome, IsLane, IsHeld, IsSpent, IsSeat, Claimed}
+use Rattle.flow_claims.specs.Rule.{Board, word_at, home_at, busy, opens, closed_by, IsHome, IsLane, IsHeld, IsSeat, Claimed}
 use Rattle.flow_claims.specs.Steps.{Sitting, Closes}
 use Rattle.flow_claims.proofs.Choices.{by_number, All-place}
 use Rattle.flow_claims.proofs.Held.{none_open, none_of_lane}
 use Rattle.seat_sums.proofs.Counts.{of_count}
 use Rattle.flow_claims.proofs.Records.{below_step, some_stint, sums_received, sums_answered, pieces_received, pieces_answered, last_is, all_settled}
 use Rattle.flow_claims.proofs.Moved.{MayFollow, moved}
-use Rattle.flow_claims.proofs.WordReads.{busy_over, busy_held, not_below, all_finished, none_closed, busy_is, counted_all}
+use Rattle.flow_claims.proofs.WordReads.{busy_over, busy_held, all_finished, none_closed, busy_is, counted_all}
 
 -- a stint that is counted is there
 found : (lane number : ℕ) (ps : List Past) → times lane number ps ≡ 1 → (p : Past) × Contains ps p × (p.lane ≡ lane) × (p.number ≡ number)

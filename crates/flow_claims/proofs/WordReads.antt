@@ -1,5 +1,5 @@
 -- What a lane's word tells a seat: of its own stints, and with all parts of all stints.
-use Rattle.std.proofs.Common.{◌≡◌, ◌≢◌, ℕ, ◌+◌, ◌*◌, ◌/◌, ◌%◌, ◌<◌, ◌≤◌, ⊎_elim, Bool, true, false, cond, eqb, List, [], ◌∷◌, length, get_or, Some, None, All, refl, sym, ap, ◌∙◌, subst, arith, sum_by, eq-eqb, ne_eqb}
+use Rattle.std.proofs.Common.{◌≡◌, ◌≢◌, ℕ, ◌/◌, ◌%◌, ◌<◌, ◌≤◌, ⊎_elim, Bool, true, false, cond, eqb, List, [], ◌∷◌, length, get_or, All, refl, sym, ap, ◌∙◌, subst, arith, sum_by, eq-eqb, ne_eqb}
 use Rattle.std.proofs.lemmas.List.Sums.{sum_by-cons}
 use Rattle.std.proofs.lemmas.List.Elements.{All-head, All-tail, All-weaker}
 use mathlib.Core.Option as O
@@ -10,8 +10,8 @@ use Rattle.seat_sums.proofs.Sums.{All-at, all_of, term_le}
 use Rattle.flow_claims.specs.declared.seating.Begun.{Begun}
 use Rattle.flow_claims.specs.declared.seating.Past.{Past}
 use Rattle.flow_claims.specs.declared.seating.Seating.{Seating}
-use Rattle.flow_claims.specs.Stints.{at_lane, gives_up, stints_of, surrenders, below}
-use Rattle.flow_claims.specs.Seats.{find_lane, stint_at, IsLeft}
+use Rattle.flow_claims.specs.Stints.{at_lane, gives_up, stints_of, below}
+use Rattle.flow_claims.specs.Seats.{IsLeft}
 use Rattle.flow_claims.specs.Rule.{Board, word_at, home_at, busy, opens, closed_by, IsLane, IsHeld, IsSpent, IsSeat, Claimed}
 use Rattle.flow_claims.specs.Steps.{Reads}
 use Rattle.flow_claims.proofs.Choices.{by_number}

@@ -1,9 +1,7 @@
 -- What an answer of a claim says of the seat before and after, and what the end of a stint does. A refusal carries what the seat
 -- read, and leaves all stints.
-use Rattle.std.specs.Prelude.{◌≡◌, ◌≢◌, ℕ, ◌+◌, ◌*◌, ◌/◌, ◌%◌, ◌<◌, Bool, List, [], ◌∷◌, ◌++◌, Option, All, sum_by}
-use Rattle.std.specs.Prelude.Option.{Some, None}
-use Rattle.evt_types.specs.declared.event.Delivery.{Delivery}
-use Rattle.evt_types.specs.declared.event.Reply.{Reply}
+use Rattle.std.specs.Prelude.{◌≡◌, ◌≢◌, ℕ, ◌*◌, ◌/◌, ◌%◌, Bool, List, [], ◌∷◌, ◌++◌, All}
+use Rattle.std.specs.Prelude.Option.{None}
 use Rattle.lane_rings.specs.Ends.{unanswered}
 use Rattle.lane_rings.specs.declared.far.Far.{Far}
 use Rattle.flow_claims.specs.declared.claim.Claim.{Claim}
@@ -16,7 +14,7 @@ use Rattle.flow_claims.specs.declared.seating.Past.{Past}
 use Rattle.flow_claims.specs.declared.seating.Seating.{Seating}
 use Rattle.flow_claims.specs.Lists.{lists_of, IsOf}
 use Rattle.flow_claims.specs.Stints.{received_in, answered_in, stints_of}
-use Rattle.flow_claims.specs.Seats.{begun_by, stint_at, after_look, after_begin, after_end, HasAll, IsShared, IsLeft, IsPorts}
+use Rattle.flow_claims.specs.Seats.{begun_by, stint_at, after_look, after_begin, after_end, IsShared, IsLeft, IsPorts}
 use Rattle.flow_claims.specs.Open.{IsOpen, received_so_far, answered_so_far}
 use Rattle.flow_claims.specs.Claims.{seating, port_of, IsSeatOf}
 

@@ -1,5 +1,5 @@
 -- The end of a lane once all seats are one, and the lane's record among the finished stints.
-use Rattle.std.specs.Prelude.{◌≡◌, ℕ, List, [], Option, length, slice_get, true, All, Contains, sum_by}
+use Rattle.std.specs.Prelude.{◌≡◌, ℕ, List, [], length, slice_get, true, All, Contains, sum_by}
 use Rattle.std.specs.Prelude.Option.{Some}
 use Rattle.evt_types.specs.declared.event.Delivery.{Delivery}
 use Rattle.evt_types.specs.declared.event.Reply.{Reply}

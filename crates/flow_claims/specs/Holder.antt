@@ -1,5 +1,5 @@
 -- What a call through a held lane's end does to the end, as `Far` says it.
-use Rattle.std.specs.Prelude.{◌≡◌, ◌↔◌, true, List, [], ◌∷◌, ◌++◌, drop, Option, Result, IfErr, IfNone, MatchOption, MatchResult}
+use Rattle.std.specs.Prelude.{◌≡◌, ◌↔◌, true, [], ◌∷◌, ◌++◌, drop, Option, Result, IfErr, IfNone, MatchOption, MatchResult}
 use Rattle.std.specs.Prelude.Option.{Some}
 use Rattle.std.specs.Prelude.Result.{Err}
 use Rattle.evt_types.specs.Operation.{is_answer}

@@ -1,18 +1,27 @@
 -- What the laws say of a board: the words, slots and views as they are between two steps of any seats.
-use Rattle.std.specs.Prelude.{◌≡◌, ◌≢◌, ℕ, ◌+◌, ◌*◌, ◌/◌, ◌%◌, ◌<◌, ◌≤◌, ◌⊎◌, true, List, [], ◌∷◌, ◌++◌, Option, length, slice_set, All, Contains, sum_by}
+use Rattle.std.specs.Prelude.{◌≡◌, ◌≢◌, ℕ, ◌+◌, ◌*◌, ◌/◌, ◌%◌, ◌<◌, ◌≤◌, ◌⊎◌, true, List, [], ◌++◌, length, map, replicate, slice_set, All, Contains, sum_by}
 use Rattle.std.specs.Prelude.Option.{Some, None}
 use mathlib.Core.Option as O
 use lib.ListN.{get_elem?}
-use Rattle.lane_rings.specs.Ends.{unanswered}
+use Rattle.atomic_table.specs.Table.{opening}
+use Rattle.lane_rings.specs.Ends.{received_by, answered}
 use Rattle.lane_rings.specs.declared.far.Far.{Far}
 use Rattle.flow_claims.specs.declared.seating.Begun.{Begun}
 use Rattle.flow_claims.specs.declared.seating.Past.{Past}
 use Rattle.flow_claims.specs.declared.seating.Seating.{Seating}
 use Rattle.flow_claims.specs.Lists.{IsOf}
 use Rattle.flow_claims.specs.Stints.{times}
-use Rattle.flow_claims.specs.Seats.{stint_at}
+use Rattle.flow_claims.specs.Seats.{stint_at, first_seating}
 use Rattle.flow_claims.specs.Rule.{Board, Claimed, word_at, home_at}
 use Rattle.flow_claims.specs.Steps.{Sitting, WordStep, Probes, Begins, Fronts, Finishes, Closes}
+
+-- the board with which claims over these lanes begin: a word 0 for each lane and one more, all ends at home, and the first seat
+abbrev pub first_board : List Far → Board
+first_board lanes = opening (replicate (length lanes + 1) 0) (map Some lanes) (first_seating lanes)
+
+-- nothing was received or answered at the end
+abbrev pub IsUnused : Far → Type 0
+IsUnused far = (received_by far ≡ []) × (answered far ≡ [])
 
 -- the seat of that number knows this
 abbrev pub Sits : Board → ℕ → Seating → Type 0

@@ -1,5 +1,5 @@
 -- A stint that is open in a seat, and what was received and answered in it so far.
-use Rattle.std.specs.Prelude.{◌≡◌, ℕ, ◌+◌, List, length, drop, Option, sum_by}
+use Rattle.std.specs.Prelude.{◌≡◌, ℕ, List, length, drop, Option}
 use Rattle.std.specs.Prelude.Option.{Some, None}
 use Rattle.evt_types.specs.declared.event.Delivery.{Delivery}
 use Rattle.evt_types.specs.declared.event.Reply.{Reply}

@@ -1,8 +1,8 @@
 -- The rule of the claim words, which holds between any two steps of any seats.
 -- A lane's word is 256 k where it is free after k stints, 256 k + p + 1 while port p has stint k, and 256 k + 255 where it was
 -- surrendered or closed after k stints.
-use Rattle.std.specs.Prelude.{◌≡◌, ℕ, ◌+◌, ◌*◌, ◌/◌, ◌%◌, ◌<◌, ◌⊎◌, Bool, ◌==◌, cond, true, List, [], Option, length, slice_get, slice_index, All, sum_by}
-use Rattle.std.specs.Prelude.Option.{Some, None}
+use Rattle.std.specs.Prelude.{◌≡◌, ℕ, ◌+◌, ◌*◌, ◌/◌, ◌%◌, ◌<◌, ◌⊎◌, ◌==◌, cond, true, List, [], Option, length, slice_get, slice_index, All, sum_by}
+use Rattle.std.specs.Prelude.Option.{Some}
 use mathlib.Core.Option as O
 use lib.ListN.{get_elem?}
 use Rattle.atomic_table.specs.Table.{State}

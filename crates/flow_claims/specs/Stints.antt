@@ -1,5 +1,5 @@
 -- Finished stints, and the record that those of a lane make.
-use Rattle.std.specs.Prelude.{◌≡◌, ℕ, ◌+◌, ◌<◌, Bool, cond, nat_lt, ◌==◌, List, [], ◌∷◌, length, drop, true, false, flat_map, All, sum_by}
+use Rattle.std.specs.Prelude.{◌≡◌, ℕ, ◌+◌, ◌<◌, cond, nat_lt, ◌==◌, List, [], ◌∷◌, length, drop, true, false, flat_map, All, sum_by}
 use Rattle.evt_types.specs.declared.event.Delivery.{Delivery}
 use Rattle.evt_types.specs.declared.event.Reply.{Reply}
 use Rattle.lane_rings.specs.Ends.{answers_among}

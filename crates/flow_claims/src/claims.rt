@@ -56,12 +56,13 @@ impl Claims {
     ghost use Rattle.flow_claims.specs.Weights.{weight_received, weight_answered};
     ghost use Rattle.flow_claims.specs.Ends.{IsEnd};
     ghost use Rattle.flow_claims.specs.Steps.{Reads};
+    ghost use Rattle.flow_claims.specs.Laws.{IsUnused};
     ghost use Rattle.flow_claims.specs.Claims.{seating, port_of, lanes_of, claims_id, IsSeatOf};
 
     /// Claims over these lanes, none of which a port holds, and the first seat, which belongs to no port and has all 64 parts.
     /// After want of memory the ends come back in their order.
     pub fn new(alloc: Global, ends: Vec<Far>) -> Result<(Claims, ClaimSeat), (Memory, Vec<Far>)>
-        requires { All (λ far. (received_by far ≡ []) × (answered far ≡ [])) ends.items }
+        requires { All IsUnused ends.items }
         ensures lanes { IfOk result (λ r. lanes_of r.0 ≡ ends.items) }
         ensures seat { IfOk result (λ r. IsSeatOf r.0 r.1 × (port_of r.1 ≡ 254)) }
         ensures seating { IfOk result (λ r. seating r.1 ≡ first_seating ends.items) }

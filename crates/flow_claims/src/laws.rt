@@ -21,7 +21,7 @@ ghost use Rattle.flow_claims.specs.Claims.{seating};
 ghost use Rattle.flow_claims.specs.Open.{IsOpen};
 ghost use Rattle.flow_claims.specs.Answers.{AnswersClaim, EndsStint};
 ghost use Rattle.flow_claims.specs.Weights.{received_weight, answered_weight};
-ghost use Rattle.flow_claims.specs.Laws.{Sits, IsAtHome, IsAway, IsHeldByOne, IsInOneList, WasClosed, WasSurrendered, IsStep, MayChange, SameInAll};
+ghost use Rattle.flow_claims.specs.Laws.{first_board, IsUnused, Sits, IsAtHome, IsAway, IsHeldByOne, IsInOneList, WasClosed, WasSurrendered, IsStep, MayChange, SameInAll};
 
 /// A lane has one holder at a time, whose port its word names: where the word says neither free nor over, one seat has one open stint
 /// of the lane and no other seat has one; where it says free or over, no seat has one.
@@ -39,9 +39,10 @@ pub fn a_lane_at_home_is_settled()
     ensures over { (lanes : List Far) (s : Board) (lane : ℕ) → Claimed lanes s → lane < length lanes → word_at s lane % 256 ≡ 255 → WasClosed s lane ⊎ WasSurrendered lanes s lane }
 {}
 
-/// Where the first seat has stepped on no word, each lane is free and has had no stint.
+/// The rule holds of the board with which claims begin. As long as the first seat knows no more, each lane is free and has had no stint.
 pub fn new_claims_are_free()
-    ensures { (lanes : List Far) (s : Board) (lane i : ℕ) → Claimed lanes s → Sits s i (first_seating lanes) → lane < length lanes → word_at s lane ≡ 0 }
+    ensures made { (lanes : List Far) → All IsUnused lanes → Claimed lanes (first_board lanes) }
+    ensures free { (lanes : List Far) (s : Board) (lane i : ℕ) → Claimed lanes s → Sits s i (first_seating lanes) → lane < length lanes → word_at s lane ≡ 0 }
 {}
 
 /// A lane's stints are numbered without a gap: where its word counts k of them, each number below k is in just one seat's list of

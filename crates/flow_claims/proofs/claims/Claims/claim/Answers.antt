@@ -1,5 +1,5 @@
 -- A stint that was taken is open, and what the reads tell.
-use Rattle.std.proofs.Common.{rules, ◌≡◌, ◌∙◌, ◌*◌, ◌/◌, ◌%◌, ℕ, refl, ap, subst}
+use Rattle.std.proofs.Common.{rules, ◌≡◌, ◌*◌, ◌/◌, ◌%◌, ℕ, refl, subst}
 use Rattle.flow_claims.specs.Seats.{after_look}
 use Rattle.flow_claims.specs.Claims.{seating, port_of}
 use Rattle.flow_claims.specs.Answers.{Taken}

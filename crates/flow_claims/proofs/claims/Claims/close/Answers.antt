@@ -1,5 +1,5 @@
 -- One lane more is closed, and at the end all stints weigh what all ends weigh.
-use Rattle.std.proofs.Common.{rules, ◌≡◌, ◌∙◌, ◌+◌, ◌<◌, ℕ, List, All, length, map, take, ap, subst, arith, sum_by}
+use Rattle.std.proofs.Common.{rules, ◌∙◌, ◌<◌, List, All, length, map, ap, subst, sum_by}
 use Rattle.lane_rings.specs.Ends.{received_by, answered}
 use Rattle.lane_rings.specs.Identity.{far_id}
 use Rattle.lane_rings.specs.declared.far.Far.{Far}
@@ -8,7 +8,7 @@ use Rattle.flow_claims.specs.Ends.{IsEnd}
 use Rattle.flow_claims.specs.Stints.{received_in, answered_in}
 use Rattle.flow_claims.specs.Claims.{seating, lanes_of}
 use Rattle.flow_claims.proofs.ByLane.{ends_weigh}
-use Rattle.flow_claims.proofs.Calls.{of_within, one_more, each_more, all_out}
+use Rattle.flow_claims.proofs.Calls.{one_more, each_more, all_out}
 use Rattle.flow_claims.proofs.claims.Claims.close.Goals as goal
 
 pub loop-lane-preserved : goal.loop-lane-preserved

@@ -1,5 +1,5 @@
 -- A lane is closed: a load shows how many stints it has had, and the swap takes its end.
-use Rattle.std.proofs.Common.{◌≡◌, ◌∙◌, ◌<◌, ◌/◌, Some, ap, sym, arith}
+use Rattle.std.proofs.Common.{◌∙◌, Some, ap, sym, arith}
 use Rattle.flow_claims.specs.Seats.{stint_at, find_lane}
 use Rattle.flow_claims.specs.Stints.{stints_of}
 use Rattle.flow_claims.proofs.Keeps.{probes}

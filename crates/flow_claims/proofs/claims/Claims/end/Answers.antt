@@ -1,5 +1,5 @@
 -- A stint ends: its slot comes in front, takes the end in, and goes back.
-use Rattle.std.proofs.Common.{◌≡◌, ◌∙◌, ◌<◌, None, ℕ, ◌*◌, ◌+◌, ◌%◌, ⊎_elim, eqb, refl, ap, sym, subst, length, List, arith}
+use Rattle.std.proofs.Common.{◌≡◌, ◌∙◌, None, ℕ, ◌*◌, ◌+◌, ◌%◌, ⊎_elim, eqb, refl, ap, subst, length, List, arith}
 use Rattle.lane_rings.specs.declared.far.Far.{Far}
 use Rattle.flow_claims.specs.Lists.{IsOf}
 use Rattle.flow_claims.specs.Seats.{without, past_of, finished_by, after_end}

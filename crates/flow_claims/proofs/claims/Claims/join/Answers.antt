@@ -1,8 +1,7 @@
 -- A join keeps the rule.
-use Rattle.std.proofs.Common.{rules, ◌≡◌, ◌++◌, ◌∙◌, [], map, ap, sym, subst, length, arith, append-nil, ◌<◌, ℕ, List, All}
-use Rattle.std.proofs.lemmas.List.Elements.{All-append}
+use Rattle.std.proofs.Common.{◌≡◌, ◌++◌, ◌∙◌, map, ap, sym, subst, arith, append-nil, List, All}
 use Rattle.flow_claims.specs.declared.seating.Begun.{Begun}
-use Rattle.flow_claims.specs.Seats.{slot_of, after_join}
+use Rattle.flow_claims.specs.Seats.{slot_of}
 use Rattle.flow_claims.proofs.Parts.{joins}
 use Rattle.flow_claims.proofs.Calls.{joined_slots, joined_lanes}
 use Rattle.flow_claims.proofs.claims.Claims.join.Goals as goal

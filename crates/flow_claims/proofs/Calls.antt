@@ -1,11 +1,10 @@
 -- What the steps of a call make of a seat, put together.
-use Rattle.std.proofs.Common.{◌≡◌, ◌≢◌, ℕ, zero, suc, ◌+◌, ◌-◌, ◌*◌, ◌/◌, ◌%◌, ◌<◌, ◌≤◌, Bool, eqb, List, [], ◌∷◌, ◌++◌, map, length, drop, take, reverse, get_or, slice_get, Option, Some, None, All, refl, sym, ap, ◌∙◌, subst, arith, append-nil, append_assoc}
+use Rattle.std.proofs.Common.{◌≡◌, ◌≢◌, ℕ, zero, suc, ◌+◌, ◌-◌, ◌*◌, ◌/◌, ◌%◌, ◌<◌, Bool, eqb, List, [], ◌∷◌, ◌++◌, map, length, drop, take, reverse, get_or, slice_get, Option, Some, None, All, refl, sym, ap, ◌∙◌, subst, arith, append-nil, append_assoc}
 use Rattle.std.proofs.lemmas.List.{drop_all, length-map, length-append, length-take, map_push, take_more, reverse-append}
 use Rattle.std.proofs.lemmas.Option.{none-some, same_Some, slice_get_within, get_or_from_slice_get}
 use Rattle.std.proofs.lemmas.List.Elements.{All-append, All-push}
 use mathlib.Core.Option as O
 use Rattle.atomic_table.specs.Table.{step, rest}
-use Rattle.lane_rings.specs.Ends.{unanswered}
 use Rattle.lane_rings.specs.Identity.{far_id}
 use Rattle.lane_rings.specs.declared.far.Far.{Far}
 use Rattle.flow_claims.specs.declared.seating.Begun.{Begun}
@@ -16,8 +15,10 @@ use Rattle.flow_claims.specs.declared.claim.Stint.{Stint}
 use Rattle.flow_claims.specs.Lists.{lists_of, GoesOn, IsOf}
 use Rattle.flow_claims.specs.Seats.{find_lane, without, fronted, stint_at, slot_of, begun_by, past_of, after_look, after_begin, after_front, finished_by, after_end, after_join}
 use Rattle.flow_claims.specs.Steps.{Sitting, Begins, Fronts, Finishes, in_hand, ends_first}
-use Rattle.flow_claims.specs.Answers.{IsOpen, Taken}
+use Rattle.flow_claims.specs.Open.{IsOpen}
+use Rattle.flow_claims.specs.Answers.{Taken}
 use Rattle.flow_claims.proofs.Held.{found_lane, found_here, find_other, fronted_is, without_first}
+use Rattle.flow_claims.proofs.Opened.{open_where}
 
 abbrev Slots : Type 0
 Slots = List (ℕ × Option Far)
@@ -59,13 +60,13 @@ pub taken_open : (port : ℕ) (stint : Stint) (v after : Seating) → Taken port
 taken_open port stint v after t =
     let b : Begun = begun_by port stint.lane stint.number stint.far in
     let Of : List Far → Type 0 = λ ls. IsOf ls stint.lane stint.far in
-    record {
+    open_where after stint
+    (record {
       begun = b;
       at = ap (λ (x : Seating). stint_at x stint.lane) t.0 ∙ found_here stint.lane b v.held refl;
       number = refl;
       goes_on = goes_on_itself (lists_of stint.far);
-      of_lane = subst Of (sym (ap (λ (x : Seating). x.lanes) t.0)) t.1;
-    }
+    }) (subst Of (sym (ap (λ (x : Seating). x.lanes) t.0)) t.1)
 
 -- the load of a claim, and the taking
 pub taken_after : (port lane word : ℕ) (far : Far) (v looked after : Seating) → looked ≡ after_look lane word v → word % 256 ≡ 0
@@ -185,6 +186,10 @@ one_more lanes ends lane far e of =
     map_push far_id ends far ∙ ap (λ l. l ++ far_id far ∷ []) e
     ∙ ap (λ x. take lane (map far_id lanes) ++ x ∷ []) (sym (get_or_from_slice_get (map far_id lanes) lane (far_id far) (far_id far) of))
     ∙ sym (take_more (map far_id lanes) lane (far_id far) (slice_get_within (map far_id lanes) lane (far_id far) of))
+
+-- as many ends are out as there are lanes
+pub all_out : (lanes ends : List Far) (lane : ℕ) → map far_id ends ≡ take lane (map far_id lanes) → lane ≡ length lanes → length ends ≡ length lanes
+all_out lanes ends lane order all = omega (arith, length-map ends far_id, ap length order, length-take lane (map far_id lanes), length-map lanes far_id, all)
 
 each_push : (P : ℕ → Far → Type 0) (xs : List Far) (x : Far) → ((i : ℕ) (y : Far) → slice_get xs i ≡ Some y → P i y) → P (length xs) x
     → (i : ℕ) (y : Far) → slice_get (xs ++ x ∷ []) i ≡ Some y → P i y

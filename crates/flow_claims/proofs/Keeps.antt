@@ -1,52 +1,32 @@
 -- Each kind of step on a port's way keeps the rule, whatever the board is when the word changes, and tells the seat what its `Play` says.
-use Rattle.std.proofs.Common.{◌≡◌, ◌≢◌, ℕ, ◌+◌, ◌-◌, ◌*◌, ◌/◌, ◌%◌, ◌<◌, ◌≤◌, ◌⊎◌, inl, inr, ⊎_elim, Bool, true, false, cond, eqb, List, [], ◌∷◌, ◌++◌, map, length, drop, set, get_or, slice_get, Option, Some, None, All, Contains, refl, sym, ap, ◌∙◌, subst, arith, eq-eqb, ne_eqb, eqb-true, append-nil}
-use Rattle.std.proofs.lemmas.List.{set-get_or, length-set, length-append}
-use Rattle.std.proofs.lemmas.List.Elements.{All-nil, All-cons, All-head, All-tail, All-weaker, All-contains, All-contains_itself, All-push, Contains-push}
+use Rattle.std.proofs.Common.{◌≡◌, ◌≢◌, ℕ, ◌+◌, ◌-◌, ◌*◌, ◌/◌, ◌%◌, ◌<◌, ◌≤◌, ◌⊎◌, inl, inr, ⊎_elim, Bool, true, eqb, List, [], ◌∷◌, ◌++◌, map, length, set, get_or, slice_get, Option, Some, All, Contains, refl, sym, ap, ◌∙◌, subst, arith, eq-eqb, ne_eqb, eqb-true, append-nil, sum_by}
+use Rattle.std.proofs.lemmas.List.{set-get_or, length-append}
+use Rattle.std.proofs.lemmas.List.Elements.{All-nil, All-cons, All-head, All-tail, All-weaker, All-contains_itself, All-push}
 use mathlib.Core.Option as O
 use native.Mathlib.Decide.{dec_le}
 use lib.ListN.{get_elem?}
 use prog.Atomic.{either}
-use Rattle.atomic_table.specs.Table.{step, Act, keeps, takes, gives, rest, Valid, homes_after, carried_after, stepped, Allows}
+use Rattle.atomic_table.specs.Table.{step, Act, keeps, takes, gives, Valid, homes_after, carried_after, stepped, Allows}
 use Rattle.atomic_table.proofs.Lists.{exchanged}
 use Rattle.lane_rings.specs.Ends.{unanswered}
 use Rattle.lane_rings.specs.declared.far.Far.{Far}
-use Rattle.seat_sums.specs.Sums.{total, count}
-use Rattle.seat_sums.proofs.Totals.{All-at, total-set, total-append, terms_le, term_le}
+use Rattle.seat_sums.specs.Sums.{count}
+use Rattle.std.proofs.lemmas.List.Sums.{sum_by-append}
+use Rattle.seat_sums.proofs.Sums.{All-at, sum_by-changed, term_le}
 use Rattle.flow_claims.specs.declared.seating.Begun.{Begun}
 use Rattle.flow_claims.specs.declared.seating.Past.{Past}
 use Rattle.flow_claims.specs.declared.seating.Seating.{Seating}
 use Rattle.flow_claims.specs.Lists.{lists_of, no_lists, GoesOn, IsOf}
-use Rattle.flow_claims.specs.Stints.{last_end, IsRecordFrom}
+use Rattle.flow_claims.specs.Stints.{IsDone, gives_up}
 use Rattle.flow_claims.specs.Seats.{find_lane, without, fronted, slot_of, begun_by, past_of, after_look, after_begin, after_front}
 use Rattle.flow_claims.specs.Rule.{Board, word_at, home_at, busy, opens, closed_by, IsHome, IsLane, IsHeld, IsSeat, Claimed}
 use Rattle.flow_claims.specs.Steps.{Sitting, Probes, Begins, Fronts, Finishes, in_hand, ends_first}
 use Rattle.flow_claims.proofs.Choices.{get_last}
-use Rattle.flow_claims.proofs.Held.{found_lane, found_has, total_without, All-without, none_found, none_of_lane, opens_first, opens_other, opens_here, fronted_is}
+use Rattle.flow_claims.proofs.Held.{found_has, sum_without, All-without, none_found, none_of_lane, opens_first, opens_other, opens_more, fronted_is}
 use Rattle.flow_claims.proofs.Records.{record_more, last_more}
 use Rattle.flow_claims.proofs.Slots.{Brings, bring, brings}
+use Rattle.flow_claims.proofs.WordReads.{busy_le, busy_free, busy_over, busy_held, reads}
 use Rattle.flow_claims.proofs.Moved.{IsSame, reviewed, MayFollow, moved}
-
--- how many ports have a lane, by its word
-busy_le : (word : ℕ) → busy word ≤ 1
-busy_le word = by (eqb (word % 256) 0) (eqb (word % 256) 255)
-  where
-    by : (a b : Bool) → cond {A = ℕ} a 0 (cond {A = ℕ} b 0 1) ≤ 1
-    by true b = omega arith
-    by false true = omega arith
-    by false false = omega arith
-
-pub busy_free : (word : ℕ) → word % 256 ≡ 0 → busy word ≡ 0
-busy_free word e = let F : Bool → ℕ = λ t. cond t 0 (cond (eqb (word % 256) 255) 0 1) in ap F (eq-eqb (word % 256) 0 e)
-
-pub busy_over : (word : ℕ) → word % 256 ≡ 255 → busy word ≡ 0
-busy_over word e =
-    let F : Bool → ℕ = λ t. cond t 0 (cond (eqb (word % 256) 255) 0 1) in let G : Bool → ℕ = λ t. cond t 0 1 in
-    ap F (ne_eqb (word % 256) 0 (λ z. absurd (omega (arith, e, z)))) ∙ ap G (eq-eqb (word % 256) 255 e)
-
-pub busy_held : (word : ℕ) → word % 256 ≢ 0 → word % 256 ≢ 255 → busy word ≡ 1
-busy_held word n m =
-    let F : Bool → ℕ = λ t. cond t 0 (cond (eqb (word % 256) 255) 0 1) in let G : Bool → ℕ = λ t. cond t 0 1 in
-    ap F (ne_eqb (word % 256) 0 n) ∙ ap G (ne_eqb (word % 256) 255 m)
 
 -- a word that is read stays
 abbrev pub reread : (lanes : List Far) (s : Board) (id lane : ℕ) (w : Seating) → Type 0
@@ -67,24 +47,24 @@ same_stints v w a b c d e = record {
   held = subst (All (Contains v.held)) (sym e) (All-contains_itself v.held);
 }
 
-pub probes : (lanes : List Far) (slots id lane : ℕ) (me : Sitting) → 0 < me.0.parts
+pub probes : (lanes : List Far) (slots id lane : ℕ) (me : Sitting) → 0 < me.0.parts → lane < length lanes
     → Allows (Claimed lanes) slots id me lane (λ n. n) (Probes (step slots lane 0 0 O.none) me)
-probes lanes slots id lane me part s c count_is here small =
+probes lanes slots id lane me part lt s c count_is here small =
     let w : Seating = after_look lane (word_at s lane) me.0 in (
       w,
       keeps,
       tt,
       rereads lanes s id lane me.0 w c here part (same_stints me.0 w refl refl refl refl refl),
-      (refl, refl),
+      (refl, refl, reads lanes s id me.0 c here lane lt),
     )
 
 none_past : (n j : ℕ) (bs : List Begun) → n ≤ j → All (λ x. x.lane < n) bs → opens j bs ≡ 0
 none_past n j [] ge all = refl
 none_past n j (x ∷ xs) ge all =
-    omega (arith, ap count (ne_eqb x.lane j (λ e. absurd (omega (arith, e, ge, All-head (λ y. y.lane < n) x xs all)))), none_past n j xs ge (All-tail (λ y. y.lane < n) x xs all))
+    omega (arith, opens_more j x xs, ap count (ne_eqb x.lane j (λ e. absurd (omega (arith, e, ge, All-head (λ y. y.lane < n) x xs all)))), none_past n j xs ge (All-tail (λ y. y.lane < n) x xs all))
 
 -- a seat has no two stints of a lane
-at_most_one : (lanes : List Far) (s : Board) (id : ℕ) (v : Seating) (c : Claimed lanes s) → get_elem? s.views id ≡ O.some v
+pub at_most_one : (lanes : List Far) (s : Board) (id : ℕ) (v : Seating) (c : Claimed lanes s) → get_elem? s.views id ≡ O.some v
     → All (λ x. x.lane < length lanes) v.held → (j : ℕ) → opens j v.held ≤ 1
 at_most_one lanes s id v c here within j = by (dec_le (length lanes) j)
   where
@@ -111,7 +91,7 @@ fronts lanes slots id lane me b part slots_are found s c count_is here small =
       lanes = refl;
       finished = refl;
       closed = refl;
-      opens_same = λ j. ap (opens j) is ∙ total_without (λ x. count (eqb x.lane j)) lane v.held b found;
+      opens_same = λ j. ap (opens j) is ∙ opens_more j b (without lane v.held) ∙ sum_without (λ x. count (eqb x.lane j)) lane v.held b found;
       held = subst (All (Contains v.held)) (sym is)
           (All-cons (Contains v.held) b (without lane v.held) (found_has (Contains v.held) lane v.held b (All-contains_itself v.held) found)
           (All-without (Contains v.held) lane v.held (All-contains_itself v.held)));
@@ -140,21 +120,23 @@ begin_follows lanes s id lane port v far c here part small lt free home =
     let same : c.past lane ++ [] ≡ c.past lane = append-nil (c.past lane) in
     let none : opens lane v.held ≡ 0 = omega (arith, c.one_holder lane lt, term_le (λ u. opens lane u.held) s.views id v here, busy_free word free) in
     let is = c.each_lane lane lt in
-    let IsIt : List Past → Type 0 = λ ps. IsLane lanes lane (word + port + 1) (O.some O.none) (total (closed_by lane) (set s.views id w)) ps in
+    let IsIt : List Past → Type 0 = λ ps. IsLane lanes lane (word + port + 1) (O.some O.none) (sum_by (closed_by lane) (set s.views id w)) ps in
     let HeldBy : List Past → Type 0 = λ ps. IsHeld (word + port + 1) (O.some O.none) ps b in
     let others : All (λ x. x.lane ≢ lane) v.held = none_of_lane lane v.held none in
     record {
       has_part = part;
       parts = refl;
       lanes_same = refl;
-      closed = omega arith;
+      closed = λ j ne. refl;
       finished = sym (append-nil v.finished);
       of_lane = All-nil (λ p. p.lane ≡ lane);
       placed = All-nil (λ p. slice_get (c.past lane ++ []) p.number ≡ Some p);
       lane_is = subst IsIt (sym same) (record {
         recorded = is.recorded;
         counted = omega (arith, is.counted, free, small);
+        done = is.done;
         final = is.final;
+        closed = λ some. absurd (omega (arith, free, is.closed (omega (arith, some, sum_by-changed (closed_by lane) s.views id v w here))));
         surrendered = All-weaker (λ p. p.surrendered ≡ true → word % 256 ≡ 255) (λ p. p.surrendered ≡ true → (word + port + 1) % 256 ≡ 255)
             (λ p over gone. absurd (omega (arith, free, over gone))) (c.past lane) is.surrendered;
         free = λ z. absurd (omega (arith, z, free, small));
@@ -193,7 +175,7 @@ begins lanes slots id lane port old me part lanes_are small lt free s c count_is
       takes lane (Some far),
       found.1.0,
       subst Kept (omega (arith, e, same_port)) kept,
-      ((λ _. (far, refl, refl, subst Of (sym lanes_are) found.1.1, found.2)), (λ ne. absurd (ne e))),
+      ((λ _. (far, refl, refl, subst Of (sym lanes_are) found.1.1, found.2)), (λ ne. absurd (ne e)), reads lanes s id v c here lane lt),
     ))
     (λ ne.
     let w : Seating = after_look lane word v in (
@@ -201,7 +183,7 @@ begins lanes slots id lane port old me part lanes_are small lt free s c count_is
       keeps,
       tt,
       rereads lanes s id lane v w c here part (same_stints v w refl refl refl refl refl),
-      ((λ e. absurd (ne e)), (λ _. (refl, refl))),
+      ((λ e. absurd (ne e)), (λ _. (refl, refl)), reads lanes s id v c here lane lt),
     ))
 
 -- the lane's word, where the first stint of a seat is the lane's
@@ -227,9 +209,9 @@ holding lanes s id lane v b bs c here held_is lane_is lt =
 
 finish_follows : (lanes : List Far) (s : Board) (id lane tail : ℕ) (gone : Bool) (v : Seating) (b : Begun) (bs : List Begun) (far : Far) → (c : Claimed lanes s) → get_elem? s.views id ≡ O.some v → 0 < v.parts
     → v.held ≡ b ∷ bs → b.lane ≡ lane → lane < length lanes → GoesOn b.start (lists_of far) → IsOf lanes lane far → ((tail ≡ 0) × (unanswered far ≡ [])) ⊎ (tail ≡ 255)
-    → Holding lanes s c.past lane b bs → (gone ≡ true → tail ≡ 255)
+    → Holding lanes s c.past lane b bs → (gone ≡ true → tail ≡ 255) → (tail ≡ 255 → gone ≡ true)
     → MayFollow lanes s c.past id lane (256 * (b.number + 1) + tail) (O.some (Some far)) v (record v { held = bs; finished = v.finished ++ past_of gone b far ∷ [] }) (past_of gone b far ∷ [])
-finish_follows lanes s id lane tail gone v b bs far c here part held_is lane_is lt goes_on of_lane how holds gone_is =
+finish_follows lanes s id lane tail gone v b bs far c here part held_is lane_is lt goes_on of_lane how holds gone_is over_is =
     let word : ℕ = word_at s lane in
     let n : ℕ = 256 * (b.number + 1) + tail in
     let p : Past = past_of gone b far in
@@ -239,6 +221,7 @@ finish_follows lanes s id lane tail gone v b bs far c here part held_is lane_is 
     let tail_is : (tail ≡ 0) ⊎ (tail ≡ 255) = ⊎_elim (λ h. inl h.0) inr how in
     let small : tail < 256 = ⊎_elim (λ h. omega (arith, h)) (λ h. omega (arith, h)) tail_is in
     let number_is : b.number ≡ length (c.past lane) = omega (arith, is.counted, holds.held.claimed, holds.held.of_port) in
+    let tail_of : n % 256 ≡ tail = omega (arith, small) in
     let free_now : busy n ≡ 0 = ⊎_elim (λ h. busy_free n (omega (arith, h))) (λ h. busy_over n (omega (arith, h))) tail_is in
     let home : IsHome lanes lane (O.some (O.some (Some far))) mine far = (refl, of_lane, sym (last_more no_lists (c.past lane) p)) in
     let others : All (λ x. x.lane ≢ lane) bs = none_of_lane lane bs holds.alone in
@@ -249,13 +232,15 @@ finish_follows lanes s id lane tail gone v b bs far c here part held_is lane_is 
       has_part = part;
       parts = refl;
       lanes_same = refl;
-      closed = omega arith;
+      closed = λ j ne. refl;
       finished = refl;
       of_lane = All-cons (λ q. q.lane ≡ lane) p [] lane_is (All-nil (λ q. q.lane ≡ lane));
       placed = All-cons (λ q. slice_get mine q.number ≡ Some q) p [] (get_last (c.past lane) p b.number number_is) (All-nil (λ q. slice_get mine q.number ≡ Some q));
       lane_is = record {
         recorded = record_more lane 0 no_lists (c.past lane) p is.recorded lane_is (omega (arith, number_is)) holds.held.start goes_on;
         counted = omega (arith, length-append (c.past lane) (p ∷ []), number_is, small);
+        done = All-push IsDone (c.past lane) p is.done (record { of_port = holds.held.of_port; given_back = λ e. ⊎_elim (λ h. h.1) (λ h. absurd (omega (arith, ap count (sym e ∙ over_is h)))) how });
+        closed = λ some. absurd (not_over (is.closed (omega (arith, some, sum_by-changed (closed_by lane) s.views id v w here))));
         final = All-push (λ q. q.surrendered ≡ true → q.number + 1 ≡ length mine) (c.past lane) p
             (All-weaker (λ q. q.surrendered ≡ true → word % 256 ≡ 255) (λ q. q.surrendered ≡ true → q.number + 1 ≡ length mine) (λ q over g. absurd (not_over (over g))) (c.past lane) is.surrendered)
             (λ g. omega (arith, length-append (c.past lane) (p ∷ []), number_is));
@@ -263,7 +248,7 @@ finish_follows lanes s id lane tail gone v b bs far c here part held_is lane_is 
             (All-weaker (λ q. q.surrendered ≡ true → word % 256 ≡ 255) (λ q. q.surrendered ≡ true → n % 256 ≡ 255) (λ q over g. absurd (not_over (over g))) (c.past lane) is.surrendered)
             (λ g. omega (arith, gone_is g));
         free = λ z. (far, home, answered_where z);
-        over = λ z. inr (far, home);
+        over = λ z. inr (far, home, omega (arith, sum_by-append gives_up (c.past lane) (p ∷ []), ap count (over_is (omega (arith, z, tail_of)))));
       };
       only_holder = omega (arith, ap (opens lane) held_is, opens_first lane b bs lane_is, holds.alone, holds.busy_is);
       holder = omega (arith, holds.alone, free_now);
@@ -280,11 +265,12 @@ finishes lanes slots id lane number tail me b bs far part held_is slots_is lane_
     let v : Seating = me.0 in
     let gone : Bool = eqb ((256 * (number + 1) + tail) % 256) 255 in
     let gone_is : gone ≡ true → tail ≡ 255 = λ e. ⊎_elim (λ h. absurd (omega (arith, eqb-true ((256 * (number + 1) + tail) % 256) 255 e, h.0))) (λ h. h) how in
+    let over_is : tail ≡ 255 → gone ≡ true = λ h. eq-eqb ((256 * (number + 1) + tail) % 256) 255 (omega (arith, h)) in
     let holds = holding lanes s id lane v b bs c here held_is lane_is lt in
     let w : Seating = record v { held = bs; finished = v.finished ++ past_of gone b far ∷ [] } in
     let kept : Claimed lanes (record { words = set s.words lane (256 * (b.number + 1) + tail); homes = set s.homes lane (O.some (Some far)); views = set s.views id w }) =
     moved lanes s id lane (256 * (b.number + 1) + tail) (O.some (Some far)) v w (past_of gone b far ∷ []) c here lt
-    (finish_follows lanes s id lane tail gone v b bs far c here part held_is lane_is lt goes_on of_lane how holds gone_is) in
+    (finish_follows lanes s id lane tail gone v b bs far c here part held_is lane_is lt goes_on of_lane how holds gone_is over_is) in
     let Words : ℕ → Type 0 = λ k. Claimed lanes (record { words = set s.words lane (256 * (k + 1) + tail); homes = set s.homes lane (O.some (Some far)); views = set s.views id w }) in
     let Homes : List (O.Option (Option Far)) → Type 0 = λ hs. Claimed lanes (record { words = set s.words lane (256 * (number + 1) + tail); homes = hs; views = set s.views id w }) in
     let ends : ends_first gone v.held (in_hand me.1) v ≡ w = ap (λ (o : List Begun). ends_first gone o (in_hand me.1) v) held_is ∙ ap (λ (x : List (ℕ × Option Far)). ends_first gone (b ∷ bs) (in_hand x) v) slots_is in (

@@ -2,9 +2,16 @@ pub mod Choices
 pub mod Held
 pub mod Slots
 pub mod Records
+pub mod WordReads
 pub mod Moved
 pub mod Keeps
 pub mod Parts
 pub mod Whole
 pub mod Starts
+pub mod Opened
+pub mod Claiming
+pub mod ByLane
+pub mod Boards
+pub mod Changes
+pub mod Weighing
 pub mod Calls

@@ -1,22 +1,23 @@
 -- The rule after one view changed, and after one lane's word, slot and record changed with one view.
-use Rattle.std.proofs.Common.{◌≡◌, ◌≢◌, ℕ, ◌+◌, ◌-◌, ◌*◌, ◌/◌, ◌%◌, ◌<◌, ◌≤◌, ◌⊎◌, inl, inr, ⊎_elim, Bool, true, false, cond, eqb, List, [], ◌∷◌, ◌++◌, length, set, get_or, slice_get, Option, Some, None, All, Contains, refl, sym, ap, ◌∙◌, subst, arith, eq-eqb, ne_eqb}
+use Rattle.std.proofs.Common.{◌≡◌, ◌≢◌, ℕ, ◌+◌, ◌<◌, inl, inr, ⊎_elim, cond, eqb, List, ◌++◌, length, set, get_or, slice_get, Option, Some, All, Contains, sym, ap, ◌∙◌, subst, arith, eq-eqb, ne_eqb, sum_by}
 use Rattle.std.proofs.lemmas.List.{length-set, get_or-set_same, get_or-set_other}
-use Rattle.std.proofs.lemmas.List.Elements.{All-nil, All-append, All-contains, All-weaker}
+use Rattle.std.proofs.lemmas.List.Elements.{All-append, All-contains, All-weaker}
 use mathlib.Core.Option as O
 use mathlib.Core.Logic.{dite}
 use native.Mathlib.Decide.{ℕ_discrete}
 use lib.ListN.{get_elem?}
 use Rattle.atomic_table.proofs.Lists.{set_here, set_else}
 use Rattle.lane_rings.specs.declared.far.Far.{Far}
-use Rattle.seat_sums.specs.Sums.{total, count}
-use Rattle.seat_sums.proofs.Totals.{All-at, total-set, total-append, terms_le, term_le, place_below}
+use Rattle.seat_sums.specs.Sums.{count}
+use Rattle.std.proofs.lemmas.List.Sums.{sum_by-append}
+use Rattle.seat_sums.proofs.Sums.{All-at, sum_by-changed, terms_le}
 use Rattle.flow_claims.specs.declared.seating.Begun.{Begun}
 use Rattle.flow_claims.specs.declared.seating.Past.{Past}
 use Rattle.flow_claims.specs.declared.seating.Seating.{Seating}
 use Rattle.flow_claims.specs.Lists.{no_lists}
-use Rattle.flow_claims.specs.Stints.{IsRecordFrom, at_lane, times, below}
-use Rattle.flow_claims.specs.Rule.{Board, Home, word_at, home_at, busy, opens, closed_by, IsHome, IsLane, IsHeld, IsSpent, IsSeat, Claimed}
-use Rattle.flow_claims.proofs.Choices.{by_number, get_before, All-replaced, All-both}
+use Rattle.flow_claims.specs.Stints.{at_lane, times, below}
+use Rattle.flow_claims.specs.Rule.{Board, Home, word_at, home_at, busy, opens, closed_by, IsLane, IsHeld, IsSeat, Claimed}
+use Rattle.flow_claims.proofs.Choices.{get_before, All-replaced, All-both}
 use Rattle.flow_claims.proofs.Held.{none_of_lane}
 use Rattle.flow_claims.proofs.Records.{record_numbers, all_at_lane, none_at_lane}
 
@@ -32,15 +33,17 @@ pub record IsSame (v w : Seating) : Type 0 where
   pub opens_same : (lane : ℕ) → opens lane w.held ≡ opens lane v.held
   pub held : All (Contains v.held) w.held
 
-pub lane_more : (lanes : List Far) (lane word : ℕ) (home : Home) (few more : ℕ) (past : List Past) → few ≤ more
+pub lane_more : (lanes : List Far) (lane word : ℕ) (home : Home) (few more : ℕ) (past : List Past) → few ≡ more
     → IsLane lanes lane word home few past → IsLane lanes lane word home more past
-lane_more lanes lane word home few more past le is = record {
+lane_more lanes lane word home few more past same is = record {
   recorded = is.recorded;
   counted = is.counted;
+  done = is.done;
   final = is.final;
   surrendered = is.surrendered;
+  closed = λ some. is.closed (omega (arith, some, same));
   free = is.free;
-  over = λ e. ⊎_elim (λ some. inl (omega (arith, some))) inr (is.over e);
+  over = λ e. ⊎_elim (λ some. inl (omega (arith, some, same))) inr (is.over e);
 }
 
 pub reviewed : (lanes : List Far) (s : Board) (id : ℕ) (v w : Seating) → Claimed lanes s → get_elem? s.views id ≡ O.some v → 0 < v.parts → IsSame v w
@@ -53,8 +56,8 @@ reviewed lanes s id v w c me part same =
       wide = c.wide;
       deep = c.deep;
       past = c.past;
-      each_lane = λ lane h. lane_more lanes lane (word_at s lane) (home_at s lane) (total (closed_by lane) s.views) (total (closed_by lane) (set s.views id w)) (c.past lane)
-          (omega (arith, ap (below lane) same.closed, total-set (closed_by lane) s.views id v w me)) (c.each_lane lane h);
+      each_lane = λ lane h. lane_more lanes lane (word_at s lane) (home_at s lane) (sum_by (closed_by lane) s.views) (sum_by (closed_by lane) (set s.views id w)) (c.past lane)
+          (omega (arith, ap (below lane) same.closed, sum_by-changed (closed_by lane) s.views id v w me)) (c.each_lane lane h);
       each_seat = All-replaced (IsSeat lanes s.words s.homes c.past) s.views id w
           (record {
             idle = λ none. absurd (omega (arith, none, same.parts, part));
@@ -63,10 +66,10 @@ reviewed lanes s id v w c me part same =
             kept = subst Kept (sym same.finished) own.kept;
           })
           (λ j u ne e. All-at (IsSeat lanes s.words s.homes c.past) s.views j u c.each_seat e);
-      parts = omega (arith, c.parts, same.parts, total-set (λ u. u.parts) s.views id v w me);
-      one_holder = λ lane h. omega (arith, c.one_holder lane h, same.opens_same lane, total-set (λ u. opens lane u.held) s.views id v w me);
-      once = λ lane number h. omega (arith, c.once lane number h, ap (times lane number) same.finished, total-set (λ u. times lane number u.finished) s.views id v w me);
-      weighed = λ lane f h. omega (arith, c.weighed lane f h, ap (total (at_lane lane f)) same.finished, total-set (λ u. total (at_lane lane f) u.finished) s.views id v w me);
+      parts = omega (arith, c.parts, same.parts, sum_by-changed (λ u. u.parts) s.views id v w me);
+      one_holder = λ lane h. omega (arith, c.one_holder lane h, same.opens_same lane, sum_by-changed (λ u. opens lane u.held) s.views id v w me);
+      once = λ lane number h. omega (arith, c.once lane number h, ap (times lane number) same.finished, sum_by-changed (λ u. times lane number u.finished) s.views id v w me);
+      weighed = λ lane f h. omega (arith, c.weighed lane f h, ap (sum_by (at_lane lane f)) same.finished, sum_by-changed (λ u. sum_by (at_lane lane f) u.finished) s.views id v w me);
     }
 
 -- one lane's record is another one
@@ -78,11 +81,11 @@ pub record MayFollow (lanes : List Far) (s : Board) (past : ℕ → List Past) (
   pub has_part : 0 < v.parts
   pub parts : w.parts ≡ v.parts
   pub lanes_same : w.lanes ≡ v.lanes
-  pub closed : v.closed ≤ w.closed
+  pub closed : (j : ℕ) → j ≢ lane → closed_by j w ≡ closed_by j v
   pub finished : w.finished ≡ v.finished ++ extra
   pub of_lane : All (λ p. p.lane ≡ lane) extra
   pub placed : All (λ p. slice_get (past lane ++ extra) p.number ≡ Some p) extra
-  pub lane_is : IsLane lanes lane n (O.some h) (total (closed_by lane) (set s.views id w)) (past lane ++ extra)
+  pub lane_is : IsLane lanes lane n (O.some h) (sum_by (closed_by lane) (set s.views id w)) (past lane ++ extra)
   pub only_holder : opens lane v.held ≡ busy (word_at s lane)
   pub holder : opens lane w.held ≡ busy n
   pub others : (j : ℕ) → j ≢ lane → opens j w.held ≡ opens j v.held
@@ -143,13 +146,13 @@ moved lanes s id lane n h v w extra c me below_all may =
       dite (ℕ_discrete b.lane lane) (λ e. omega (arith, e, below_all)) (λ ne. (All-contains Held v.held b own.held (q ne)).0),
       at lanes s lane n h c.past mine (λ x y z. IsHeld x y z b) b.lane wide deep p (λ ne. (All-contains Held v.held b own.held (q ne)).1),
     ) in
-    let closers : (j : ℕ) → total (closed_by j) s.views ≤ total (closed_by j) (set s.views id w) =
-    λ j. omega (arith, below_more j v.closed w.closed may.closed, total-set (closed_by j) s.views id v w me) in
-    let weighs : (j : ℕ) (f : Past → ℕ) → j < length lanes → total (λ u. total (at_lane j f) u.finished) (set s.views id w) ≡ total f (past' j) =
+    let closers : (j : ℕ) → j ≢ lane → sum_by (closed_by j) s.views ≡ sum_by (closed_by j) (set s.views id w) =
+    λ j ne. omega (arith, may.closed j ne, sum_by-changed (closed_by j) s.views id v w me) in
+    let weighs : (j : ℕ) (f : Past → ℕ) → j < length lanes → sum_by (λ u. sum_by (at_lane j f) u.finished) (set s.views id w) ≡ sum_by f (past' j) =
     λ j f lt.
-    let set_is = total-set (λ u. total (at_lane j f) u.finished) s.views id v w me in
-    let now = ap (total (at_lane j f)) may.finished in
-    let parts_is = total-append (at_lane j f) v.finished extra in
+    let set_is = sum_by-changed (λ u. sum_by (at_lane j f) u.finished) s.views id v w me in
+    let now = ap (sum_by (at_lane j f)) may.finished in
+    let parts_is = sum_by-append (at_lane j f) v.finished extra in
     dite (ℕ_discrete j lane)
     (λ e.
     let rec : past' j ≡ mine = ap (λ t. cond t mine (c.past j)) (eq-eqb j lane e) in
@@ -159,20 +162,20 @@ moved lanes s id lane n h v w extra c me below_all may =
       set_is,
       now,
       parts_is,
-      ap (total f) rec,
-      total-append f (c.past lane) extra,
+      ap (sum_by f) rec,
+      sum_by-append f (c.past lane) extra,
       here,
-      ap (λ x. total f (c.past x)) e,
-      ap (λ x. total (at_lane x f) extra) e,
+      ap (λ x. sum_by f (c.past x)) e,
+      ap (λ x. sum_by (at_lane x f) extra) e,
       all_at_lane lane f extra may.of_lane,
     ))
     (λ ne.
     let rec : past' j ≡ c.past j = ap (λ t. cond t mine (c.past j)) (ne_eqb j lane ne) in
-    omega (arith, set_is, now, parts_is, ap (total f) rec, c.weighed j f lt, none_at_lane lane j f extra ne may.of_lane)) in
-    let lane_is : (j : ℕ) → j < length lanes → IsLane lanes j (get_or words' j 0) (get_elem? homes' j) (total (closed_by j) (set s.views id w)) (past' j) =
-    λ j lt. at lanes s lane n h c.past mine (λ x y z. IsLane lanes j x y (total (closed_by j) (set s.views id w)) z) j wide deep
-    (λ e. subst (λ k. IsLane lanes k n (O.some h) (total (closed_by k) (set s.views id w)) mine) (sym e) may.lane_is)
-    (λ ne. lane_more lanes j (word_at s j) (home_at s j) (total (closed_by j) s.views) (total (closed_by j) (set s.views id w)) (c.past j) (closers j) (c.each_lane j lt)) in
+    omega (arith, set_is, now, parts_is, ap (sum_by f) rec, c.weighed j f lt, none_at_lane lane j f extra ne may.of_lane)) in
+    let lane_is : (j : ℕ) → j < length lanes → IsLane lanes j (get_or words' j 0) (get_elem? homes' j) (sum_by (closed_by j) (set s.views id w)) (past' j) =
+    λ j lt. at lanes s lane n h c.past mine (λ x y z. IsLane lanes j x y (sum_by (closed_by j) (set s.views id w)) z) j wide deep
+    (λ e. subst (λ k. IsLane lanes k n (O.some h) (sum_by (closed_by k) (set s.views id w)) mine) (sym e) may.lane_is)
+    (λ ne. lane_more lanes j (word_at s j) (home_at s j) (sum_by (closed_by j) s.views) (sum_by (closed_by j) (set s.views id w)) (c.past j) (closers j ne) (c.each_lane j lt)) in
     record {
       wide = length-set s.words lane n ∙ c.wide;
       deep = length-set s.homes lane h ∙ c.deep;
@@ -197,9 +200,9 @@ moved lanes s id lane n h v w extra c me below_all may =
             held = All-both (λ b. b.lane ≢ lane) Held Held' held_on u.held (none_of_lane lane u.held none) was.held;
             kept = All-weaker Kept Kept' kept_on u.finished was.kept;
           });
-      parts = omega (arith, c.parts, may.parts, total-set (λ u. u.parts) s.views id v w me);
+      parts = omega (arith, c.parts, may.parts, sum_by-changed (λ u. u.parts) s.views id v w me);
       one_holder = λ j lt.
-          let set_is = total-set (λ u. opens j u.held) s.views id v w me in
+          let set_is = sum_by-changed (λ u. opens j u.held) s.views id v w me in
           dite (ℕ_discrete j lane)
           (λ e.
           let word : get_or words' j 0 ≡ n = ap (λ x. get_or words' x 0) e ∙ get_or-set_same s.words lane n 0 wide in
@@ -209,12 +212,9 @@ moved lanes s id lane n h v w extra c me below_all may =
           omega (arith, set_is, ap busy word, c.one_holder j lt, may.others j ne));
       once = λ j number lt.
           let is = lane_is j lt in
-          weighs j (λ p. count (eqb p.number number)) lt ∙ nought number (total (λ p. count (eqb p.number number)) (past' j)) (length (past' j)) (record_numbers j 0 no_lists (past' j) is.recorded number) ∙ ap (below number) is.counted;
+          weighs j (λ p. count (eqb p.number number)) lt ∙ nought number (sum_by (λ p. count (eqb p.number number)) (past' j)) (length (past' j)) (record_numbers j 0 no_lists (past' j) is.recorded number) ∙ ap (below number) is.counted;
       weighed = weighs;
     }
   where
-    below_more : (j a b : ℕ) → a ≤ b → below j a ≤ below j b
-    below_more j a b le = grind (arith, le)
-
     nought : (k a b : ℕ) → below k 0 + a ≡ below k (0 + b) → a ≡ below k b
     nought k a b e = grind (arith, e)

@@ -1,19 +1,19 @@
 -- The act by which the slot of a lane comes before the others that the seat has: they go home and are taken again, and it last.
-use Rattle.std.proofs.Common.{◌≡◌, ◌≢◌, ℕ, ◌+◌, ◌<◌, ◌≤◌, Bool, true, false, cond, eqb, ◌==◌, List, [], ◌∷◌, ◌++◌, map, set, Option, Some, None, All, refl, sym, ap, ◌∙◌, subst, subst₂, arith, option_to_list}
-use Rattle.std.proofs.lemmas.List.{set-set, set_comm, length-set}
-use Rattle.std.proofs.lemmas.List.Elements.{All-head, All-tail, All-cons}
+use Rattle.std.proofs.Common.{◌≡◌, ◌≢◌, ℕ, ◌≤◌, cond, ◌==◌, List, [], ◌∷◌, ◌++◌, map, set, Option, Some, None, All, refl, sym, ap, ◌∙◌, subst, subst₂, arith, option_to_list}
+use Rattle.std.proofs.lemmas.List.{set-set, set_comm}
+use Rattle.std.proofs.lemmas.List.Elements.{All-head, All-tail}
 use Rattle.std.proofs.lemmas.Option.{none-some}
 use mathlib.Core.Option as O
 use lib.ListN.{get_elem?}
-use Rattle.atomic_table.specs.Table.{Act, keeps, takes, gives, chain, rest, put_back, carried_after, homes_after, Valid}
+use Rattle.atomic_table.specs.Table.{Act, keeps, takes, gives, chain, rest, carried_after, homes_after, Valid}
 use Rattle.atomic_table.proofs.Lists.{set_here, set_else, set_again}
-use Rattle.seat_sums.proofs.Totals.{place_below}
+use Rattle.seat_sums.proofs.Sums.{place_below}
 use Rattle.lane_rings.specs.declared.far.Far.{Far}
 use Rattle.flow_claims.specs.declared.seating.Begun.{Begun}
 use Rattle.flow_claims.specs.Seats.{find_lane, without, fronted, slot_of}
 use Rattle.flow_claims.specs.Rule.{opens}
 use Rattle.flow_claims.proofs.Choices.{by_number, All-both}
-use Rattle.flow_claims.proofs.Held.{found_lane, found_has, none_of_lane, opens_here, fronted_is}
+use Rattle.flow_claims.proofs.Held.{found_lane, found_has, none_of_lane, opens_here, opens_more, fronted_is}
 
 abbrev Homes : Type 0
 Homes = List (O.Option (Option Far))
@@ -92,7 +92,7 @@ pub brings : (hs : Homes) (lane : ℕ) (bs : List Begun) (b : Begun) → find_la
 brings hs lane [] b e few out = absurd (none-some b e)
 brings hs lane (x ∷ xs) b e few out =
     let h1 : Homes = set hs x.lane (O.some None) in
-    let few' : (j : ℕ) → opens j xs ≤ 1 = λ j. omega (arith, few j) in
+    let few' : (j : ℕ) → opens j xs ≤ 1 = λ j. omega (arith, few j, opens_more j x xs) in
     let apart : All (λ y. y.lane ≢ x.lane) xs = none_of_lane x.lane xs (omega (arith, few x.lane, opens_here x xs)) in
     let out1 : All (λ y. get_elem? h1 y.lane ≡ O.some O.none) xs =
     All-both (λ y. y.lane ≢ x.lane) (λ y. get_elem? hs y.lane ≡ O.some O.none) (λ y. get_elem? h1 y.lane ≡ O.some O.none)

@@ -1,8 +1,12 @@
 pub mod Lists
 pub mod Stints
 pub mod Seats
+pub mod Open
+pub mod Weights
 pub mod Ends
 pub mod Rule
 pub mod Steps
+pub mod Holder
+pub mod Laws
 pub mod Answers
 pub mod Claims

@@ -1,5 +1,5 @@
 -- The lists of a lane, with which stints begin and end.
-use Rattle.std.specs.Prelude.{◌≡◌, [], ◌++◌, length, drop, slice_get, map, ℕ, List, Option}
+use Rattle.std.specs.Prelude.{◌≡◌, [], ◌++◌, length, drop, slice_get, map, ℕ, List}
 use Rattle.std.specs.Prelude.Option.{Some}
 use Rattle.lane_rings.specs.Ends.{received_by, answered}
 use Rattle.lane_rings.specs.Identity.{far_id}

@@ -1,19 +1,19 @@
 -- The rule of the claim words, which holds between any two steps of any seats.
 -- A lane's word is 256 k where it is free after k stints, 256 k + p + 1 while port p has stint k, and 256 k + 255 where it was
 -- surrendered or closed after k stints.
-use Rattle.std.specs.Prelude.{◌≡◌, ℕ, ◌+◌, ◌*◌, ◌/◌, ◌%◌, ◌<◌, ◌⊎◌, Bool, ◌==◌, cond, true, List, [], Option, length, slice_get, slice_index, All}
-use Rattle.std.specs.Prelude.Option.{Some, None}
+use Rattle.std.specs.Prelude.{◌≡◌, ℕ, ◌+◌, ◌*◌, ◌/◌, ◌%◌, ◌<◌, ◌⊎◌, ◌==◌, cond, true, List, [], Option, length, slice_get, slice_index, All, sum_by}
+use Rattle.std.specs.Prelude.Option.{Some}
 use mathlib.Core.Option as O
 use lib.ListN.{get_elem?}
 use Rattle.atomic_table.specs.Table.{State}
 use Rattle.lane_rings.specs.Ends.{unanswered}
 use Rattle.lane_rings.specs.declared.far.Far.{Far}
-use Rattle.seat_sums.specs.Sums.{total, count}
+use Rattle.seat_sums.specs.Sums.{count}
 use Rattle.flow_claims.specs.declared.seating.Begun.{Begun}
 use Rattle.flow_claims.specs.declared.seating.Past.{Past}
 use Rattle.flow_claims.specs.declared.seating.Seating.{Seating}
 use Rattle.flow_claims.specs.Lists.{lists_of, no_lists, IsOf}
-use Rattle.flow_claims.specs.Stints.{last_end, IsRecordFrom, IsFinal, at_lane, times, below}
+use Rattle.flow_claims.specs.Stints.{last_end, IsDone, IsRecordFrom, IsFinal, at_lane, times, gives_up, below}
 
 -- the words, the slots and all views
 abbrev pub Board : Type 0
@@ -35,7 +35,7 @@ busy word = cond (word % 256 == 0) 0 (cond (word % 256 == 255) 0 1)
 
 -- how many of these are stints of the lane
 abbrev pub opens : ℕ → List Begun → ℕ
-opens lane bs = total (λ b. count (b.lane == lane)) bs
+opens lane bs = sum_by (λ b. count (b.lane == lane)) bs
 
 -- 1 where the lane was closed through the seat
 abbrev pub closed_by : ℕ → Seating → ℕ
@@ -49,11 +49,14 @@ IsHome lanes lane home past far = (home ≡ O.some (O.some (Some far))) × IsOf 
 pub record IsLane (lanes : List Far) (lane word : ℕ) (home : Home) (closers : ℕ) (past : List Past) : Type 0 where
   pub recorded : IsRecordFrom lane 0 no_lists past
   pub counted : length past ≡ word / 256
-  -- a surrendered lane stays so
+  pub done : All IsDone past
+  -- a surrendered lane stays so, and so does a closed one
   pub final : IsFinal past
   pub surrendered : All (λ p. p.surrendered ≡ true → word % 256 ≡ 255) past
+  pub closed : 0 < closers → word % 256 ≡ 255
   pub free : word % 256 ≡ 0 → (far : Far) × IsHome lanes lane home past far × (unanswered far ≡ [])
-  pub over : word % 256 ≡ 255 → (0 < closers) ⊎ ((far : Far) × IsHome lanes lane home past far)
+  -- no other lane is over: a seat closed it, or its end is at home and a stint of its record surrendered it
+  pub over : word % 256 ≡ 255 → (0 < closers) ⊎ ((far : Far) × IsHome lanes lane home past far × (0 < sum_by gives_up past))
 
 -- an open stint of a lane with this word, slot and record: it has the record's next number, and begins as the record ends
 pub record IsHeld (word : ℕ) (home : Home) (past : List Past) (b : Begun) : Type 0 where
@@ -81,11 +84,11 @@ pub record Claimed (lanes : List Far) (s : Board) : Type 0 where
   pub deep : length s.homes ≡ length lanes
   -- the record of each lane
   pub past : ℕ → List Past
-  pub each_lane : (lane : ℕ) → lane < length lanes → IsLane lanes lane (word_at s lane) (home_at s lane) (total (closed_by lane) s.views) (past lane)
+  pub each_lane : (lane : ℕ) → lane < length lanes → IsLane lanes lane (word_at s lane) (home_at s lane) (sum_by (closed_by lane) s.views) (past lane)
   pub each_seat : All (IsSeat lanes s.words s.homes past) s.views
-  pub parts : total (λ v. v.parts) s.views ≡ 64
+  pub parts : sum_by (λ v. v.parts) s.views ≡ 64
   -- a lane is held by the one port of its word, or by none
-  pub one_holder : (lane : ℕ) → lane < length lanes → total (λ v. opens lane v.held) s.views ≡ busy (word_at s lane)
+  pub one_holder : (lane : ℕ) → lane < length lanes → sum_by (λ v. opens lane v.held) s.views ≡ busy (word_at s lane)
   -- each number below k stands among the finished stints of all seats once, and these are the record, however they are weighed
-  pub once : (lane number : ℕ) → lane < length lanes → total (λ v. times lane number v.finished) s.views ≡ below number (word_at s lane / 256)
-  pub weighed : (lane : ℕ) (f : Past → ℕ) → lane < length lanes → total (λ v. total (at_lane lane f) v.finished) s.views ≡ total f (past lane)
+  pub once : (lane number : ℕ) → lane < length lanes → sum_by (λ v. times lane number v.finished) s.views ≡ below number (word_at s lane / 256)
+  pub weighed : (lane : ℕ) (f : Past → ℕ) → lane < length lanes → sum_by (λ v. sum_by (at_lane lane f) v.finished) s.views ≡ sum_by f (past lane)

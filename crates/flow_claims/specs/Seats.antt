@@ -1,5 +1,5 @@
 -- What a seat knows of its stints, and what each kind of step makes of it.
-use Rattle.std.specs.Prelude.{◌≡◌, ℕ, ◌+◌, ◌-◌, Bool, cond, ◌==◌, List, [], ◌∷◌, ◌++◌, Option, option_to_list}
+use Rattle.std.specs.Prelude.{◌≡◌, ℕ, ◌+◌, ◌-◌, ◌<◌, Bool, cond, ◌==◌, List, [], ◌∷◌, ◌++◌, Option, option_to_list, All}
 use Rattle.std.specs.Prelude.Option.{Some, None}
 use Rattle.lane_rings.specs.declared.far.Far.{Far}
 use Rattle.flow_claims.specs.declared.seating.Begun.{Begun}
@@ -7,6 +7,7 @@ use Rattle.flow_claims.specs.declared.seating.Past.{Past}
 use Rattle.flow_claims.specs.declared.seating.Reading.{Reading}
 use Rattle.flow_claims.specs.declared.seating.Seating.{Seating}
 use Rattle.flow_claims.specs.Lists.{lists_of}
+use Rattle.flow_claims.specs.Stints.{surrenders}
 
 -- the open stint of the lane
 abbrev pub find_lane : ℕ → List Begun → Option Begun
@@ -28,6 +29,24 @@ stint_at v lane = find_lane lane v.held
 -- the seat has no open stint
 abbrev pub HoldsNone : Seating → Type 0
 HoldsNone v = v.held ≡ []
+
+-- the seat has all 64 parts, and so all stints
+abbrev pub HasAll : Seating → Type 0
+HasAll v = v.parts ≡ 64
+
+-- another seat has parts
+abbrev pub IsShared : Seating → Type 0
+IsShared v = v.parts < 64
+
+-- the seat neither has the lane nor surrendered it
+pub record IsLeft (lane : ℕ) (v : Seating) : Type 0 where
+  pub not_held : stint_at v lane ≡ None
+  pub not_surrendered : surrenders lane v.finished ≡ 0
+
+-- all stints of the seat, open and finished, are the port's
+pub record IsPorts (port : ℕ) (v : Seating) : Type 0 where
+  pub held : All (λ b. b.port ≡ port) v.held
+  pub finished : All (λ p. p.port ≡ port) v.finished
 
 -- the slot that the seat has during a stint, which is empty
 abbrev pub slot_of : Begun → ℕ × Option Far

@@ -29,45 +29,36 @@ pub enum Claim {
 }
 
 impl Stint {
-    ghost use Rattle.std.specs.Prelude.{◌≡◌, ◌<◌, true, [], ◌∷◌, ◌++◌, length, drop, slice_get, ◌↔◌, IfErr, IfNone, MatchOption, MatchResult};
-    ghost use Rattle.evt_types.specs.Operation.{is_answer};
-    ghost use Rattle.lane_rings.specs.Ends.{received_by, seen_deliveries, next_delivery, answered, answers_among, unanswered};
+    ghost use Rattle.std.specs.Prelude.{◌≡◌, ◌<◌, [], ◌∷◌, ◌++◌, length, MatchOption, MatchResult};
+    ghost use Rattle.lane_rings.specs.Ends.{unanswered};
     ghost use Rattle.lane_rings.specs.Identity.{far_id};
-    ghost use Rattle.lane_rings.specs.Refusal.{RefusesAnswer};
     ghost use Rattle.flow_claims.specs.declared.seating.Seating.{Seating};
-    ghost use Rattle.flow_claims.specs.Answers.{IsOpen};
+    ghost use Rattle.flow_claims.specs.Holder.{Receives, AnswersWith};
+    ghost use Rattle.flow_claims.specs.Open.{IsOpen, received_so_far, answered_so_far};
 
     /// `Far::receive` of the lane's end. The stint stays open in the seat that has it.
     pub fn receive(&mut self) -> Option<Delivery>
         requires { length (unanswered self.old.far) < (far_id self.old.far).depth }
-        ensures lane { (self.new.lane ≡ self.old.lane) × (self.new.number ≡ self.old.number) × (far_id self.new.far ≡ far_id self.old.far) }
-        ensures answered { answered self.new.far ≡ answered self.old.far }
-        ensures received { MatchOption result
-            (received_by self.new.far ≡ received_by self.old.far)
-            (λ d. received_by self.new.far ≡ received_by self.old.far ++ d ∷ []) }
-        ensures held { MatchOption result
-            (unanswered self.new.far ≡ unanswered self.old.far)
-            (λ d. unanswered self.new.far ≡ unanswered self.old.far ++ d ∷ []) }
-        ensures next { (d : Delivery) → next_delivery self.old.far ≡ Some d → result ≡ Some d }
-        ensures none { IfNone result ((seen_deliveries self.old.far ≡ []) × (seen_deliveries self.new.far ≡ [])) }
+        ensures far { Receives self.old.far result self.new.far }
+        ensures lane { (self.new.lane ≡ self.old.lane) × (self.new.number ≡ self.old.number) }
         ensures open { (v : Seating) → IsOpen v self.old → IsOpen v self.new }
+        ensures so_far { (v : Seating) → IsOpen v self.old → MatchOption result
+            (received_so_far v self.new ≡ received_so_far v self.old)
+            (λ d. received_so_far v self.new ≡ received_so_far v self.old ++ d ∷ []) }
+        ensures answered { (v : Seating) → answered_so_far v self.new ≡ answered_so_far v self.old }
     {
         self.far.receive()
     }
 
     /// `Far::answer` of the lane's end. The stint stays open in the seat that has it.
     pub fn answer(&mut self, reply: Reply) -> Result<(), AnswerFault>
-        ensures lane { (self.new.lane ≡ self.old.lane) × (self.new.number ≡ self.old.number) × (far_id self.new.far ≡ far_id self.old.far) }
-        ensures received { received_by self.new.far ≡ received_by self.old.far }
-        ensures answered { MatchResult result
-            (λ _. answered self.new.far ≡ answered self.old.far ++ reply ∷ [])
-            (λ _. answered self.new.far ≡ answered self.old.far) }
-        ensures held { MatchResult result
-            (λ _. unanswered self.new.far ≡ drop (answers_among (reply ∷ [])) (unanswered self.old.far))
-            (λ _. unanswered self.new.far ≡ unanswered self.old.far) }
-        ensures nothing_held { (result ≡ Err AnswerFault.NothingHeld) ↔ ((is_answer reply ≡ true) × (unanswered self.old.far ≡ [])) }
-        ensures refused { IfErr result (RefusesAnswer self.old.far reply) }
+        ensures far { AnswersWith self.old.far reply result self.new.far }
+        ensures lane { (self.new.lane ≡ self.old.lane) × (self.new.number ≡ self.old.number) }
         ensures open { (v : Seating) → IsOpen v self.old → IsOpen v self.new }
+        ensures so_far { (v : Seating) → IsOpen v self.old → MatchResult result
+            (λ _. answered_so_far v self.new ≡ answered_so_far v self.old ++ reply ∷ [])
+            (λ _. answered_so_far v self.new ≡ answered_so_far v self.old) }
+        ensures received { (v : Seating) → received_so_far v self.new ≡ received_so_far v self.old }
     {
         self.far.answer(reply)
     }

@@ -1,13 +1,11 @@
 //! The lanes with their words, and the seats that step on them.
-ghost use Rattle.std.specs.Prelude.{◌≡◌, ◌≢◌, ◌+◌, ◌*◌, ◌/◌, ◌%◌, ◌^◌, ◌<◌, ◌≤◌, ◌⊎◌, ◌==◌, true, false, [], ◌∷◌, ◌++◌, map, take, length, slice_get, vec_capacity, ℕ, List, All, IsOk, IfOk, IfErr};
+ghost use Rattle.std.specs.Prelude.{◌≡◌, ◌≢◌, ◌+◌, ◌*◌, ◌/◌, ◌%◌, ◌^◌, ◌<◌, ◌≤◌, ◌⊎◌, ◌==◌, true, false, [], map, take, length, slice_get, vec_capacity, ℕ, List, All, IsOk, IfOk, IfErr, sum_by};
 ghost use Rattle.lane_rings.specs.declared.far.Far.{Far};
 ghost use Rattle.flow_claims.specs.Seats.{slot_of};
 
 use crate::claim::{Claim, Stint};
 use crate::ends::{unwrapped, wrapped};
-use crate::rule::{
-    Both, ClaimExchange, ClaimRule, ClosingSwap, Front, OnePart, Probe, Return, Survey,
-};
+use crate::rule::{Both, ClaimExchange, ClaimRule, ClosingSwap, Front, OnePart, Probe, Return};
 use crate::seating::Seating;
 use atomic_table::{Refused, Seat, Table};
 use lane_rings::Far;
@@ -43,21 +41,28 @@ pub struct ClaimSeat {
     ghost has_part: { 0 < seat.me.0.parts },
     ghost none_closed: { seat.me.0.closed ≡ 0 },
     ghost lanes_exist: { All (λ p. p.lane < length seat.me.0.lanes) seat.me.0.finished },
+    pub ghost own_port: { All (λ b. b.port ≡ port) seat.me.0.held },
 }
 
 impl Claims {
     ghost use Rattle.lane_rings.specs.Ends.{received_by, answered, unanswered};
     ghost use Rattle.lane_rings.specs.Identity.{far_id};
-    ghost use Rattle.flow_claims.specs.declared.seating.Begun.{Begun};
-    ghost use Rattle.flow_claims.specs.Seats.{stint_at, HoldsNone, begun_by, first_seating, after_look, after_begin, after_end, after_join, part_of, rest_of};
-    ghost use Rattle.flow_claims.specs.Answers.{AnswersClaim, IsOpen, Taken};
+    ghost use Rattle.evt_types.specs.declared.event.Delivery.{Delivery};
+    ghost use Rattle.evt_types.specs.declared.event.Reply.{Reply};
+    ghost use Rattle.flow_claims.specs.declared.claim.Stint.{Stint};
+    ghost use Rattle.flow_claims.specs.Seats.{stint_at, HoldsNone, HasAll, first_seating, after_look, after_join, part_of, rest_of};
+    ghost use Rattle.flow_claims.specs.Open.{IsOpen};
+    ghost use Rattle.flow_claims.specs.Answers.{AnswersClaim, AnswersAll, Taken, KeepsPort, EndsStint};
+    ghost use Rattle.flow_claims.specs.Weights.{weight_received, weight_answered};
     ghost use Rattle.flow_claims.specs.Ends.{IsEnd};
+    ghost use Rattle.flow_claims.specs.Steps.{Reads};
+    ghost use Rattle.flow_claims.specs.Laws.{IsUnused};
     ghost use Rattle.flow_claims.specs.Claims.{seating, port_of, lanes_of, claims_id, IsSeatOf};
 
     /// Claims over these lanes, none of which a port holds, and the first seat, which belongs to no port and has all 64 parts.
     /// After want of memory the ends come back in their order.
     pub fn new(alloc: Global, ends: Vec<Far>) -> Result<(Claims, ClaimSeat), (Memory, Vec<Far>)>
-        requires { All (λ far. (received_by far ≡ []) × (answered far ≡ [])) ends.items }
+        requires { All IsUnused ends.items }
         ensures lanes { IfOk result (λ r. lanes_of r.0 ≡ ends.items) }
         ensures seat { IfOk result (λ r. IsSeatOf r.0 r.1 × (port_of r.1 ≡ 254)) }
         ensures seating { IfOk result (λ r. seating r.1 ≡ first_seating ends.items) }
@@ -122,9 +127,14 @@ impl Claims {
         requires seat { IsSeatOf self.now seat.old }
         requires port { port_of seat.old < 254 }
         requires lane { lane < length (lanes_of self.now) }
-        ensures seat { IsSeatOf self.now seat.new × (port_of seat.new ≡ port_of seat.old) }
+        ensures seat { IsSeatOf self.now seat.new }
+        ensures port { KeepsPort seat.old seat.new }
         ensures answer { AnswersClaim (port_of seat.old) lane (seating seat.old) result (seating seat.new) }
+        ensures all { HasAll (seating seat.old) → AnswersAll lane (seating seat.old) result }
+        ensures refused { ((stint : Stint) → result ≢ Claim.Held stint) → (seating seat.new).held ≡ (seating seat.old).held }
+        ensures finished { (seating seat.new).finished ≡ (seating seat.old).finished }
         ensures others { (j : ℕ) → j ≢ lane → stint_at (seating seat.new) j ≡ stint_at (seating seat.old) j }
+        ensures open { (stint : Stint) → IsOpen (seating seat.old) stint → IsOpen (seating seat.new) stint }
         ensures parts { (seating seat.new).parts ≡ (seating seat.old).parts }
     {
         let word = self.probe(seat, lane);
@@ -149,12 +159,7 @@ impl Claims {
         requires seat { IsSeatOf self.now seat.old }
         requires open { IsOpen (seating seat.old) stint }
         requires answered { unanswered stint.far ≡ [] }
-        ensures seat { IsSeatOf self.now seat.new × (port_of seat.new ≡ port_of seat.old) }
-        ensures ended { seating seat.new ≡ after_end false stint.lane stint.far (seating seat.old) }
-        ensures closed { stint_at (seating seat.new) stint.lane ≡ None }
-        ensures others { (j : ℕ) → j ≢ stint.lane → stint_at (seating seat.new) j ≡ stint_at (seating seat.old) j }
-        ensures last { (b : Begun) (bs : List Begun) → (seating seat.old).held ≡ b ∷ bs → b.lane ≡ stint.lane → (seating seat.new).held ≡ bs }
-        ensures parts { (seating seat.new).parts ≡ (seating seat.old).parts }
+        ensures { EndsStint self.now false stint seat.old seat.new }
     {
         self.end(seat, stint, 0);
     }
@@ -163,12 +168,7 @@ impl Claims {
     pub fn surrender(&self, seat: &mut ClaimSeat, stint: Stint)
         requires seat { IsSeatOf self.now seat.old }
         requires open { IsOpen (seating seat.old) stint }
-        ensures seat { IsSeatOf self.now seat.new × (port_of seat.new ≡ port_of seat.old) }
-        ensures ended { seating seat.new ≡ after_end true stint.lane stint.far (seating seat.old) }
-        ensures closed { stint_at (seating seat.new) stint.lane ≡ None }
-        ensures others { (j : ℕ) → j ≢ stint.lane → stint_at (seating seat.new) j ≡ stint_at (seating seat.old) j }
-        ensures last { (b : Begun) (bs : List Begun) → (seating seat.old).held ≡ b ∷ bs → b.lane ≡ stint.lane → (seating seat.new).held ≡ bs }
-        ensures parts { (seating seat.new).parts ≡ (seating seat.old).parts }
+        ensures { EndsStint self.now true stint seat.old seat.new }
     {
         self.end(seat, stint, SURRENDERED);
     }
@@ -183,6 +183,8 @@ impl Claims {
         ensures order { map far_id into.new.items ≡ map far_id (lanes_of self.now) }
         ensures ends { (lane : ℕ) (far : Far) → slice_get into.new.items lane ≡ Some far → IsEnd (lanes_of self.now) (seating seat).finished lane far }
         ensures lanes { All (λ p. p.lane < length (lanes_of self.now)) (seating seat).finished }
+        ensures received { (f : Delivery → ℕ) → weight_received f (seating seat).finished ≡ sum_by (λ far. sum_by f (received_by far)) into.new.items }
+        ensures answered { (f : Reply → ℕ) → weight_answered f (seating seat).finished ≡ sum_by (λ far. sum_by f (answered far)) into.new.items }
     {
         let ClaimSeat { mut seat, port: _ } = seat;
         for lane in 0..self.table.slot_count() {
@@ -196,6 +198,7 @@ impl Claims {
         requires lane { lane < length (lanes_of self.now) }
         ensures seat { IsSeatOf self.now seat.new × (port_of seat.new ≡ port_of seat.old) }
         ensures seating { seating seat.new ≡ after_look lane result (seating seat.old) }
+        ensures told { Reads lane result (seating seat.old) }
     {
         self.table.shared.load::<Probe>(&mut seat.seat, lane)
     }
@@ -208,7 +211,7 @@ impl Claims {
         requires free { (word % 256 ≡ 0) × (word / 256 + 1 < 2 ^ 56) }
         ensures seat { IsSeatOf self.now seat.new × (port_of seat.new ≡ port_of seat.old) }
         ensures held { IfOk result (λ far. Taken (port_of seat.old) lane (word / 256) far (seating seat.old) (seating seat.new)) }
-        ensures raced { IfErr result (λ found. (found ≢ word) × (seating seat.new ≡ after_look lane found (seating seat.old))) }
+        ensures raced { IfErr result (λ found. (found ≢ word) × (seating seat.new ≡ after_look lane found (seating seat.old)) × Reads lane found (seating seat.old)) }
     {
         let taken = word + seat.port as u64 + 1;
         let shared = &self.table.shared;
@@ -227,12 +230,7 @@ impl Claims {
         requires seat { IsSeatOf self.now seat.old }
         requires open { IsOpen (seating seat.old) stint }
         requires tail { ((tail ≡ 0) × (unanswered stint.far ≡ [])) ⊎ (tail ≡ 255) }
-        ensures seat { IsSeatOf self.now seat.new × (port_of seat.new ≡ port_of seat.old) }
-        ensures ended { seating seat.new ≡ after_end (tail == 255) stint.lane stint.far (seating seat.old) }
-        ensures closed { stint_at (seating seat.new) stint.lane ≡ None }
-        ensures others { (j : ℕ) → j ≢ stint.lane → stint_at (seating seat.new) j ≡ stint_at (seating seat.old) j }
-        ensures last { (b : Begun) (bs : List Begun) → (seating seat.old).held ≡ b ∷ bs → b.lane ≡ stint.lane → (seating seat.new).held ≡ bs }
-        ensures parts { (seating seat.new).parts ≡ (seating seat.old).parts }
+        ensures { EndsStint self.now (tail == 255) stint seat.old seat.new }
     {
         let Stint { lane, number, far } = stint;
         let shared = &self.table.shared;
@@ -253,7 +251,7 @@ impl Claims {
         ensures end { IsEnd (lanes_of self.now) seat.old.me.0.finished lane result }
     {
         let shared = &self.table.shared;
-        let stints = shared.load::<Survey>(seat, lane) / 256;
+        let stints = shared.load::<Probe>(seat, lane) / 256;
         shared.swap::<ClosingSwap>(seat, lane, 256 * stints + SURRENDERED);
         let Some(far) = shared.exchange(seat, lane, None) else {
             unreachable!()

@@ -8,11 +8,14 @@
 mod claim;
 mod claims;
 mod ends;
+mod laws;
 mod rule;
 mod seating;
-#[cfg(test)]
-mod tests;
 
 pub use claim::{Claim, Stint};
 pub use claims::{ClaimSeat, Claims, MAX_STINTS, Memory, NO_PORT};
+pub use laws::{
+    a_lane_at_home_is_settled, a_lane_has_one_holder, a_step_changes_one_seat, new_claims_are_free,
+    stints_add_up_by_lane, stints_are_numbered, stints_go_on,
+};
 pub use seating::{Begun, LaneLists, Past, Reading, Seating};

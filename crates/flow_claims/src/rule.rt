@@ -1,7 +1,7 @@
 //! The one rule of the claim words, and the kinds of step under it.
 ghost use Rattle.flow_claims.specs.Seats.{after_join, first_seating, part_of, rest_of, spent_seating};
 ghost use Rattle.flow_claims.specs.Rule.{Claimed};
-ghost use Rattle.flow_claims.specs.Steps.{Probes, Begins, Fronts, Finishes, Surveys, Closes};
+ghost use Rattle.flow_claims.specs.Steps.{Probes, Begins, Fronts, Finishes, Closes};
 
 use crate::seating::Seating;
 use atomic_table::{Join, Play, Split, TableRule};
@@ -38,12 +38,6 @@ pub struct Return;
 
 impl Play<Option<Far>, Seating> for Return {
     ghost then = { Finishes };
-}
-
-pub struct Survey;
-
-impl Play<Option<Far>, Seating> for Survey {
-    ghost then = { Surveys };
 }
 
 pub struct ClosingSwap;

@@ -1,6 +1,5 @@
 -- One end more is out of its slot.
-use Rattle.std.proofs.Common.{◌≡◌, ◌∙◌, ◌+◌, ◌++◌, ◌∷◌, [], List, Option, Some, length, sym, ap, arith, option_to_list}
-use Rattle.lane_rings.specs.declared.far.Far.{Far}
+use Rattle.std.proofs.Common.{◌≡◌, ◌∙◌, ◌++◌, ◌∷◌, [], sym, ap, option_to_list}
 use Rattle.flow_claims.proofs.Calls.{unpop, unwrap_one}
 use Rattle.flow_claims.proofs.ends.unwrapped.Goals as goal
 

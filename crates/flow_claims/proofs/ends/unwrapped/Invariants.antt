@@ -1,4 +1,4 @@
-use Rattle.std.proofs.Common.{◌≡◌, ◌≤◌, ◌+◌, ◌++◌, List, Some, map, reverse, length, vec_capacity}
+use Rattle.std.proofs.Common.{◌≡◌, ◌+◌, ◌++◌, List, Some, map, reverse, length, vec_capacity}
 use Rattle.lane_rings.specs.declared.far.Far.{Far}
 use Rattle.flow_claims.proofs.ends.unwrapped.Given as goal
 

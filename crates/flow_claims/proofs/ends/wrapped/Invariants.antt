@@ -1,4 +1,4 @@
-use Rattle.std.proofs.Common.{◌≡◌, ◌≤◌, ◌+◌, ◌++◌, Some, map, reverse, length, vec_capacity}
+use Rattle.std.proofs.Common.{◌≡◌, ◌+◌, ◌++◌, Some, map, reverse, length, vec_capacity}
 use Rattle.flow_claims.proofs.ends.wrapped.Given as goal
 
 abbrev pub invariant-loop-far : goal.invariant-loop-far

@@ -1,11 +1,14 @@
--- One lane more is closed.
-use Rattle.std.proofs.Common.{◌≡◌, ◌∙◌, ◌+◌, ◌<◌, ℕ, List, length, map, take, ap, subst, arith}
+-- One lane more is closed, and at the end all stints weigh what all ends weigh.
+use Rattle.std.proofs.Common.{rules, ◌∙◌, ◌<◌, List, All, length, map, ap, subst, sum_by}
+use Rattle.lane_rings.specs.Ends.{received_by, answered}
 use Rattle.lane_rings.specs.Identity.{far_id}
 use Rattle.lane_rings.specs.declared.far.Far.{Far}
 use Rattle.flow_claims.specs.declared.seating.Past.{Past}
 use Rattle.flow_claims.specs.Ends.{IsEnd}
-use Rattle.flow_claims.specs.Claims.{lanes_of}
-use Rattle.flow_claims.proofs.Calls.{of_within, one_more, each_more}
+use Rattle.flow_claims.specs.Stints.{received_in, answered_in}
+use Rattle.flow_claims.specs.Claims.{seating, lanes_of}
+use Rattle.flow_claims.proofs.ByLane.{ends_weigh}
+use Rattle.flow_claims.proofs.Calls.{one_more, each_more, all_out}
 use Rattle.flow_claims.proofs.claims.Claims.close.Goals as goal
 
 pub loop-lane-preserved : goal.loop-lane-preserved
@@ -26,3 +29,21 @@ loop-lane-preserved c =
           c.push_reserved.ensures.items was.6 was.7 is.of_lane is,
       c.push_reserved.ensures.capacity ∙ was.8,
     )
+
+pub returns-clause-received : goal.returns-clause-received
+returns-clause-received c f =
+    let was = c.loop-lane.invariant in
+    let lanes : List Far = lanes_of c.args.self.now in
+    let Exist : List Far → Type 0 = λ ls. All (λ p. p.lane < length ls) (seating c.args.seat).finished in
+    let exist : Exist lanes = subst Exist c.requires.seat.1 c.args.seat.lanes_exist in
+    ends_weigh (λ p. sum_by f (received_in p)) (λ far. sum_by f (received_by far)) (seating c.args.seat).finished (length lanes) c.loop-lane.into.items exist
+    (all_out lanes c.loop-lane.into.items c.loop-lane.lane was.6 (search rules)) (λ i far e. (was.7 i far e).received f)
+
+pub returns-clause-answered : goal.returns-clause-answered
+returns-clause-answered c f =
+    let was = c.loop-lane.invariant in
+    let lanes : List Far = lanes_of c.args.self.now in
+    let Exist : List Far → Type 0 = λ ls. All (λ p. p.lane < length ls) (seating c.args.seat).finished in
+    let exist : Exist lanes = subst Exist c.requires.seat.1 c.args.seat.lanes_exist in
+    ends_weigh (λ p. sum_by f (answered_in p)) (λ far. sum_by f (answered far)) (seating c.args.seat).finished (length lanes) c.loop-lane.into.items exist
+    (all_out lanes c.loop-lane.into.items c.loop-lane.lane was.6 (search rules)) (λ i far e. (was.7 i far e).answered f)

@@ -1,4 +1,4 @@
-use Rattle.std.proofs.Common.{◌≡◌, ◌≤◌, ℕ, Some, map, take, length, slice_get, vec_capacity}
+use Rattle.std.proofs.Common.{◌≡◌, ℕ, Some, map, take, slice_get, vec_capacity}
 use Rattle.lane_rings.specs.Identity.{far_id}
 use Rattle.lane_rings.specs.declared.far.Far.{Far}
 use Rattle.flow_claims.specs.Ends.{IsEnd}

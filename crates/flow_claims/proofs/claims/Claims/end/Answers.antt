@@ -1,65 +1,94 @@
 -- A stint ends: its slot comes in front, takes the end in, and goes back.
-use Rattle.std.proofs.Common.{◌≡◌, ◌∙◌, ◌<◌, None, ℕ, ◌*◌, ◌+◌, ◌%◌, ⊎_elim, eqb, refl, ap, sym, subst, length, List, arith}
+use Rattle.std.proofs.Common.{◌≡◌, ◌∙◌, None, ℕ, ◌*◌, ◌+◌, ◌%◌, ⊎_elim, eqb, refl, ap, subst, length, List, arith}
 use Rattle.lane_rings.specs.declared.far.Far.{Far}
 use Rattle.flow_claims.specs.Lists.{IsOf}
-use Rattle.flow_claims.specs.Seats.{without, after_end}
+use Rattle.flow_claims.specs.Seats.{without, past_of, finished_by, after_end}
 use Rattle.flow_claims.proofs.Held.{found_lane}
 use Rattle.flow_claims.proofs.Keeps.{fronts, finishes}
+use Rattle.flow_claims.proofs.Opened.{opened, stays_open, is_ended, ended_held, ended_ports}
 use Rattle.flow_claims.proofs.Calls.{of_within, first_slot, in_front, put, ended, ended_lanes, ended_rest}
 use Rattle.flow_claims.proofs.claims.Claims.end.Goals as goal
 
 pub load-requires : goal.load-requires
 load-requires c =
+    let o = opened c.args.seat.now.seat.me.0 c.args.stint c.requires.open in
     let there = of_within c.args.seat.now.seat.me.0.lanes c.args.stint.lane c.args.stint.far c.requires.open.of_lane in (
       c.requires.seat.0,
       omega (arith, c.args.self.now.words, there, ap length c.requires.seat.1),
-      fronts _ _ _ _ _ c.requires.open.begun c.args.seat.now.has_part c.args.seat.now.slots c.requires.open.at,
+      fronts _ _ _ _ _ o.begun c.args.seat.now.has_part c.args.seat.now.slots o.at,
     )
 
 pub exchange-requires : goal.exchange-requires
 exchange-requires c =
-    let slots = in_front c.args.stint.lane c.args.seat.now.seat.me.0.held c.requires.open.begun c.load.new.seat.me.1 c.requires.open.at c.load.ensures.2.1 in
+    let o = opened c.args.seat.now.seat.me.0 c.args.stint c.requires.open in
+    let slots = in_front c.args.stint.lane c.args.seat.now.seat.me.0.held o.begun c.load.new.seat.me.1 o.at c.load.ensures.2.1 in
     (c.load.ensures.0 ∙ c.requires.seat.0, (None, first_slot _ _ _ slots))
 
 pub store-requires : goal.store-requires
 store-requires c =
     let v = c.args.seat.now.seat.me.0 in
-    let b = c.requires.open.begun in
-    let there = of_within c.args.seat.now.seat.me.0.lanes c.args.stint.lane c.args.stint.far c.requires.open.of_lane in
+    let o = opened v c.args.stint c.requires.open in
+    let there = of_within v.lanes c.args.stint.lane c.args.stint.far c.requires.open.of_lane in
     let slots = c.args.self.now.table.shared.table_id.slots in
-    let is = put slots c.args.stint.lane c.load.result v b c.args.stint.far c.args.seat.now.seat.me c.load.new.seat.me c.exchange.new.seat.me refl c.requires.open.at c.load.ensures.2 c.exchange.ensures.3 in
+    let is = put slots c.args.stint.lane c.load.result v o.begun c.args.stint.far c.args.seat.now.seat.me c.load.new.seat.me c.exchange.new.seat.me refl o.at c.load.ensures.2 c.exchange.ensures.3 in
     let parts = ap (λ x. x.parts) is.view in
     let Of : List Far → Type 0 = λ ls. IsOf ls c.args.stint.lane c.args.stint.far in (
       c.exchange.ensures.0 ∙ c.load.ensures.0 ∙ c.requires.seat.0,
       omega (arith, c.args.self.now.words, there, ap length c.requires.seat.1),
-      finishes _ _ _ _ _ _ _ b (without c.args.stint.lane v.held) c.args.stint.far (omega (arith, parts, c.args.seat.now.has_part)) (ap (λ x. x.held) is.view) is.slots
-          (found_lane c.args.stint.lane v.held b c.requires.open.at) c.requires.open.number (omega (arith, there, ap length c.requires.seat.1))
-          c.requires.open.goes_on (subst Of c.requires.seat.1 c.requires.open.of_lane) c.requires.tail,
+      finishes _ _ _ _ _ _ _ o.begun (without c.args.stint.lane v.held) c.args.stint.far (omega (arith, parts, c.args.seat.now.has_part)) (ap (λ x. x.held) is.view) is.slots
+          (found_lane c.args.stint.lane v.held o.begun o.at) o.number (omega (arith, there, ap length c.requires.seat.1))
+          o.goes_on (subst Of c.requires.seat.1 c.requires.open.of_lane) c.requires.tail,
     )
 
-pub returns-clause-others : goal.returns-clause-others
-returns-clause-others c =
+pub returns : goal.returns
+returns c =
     let v = c.args.seat.now.seat.me.0 in
-    let b = c.requires.open.begun in
-    let slots = c.args.self.now.table.shared.table_id.slots in
-    let is = put slots c.args.stint.lane c.load.result v b c.args.stint.far c.args.seat.now.seat.me c.load.new.seat.me c.exchange.new.seat.me refl c.requires.open.at c.load.ensures.2 c.exchange.ensures.3 in
-    (ended slots c.args.stint.lane (256 * (c.args.stint.number + 1) + c.args.tail) v b c.args.stint.far c.exchange.new.seat.me c.store.new.seat.me c.requires.open.at is c.store.ensures.2).others
-
-pub returns-clause-last : goal.returns-clause-last
-returns-clause-last c =
-    let v = c.args.seat.now.seat.me.0 in
-    let b = c.requires.open.begun in
-    let slots = c.args.self.now.table.shared.table_id.slots in
-    let is = put slots c.args.stint.lane c.load.result v b c.args.stint.far c.args.seat.now.seat.me c.load.new.seat.me c.exchange.new.seat.me refl c.requires.open.at c.load.ensures.2 c.exchange.ensures.3 in
-    (ended slots c.args.stint.lane (256 * (c.args.stint.number + 1) + c.args.tail) v b c.args.stint.far c.exchange.new.seat.me c.store.new.seat.me c.requires.open.at is c.store.ensures.2).last
-
-pub returns-clause-ended : goal.returns-clause-ended
-returns-clause-ended c =
-    let v = c.args.seat.now.seat.me.0 in
-    let b = c.requires.open.begun in
+    let o = opened v c.args.stint c.requires.open in
+    let lane = c.args.stint.lane in
+    let far = c.args.stint.far in
+    let gone = eqb c.args.tail 255 in
     let slots = c.args.self.now.table.shared.table_id.slots in
     let new : ℕ = 256 * (c.args.stint.number + 1) + c.args.tail in
     let tail_is : new % 256 ≡ c.args.tail = ⊎_elim (λ h. omega (arith, h.0)) (λ h. omega (arith, h)) c.requires.tail in
-    let is = put slots c.args.stint.lane c.load.result v b c.args.stint.far c.args.seat.now.seat.me c.load.new.seat.me c.exchange.new.seat.me refl c.requires.open.at c.load.ensures.2 c.exchange.ensures.3 in
-    (ended slots c.args.stint.lane new v b c.args.stint.far c.exchange.new.seat.me c.store.new.seat.me c.requires.open.at is c.store.ensures.2).view
-    ∙ ap (λ x. after_end (eqb x 255) c.args.stint.lane c.args.stint.far v) tail_is
+    let is = put slots lane c.load.result v o.begun far c.args.seat.now.seat.me c.load.new.seat.me c.exchange.new.seat.me refl o.at c.load.ensures.2 c.exchange.ensures.3 in
+    let over = ended slots lane new v o.begun far c.exchange.new.seat.me c.store.new.seat.me o.at is c.store.ensures.2 in
+    let now : c.store.new.seat.me.0 ≡ after_end gone lane far v = over.view ∙ ap (λ x. after_end (eqb x 255) lane far v) tail_is in
+    let rest = ended_rest gone lane far v o.begun c.store.new.seat.me o.at now in
+    record {
+      seat = (c.store.ensures.0 ∙ c.exchange.ensures.0 ∙ c.load.ensures.0 ∙ c.requires.seat.0, rest.2 ∙ c.requires.seat.1);
+      port = record {
+        port = refl;
+        held = ended_held c.args.seat.now.port gone lane far v c.store.new.seat.me.0 o.begun o.at now c.args.seat.now.own_port;
+        all = ended_ports c.args.seat.now.port gone lane far v c.store.new.seat.me.0 o.begun o.at now;
+      };
+      ended = now;
+      piece = (past_of gone o.begun far, ap (λ x. x.finished) (now ∙ ap (λ f. finished_by gone lane far f v) o.at), is_ended gone v c.args.stint o);
+      closed = c.store.ensures.2.2;
+      others = over.others;
+      stay = λ other ne. stays_open v c.store.new.seat.me.0 other (over.others other.lane ne) rest.2;
+      last = over.last;
+      parts = rest.0;
+    }
+
+pub invariant_of-seat : goal.invariant_of-seat
+invariant_of-seat c =
+    let v = c.args.seat.now.seat.me.0 in
+    let o = opened v c.args.stint c.requires.open in
+    let lane = c.args.stint.lane in
+    let far = c.args.stint.far in
+    let gone = eqb c.args.tail 255 in
+    let slots = c.args.self.now.table.shared.table_id.slots in
+    let new : ℕ = 256 * (c.args.stint.number + 1) + c.args.tail in
+    let tail_is : new % 256 ≡ c.args.tail = ⊎_elim (λ h. omega (arith, h.0)) (λ h. omega (arith, h)) c.requires.tail in
+    let there = of_within v.lanes lane far c.requires.open.of_lane in
+    let is = put slots lane c.load.result v o.begun far c.args.seat.now.seat.me c.load.new.seat.me c.exchange.new.seat.me refl o.at c.load.ensures.2 c.exchange.ensures.3 in
+    let over = ended slots lane new v o.begun far c.exchange.new.seat.me c.store.new.seat.me o.at is c.store.ensures.2 in
+    let now : c.store.new.seat.me.0 ≡ after_end gone lane far v = over.view ∙ ap (λ x. after_end (eqb x 255) lane far v) tail_is in
+    let rest = ended_rest gone lane far v o.begun c.store.new.seat.me o.at now in
+    record {
+      slots = over.slots;
+      has_part = omega (arith, rest.0, c.args.seat.now.has_part);
+      none_closed = rest.1 ∙ c.args.seat.now.none_closed;
+      lanes_exist = ended_lanes gone lane far v o.begun c.store.new.seat.me o.at now there c.args.seat.now.lanes_exist;
+      own_port = ended_held c.args.seat.now.port gone lane far v c.store.new.seat.me.0 o.begun o.at now c.args.seat.now.own_port;
+    }

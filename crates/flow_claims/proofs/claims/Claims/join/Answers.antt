@@ -1,7 +1,7 @@
 -- A join keeps the rule.
-use Rattle.std.proofs.Common.{rules, ◌≡◌, ◌++◌, ◌∙◌, [], map, ap, sym, subst, length, arith, append-nil, ◌<◌, ℕ, List, All}
-use Rattle.std.proofs.lemmas.List.Elements.{All-append}
-use Rattle.flow_claims.specs.Seats.{slot_of, after_join}
+use Rattle.std.proofs.Common.{◌≡◌, ◌++◌, ◌∙◌, map, ap, sym, subst, arith, append-nil, List, All}
+use Rattle.flow_claims.specs.declared.seating.Begun.{Begun}
+use Rattle.flow_claims.specs.Seats.{slot_of}
 use Rattle.flow_claims.proofs.Parts.{joins}
 use Rattle.flow_claims.proofs.Calls.{joined_slots, joined_lanes}
 use Rattle.flow_claims.proofs.claims.Claims.join.Goals as goal
@@ -20,3 +20,8 @@ invariant_of-a-clause-slots c = joined_slots c.args.a.seat.me c.join_seat.new.se
 
 pub invariant_of-a-clause-lanes_exist : goal.invariant_of-a-clause-lanes_exist
 invariant_of-a-clause-lanes_exist c = joined_lanes c.args.a.seat.me c.join_seat.new.seat.me c.args.b.seat.me.0 c.join_seat.ensures.2 c.args.a.lanes_exist c.args.b.lanes_exist (c.requires.second.1 ∙ sym c.requires.first.1)
+
+pub invariant_of-a-clause-own_port : goal.invariant_of-a-clause-own_port
+invariant_of-a-clause-own_port c =
+    let Own : List Begun → Type 0 = All (λ b. b.port ≡ c.args.a.port) in
+    subst Own (sym (ap (λ m. m.0.held) c.join_seat.ensures.2 ∙ ap (λ bs. c.args.a.seat.me.0.held ++ bs) c.requires.none_open ∙ append-nil c.args.a.seat.me.0.held)) c.args.a.own_port

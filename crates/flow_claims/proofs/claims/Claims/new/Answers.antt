@@ -1,5 +1,5 @@
 -- The rule holds of new claims, and the ends come back in their order.
-use Rattle.std.proofs.Common.{rules, ◌≡◌, ◌∙◌, ◌+◌, ℕ, List, Option, Vec, replicate, length, ap, sym, subst, arith}
+use Rattle.std.proofs.Common.{rules, ◌≡◌, ◌∙◌, ◌+◌, ℕ, List, Option, replicate, length, ap, sym, subst}
 use Rattle.atomic_table.specs.Table.{opening}
 use Rattle.lane_rings.specs.declared.far.Far.{Far}
 use Rattle.flow_claims.specs.Seats.{first_seating}

@@ -3,7 +3,7 @@ use Rattle.std.proofs.lemmas.List.{length-append}
 use Rattle.std.proofs.lemmas.List.Elements.{All-push}
 use Rattle.lane_rings.specs.Ends.{received_by, answered}
 use Rattle.lane_rings.specs.declared.far.Far.{Far}
-use Rattle.flow_claims.proofs.tests.eight_lanes.Goals as goal
+use Rattle.claim_tests.proofs.turns.eight_lanes.Goals as goal
 
 pub loop-round-preserved : goal.loop-round-preserved
 loop-round-preserved c =

@@ -1,6 +1,6 @@
 use Rattle.std.proofs.Common.{◌≡◌, All, [], length, vec_capacity}
 use Rattle.lane_rings.specs.Ends.{received_by, answered}
-use Rattle.flow_claims.proofs.tests.eight_lanes.Given as goal
+use Rattle.claim_tests.proofs.turns.eight_lanes.Given as goal
 
 abbrev pub invariant-loop-round : goal.invariant-loop-round
 invariant-loop-round l =

@@ -64,7 +64,7 @@ pub record EndsStint (claims : Claims) (surrendered : Bool) (stint : Stint) (bef
   pub seat : IsSeatOf claims after
   pub port : KeepsPort before after
   pub ended : seating after ≡ after_end surrendered stint.lane stint.far (seating before)
-  pub piece : (p : Past) × ((seating after).finished ≡ (seating before).finished ++ p ∷ []) × IsEnded surrendered (seating before) stint p
+  pub piece : (p : Past) × ((seating after).finished ≡ (seating before).finished ++ p ∷ []) × IsEnded surrendered (seating before) stint p × (p.port ≡ port_of before)
   pub closed : stint_at (seating after) stint.lane ≡ None
   pub others : (j : ℕ) → j ≢ stint.lane → stint_at (seating after) j ≡ stint_at (seating before) j
   pub stay : (other : Stint) → other.lane ≢ stint.lane → IsOpen (seating before) other → IsOpen (seating after) other

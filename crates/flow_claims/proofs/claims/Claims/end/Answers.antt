@@ -3,7 +3,7 @@ use Rattle.std.proofs.Common.{◌≡◌, ◌∙◌, None, ℕ, ◌*◌, ◌+◌,
 use Rattle.lane_rings.specs.declared.far.Far.{Far}
 use Rattle.flow_claims.specs.Lists.{IsOf}
 use Rattle.flow_claims.specs.Seats.{without, past_of, finished_by, after_end}
-use Rattle.flow_claims.proofs.Held.{found_lane}
+use Rattle.flow_claims.proofs.Held.{found_lane, found_has}
 use Rattle.flow_claims.proofs.Keeps.{fronts, finishes}
 use Rattle.flow_claims.proofs.Opened.{opened, stays_open, is_ended, ended_held, ended_ports}
 use Rattle.flow_claims.proofs.Calls.{of_within, first_slot, in_front, put, ended, ended_lanes, ended_rest}
@@ -62,7 +62,7 @@ returns c =
         all = ended_ports c.args.seat.now.port gone lane far v c.store.new.seat.me.0 o.begun o.at now;
       };
       ended = now;
-      piece = (past_of gone o.begun far, ap (λ x. x.finished) (now ∙ ap (λ f. finished_by gone lane far f v) o.at), is_ended gone v c.args.stint o);
+      piece = (past_of gone o.begun far, ap (λ x. x.finished) (now ∙ ap (λ f. finished_by gone lane far f v) o.at), is_ended gone v c.args.stint o, found_has (λ b. b.port ≡ c.args.seat.now.port) lane v.held o.begun c.args.seat.now.own_port o.at);
       closed = c.store.ensures.2.2;
       others = over.others;
       stay = λ other ne. stays_open v c.store.new.seat.me.0 other (over.others other.lane ne) rest.2;

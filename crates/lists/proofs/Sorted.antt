@@ -1,12 +1,13 @@
 -- A list in order is told by its sums.
-use Rattle.std.proofs.Common.{◌≡◌, ℕ, suc, ◌+◌, ◌-◌, ◌<◌, ◌≤◌, Bool, true, false, not, ◌==◌, nat_lt, nat_le, List, [], ◌∷◌, ◌++◌, length, map, take, drop, get_or, All, AllPairs, sum_by, ⊎_elim, refl, sym, ap, ◌∙◌, subst, arith}
-use Rattle.std.proofs.lemmas.Bool.{cases_lt, lt-ltb, le-leb, false_from_ne_true, ltb-true, leb-true}
+use Rattle.std.proofs.Common.{◌≡◌, ℕ, suc, ◌+◌, ◌-◌, ◌<◌, ◌≤◌, ◌≢◌, ◌⊎◌, inl, inr, ◌||◌, Bool, true, false, not, ◌==◌, nat_lt, nat_le, List, [], ◌∷◌, ◌++◌, length, map, take, drop, get_or, All, AllPairs, sum_by, ⊎_elim, refl, sym, ap, ◌∙◌, subst, arith}
+use Rattle.std.proofs.lemmas.Bool.{cases_eq, cases_lt, lt-ltb, le-leb, false_from_ne_true, false≢true, ltb-true, leb-true, ne_eqb}
+use Rattle.lists.specs.Lists.{has}
 use Rattle.std.proofs.lemmas.List.{drop_all, take_all, append-nil, length-append, length-map, get_or-map}
 use Rattle.std.proofs.Common.{take_at, drop_at, append_assoc}
 use Rattle.std.proofs.lemmas.List.Sums.{sum_by-cons}
 use borrow.Rule.Slice.PartMut.{mid_of, put_mid, post_of}
 use Rattle.std.specs.List.Sorted.{IsNonDecreasing, IsNonDecreasingBy}
-use Rattle.lists.proofs.Lists.{eqb_is, eqb_same}
+use Rattle.lists.proofs.Lists.{All-has, eqb_is, eqb_same, has_none}
 use Rattle.lists.proofs.Sums.{sum_of_none}
 
 abbrev one_if : Bool → ℕ
@@ -144,3 +145,43 @@ seconds_in_order (x ∷ xs) order i j d le within =
     let b : get_or (map second (x ∷ xs)) j d ≡ second (get_or (x ∷ xs) j x) = get_or-map second (x ∷ xs) j x d h in
     let less : second (get_or (x ∷ xs) i x) ≤ second (get_or (x ∷ xs) j x) = order i j x le h in
     omega arith
+
+-- ---- lists that rise, with the same members
+
+-- the first is the least, so the first of one is the first of the other
+first_is_first : (x y : ℕ) (xs ys : List ℕ) → All (λ z. x < z) xs → All (λ z. y < z) ys → has y (x ∷ xs) ≡ true → has x (y ∷ ys) ≡ true → x ≡ y
+first_is_first x y xs ys later next in_first in_second = by_case (cases_eq x y)
+  where
+    by_case : (x ≡ y) ⊎ (x ≢ y) → x ≡ y
+    by_case (inl same) = same
+    by_case (inr differ) =
+        let below : x < y = All-has (λ z. x < z) y xs later (subst (λ b. (b || has y xs) ≡ true) (ne_eqb x y differ) in_first) in
+        let above : y < x = All-has (λ z. y < z) x ys next (subst (λ b. (b || has x ys) ≡ true) (ne_eqb y x (λ e. differ (sym e))) in_second) in
+        absurd (omega arith)
+
+pub same_rising : (xs ys : List ℕ) → AllPairs (λ m n. m < n) xs → AllPairs (λ m n. m < n) ys → ((n : ℕ) → has n xs ≡ has n ys) → xs ≡ ys
+same_rising [] [] rises mounts same = refl
+same_rising [] (y ∷ ys) rises mounts same = absurd (false≢true (same y ∙ ap (λ b. b || has y ys) (eqb_same y)))
+same_rising (x ∷ xs) [] rises mounts same = absurd (false≢true (sym (same x) ∙ ap (λ b. b || has x xs) (eqb_same x)))
+same_rising (x ∷ xs) (y ∷ ys) rises mounts same =
+    ap (λ n. n ∷ xs) first ∙ ap (λ zs. y ∷ zs) (same_rising xs ys (λ i j d lt within. rises (suc i) (suc j) d (omega arith) (omega arith)) (λ i j d lt within. mounts (suc i) (suc j) d (omega arith) (omega arith)) rest)
+  where
+    later : All (λ z. x < z) xs
+    later k d h = rises 0 (suc k) d (omega arith) (omega arith)
+
+    next : All (λ z. y < z) ys
+    next k d h = mounts 0 (suc k) d (omega arith) (omega arith)
+
+    first : x ≡ y
+    first = first_is_first x y xs ys later next (same y ∙ ap (λ b. b || has y ys) (eqb_same y)) (sym (same x) ∙ ap (λ b. b || has x xs) (eqb_same x))
+
+    not_in : (n : ℕ) (zs : List ℕ) → All (λ z. n < z) zs → has n zs ≡ false
+    not_in n zs all = has_none n zs (λ k d h. let lt = all k d h in λ e. absurd (omega arith))
+
+    rest : (n : ℕ) → has n xs ≡ has n ys
+    rest n = by_case (cases_eq x n)
+      where
+        by_case : (x ≡ n) ⊎ (x ≢ n) → has n xs ≡ has n ys
+        by_case (inl is) = ap (λ m. has m xs) (sym is) ∙ (not_in x xs later ∙ sym (ap (λ m. has m ys) (sym is ∙ first) ∙ not_in y ys next))
+        by_case (inr other) =
+            sym (ap (λ b. b || has n xs) (ne_eqb x n other)) ∙ (same n ∙ ap (λ b. b || has n ys) (ne_eqb y n (λ e. other (first ∙ e))))

@@ -3,7 +3,7 @@ use Rattle.std.specs.Prelude.{ℕ, ◌≡◌, ◌≢◌, ◌<◌, ◌≤◌, ◌
 use Rattle.std.specs.List.{range_with_len}
 use Rattle.std.proofs.Common.{refl, sym, ap, ◌∙◌, subst, arith, ⊎_elim, zero, suc, get_or, eq-eqb}
 use Rattle.std.proofs.lemmas.Bool.{cases_eq, false≢true, ne_eqb}
-use Rattle.std.proofs.lemmas.List.Elements.{All-head, All-tail}
+use Rattle.std.proofs.lemmas.List.Elements.{All-cons, All-head, All-tail}
 use Rattle.std.proofs.lemmas.List.FromFn.{length-range_with_len, fill_by_all}
 use Rattle.std.proofs.lemmas.List.Sums.{sum_by-cons, sum_by-le}
 use Rattle.lists.specs.Lists.{has}
@@ -104,3 +104,12 @@ length_by_keys key n most xs all few =
 pub sum_by_place : {X : Type 0} (f : X → ℕ) (xs : List X) (d : X) → sum_by (λ k. f (get_or xs k d)) (range_with_len 0 (length xs)) ≡ sum_by f xs
 sum_by_place f xs d =
     sym (sum_of_map f (λ k. get_or xs k d) (range_with_len 0 (length xs))) ∙ ap (λ ys. sum_by f ys) (sym (fill_by_all (λ k. get_or xs k d) xs (length xs) d refl (λ k h. refl)))
+
+-- where a sum is 0 each term is
+pub none_in_sum : {X : Type 0} (f : X → ℕ) (xs : List X) → sum_by f xs ≡ 0 → All (λ x. f x ≡ 0) xs
+none_in_sum f [] none = λ k d h. absurd (omega arith)
+none_in_sum f (x ∷ xs) none =
+    let parts = sum_by-cons f x xs in
+    let here : f x ≡ 0 = omega arith in
+    let rest : sum_by f xs ≡ 0 = omega arith in
+    All-cons (λ y. f y ≡ 0) x xs here (none_in_sum f xs rest)

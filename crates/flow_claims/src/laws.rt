@@ -18,7 +18,7 @@ ghost use Rattle.flow_claims.specs.declared.claims.Claims.{Claims};
 ghost use Rattle.evt_types.specs.declared.event.Delivery.{Delivery};
 ghost use Rattle.evt_types.specs.declared.event.Reply.{Reply};
 ghost use Rattle.flow_claims.specs.Claims.{seating};
-ghost use Rattle.flow_claims.specs.Open.{IsOpen};
+ghost use Rattle.flow_claims.specs.Open.{IsOpen, open_count};
 ghost use Rattle.flow_claims.specs.Answers.{AnswersClaim, EndsStint};
 ghost use Rattle.flow_claims.specs.Weights.{received_weight, answered_weight};
 ghost use Rattle.flow_claims.specs.Laws.{first_board, IsUnused, Sits, IsAtHome, IsAway, IsHeldByOne, IsInOneList, WasClosed, WasSurrendered, IsStep, MayChange, SameInAll};
@@ -75,7 +75,7 @@ pub fn a_step_changes_one_seat()
 /// Weighed in whatever way, stints weigh as much as those of each lane do together.
 pub fn stints_add_up_by_lane()
     ensures finished { (n : ℕ) (ps : List Past) (f : Past → ℕ) → All (λ p. p.lane < n) ps → sum_by f ps ≡ sum_by (λ lane. sum_by (at_lane lane f) ps) (range_with_len 0 n) }
-    ensures held { (lanes : List Far) (s : Board) (i : ℕ) (v : Seating) → Claimed lanes s → Sits s i v → length v.held ≡ sum_by (λ lane. opens lane v.held) (range_with_len 0 (length lanes)) }
+    ensures held { (lanes : List Far) (s : Board) (i : ℕ) (v : Seating) → Claimed lanes s → Sits s i v → open_count v ≡ sum_by (λ lane. opens lane v.held) (range_with_len 0 (length lanes)) }
 {}
 
 /// What was received and answered in a seat's stints, the finished ones and those in a list that it has open, weighs the same where a

@@ -5,7 +5,7 @@ use crate::moves::Move;
 use crate::pair::Pair;
 use crate::plain_run::PlainMade;
 use crate::shapes::{Device, queue_of};
-use evt_types::Kind;
+use evt_types::{Kind, Serving};
 use plain_core::PlainTook;
 use std::alloc::Global;
 use std::test::Fail;
@@ -66,9 +66,10 @@ impl Seen {
 /// The run of a seed.
 fn compare(alloc: Global, device: &Device<'_>, seed: u64, seen: &mut Seen) -> Result<(), Fail> {
     let mut pair = Pair::new(alloc, device)?;
-    let lanes = u32::try_from(device.ports.len())?;
+    let ports = u32::try_from(device.ports.len())?;
+    let lanes = u32::try_from(pair.lanes())?;
     let queues = u32::try_from(device.queues.len())?;
-    let mut drawing = Drawing::new(seed, lanes, queues);
+    let mut drawing = Drawing::new(seed, ports, lanes, queues);
     for turn in 0..TURNS {
         if drawing.below(10) == 0 {
             let _ = pair.make(Move::NextSweep)?;
@@ -100,6 +101,7 @@ fn a_parallel_queue(rt: HostRuntime) -> Result<(), Fail> {
     let device = Device {
         limit: 6,
         sweep: 4,
+        serving: Serving::Ports,
         queues: &queues,
         ports: &ports,
     };
@@ -119,6 +121,7 @@ fn atomic_queues_of_few_slots(rt: HostRuntime) -> Result<(), Fail> {
     let device = Device {
         limit: 8,
         sweep: 3,
+        serving: Serving::Ports,
         queues: &queues,
         ports: &ports,
     };
@@ -138,6 +141,7 @@ fn an_ordered_queue_of_few_places(rt: HostRuntime) -> Result<(), Fail> {
     let device = Device {
         limit: 10,
         sweep: 4,
+        serving: Serving::Ports,
         queues: &queues,
         ports: &ports,
     };
@@ -164,6 +168,28 @@ fn queues_of_all_kinds(rt: HostRuntime) -> Result<(), Fail> {
     let device = Device {
         limit: 16,
         sweep: 2,
+        serving: Serving::Ports,
+        queues: &queues,
+        ports: &ports,
+    };
+    let seen = compare_all(rt.alloc(), &device)?;
+    assert!(rt; seen.is_varied(), "{seen:?}");
+    assert!(rt; seen.kept >= OFTEN, "{seen:?}");
+    Ok(())
+}
+
+#[test]
+fn flow_lanes_beside_an_ordered_and_a_parallel_queue(rt: HostRuntime) -> Result<(), Fail> {
+    let queues = [
+        queue_of(Kind::Ordered, 128, 4),
+        queue_of(Kind::Atomic, 128, 3),
+        queue_of(Kind::Parallel, 128, 1),
+    ];
+    let ports: [(u32, &[u32]); 3] = [(4, &[]), (3, &[0, 1]), (4, &[2, 1, 0])];
+    let device = Device {
+        limit: 10,
+        sweep: 3,
+        serving: Serving::Flows,
         queues: &queues,
         ports: &ports,
     };

@@ -6,20 +6,22 @@ use evt_types::{Event, Op};
 use rand_core::utils::NextWord;
 use rand_pcg::Pcg32;
 
-/// What the moves for a device with so many lanes and queues are drawn from.
+/// What the moves for a device with so many ports, lanes and queues are drawn from.
 #[derive(Drop)]
 pub(crate) struct Drawing {
     random: Pcg32,
+    ports: u32,
     lanes: u32,
     queues: u32,
 }
 
 impl Drawing {
     /// Moves from a seed.
-    pub(crate) fn new(seed: u64, lanes: u32, queues: u32) -> Drawing {
+    pub(crate) fn new(seed: u64, ports: u32, lanes: u32, queues: u32) -> Drawing {
         let random = Pcg32::new(seed, 54);
         Drawing {
             random,
+            ports,
             lanes,
             queues,
         }
@@ -59,6 +61,15 @@ impl Drawing {
         }
     }
 
+    /// The lane of a reply: a port's own where the reply is a new event, any where it is an answer.
+    fn lane(&mut self, op: Op) -> usize {
+        let count = match op {
+            Op::New => self.ports,
+            Op::Forward | Op::Release => self.lanes,
+        };
+        self.below(count) as usize
+    }
+
     /// A move: mostly a reply, or an event to be given; late in the run a shut now and then.
     pub(crate) fn next(&mut self, is_late: bool) -> Move {
         match self.below(1000) {
@@ -66,8 +77,8 @@ impl Drawing {
             0..50 => Move::Bounce,
             50..400 => Move::Give,
             _ => {
-                let lane = self.below(self.lanes) as usize;
                 let op = self.op();
+                let lane = self.lane(op);
                 let event = self.event(op);
                 Move::Reply { lane, event }
             }

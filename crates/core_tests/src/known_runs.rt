@@ -64,9 +64,9 @@ fn a_blocked_flow(rt: HostRuntime) -> Result<(), Fail> {
     assert_eq!(rt; run.core.inside(), 3);
     assert!(rt; !run.core.shape().queues().is_empty());
     assert_eq!(rt; run.core.waiting_len(0), 1);
-    let mut numbers = Vec::with_capacity(alloc, 1)?;
-    run.core.list_waiting(0, &mut numbers);
-    assert_eq!(rt; numbers.as_slice(), [1].as_slice());
+    let mut waiting = Vec::with_capacity(alloc, 1)?;
+    run.core.list_waiting(0, &mut waiting);
+    assert_eq!(rt; waiting.as_slice(), [(0, 1)].as_slice());
     Ok(())
 }
 

@@ -7,6 +7,8 @@ mod comparison;
 #[cfg(test)]
 mod drawn_moves;
 #[cfg(test)]
+mod flow_runs;
+#[cfg(test)]
 mod known_runs;
 #[cfg(test)]
 mod moves;

@@ -37,6 +37,8 @@ pub(crate) const KEPT: Made = Made::Took(Some(Took::Kept));
 pub(crate) const RELEASED: Made = Made::Took(Some(Took::Released));
 /// A reply is turned away.
 pub(crate) const TURNED: Made = Made::Took(Some(Took::Turned));
+/// A reply isn't taken.
+pub(crate) const NONE_TAKEN: Made = Made::Took(None);
 /// There is nothing to give.
 pub(crate) const NONE_LEFT: Made = Made::Proposed(None);
 

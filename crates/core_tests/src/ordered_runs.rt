@@ -4,7 +4,7 @@ use crate::moves::{ACCEPTED, KEPT, Move, NONE_LEFT, RELEASED, enter, pass, propo
 use crate::run::Run;
 use crate::shapes::{forward, new_event, queue, queue_of, two_workers};
 use crate::steps::{done, passed_on, released};
-use evt_types::{Event, Kind, Numbered};
+use evt_types::{Event, KeptEvent, Kind};
 use std::alloc::Global;
 use std::test::Fail;
 
@@ -84,7 +84,12 @@ fn a_kept_forward_is_listed(rt: HostRuntime) -> Result<(), Fail> {
     assert_eq!(rt; run.core.places_len(0), 2);
     let mut kept = Vec::with_capacity(alloc, 2)?;
     run.core.list_kept(0, &mut kept);
-    assert!(rt; kept.as_slice() == [Numbered { number: 1, event }].as_slice());
+    let listed = KeptEvent {
+        queue: 0,
+        number: 1,
+        event,
+    };
+    assert!(rt; kept.as_slice() == [listed].as_slice());
     Ok(())
 }
 

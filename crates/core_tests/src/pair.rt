@@ -31,6 +31,11 @@ impl Pair {
         Ok(Pair { run, plain })
     }
 
+    /// How many lanes the device has.
+    pub(crate) fn lanes(&self) -> usize {
+        self.run.core.shape().lanes()
+    }
+
     /// Both cores make one move. What comes of it must be the same, and what they log, and how many events are inside.
     pub(crate) fn make(&mut self, step: Move) -> Result<PlainMade, Fail> {
         let steps = self.run.log.len();
@@ -70,10 +75,10 @@ impl Pair {
         if queue >= self.run.core.shape().queues().len() {
             return Ok(false);
         }
-        let mut numbers = Vec::with_capacity(alloc, self.run.core.waiting_len(queue))?;
-        self.run.core.list_waiting(queue, &mut numbers);
+        let mut waiting = Vec::with_capacity(alloc, self.run.core.waiting_len(queue))?;
+        self.run.core.list_waiting(queue, &mut waiting);
         let plainly = self.plain.core.list_waiting(queue)?;
-        Ok(numbers.as_slice() == plainly.as_slice())
+        Ok(waiting.as_slice() == plainly.as_slice())
     }
 
     /// Whether the queue has as many open events, where it is ordered, and keeps the same ones.

@@ -1,7 +1,7 @@
 //! The core with the log of its steps.
 
 use crate::moves::{Made, Move};
-use evt_types::{Delivery, Event, MAX_PORTS, MAX_QUEUES, MAX_SWEEP, Reply, Shape, Step};
+use evt_types::{Delivery, Event, MAX_LANES, MAX_QUEUES, MAX_SWEEP, Reply, Shape, Step};
 use sched_core::{Core, Offer, Skips, Took};
 use std::alloc::Global;
 use std::marker::Model;
@@ -121,7 +121,7 @@ impl Run {
         };
         self.log.reserve(1)?;
         self.core.bounce(offer.lane, &mut self.log);
-        if offer.lane < MAX_PORTS {
+        if offer.lane < MAX_LANES {
             self.skips.bounced(offer.lane);
         }
         Ok(Some(offer))

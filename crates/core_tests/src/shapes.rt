@@ -25,6 +25,7 @@ pub(crate) fn queue(kind: Kind) -> QueueDraft {
 pub(crate) struct Device<'a> {
     pub(crate) limit: u32,
     pub(crate) sweep: u32,
+    pub(crate) serving: Serving,
     pub(crate) queues: &'a [QueueDraft],
     pub(crate) ports: &'a [(u32, &'a [u32])],
 }
@@ -36,7 +37,7 @@ impl Device<'_> {
             limit: self.limit,
             quantum: 2,
             sweep: self.sweep,
-            serving: Serving::Ports,
+            serving: self.serving,
             queues: Vec::from_slice(alloc, self.queues)?,
             ports: self.port_drafts(alloc)?,
         };
@@ -70,6 +71,7 @@ pub(crate) fn one_worker(alloc: Global, sweep: u32, queues: &[QueueDraft]) -> Re
     let device = Device {
         limit: 4,
         sweep,
+        serving: Serving::Ports,
         queues,
         ports: &[(4, &[]), (4, links)],
     };
@@ -82,8 +84,22 @@ pub(crate) fn two_workers(alloc: Global, depth: u32, queues: &[QueueDraft]) -> R
     let device = Device {
         limit: 4,
         sweep: 8,
+        serving: Serving::Ports,
         queues,
         ports: &[(4, &[]), (depth, links), (depth, links)],
+    };
+    device.shape(alloc)
+}
+
+/// A port that brings events, two ports that are linked to an atomic queue, and a flow lane for each of its four slots: the
+/// lanes 3 to 6.
+pub(crate) fn flow_lanes(alloc: Global) -> Result<Shape, Fail> {
+    let device = Device {
+        limit: 4,
+        sweep: 8,
+        serving: Serving::Flows,
+        queues: &[queue(Kind::Atomic)],
+        ports: &[(4, &[]), (4, &[0]), (4, &[0])],
     };
     device.shape(alloc)
 }

@@ -8,3 +8,5 @@ mod events;
 mod levels;
 #[cfg(test)]
 mod orders;
+#[cfg(test)]
+mod shapes;

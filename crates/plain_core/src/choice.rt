@@ -3,7 +3,7 @@
 use crate::offer::PlainOffer;
 use crate::skips::PlainSkips;
 use crate::state::{Accepted, PlainCore};
-use evt_types::{PortDraft, QueueDraft};
+use evt_types::{FLOW_DEPTH, FlowLane, PortDraft, QueueDraft, Serving};
 use std::alloc::AllocError;
 
 /// How many priorities a level has.
@@ -59,14 +59,14 @@ impl PlainCore {
         let Some(draft) = self.queue(queue) else {
             return Ok(());
         };
-        for (lane, port) in self.shape.ports().iter().enumerate() {
+        for lane in 0..self.shape.lanes() {
             let offer = PlainOffer {
                 lane,
                 queue,
                 number,
                 event,
             };
-            if !self.is_passed_over(&offer, skips) && self.may_give(&offer, &draft, port) {
+            if !self.is_passed_over(&offer, skips) && self.may_give(&offer, &draft) {
                 let rank = self.rank(&offer, &draft);
                 candidates.push(Candidate { rank, offer })?;
             }
@@ -90,15 +90,48 @@ impl PlainCore {
         skips.has_bounced(offer.lane) || skips.given_len(offer.queue) >= self.shape.sweep() as usize
     }
 
-    /// Whether the event may be given to the lane: the port is linked and holds fewer events than it may, an ordered queue
+    /// Whether the event may be given to the lane: the lane serves it and holds fewer events than it may, an ordered queue
     /// has room for one more open event, and of an atomic queue no other lane has an event of the same slot.
-    fn may_give(&self, offer: &PlainOffer, draft: &QueueDraft, port: &PortDraft) -> bool {
+    fn may_give(&self, offer: &PlainOffer, draft: &QueueDraft) -> bool {
         let is_ordered = draft.kind.is_ordered();
         let is_atomic = draft.kind.is_atomic();
-        is_linked(port, offer.queue)
-            && self.load(offer.lane) < port.depth as usize
+        self.serves(offer, draft)
+            && self.load(offer.lane) < self.depth(offer.lane)
             && (!is_ordered || self.open_len(offer.queue) < draft.order as usize)
             && (!is_atomic || self.is_alone(offer, draft.slots))
+    }
+
+    /// Whether the lane serves the event. A port's lane serves what the port is linked to, save the atomic queues whose slots
+    /// have flow lanes; each of these lanes serves its slot.
+    fn serves(&self, offer: &PlainOffer, draft: &QueueDraft) -> bool {
+        let has_flow_lanes = self.shape.serving() == Serving::Flows && draft.kind.is_atomic();
+        match self.shape.ports().get(offer.lane) {
+            Some(port) => is_linked(port, offer.queue) && !has_flow_lanes,
+            None => has_flow_lanes && self.is_of_flow_lane(offer, draft.slots),
+        }
+    }
+
+    /// Whether the event is one of the flow lane's slot, of so many.
+    fn is_of_flow_lane(&self, offer: &PlainOffer, slots: u32) -> bool {
+        let slot = offer.event.flow.checked_rem(slots);
+        let flow = self.flow_lane(offer.lane);
+        flow.is_some_and(|flow| {
+            flow.queue == offer.queue && slot.is_some_and(|slot| slot as usize == flow.slot)
+        })
+    }
+
+    /// The flow lane of this number. They come after the ports' lanes.
+    fn flow_lane(&self, lane: usize) -> Option<FlowLane> {
+        let place = lane.checked_sub(self.shape.ports().len())?;
+        self.shape.flows().get(place).copied()
+    }
+
+    /// How many events the lane may hold.
+    fn depth(&self, lane: usize) -> usize {
+        match self.shape.ports().get(lane) {
+            Some(port) => port.depth as usize,
+            None => FLOW_DEPTH as usize,
+        }
     }
 
     /// How many unanswered events the lane has.

@@ -21,15 +21,16 @@ pub enum PlainTook {
 }
 
 impl PlainCore {
-    /// Whether the lane's reply may be taken now.
+    /// Whether the lane's reply may be taken now. A new event comes on a port's own lane.
     pub fn takes(&self, lane: usize, event: Event) -> bool {
         if lane >= self.shape.lanes() {
             return false;
         }
         let is_there = self.queue(usize::from(event.queue)).is_some();
         let has_room = self.inside() < self.shape.bound();
+        let is_port = lane < self.shape.ports().len();
         match event.op {
-            Op::New => is_there && (self.is_shut() || (has_room && self.has_numbers())),
+            Op::New => is_port && is_there && (self.is_shut() || (has_room && self.has_numbers())),
             Op::Forward => is_there && self.oldest(lane).is_some() && self.has_numbers(),
             Op::Release => self.oldest(lane).is_some(),
         }

@@ -1,7 +1,7 @@
 //! What the plain core keeps, and what is found in it.
 
 use crate::offer::PlainOffer;
-use evt_types::{Event, Numbered, Outcome, QueueDraft, Shape, Step};
+use evt_types::{Event, KeptEvent, Outcome, QueueDraft, Shape, Step};
 use std::alloc::{AllocError, Global};
 
 /// An event that was accepted, and whether it was handed out since.
@@ -78,21 +78,22 @@ impl PlainCore {
             .saturating_add(unanswered)
     }
 
-    /// The numbers of the queue's waiting events.
-    pub fn list_waiting(&self, queue: usize) -> Result<Vec<u64>, AllocError> {
+    /// The queue and the number of each of the queue's waiting events.
+    pub fn list_waiting(&self, queue: usize) -> Result<Vec<(usize, u64)>, AllocError> {
         self.accepted
             .iter()
             .filter(|event| event.queue == queue && !event.is_given)
-            .map(|event| event.number)
+            .map(|event| (event.queue, event.number))
             .collect(self.alloc)
     }
 
-    /// The queue's kept events in hand-out order, each under the number of the event that it was forwarded from.
-    pub fn list_kept(&self, queue: usize) -> Result<Vec<Numbered>, AllocError> {
+    /// The queue's kept events in hand-out order, each under the queue and the number of the event that it was forwarded from.
+    pub fn list_kept(&self, queue: usize) -> Result<Vec<KeptEvent>, AllocError> {
         let mut list = Vec::new(self.alloc);
         for out in self.handed.iter().filter(|out| out.queue == queue) {
             if let Some(event) = out.kept() {
-                list.push(Numbered {
+                list.push(KeptEvent {
+                    queue,
                     number: out.number,
                     event,
                 })?;

@@ -6,7 +6,8 @@ use Rattle.std.proofs.lemmas.Bool.{true≢false, both_ways}
 use Rattle.std.proofs.lemmas.List.Elements.{All-contains}
 use Rattle.std.proofs.lemmas.List.Sums.{AllPass-from_list_all}
 use Rattle.transcripts.specs.Lawful.{Lawful}
-use Rattle.worked_logs.specs.Logs.{one_worker, two_workers, two_stages, atomic_stages, passed_on, given_twice, overtaken, split_slot, accepted_early, kept_for_good, accepted_twice, new_after_shut, turned_before_shut, shut_twice, not_linked, answered_early, beyond_depth, exchanged, accepted_backwards, no_such_queue, given_before}
+use Rattle.evt_types.specs.Plan.{depth_of, flow_lanes, lanes_by_slot, serves}
+use Rattle.worked_logs.specs.Logs.{one_worker, two_workers, two_stages, atomic_stages, flow_workers, passed_on, given_twice, overtaken, split_slot, accepted_early, kept_for_good, accepted_twice, new_after_shut, turned_before_shut, shut_twice, not_linked, answered_early, beyond_depth, exchanged, accepted_backwards, no_such_queue, given_before, turned_nowhere, flow_lane_brings, given_past_flow_lane, given_to_other_slot}
 use Rattle.transcripts.specs.Transcript.{accepted, out, answers, unanswered, Held, hand, ended, sent, forwards, taken, sources, kept, is_answered}
 use Rattle.lists.specs.Lists.{upto}
 use Rattle.evt_types.specs.declared.event.Event.{Event}
@@ -73,7 +74,7 @@ shut_twice_refused h = true≢false ((h.closed 2 (lit≤ tt)).one 0 Shut (lit< t
 
 -- (linked)
 pub not_linked_refused : Lawful one_worker not_linked → ⊥
-unfolding accepted out
+unfolding accepted out serves
 not_linked_refused h = true≢false (sym (h.linked 2 (lit≤ tt) 0 0 (0, 0) (lit< tt)))
 
 -- (answers)
@@ -84,7 +85,7 @@ answered_early_refused h =
 
 -- (room)
 pub beyond_depth_refused : Lawful one_worker beyond_depth → ⊥
-unfolding out answers unanswered
+unfolding out answers unanswered depth_of
 beyond_depth_refused h =
     let within : 5 ≤ 4 = (h.room 10 (lit≤ tt)).lanes 1 in absurd (omega arith)
 
@@ -115,3 +116,21 @@ pub given_before_refused : Lawful one_worker given_before → ⊥
 unfolding accepted hand
 given_before_refused h =
     let there : 0 < 0 = (h.once 1 (lit≤ tt)).accepted 0 0 0 (lit< tt) in absurd (omega arith)
+
+-- (formed): a queue that isn't there, a lane that isn't a port's
+pub turned_nowhere_refused : Lawful one_worker turned_nowhere → ⊥
+turned_nowhere_refused h =
+    let there : 5 < 1 = (h.formed 1 Shut (lit< tt)).queue in absurd (omega arith)
+
+pub flow_lane_brings_refused : Lawful flow_workers flow_lane_brings → ⊥
+flow_lane_brings_refused h =
+    let port : 6 < 3 = (h.formed 0 Shut (lit< tt)).lane in absurd (omega arith)
+
+-- (linked): with flow lanes these alone serve the slots of an atomic queue, each its own
+pub given_past_flow_lane_refused : Lawful flow_workers given_past_flow_lane → ⊥
+unfolding accepted out serves
+given_past_flow_lane_refused h = true≢false (sym (h.linked 2 (lit≤ tt) 1 0 (0, 0) (lit< tt)))
+
+pub given_to_other_slot_refused : Lawful flow_workers given_to_other_slot → ⊥
+unfolding accepted out flow_lanes lanes_by_slot serves
+given_to_other_slot_refused h = true≢false (sym (h.linked 2 (lit≤ tt) 4 0 (0, 0) (lit< tt)))

@@ -145,7 +145,7 @@ step_formed p (Accept q e (New l)) h =
     record {
       entry = record { queue = ltb-true q (length p.queues) (t 0 true (lit< tt)); named = eqb-true e.queue q (t 1 true (lit< tt)) };
       operation = op_is_new e.op (t 2 true (lit< tt));
-      lane = ltb-true l (lanes_of p) (t 3 true (lit< tt));
+      lane = ltb-true l (length p.ports) (t 3 true (lit< tt));
     }
 step_formed p (Accept q e (Of r n)) h =
     let t = passed (form_tests p (Accept q e (Of r n))) h in
@@ -161,7 +161,11 @@ step_formed p (Done l o) h =
     let parts = and_parts (nat_lt l (lanes_of p)) (pass (outcome_tests p o)) h in (ltb-true l (lanes_of p) parts.0, outcome_formed p o parts.1)
 step_formed p (Turned l e) h =
     let t = passed (form_tests p (Turned l e)) h in
-    record { lane = ltb-true l (lanes_of p) (t 0 true (lit< tt)); operation = op_is_new e.op (t 1 true (lit< tt)) }
+    record {
+      queue = ltb-true e.queue (length p.queues) (t 0 true (lit< tt));
+      operation = op_is_new e.op (t 1 true (lit< tt));
+      lane = ltb-true l (length p.ports) (t 2 true (lit< tt));
+    }
 step_formed p (Bounced l) h = ltb-true l (lanes_of p) (passed (form_tests p (Bounced l)) h 0 true (lit< tt))
 step_formed p Shut h = tt
 

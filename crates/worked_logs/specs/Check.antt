@@ -49,11 +49,11 @@ outcome_tests p (Forwarded e) = nat_lt e.queue (length p.queues) ∷ is_forward_
 outcome_tests p Released = []
 
 abbrev pub form_tests : Plan → Step → List Bool
-form_tests p (Accept q e (New l)) = nat_lt q (length p.queues) ∷ (e.queue == q) ∷ is_new_op e.op ∷ nat_lt l (lanes_of p) ∷ []
+form_tests p (Accept q e (New l)) = nat_lt q (length p.queues) ∷ (e.queue == q) ∷ is_new_op e.op ∷ nat_lt l (length p.ports) ∷ []
 form_tests p (Accept q e (Of r n)) = nat_lt q (length p.queues) ∷ (e.queue == q) ∷ is_forward_op e.op ∷ nat_lt r (length p.queues) ∷ []
 form_tests p (Give l q n) = nat_lt l (lanes_of p) ∷ nat_lt q (length p.queues) ∷ []
 form_tests p (Done l o) = nat_lt l (lanes_of p) ∷ outcome_tests p o
-form_tests p (Turned l e) = nat_lt l (lanes_of p) ∷ is_new_op e.op ∷ []
+form_tests p (Turned l e) = nat_lt e.queue (length p.queues) ∷ is_new_op e.op ∷ nat_lt l (length p.ports) ∷ []
 form_tests p (Bounced l) = nat_lt l (lanes_of p) ∷ []
 form_tests p Shut = []
 

@@ -3,7 +3,8 @@ use Rattle.std.specs.Prelude.{ℕ, ◌^◌, ◌<◌, false, List, [], ◌∷◌}
 use Rattle.std.proofs.Math.Dec.{lit<}
 use Rattle.evt_types.specs.Plan.{Plan, PortPlan}
 use Rattle.evt_types.specs.declared.draft.QueueDraft.{QueueDraft}
-use Rattle.evt_types.specs.declared.draft.Serving.TheVariants.{Ports}
+use Rattle.evt_types.specs.declared.draft.Serving.{Serving}
+use Rattle.evt_types.specs.declared.draft.Serving.TheVariants.{Ports, Flows}
 use Rattle.evt_types.specs.declared.event.Event.{Event}
 use Rattle.evt_types.specs.declared.event.Kind.TheVariants.{Ordered, Atomic, Parallel}
 use Rattle.evt_types.specs.declared.event.Op.{Op}
@@ -19,8 +20,8 @@ use Rattle.evt_types.specs.declared.step.Step.TheVariants.{Accept, Give, Done, T
 abbrev pub port_with : List ℕ → PortPlan
 port_with links = record { threshold = 4; depth = 4; replies = 4; implicit = false; links = links }
 
-abbrev pub device_with : List QueueDraft → List PortPlan → Plan
-device_with queues ports = record { limit = 4; quantum = 2; sweep = 8; serving = Ports; queues = queues; ports = ports }
+abbrev pub device_with : Serving → List QueueDraft → List PortPlan → Plan
+device_with serving queues ports = record { limit = 4; quantum = 2; sweep = 8; serving = serving; queues = queues; ports = ports }
 
 -- an atomic queue of four slots, an ordered queue of eight places, a parallel queue
 abbrev pub atomic_queue : QueueDraft
@@ -35,16 +36,20 @@ parallel_queue = record { kind = Parallel; priority = 128; slots = 0; order = 0;
 -- Port 0 brings events in. An atomic queue for port 1, the same for ports 1 and 2, an ordered queue for both with a parallel
 -- one for port 2, and an atomic queue before a parallel one.
 abbrev pub one_worker : Plan
-one_worker = device_with (atomic_queue ∷ []) (port_with [] ∷ port_with (0 ∷ []) ∷ [])
+one_worker = device_with Ports (atomic_queue ∷ []) (port_with [] ∷ port_with (0 ∷ []) ∷ [])
 
 abbrev pub two_workers : Plan
-two_workers = device_with (atomic_queue ∷ []) (port_with [] ∷ port_with (0 ∷ []) ∷ port_with (0 ∷ []) ∷ [])
+two_workers = device_with Ports (atomic_queue ∷ []) (port_with [] ∷ port_with (0 ∷ []) ∷ port_with (0 ∷ []) ∷ [])
 
 abbrev pub two_stages : Plan
-two_stages = device_with (ordered_queue ∷ parallel_queue ∷ []) (port_with [] ∷ port_with (0 ∷ []) ∷ port_with (0 ∷ 1 ∷ []) ∷ [])
+two_stages = device_with Ports (ordered_queue ∷ parallel_queue ∷ []) (port_with [] ∷ port_with (0 ∷ []) ∷ port_with (0 ∷ 1 ∷ []) ∷ [])
 
 abbrev pub atomic_stages : Plan
-atomic_stages = device_with (atomic_queue ∷ parallel_queue ∷ []) (port_with [] ∷ port_with (0 ∷ []) ∷ port_with (0 ∷ 1 ∷ []) ∷ [])
+atomic_stages = device_with Ports (atomic_queue ∷ parallel_queue ∷ []) (port_with [] ∷ port_with (0 ∷ []) ∷ port_with (0 ∷ 1 ∷ []) ∷ [])
+
+-- Two workers of an atomic queue, whose four slots have flow lanes: the lanes 3 to 6, beyond those of the ports.
+abbrev pub flow_workers : Plan
+flow_workers = device_with Flows (atomic_queue ∷ []) (port_with [] ∷ port_with (0 ∷ []) ∷ port_with (0 ∷ []) ∷ [])
 
 -- ---- the events
 
@@ -122,6 +127,12 @@ turned_away =
     entry (new_event 7 (lit< tt) 128 1) ∷ Give 1 0 0 ∷ Shut ∷ Turned 0 (new_event 8 (lit< tt) 128 2) ∷ Done 1 (Forwarded (forwarded_event 7 (lit< tt) 128 10))
     ∷ Accept 1 (forwarded_event 7 (lit< tt) 128 10) (Of 0 0) ∷ Turned 0 (new_event 9 (lit< tt) 128 3) ∷ Give 2 1 0 ∷ Done 2 Released ∷ []
 
+-- the events of a slot go to its flow lane: those of flow 7 to that of slot 3, that of flow 5 to that of slot 1
+abbrev pub flow_lanes_given : List Step
+flow_lanes_given =
+    entry (new_event 7 (lit< tt) 128 1) ∷ entry (new_event 7 (lit< tt) 128 2) ∷ entry (new_event 5 (lit< tt) 128 3) ∷ Give 6 0 0 ∷ Give 6 0 1 ∷ Give 4 0 2
+    ∷ Done 4 Released ∷ []
+
 -- ---- wrong logs, which no device may write
 
 -- an event of flow 7 that is brought in, and what one is forwarded as
@@ -198,3 +209,18 @@ no_such_queue = Accept 5 (event_with ops.New 5 7 (lit< tt) 128 1) (New 0) ∷ []
 -- a number is given that wasn't accepted
 abbrev pub given_before : List Step
 given_before = Give 1 0 0 ∷ entry (brought 1) ∷ []
+
+-- an event is turned away that names a queue that isn't there
+abbrev pub turned_nowhere : List Step
+turned_nowhere = Shut ∷ Turned 0 (event_with ops.New 5 7 (lit< tt) 128 1) ∷ []
+
+-- a flow lane brings an event
+abbrev pub flow_lane_brings : List Step
+flow_lane_brings = Accept 0 (brought 1) (New 6) ∷ []
+
+-- an event of a slot that has a flow lane is given to a port's lane, or to the flow lane of another slot
+abbrev pub given_past_flow_lane : List Step
+given_past_flow_lane = entry (brought 1) ∷ Give 1 0 0 ∷ []
+
+abbrev pub given_to_other_slot : List Step
+given_to_other_slot = entry (brought 1) ∷ Give 4 0 0 ∷ []

@@ -1,8 +1,8 @@
 //! Laws on worked logs: what a device has to write is lawful, and what it mustn't write is not.
 
 ghost use Rattle.transcripts.specs.Lawful.{Lawful};
-ghost use Rattle.worked_logs.specs.Logs.{one_worker, two_workers, two_stages, atomic_stages, first_event, one_flow_two_ports, two_flows_one_slot, second_forwarded_first, first_released, mixed_levels, full_ring, turned_away};
-ghost use Rattle.worked_logs.specs.Logs.{given_twice, overtaken, split_slot, accepted_early, kept_for_good, accepted_twice, new_after_shut, turned_before_shut, shut_twice, not_linked, answered_early, beyond_depth, exchanged, accepted_backwards, no_such_queue, given_before};
+ghost use Rattle.worked_logs.specs.Logs.{one_worker, two_workers, two_stages, atomic_stages, flow_workers, first_event, one_flow_two_ports, two_flows_one_slot, second_forwarded_first, first_released, mixed_levels, full_ring, turned_away, flow_lanes_given};
+ghost use Rattle.worked_logs.specs.Logs.{given_twice, overtaken, split_slot, accepted_early, kept_for_good, accepted_twice, new_after_shut, turned_before_shut, shut_twice, not_linked, answered_early, beyond_depth, exchanged, accepted_backwards, no_such_queue, given_before, turned_nowhere, flow_lane_brings, given_past_flow_lane, given_to_other_slot};
 
 /// The logs of worked examples are lawful.
 pub fn worked_logs_are_lawful()
@@ -14,6 +14,7 @@ pub fn worked_logs_are_lawful()
     ensures mixed_levels { Lawful two_stages mixed_levels }
     ensures full_ring { Lawful one_worker full_ring }
     ensures turned_away { Lawful atomic_stages turned_away }
+    ensures flow_lanes_given { Lawful flow_workers flow_lanes_given }
 {}
 
 /// Logs that break a promise are not lawful.
@@ -34,4 +35,8 @@ pub fn wrong_logs_are_refused()
     ensures accepted_backwards { ¬ Lawful atomic_stages accepted_backwards }
     ensures no_such_queue { ¬ Lawful one_worker no_such_queue }
     ensures given_before { ¬ Lawful one_worker given_before }
+    ensures turned_nowhere { ¬ Lawful one_worker turned_nowhere }
+    ensures flow_lane_brings { ¬ Lawful flow_workers flow_lane_brings }
+    ensures given_past_flow_lane { ¬ Lawful flow_workers given_past_flow_lane }
+    ensures given_to_other_slot { ¬ Lawful flow_workers given_to_other_slot }
 {}

@@ -8,7 +8,7 @@ use Rattle.std.proofs.lemmas.List.Elements.{All-nil, All-cons, All-head, All-tai
 use Rattle.std.proofs.lemmas.List.Sums.{take_while-cons}
 use Rattle.lists.specs.Lists.{has}
 use Rattle.lists.specs.Lists.{upto, from_first}
-use Rattle.lists.proofs.Lists.{eqb_same, eqb_other, has-append, has-more, All-has, All-weaker_all, upto-more, flat_map-agree}
+use Rattle.lists.proofs.Lists.{eqb_same, eqb_other, eqb_is, has-append, has-more, All-has, All-back, All-weaker_all, upto-more, flat_map-agree}
 
 -- ---- the front that passes, and the rest
 
@@ -144,6 +144,18 @@ upto_rest p n (x ∷ xs) once h = by_case (cases_Bool (p x)) (upto_rest p n xs (
         later (more in') (has_rest p n xs in')
     by_case (inr fails) more = (x, (zero, omega arith, refl), fails)
 
+-- of two numbers only one stands as far as the other
+pub upto_apart : (m n : ℕ) (xs : List ℕ) → m ≢ n → has m (upto n xs) ≡ true → has n (upto m xs) ≡ false
+upto_apart m n [] apart h = refl
+upto_apart m n (x ∷ xs) apart h = by_case (x == n) (x == m) refl refl h (upto_apart m n xs apart)
+  where
+    by_case : (b c : Bool) → (x == n) ≡ b → (x == m) ≡ c → (c || has m (cond b [] (upto n xs))) ≡ true
+        → (has m (upto n xs) ≡ true → has n (upto m xs) ≡ false) → (b || has n (cond c [] (upto m xs))) ≡ false
+    by_case true true d e k more = absurd (apart (sym (eqb_is x m e) ∙ eqb_is x n d))
+    by_case true false d e k more = absurd (false≢true k)
+    by_case false true d e k more = refl
+    by_case false false d e k more = more k
+
 -- each number stands in the front or in the rest
 pub front_or_rest : (p : ℕ → Bool) (n : ℕ) (xs : List ℕ) → has n xs ≡ true → (has n (take_while p xs) ≡ true) ⊎ (has n (from_first p xs) ≡ true)
 front_or_rest p n xs h =
@@ -218,6 +230,17 @@ pub All-tagged_items : {Y : Type 0} (P : Y → Type 0) (g : ℕ → List Y) (ns 
 All-tagged_items P g [] all = All-nil (λ (x : ℕ × _). P x.1)
 All-tagged_items P g (n ∷ ns) all = All-append (λ (x : ℕ × _). P x.1) (tag n (g n)) (tagged g ns) (All-tag_items P n (g n) (all n))
     (All-tagged_items P g ns all)
+
+-- what holds of each tagged item holds of the first of a number's
+pub All-tagged_at : {Y : Type 0} (P : ℕ × Y → Type 0) (g : ℕ → List Y) (ns : List ℕ) (n : ℕ) (y : Y) (ys : List Y) → All P (tagged g ns)
+    → has n ns ≡ true → g n ≡ y ∷ ys → P (n, y)
+All-tagged_at P g [] n y ys all in' first = absurd (false≢true in')
+All-tagged_at P g (m ∷ ns) n y ys all in' first =
+    ⊎_elim
+    (λ here. All-head P (n, y) (tag n ys ++ tagged g ns) (subst (λ zs. All P (tag n zs ++ tagged g ns)) first
+    (subst (λ k. All P (tag k (g k) ++ tagged g ns)) (eqb_is m n here) all)))
+    (λ later. All-tagged_at P g ns n y ys (All-back P (tag m (g m)) (tagged g ns) all) later first)
+    (or_cases (m == n) (has n ns) in')
 
 -- The first tagged item is the first of its number's, and where that number has this item less, and the others are as they were,
 -- the rest is left.

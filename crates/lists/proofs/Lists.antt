@@ -236,6 +236,10 @@ All-last P xs x all = subst P (get_or_push xs x x (length xs) refl) (all (length
 pub All-front : {X : Type 0} (P : X → Type 0) (xs ys : List X) → All P (xs ++ ys) → All P xs
 All-front P xs ys all k d h = subst P (get_or_append_left xs ys d k h) (all k d (rw length-append (omega arith)))
 
+pub All-back : {X : Type 0} (P : X → Type 0) (xs ys : List X) → All P (xs ++ ys) → All P ys
+All-back P [] ys all = all
+All-back P (x ∷ xs) ys all = All-back P xs ys (All-tail P x (xs ++ ys) all)
+
 -- one more item or none
 pub All-option : {X : Type 0} (P : X → Type 0) (xs : List X) (o : Option X) → All P xs → ((x : X) → o ≡ Some x → P x) → All P (xs ++ cons_option o [])
 All-option P xs None all new = rw append-nil all

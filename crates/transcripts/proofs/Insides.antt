@@ -29,7 +29,7 @@ use Rattle.evt_types.specs.declared.step.Step.TheVariants.{Accept, Give, Done, T
 waiting_sum : Plan → List Step → ℕ
 waiting_sum p T = sum_by (λ q. length (waiting T q)) (queues p)
 
-kept_sum : Plan → List Step → ℕ
+unfoldable pub kept_sum : Plan → List Step → ℕ
 kept_sum p T = sum_by (λ q. length (kept T q)) (queues p)
 
 unanswered_sum : Plan → List Step → ℕ
@@ -83,11 +83,11 @@ waiting_one_less p P l q w waits there =
 
 -- ---- kept
 
-kept_same : (p : Plan) (P : List Step) (s : Step) → ((q : ℕ) → given_of q s ≡ None) → sends P s ≡ None → ((q n : ℕ) → taken_in q n s ≡ None) → kept_sum p P ≡ kept_sum p (P ++ s ∷ [])
+pub kept_same : (p : Plan) (P : List Step) (s : Step) → ((q : ℕ) → given_of q s ≡ None) → sends P s ≡ None → ((q n : ℕ) → taken_in q n s ≡ None) → kept_sum p P ≡ kept_sum p (P ++ s ∷ [])
 unfolding kept_sum
 kept_same p P s h j k = sum_same (λ q. length (kept P q)) (λ q. length (kept (P ++ s ∷ []) q)) (length p.queues) (λ q. sym (ap length (kept-none P q s (h q) j (k q))))
 
-kept_given : (p : Plan) (P : List Step) (l q n : ℕ) → Facts p P → has n (hand P q) ≡ false → kept_sum p P ≡ kept_sum p (P ++ Give l q n ∷ [])
+pub kept_given : (p : Plan) (P : List Step) (l q n : ℕ) → Facts p P → has n (hand P q) ≡ false → kept_sum p P ≡ kept_sum p (P ++ Give l q n ∷ [])
 unfolding kept_sum
 kept_given p P l q n f new =
     let s = Give l q n in
@@ -111,7 +111,7 @@ kept_changed p P s q n x y f given there none here same =
     (λ r other. sym (kept_length_same P r s (none r) (λ m. same r m (is_pair-queue r m (q, n) (λ e. other (sym e))))))
 
 -- a forward is accepted
-kept_one_less : (p : Plan) (P : List Step) (r n q : ℕ) (e : Event) → Facts p P → slice_get (forwards P q n) (length (taken P q n)) ≡ Some e → q < length p.queues → kept_sum p P + 0 ≡ kept_sum p (P ++ Accept r e (Of q n) ∷ []) + 1
+pub kept_one_less : (p : Plan) (P : List Step) (r n q : ℕ) (e : Event) → Facts p P → slice_get (forwards P q n) (length (taken P q n)) ≡ Some e → q < length p.queues → kept_sum p P + 0 ≡ kept_sum p (P ++ Accept r e (Of q n) ∷ []) + 1
 kept_one_less p P r n q e f next there =
     let s = Accept r e (Of q n) in
     let within = slice_get_within (forwards P q n) (length (taken P q n)) e next in
@@ -139,7 +139,7 @@ kept_one_more : (p : Plan) (P : List Step) (l : ℕ) (x : ℕ × ℕ) (e : Event
 kept_one_more p P l x e f fewer next =
     kept_forwarded p P l 0 x e f next (omega (arith, length-drop (length (taken P x.0 x.1)) (forwards P x.0 x.1), forwarded_length P l x e next))
 
-kept_more_le : (p : Plan) (P : List Step) (l : ℕ) (x : ℕ × ℕ) (e : Event) → Facts p P → next_pair P l ≡ Some x → kept_sum p (P ++ Done l (Forwarded e) ∷ []) ≤ kept_sum p P + 1
+pub kept_more_le : (p : Plan) (P : List Step) (l : ℕ) (x : ℕ × ℕ) (e : Event) → Facts p P → next_pair P l ≡ Some x → kept_sum p (P ++ Done l (Forwarded e) ∷ []) ≤ kept_sum p P + 1
 kept_more_le p P l x e f next =
     let most : length (kept_of (P ++ Done l (Forwarded e) ∷ []) x.0 x.1) ≤ length (kept_of P x.0 x.1) + 1 =
     omega (arith, length-drop (length (taken P x.0 x.1)) (forwards P x.0 x.1), forwarded_length P l x e next)

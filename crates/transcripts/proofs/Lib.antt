@@ -2,11 +2,14 @@ pub mod Account
 pub mod Alones
 pub mod AnsweredPlaces
 pub mod ByLane
+pub mod Entries
 pub mod Facts
 pub mod Fewness
+pub mod FlowAlone
 pub mod Flows
 pub mod HandOrder
 pub mod Insides
+pub mod OneAnswer
 pub mod Orders
 pub mod Origins
 pub mod Overdue

@@ -47,7 +47,7 @@ pub record Pending (p : Plan) (P : List Step) (q : ℕ) : Type 0 where
 facts_at : (p : Plan) (P : List Step) → AllowedAfter p [] P → Facts p P
 facts_at p P all = Facts-allowed p P all
 
-first_of_overdue : (p : Plan) (P : List Step) (q : ℕ) (x : ℕ × Event) (rest : List (ℕ × Event)) → AllowedAfter p [] P → overdue p P q ≡ x ∷ rest
+pub first_of_overdue : (p : Plan) (P : List Step) (q : ℕ) (x : ℕ × Event) (rest : List (ℕ × Event)) → AllowedAfter p [] P → overdue p P q ≡ x ∷ rest
     → First (kept_of P q) (late_of p P q) x rest
 first_of_overdue p P q x rest all e = tagged_first (kept_of P q) (late_of p P q) x rest (late_once p P q ((facts_at p P all).once q)) e
 

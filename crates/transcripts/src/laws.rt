@@ -2,11 +2,12 @@
 
 ghost use Rattle.std.specs.Prelude.{◌≡◌, ℕ, ◌+◌, ◌<◌, ◌≤◌, ◌==◌, true, false, List, [], ◌∷◌, length, map, sum_by, if◌then◌else◌, All, Contains};
 ghost use Rattle.transcripts.specs.Allowed.{StepsLawful};
+ghost use Rattle.transcripts.specs.Choice.{HasNoOther};
 ghost use Rattle.transcripts.specs.Lawful.{Lawful};
 ghost use Rattle.transcripts.specs.Laws.{IsAcceptedOnce, IsAnsweredTo, IsStrictlyRising, IsSublist, KeepsNoneTo, NeverStepsBack};
-ghost use Rattle.evt_types.specs.Plan.{Plan, is_atomic, is_ordered, kept_room, lanes_of, queue_of};
+ghost use Rattle.evt_types.specs.Plan.{Plan, has_flow_lanes, is_atomic, is_ordered, kept_room, lanes_of, queue_of, serves};
 ghost use Rattle.transcripts.specs.Replies.{new_count, release_count, replies_in, said};
-ghost use Rattle.transcripts.specs.Standing.{Stands, View, after, entries_of, inside_of, kept_at, kept_in, kept_under, may_be_taken, may_take, steps_of};
+ghost use Rattle.transcripts.specs.Standing.{AreStepsOf, Stands, View, after, entries_of, inside_of, kept_at, kept_in, kept_under, may_be_taken, may_take, steps_of};
 ghost use Rattle.transcripts.specs.Sweep.{IsSweep, Sweeping, sweep_room, sweep_steps};
 ghost use Rattle.transcripts.specs.Transcript.{entries, is_give, hand, inside, kept, sources, taken};
 ghost use Rattle.evt_types.specs.declared.event.Event.{Event};
@@ -47,10 +48,12 @@ pub fn inside_settles()
     ensures { (p : Plan) (T : List Step) → Lawful p T → inside p T + release_count T ≡ new_count T }
 {}
 
-/// By the steps of a reply no event is given, and its lane alone says something: the reply.
+/// By the steps of a reply no event is given, and its lane alone says something: the reply. And a reply has one list of steps alone:
+/// of an answer these are the answer and then, in one order, the Accepts of the kept events that wait for no other.
 pub fn steps_of_a_reply()
     ensures given { (v : View) (l : ℕ) (r : Reply) → All (λ s. is_give s ≡ false) (steps_of v l r.event) }
     ensures said { (v : View) (l m : ℕ) (r : Reply) → replies_in (steps_of v l r.event) m ≡ (if m == l then said r ∷ [] else []) }
+    ensures unique { (p : Plan) (T : List Step) (l : ℕ) (e : Event) (xs ys : List Step) → Lawful p T → AreStepsOf p T l e xs → AreStepsOf p T l e ys → xs ≡ ys }
 {}
 
 /// The steps of a reply are two at most beside the kept events that it lets go, and no more events are kept than the ordered queues
@@ -58,6 +61,13 @@ pub fn steps_of_a_reply()
 pub fn steps_of_a_reply_are_few()
     ensures steps { (v : View) (T : List Step) (l : ℕ) (e : Event) → Stands T v → l < lanes_of v.shape → length (steps_of v l e) + kept_in (after v (steps_of v l e)) ≤ kept_in v + 2 }
     ensures kept { (v : View) (T : List Step) → Stands T v → kept_in v ≤ sum_by kept_room v.shape.queues }
+{}
+
+/// Each step adds one at most to what was accepted or is kept. So that is never more than the steps, by the transcript and by what
+/// a core holds of it.
+pub fn entries_are_few()
+    ensures steps { (p : Plan) (T : List Step) → Lawful p T → entries p T ≤ length T }
+    ensures held { (v : View) (T : List Step) → Stands T v → entries_of v ≤ length T }
 {}
 
 /// What a core holds that stands at a transcript tells how many events are inside, how many were accepted or are kept, which
@@ -73,4 +83,11 @@ pub fn a_view_tells()
 /// quantum, and finds each lane's ring full once at most) are no more than there is room for.
 pub fn a_sweep_fits()
     ensures { (v : View) (T : List Step) (s : Sweeping) → Stands T v → IsSweep v s → length (sweep_steps v s) ≤ sweep_room v.shape }
+{}
+
+/// Where flows have lanes of their own, each slot of an atomic queue is served by one lane alone. So no other lane ever has an
+/// unanswered event of the slot, and the scheduler need not look for one.
+pub fn flow_lanes_stand_alone()
+    ensures lane { (p : Plan) (l m q s : ℕ) → has_flow_lanes p q ≡ true → serves p l q s ≡ true → serves p m q s ≡ true → l ≡ m }
+    ensures alone { (v : View) (T : List Step) (l q s : ℕ) → Stands T v → has_flow_lanes v.shape q ≡ true → serves v.shape l q s ≡ true → HasNoOther v l q s }
 {}

@@ -2,6 +2,7 @@ pub mod Filters
 pub mod Fronts
 pub mod Lists
 pub mod Once
+pub mod Parts
 pub mod Ranges
 pub mod Sorted
 pub mod Sums

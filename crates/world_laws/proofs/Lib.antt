@@ -1,0 +1,11 @@
+pub mod Consistent
+pub mod Found
+pub mod Fronts
+pub mod Hands
+pub mod LogMoves
+pub mod NextReplies
+pub mod Orders
+pub mod Receipts
+pub mod Rests
+pub mod Said
+pub mod Worlds

@@ -1,0 +1,4 @@
+pub mod Logged
+pub mod Order
+pub mod Rest
+pub mod World

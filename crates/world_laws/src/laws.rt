@@ -1,0 +1,34 @@
+//! Laws of the running world. Each function does nothing: its contract is the law.
+
+ghost use Rattle.std.specs.Prelude.{◌≡◌, ℕ, ◌<◌, ◌^◌, List, length, take};
+ghost use Rattle.evt_types.specs.Plan.{Plan};
+ghost use Rattle.evt_types.specs.declared.step.Step.{Step};
+ghost use Rattle.transcripts.specs.Transcript.{out};
+ghost use Rattle.world_laws.specs.Logged.{as_logged};
+ghost use Rattle.world_laws.specs.Order.{AreReceivedAsAccepted, AreReceivedAsGiven, IsHeldAlone};
+ghost use Rattle.world_laws.specs.Rest.{AreRests, Rest, found_in, still_held};
+ghost use Rattle.world_laws.specs.World.{IsConsistent, LeadsTo, Move, World, after_moves, empty, in_hand, received_by, received_by_all};
+
+/// What stop finds came about by a run: the moves of the log, in its order, with each taken reply's Submit just before its Take, each
+/// received delivery's Receive just after its Give, and the Submits of the untaken replies last. It suffices that the lists fit.
+pub fn stop_is_a_run()
+    ensures world { (p : Plan) (v : World) → IsConsistent p v → length v.log < 2 ^ 63 → LeadsTo p empty (as_logged p v) v }
+    ensures rests { (p : Plan) (T : List Step) (rest : ℕ → Rest) → AreRests p T rest → LeadsTo p empty (as_logged p (found_in T rest)) (found_in T rest) }
+{}
+
+/// At stop the hand of a lane is what its holder received and didn't answer.
+pub fn hands_at_stop()
+    ensures { (p : Plan) (T : List Step) (rest : ℕ → Rest) (l : ℕ) → AreRests p T rest → in_hand (found_in T rest) l ≡ still_held (rest l) }
+{}
+
+/// Whatever the order of the moves, at each moment of a run: the log is lawful and the lists fit together; the events of one slot of
+/// an atomic queue that are in hands are in one lane's hand. What each lane receives is the front of what it was given. Over all
+/// lanes the events of one flow and level of an atomic queue are received in accepted order, and those of one of its slots in the
+/// order in which they were given.
+pub fn every_run_keeps()
+    ensures consistent { (p : Plan) (moves : List Move) (v : World) → LeadsTo p empty moves v → (k : ℕ) → IsConsistent p (after_moves moves k) }
+    ensures alone { (p : Plan) (moves : List Move) (v : World) → LeadsTo p empty moves v → (k : ℕ) → IsHeldAlone p (after_moves moves k) }
+    ensures received { (p : Plan) (moves : List Move) (v : World) (l : ℕ) → LeadsTo p empty moves v → received_by l moves ≡ take (v.received l) (out v.log l) }
+    ensures order { (p : Plan) (moves : List Move) (v : World) → LeadsTo p empty moves v → AreReceivedAsAccepted p v.log (received_by_all moves) }
+    ensures given { (p : Plan) (moves : List Move) (v : World) → LeadsTo p empty moves v → AreReceivedAsGiven p v.log (received_by_all moves) }
+{}

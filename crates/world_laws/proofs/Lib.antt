@@ -1,3 +1,4 @@
+pub mod Accounts
 pub mod Consistent
 pub mod Found
 pub mod Fronts

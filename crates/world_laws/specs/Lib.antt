@@ -1,3 +1,4 @@
+pub mod Account
 pub mod Logged
 pub mod Order
 pub mod Rest

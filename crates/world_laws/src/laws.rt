@@ -1,9 +1,11 @@
 //! Laws of the running world. Each function does nothing: its contract is the law.
 
-ghost use Rattle.std.specs.Prelude.{◌≡◌, ℕ, ◌<◌, ◌^◌, List, length, take};
+ghost use Rattle.std.specs.Prelude.{◌≡◌, ℕ, ◌+◌, ◌<◌, ◌^◌, List, length, take};
 ghost use Rattle.evt_types.specs.Plan.{Plan};
 ghost use Rattle.evt_types.specs.declared.step.Step.{Step};
+ghost use Rattle.transcripts.specs.Replies.{turned_count};
 ghost use Rattle.transcripts.specs.Transcript.{out};
+ghost use Rattle.world_laws.specs.Account.{events_left, news_submitted, releases_submitted};
 ghost use Rattle.world_laws.specs.Logged.{as_logged};
 ghost use Rattle.world_laws.specs.Order.{AreReceivedAsAccepted, AreReceivedAsGiven, IsHeldAlone};
 ghost use Rattle.world_laws.specs.Rest.{AreRests, Rest, found_in, still_held};
@@ -31,4 +33,12 @@ pub fn every_run_keeps()
     ensures received { (p : Plan) (moves : List Move) (v : World) (l : ℕ) → LeadsTo p empty moves v → received_by l moves ≡ take (v.received l) (out v.log l) }
     ensures order { (p : Plan) (moves : List Move) (v : World) → LeadsTo p empty moves v → AreReceivedAsAccepted p v.log (received_by_all moves) }
     ensures given { (p : Plan) (moves : List Move) (v : World) → LeadsTo p empty moves v → AreReceivedAsGiven p v.log (received_by_all moves) }
+{}
+
+/// The account at stop: where the free credits and the NEWs that were submitted make up the limit, the RELEASEs that were submitted
+/// and the NEWs that were turned away, the free credits and the events that are left in the device are the limit. An event that is
+/// left waits, is kept, is undelivered or held, or came in a reply that wasn't taken.
+pub fn account_at_stop()
+    ensures { (p : Plan) (T : List Step) (rest : ℕ → Rest) (free limit : ℕ) → AreRests p T rest
+        → free + news_submitted p rest ≡ limit + releases_submitted p rest + turned_count T → free + events_left p T rest ≡ limit }
 {}

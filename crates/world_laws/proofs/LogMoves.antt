@@ -45,6 +45,7 @@ record IsTaken (p : Plan) (P : List Step) (l : ℕ) (e : Event) (taken : List St
   may : may_be_taken p P l e ≡ true
   are : AreStepsOf p P l e taken
 
+-- by the operation of the event
 taken_by : (o : Op) (p : Plan) (P : List Step) (l : ℕ) (e : Event) (taken : List Step) → e.op ≡ o → may_be_taken_by o p P l e ≡ true → AreStepsBy o P l e taken → Lawful p (P ++ taken) → IsTaken p P l e taken
 taken_by o p P l e taken op may form lawful =
     record {
@@ -52,6 +53,7 @@ taken_by o p P l e taken op may form lawful =
       are = record { form = subst (λ k. AreStepsBy k P l e taken) (sym op) form; lawful = lawful };
     }
 
+-- the Submit and the Take lead from the world before the reply's steps to the one after them
 reply_leads : (p : Plan) (v : World) (P : List Step) (l : ℕ) (r : Reply) (taken : List Step) → slice_get (v.submitted l) (length (replies_in P l)) ≡ Some r
     → MaySubmit p (world_at v P) l r → IsTaken p P l r.event taken → LeadsTo p (world_at v P) (reply_moves v P l taken) (world_at v (P ++ taken))
 reply_leads p v P l r taken there may is =

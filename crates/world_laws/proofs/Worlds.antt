@@ -1,6 +1,6 @@
 -- Worlds: the entry of one lane, when two worlds are the same, and runs one after another.
-use Rattle.std.specs.Prelude.{ℕ, ◌≡◌, ◌≢◌, List, [], ◌∷◌, ◌++◌, ◌==◌}
-use Rattle.std.proofs.Common.{refl, sym, ap, ◌∙◌, subst, ⊎_elim, append_assoc, append-nil}
+use Rattle.std.specs.Prelude.{ℕ, ◌≡◌, ◌≢◌, List, [], ◌∷◌, ◌++◌, ◌==◌, take, fold}
+use Rattle.std.proofs.Common.{zero, suc, refl, sym, ap, ◌∙◌, subst, ⊎_elim, append_assoc, append-nil}
 use Rattle.std.proofs.lemmas.Bool.{cases_eq, cond-true, cond-false}
 use Rattle.evt_types.specs.Plan.{Plan}
 use Rattle.evt_types.specs.declared.step.Step.TheVariants as steps
@@ -55,3 +55,11 @@ pub log_grows : (p : Plan) (w v : World) (moves : List Move) → LeadsTo p w mov
 log_grows p w v [] leads = ([], append-nil w.log ∙ ap (λ (u : World). u.log) leads)
 log_grows p w v (m ∷ moves) leads =
     prefix_trans w.log (moved w m).log v.log (move_grows w m) (log_grows p (moved w m) v moves leads.1)
+
+-- ---- the moments of a run
+
+-- each is the end of a run
+pub leads_to_moment : (p : Plan) (w v : World) (moves : List Move) → LeadsTo p w moves v → (k : ℕ) → LeadsTo p w (take k moves) (fold moved w (take k moves))
+leads_to_moment p w v moves leads zero = refl
+leads_to_moment p w v [] leads (suc k) = refl
+leads_to_moment p w v (m ∷ moves) leads (suc k) = (leads.0, leads_to_moment p (moved w m) v moves leads.1 k)

@@ -23,11 +23,12 @@ pub fn hands_at_stop()
     ensures { (p : Plan) (T : List Step) (rest : ℕ → Rest) (l : ℕ) → AreRests p T rest → in_hand (found_in T rest) l ≡ still_held (rest l) }
 {}
 
-/// Whatever the order of the moves, at each moment of a run: the log is lawful and the lists fit together; the events of one slot of
-/// an atomic queue that are in hands are in one lane's hand. What each lane receives is the front of what it was given. Over all
-/// lanes the events of one flow and level of an atomic queue are received in accepted order, and those of one of its slots in the
-/// order in which they were given.
+/// Whatever the order of the moves: each moment of a run is the end of a run, and there the log is lawful and the lists fit together;
+/// the events of one slot of an atomic queue that are in hands are in one lane's hand; what each lane received is the front of what
+/// it was given; over all lanes the events of one flow and level of an atomic queue were received in accepted order, and those of
+/// one of its slots in the order in which they were given.
 pub fn every_run_keeps()
+    ensures moments { (p : Plan) (moves : List Move) (v : World) → LeadsTo p empty moves v → (k : ℕ) → LeadsTo p empty (take k moves) (after_moves moves k) }
     ensures consistent { (p : Plan) (moves : List Move) (v : World) → LeadsTo p empty moves v → (k : ℕ) → IsConsistent p (after_moves moves k) }
     ensures alone { (p : Plan) (moves : List Move) (v : World) → LeadsTo p empty moves v → (k : ℕ) → IsHeldAlone p (after_moves moves k) }
     ensures received { (p : Plan) (moves : List Move) (v : World) (l : ℕ) → LeadsTo p empty moves v → received_by l moves ≡ take (v.received l) (out v.log l) }

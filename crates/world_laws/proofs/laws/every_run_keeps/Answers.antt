@@ -2,8 +2,12 @@ use Rattle.world_laws.proofs.Consistent.{consistent_end, consistent_none, consis
 use Rattle.world_laws.proofs.Hands.{held_alone}
 use Rattle.world_laws.proofs.Orders.{received_as_accepted, received_as_given}
 use Rattle.world_laws.proofs.Receipts.{front_run}
+use Rattle.world_laws.proofs.Worlds.{leads_to_moment}
 use Rattle.world_laws.specs.World.{after_moves, empty}
 use Rattle.world_laws.proofs.laws.every_run_keeps.Goals as goal
+
+pub returns-clause-moments : goal.returns-clause-moments
+returns-clause-moments c p moves v leads k = leads_to_moment p empty v moves leads k
 
 pub returns-clause-consistent : goal.returns-clause-consistent
 returns-clause-consistent c p moves v leads k = consistent_run p empty v moves leads (consistent_none p) k

@@ -1,0 +1,3 @@
+pub mod Early
+pub mod Refused
+pub mod Slot

@@ -1,0 +1,9 @@
+pub mod Counts
+pub mod Giving
+pub mod Lanes
+pub mod Looking
+pub mod Passing
+pub mod Replies
+pub mod Serving
+pub mod Sweeping
+pub mod Taking

@@ -1,0 +1,5 @@
+pub mod Giving
+pub mod Looking
+pub mod Scheduler
+pub mod Swept
+pub mod Taking

@@ -5,5 +5,6 @@ pub mod Looking
 pub mod Passing
 pub mod Replies
 pub mod Serving
+pub mod Starting
 pub mod Sweeping
 pub mod Taking

@@ -4,9 +4,11 @@
 
 mod give;
 mod look;
+mod parts;
 mod scheduler;
 mod sweep;
 mod take;
 
+pub use parts::Parts;
 pub use scheduler::Scheduler;
 pub use sweep::{Memory, Swept};

@@ -5,6 +5,7 @@ pub mod Looking
 pub mod Passing
 pub mod Replies
 pub mod Serving
+pub mod Silence
 pub mod Starting
 pub mod Sweeping
 pub mod Taking

@@ -31,7 +31,7 @@ gifts-push : (s : Sight) (past xs : List Step) (x : Step) → AreGifts s past xs
 gifts-push s past [] x h gift = (subst (λ P. IsGift s P x) (append-nil past) gift, tt)
 gifts-push s past (y ∷ xs) x h gift = (h.0, gifts-push s (past ++ y ∷ []) xs x h.1 (subst (λ P. IsGift s P x) (sym (append_assoc past (y ∷ []) xs)) gift))
 
-passed-push : (steps : List Step) (x : Step) → passed_by (steps ++ x ∷ []) ≡ passed_step (passed_by steps) x
+pub passed-push : (steps : List Step) (x : Step) → passed_by (steps ++ x ∷ []) ≡ passed_step (passed_by steps) x
 passed-push steps x = fold-append passed_step nothing_passed steps (x ∷ [])
 
 pub gives_none : (v : Passed) (s : Sight) (log : List Step) → v ≡ nothing_passed → Gives v 0 0 s log s log
@@ -93,7 +93,7 @@ gives_bounced o false v w given bounced s t u log mid longer is h choice k next 
 
 -- ---- how much may be given yet
 
-abbrev long : Passed → Type 0
+abbrev pub long : Passed → Type 0
 long v = (length v.given ≡ MAX_QUEUES) × (length v.bounced ≡ MAX_LANES)
 
 long_step : (v : Passed) (x : Step) → long v → long (passed_step v x)
@@ -108,7 +108,7 @@ long_after : (v : Passed) (steps : List Step) → long v → long (fold passed_s
 long_after v [] h = h
 long_after v (x ∷ steps) h = long_after (passed_step v x) steps (long_step v x h)
 
-passed_long : (v : Passed) (steps : List Step) → v ≡ passed_by steps → long v
+pub passed_long : (v : Passed) (steps : List Step) → v ≡ passed_by steps → long v
 passed_long v steps is = subst long (sym is) (long_after nothing_passed steps (length-replicate {A = ℕ} MAX_QUEUES 0, length-replicate MAX_LANES false))
 
 cond_few : (b : Bool) → cond b 0 1 ≤ 1

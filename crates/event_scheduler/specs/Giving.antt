@@ -1,5 +1,5 @@
 -- What waits is given: each time the choice of the moment is offered to its lane's ring.
-use Rattle.std.specs.Prelude.{ℕ, ◌≡◌, ◌≤◌, ◌+◌, ◌-◌, Bool, true, false, List, [], ◌∷◌, ◌++◌, if◌then◌else◌, length, count_by, fold, sum_by, slice_set, slice_index}
+use Rattle.std.specs.Prelude.{ℕ, ◌≡◌, ◌≤◌, ◌+◌, ◌-◌, ◌==◌, Bool, true, false, List, [], ◌∷◌, ◌++◌, if◌then◌else◌, length, count_by, fold, sum_by, slice_set, slice_index}
 use Rattle.event_scheduler.specs.Scheduler.{Runs, Sight, depth_at, offered_at}
 use Rattle.evt_types.specs.Plan.{Plan, lanes, queues}
 use Rattle.evt_types.specs.declared.event.Numbered.{Numbered}
@@ -50,6 +50,27 @@ IsGift s past Shut = ⊥
 abbrev pub AreGifts : Sight → List Step → List Step → Type 0
 AreGifts s past [] = Unit {0}
 AreGifts s past (x ∷ rest) = IsGift s past x × AreGifts s (past ++ x ∷ []) rest
+
+-- the lane is given an event, or its ring refuses one
+abbrev pub is_given_on : ℕ → Step → Bool
+is_given_on l (Give m q n) = m == l
+is_given_on l (Bounced m) = false
+is_given_on l (Accept q e c) = false
+is_given_on l (Done m o) = false
+is_given_on l (Turned m e) = false
+is_given_on l Shut = false
+
+abbrev pub is_refused_on : ℕ → Step → Bool
+is_refused_on l (Bounced m) = m == l
+is_refused_on l (Give m q n) = false
+is_refused_on l (Accept q e c) = false
+is_refused_on l (Done m o) = false
+is_refused_on l (Turned m e) = false
+is_refused_on l Shut = false
+
+-- a lane whose ring refused an event is given none after it, and is offered none
+abbrev pub MayFollow : Step → Step → Type 0
+MayFollow x y = (l : ℕ) → is_refused_on l x ≡ true → (is_given_on l y ≡ false) × (is_refused_on l y ≡ false)
 
 abbrev pub hand_step : Offer → Bool → Step
 hand_step o true = Give o.lane o.delivery.queue o.delivery.number

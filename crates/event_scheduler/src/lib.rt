@@ -3,12 +3,14 @@
 #![tactic(auto)]
 
 mod give;
+mod laws;
 mod look;
 mod parts;
 mod scheduler;
 mod sweep;
 mod take;
 
+pub use laws::a_full_ring_ends_a_lane;
 pub use parts::Parts;
 pub use scheduler::Scheduler;
 pub use sweep::{Memory, Swept};

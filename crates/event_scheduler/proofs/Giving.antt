@@ -63,6 +63,8 @@ gave pool core later lanes v p n o near given log longer within is id offers tak
           (omega (arith, ap length offers, length-append (offered near) (o.delivery ∷ []), ap length (out_here o.lane o.delivery.queue o.delivery.number)))
           (λ m other xs. omega (arith, ap length (out_elsewhere o.lane m o.delivery.queue o.delivery.number other)));
       taken = takes_same;
+      account = refl;
+      pocket = refl;
     }
   where
     s : Sight
@@ -120,6 +122,8 @@ refused pool core lanes v p n o near same log longer within is id offers takings
       full = λ no. omega (arith, depth_here pool core lanes v p n o.lane near within is, ap length (offered_here pool core lanes v p n o.lane near within is), full);
       grows = λ l. omega (arith, ap length (out_bounced o.lane l));
       taken = refl;
+      account = refl;
+      pocket = refl;
     })
   where
     s : Sight

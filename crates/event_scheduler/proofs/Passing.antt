@@ -47,6 +47,8 @@ gives_none v s log none =
       count_bounced = refl;
       grows = λ l. omega arith;
       taken = refl;
+      account = refl;
+      pocket = refl;
     }
 
 -- the choice, by the steps so far
@@ -67,6 +69,8 @@ more o ok v given bounced a b s t u log mid longer h k gift one_given one_bounce
       count_bounced = omega (arith, count-append is_bounced h.steps (hand_step o ok ∷ []), h.count_bounced, one_bounced);
       grows = λ l. omega (arith, k.grows l, h.grows l, ap length (out-append h.steps (hand_step o ok ∷ []) l), length-append (out h.steps l) (out (hand_step o ok ∷ []) l));
       taken = k.taken ∙ h.taken;
+      account = k.account ∙ h.account;
+      pocket = k.pocket ∙ h.pocket;
     }
 
 pub gives_given : (o : Offer) (ok : Bool) (v w : Passed) (given bounced : ℕ) (s t u : Sight) (log mid longer : List Step) → ok ≡ true → Gives v given bounced s log t mid

@@ -3,7 +3,7 @@ use Rattle.std.proofs.Common.{◌≡◌, ℕ, List, [], ◌∷◌, ◌++◌, len
 use Rattle.event_scheduler.proofs.Replies.{after-append}
 use Rattle.event_scheduler.proofs.Serving.{runs_rest, runs_runs}
 use Rattle.event_scheduler.specs.Giving.{AreGifts, GivesAll, IsGift, passed_by}
-use Rattle.event_scheduler.specs.Looking.{Looks, Rests}
+use Rattle.event_scheduler.specs.Looking.{Looks, Rests, Returns}
 use Rattle.event_scheduler.specs.Scheduler.{Runs, Sight, Site, depth_in}
 use Rattle.event_scheduler.specs.Swept.{Sweeps}
 use Rattle.event_scheduler.specs.Taking.{Takes, replies_from}
@@ -35,8 +35,9 @@ gifts_same s t past (x ∷ xs) core site offers gifts = (gift_same s t past x co
 
 swept :
     (taken given bounced : ℕ) (s a b c t : Sight) (log first second longer : List Step) → Looks s log a first → Takes (λ l. a.core.shape.sweep) taken a first b second → Rests b c
+    → Returns b.account b.pocket c.account c.pocket
     → GivesAll given bounced c second t longer → Sweeps (record { taken = taken; given = given; bounced = bounced }) s log t longer
-swept taken given bounced s a b c t log first second longer looks takes rests gives =
+swept taken given bounced s a b c t log first second longer looks takes rests tried gives =
     record {
       sweeping = record { shut = looks.steps; taken = takes.replies; offered = gives.gives.steps };
       runs = runs_runs (looks.steps ++ replies) gives.gives.steps s c t log second longer before gives.gives.runs;
@@ -49,6 +50,9 @@ swept taken given bounced s a b c t log first second longer looks takes rests gi
       taken = λ l.
           ap (λ xs. get_or xs l []) (gives.gives.taken ∙ rests.taken)
           ∙ (takes.taken l ∙ ap (λ xs. get_or xs l [] ++ replies_from l takes.replies) looks.taken);
+      between = b;
+      held = (runs_runs looks.steps replies s a b log first second looks.runs (subst (λ S. Runs S a first b second) same takes.runs)).serves;
+      returns = subst (λ v. Returns b.account b.pocket v t.pocket) (sym gives.gives.account) (subst (λ p. Returns b.account b.pocket c.account p) (sym gives.gives.pocket) tried);
       gifts = gifts_same c (record s { core = after (after s.core looks.steps) replies }) [] gives.gives.steps (core ∙ after-append s.core looks.steps replies) (rests.site ∙ (takes.runs.site ∙ looks.runs.site))
           (rests.offered ∙ (takes.offered ∙ looks.offered)) gives.gives.gifts;
       done = subst (λ v. HasNoChoice t.core v) gives.gives.passed gives.done;
@@ -76,6 +80,7 @@ swept taken given bounced s a b c t log first second longer looks takes rests gi
 -- the same where room in the log was reserved first
 pub swept_from :
     (taken given bounced : ℕ) (s a b c t : Sight) (log reserved first second longer : List Step) → reserved ≡ log → Looks s reserved a first → Takes (λ l. a.core.shape.sweep) taken a first b second → Rests b c
+    → Returns b.account b.pocket c.account c.pocket
     → GivesAll given bounced c second t longer → Sweeps (record { taken = taken; given = given; bounced = bounced }) s log t longer
-swept_from taken given bounced s a b c t log reserved first second longer same looks takes rests gives =
-    subst (λ xs. Sweeps (record { taken = taken; given = given; bounced = bounced }) s xs t longer) same (swept taken given bounced s a b c t reserved first second longer looks takes rests gives)
+swept_from taken given bounced s a b c t log reserved first second longer same looks takes rests tried gives =
+    subst (λ xs. Sweeps (record { taken = taken; given = given; bounced = bounced }) s xs t longer) same (swept taken given bounced s a b c t reserved first second longer looks takes rests tried gives)

@@ -83,6 +83,8 @@ pub record Hands (o : Offer) (ok : Bool) (s : Sight) (log : List Step) (t : Sigh
   pub full : ok ≡ false → depth_at s o.lane ≤ length (offered_at s o.lane)
   pub grows : (l : ℕ) → length (offered_at t l) ≡ length (offered_at s l) + length (out (hand_step o ok ∷ []) l)
   pub taken : t.taken ≡ s.taken
+  pub account : t.account ≡ s.account
+  pub pocket : t.pocket ≡ s.pocket
 
 -- So many events were given, and so many lanes' rings refused one; and that is what is passed over.
 pub record Gives (v : Passed) (given bounced : ℕ) (s : Sight) (log : List Step) (t : Sight) (longer : List Step) : Type 0 where
@@ -95,6 +97,8 @@ pub record Gives (v : Passed) (given bounced : ℕ) (s : Sight) (log : List Step
   pub count_bounced : count_by is_bounced steps ≡ bounced
   pub grows : (l : ℕ) → length (offered_at t l) ≡ length (offered_at s l) + length (out steps l)
   pub taken : t.taken ≡ s.taken
+  pub account : t.account ≡ s.account
+  pub pocket : t.pocket ≡ s.pocket
 
 -- and nothing is left to give
 pub record GivesAll (given bounced : ℕ) (s : Sight) (log : List Step) (t : Sight) (longer : List Step) : Type 0 where

@@ -1,6 +1,10 @@
 -- A look at the credit word, and the return of credits.
-use Rattle.std.specs.Prelude.{◌≡◌, List, [], ◌∷◌, true, false, ◌⊎◌, IsTrue}
+use Rattle.std.specs.Prelude.{ℕ, ◌≡◌, ◌≢◌, List, [], ◌∷◌, true, false, ◌⊎◌, IsTrue}
 use Rattle.credit_pool.specs.Accounts.{Stays}
+use Rattle.credit_pool.specs.Answers.{AnswersGive}
+use Rattle.credit_pool.specs.declared.account.Account.{Account}
+use Rattle.credit_pool.specs.declared.answer.Give.{Give}
+use Rattle.credit_pool.specs.declared.answer.Give.TheVariants.{Given, Over, Raced}
 use Rattle.event_scheduler.specs.Scheduler.{Runs, Serves, Sight}
 use Rattle.evt_types.specs.declared.step.Step.{Step}
 use Rattle.evt_types.specs.declared.step.Step.TheVariants.{Shut}
@@ -15,6 +19,17 @@ pub record Looks (s : Sight) (log : List Step) (t : Sight) (longer : List Step) 
   pub shut : IsTrue s.account.saw_shut → t.core.shut ≡ true
   pub offered : t.offered ≡ s.offered
   pub taken : t.taken ≡ s.taken
+
+-- what stays of a pocket after a return of all of it was tried
+abbrev pub left_by : Give → ℕ → ℕ
+left_by Given p = 0
+left_by (Over free) p = p
+left_by (Raced first second) p = p
+
+-- where credits were in the pocket, one return of all of them was tried
+pub record Returns (v : Account) (p : ℕ) (w : Account) (q : ℕ) : Type 0 where
+  pub none : p ≡ 0 → (w ≡ v) × (q ≡ 0)
+  pub tried : p ≢ 0 → (answer : Give) × AnswersGive p v answer w × (q ≡ left_by answer p)
 
 -- Nothing was logged; the core and the lanes are as they were.
 pub record Rests (s t : Sight) : Type 0 where

@@ -3,7 +3,7 @@
 ghost use Rattle.std.specs.Prelude.{◌≡◌, ◌+◌, ◌<◌, ◌≤◌, vec_len, vec_capacity};
 ghost use Rattle.credit_pool.specs.Accounts.{Stays};
 ghost use Rattle.credit_pool.specs.Pool.{account, IsSeatOf};
-ghost use Rattle.event_scheduler.specs.Looking.{Looks, Rests};
+ghost use Rattle.event_scheduler.specs.Looking.{Looks, Rests, Returns};
 ghost use Rattle.event_scheduler.specs.Scheduler.{sight_of};
 ghost use Rattle.transcripts.specs.Standing.{kept_in};
 
@@ -17,12 +17,15 @@ fn returned(pool: &Credits, seat: &mut CreditSeat, pocket: u64) -> u64
     ensures seat { IsSeatOf pool.now seat.new }
     ensures stays { Stays (account seat.old) (account seat.new) }
     ensures sum { (account seat.new).returned + result ≡ (account seat.old).returned + pocket }
+    ensures tried { Returns (account seat.old) pocket (account seat.new) result }
     ensures drawn { (account seat.new).drawn ≡ (account seat.old).drawn }
 {
-    if pocket > 0 && pool.give(seat, pocket) == Give::Given {
-        0
-    } else {
-        pocket
+    if pocket == 0 {
+        return 0;
+    }
+    match pool.give(seat, pocket) {
+        Give::Given => 0,
+        Give::Over { .. } | Give::Raced { .. } => pocket,
     }
 }
 
@@ -41,7 +44,8 @@ impl Scheduler {
 
     /// Tries to give back the credits of what was turned away.
     pub(crate) fn give_back(&mut self)
-        ensures { Rests (sight_of self.old) (sight_of self.new) }
+        ensures rests { Rests (sight_of self.old) (sight_of self.new) }
+        ensures tried { Returns (account self.old.seat) self.old.pocket (account self.new.seat) self.new.pocket }
     {
         self.pocket = returned(&self.pool, &mut self.seat, self.pocket);
     }

@@ -1,0 +1,11 @@
+pub mod Counts
+pub mod Giving
+pub mod Lanes
+pub mod Looking
+pub mod Passing
+pub mod Replies
+pub mod Serving
+pub mod Silence
+pub mod Starting
+pub mod Sweeping
+pub mod Taking

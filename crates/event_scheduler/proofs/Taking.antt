@@ -1,0 +1,208 @@
+-- Replies are taken: one, none, and some after others.
+use Rattle.std.proofs.Common.{◌≡◌, ℕ, ◌+◌, ◌*◌, ◌<◌, ◌≤◌, ◌%◌, ◌^◌, ◌==◌, Bool, true, false, cond, nat_lt, ◌&&◌, ◌||◌, ◌⊎◌, inl, inr, List, [], ◌∷◌, ◌++◌, length, map, set, get_or, All, refl, sym, ap, ◌∙◌, subst, append_assoc, append-nil, add-zero, arith}
+use Rattle.std.proofs.lemmas.Bool.{cases_lt, false≢true, le-ltb}
+use Rattle.std.proofs.lemmas.List.{length-append, map-append}
+use Rattle.std.proofs.lemmas.List.Elements.{filter_map-append}
+use Rattle.credit_pool.specs.declared.account.Account.{Account}
+use Rattle.credit_pool.specs.declared.pool.Credits.{Credits}
+use Rattle.event_scheduler.proofs.Counts.{count-append, new_fits, reply_enters, reply_shuts_none, reply_turns}
+use Rattle.event_scheduler.proofs.Lanes.{each_lane, same_lists, same_sight}
+use Rattle.event_scheduler.proofs.Looking.{append_none}
+use Rattle.event_scheduler.proofs.Replies.{after-append, by_lane-append, first_more, first_within, may-append, of_first_is, only_is, only_more, only_within, one_count, one_elsewhere, one_here, one_said, one_steps, steps-append}
+use Rattle.event_scheduler.proofs.Serving.{Adds, runs_by, runs_none, runs_runs, stays_same}
+use Rattle.event_scheduler.specs.Scheduler.{IsAccepted, IsPocket, Runs, Sight, offered_at, sight, taken_at}
+use Rattle.event_scheduler.specs.Taking.{Takes, entered_as, entered_by, of_first, only, replies_from, reply_from, turned_by}
+use Rattle.evt_types.specs.Event.{pair_of}
+use Rattle.evt_types.specs.Plan.{bound_of, lanes_of}
+use Rattle.evt_types.specs.declared.event.Event.{Event}
+use Rattle.evt_types.specs.declared.event.Op.{Op}
+use Rattle.evt_types.specs.declared.event.Op.TheVariants as ops
+use Rattle.evt_types.specs.declared.step.Step.{Step}
+use Rattle.lane_rings.specs.Ends.{offered, taken}
+use Rattle.lane_rings.specs.Identity.{near_id}
+use Rattle.lane_rings.specs.declared.near.Near.{Near}
+use Rattle.sched_core.specs.Taken.{took_by, took_of}
+use Rattle.sched_core.specs.declared.take.Took.TheVariants as tooks
+use Rattle.transcripts.proofs.Replies.{steps_of-out}
+use Rattle.transcripts.specs.Replies.{new_count, said}
+use Rattle.transcripts.specs.Standing.{View, Stands, after, entries_of, inside_of, may_enter, may_take, may_take_by, steps_of}
+use Rattle.transcripts.specs.Sweep.{MayBeTaken, replies_steps}
+use Rattle.transcripts.specs.Transcript.{out}
+
+-- ---- none
+
+pub takes_none : (most : ℕ → ℕ) (s : Sight) (log : List Step) → Takes most 0 s log s log
+takes_none most s log =
+    record {
+      replies = [];
+      runs = runs_none s log;
+      core = refl;
+      may = tt;
+      by_lane = λ i j d lt within. absurd (omega arith);
+      few = λ l. omega arith;
+      taken = λ l. sym (append-nil (taken_at s l));
+      offered = refl;
+      count = refl;
+    }
+
+-- none, and a lane was looked at
+pub takes_looked :
+    (pool : Credits) (core : View) (lanes : List Near) (v : Account) (p n i : ℕ) (near later : Near) (most : ℕ → ℕ) (log : List Step) → near ≡ get_or lanes i near
+    → near_id later ≡ near_id near → offered later ≡ offered near → taken later ≡ taken near → Takes most 0 (sight pool core lanes v p n) log (sight pool core (set lanes i later) v p n) log
+takes_looked pool core lanes v p n i near later most log is id offers takings =
+    subst (λ t. Takes most 0 (sight pool core lanes v p n) log t log) (same_sight pool core lanes v p n i near later is id offers takings) (takes_none most (sight pool core lanes v p n) log)
+
+-- ---- one
+
+-- a pocket with k more
+more_in : (p came went k : ℕ) → IsPocket p came went → IsPocket ((p + k) % 2 ^ 64) (came + k) went
+more_in p came went k h = (omega (arith, h.0), omega (arith, h.1))
+
+-- what may be taken leaves the count of new events room for one more
+and_second : (a b : Bool) → (a && b) ≡ true → b ≡ true
+and_second true b h = h
+and_second false b h = absurd (false≢true h)
+
+is_below : (a b : ℕ) → nat_lt a b ≡ true → a < b
+is_below a b is = by_place (cases_lt a b)
+  where
+    by_place : (a < b) ⊎ (b ≤ a) → a < b
+    by_place (inl below) = below
+    by_place (inr past) = absurd (false≢true (sym (le-ltb a b past) ∙ is))
+
+new_room : (b : Bool) (v : View) (e : Event) (n : ℕ) → v.shut ≡ b → may_enter v e.queue ≡ true → n < 2 ^ 64 → n ≤ entries_of v → n + entered_as (cond b tooks.Turned tooks.Accepted) < 2 ^ 64
+new_room true v e n is may fits few = omega (arith, fits)
+new_room false v e n is may fits few =
+    let either : (v.shut || (nat_lt (inside_of v) (bound_of v.shape) && nat_lt (entries_of v) (2 ^ 63))) ≡ true = and_second (nat_lt e.queue (length v.shape.queues)) _ may in
+    let free : (nat_lt (inside_of v) (bound_of v.shape) && nat_lt (entries_of v) (2 ^ 63)) ≡ true =
+    subst (λ b. (b || (nat_lt (inside_of v) (bound_of v.shape) && nat_lt (entries_of v) (2 ^ 63))) ≡ true) is either in
+    let below : entries_of v < 2 ^ 63 = is_below (entries_of v) (2 ^ 63) (and_second (nat_lt (inside_of v) (bound_of v.shape)) _ free) in
+    omega (arith, below, few)
+
+room_by : (o : Op) (v : View) (l : ℕ) (e : Event) (n : ℕ) → may_take_by o v l e ≡ true → n < 2 ^ 64 → n ≤ entries_of v → n + entered_by o (took_by o v l e) < 2 ^ 64
+room_by ops.New v l e n may fits few = new_room v.shut v e n refl (and_second (nat_lt l (length v.shape.ports)) _ may) fits few
+room_by ops.Forward v l e n may fits few = omega (arith, fits)
+room_by ops.Release v l e n may fits few = omega (arith, fits)
+
+entered_fits : (v : View) (l : ℕ) (e : Event) (n : ℕ) (T : List Step) → may_take v l e ≡ true → n < 2 ^ 64 → Stands T v → n ≡ new_count T → n + entered_by e.op (took_of v l e) < 2 ^ 64
+entered_fits v l e n T may fits stands is = room_by e.op v l e n may fits (omega (arith, is, new_fits v T stands))
+
+pub took :
+    (pool : Credits) (core later : View) (lanes : List Near) (v : Account) (p n l k m : ℕ) (e : Event) (near seen : Near) (log longer : List Step)
+    → l < length lanes → near ≡ get_or lanes l near → near_id seen ≡ near_id near → offered seen ≡ offered near → taken seen ≡ taken near ++ record { event = e } ∷ []
+    → l < lanes_of core.shape → may_take core l e ≡ true → later ≡ after core (steps_of core l e) → later.shape ≡ core.shape → longer ≡ log ++ steps_of core l e
+    → ((T : List Step) → Stands T core → Stands (T ++ steps_of core l e) later)
+    → n < 2 ^ 64 → k ≡ turned_by (took_of core l e) → m ≡ entered_by e.op (took_of core l e)
+    → Takes (only l 1) 1 (sight pool core lanes v p n) log (sight pool later (set lanes l seen) v ((p + k) % 2 ^ 64) ((n + m) % 2 ^ 64)) longer
+took pool core later lanes v p n l k m e near seen log longer within is id offers takings lane may view shape logged stands fits turns enters =
+    record {
+      replies = (l, e) ∷ [];
+      runs = subst (λ S. Runs S s log t longer) (sym (one_steps core l e)) (runs_by (steps_of core l e) s t log longer logged adds);
+      core = view ∙ ap (after core) (sym (one_steps core l e));
+      may = (lane, may, tt);
+      by_lane = λ i j d lt in_one. absurd (omega arith);
+      few = λ m. one_count l m e;
+      taken = lists;
+      offered = offers_same;
+      count = refl;
+    }
+  where
+    s : Sight
+    s = sight pool core lanes v p n
+
+    t : Sight
+    t = sight pool later (set lanes l seen) v ((p + k) % 2 ^ 64) ((n + m) % 2 ^ 64)
+
+    offers_same : map offered (set lanes l seen) ≡ map offered lanes
+    offers_same = same_lists offered lanes l near seen is offers
+
+    lists : (j : ℕ) → get_or (map taken (set lanes l seen)) j [] ≡ get_or (map taken lanes) j [] ++ replies_from j ((l, e) ∷ [])
+    lists =
+        each_lane (λ m before now. now ≡ before ++ replies_from m ((l, e) ∷ [])) taken lanes l near seen within is (takings ∙ ap (λ rs. taken near ++ rs) (sym (one_here l e)))
+        (λ m other xs. append_none xs (replies_from m ((l, e) ∷ [])) (one_elsewhere l m e other))
+
+    adds : Adds (steps_of core l e) s t
+    adds =
+        record {
+          stands = stands;
+          shape = shape;
+          site = ap (λ ids. record { pool = pool; lanes = ids }) (same_lists near_id lanes l near seen is id);
+          offered = λ m. ap (λ xs. map pair_of (get_or xs m [])) offers_same ∙ append_none (map pair_of (offered_at s m)) (out (steps_of core l e) m) (steps_of-out core l e m);
+          events = λ T m at accepted. subst (λ xs. All (IsAccepted T) (get_or xs m [])) (sym offers_same) accepted;
+          taken = λ m. ap (map said) (lists m) ∙ (map-append said (taken_at s m) (replies_from m ((l, e) ∷ [])) ∙ ap (λ xs. map said (taken_at s m) ++ xs) (one_said core l e m));
+          entered = λ T at is_new. omega (arith, entered_fits core l e n T may fits at is_new, enters, is_new, reply_enters core l e);
+          own = λ came h. subst (λ j. IsPocket ((p + k) % 2 ^ 64) (came + j) v.returned) (turns ∙ sym (reply_turns core l e)) (more_in p came v.returned k h);
+          shut = λ has. absurd (false≢true (sym (reply_shuts_none core l e) ∙ has));
+          account = stays_same v;
+        }
+
+-- ---- some after others
+
+pub takes_takes : (f g most : ℕ → ℕ) (a b : ℕ) (s t u : Sight) (log mid longer : List Step) → Takes f a s log t mid → Takes g b t mid u longer
+    → ((i j : ℕ) → 1 ≤ f i → 1 ≤ g j → i ≤ j) → ((m : ℕ) → f m + g m ≤ most m) → Takes most (a + b) s log u longer
+takes_takes f g most a b s t u log mid longer h k rise sums =
+    record {
+      replies = h.replies ++ k.replies;
+      runs = subst (λ S. Runs S s log u longer) (sym steps_are) (runs_runs (replies_steps s.core h.replies) (replies_steps t.core k.replies) s t u log mid longer h.runs k.runs);
+      core = k.core ∙ (ap (λ c. after c (replies_steps t.core k.replies)) h.core ∙ (sym (after-append s.core (replies_steps s.core h.replies) (replies_steps t.core k.replies)) ∙ ap (after s.core) (sym steps_are)));
+      may = may-append s.core h.replies k.replies h.may (subst (λ c. MayBeTaken c k.replies) h.core k.may);
+      by_lane = by_lane-append f g h.replies k.replies h.by_lane k.by_lane h.few k.few rise;
+      few = λ m. omega (arith, count-append (λ (r : ℕ × Event). r.0 == m) h.replies k.replies, h.few m, k.few m, sums m);
+      taken = λ m.
+          k.taken m
+          ∙ (ap (λ xs. xs ++ replies_from m k.replies) (h.taken m)
+          ∙ (append_assoc (taken_at s m) (replies_from m h.replies) (replies_from m k.replies) ∙ ap (λ xs. taken_at s m ++ xs) (sym (filter_map-append (reply_from m) h.replies k.replies))));
+      offered = k.offered ∙ h.offered;
+      count = length-append h.replies k.replies ∙ (ap (λ n. n + length k.replies) h.count ∙ ap (λ n. a + n) k.count);
+    }
+  where
+    steps_are : replies_steps s.core (h.replies ++ k.replies) ≡ replies_steps s.core h.replies ++ replies_steps t.core k.replies
+    steps_are = steps-append s.core h.replies k.replies ∙ ap (λ c. replies_steps s.core h.replies ++ replies_steps c k.replies) (sym h.core)
+
+-- the same under a wider bound
+pub takes_within : (f most : ℕ → ℕ) (n : ℕ) (s t : Sight) (log longer : List Step) → Takes f n s log t longer → ((m : ℕ) → f m ≤ most m) → Takes most n s log t longer
+takes_within f most n s t log longer h wider =
+    record {
+      replies = h.replies;
+      runs = h.runs;
+      core = h.core;
+      may = h.may;
+      by_lane = h.by_lane;
+      few = λ m. omega (arith, h.few m, wider m);
+      taken = h.taken;
+      offered = h.offered;
+      count = h.count;
+    }
+
+-- ---- of one lane, and of one lane after the other
+
+pub lane_more : (l n : ℕ) (b : Bool) (s t u : Sight) (log mid longer : List Step) → b ≡ true → Takes (only l n) n s log t mid → Takes (only l (cond b 1 0)) (cond b 1 0) t mid u longer
+    → Takes (only l (n + 1)) (n + 1) s log u longer
+lane_more l n true s t u log mid longer is h k =
+    takes_takes (only l n) (only l 1) (only l (n + 1)) n 1 s t u log mid longer h k (λ i j some more. omega (arith, only_is l n i some, only_is l 1 j more)) (λ m. only_more l n 1 m)
+lane_more l n false s t u log mid longer is h k = absurd (false≢true is)
+
+pub lane_ends : (l n most : ℕ) (b : Bool) (s t u : Sight) (log mid longer : List Step) → b ≡ false → n ≤ most → Takes (only l n) n s log t mid → Takes (only l (cond b 1 0)) (cond b 1 0) t mid u longer
+    → Takes (only l most) n s log u longer
+lane_ends l n most true s t u log mid longer is within h k = absurd (false≢true (sym is))
+lane_ends l n most false s t u log mid longer is within h k =
+    subst (λ k. Takes (only l most) k s log u longer) (add-zero n)
+    (takes_takes (only l n) (only l 0) (only l most) n 0 s t u log mid longer h k (λ i j some more. omega (arith, only_is l n i some, only_is l 0 j more)) (λ m. omega (arith, only_more l n 0 m, only_within l (n + 0) most m (omega (arith, within)))))
+
+pub next_lane : (i most same n k : ℕ) (s t u : Sight) (log mid longer : List Step) → same ≡ most → Takes (of_first i most) n s log t mid → Takes (only i same) k t mid u longer
+    → Takes (of_first (i + 1) most) (n + k) s log u longer
+next_lane i most same n k s t u log mid longer is h m =
+    takes_takes (of_first i most) (only i same) (of_first (i + 1) most) n k s t u log mid longer h m (λ a b some more. omega (arith, of_first_is i most a some, only_is i same b more))
+    (λ a. subst (λ j. of_first i most a + only i j a ≤ of_first (i + 1) most a) (sym is) (first_more i most a))
+
+pub all_lanes : (i most n : ℕ) (s t : Sight) (log longer : List Step) → Takes (of_first i most) n s log t longer → Takes (λ l. most) n s log t longer
+all_lanes i most n s t log longer h = takes_within (of_first i most) (λ l. most) n s t log longer h (λ m. first_within i most m)
+
+-- ---- numbers
+
+-- the room of one lane more, and the replies of it
+pub lane_room : (q same i before mid later : ℕ) → same ≡ q → mid ≤ before + 2 * q * i → later ≤ mid + 2 * same → later ≤ before + 2 * q * (i + 1)
+lane_room q same i before mid later is h k = omega (arith, is, h, k)
+
+pub lane_count : (q same i n k : ℕ) → same ≡ q → n ≤ q * i → k ≤ same → n + k ≤ q * (i + 1)
+lane_count q same i n k is h m = omega (arith, is, h, m)

@@ -1,0 +1,10 @@
+use Rattle.std.proofs.Common.{refl, rules, arith}
+use Rattle.event_scheduler.proofs.Taking.{lane_more, takes_none}
+use Rattle.event_scheduler.proofs.scheduler.Scheduler.take_lane.Goals as goal
+
+pub loop-taken-init : goal.loop-taken-init
+loop-taken-init c = (takes_none _ _ _, refl, omega arith)
+
+pub loop-taken-preserved : goal.loop-taken-preserved
+loop-taken-preserved c =
+    (lane_more _ _ _ _ _ _ _ _ _ c.if-not-take_one.false c.loop-taken.invariant.0 c.take_one.ensures.takes, search rules, omega (arith, c.loop-taken.invariant.2, c.take_one.ensures.room.1))

@@ -1,0 +1,35 @@
+-- A whole sweep.
+use Rattle.std.specs.Prelude.{ℕ, ◌≡◌, ◌≤◌, List, [], ◌∷◌, ◌++◌, true, false, ◌⊎◌, IsTrue, length, count_by}
+use Rattle.event_scheduler.specs.Giving.{AreGifts, is_bounced, passed_by}
+use Rattle.event_scheduler.specs.Looking.{Returns}
+use Rattle.event_scheduler.specs.Scheduler.{Runs, Serves, Sight, taken_at}
+use Rattle.event_scheduler.specs.Taking.{GoByLane, count_from, replies_from}
+use Rattle.event_scheduler.specs.declared.sweep.Swept.{Swept}
+use Rattle.evt_types.specs.declared.step.Step.{Step}
+use Rattle.evt_types.specs.declared.step.Step.TheVariants.{Shut}
+use Rattle.transcripts.specs.Choice.{HasNoChoice}
+use Rattle.transcripts.specs.Standing.{after}
+use Rattle.transcripts.specs.Sweep.{MayBeTaken, Sweeping, replies_steps, sweep_steps}
+use Rattle.transcripts.specs.Transcript.{has_shut, is_give}
+
+-- A sweep: it sees that the device is shut or logs nothing, takes replies by rising lane, of each lane no more than the sweep
+-- quantum, tries to give back what is in its pocket between the replies and the gifts, and gives what is chosen until nothing is left to
+-- give.
+pub record Sweeps (n : Swept) (s : Sight) (log : List Step) (t : Sight) (longer : List Step) : Type 0 where
+  pub sweeping : Sweeping
+  pub runs : Runs (sweep_steps s.core sweeping) s log t longer
+  pub core : t.core ≡ after s.core (sweep_steps s.core sweeping)
+  pub looked : (sweeping.shut ≡ []) ⊎ ((s.core.shut ≡ false) × (sweeping.shut ≡ Shut ∷ []))
+  pub shut : (T : List Step) → Serves T s → IsTrue s.account.saw_shut → has_shut (T ++ sweeping.shut) ≡ true
+  pub may : MayBeTaken (after s.core sweeping.shut) sweeping.taken
+  pub by_lane : GoByLane sweeping.taken
+  pub quantum : (l : ℕ) → count_from l sweeping.taken ≤ s.core.shape.sweep
+  pub taken : (l : ℕ) → taken_at t l ≡ taken_at s l ++ replies_from l sweeping.taken
+  pub between : Sight
+  pub held : (T : List Step) → Serves T s → Serves (T ++ (sweeping.shut ++ replies_steps (after s.core sweeping.shut) sweeping.taken)) between
+  pub returns : Returns between.account between.pocket t.account t.pocket
+  pub gifts : AreGifts (record s { core = after (after s.core sweeping.shut) (replies_steps (after s.core sweeping.shut) sweeping.taken) }) [] sweeping.offered
+  pub done : HasNoChoice t.core (passed_by sweeping.offered)
+  pub count_taken : length sweeping.taken ≡ n.taken
+  pub count_given : count_by is_give sweeping.offered ≡ n.given
+  pub count_bounced : count_by is_bounced sweeping.offered ≡ n.bounced

@@ -1,0 +1,41 @@
+//! One sweep.
+
+use crate::scheduler::Scheduler;
+use evt_types::Step;
+use std::alloc::AllocError;
+
+/// Want of memory.
+pub type Memory = AllocError;
+
+/// What a sweep did: how many replies it took, how many events it gave, and how many lanes' rings had no room.
+#[derive(Clone, Copy, Debug, PartialEq, Eq)]
+pub struct Swept {
+    pub taken: usize,
+    pub given: usize,
+    pub bounced: usize,
+}
+
+impl Scheduler {
+    ghost use Rattle.std.specs.Prelude.{◌≡◌, IfOk, IsErr};
+    ghost use Rattle.event_scheduler.specs.Scheduler.{sight_of};
+    ghost use Rattle.event_scheduler.specs.Swept.{Sweeps};
+
+    /// One sweep: looks at the credit word, takes replies of each lane, tries to give back the credits of what was turned away, and
+    /// gives until no choice is left. Its steps are appended to the log, in which room for all of them is reserved first: after want
+    /// of memory nothing has changed.
+    pub fn sweep(&mut self, log: &mut Vec<Step>) -> Result<Swept, Memory>
+        ensures sweeps { IfOk result (λ n. Sweeps n (sight_of self.old) log.old.items (sight_of self.new) log.new.items) }
+        ensures memory { IsErr result → (self.new ≡ self.old) × (log.new.items ≡ log.old.items) }
+    {
+        log.reserve(self.core.log_room())?;
+        self.look(log);
+        let taken = self.take_all(log);
+        self.give_back();
+        let (given, bounced) = self.give_all(log);
+        Ok(Swept {
+            taken,
+            given,
+            bounced,
+        })
+    }
+}

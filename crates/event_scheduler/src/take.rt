@@ -1,0 +1,88 @@
+//! Replies of the lanes are taken.
+
+ghost use Rattle.std.specs.Prelude.{◌≡◌, ◌+◌, ◌*◌, ◌≤◌, ◌<◌, if◌then◌else◌, vec_len, vec_capacity};
+ghost use Rattle.event_scheduler.specs.Scheduler.{sight_of};
+ghost use Rattle.event_scheduler.specs.Taking.{Takes, entered_by, only, turned_by};
+ghost use Rattle.evt_types.specs.Plan.{lanes_of};
+ghost use Rattle.transcripts.specs.Standing.{kept_in};
+
+use crate::scheduler::Scheduler;
+use evt_types::{Op, Step};
+use sched_core::Took;
+
+/// How many credits a reply leaves to the scheduler: that of what was turned away.
+fn turned_by(took: Took) -> u64
+    ensures { result ≡ turned_by took }
+{
+    match took {
+        Took::Turned => 1,
+        Took::Accepted | Took::Kept | Took::Released => 0,
+    }
+}
+
+/// How many events were accepted as new by a reply.
+fn entered_by(op: Op, took: Took) -> u64
+    ensures { result ≡ entered_by op took }
+{
+    match (op, took) {
+        (Op::New, Took::Accepted) => 1,
+        _ => 0,
+    }
+}
+
+impl Scheduler {
+    /// Takes the lane's oldest reply, where there is one that may be taken.
+    fn take_one(&mut self, lane: usize, log: &mut Vec<Step>) -> bool
+        requires lane { lane < lanes_of self.old.core.shape }
+        requires room { vec_len log.old + kept_in self.old.core + 2 ≤ vec_capacity log.old }
+        ensures takes { Takes (only lane (if result then 1 else 0)) (if result then 1 else 0) (sight_of self.old) log.old.items (sight_of self.new) log.new.items }
+        ensures room { (vec_capacity log.new ≡ vec_capacity log.old) × (vec_len log.new + kept_in self.new.core ≤ vec_len log.old + kept_in self.old.core + 2) }
+    {
+        let near = &mut self.lanes[lane];
+        let Some(reply) = near.peek() else {
+            return false;
+        };
+        if !self.core.takes(lane, &reply) {
+            return false;
+        }
+        near.take();
+        let took = self.core.take(lane, reply, log);
+        self.pocket = self.pocket.wrapping_add(turned_by(took));
+        self.accepted_new = self
+            .accepted_new
+            .wrapping_add(entered_by(reply.event.op, took));
+        true
+    }
+
+    /// Takes replies of the lane, no more than the sweep quantum, until its ring is empty or one may not be taken.
+    fn take_lane(&mut self, lane: usize, log: &mut Vec<Step>) -> usize
+        requires lane { lane < lanes_of self.old.core.shape }
+        requires room { vec_len log.old + kept_in self.old.core + 2 * self.old.core.shape.sweep ≤ vec_capacity log.old }
+        ensures takes { Takes (only lane self.old.core.shape.sweep) result (sight_of self.old) log.old.items (sight_of self.new) log.new.items }
+        ensures room { (vec_capacity log.new ≡ vec_capacity log.old) × (vec_len log.new + kept_in self.new.core ≤ vec_len log.old + kept_in self.old.core + 2 * self.old.core.shape.sweep) }
+        ensures most { result ≤ self.old.core.shape.sweep }
+    {
+        let most = self.core.shape().sweep() as usize;
+        for taken in 0..most {
+            if !self.take_one(lane, log) {
+                return taken;
+            }
+        }
+        most
+    }
+
+    /// Takes replies of each lane, by rising lane.
+    pub(crate) fn take_all(&mut self, log: &mut Vec<Step>) -> usize
+        requires room { vec_len log.old + kept_in self.old.core + 2 * self.old.core.shape.sweep * lanes_of self.old.core.shape ≤ vec_capacity log.old }
+        ensures takes { Takes (λ l. self.old.core.shape.sweep) result (sight_of self.old) log.old.items (sight_of self.new) log.new.items }
+        ensures room { (vec_capacity log.new ≡ vec_capacity log.old) × (vec_len log.new + kept_in self.new.core ≤ vec_len log.old + kept_in self.old.core + 2 * self.old.core.shape.sweep * lanes_of self.old.core.shape) }
+    {
+        let count = self.core.shape().lanes();
+        let _ = self.core.shape().sweep();
+        let mut taken = 0;
+        for lane in 0..count {
+            taken += self.take_lane(lane, log);
+        }
+        taken
+    }
+}

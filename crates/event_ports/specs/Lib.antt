@@ -1,0 +1,6 @@
+pub mod Holds
+pub mod Flows
+pub mod Lanes
+pub mod Handed
+pub mod Pockets
+pub mod Ports

@@ -1,0 +1,15 @@
+//! The port of an event device, for both kinds of serving: it enqueues to its own lane and to the flow lanes that it holds, and
+//! dequeues from them. No call of a port takes a lock or memory.
+#![tactic(auto)]
+
+mod answer;
+mod dequeue;
+mod fill;
+mod flows;
+mod lane;
+mod lanes;
+mod port;
+
+pub use answer::{Behind, Refused};
+pub use lane::{Holding, Lane};
+pub use port::Port;

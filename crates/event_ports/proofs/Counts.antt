@@ -1,5 +1,5 @@
 -- How many replies to all lanes pass a test, where one more is submitted.
-use Rattle.std.proofs.Common.{◌≡◌, ◌≢◌, ℕ, ◌+◌, ◌<◌, get_or, Bool, true, false, cond, List, [], ◌∷◌, ◌++◌, refl, sym, ap, ◌∙◌, arith, count_by, sum_by}
+use Rattle.std.proofs.Common.{◌≡◌, ◌≢◌, ℕ, ◌+◌, ◌<◌, get_or, Bool, cond, List, [], ◌∷◌, ◌++◌, sym, ap, ◌∙◌, arith, count_by}
 use Rattle.std.specs.List.{range_with_len}
 use Rattle.std.proofs.lemmas.List.Sums.{sum_by-append}
 use Rattle.lists.proofs.Sums.{sum_same, sum_changed, sum_of_none}

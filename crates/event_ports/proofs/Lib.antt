@@ -6,3 +6,5 @@ pub mod Refusals
 pub mod Arrivals
 pub mod Refusing
 pub mod Released
+pub mod Bursts
+pub mod Stops

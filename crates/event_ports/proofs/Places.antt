@@ -1,27 +1,23 @@
 -- One place of a port's flow lanes changes, and with it what the seat has of the lane; what the port has of the other lanes stays.
-use Rattle.std.proofs.Common.{◌≡◌, ◌≢◌, ℕ, zero, suc, ◌<◌, ◌≤◌, ◌==◌, get_or, Bool, true, false, List, [], ◌∷◌, ◌++◌, length, drop, set, filter, replicate, rules, Option, Some, None, All, refl, sym, ap, ◌∙◌, subst, arith, append-nil, append_assoc}
+use Rattle.std.proofs.Common.{◌≡◌, ◌≢◌, ℕ, zero, suc, ◌<◌, ◌≤◌, ◌==◌, get_or, false, List, [], ◌∷◌, ◌++◌, length, drop, set, replicate, rules, Option, Some, None, refl, sym, ap, ◌∙◌, subst, arith, append-nil}
 use Rattle.std.specs.Option.{is_some}
 use Rattle.std.specs.List.{flat_map}
 use Rattle.std.proofs.lemmas.List.{get_or-set_same, get_or-set_other, set-get_or}
-use Rattle.std.proofs.lemmas.List.Elements.{All-push}
 use Rattle.std.proofs.lemmas.Grind.{flat_map-append}
 use Rattle.std.proofs.lemmas.Option.{none-some, same_Some}
 use mathlib.Core.Logic.{dite}
 use native.Mathlib.Decide.{ℕ_discrete}
-use Rattle.lists.specs.Lists.{has}
 use Rattle.lists.proofs.Lists.{eqb_same, eqb_other, filter-push_true, filter-push_false}
 use Rattle.lists.proofs.Writes.{set-set}
-use Rattle.evt_types.specs.declared.event.Delivery.{Delivery}
-use Rattle.evt_types.specs.declared.event.Reply.{Reply}
-use Rattle.lane_rings.specs.Ends.{received_by, answered, answers_among, unanswered}
+use Rattle.lane_rings.specs.Ends.{received_by, answered}
 use Rattle.flow_claims.specs.declared.claim.Stint.{Stint}
 use Rattle.flow_claims.specs.declared.seating.Past.{Past}
 use Rattle.flow_claims.specs.declared.seating.Seating.{Seating}
-use Rattle.flow_claims.specs.Open.{IsOpen, start_in, received_so_far, answered_so_far}
+use Rattle.flow_claims.specs.Open.{start_in}
 use Rattle.flow_claims.specs.Seats.{stint_at}
-use Rattle.flow_claims.specs.Stints.{received_in, answered_in, received_in_all, answered_in_all}
+use Rattle.flow_claims.specs.Stints.{received_in_all, answered_in_all}
 use Rattle.flow_claims.proofs.Opened.{stays_open}
-use Rattle.event_ports.specs.Holds.{place_at, IsHeldAt, IsPlace, stints_at, received_past, answered_past, received_now, answered_now, held_now, Hands, stint_in, received_on, answered_on, held_on, Same, SameBut, Gets, Says}
+use Rattle.event_ports.specs.Holds.{place_at, IsHeldAt, IsPlace, stints_at, received_past, answered_past, received_now, answered_now, held_now, Hands, received_on, answered_on, held_on, Same, SameBut}
 
 abbrev pub Stints : Type 0
 Stints = List (Option Stint)

@@ -1,5 +1,5 @@
 -- Why the answer to the oldest that is held is refused.
-use Rattle.std.proofs.Common.{◌≡◌, ◌≢◌, ◌≤◌, ℕ, true, cond, List, [], ◌∷◌, length, slice_get, Option, Some, None, refl, sym, ap, ◌∙◌, subst, arith}
+use Rattle.std.proofs.Common.{◌≡◌, ◌≢◌, ◌≤◌, ℕ, true, cond, List, [], ◌∷◌, length, slice_get, Some, None, refl, sym, ap, subst, arith}
 use Rattle.std.proofs.lemmas.Option.{none-some}
 use Rattle.std.proofs.lemmas.List.Sums.{sum_by-cons}
 use Rattle.evt_types.specs.Operation.{is_answer}
@@ -10,7 +10,7 @@ use Rattle.lane_rings.specs.Refusal.{RefusesAnswer}
 use Rattle.lane_rings.specs.declared.far.AnswerFault.{AnswerFault}
 use Rattle.lane_rings.specs.declared.far.AnswerFault.TheVariants.{NothingHeld, Full}
 use Rattle.lane_rings.specs.declared.far.Far.{Far}
-use Rattle.event_ports.specs.declared.lane.Lane.TheVariants.{Own, Flow}
+use Rattle.event_ports.specs.declared.lane.Lane.TheVariants.{Own}
 use Rattle.event_ports.specs.declared.lane.Holding.{Holding}
 use Rattle.event_ports.specs.Holds.{Hands}
 use Rattle.event_ports.specs.Lanes.{first_lane, IsFilledAt, RefusesFirst}

@@ -1,5 +1,5 @@
 -- What a port refuses, and what it costs, where a call before it changed nothing of that.
-use Rattle.std.proofs.Common.{◌≡◌, ◌≢◌, ℕ, ◌+◌, ◌<◌, ◌≤◌, List, [], ◌∷◌, ◌++◌, drop, Result, Ok, Err, MatchResult, refl, sym, ap, ◌∙◌, subst, arith}
+use Rattle.std.proofs.Common.{◌≡◌, ℕ, ◌+◌, [], ◌∷◌, ◌++◌, drop, Result, Ok, Err, MatchResult, sym, ap, ◌∙◌, arith}
 use Rattle.evt_types.specs.declared.event.Event.{Event}
 use Rattle.evt_types.specs.declared.event.Op.TheVariants as ops
 use Rattle.evt_types.specs.declared.event.Reply.{Reply}
@@ -10,7 +10,7 @@ use Rattle.event_ports.specs.declared.lane.Lane.{Lane}
 use Rattle.event_ports.specs.declared.lane.Lane.TheVariants.{Own}
 use Rattle.event_ports.specs.declared.port.Port.{Port}
 use Rattle.event_ports.specs.Lanes.{Hand, Rests, Submits}
-use Rattle.event_ports.specs.Ports.{Place, place_of, account_of, pocket_of, hand, SameCredits, Stocks, Refuses}
+use Rattle.event_ports.specs.Ports.{Place, place_of, account_of, pocket_of, SameCredits, Stocks, Refuses}
 
 pub rests_then : (lane : Lane) (r : Reply) (h k m : Hand) → Rests h k → Submits lane r k m → Submits lane r h m
 rests_then lane r h k m a b = record {

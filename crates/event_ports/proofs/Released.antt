@@ -1,15 +1,15 @@
 -- Releases of what is held, one after the other.
-use Rattle.std.proofs.Common.{◌≡◌, ◌≢◌, ℕ, zero, suc, ◌+◌, ◌<◌, Bool, true, false, cond, ◌%◌, ◌^◌, List, [], ◌∷◌, ◌++◌, length, map, filter, take, drop, Some, refl, sym, ap, ◌∙◌, subst, arith, append-nil, append_assoc}
+use Rattle.std.proofs.Common.{◌≡◌, ◌≢◌, ℕ, zero, suc, ◌+◌, ◌<◌, Bool, true, false, cond, ◌%◌, ◌^◌, List, [], ◌∷◌, ◌++◌, length, map, take, drop, refl, sym, ap, ◌∙◌, subst, arith, append-nil, append_assoc}
 use Rattle.std.proofs.lemmas.List.{map-append, length-drop}
 use Rattle.lists.proofs.Lists.{filter-push_true, filter-push_false}
 use Rattle.evt_types.specs.declared.event.Delivery.{Delivery}
 use Rattle.event_ports.specs.declared.lane.Lane.{Lane}
 use Rattle.event_ports.specs.declared.lane.Holding.{Holding}
-use Rattle.event_ports.specs.Lanes.{Hand, Submits, SubmitsTo, Releases, Arrives, Dequeues, Rests, first_lane, held_of, same_lane, release_reply, releases_for}
+use Rattle.event_ports.specs.Lanes.{Hand, SubmitsTo, Releases, Arrives, Dequeues, first_lane, held_of, same_lane, release_reply, releases_for}
 use Rattle.event_ports.proofs.Orders.{by_lane}
 
 module _ {A : Type 0} where
-  take_next : (n : ℕ) (ys : List A) (x : A) (xs : List A) → drop n ys ≡ x ∷ xs → take (suc n) ys ≡ take n ys ++ x ∷ []
+  pub take_next : (n : ℕ) (ys : List A) (x : A) (xs : List A) → drop n ys ≡ x ∷ xs → take (suc n) ys ≡ take n ys ++ x ∷ []
   take_next zero ys x xs e = ap (take 1) e
   take_next (suc n) [] x xs e = absurd (omega (arith, ap length e))
   take_next (suc n) (y ∷ ys) x xs e = ap (λ r. y ∷ r) (take_next n ys x xs e)

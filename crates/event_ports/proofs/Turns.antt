@@ -1,5 +1,5 @@
 -- What a call on one flow lane makes of what a port has of all of them.
-use Rattle.std.proofs.Common.{◌≡◌, ◌≢◌, ℕ, suc, ◌<◌, ◌≤◌, Bool, true, false, List, [], ◌∷◌, ◌++◌, length, drop, set, Option, Some, None, All, MatchOption, refl, sym, ap, ◌∙◌, subst, arith, append-nil, append_assoc}
+use Rattle.std.proofs.Common.{◌≡◌, ◌≢◌, ℕ, suc, ◌<◌, Bool, true, false, List, [], ◌∷◌, ◌++◌, length, drop, set, Option, Some, None, All, MatchOption, refl, sym, ap, ◌∙◌, subst, arith, append-nil, append_assoc}
 use Rattle.std.specs.Option.{is_some}
 use Rattle.std.proofs.lemmas.List.{length-set, length-append}
 use Rattle.std.proofs.lemmas.List.Elements.{All-push}
@@ -18,9 +18,9 @@ use Rattle.flow_claims.specs.Answers.{KeepsPort, EndsStint}
 use Rattle.flow_claims.specs.Claims.{seating, port_of, lanes_of, IsSeatOf}
 use Rattle.flow_claims.specs.Open.{IsOpen, received_so_far, answered_so_far}
 use Rattle.flow_claims.specs.Seats.{stint_at, find_lane, IsPorts}
-use Rattle.flow_claims.specs.Stints.{received_in, answered_in, received_in_all, answered_in_all}
+use Rattle.flow_claims.specs.Stints.{received_in, answered_in}
 use Rattle.flow_claims.proofs.Held.{nothing_held}
-use Rattle.event_ports.specs.Holds.{place_at, IsHeldAt, IsPlace, AreFlows, stints_at, received_past, answered_past, received_now, answered_now, held_now, Hands, stint_in, received_on, answered_on, held_on, Kept, Ends, Same, SameBut, Gets, Says}
+use Rattle.event_ports.specs.Holds.{place_at, IsHeldAt, AreFlows, stints_at, received_past, answered_past, received_now, answered_now, held_now, Hands, stint_in, received_on, answered_on, held_on, Kept, Ends, Same, SameBut, Gets, Says}
 use Rattle.event_ports.proofs.Places.{Stints, hands, each_place, moved, free_place, held_place, past_places, past_more, other_stints, same_now, same_but, received_here, answered_here, held_here, all_same}
 
 module _ (claims : Claims) (links : List ℕ) where

@@ -1,6 +1,5 @@
 -- What a clause sees of a port's lanes.
-use Rattle.std.specs.Prelude.{◌≡◌, ◌≢◌, ◌+◌, ◌≤◌, ◌<◌, ℕ, true, List, [], length, Option}
-use Rattle.std.specs.Prelude.Option.{Some, None}
+use Rattle.std.specs.Prelude.{◌≡◌, ◌+◌, ◌<◌, ℕ, true, List, length, Option}
 use Rattle.lists.specs.Lists.{has}
 use Rattle.evt_types.specs.Operation.{is_new_reply, is_release_reply}
 use Rattle.evt_types.specs.declared.event.Reply.{Reply}

@@ -95,6 +95,11 @@ lane_for ops.New xs = Some Own
 lane_for ops.Forward xs = first_lane xs
 lane_for ops.Release xs = first_lane xs
 
+-- these were submitted, one after the other
+abbrev pub SubmitsAll : List Event → Hand → Hand → Type 0
+SubmitsAll [] h k = Rests h k
+SubmitsAll (e ∷ es) h k = (between : Hand) × SubmitsTo (lane_for e.op h.holding) (reply_of e) h between × SubmitsAll es between k
+
 -- a delivery was received from the lane, and is the last of what is held
 pub record Takes (lane : Lane) (d : Delivery) (h k : Hand) : Type 0 where
   pub said : (l : Lane) → k.said l ≡ h.said l

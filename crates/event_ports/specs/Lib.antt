@@ -4,3 +4,5 @@ pub mod Lanes
 pub mod Handed
 pub mod Pockets
 pub mod Ports
+pub mod Parts
+pub mod Stop

@@ -1,17 +1,18 @@
 -- What a clause sees of a port, and why it refuses.
-use Rattle.std.specs.Prelude.{◌≡◌, ◌≢◌, ℕ, ◌+◌, ◌-◌, ◌%◌, ◌^◌, ◌<◌, ◌≤◌, Bool, List, [], ◌∷◌, length, if◌then◌else◌, IsTrue}
+use Rattle.std.specs.Prelude.{◌≡◌, ◌≢◌, ℕ, ◌+◌, ◌%◌, ◌^◌, ◌<◌, ◌≤◌, Bool, List, [], length, take, slice_get, if◌then◌else◌, IsTrue}
+use Rattle.std.specs.Prelude.Option.{Some}
 use Rattle.std.specs.Arc.{arc_value}
 use Rattle.evt_types.specs.declared.event.Event.{Event}
 use Rattle.evt_types.specs.declared.event.Op.{Op}
 use Rattle.evt_types.specs.declared.event.Op.TheVariants as ops
 use Rattle.credit_pool.specs.declared.account.Account.{Account}
 use Rattle.credit_pool.specs.declared.pool.Credits.{Credits}
-use Rattle.credit_pool.specs.Accounts.{free_of, in_use, IsOpen}
+use Rattle.credit_pool.specs.Accounts.{free_of, in_use, IsOpen, Stays}
 use Rattle.credit_pool.specs.Pool.{account}
 use Rattle.event_ports.specs.declared.answer.Refused.{Refused}
 use Rattle.event_ports.specs.declared.answer.Refused.TheVariants.{Stopped, BadQueue, NothingHeld, Backpressure, Raced, Full}
 use Rattle.event_ports.specs.declared.port.Port.{Port}
-use Rattle.event_ports.specs.Lanes.{Hand, Rests, SubmitsTo, lane_for, reply_of}
+use Rattle.event_ports.specs.Lanes.{Hand, SubmitsAll, lane_for}
 use Rattle.event_ports.specs.Handed.{LanesPlace, lanes_place, hand_of, news_of, releases_of, IsFilled}
 use Rattle.event_ports.specs.Pockets.{SameSums, Settles}
 
@@ -96,3 +97,13 @@ Refuses p e Full q =
 -- with implicit release a dequeue first releases all that is held
 abbrev pub released_first : Port → ℕ
 released_first p = if (place_of p).implicit then length (hand p).holding else 0
+
+-- of these events the first n were taken, one after the other, and the next one was refused
+pub record StopsAt (p : Port) (events : List Event) (n : ℕ) (refusal : Refused) (q : Port) : Type 0 where
+  pub event : Event
+  pub between : Port
+  pub is_next : slice_get events n ≡ Some event
+  pub place : place_of between ≡ place_of p
+  pub credit : Stays (account_of p) (account_of between)
+  pub submitted : SubmitsAll (take n events) (hand p) (hand between)
+  pub refused : Refuses between event refusal q

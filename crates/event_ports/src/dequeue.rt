@@ -1,13 +1,13 @@
 //! Dequeues, and enqueues of several events.
 
-ghost use Rattle.std.specs.Prelude.{◌≡◌, ◌≢◌, ◌+◌, ◌%◌, ◌^◌, ◌<◌, ◌≤◌, [], length, IsTrue, IsFalse, IfOk, IfErr, OnOk, MatchResult};
+ghost use Rattle.std.specs.Prelude.{◌≡◌, ◌≢◌, ◌+◌, ◌%◌, ◌^◌, ◌<◌, ◌≤◌, [], length, IsTrue, IsFalse, ◌↔◌, take, IsNone, IfSome, IfOk, IfErr, OnOk, MatchResult};
 ghost use Rattle.evt_types.specs.declared.event.Op.TheVariants as ops;
 ghost use Rattle.credit_pool.specs.Accounts.{Stays};
-ghost use Rattle.event_ports.specs.Lanes.{Rests, Releases, Dequeues, Arrives, SubmitsTo, first_lane, release_reply};
+ghost use Rattle.event_ports.specs.Lanes.{Rests, Releases, Dequeues, Arrives, SubmitsTo, SubmitsAll, first_lane, release_reply};
 ghost use Rattle.event_ports.specs.Pockets.{Settles};
-ghost use Rattle.event_ports.specs.Ports.{place_of, account_of, pocket_of, hand, links, was_filled, released_first};
+ghost use Rattle.event_ports.specs.Ports.{place_of, account_of, pocket_of, hand, links, was_filled, released_first, StopsAt};
 
-use crate::answer::Behind;
+use crate::answer::{Behind, Refused};
 use crate::port::Port;
 use arrayvec::ArrayVec;
 use evt_types::{Delivery, Event, Reply};
@@ -28,6 +28,23 @@ impl Port {
         let answer = self.exchange(max);
         self.settle();
         answer
+    }
+
+    /// Enqueues the events one after the other, up to the first that is refused: how many were taken, and why the next one wasn't.
+    pub fn enqueue_burst(&mut self, events: &[Event]) -> (usize, Option<Refused>)
+        ensures place { place_of self.new ≡ place_of self.old }
+        ensures credit { Stays (account_of self.old) (account_of self.new) }
+        ensures count { result.0 ≤ length events.now }
+        ensures all { IsNone result.1 ↔ (result.0 ≡ length events.now) }
+        ensures submitted { SubmitsAll (take result.0 events.now) (hand self.old) (hand self.new) }
+        ensures refused { IfSome result.1 (λ e. StopsAt self.old events.now result.0 e self.new) }
+    {
+        for (taken, event) in events.iter().enumerate() {
+            if let Err(refused) = self.enqueue(*event) {
+                return (taken, Some(refused));
+            }
+        }
+        (events.len(), None)
     }
 
     // What a dequeue does before the return rule.

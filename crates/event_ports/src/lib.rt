@@ -8,8 +8,12 @@ mod fill;
 mod flows;
 mod lane;
 mod lanes;
+mod parts;
 mod port;
+mod stop;
 
 pub use answer::{Behind, Refused};
 pub use lane::{Holding, Lane};
+pub use parts::{Left, Memory, Parts};
 pub use port::Port;
+pub use stop::flow_lanes_at_stop;

@@ -1,4 +1,4 @@
-use Rattle.std.proofs.Common.{◌≡◌, ◌≤◌, ℕ, length, replicate, vec_capacity, None}
+use Rattle.std.proofs.Common.{◌≡◌, ◌≤◌, length, replicate, vec_capacity, None}
 use Rattle.event_ports.proofs.flows.free_places.Given as goal
 
 abbrev pub invariant-loop : goal.invariant-loop

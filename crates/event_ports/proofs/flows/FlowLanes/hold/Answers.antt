@@ -1,9 +1,7 @@
 -- What a claim makes of the port's flow lanes.
-use Rattle.std.proofs.Common.{rules, ◌≡◌, ap, Some, None, ◌∙◌, length, ◌<◌, arith}
+use Rattle.std.proofs.Common.{◌≡◌, ap, ◌∙◌}
 use Rattle.std.specs.Arc.{arc_value}
 use Rattle.flow_claims.specs.Claims.{seating, claims_id, lanes_of, IsSeatOf}
-use Rattle.event_ports.specs.Holds.{place_at}
-use Rattle.event_ports.proofs.Places.{place_read}
 use Rattle.event_ports.proofs.Turns.{refused, claimed}
 use Rattle.event_ports.proofs.flows.FlowLanes.hold.Goals as goal
 

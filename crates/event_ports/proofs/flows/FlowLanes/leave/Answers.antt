@@ -1,5 +1,5 @@
 -- What the end of a stint makes of the port's flow lanes.
-use Rattle.std.proofs.Common.{rules, ◌≡◌, ◌∙◌, ap, sym, subst, refl, false, [], Some, None, List, Option, length, ◌<◌, arith, set}
+use Rattle.std.proofs.Common.{◌≡◌, ◌∙◌, sym, subst, false, [], Some, List, Option, length, ◌<◌, arith, set}
 use Rattle.std.specs.Arc.{arc_value}
 use Rattle.flow_claims.specs.declared.claim.Stint.{Stint}
 use Rattle.flow_claims.specs.declared.claims.Claims.{Claims}

@@ -1,5 +1,5 @@
 -- What a receipt makes of the port's flow lanes.
-use Rattle.std.proofs.Common.{rules, ◌≡◌, ap, Some, None, length, ◌<◌, arith}
+use Rattle.std.proofs.Common.{◌≡◌, Some, length, ◌<◌, arith}
 use Rattle.event_ports.specs.Holds.{place_at}
 use Rattle.event_ports.proofs.Places.{place_read}
 use Rattle.event_ports.proofs.Turns.{turned, received_lists}

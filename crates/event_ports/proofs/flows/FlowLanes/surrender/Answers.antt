@@ -1,5 +1,5 @@
 -- What the surrender of a lane makes of the port's flow lanes.
-use Rattle.std.proofs.Common.{rules, ◌≡◌, ◌∙◌, ap, sym, subst, refl, true, Some, None, List, Option, length, ◌<◌, arith, set}
+use Rattle.std.proofs.Common.{◌≡◌, ◌∙◌, sym, subst, true, Some, None, Option, length, ◌<◌, arith, set}
 use Rattle.std.specs.Arc.{arc_value}
 use Rattle.flow_claims.specs.declared.claims.Claims.{Claims}
 use Rattle.flow_claims.specs.declared.claim.Stint.{Stint}

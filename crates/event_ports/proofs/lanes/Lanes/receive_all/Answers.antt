@@ -1,6 +1,6 @@
 -- What arrived from one lane more.
-use Rattle.std.proofs.Common.{◌≡◌, ◌≤◌, ◌+◌, ◌∙◌, ℕ, [], ap, subst, sym, length, arith, List}
-use Rattle.event_ports.specs.Handed.{LanesPlace, hand_of, lanes_place, links_of}
+use Rattle.std.proofs.Common.{◌∙◌, subst}
+use Rattle.event_ports.specs.Handed.{LanesPlace, hand_of}
 use Rattle.event_ports.specs.Lanes.{Arrives}
 use Rattle.event_ports.proofs.Arrivals.{arrives_more}
 use Rattle.event_ports.proofs.lanes.Lanes.receive_all.Goals as goal

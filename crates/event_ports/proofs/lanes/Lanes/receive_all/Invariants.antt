@@ -1,4 +1,4 @@
-use Rattle.std.proofs.Common.{◌≡◌, ◌≤◌, length, []}
+use Rattle.std.proofs.Common.{◌≡◌, length, []}
 use Rattle.event_ports.specs.Lanes.{Arrives, HasRoomFor}
 use Rattle.event_ports.specs.Handed.{lanes_place, links_of, hand_of, CountsNone}
 use Rattle.event_ports.proofs.lanes.Lanes.receive_all.Given as goal

@@ -1,6 +1,6 @@
 -- One more delivery arrived.
-use Rattle.std.proofs.Common.{◌≡◌, ◌≤◌, ◌+◌, ◌∙◌, ap, subst, sym, length, arith}
-use Rattle.event_ports.specs.Handed.{LanesPlace, hand_of, lanes_place, IsReadable}
+use Rattle.std.proofs.Common.{◌∙◌, subst, sym, arith}
+use Rattle.event_ports.specs.Handed.{LanesPlace, hand_of, lanes_place}
 use Rattle.event_ports.specs.Lanes.{HasRoomFor}
 use Rattle.event_ports.proofs.Arrivals.{arrives_then, room_less, linked_to}
 use Rattle.event_ports.proofs.lanes.Lanes.receive_some.Goals as goal

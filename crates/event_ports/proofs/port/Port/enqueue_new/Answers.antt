@@ -1,6 +1,5 @@
 -- The look at the credits, and the draw, change nothing that was submitted.
-use Rattle.std.proofs.Common.{◌≡◌, ◌∙◌, ap, sym, refl, arith, ◌<◌, Ok, Err, Result}
-use Rattle.event_ports.specs.declared.answer.Refused.{Refused}
+use Rattle.std.proofs.Common.{ap, arith, ◌<◌}
 use Rattle.event_ports.specs.Lanes.{reply_of}
 use Rattle.event_ports.specs.Ports.{Place, place_of, hand}
 use Rattle.event_ports.proofs.Refusing.{refuses_after, own_after}

@@ -1,7 +1,7 @@
 -- What was released first, and what arrived then.
-use Rattle.std.proofs.Common.{rules, ◌≡◌, ◌∙◌, ap, subst, true, false, [], length}
+use Rattle.std.proofs.Common.{rules, subst, [], length}
 use Rattle.event_ports.specs.Lanes.{Arrives}
-use Rattle.event_ports.specs.Ports.{Place, place_of, hand, links}
+use Rattle.event_ports.specs.Ports.{Place, hand, links}
 use Rattle.event_ports.proofs.Released.{dequeues_where, dequeues_released}
 use Rattle.event_ports.proofs.port.Port.exchange.Goals as goal
 

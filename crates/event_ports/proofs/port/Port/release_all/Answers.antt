@@ -1,5 +1,5 @@
 -- Something is held until all was released.
-use Rattle.std.proofs.Common.{rules, ◌≡◌, ◌∙◌, ◌<◌, length, arith}
+use Rattle.std.proofs.Common.{rules, ◌∙◌, arith}
 use Rattle.event_ports.specs.Ports.{hand, pocket_of}
 use Rattle.event_ports.proofs.Released.{some_left, releases_more, one_more_credit}
 use Rattle.event_ports.proofs.port.Port.release_all.Goals as goal

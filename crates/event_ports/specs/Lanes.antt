@@ -14,7 +14,7 @@ use Rattle.lane_rings.specs.Identity.{far_id}
 use Rattle.lane_rings.specs.declared.far.AnswerFault.{AnswerFault}
 use Rattle.lane_rings.specs.declared.far.AnswerFault.TheVariants.{NothingHeld, Full}
 use Rattle.lane_rings.specs.declared.far.Far.{Far}
-use Rattle.flow_claims.specs.declared.seating.Seating.{Seating}
+use Rattle.flow_claims.specs.declared.seating.Past.{Past}
 use Rattle.event_ports.specs.declared.lane.Lane.{Lane}
 use Rattle.event_ports.specs.declared.lane.Lane.TheVariants.{Own, Flow}
 use Rattle.event_ports.specs.declared.lane.Holding.{Holding}
@@ -141,10 +141,10 @@ pub record IsEmptyHand (h : Hand) : Type 0 where
   pub got : (l : Lane) → h.got l ≡ []
   pub holding : h.holding ≡ []
 
--- what a claim seat that holds no lane has of the flow lanes is what the port had
-pub record IsEndOf (h : Hand) (v : Seating) : Type 0 where
-  pub received : (j : ℕ) → received_past j v.finished ≡ h.got (Flow j)
-  pub answered_is : (j : ℕ) → answered_past j v.finished ≡ h.said (Flow j)
+-- what was received and answered in these stints is what the port had of the flow lanes
+pub record IsEndOf (h : Hand) (ps : List Past) : Type 0 where
+  pub received : (j : ℕ) → received_past j ps ≡ h.got (Flow j)
+  pub answered_is : (j : ℕ) → answered_past j ps ≡ h.said (Flow j)
 
 -- a release for each of these that came from the lane
 abbrev pub releases_for : Lane → List Holding → List Reply

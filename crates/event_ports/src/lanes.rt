@@ -179,7 +179,7 @@ impl Lanes {
         ensures seat { IsSeatOf (lanes_place self).flows.claims result.1 × (port_of result.1 ≡ (lanes_place self).flows.port) }
         ensures parts { (seating result.1).parts ≡ (lanes_place self).flows.parts }
         ensures none_open { HoldsNone (seating result.1) }
-        ensures lists { IsEndOf (hand_of self) (seating result.1) }
+        ensures lists { IsEndOf (hand_of self) (seating result.1).finished }
         ensures linked { AreLinked (lanes_place self).flows.port (links_of self) (seating result.1).finished }
         ensures held { result.2.items ≡ (hand_of self).holding }
     {

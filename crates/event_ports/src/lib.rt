@@ -6,6 +6,7 @@ mod answer;
 mod dequeue;
 mod fill;
 mod flows;
+mod joined;
 mod lane;
 mod lanes;
 mod parts;
@@ -13,6 +14,7 @@ mod port;
 mod stop;
 
 pub use answer::{Behind, Refused};
+pub use joined::{Rest, join_port};
 pub use lane::{Holding, Lane};
 pub use parts::{Left, Memory, Parts};
 pub use port::Port;

@@ -1,6 +1,6 @@
 //! How a port is made of its parts, and taken apart again.
 
-ghost use Rattle.std.specs.Prelude.{◌≡◌, ◌+◌, ◌<◌, ◌≤◌, [], length, All, IfOk, IfErr};
+ghost use Rattle.std.specs.Prelude.{◌≡◌, ◌+◌, ◌<◌, ◌≤◌, [], false, length, All, IfOk, IfErr};
 ghost use Rattle.std.specs.Arc.{arc_value};
 ghost use Rattle.credit_pool.specs.Pool as credits;
 ghost use Rattle.lane_rings.specs.Identity.{far_id};
@@ -114,11 +114,12 @@ impl Port {
     /// Takes the port apart. Each flow lane that it holds is surrendered: no claim gets it any more.
     pub fn into_left(self) -> Left
         ensures credit { (credits.account result.credit ≡ account_of self) × credits.IsSeatOf (place_of self).pool result.credit }
+        ensures unset { (credits.account result.credit).set_shut ≡ false }
         ensures claim { IsSeatOf (place_of self).lanes.flows.claims result.claim × (port_of result.claim ≡ (place_of self).number) }
         ensures parts { (seating result.claim).parts ≡ (place_of self).lanes.flows.parts }
         ensures none_open { HoldsNone (seating result.claim) }
         ensures own { (far_id result.own ≡ (place_of self).lanes.own) × (received_by result.own ≡ (hand self).got lanes.Own) × (answered result.own ≡ (hand self).said lanes.Own) }
-        ensures lists { IsEndOf (hand self) (seating result.claim) }
+        ensures lists { IsEndOf (hand self) (seating result.claim).finished }
         ensures linked { AreLinked (place_of self).number (links self) (seating result.claim).finished }
         ensures held { result.held.items ≡ (hand self).holding }
         ensures paid { (result.pocket ≡ pocket_of self) × IsPocket result.pocket ((account_of self).drawn + releases_by self) ((account_of self).returned + news_by self) }

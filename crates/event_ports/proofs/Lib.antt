@@ -8,3 +8,4 @@ pub mod Refusing
 pub mod Released
 pub mod Bursts
 pub mod Stops
+pub mod Joining

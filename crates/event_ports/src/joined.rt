@@ -1,6 +1,6 @@
 //! A port's seats joined into those of the device that stops.
 
-ghost use Rattle.std.specs.Prelude.{◌≡◌, ◌+◌, [], ◌++◌};
+ghost use Rattle.std.specs.Prelude.{◌≡◌, ◌+◌, ◌≤◌, [], length, vec_capacity, All};
 ghost use Rattle.credit_pool.specs.Accounts.{after_join};
 ghost use Rattle.credit_pool.specs.Pool as credits;
 ghost use Rattle.lane_rings.specs.Identity.{far_id};
@@ -10,7 +10,7 @@ ghost use Rattle.flow_claims.specs.Seats.{HoldsNone};
 ghost use Rattle.event_ports.specs.declared.lane.Lane.TheVariants as lanes;
 ghost use Rattle.event_ports.specs.Pockets.{IsPocket};
 ghost use Rattle.event_ports.specs.Ports.{place_of, account_of, pocket_of, hand, news_by, releases_by};
-ghost use Rattle.event_ports.specs.Stop.{Joins};
+ghost use Rattle.event_ports.specs.Stop.{Joins, IsPortOf, IsJoined, AreRests};
 
 use crate::lane::Holding;
 use crate::parts::Left;
@@ -58,4 +58,29 @@ pub fn join_port(
     let credit = pool.join(credit, its_credit);
     let claim = claims.join(claim, its_claim);
     (credit, claim, Rest { own, held, pocket })
+}
+
+/// Takes all ports apart, and joins their seats into these. What is left of them is added in their order, where room was reserved.
+pub fn join_ports(
+    pool: &Credits,
+    claims: &Claims,
+    mut credit: CreditSeat,
+    mut claim: ClaimSeat,
+    ports: Vec<Port>,
+    into: &mut Vec<Rest>,
+) -> (CreditSeat, ClaimSeat)
+    requires pool { credits.IsSeatOf pool.now credit }
+    requires claims { IsSeatOf claims.now claim × HoldsNone (seating claim) }
+    requires ports { All (IsPortOf pool.now claims.now) ports.items }
+    requires room { (into.old.items ≡ []) × (length ports.items ≤ vec_capacity into.old) }
+    ensures joined { IsJoined pool.now claims.now credit claim ports.items result.0 result.1 }
+    ensures left { AreRests ports.items into.new.items }
+{
+    for port in ports {
+        let (its_credit, its_claim, rest) = join_port(pool, claims, credit, claim, port);
+        credit = its_credit;
+        claim = its_claim;
+        into.push_reserved(rest);
+    }
+    (credit, claim)
 }

@@ -14,7 +14,7 @@ mod port;
 mod stop;
 
 pub use answer::{Behind, Refused};
-pub use joined::{Rest, join_port};
+pub use joined::{Rest, join_port, join_ports};
 pub use lane::{Holding, Lane};
 pub use parts::{Left, Memory, Parts};
 pub use port::Port;

@@ -1,0 +1,40 @@
+-- Several events are submitted, one after the other.
+use Rattle.std.proofs.Common.{◌≡◌, ℕ, zero, suc, ◌+◌, ◌<◌, length, get_or, List, [], ◌∷◌, ◌++◌, take, drop, slice_get, Option, Some, None, refl, sym, ap, ◌∙◌, subst, arith}
+use Rattle.lists.proofs.Lists.{drop-slice_get}
+use Rattle.evt_types.specs.declared.event.Event.{Event}
+use Rattle.evt_types.specs.declared.event.Reply.{Reply}
+use Rattle.event_ports.specs.declared.lane.Lane.{Lane}
+use Rattle.event_ports.specs.Lanes.{Hand, Rests, SubmitsTo, SubmitsAll, lane_for, reply_of}
+use Rattle.event_ports.proofs.Refusing.{rests_then, rests_more}
+use Rattle.event_ports.proofs.Released.{take_next}
+
+pub rests_same : (h : Hand) → Rests h h
+rests_same h = record { said = λ l. refl; got = λ l. refl; holding = refl }
+
+submits_after : (o : Option Lane) (r : Reply) (h k m : Hand) → Rests h k → SubmitsTo o r k m → SubmitsTo o r h m
+submits_after None r h k m a b = b
+submits_after (Some l) r h k m a b = rests_then l r h k m a b
+
+-- one event more
+pub all_more : (es : List Event) (e : Event) (h k m : Hand) → SubmitsAll es h k → SubmitsTo (lane_for e.op k.holding) (reply_of e) k m → SubmitsAll (es ++ e ∷ []) h m
+all_more [] e h k m a b =
+    let To : Option Lane → Type 0 = λ o. SubmitsTo o (reply_of e) h m in
+    (m, subst To (ap (lane_for e.op) a.holding) (submits_after (lane_for e.op k.holding) (reply_of e) h k m a b), rests_same m)
+all_more (x ∷ es) e h k m a b = (a.0, a.1, all_more es e a.0 k m a.2 b)
+
+-- a call that submitted nothing
+pub all_rests : (es : List Event) (h k m : Hand) → SubmitsAll es h k → Rests k m → SubmitsAll es h m
+all_rests [] h k m a b = rests_more h k m a b
+all_rests (x ∷ es) h k m a b = (a.0, a.1, all_rests es a.0 k m a.2 b)
+
+pub taken_more : (es : List Event) (n : ℕ) (e : Event) (h k m : Hand) → slice_get es n ≡ Some e → SubmitsAll (take n es) h k → SubmitsTo (lane_for e.op k.holding) (reply_of e) k m
+    → SubmitsAll (take (n + 1) es) h m
+taken_more es n e h k m at a b =
+    let one : n + 1 ≡ suc n = omega arith in
+    let All_of : List Event → Type 0 = λ xs. SubmitsAll xs h m in
+    subst All_of (sym (ap (λ i. take i es) one ∙ take_next n es e (drop (n + 1) es) (drop-slice_get es n e at))) (all_more (take n es) e h k m a b)
+
+pub read_next : (es : List Event) (n : ℕ) (e : Event) → n < length es → e ≡ get_or es n e → slice_get es n ≡ Some e
+read_next [] n e lt same = absurd (omega (arith, lt))
+read_next (x ∷ es) zero e lt same = ap Some (sym same)
+read_next (x ∷ es) (suc n) e lt same = read_next es n e (omega (arith, lt)) same

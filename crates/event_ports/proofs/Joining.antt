@@ -1,0 +1,35 @@
+-- One port more is joined.
+use Rattle.std.proofs.Common.{◌≡◌, ℕ, ◌+◌, Bool, true, List, [], ◌∷◌, ◌++◌, map, sym, ap, ◌∙◌, subst, arith, get_or, count_by, sum_by}
+use Rattle.std.proofs.lemmas.List.{map-append}
+use Rattle.std.proofs.lemmas.List.Sums.{sum_by-append}
+use Rattle.std.proofs.lemmas.List.Elements.{All-append}
+use Rattle.lists.proofs.Sums.{sum_same}
+use Rattle.evt_types.specs.declared.event.Reply.{Reply}
+use Rattle.flow_claims.specs.declared.seating.Past.{Past}
+use Rattle.flow_claims.specs.declared.seating.Seating.{Seating}
+use Rattle.event_ports.specs.declared.port.Port.{Port}
+use Rattle.event_ports.specs.declared.lane.Lane.TheVariants.{Flow}
+use Rattle.event_ports.specs.Holds.{answered_past}
+use Rattle.event_ports.specs.Ports.{hand}
+use Rattle.event_ports.specs.Stop.{counted_past, AreLinkedBy, Joins, flows_in, LinksAgree}
+use Rattle.event_ports.proofs.Stops.{joined}
+
+pub sum_one_more : (f : Port → ℕ) (base n m : ℕ) (ports : List Port) (p : Port) → n ≡ base + sum_by f ports → m ≡ n + f p → m ≡ base + sum_by f (ports ++ p ∷ [])
+sum_one_more f base n m ports p e g = omega (arith, e, g, sum_by-append f ports (p ∷ []))
+
+pub counts_more : (P : Reply → Bool) (n : ℕ) (port : Port) (before after : Seating) → Joins port before after → counted_past P n after.finished ≡ counted_past P n before.finished + flows_in P n port
+counts_more P n port before after j =
+    ap (counted_past P n) j.finished ∙ joined P n before.finished j.stints
+    ∙ ap (λ x. counted_past P n before.finished + x) (sum_same (λ i. count_by P (answered_past i j.stints)) (λ i. count_by P ((hand port).said (Flow i))) n (λ i. ap (count_by P) (j.lists.answered_is i)))
+
+pub linked_more : (linked : ℕ → ℕ → Bool) (port : Port) (before after : Seating) → Joins port before after → LinksAgree linked port → AreLinkedBy linked before.finished → AreLinkedBy linked after.finished
+linked_more linked port before after j agree all =
+    let To : List Past → Type 0 = λ ps. AreLinkedBy linked ps in
+    subst To (sym j.finished)
+    (All-append (λ (p : Past). linked p.port p.lane ≡ true) before.finished j.stints all
+    (λ k d lt. let p : Past = get_or j.stints k d in ap (λ n. linked n p.lane) (j.linked k d lt).0 ∙ agree p.lane (j.linked k d lt).1))
+
+pub one_more : {A X Y : Type 0} (f : X → A) (g : Y → A) (xs zs : List X) (x : X) (ys : List Y) (y : Y) → zs ≡ xs ++ x ∷ [] → map f xs ≡ map g ys → f x ≡ g y
+    → map f zs ≡ map g (ys ++ y ∷ [])
+one_more f g xs zs x ys y e same here =
+    ap (map f) e ∙ map-append f xs (x ∷ []) ∙ (λ i. same i ++ here i ∷ []) ∙ sym (map-append g ys (y ∷ []))

@@ -1,0 +1,11 @@
+pub mod Places
+pub mod Turns
+pub mod Orders
+pub mod Counts
+pub mod Refusals
+pub mod Arrivals
+pub mod Refusing
+pub mod Released
+pub mod Bursts
+pub mod Stops
+pub mod Joining

@@ -1,0 +1,105 @@
+-- What is held, lane by lane and in order: the oldest leaves with its answer, and what is received comes last.
+use Rattle.std.proofs.Common.{◌≡◌, ◌≢◌, ℕ, ◌≤◌, Bool, true, false, cond, List, [], ◌∷◌, ◌++◌, length, map, drop, Option, Some, None, refl, sym, ap, ◌∙◌, subst, arith, eq-eqb, ne_eqb}
+use Rattle.std.proofs.lemmas.List.{drop-map, map-append, length-map}
+use Rattle.std.proofs.lemmas.List.Sums.{length-filter, count_by-le-length}
+use Rattle.std.proofs.lemmas.Option.{none-some, same_Some}
+use mathlib.Core.Logic.{dite}
+use native.Mathlib.Decide.{ℕ_discrete}
+use Rattle.lists.proofs.Lists.{filter-push_true, filter-push_false}
+use Rattle.evt_types.specs.Event.{pair_of}
+use Rattle.evt_types.specs.declared.event.Delivery.{Delivery}
+use Rattle.event_ports.specs.declared.lane.Lane.{Lane}
+use Rattle.event_ports.specs.declared.lane.Lane.TheVariants.{Own, Flow}
+use Rattle.event_ports.specs.declared.lane.Holding.{Holding}
+use Rattle.event_ports.specs.Lanes.{same_lane, holding_of, pair_in, held_of, first_lane}
+
+-- the flow lane of a lane, to tell lanes apart
+flow_of : Lane → Option ℕ
+flow_of Own = None
+flow_of (Flow j) = Some j
+
+pub own_flow : (j : ℕ) → Flow j ≢ Own
+unfolding flow_of
+own_flow j e = none-some j (sym (ap flow_of e))
+
+pub flow_is : (i j : ℕ) → Flow i ≡ Flow j → i ≡ j
+unfolding flow_of
+flow_is i j e = same_Some i j (ap flow_of e)
+
+-- a decision by whether two lanes are the same
+pub by_lane : (l m : Lane) (F : Bool → Type 0) → (l ≡ m → F true) → (l ≢ m → F false) → F (same_lane l m)
+by_lane Own Own F same other = same refl
+by_lane Own (Flow j) F same other = other (λ e. own_flow j (sym e))
+by_lane (Flow i) Own F same other = other (λ e. own_flow i e)
+by_lane (Flow i) (Flow j) F same other =
+    dite (ℕ_discrete i j) (λ e. subst F (sym (eq-eqb i j e)) (same (ap Flow e))) (λ ne. subst F (sym (ne_eqb i j ne)) (other (λ e. ne (flow_is i j e))))
+
+pub lane_same : (l m : Lane) → l ≡ m → same_lane l m ≡ true
+lane_same l m e = by_lane l m (λ b. b ≡ true) (λ h. refl) (λ ne. absurd (ne e))
+
+pub lane_other : (l m : Lane) → l ≢ m → same_lane l m ≡ false
+lane_other l m ne = by_lane l m (λ b. b ≡ false) (λ e. absurd (ne e)) (λ h. refl)
+
+pub each_lane : (P : Lane → Type 0) → P Own → ((j : ℕ) → P (Flow j)) → (l : Lane) → P l
+each_lane P own flow Own = own
+each_lane P own flow (Flow j) = flow j
+
+-- what is noted of each lane is what is unanswered of it
+abbrev pub Notes : List Holding → (Lane → List Delivery) → Type 0
+Notes xs open_at = (l : Lane) → map pair_in (held_of l xs) ≡ map pair_of (open_at l)
+
+-- the oldest is answered
+noted : (x : Holding) (xs : List Holding) (lane : Lane) (before after : Lane → List Delivery) → x.lane ≡ lane → after lane ≡ drop 1 (before lane)
+    → ((l : Lane) → l ≢ lane → after l ≡ before l) → Notes (x ∷ xs) before → Notes xs after
+noted x xs lane before after is here others notes l =
+    by_lane x.lane l (λ t. map pair_in (cond t (x ∷ held_of l xs) (held_of l xs)) ≡ map pair_of (before l) → map pair_in (held_of l xs) ≡ map pair_of (after l))
+    (λ e h.
+    let At : Lane → Type 0 = λ m. after m ≡ drop 1 (before m) in
+    let gone : after l ≡ drop 1 (before l) = subst At (sym is ∙ e) here in
+    ap (drop 1) h ∙ drop-map pair_of 1 (before l) ∙ ap (map pair_of) (sym gone))
+    (λ ne h. h ∙ ap (map pair_of) (sym (others l (λ e. ne (is ∙ sym e))))) (notes l)
+
+pub answered_first : (xs : List Holding) (lane : Lane) (before after : Lane → List Delivery) → first_lane xs ≡ Some lane → after lane ≡ drop 1 (before lane)
+    → ((l : Lane) → l ≢ lane → after l ≡ before l) → Notes xs before → Notes (drop 1 xs) after
+answered_first [] lane before after first here others notes = absurd (none-some lane first)
+answered_first (x ∷ xs) lane before after first here others notes = noted x xs lane before after (same_Some x.lane lane first) here others notes
+
+-- another is received
+pub received_last : (xs : List Holding) (lane : Lane) (d : Delivery) (before after : Lane → List Delivery) → after lane ≡ before lane ++ d ∷ []
+    → ((l : Lane) → l ≢ lane → after l ≡ before l) → Notes xs before → Notes (xs ++ holding_of lane d ∷ []) after
+received_last xs lane d before after here others notes l =
+    let x : Holding = holding_of lane d in
+    let p : Holding → Bool = λ y. same_lane y.lane l in
+    by_lane lane l (λ t. p x ≡ t → map pair_in (held_of l (xs ++ x ∷ [])) ≡ map pair_of (after l))
+    (λ e t.
+    let At : Lane → Type 0 = λ m. after m ≡ before m ++ d ∷ [] in
+    ap (map pair_in) (filter-push_true p xs x t) ∙ map-append pair_in (held_of l xs) (x ∷ []) ∙ ap (λ r. r ++ pair_in x ∷ []) (notes l)
+    ∙ sym (map-append pair_of (before l) (d ∷ [])) ∙ ap (map pair_of) (sym (subst At e here)))
+    (λ ne t. ap (map pair_in) (filter-push_false p xs x t) ∙ notes l ∙ ap (map pair_of) (sym (others l (λ e. ne (sym e))))) refl
+
+-- the lists of unanswered deliveries stay
+pub notes_stay : (xs : List Holding) (before after : Lane → List Delivery) → ((l : Lane) → after l ≡ before l) → Notes xs before → Notes xs after
+notes_stay xs before after same notes l = notes l ∙ ap (map pair_of) (sym (same l))
+
+-- the oldest one's lane has something unanswered
+pub first_open : (xs : List Holding) (lane : Lane) (open_at : Lane → List Delivery) → first_lane xs ≡ Some lane → Notes xs open_at → open_at lane ≢ []
+first_open [] lane open_at first notes none = absurd (none-some lane first)
+first_open (x ∷ xs) lane open_at first notes none =
+    by_lane x.lane lane (λ t. map pair_in (cond t (x ∷ held_of lane xs) (held_of lane xs)) ≡ map pair_of (open_at lane) → ⊥)
+    (λ e h. absurd (omega (arith, ap length h, ap length (ap (map pair_of) none)))) (λ ne h. ne (same_Some x.lane lane first)) (notes lane)
+
+-- no more of a lane is unanswered than is held in all
+pub open_within : (xs : List Holding) (lane : Lane) (open_at : Lane → List Delivery) → Notes xs open_at → length (open_at lane) ≤ length xs
+open_within xs lane open_at notes =
+    omega (
+      arith,
+      ap length (notes lane),
+      length-map (held_of lane xs) pair_in,
+      length-map (open_at lane) pair_of,
+      length-filter (λ (x : Holding). same_lane x.lane lane) xs,
+      count_by-le-length (λ (x : Holding). same_lane x.lane lane) xs,
+    )
+
+-- where something is held, there is an oldest
+pub some_first : (xs : List Holding) (lane : Lane) → first_lane xs ≡ Some lane → xs ≢ []
+some_first xs lane first none = none-some lane (sym (ap first_lane none) ∙ first)

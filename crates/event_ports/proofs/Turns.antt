@@ -1,0 +1,322 @@
+-- What a call on one flow lane makes of what a port has of all of them.
+use Rattle.std.proofs.Common.{◌≡◌, ◌≢◌, ℕ, suc, ◌<◌, Bool, true, false, List, [], ◌∷◌, ◌++◌, length, drop, set, Option, Some, None, All, MatchOption, refl, sym, ap, ◌∙◌, subst, arith, append-nil, append_assoc}
+use Rattle.std.specs.Option.{is_some}
+use Rattle.std.proofs.lemmas.List.{length-set, length-append}
+use Rattle.std.proofs.lemmas.List.Elements.{All-push}
+use mathlib.Core.Logic.{dite}
+use native.Mathlib.Decide.{ℕ_discrete, dec_le}
+use Rattle.lists.specs.Lists.{has}
+use Rattle.evt_types.specs.declared.event.Delivery.{Delivery}
+use Rattle.evt_types.specs.declared.event.Reply.{Reply}
+use Rattle.lane_rings.specs.Ends.{answers_among, unanswered}
+use Rattle.flow_claims.specs.declared.claim.Stint.{Stint}
+use Rattle.flow_claims.specs.declared.claims.Claims.{Claims}
+use Rattle.flow_claims.specs.declared.claims.ClaimSeat.{ClaimSeat}
+use Rattle.flow_claims.specs.declared.seating.Past.{Past}
+use Rattle.flow_claims.specs.declared.seating.Seating.{Seating}
+use Rattle.flow_claims.specs.Answers.{KeepsPort, EndsStint}
+use Rattle.flow_claims.specs.Claims.{seating, port_of, lanes_of, IsSeatOf}
+use Rattle.flow_claims.specs.Open.{IsOpen, received_so_far, answered_so_far}
+use Rattle.flow_claims.specs.Seats.{stint_at, find_lane, IsPorts}
+use Rattle.flow_claims.specs.Stints.{received_in, answered_in}
+use Rattle.flow_claims.proofs.Held.{nothing_held}
+use Rattle.event_ports.specs.Holds.{place_at, IsHeldAt, AreFlows, stints_at, received_past, answered_past, received_now, answered_now, held_now, Hands, stint_in, received_on, answered_on, held_on, Kept, Ends, Same, SameBut, Gets, Says}
+use Rattle.event_ports.proofs.Places.{Stints, hands, each_place, moved, free_place, held_place, past_places, past_more, other_stints, same_now, same_but, received_here, answered_here, held_here, all_same}
+
+module _ (claims : Claims) (links : List ℕ) where
+  ports_stay : (seat after : ClaimSeat) → KeepsPort seat after → IsPorts (port_of seat) (seating seat) → IsPorts (port_of after) (seating after)
+  ports_stay seat after keeps is = let P : ℕ → Type 0 = λ p. IsPorts p (seating after) in subst P (sym keeps.port) (keeps.all is)
+
+  port_stays : (seat after : ClaimSeat) → KeepsPort seat after → port_of seat < 254 → port_of after < 254
+  port_stays seat after keeps lt = omega (arith, keeps.port, lt)
+
+  linked_stay : (v w : Seating) → w.finished ≡ v.finished → All (λ p. has p.lane links ≡ true) v.finished → All (λ p. has p.lane links ≡ true) w.finished
+  linked_stay v w e all = let P : List Past → Type 0 = λ ps. All (λ p. has p.lane links ≡ true) ps in subst P (sym e) all
+
+  -- a claim that was refused
+  pub refused : (seat after : ClaimSeat) (ss : Stints) → AreFlows claims seat ss links → IsSeatOf claims after → KeepsPort seat after
+      → (seating after).held ≡ (seating seat).held → (seating after).finished ≡ (seating seat).finished → AreFlows claims after ss links
+  refused seat after ss are seat_of keeps held finished = record {
+    seat_of = seat_of;
+    port = port_stays seat after keeps are.port;
+    places = are.places;
+    links_exist = are.links_exist;
+    each = λ j. moved links (seating seat) (seating after) j (place_at ss j) (ap (find_lane j) held) (seat_of.1 ∙ sym are.seat_of.1) (are.each j);
+    ports = ports_stay seat after keeps are.ports;
+    linked = linked_stay (seating seat) (seating after) finished are.linked;
+  }
+
+  -- a claim that was granted
+  pub claimed : (seat after : ClaimSeat) (ss : Stints) (lane : ℕ) (stint : Stint) → AreFlows claims seat ss links → IsSeatOf claims after → KeepsPort seat after
+      → (seating after).finished ≡ (seating seat).finished → ((j : ℕ) → j ≢ lane → stint_at (seating after) j ≡ stint_at (seating seat) j)
+      → lane < length (lanes_of claims) → has lane links ≡ true → stint.lane ≡ lane → IsOpen (seating after) stint → AreFlows claims after (set ss lane (Some stint)) links
+  claimed seat after ss lane stint are seat_of keeps finished others lt linked same open_is = record {
+    seat_of = seat_of;
+    port = port_stays seat after keeps are.port;
+    places = length-set ss lane (Some stint) ∙ are.places;
+    links_exist = are.links_exist;
+    each = each_place links (seating seat) (seating after) ss lane (Some stint) (omega (arith, are.places, lt)) (seat_of.1 ∙ sym are.seat_of.1) others are.each
+        (held_place links (seating after) lane stint (record { lane_is = same; open_is = open_is; linked = linked }));
+    ports = ports_stay seat after keeps are.ports;
+    linked = linked_stay (seating seat) (seating after) finished are.linked;
+  }
+
+  -- the end of a stint
+  pub ended : (seat after : ClaimSeat) (ss : Stints) (lane : ℕ) (stint : Stint) (gone : Bool) → AreFlows claims seat ss links → EndsStint claims gone stint seat after
+      → place_at ss lane ≡ Some stint → lane < length (lanes_of claims) → AreFlows claims after (set ss lane None) links
+  ended seat after ss lane stint gone are ends at lt =
+      let held : IsHeldAt links (seating seat) lane stint = (are.each lane).held stint at in
+      let Linked : List Past → Type 0 = λ ps. All (λ p. has p.lane links ≡ true) ps in
+      let its_lane : ends.piece.0.lane ≡ lane = ends.piece.2.lane ∙ held.lane_is in
+      record {
+        seat_of = ends.seat;
+        port = port_stays seat after ends.port are.port;
+        places = length-set ss lane None ∙ are.places;
+        links_exist = are.links_exist;
+        each = each_place links (seating seat) (seating after) ss lane None (omega (arith, are.places, lt)) (ends.seat.1 ∙ sym are.seat_of.1)
+            (λ j ne. ends.others j (λ e. ne (e ∙ held.lane_is))) are.each (free_place links (seating after) lane (ap (stint_at (seating after)) (sym held.lane_is) ∙ ends.closed));
+        ports = ports_stay seat after ends.port are.ports;
+        linked = subst Linked (sym ends.piece.1)
+            (All-push (λ p. has p.lane links ≡ true) (seating seat).finished ends.piece.0 are.linked (ap (λ n. has n links) its_lane ∙ held.linked));
+      }
+
+  -- a call through the stint's end
+  pub turned : (seat : ClaimSeat) (ss : Stints) (lane : ℕ) (stint new : Stint) → AreFlows claims seat ss links → place_at ss lane ≡ Some stint → lane < length (lanes_of claims)
+      → new.lane ≡ stint.lane → (IsOpen (seating seat) stint → IsOpen (seating seat) new) → AreFlows claims seat (set ss lane (Some new)) links
+  turned seat ss lane stint new are at lt same open_is =
+      let held : IsHeldAt links (seating seat) lane stint = (are.each lane).held stint at in
+      record {
+        seat_of = are.seat_of;
+        port = are.port;
+        places = length-set ss lane (Some new) ∙ are.places;
+        links_exist = are.links_exist;
+        each = each_place links (seating seat) (seating seat) ss lane (Some new) (omega (arith, are.places, lt)) refl (λ j ne. refl) are.each
+            (held_place links (seating seat) lane new (record { lane_is = same ∙ held.lane_is; open_is = open_is held.open_is; linked = held.linked }));
+        ports = are.ports;
+        linked = are.linked;
+      }
+
+  -- the lists after a claim
+  pub claim_same : (seat after : ClaimSeat) (ss : Stints) (lane : ℕ) (stint : Stint) → AreFlows claims seat ss links → (seating after).finished ≡ (seating seat).finished
+      → ((j : ℕ) → j ≢ lane → stint_at (seating after) j ≡ stint_at (seating seat) j) → lane < length (lanes_of claims) → place_at ss lane ≡ None
+      → received_so_far (seating after) stint ≡ [] → answered_so_far (seating after) stint ≡ [] → unanswered stint.far ≡ []
+      → Same (hands (seating seat) ss) (hands (seating after) (set ss lane (Some stint)))
+  claim_same seat after ss lane stint are finished others lt free received answered held =
+      let v : Seating = seating seat in
+      let w : Seating = seating after in
+      let new : Option Stint = Some stint in
+      let within : lane < length ss = omega (arith, are.places, lt) in
+      all_same lane (hands v ss) (hands w (set ss lane new)) (same_but links v w ss lane new others (λ j ne. ap (stints_at j) finished) are.each)
+      (received_here links v w ss lane new within ∙ (λ i. received_past lane (finished i) ++ received i) ∙ sym (ap (λ o. received_past lane v.finished ++ received_now v o) free))
+      (answered_here links v w ss lane new within ∙ (λ i. answered_past lane (finished i) ++ answered i) ∙ sym (ap (λ o. answered_past lane v.finished ++ answered_now v o) free))
+      (held_here links v w ss lane new within ∙ held ∙ sym (ap held_now free))
+
+  -- a claim that was refused
+  pub refused_same : (seat after : ClaimSeat) (ss : Stints) → AreFlows claims seat ss links → (seating after).held ≡ (seating seat).held → (seating after).finished ≡ (seating seat).finished
+      → Same (hands (seating seat) ss) (hands (seating after) ss)
+  refused_same seat after ss are held finished =
+      let now = λ (j : ℕ). same_now links (seating seat) (seating after) j (place_at ss j) (are.each j) (ap (find_lane j) held) in
+      record {
+        received = λ j i. received_past j (finished i) ++ (now j).0 i;
+        answered_is = λ j i. answered_past j (finished i) ++ (now j).1 i;
+        held = λ j. refl;
+      }
+
+  -- after the end of a stint, but for what is held
+  module _ (seat after : ClaimSeat) (ss : Stints) (lane : ℕ) (stint : Stint) (gone : Bool) (are : AreFlows claims seat ss links) (ends : EndsStint claims gone stint seat after) (at : place_at ss lane ≡ Some stint) (lt : lane < length (lanes_of claims)) where
+    v : Seating
+    v = seating seat
+
+    w : Seating
+    w = seating after
+
+    held : IsHeldAt links (seating seat) lane stint
+    held = (are.each lane).held stint at
+
+    within : lane < length ss
+    within = omega (arith, are.places, lt)
+
+    its_lane : ends.piece.0.lane ≡ lane
+    its_lane = ends.piece.2.lane ∙ held.lane_is
+
+    pub ended_but : SameBut lane (hands (seating seat) ss) (hands (seating after) (set ss lane None))
+    ended_but = same_but links (seating seat) (seating after) ss lane None (λ j ne. ends.others j (λ e. ne (e ∙ held.lane_is)))
+        (λ j ne. ap (stints_at j) ends.piece.1 ∙ other_stints (seating seat).finished ends.piece.0 lane j its_lane ne) are.each
+
+    pub ended_received : received_on (hands (seating after) (set ss lane None)) lane ≡ received_on (hands (seating seat) ss) lane
+    ended_received =
+        received_here links (seating seat) (seating after) ss lane None within ∙ append-nil (received_past lane (seating after).finished)
+        ∙ ap (received_past lane) ends.piece.1 ∙ past_more received_in lane (seating seat).finished ends.piece.0 its_lane
+        ∙ ap (λ r. received_past lane (seating seat).finished ++ r) ends.piece.2.received
+        ∙ sym (ap (λ o. received_past lane (seating seat).finished ++ received_now (seating seat) o) at)
+
+    pub ended_answered : answered_on (hands (seating after) (set ss lane None)) lane ≡ answered_on (hands (seating seat) ss) lane
+    ended_answered =
+        answered_here links (seating seat) (seating after) ss lane None within ∙ append-nil (answered_past lane (seating after).finished)
+        ∙ ap (answered_past lane) ends.piece.1 ∙ past_more answered_in lane (seating seat).finished ends.piece.0 its_lane
+        ∙ ap (λ r. answered_past lane (seating seat).finished ++ r) ends.piece.2.answered
+        ∙ sym (ap (λ o. answered_past lane (seating seat).finished ++ answered_now (seating seat) o) at)
+
+    pub left_same : unanswered stint.far ≡ [] → Same (hands (seating seat) ss) (hands (seating after) (set ss lane None))
+    left_same none =
+        all_same lane (hands (seating seat) ss) (hands (seating after) (set ss lane None)) ended_but ended_received ended_answered
+        (held_here links (seating seat) (seating after) ss lane None within ∙ sym none ∙ sym (ap held_now at))
+
+  -- after a call through the stint's end
+  module _ (seat : ClaimSeat) (ss : Stints) (lane : ℕ) (stint new : Stint) (are : AreFlows claims seat ss links) (at : place_at ss lane ≡ Some stint) (lt : lane < length (lanes_of claims)) where
+    inside : lane < length ss
+    inside = omega (arith, are.places, lt)
+
+    but : SameBut lane (hands (seating seat) ss) (hands (seating seat) (set ss lane (Some new)))
+    but = same_but links (seating seat) (seating seat) ss lane (Some new) (λ j ne. refl) (λ j ne. refl) are.each
+
+    received_is : (more : List Delivery) → received_so_far (seating seat) new ≡ received_so_far (seating seat) stint ++ more
+        → received_on (hands (seating seat) (set ss lane (Some new))) lane ≡ received_on (hands (seating seat) ss) lane ++ more
+    received_is more e =
+        let past : List Delivery = received_past lane (seating seat).finished in
+        received_here links (seating seat) (seating seat) ss lane (Some new) inside ∙ ap (λ r. past ++ r) e ∙ sym (append_assoc past (received_so_far (seating seat) stint) more)
+        ∙ sym (ap (λ o. (past ++ received_now (seating seat) o) ++ more) at)
+
+    answered_is : (more : List Reply) → answered_so_far (seating seat) new ≡ answered_so_far (seating seat) stint ++ more
+        → answered_on (hands (seating seat) (set ss lane (Some new))) lane ≡ answered_on (hands (seating seat) ss) lane ++ more
+    answered_is more e =
+        let past : List Reply = answered_past lane (seating seat).finished in
+        answered_here links (seating seat) (seating seat) ss lane (Some new) inside ∙ ap (λ r. past ++ r) e ∙ sym (append_assoc past (answered_so_far (seating seat) stint) more)
+        ∙ sym (ap (λ o. (past ++ answered_now (seating seat) o) ++ more) at)
+
+    same_received : received_so_far (seating seat) new ≡ received_so_far (seating seat) stint → received_on (hands (seating seat) (set ss lane (Some new))) lane ≡ received_on (hands (seating seat) ss) lane
+    same_received e = received_is [] (e ∙ sym (append-nil (received_so_far (seating seat) stint))) ∙ append-nil (received_on (hands (seating seat) ss) lane)
+
+    same_answered : answered_so_far (seating seat) new ≡ answered_so_far (seating seat) stint → answered_on (hands (seating seat) (set ss lane (Some new))) lane ≡ answered_on (hands (seating seat) ss) lane
+    same_answered e = answered_is [] (e ∙ sym (append-nil (answered_so_far (seating seat) stint))) ∙ append-nil (answered_on (hands (seating seat) ss) lane)
+
+    pub turn_same : received_so_far (seating seat) new ≡ received_so_far (seating seat) stint → answered_so_far (seating seat) new ≡ answered_so_far (seating seat) stint
+        → unanswered new.far ≡ unanswered stint.far → Same (hands (seating seat) ss) (hands (seating seat) (set ss lane (Some new)))
+    turn_same r a u =
+        all_same lane (hands (seating seat) ss) (hands (seating seat) (set ss lane (Some new))) but (same_received r) (same_answered a)
+        (held_here links (seating seat) (seating seat) ss lane (Some new) inside ∙ u ∙ sym (ap held_now at))
+
+    pub turn_gets : (d : Delivery) → received_so_far (seating seat) new ≡ received_so_far (seating seat) stint ++ d ∷ [] → answered_so_far (seating seat) new ≡ answered_so_far (seating seat) stint
+        → unanswered new.far ≡ unanswered stint.far ++ d ∷ [] → Gets lane d (hands (seating seat) ss) (hands (seating seat) (set ss lane (Some new)))
+    turn_gets d r a u = record {
+      others = but;
+      received = received_is (d ∷ []) r;
+      answered_is = same_answered a;
+      held = held_here links (seating seat) (seating seat) ss lane (Some new) inside ∙ u ∙ sym (ap (λ o. held_now o ++ d ∷ []) at);
+    }
+
+    pub turn_says : (reply : Reply) → received_so_far (seating seat) new ≡ received_so_far (seating seat) stint → answered_so_far (seating seat) new ≡ answered_so_far (seating seat) stint ++ reply ∷ []
+        → unanswered new.far ≡ drop (answers_among (reply ∷ [])) (unanswered stint.far) → Says lane reply (hands (seating seat) ss) (hands (seating seat) (set ss lane (Some new)))
+    turn_says reply r a u = record {
+      others = but;
+      received = same_received r;
+      answered_is = answered_is (reply ∷ []) a;
+      held = held_here links (seating seat) (seating seat) ss lane (Some new) inside ∙ u ∙ sym (ap (λ o. drop (answers_among (reply ∷ [])) (held_now o)) at);
+    }
+
+    -- a receipt: `Stint::receive` in its own words
+    pub received_lists : (result : Option Delivery) → IsOpen (seating seat) stint
+        → MatchOption result (unanswered new.far ≡ unanswered stint.far) (λ d. unanswered new.far ≡ unanswered stint.far ++ d ∷ [])
+        → ((v : Seating) → IsOpen v stint → MatchOption result (received_so_far v new ≡ received_so_far v stint) (λ d. received_so_far v new ≡ received_so_far v stint ++ d ∷ []))
+        → ((v : Seating) → answered_so_far v new ≡ answered_so_far v stint)
+        → MatchOption result (Same (hands (seating seat) ss) (hands (seating seat) (set ss lane (Some new)))) (λ d. Gets lane d (hands (seating seat) ss) (hands (seating seat) (set ss lane (Some new))))
+    received_lists None is held received answered = turn_same (received (seating seat) is) (answered (seating seat)) held
+    received_lists (Some d) is held received answered = turn_gets d (received (seating seat) is) (answered (seating seat)) held
+
+-- what is kept twice is kept
+pub kept_more : (h k m : Hands) → Kept h k → Kept k m → Kept h m
+kept_more h k m a b = record { received = λ j. b.received j ∙ a.received j; answered_is = λ j. b.answered_is j ∙ a.answered_is j }
+
+pub all_kept : (lane : ℕ) (h k : Hands) → SameBut lane h k → received_on k lane ≡ received_on h lane → answered_on k lane ≡ answered_on h lane → Kept h k
+all_kept lane h k others received answered =
+    let Received : ℕ → Type 0 = λ j. received_on k j ≡ received_on h j in
+    let Answered : ℕ → Type 0 = λ j. answered_on k j ≡ answered_on h j in
+    record {
+      received = λ j. dite (ℕ_discrete j lane) (λ e. subst Received (sym e) received) (λ ne. others.received j ne);
+      answered_is = λ j. dite (ℕ_discrete j lane) (λ e. subst Answered (sym e) answered) (λ ne. others.answered_is j ne);
+    }
+
+-- once there is nothing at any place, the seat holds no lane, and has what the port had
+pub none_at_all : (ss : Stints) (n : ℕ) → length ss ≡ n → ((j : ℕ) → j < n → place_at ss j ≡ None) → (j : ℕ) → place_at ss j ≡ None
+none_at_all ss n e none j = dite (dec_le (suc j) n) (λ lt. none j lt) (λ le. past_places ss j (omega (arith, le, e)))
+
+pub ends_with : (h k : Hands) → Kept h k → ((j : ℕ) → place_at k.stints j ≡ None) → Ends h k.view
+ends_with h k kept none =
+    record {
+      received = λ j. sym (append-nil (received_past j k.view.finished)) ∙ sym (ap (λ o. received_past j k.view.finished ++ received_now k.view o) (none j)) ∙ kept.received j;
+      answered_is = λ j. sym (append-nil (answered_past j k.view.finished)) ∙ sym (ap (λ o. answered_past j k.view.finished ++ answered_now k.view o) (none j)) ∙ kept.answered_is j;
+    }
+
+pub holds_none : (claims : Claims) (seat : ClaimSeat) (ss : Stints) (links : List ℕ) → AreFlows claims seat ss links → ((j : ℕ) → place_at ss j ≡ None) → (seating seat).held ≡ []
+holds_none claims seat ss links are none = nothing_held (seating seat).held (λ lane. (are.each lane).free (none lane))
+
+pub all_linked : (claims : Claims) (seat : ClaimSeat) (ss : Stints) (links : List ℕ) → AreFlows claims seat ss links
+    → All (λ p. (p.port ≡ port_of seat) × (has p.lane links ≡ true)) (seating seat).finished
+all_linked claims seat ss links are k d lt = (are.ports.finished k d lt, are.linked k d lt)
+
+-- a lane of which something is unanswered is there
+pub lane_there : (claims : Claims) (seat : ClaimSeat) (ss : Stints) (links : List ℕ) (lane : ℕ) → AreFlows claims seat ss links → held_now (place_at ss lane) ≢ [] → lane < length (lanes_of claims)
+lane_there claims seat ss links lane are some =
+    dite (dec_le (suc lane) (length (lanes_of claims))) (λ lt. lt) (λ le. absurd (some (ap held_now (past_places ss lane (omega (arith, le, are.places))))))
+
+-- no lane is held of which nothing is unanswered
+abbrev pub AreIdle : Hands → Type 0
+AreIdle h = (j : ℕ) → held_on h j ≡ [] → is_some (stint_in h j) ≡ false
+
+-- an answer, and then the lane is left
+pub idle_answered : (h k m : Hands) (lane : ℕ) (r : Reply) → Says lane r h k → ((j : ℕ) → is_some (stint_in k j) ≡ is_some (stint_in h j)) → Same k m
+    → (held_on k lane ≡ [] → is_some (stint_in m lane) ≡ false) → ((j : ℕ) → j ≢ lane → is_some (stint_in m j) ≡ is_some (stint_in k j)) → AreIdle h → AreIdle m
+idle_answered h k m lane r says places same left elsewhere idle j none =
+    let At : ℕ → Type 0 = λ i. is_some (stint_in m i) ≡ false in
+    dite (ℕ_discrete j lane)
+    (λ e. subst At (sym e) (left (sym (same.held lane) ∙ ap (held_on m) (sym e) ∙ none)))
+    (λ ne. elsewhere j ne ∙ places j ∙ idle j (sym (says.others.held j ne) ∙ sym (same.held j) ∙ none))
+
+-- a lane is held, and something is received from it
+pub idle_received : (h k m : Hands) (lane : ℕ) (d : Delivery) → Same h k → ((j : ℕ) → j ≢ lane → is_some (stint_in k j) ≡ is_some (stint_in h j)) → Gets lane d k m
+    → ((j : ℕ) → is_some (stint_in m j) ≡ is_some (stint_in k j)) → AreIdle h → AreIdle m
+idle_received h k m lane d same elsewhere gets places idle j none =
+    dite (ℕ_discrete j lane)
+    (λ e. absurd (omega (arith, ap length (sym gets.held ∙ ap (held_on m) (sym e) ∙ none), length-append (held_on k lane) (d ∷ []))))
+    (λ ne. places j ∙ elsewhere j ne ∙ idle j (sym (same.held j) ∙ sym (gets.others.held j ne) ∙ none))
+
+-- a lane is held, nothing is received, and it is left
+pub idle_left : (h k m n : Hands) (lane : ℕ) → Same h k → ((j : ℕ) → j ≢ lane → is_some (stint_in k j) ≡ is_some (stint_in h j)) → Same k m
+    → ((j : ℕ) → is_some (stint_in m j) ≡ is_some (stint_in k j)) → Same m n → (held_on m lane ≡ [] → is_some (stint_in n lane) ≡ false)
+    → ((j : ℕ) → j ≢ lane → is_some (stint_in n j) ≡ is_some (stint_in m j)) → AreIdle h → AreIdle n
+idle_left h k m n lane same elsewhere same' places same'' left elsewhere' idle j none =
+    let At : ℕ → Type 0 = λ i. is_some (stint_in n i) ≡ false in
+    dite (ℕ_discrete j lane)
+    (λ e. subst At (sym e) (left (sym (same''.held lane) ∙ ap (held_on n) (sym e) ∙ none)))
+    (λ ne. elsewhere' j ne ∙ places j ∙ elsewhere j ne ∙ idle j (sym (same.held j) ∙ sym (same'.held j) ∙ sym (same''.held j) ∙ none))
+
+-- a lane isn't had
+pub idle_refused : (h k : Hands) (lane : ℕ) → Same h k → ((j : ℕ) → j ≢ lane → is_some (stint_in k j) ≡ is_some (stint_in h j)) → is_some (stint_in k lane) ≡ false → AreIdle h → AreIdle k
+idle_refused h k lane same elsewhere free idle j none =
+    let At : ℕ → Type 0 = λ i. is_some (stint_in k i) ≡ false in
+    dite (ℕ_discrete j lane) (λ e. subst At (sym e) free) (λ ne. elsewhere j ne ∙ idle j (sym (same.held j) ∙ none))
+
+pub same_more : (h k m : Hands) → Same h k → Same k m → Same h m
+same_more h k m a b = record { received = λ j. b.received j ∙ a.received j; answered_is = λ j. b.answered_is j ∙ a.answered_is j; held = λ j. b.held j ∙ a.held j }
+
+pub gets_after : (h k m : Hands) (lane : ℕ) (d : Delivery) → Same h k → Gets lane d k m → Gets lane d h m
+gets_after h k m lane d same gets = record {
+  others = record { received = λ j ne. gets.others.received j ne ∙ same.received j; answered_is = λ j ne. gets.others.answered_is j ne ∙ same.answered_is j; held = λ j ne. gets.others.held j ne ∙ same.held j };
+  received = gets.received ∙ ap (λ r. r ++ d ∷ []) (same.received lane);
+  answered_is = gets.answered_is ∙ same.answered_is lane;
+  held = gets.held ∙ ap (λ r. r ++ d ∷ []) (same.held lane);
+}
+
+pub says_before : (h k m : Hands) (lane : ℕ) (r : Reply) → Says lane r h k → Same k m → Says lane r h m
+says_before h k m lane r says same = record {
+  others = record { received = λ j ne. same.received j ∙ says.others.received j ne; answered_is = λ j ne. same.answered_is j ∙ says.others.answered_is j ne; held = λ j ne. same.held j ∙ says.others.held j ne };
+  received = same.received lane ∙ says.received;
+  answered_is = same.answered_is lane ∙ says.answered_is;
+  held = same.held lane ∙ says.held;
+}
+
+-- a receipt answers nothing
+pub gets_no_answer : (h k : Hands) (lane : ℕ) (d : Delivery) → Gets lane d h k → (j : ℕ) → answered_on k j ≡ answered_on h j
+gets_no_answer h k lane d gets j =
+    let At : ℕ → Type 0 = λ i. answered_on k i ≡ answered_on h i in
+    dite (ℕ_discrete j lane) (λ e. subst At (sym e) gets.answered_is) (λ ne. gets.others.answered_is j ne)

@@ -1,0 +1,18 @@
+-- What was released first, and what arrived then.
+use Rattle.std.proofs.Common.{rules, subst, [], length}
+use Rattle.event_ports.specs.Lanes.{Arrives}
+use Rattle.event_ports.specs.Ports.{Place, hand, links}
+use Rattle.event_ports.proofs.Released.{dequeues_where, dequeues_released}
+use Rattle.event_ports.proofs.port.Port.exchange.Goals as goal
+
+pub returns-then-not-self-clause-ok : goal.returns-then-not-self-clause-ok
+returns-then-not-self-clause-ok c =
+    dequeues_where c.args.self.now.implicit (links c.args.self.now) (length (hand c.args.self.now).holding) (hand c.args.self.now) (hand c.receive.new.self) c.receive.result.items
+    (search rules) c.receive.ensures.arrived
+
+pub returns-in-Ok-clause-ok : goal.returns-in-Ok-clause-ok
+returns-in-Ok-clause-ok c =
+    let released = c.in-Ok.ensures.ok in
+    let From = λ (p : Place). Arrives p.lanes.flows.links (hand c.release_all.new.self) (hand c.receive-in-Ok.new.self) [] c.receive-in-Ok.result.items in
+    dequeues_released c.args.self.now.implicit (links c.args.self.now) (length (hand c.args.self.now).holding) (hand c.args.self.now) (hand c.release_all.new.self) (hand c.receive-in-Ok.new.self)
+    c.receive-in-Ok.result.items (search rules) released.0 (subst From c.release_all.ensures.place c.receive-in-Ok.ensures.arrived)

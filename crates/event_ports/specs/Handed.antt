@@ -1,0 +1,62 @@
+-- What a clause sees of a port's lanes.
+use Rattle.std.specs.Prelude.{◌≡◌, ◌+◌, ◌<◌, ℕ, true, List, length, Option}
+use Rattle.lists.specs.Lists.{has}
+use Rattle.evt_types.specs.Operation.{is_new_reply, is_release_reply}
+use Rattle.evt_types.specs.declared.event.Reply.{Reply}
+use Rattle.seat_sums.specs.Sums.{count}
+use Rattle.lane_rings.specs.Identity.{far_id, LaneId}
+use Rattle.lane_rings.specs.declared.far.AnswerFault.{AnswerFault}
+use Rattle.flow_claims.specs.Claims.{lanes_of}
+use Rattle.event_ports.specs.declared.lane.Lane.{Lane}
+use Rattle.event_ports.specs.declared.lane.Lane.TheVariants.{Own, Flow}
+use Rattle.event_ports.specs.declared.lanes.Lanes.{Lanes}
+use Rattle.event_ports.specs.Flows.{FlowPlace, flow_place, hands_of}
+use Rattle.event_ports.specs.Lanes.{Hand, said_on, got_on, counted, IsFilledAt, RefusesFirst}
+
+-- what never changes of a port's lanes: the own one, the flow lanes, and how much may be held
+pub record LanesPlace : Type 0 where
+  pub own : LaneId
+  pub flows : FlowPlace
+  pub depth : ℕ
+
+abbrev pub lanes_place : Lanes → LanesPlace
+lanes_place a = record { own = far_id a.own; flows = flow_place a.flows; depth = a.order.capacity }
+
+-- the flow lanes to which the port is linked
+abbrev pub links_of : Lanes → List ℕ
+links_of a = (flow_place a.flows).links
+
+-- how many flow lanes there are
+abbrev pub flow_count : LanesPlace → ℕ
+flow_count p = length (lanes_of p.flows.claims)
+
+abbrev pub hand_of : Lanes → Hand
+hand_of a = record { said = said_on a.own (hands_of a.flows); got = got_on a.own (hands_of a.flows); holding = a.order.items }
+
+-- the port may receive from the lane: its own one, or a flow lane to which it is linked
+abbrev pub IsReadable : LanesPlace → Lane → Type 0
+IsReadable p Own = Unit {0}
+IsReadable p (Flow j) = (j < flow_count p) × (has j p.flows.links ≡ true)
+
+-- how many NEWs and RELEASEs were submitted, over all lanes
+abbrev pub news_of : Lanes → ℕ
+news_of a = counted is_new_reply (flow_count (lanes_place a)) (hand_of a).said
+
+abbrev pub releases_of : Lanes → ℕ
+releases_of a = counted is_release_reply (flow_count (lanes_place a)) (hand_of a).said
+
+-- one reply more was submitted, or none
+pub record CountsOne (r : Reply) (a b : Lanes) : Type 0 where
+  pub news : news_of b ≡ news_of a + count (is_new_reply r)
+  pub releases : releases_of b ≡ releases_of a + count (is_release_reply r)
+
+pub record CountsNone (a b : Lanes) : Type 0 where
+  pub news : news_of b ≡ news_of a
+  pub releases : releases_of b ≡ releases_of a
+
+-- as many replies were given to the lane as its reply ring has room for
+abbrev pub IsFilled : Lanes → Option Lane → Type 0
+IsFilled a lane = IsFilledAt a.own (hands_of a.flows) lane
+
+abbrev pub RefusesOldest : Lanes → Reply → AnswerFault → Type 0
+RefusesOldest a r fault = RefusesFirst a.own (hands_of a.flows) (hand_of a).holding r fault

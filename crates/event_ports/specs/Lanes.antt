@@ -1,0 +1,178 @@
+-- What a port received, answered and holds: lane by lane, and in the order in which it dequeued.
+use Rattle.std.specs.Prelude.{◌≡◌, ◌≢◌, ℕ, ◌+◌, ◌≤◌, ◌==◌, Bool, true, false, List, [], ◌∷◌, ◌++◌, length, map, filter, take, drop, Option, All, count_by, sum_by}
+use Rattle.std.specs.Prelude.Option.{Some, None}
+use Rattle.std.specs.List.{range_with_len}
+use Rattle.lists.specs.Lists.{has}
+use Rattle.evt_types.specs.Event.{pair_of, release_event}
+use Rattle.evt_types.specs.declared.event.Delivery.{Delivery}
+use Rattle.evt_types.specs.declared.event.Event.{Event}
+use Rattle.evt_types.specs.declared.event.Op.{Op}
+use Rattle.evt_types.specs.declared.event.Op.TheVariants as ops
+use Rattle.evt_types.specs.declared.event.Reply.{Reply}
+use Rattle.lane_rings.specs.Ends.{received_by, answered, answers_among, unanswered}
+use Rattle.lane_rings.specs.Identity.{far_id}
+use Rattle.lane_rings.specs.declared.far.AnswerFault.{AnswerFault}
+use Rattle.lane_rings.specs.declared.far.AnswerFault.TheVariants.{NothingHeld, Full}
+use Rattle.lane_rings.specs.declared.far.Far.{Far}
+use Rattle.flow_claims.specs.declared.seating.Past.{Past}
+use Rattle.event_ports.specs.declared.lane.Lane.{Lane}
+use Rattle.event_ports.specs.declared.lane.Lane.TheVariants.{Own, Flow}
+use Rattle.event_ports.specs.declared.lane.Holding.{Holding}
+use Rattle.event_ports.specs.Holds.{Hands, stint_in, IsFilledBy, received_past, answered_past, received_on, answered_on, held_on}
+
+-- the reply that carries an event, and that of a release of the port's own making
+abbrev pub reply_of : Event → Reply
+reply_of e = record { event = e }
+
+abbrev pub release_reply : Reply
+release_reply = reply_of release_event
+
+abbrev pub same_lane : Lane → Lane → Bool
+same_lane Own Own = true
+same_lane Own (Flow j) = false
+same_lane (Flow i) Own = false
+same_lane (Flow i) (Flow j) = i == j
+
+-- what is noted of a delivery that came from the lane
+abbrev pub holding_of : Lane → Delivery → Holding
+holding_of l d = record { lane = l; queue = d.queue; number = d.number }
+
+abbrev pub pair_in : Holding → ℕ × ℕ
+pair_in x = (x.queue, x.number)
+
+-- of what is held, that of one lane
+abbrev pub held_of : Lane → List Holding → List Holding
+held_of l xs = filter (λ x. same_lane x.lane l) xs
+
+-- the lane from which the oldest came
+abbrev pub first_lane : List Holding → Option Lane
+first_lane [] = None
+first_lane (x ∷ xs) = Some x.lane
+
+-- what was received from a lane of the port and answered to it, and what is unanswered of it
+abbrev pub got_on : Far → Hands → Lane → List Delivery
+got_on own h Own = received_by own
+got_on own h (Flow j) = received_on h j
+
+abbrev pub said_on : Far → Hands → Lane → List Reply
+said_on own h Own = answered own
+said_on own h (Flow j) = answered_on h j
+
+abbrev pub open_on : Far → Hands → Lane → List Delivery
+open_on own h Own = unanswered own
+open_on own h (Flow j) = held_on h j
+
+-- what is noted of each lane is what is unanswered of it, in order
+abbrev pub AreOrdered : Far → Hands → List Holding → Type 0
+AreOrdered own h xs = (l : Lane) → map pair_in (held_of l xs) ≡ map pair_of (open_on own h l)
+
+-- a port, as clauses see it: what it answered to each lane, what it received from each, and what it holds, oldest first
+pub record Hand : Type 0 where
+  pub said : Lane → List Reply
+  pub got : Lane → List Delivery
+  pub holding : List Holding
+
+-- nothing was submitted or received
+pub record Rests (h k : Hand) : Type 0 where
+  pub said : (l : Lane) → k.said l ≡ h.said l
+  pub got : (l : Lane) → k.got l ≡ h.got l
+  pub holding : k.holding ≡ h.holding
+
+-- the reply was submitted to the lane; an answer is to the oldest that is held
+pub record Submits (lane : Lane) (r : Reply) (h k : Hand) : Type 0 where
+  pub said_here : k.said lane ≡ h.said lane ++ r ∷ []
+  pub said : (l : Lane) → l ≢ lane → k.said l ≡ h.said l
+  pub got : (l : Lane) → k.got l ≡ h.got l
+  pub holding : k.holding ≡ drop (answers_among (r ∷ [])) h.holding
+
+abbrev pub SubmitsTo : Option Lane → Reply → Hand → Hand → Type 0
+SubmitsTo None r h k = ⊥
+SubmitsTo (Some l) r h k = Submits l r h k
+
+-- the lane to which a reply goes: a NEW to the port's own, an answer to that from which the answered event came
+abbrev pub lane_for : Op → List Holding → Option Lane
+lane_for ops.New xs = Some Own
+lane_for ops.Forward xs = first_lane xs
+lane_for ops.Release xs = first_lane xs
+
+-- these were submitted, one after the other
+abbrev pub SubmitsAll : List Event → Hand → Hand → Type 0
+SubmitsAll [] h k = Rests h k
+SubmitsAll (e ∷ es) h k = (between : Hand) × SubmitsTo (lane_for e.op h.holding) (reply_of e) h between × SubmitsAll es between k
+
+-- a delivery was received from the lane, and is the last of what is held
+pub record Takes (lane : Lane) (d : Delivery) (h k : Hand) : Type 0 where
+  pub said : (l : Lane) → k.said l ≡ h.said l
+  pub got_here : k.got lane ≡ h.got lane ++ d ∷ []
+  pub got : (l : Lane) → l ≢ lane → k.got l ≡ h.got l
+  pub holding : k.holding ≡ h.holding ++ holding_of lane d ∷ []
+
+-- a delivery with the lane from which it came
+abbrev pub Arrival : Type 0
+Arrival = Lane × Delivery
+
+-- the port is linked to the lane
+abbrev pub IsLinkedTo : List ℕ → Lane → Type 0
+IsLinkedTo links Own = Unit {0}
+IsLinkedTo links (Flow j) = has j links ≡ true
+
+-- what arrived from one lane
+abbrev pub from_lane : Lane → List Arrival → List Delivery
+from_lane l arrived = map (λ a. a.1) (filter (λ a. same_lane a.0 l) arrived)
+
+-- Deliveries were received, after those in `before`, each from the port's own lane or a lane to which it is linked.
+pub record Arrives (links : List ℕ) (h k : Hand) (before after : List Delivery) : Type 0 where
+  pub arrived : List Arrival
+  pub deliveries : after ≡ before ++ map (λ a. a.1) arrived
+  pub linked : All (λ a. IsLinkedTo links a.0) arrived
+  pub said : (l : Lane) → k.said l ≡ h.said l
+  pub got : (l : Lane) → k.got l ≡ h.got l ++ from_lane l arrived
+  pub holding : k.holding ≡ h.holding ++ map (λ a. holding_of a.0 a.1) arrived
+
+-- so many deliveries may be received in all, with those that were: they fit what may be held, and what a dequeue hands out
+pub record HasRoomFor (most depth : ℕ) (holding : List Holding) (deliveries : List Delivery) : Type 0 where
+  pub few : length deliveries ≤ most
+  pub small : most ≤ 64
+  pub held : length holding + most ≤ depth + length deliveries
+
+-- nothing was received or answered
+pub record IsEmptyHand (h : Hand) : Type 0 where
+  pub said : (l : Lane) → h.said l ≡ []
+  pub got : (l : Lane) → h.got l ≡ []
+  pub holding : h.holding ≡ []
+
+-- what was received and answered in these stints is what the port had of the flow lanes
+pub record IsEndOf (h : Hand) (ps : List Past) : Type 0 where
+  pub received : (j : ℕ) → received_past j ps ≡ h.got (Flow j)
+  pub answered_is : (j : ℕ) → answered_past j ps ≡ h.said (Flow j)
+
+-- a release for each of these that came from the lane
+abbrev pub releases_for : Lane → List Holding → List Reply
+releases_for l xs = map (λ x. release_reply) (held_of l xs)
+
+-- the oldest n that were held were released, each to its lane
+pub record Releases (n : ℕ) (h k : Hand) : Type 0 where
+  pub said : (l : Lane) → k.said l ≡ h.said l ++ releases_for l (take n h.holding)
+  pub got : (l : Lane) → k.got l ≡ h.got l
+  pub holding : k.holding ≡ drop n h.holding
+
+-- the oldest n that were held were released, and then these were received
+pub record Dequeues (links : List ℕ) (n : ℕ) (h k : Hand) (deliveries : List Delivery) : Type 0 where
+  pub between : Hand
+  pub released : Releases n h between
+  pub arrived : Arrives links between k [] deliveries
+
+-- how many of the replies to all lanes, of which so many are flow lanes, pass the test
+abbrev pub counted : (Reply → Bool) → ℕ → (Lane → List Reply) → ℕ
+counted P n said = count_by P (said Own) + sum_by (λ j. count_by P (said (Flow j))) (range_with_len 0 n)
+
+-- as many replies were given to the lane as its reply ring has room for
+abbrev pub IsFilledAt : Far → Hands → Option Lane → Type 0
+IsFilledAt own h None = ⊥
+IsFilledAt own h (Some Own) = (far_id own).room ≤ length (answered own)
+IsFilledAt own h (Some (Flow j)) = IsFilledBy (stint_in h j)
+
+-- why an answer is refused: nothing is held, or the ring of the oldest's lane is full
+abbrev pub RefusesFirst : Far → Hands → List Holding → Reply → AnswerFault → Type 0
+RefusesFirst own h xs r NothingHeld = xs ≡ []
+RefusesFirst own h xs r (Full back) = (back ≡ r) × (xs ≢ []) × IsFilledAt own h (first_lane xs)

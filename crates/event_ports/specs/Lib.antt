@@ -1,0 +1,8 @@
+pub mod Holds
+pub mod Flows
+pub mod Lanes
+pub mod Handed
+pub mod Pockets
+pub mod Ports
+pub mod Parts
+pub mod Stop

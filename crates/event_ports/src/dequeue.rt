@@ -1,0 +1,113 @@
+//! Dequeues, and enqueues of several events.
+
+ghost use Rattle.std.specs.Prelude.{◌≡◌, ◌≢◌, ◌+◌, ◌%◌, ◌^◌, ◌<◌, ◌≤◌, [], length, IsTrue, IsFalse, ◌↔◌, take, IsNone, IfSome, IfOk, IfErr, OnOk, MatchResult};
+ghost use Rattle.evt_types.specs.declared.event.Op.TheVariants as ops;
+ghost use Rattle.credit_pool.specs.Accounts.{Stays};
+ghost use Rattle.event_ports.specs.Lanes.{Rests, Releases, Dequeues, Arrives, SubmitsTo, SubmitsAll, first_lane, release_reply};
+ghost use Rattle.event_ports.specs.Pockets.{Settles};
+ghost use Rattle.event_ports.specs.Ports.{place_of, account_of, pocket_of, hand, links, was_filled, released_first, StopsAt};
+
+use crate::answer::{Behind, Refused};
+use crate::port::Port;
+use arrayvec::ArrayVec;
+use evt_types::{Delivery, Event, Reply};
+
+impl Port {
+    /// Receives at most `max` deliveries, and no more than may be held. With implicit release all that is held is released first,
+    /// oldest first; where a reply ring has no room for all of it, nothing is received and the rest stays held.
+    pub fn dequeue(&mut self, max: usize) -> Result<ArrayVec<Delivery, 64>, Behind>
+        ensures place { place_of self.new ≡ place_of self.old }
+        ensures credit { Stays (account_of self.old) (account_of self.new) }
+        ensures ok { IfOk result (λ v. Dequeues (links self.old) (released_first self.old) (hand self.old) (hand self.new) v.items) }
+        ensures few { IfOk result (λ v. (length v.items ≤ max) × (length (hand self.new).holding ≤ (place_of self.old).lanes.depth)) }
+        ensures behind { IfErr result (λ b. IsTrue (place_of self.old).implicit × (b.released < length (hand self.old).holding) × Releases b.released (hand self.old) (hand self.new) × was_filled self.new ops.Release) }
+        ensures settled { MatchResult result
+            (λ _. Settles (place_of self.old).quantum ((pocket_of self.old + released_first self.old) % 2 ^ 64) (account_of self.old) (pocket_of self.new) (account_of self.new))
+            (λ b. Settles (place_of self.old).quantum ((pocket_of self.old + b.released) % 2 ^ 64) (account_of self.old) (pocket_of self.new) (account_of self.new)) }
+    {
+        let answer = self.exchange(max);
+        self.settle();
+        answer
+    }
+
+    /// Enqueues the events one after the other, up to the first that is refused: how many were taken, and why the next one wasn't.
+    pub fn enqueue_burst(&mut self, events: &[Event]) -> (usize, Option<Refused>)
+        ensures place { place_of self.new ≡ place_of self.old }
+        ensures credit { Stays (account_of self.old) (account_of self.new) }
+        ensures count { result.0 ≤ length events.now }
+        ensures all { IsNone result.1 ↔ (result.0 ≡ length events.now) }
+        ensures submitted { SubmitsAll (take result.0 events.now) (hand self.old) (hand self.new) }
+        ensures refused { IfSome result.1 (λ e. StopsAt self.old events.now result.0 e self.new) }
+    {
+        for (taken, event) in events.iter().enumerate() {
+            if let Err(refused) = self.enqueue(*event) {
+                return (taken, Some(refused));
+            }
+        }
+        (events.len(), None)
+    }
+
+    // What a dequeue does before the return rule.
+    fn exchange(&mut self, max: usize) -> Result<ArrayVec<Delivery, 64>, Behind>
+        ensures place { place_of self.new ≡ place_of self.old }
+        ensures credit { account_of self.new ≡ account_of self.old }
+        ensures ok { IfOk result (λ v. Dequeues (links self.old) (released_first self.old) (hand self.old) (hand self.new) v.items) }
+        ensures few { IfOk result (λ v. (length v.items ≤ max) × (length (hand self.new).holding ≤ (place_of self.old).lanes.depth)) }
+        ensures behind { IfErr result (λ b. IsTrue (place_of self.old).implicit × (b.released < length (hand self.old).holding) × Releases b.released (hand self.old) (hand self.new) × was_filled self.new ops.Release) }
+        ensures pocket { MatchResult result
+            (λ _. pocket_of self.new ≡ (pocket_of self.old + released_first self.old) % 2 ^ 64)
+            (λ b. pocket_of self.new ≡ (pocket_of self.old + b.released) % 2 ^ 64) }
+    {
+        if !self.implicit {
+            return Ok(self.receive(max));
+        }
+        match self.release_all() {
+            Ok(()) => Ok(self.receive(max)),
+            Err(behind) => Err(behind),
+        }
+    }
+
+    fn receive(&mut self, max: usize) -> ArrayVec<Delivery, 64>
+        ensures place { place_of self.new ≡ place_of self.old }
+        ensures credit { (account_of self.new ≡ account_of self.old) × (pocket_of self.new ≡ pocket_of self.old) × (pocket_of self.old < 2 ^ 64) }
+        ensures arrived { Arrives (links self.old) (hand self.old) (hand self.new) [] result.items }
+        ensures few { (length result.items ≤ max) × (length (hand self.new).holding ≤ (place_of self.old).lanes.depth) }
+    {
+        let _pocket = self.pocket;
+        self.lanes.receive_all(max)
+    }
+
+    // Releases all that is held, oldest first, or as much as the reply rings take.
+    fn release_all(&mut self) -> Result<(), Behind>
+        ensures place { place_of self.new ≡ place_of self.old }
+        ensures credit { account_of self.new ≡ account_of self.old }
+        ensures ok { OnOk result (Releases (length (hand self.old).holding) (hand self.old) (hand self.new) × (pocket_of self.new ≡ (pocket_of self.old + length (hand self.old).holding) % 2 ^ 64)) }
+        ensures behind { IfErr result (λ b. (b.released < length (hand self.old).holding) × Releases b.released (hand self.old) (hand self.new) × was_filled self.new ops.Release × (pocket_of self.new ≡ (pocket_of self.old + b.released) % 2 ^ 64)) }
+    {
+        let _pocket = self.pocket;
+        for released in 0..self.lanes.held() {
+            if !self.release_oldest() {
+                return Err(Behind { released });
+            }
+        }
+        Ok(())
+    }
+
+    // Releases the oldest that is held; false where its lane's reply ring has no room.
+    fn release_oldest(&mut self) -> bool
+        requires { (hand self.old).holding ≢ [] }
+        ensures place { place_of self.new ≡ place_of self.old }
+        ensures credit { account_of self.new ≡ account_of self.old }
+        ensures released { IsTrue result → SubmitsTo (first_lane (hand self.old).holding) release_reply (hand self.old) (hand self.new) × (pocket_of self.new ≡ (pocket_of self.old + 1) % 2 ^ 64) }
+        ensures behind { IsFalse result → Rests (hand self.old) (hand self.new) × was_filled self.new ops.Release × (pocket_of self.new ≡ pocket_of self.old) }
+    {
+        let event = Event::release();
+        match self.lanes.answer(Reply { event }) {
+            Ok(()) => {
+                self.pocket = self.pocket.wrapping_add(1);
+                true
+            }
+            Err(_) => false,
+        }
+    }
+}

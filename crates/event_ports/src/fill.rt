@@ -1,0 +1,29 @@
+//! Draws of a quantum.
+
+ghost use Rattle.std.specs.Prelude.{◌≡◌, ◌<◌, ◌≤◌, true};
+ghost use Rattle.credit_pool.specs.Accounts.{Stays};
+ghost use Rattle.credit_pool.specs.Pool.{account, limit_of, IsSeatOf};
+ghost use Rattle.event_ports.specs.Pockets.{Fills};
+
+use credit_pool::{CreditSeat, Credits, Draw};
+
+/// How often a quantum is asked for where other ports change the credits meanwhile.
+const DRAWS: usize = 3;
+
+/// Draws a quantum, by at most three tries as long as they race with other ports.
+pub(crate) fn fill(pool: &Credits, seat: &mut CreditSeat, quantum: u64, ceiling: u64) -> Draw
+    requires seat { IsSeatOf pool.now seat.old }
+    requires some { 0 < quantum }
+    requires ceiling { ceiling ≤ limit_of pool.now }
+    ensures seat { IsSeatOf pool.now seat.new }
+    ensures stays { Stays (account seat.old) (account seat.new) }
+    ensures answer { Fills quantum ceiling (account seat.old) result (account seat.new) }
+{
+    for _ in 1..DRAWS {
+        match pool.draw(seat, quantum, ceiling) {
+            Draw::Raced { .. } => {}
+            answer => return answer,
+        }
+    }
+    pool.draw(seat, quantum, ceiling)
+}

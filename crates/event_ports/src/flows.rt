@@ -1,0 +1,180 @@
+//! The flow lanes of a port: those that it holds, and those that it is linked to.
+
+ghost use Rattle.std.specs.Arc.{arc_value};
+ghost use Rattle.event_ports.specs.Holds.{AreFlows};
+
+use evt_types::{Delivery, Reply};
+use flow_claims::{Claim, ClaimSeat, Claims, Stint};
+use lane_rings::AnswerFault;
+use std::alloc::{AllocError, Global};
+use std::sync::Arc;
+
+/// The flow lanes of a port. There is a place for each flow lane of the device, with the stint where the port holds the lane.
+#[derive(Drop)]
+pub(crate) struct FlowLanes {
+    claims: Arc<Claims, Global>,
+    seat: ClaimSeat,
+    stints: Vec<Option<Stint>>,
+    links: Vec<usize>,
+    ghost are: { AreFlows (arc_value claims) seat stints.items links.items },
+}
+
+impl FlowLanes {
+    ghost use Rattle.std.specs.Prelude.{◌≡◌, ◌≢◌, ℕ, ◌<◌, ◌≤◌, [], ◌++◌, true, false, length, replicate, All, IfOk, IfErr, MatchOption, MatchResult};
+    ghost use Rattle.std.specs.Option.{is_some};
+    ghost use Rattle.lists.specs.Lists.{has};
+    ghost use Rattle.evt_types.specs.Operation.{is_answer};
+    ghost use Rattle.flow_claims.specs.Claims.{seating, port_of, lanes_of, IsSeatOf};
+    ghost use Rattle.flow_claims.specs.Seats.{HoldsNone};
+    ghost use Rattle.event_ports.specs.Holds.{IsFilledBy, AreLinked, Same, Kept, Gets, Says, Ends, AreEmpty, stint_in, held_on, received_on, answered_on, received_past, answered_past};
+    ghost use Rattle.event_ports.specs.Flows.{hands_of, flow_place};
+
+    /// The flow lanes of a port whose seat has no stint, with a place for each.
+    pub(crate) fn new(
+        claims: Arc<Claims, Global>,
+        seat: ClaimSeat,
+        stints: Vec<Option<Stint>>,
+        links: Vec<usize>,
+    ) -> FlowLanes
+        requires seat { IsSeatOf (arc_value claims) seat × (port_of seat < 254) }
+        requires fresh { HoldsNone (seating seat) × ((seating seat).finished ≡ []) }
+        requires links { All (λ lane. lane < length (lanes_of (arc_value claims))) links.items }
+        requires places { stints.items ≡ replicate (length (lanes_of (arc_value claims))) None }
+        ensures place { flow_place result ≡ record { claims = arc_value claims; port = port_of seat; links = links.items; parts = (seating seat).parts } }
+        ensures empty { AreEmpty (hands_of result) }
+    {
+        FlowLanes {
+            claims,
+            seat,
+            stints,
+            links,
+        }
+    }
+
+    /// How many flow lanes the port is linked to.
+    pub(crate) fn link_count(&self) -> usize
+        ensures { result ≡ length (flow_place self.now).links }
+    {
+        self.links.len()
+    }
+
+    /// The flow lane at this place of the links.
+    pub(crate) fn link(&self, place: usize) -> usize
+        requires { place < length (flow_place self.now).links }
+        ensures exists { result < length (lanes_of (flow_place self.now).claims) }
+        ensures linked { has result (flow_place self.now).links ≡ true }
+    {
+        self.links[place]
+    }
+
+    /// Holds the lane, where it isn't held already, by one try. False where it can't be had.
+    pub(crate) fn hold(&mut self, lane: usize) -> bool
+        requires exists { lane < length (lanes_of (flow_place self.old).claims) }
+        requires linked { has lane (flow_place self.old).links ≡ true }
+        ensures place { flow_place self.new ≡ flow_place self.old }
+        ensures same { Same (hands_of self.old) (hands_of self.new) }
+        ensures held { is_some (stint_in (hands_of self.new) lane) ≡ result }
+        ensures elsewhere { (j : ℕ) → j ≢ lane → is_some (stint_in (hands_of self.new) j) ≡ is_some (stint_in (hands_of self.old) j) }
+    {
+        if self.stints[lane].is_some() {
+            return true;
+        }
+        let Claim::Held(stint) = self.claims.claim(&mut self.seat, lane) else {
+            return false;
+        };
+        self.stints[lane] = Some(stint);
+        true
+    }
+
+    /// Receives from the lane, where it is held and no more than its depth allows is unanswered.
+    pub(crate) fn receive(&mut self, lane: usize) -> Option<Delivery>
+        requires { lane < length (lanes_of (flow_place self.old).claims) }
+        ensures place { flow_place self.new ≡ flow_place self.old }
+        ensures lists { MatchOption result (Same (hands_of self.old) (hands_of self.new)) (λ d. Gets lane d (hands_of self.old) (hands_of self.new)) }
+        ensures places { (j : ℕ) → is_some (stint_in (hands_of self.new) j) ≡ is_some (stint_in (hands_of self.old) j) }
+    {
+        let Some(stint) = &mut self.stints[lane] else {
+            return None;
+        };
+        if stint.far.is_full() {
+            return None;
+        }
+        stint.receive()
+    }
+
+    /// Answers the oldest delivery that is held of the lane.
+    pub(crate) fn answer(&mut self, lane: usize, reply: Reply) -> Result<(), AnswerFault>
+        requires exists { lane < length (lanes_of (flow_place self.old).claims) }
+        requires answer { is_answer reply ≡ true }
+        requires held { held_on (hands_of self.old) lane ≢ [] }
+        ensures place { flow_place self.new ≡ flow_place self.old }
+        ensures lists { MatchResult result (λ _. Says lane reply (hands_of self.old) (hands_of self.new)) (λ _. Same (hands_of self.old) (hands_of self.new)) }
+        ensures places { (j : ℕ) → is_some (stint_in (hands_of self.new) j) ≡ is_some (stint_in (hands_of self.old) j) }
+        ensures refused { IfErr result (λ e. (e ≡ AnswerFault.Full reply) × IsFilledBy (stint_in (hands_of self.new) lane)) }
+    {
+        let Some(stint) = &mut self.stints[lane] else {
+            return Err(AnswerFault::NothingHeld);
+        };
+        stint.answer(reply)
+    }
+
+    /// Gives the lane back where nothing of it is unanswered.
+    pub(crate) fn leave(&mut self, lane: usize)
+        requires { lane < length (lanes_of (flow_place self.old).claims) }
+        ensures place { flow_place self.new ≡ flow_place self.old }
+        ensures same { Same (hands_of self.old) (hands_of self.new) }
+        ensures left { held_on (hands_of self.old) lane ≡ [] → is_some (stint_in (hands_of self.new) lane) ≡ false }
+        ensures elsewhere { (j : ℕ) → j ≢ lane → is_some (stint_in (hands_of self.new) j) ≡ is_some (stint_in (hands_of self.old) j) }
+    {
+        let Some(stint) = self.stints[lane].take() else {
+            return;
+        };
+        if stint.far.held() == 0 {
+            self.claims.give_back(&mut self.seat, stint);
+        } else {
+            self.stints[lane] = Some(stint);
+        }
+    }
+
+    /// Surrenders the lane, where it is held.
+    fn surrender(&mut self, lane: usize)
+        requires { lane < length (lanes_of (flow_place self.old).claims) }
+        ensures place { flow_place self.new ≡ flow_place self.old }
+        ensures kept { Kept (hands_of self.old) (hands_of self.new) }
+        ensures free { stint_in (hands_of self.new) lane ≡ None }
+        ensures elsewhere { (j : ℕ) → j ≢ lane → stint_in (hands_of self.new) j ≡ stint_in (hands_of self.old) j }
+    {
+        let Some(stint) = self.stints[lane].take() else {
+            return;
+        };
+        self.claims.surrender(&mut self.seat, stint);
+    }
+
+    /// The port's seat, once all lanes that are held were surrendered.
+    pub(crate) fn into_seat(mut self) -> ClaimSeat
+        ensures seat { IsSeatOf (flow_place self).claims result × (port_of result ≡ (flow_place self).port) }
+        ensures parts { (seating result).parts ≡ (flow_place self).parts }
+        ensures none_open { HoldsNone (seating result) }
+        ensures lists { Ends (hands_of self) (seating result) }
+        ensures linked { AreLinked (flow_place self).port (flow_place self).links (seating result).finished }
+    {
+        for lane in 0..self.stints.len() {
+            self.surrender(lane);
+        }
+        let FlowLanes { seat, .. } = self;
+        seat
+    }
+}
+
+ghost use Rattle.std.specs.Prelude.{◌≡◌, replicate, IfOk};
+
+/// Places for so many flow lanes, none of which is held.
+pub(crate) fn free_places(alloc: Global, lanes: usize) -> Result<Vec<Option<Stint>>, AllocError>
+    ensures { IfOk result (λ v. v.items ≡ replicate lanes None) }
+{
+    let mut stints = Vec::with_capacity(alloc, lanes)?;
+    for _ in 0..lanes {
+        stints.push_reserved(None);
+    }
+    Ok(stints)
+}

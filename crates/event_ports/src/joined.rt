@@ -1,0 +1,86 @@
+//! A port's seats joined into those of the device that stops.
+
+ghost use Rattle.std.specs.Prelude.{◌≡◌, ◌+◌, ◌≤◌, [], length, vec_capacity, All};
+ghost use Rattle.credit_pool.specs.Accounts.{after_join};
+ghost use Rattle.credit_pool.specs.Pool as credits;
+ghost use Rattle.lane_rings.specs.Identity.{far_id};
+ghost use Rattle.lane_rings.specs.Ends.{received_by, answered};
+ghost use Rattle.flow_claims.specs.Claims.{seating, port_of, IsSeatOf};
+ghost use Rattle.flow_claims.specs.Seats.{HoldsNone};
+ghost use Rattle.event_ports.specs.declared.lane.Lane.TheVariants as lanes;
+ghost use Rattle.event_ports.specs.Pockets.{IsPocket};
+ghost use Rattle.event_ports.specs.Ports.{place_of, account_of, pocket_of, hand, news_by, releases_by};
+ghost use Rattle.event_ports.specs.Stop.{Joins, IsPortOf, IsJoined, AreRests};
+
+use crate::lane::Holding;
+use crate::parts::Left;
+use crate::port::Port;
+use circular_buffer::HeapCircularBuffer;
+use credit_pool::{CreditSeat, Credits};
+use flow_claims::{ClaimSeat, Claims};
+use lane_rings::Far;
+
+/// What is left of a port whose seats were joined to others.
+#[derive(Drop)]
+pub struct Rest {
+    /// The end of the own lane.
+    pub own: Far,
+    /// What is held, in the order of the dequeues.
+    pub held: HeapCircularBuffer<Holding>,
+    pub pocket: u64,
+}
+
+/// Takes a port apart, and joins its seats into these. Each flow lane that it holds is surrendered.
+pub fn join_port(
+    pool: &Credits,
+    claims: &Claims,
+    credit: CreditSeat,
+    claim: ClaimSeat,
+    port: Port,
+) -> (CreditSeat, ClaimSeat, Rest)
+    requires pool { credits.IsSeatOf pool.now credit × ((place_of port).pool ≡ pool.now) }
+    requires claims { IsSeatOf claims.now claim × HoldsNone (seating claim) × ((place_of port).lanes.flows.claims ≡ claims.now) }
+    ensures credit { credits.IsSeatOf pool.now result.0 × (credits.account result.0 ≡ after_join (credits.account credit) (account_of port)) }
+    ensures bit { (credits.account result.0).set_shut ≡ (credits.account credit).set_shut }
+    ensures claim { IsSeatOf claims.now result.1 × (port_of result.1 ≡ port_of claim) }
+    ensures stints { Joins port (seating claim) (seating result.1) }
+    ensures own { (far_id result.2.own ≡ (place_of port).lanes.own) × (received_by result.2.own ≡ (hand port).got lanes.Own) × (answered result.2.own ≡ (hand port).said lanes.Own) }
+    ensures held { result.2.held.items ≡ (hand port).holding }
+    ensures paid { (result.2.pocket ≡ pocket_of port) × IsPocket result.2.pocket ((account_of port).drawn + releases_by port) ((account_of port).returned + news_by port) }
+{
+    let Left {
+        credit: its_credit,
+        claim: its_claim,
+        own,
+        held,
+        pocket,
+    } = port.into_left();
+    let credit = pool.join(credit, its_credit);
+    let claim = claims.join(claim, its_claim);
+    (credit, claim, Rest { own, held, pocket })
+}
+
+/// Takes all ports apart, and joins their seats into these. What is left of them is added in their order, where room was reserved.
+pub fn join_ports(
+    pool: &Credits,
+    claims: &Claims,
+    mut credit: CreditSeat,
+    mut claim: ClaimSeat,
+    ports: Vec<Port>,
+    into: &mut Vec<Rest>,
+) -> (CreditSeat, ClaimSeat)
+    requires pool { credits.IsSeatOf pool.now credit }
+    requires claims { IsSeatOf claims.now claim × HoldsNone (seating claim) }
+    requires ports { All (IsPortOf pool.now claims.now) ports.items }
+    requires room { (into.old.items ≡ []) × (length ports.items ≤ vec_capacity into.old) }
+    ensures joined { IsJoined pool.now claims.now credit claim ports.items result.0 result.1 }
+    ensures left { AreRests ports.items into.new.items }
+{
+    for port in ports {
+        let (its_credit, its_claim, rest) = join_port(pool, claims, credit, claim, port);
+        credit = its_credit;
+        claim = its_claim;
+        into.push_reserved(rest);
+    }
+    (credit, claim)
+}

@@ -1,0 +1,234 @@
+//! All lanes of a port, and the order in which it dequeued from them.
+
+ghost use Rattle.std.specs.Prelude.{◌≡◌, ◌≤◌, ℕ, [], false};
+ghost use Rattle.std.specs.Option.{is_some};
+ghost use Rattle.lane_rings.specs.Identity.{far_id};
+ghost use Rattle.event_ports.specs.Holds.{held_on, stint_in};
+ghost use Rattle.event_ports.specs.Lanes.{AreOrdered, holding_of};
+ghost use Rattle.event_ports.specs.Flows.{hands_of};
+
+use crate::flows::FlowLanes;
+use crate::lane::{Holding, Lane};
+use arrayvec::ArrayVec;
+use circular_buffer::HeapCircularBuffer;
+use evt_types::{Delivery, Reply};
+use flow_claims::ClaimSeat;
+use lane_rings::{AnswerFault, Far};
+
+/// The lanes of a port: its own one, and the flow lanes. What was received and isn't answered is noted in the order of the
+/// dequeues; between two calls no flow lane is held of which nothing is unanswered.
+#[derive(Drop)]
+pub(crate) struct Lanes {
+    own: Far,
+    flows: FlowLanes,
+    order: HeapCircularBuffer<Holding>,
+    ghost depth: { (order.capacity ≡ (far_id own).depth) × (order.capacity ≤ 64) },
+    ghost ordered: { AreOrdered own (hands_of flows) order.items },
+    ghost idle: { (j : ℕ) → held_on (hands_of flows) j ≡ [] → is_some (stint_in (hands_of flows) j) ≡ false },
+}
+
+impl Lanes {
+    ghost use Rattle.std.specs.Prelude.{◌≡◌, ◌≢◌, ℕ, ◌+◌, ◌<◌, ◌≤◌, [], ◌∷◌, true, false, length, Some, IfOk, IfErr, IfSome, MatchOption, MatchResult};
+    ghost use Rattle.evt_types.specs.Operation.{is_answer, is_new_reply};
+    ghost use Rattle.event_ports.specs.Lanes.{Rests, Submits, SubmitsTo, Takes, Arrives, HasRoomFor, IsEmptyHand, IsEndOf, first_lane};
+    ghost use Rattle.event_ports.specs.Handed.{IsReadable, lanes_place, links_of, hand_of, news_of, releases_of, CountsOne, CountsNone, IsFilled, RefusesOldest};
+    ghost use Rattle.lane_rings.specs.Ends.{received_by, answered};
+    ghost use Rattle.flow_claims.specs.Claims.{seating, port_of, IsSeatOf};
+    ghost use Rattle.flow_claims.specs.Laws.{IsUnused};
+    ghost use Rattle.flow_claims.specs.Seats.{HoldsNone};
+    ghost use Rattle.event_ports.specs.Holds.{AreEmpty, AreLinked};
+    ghost use Rattle.event_ports.specs.Flows.{flow_place};
+    ghost use Rattle.event_ports.specs.declared.lane.Lane.TheVariants as lanes;
+
+    /// The lanes of a port that received and answered nothing, and whose order has the room of its own lane's depth.
+    pub(crate) fn new(own: Far, flows: FlowLanes, order: HeapCircularBuffer<Holding>) -> Lanes
+        requires own { IsUnused own }
+        requires flows { AreEmpty (hands_of flows) }
+        requires order { (order.items ≡ []) × (order.capacity ≡ (far_id own).depth) × (order.capacity ≤ 64) }
+        ensures place { lanes_place result ≡ record { own = far_id own; flows = flow_place flows; depth = order.capacity } }
+        ensures empty { IsEmptyHand (hand_of result) }
+        ensures none { (news_of result ≡ 0) × (releases_of result ≡ 0) }
+    {
+        Lanes { own, flows, order }
+    }
+
+    /// How many deliveries are held.
+    pub(crate) fn held(&self) -> usize
+        ensures value { result ≡ length (hand_of self.now).holding }
+        ensures within { result ≤ (lanes_place self.now).depth }
+    {
+        self.order.len()
+    }
+
+    /// Submits a NEW to the port's own lane.
+    pub(crate) fn submit(&mut self, reply: Reply) -> Result<(), AnswerFault>
+        requires { is_new_reply reply ≡ true }
+        ensures place { lanes_place self.new ≡ lanes_place self.old }
+        ensures submitted { MatchResult result (λ _. Submits lanes.Own reply (hand_of self.old) (hand_of self.new)) (λ _. Rests (hand_of self.old) (hand_of self.new)) }
+        ensures counts { MatchResult result (λ _. CountsOne reply self.old self.new) (λ _. CountsNone self.old self.new) }
+        ensures refused { IfErr result (λ e. (e ≡ AnswerFault.Full reply) × IsFilled self.new (Some lanes.Own)) }
+    {
+        self.own.answer(reply)
+    }
+
+    /// Answers the oldest delivery that is held, to the lane from which it came.
+    pub(crate) fn answer(&mut self, reply: Reply) -> Result<(), AnswerFault>
+        requires { is_answer reply ≡ true }
+        ensures place { lanes_place self.new ≡ lanes_place self.old }
+        ensures submitted { MatchResult result (λ _. SubmitsTo (first_lane (hand_of self.old).holding) reply (hand_of self.old) (hand_of self.new)) (λ _. Rests (hand_of self.old) (hand_of self.new)) }
+        ensures counts { MatchResult result (λ _. CountsOne reply self.old self.new) (λ _. CountsNone self.old self.new) }
+        ensures refused { IfErr result (RefusesOldest self.new reply) }
+    {
+        let lane = match self.order.front() {
+            Some(oldest) => oldest.lane,
+            None => return Err(AnswerFault::NothingHeld),
+        };
+        match lane {
+            Lane::Own => self.answer_own(reply),
+            Lane::Flow(lane) => self.answer_flow(lane, reply),
+        }
+    }
+
+    fn answer_own(&mut self, reply: Reply) -> Result<(), AnswerFault>
+        requires answer { is_answer reply ≡ true }
+        requires oldest { first_lane (hand_of self.old).holding ≡ Some lanes.Own }
+        ensures place { lanes_place self.new ≡ lanes_place self.old }
+        ensures submitted { MatchResult result (λ _. Submits lanes.Own reply (hand_of self.old) (hand_of self.new)) (λ _. Rests (hand_of self.old) (hand_of self.new)) }
+        ensures counts { MatchResult result (λ _. CountsOne reply self.old self.new) (λ _. CountsNone self.old self.new) }
+        ensures refused { IfErr result (RefusesOldest self.new reply) }
+    {
+        match self.own.answer(reply) {
+            Ok(()) => {
+                self.order.pop_front();
+                Ok(())
+            }
+            Err(fault) => Err(fault),
+        }
+    }
+
+    fn answer_flow(&mut self, lane: usize, reply: Reply) -> Result<(), AnswerFault>
+        requires answer { is_answer reply ≡ true }
+        requires oldest { first_lane (hand_of self.old).holding ≡ Some (lanes.Flow lane) }
+        ensures place { lanes_place self.new ≡ lanes_place self.old }
+        ensures submitted { MatchResult result (λ _. Submits (lanes.Flow lane) reply (hand_of self.old) (hand_of self.new)) (λ _. Rests (hand_of self.old) (hand_of self.new)) }
+        ensures counts { MatchResult result (λ _. CountsOne reply self.old self.new) (λ _. CountsNone self.old self.new) }
+        ensures refused { IfErr result (RefusesOldest self.new reply) }
+    {
+        match self.flows.answer(lane, reply) {
+            Ok(()) => {
+                self.order.pop_front();
+                self.flows.leave(lane);
+                Ok(())
+            }
+            Err(fault) => Err(fault),
+        }
+    }
+
+    /// Receives from one lane: the port's own, or a flow lane to which it is linked, of which it holds what it receives.
+    fn receive(&mut self, lane: Lane) -> Option<Delivery>
+        requires readable { IsReadable (lanes_place self.old) lane }
+        requires room { length (hand_of self.old).holding < (lanes_place self.old).depth }
+        ensures place { lanes_place self.new ≡ lanes_place self.old }
+        ensures counts { CountsNone self.old self.new }
+        ensures lists { MatchOption result (Rests (hand_of self.old) (hand_of self.new)) (λ d. Takes lane d (hand_of self.old) (hand_of self.new)) }
+    {
+        match lane {
+            Lane::Own => self.receive_own(),
+            Lane::Flow(lane) => self.receive_flow(lane),
+        }
+    }
+
+    // Receives from the lane until `most` deliveries came in all, or none is there.
+    fn receive_some(&mut self, lane: Lane, most: usize, deliveries: &mut ArrayVec<Delivery, 64>)
+        requires readable { IsReadable (lanes_place self.old) lane }
+        requires room { HasRoomFor most (lanes_place self.old).depth (hand_of self.old).holding deliveries.old.items }
+        ensures place { lanes_place self.new ≡ lanes_place self.old }
+        ensures counts { CountsNone self.old self.new }
+        ensures arrived { Arrives (links_of self.old) (hand_of self.old) (hand_of self.new) deliveries.old.items deliveries.new.items }
+        ensures room { HasRoomFor most (lanes_place self.new).depth (hand_of self.new).holding deliveries.new.items }
+    {
+        for _ in deliveries.len()..most {
+            let Some(delivery) = self.receive(lane) else {
+                break;
+            };
+            deliveries.push(delivery);
+        }
+    }
+
+    /// Receives at most `max` deliveries, and no more than may be held: from the own lane first, then from the linked flow lanes
+    /// in their order, of which each that isn't held is claimed by one try.
+    pub(crate) fn receive_all(&mut self, max: usize) -> ArrayVec<Delivery, 64>
+        ensures place { lanes_place self.new ≡ lanes_place self.old }
+        ensures counts { CountsNone self.old self.new }
+        ensures arrived { Arrives (links_of self.old) (hand_of self.old) (hand_of self.new) [] result.items }
+        ensures few { (length result.items ≤ max) × (length (hand_of self.new).holding ≤ (lanes_place self.new).depth) }
+    {
+        let most = max.min(self.order.capacity() - self.order.len());
+        let mut deliveries = ArrayVec::new();
+        self.receive_some(Lane::Own, most, &mut deliveries);
+        for place in 0..self.flows.link_count() {
+            let lane = Lane::Flow(self.flows.link(place));
+            self.receive_some(lane, most, &mut deliveries);
+        }
+        deliveries
+    }
+
+    /// The own end, the port's claim seat once all its flow lanes were surrendered, and what is held.
+    pub(crate) fn into_parts(self) -> (Far, ClaimSeat, HeapCircularBuffer<Holding>)
+        ensures own { (far_id result.0 ≡ (lanes_place self).own) × (received_by result.0 ≡ (hand_of self).got lanes.Own) × (answered result.0 ≡ (hand_of self).said lanes.Own) }
+        ensures seat { IsSeatOf (lanes_place self).flows.claims result.1 × (port_of result.1 ≡ (lanes_place self).flows.port) }
+        ensures parts { (seating result.1).parts ≡ (lanes_place self).flows.parts }
+        ensures none_open { HoldsNone (seating result.1) }
+        ensures lists { IsEndOf (hand_of self) (seating result.1).finished }
+        ensures linked { AreLinked (lanes_place self).flows.port (links_of self) (seating result.1).finished }
+        ensures held { result.2.items ≡ (hand_of self).holding }
+    {
+        let Lanes { own, flows, order } = self;
+        (own, flows.into_seat(), order)
+    }
+
+    fn receive_own(&mut self) -> Option<Delivery>
+        requires { length (hand_of self.old).holding < (lanes_place self.old).depth }
+        ensures place { lanes_place self.new ≡ lanes_place self.old }
+        ensures counts { CountsNone self.old self.new }
+        ensures lists { MatchOption result (Rests (hand_of self.old) (hand_of self.new)) (λ d. Takes lanes.Own d (hand_of self.old) (hand_of self.new)) }
+    {
+        let Some(delivery) = self.own.receive() else {
+            return None;
+        };
+        let Ok(()) = self.order.try_push_back(noted(Lane::Own, &delivery)) else {
+            unreachable!()
+        };
+        Some(delivery)
+    }
+
+    fn receive_flow(&mut self, lane: usize) -> Option<Delivery>
+        requires readable { IsReadable (lanes_place self.old) (lanes.Flow lane) }
+        requires room { length (hand_of self.old).holding < (lanes_place self.old).depth }
+        ensures place { lanes_place self.new ≡ lanes_place self.old }
+        ensures counts { CountsNone self.old self.new }
+        ensures lists { MatchOption result (Rests (hand_of self.old) (hand_of self.new)) (λ d. Takes (lanes.Flow lane) d (hand_of self.old) (hand_of self.new)) }
+    {
+        if !self.flows.hold(lane) {
+            return None;
+        }
+        let Some(delivery) = self.flows.receive(lane) else {
+            self.flows.leave(lane);
+            return None;
+        };
+        let Ok(()) = self.order.try_push_back(noted(Lane::Flow(lane), &delivery)) else {
+            unreachable!()
+        };
+        Some(delivery)
+    }
+}
+
+fn noted(lane: Lane, delivery: &Delivery) -> Holding
+    ensures { result ≡ holding_of lane delivery.now }
+{
+    Holding {
+        lane,
+        queue: delivery.queue,
+        number: delivery.number,
+    }
+}

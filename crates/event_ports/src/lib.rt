@@ -1,0 +1,21 @@
+//! The port of an event device, for both kinds of serving: it enqueues to its own lane and to the flow lanes that it holds, and
+//! dequeues from them. No call of a port takes a lock or memory.
+#![tactic(auto)]
+
+mod answer;
+mod dequeue;
+mod fill;
+mod flows;
+mod joined;
+mod lane;
+mod lanes;
+mod parts;
+mod port;
+mod stop;
+
+pub use answer::{Behind, Refused};
+pub use joined::{Rest, join_port, join_ports};
+pub use lane::{Holding, Lane};
+pub use parts::{Left, Memory, Parts};
+pub use port::Port;
+pub use stop::flow_lanes_at_stop;

@@ -1,0 +1,142 @@
+//! How a port is made of its parts, and taken apart again.
+
+ghost use Rattle.std.specs.Prelude.{◌≡◌, ◌+◌, ◌<◌, ◌≤◌, [], false, length, All, IfOk, IfErr};
+ghost use Rattle.std.specs.Arc.{arc_value};
+ghost use Rattle.credit_pool.specs.Pool as credits;
+ghost use Rattle.lane_rings.specs.Identity.{far_id};
+ghost use Rattle.lane_rings.specs.Ends.{received_by, answered};
+ghost use Rattle.flow_claims.specs.Claims.{seating, port_of, lanes_of, IsSeatOf};
+ghost use Rattle.flow_claims.specs.Laws.{IsUnused};
+ghost use Rattle.flow_claims.specs.Seats.{HoldsNone};
+ghost use Rattle.event_ports.specs.declared.lane.Lane.TheVariants as lanes;
+ghost use Rattle.event_ports.specs.Holds.{AreLinked};
+ghost use Rattle.event_ports.specs.Lanes.{IsEmptyHand, IsEndOf};
+ghost use Rattle.event_ports.specs.Pockets.{IsPocket};
+ghost use Rattle.event_ports.specs.Ports.{place_of, account_of, pocket_of, hand, links, news_by, releases_by};
+ghost use Rattle.event_ports.specs.Parts.{FitTogether, AreFresh, place_by};
+
+use crate::flows::{FlowLanes, free_places};
+use crate::lane::Holding;
+use crate::lanes::Lanes;
+use crate::port::Port;
+use circular_buffer::HeapCircularBuffer;
+use credit_pool::{CreditSeat, Credits};
+use flow_claims::{ClaimSeat, Claims};
+use lane_rings::Far;
+use std::alloc::{AllocError, Global};
+use std::sync::Arc;
+
+/// Want of memory.
+pub type Memory = AllocError;
+
+/// What a port is made of.
+#[derive(Drop)]
+pub struct Parts {
+    /// The credits of the device, and a seat for the port.
+    pub pool: Arc<Credits, Global>,
+    pub credit: CreditSeat,
+    /// The flow lanes of the device, a seat for the port, and the lanes to which the port is linked.
+    pub claims: Arc<Claims, Global>,
+    pub claim: ClaimSeat,
+    pub flows: usize,
+    pub links: Vec<usize>,
+    /// The end of the port's own lane, and how many deliveries may be held.
+    pub own: Far,
+    pub depth: usize,
+    /// The port's number, and how many queues the device has.
+    pub number: usize,
+    pub queues: usize,
+    /// Whether a dequeue first releases what is held.
+    pub implicit: bool,
+    /// How many credits are drawn at a time, and up to how many may be in use then.
+    pub quantum: u64,
+    pub threshold: u64,
+}
+
+/// What is left of a port once all its flow lanes were surrendered.
+#[derive(Drop)]
+pub struct Left {
+    pub credit: CreditSeat,
+    pub claim: ClaimSeat,
+    /// The end of the own lane.
+    pub own: Far,
+    /// What is held, in the order of the dequeues.
+    pub held: HeapCircularBuffer<Holding>,
+    pub pocket: u64,
+}
+
+impl Port {
+    /// A port with nothing in its pocket, that holds nothing. After want of memory the parts come back.
+    pub fn new(alloc: Global, parts: Parts) -> Result<Port, (Memory, Parts)>
+        requires fit { FitTogether parts }
+        requires fresh { AreFresh parts }
+        ensures place { IfOk result (λ p. place_of p ≡ place_by parts) }
+        ensures credit { IfOk result (λ p. account_of p ≡ credits.account parts.credit) }
+        ensures empty { IfOk result (λ p. IsEmptyHand (hand p) × (pocket_of p ≡ 0)) }
+        ensures back { IfErr result (λ e. e.1 ≡ parts) }
+    {
+        let Ok(stints) = free_places(alloc, parts.flows) else {
+            return Err((AllocError, parts));
+        };
+        let Ok(order) = HeapCircularBuffer::with_capacity(alloc, parts.depth) else {
+            return Err((AllocError, parts));
+        };
+        let Parts {
+            pool,
+            credit,
+            claims,
+            claim,
+            flows: _,
+            links,
+            own,
+            depth: _,
+            number,
+            queues,
+            implicit,
+            quantum,
+            threshold,
+        } = parts;
+        let flows = FlowLanes::new(claims, claim, stints, links);
+        let lanes = Lanes::new(own, flows, order);
+        Ok(Port {
+            pool,
+            seat: credit,
+            lanes,
+            number,
+            queues,
+            implicit,
+            quantum,
+            threshold,
+            pocket: 0,
+        })
+    }
+
+    /// Takes the port apart. Each flow lane that it holds is surrendered: no claim gets it any more.
+    pub fn into_left(self) -> Left
+        ensures credit { (credits.account result.credit ≡ account_of self) × credits.IsSeatOf (place_of self).pool result.credit }
+        ensures unset { (credits.account result.credit).set_shut ≡ false }
+        ensures claim { IsSeatOf (place_of self).lanes.flows.claims result.claim × (port_of result.claim ≡ (place_of self).number) }
+        ensures parts { (seating result.claim).parts ≡ (place_of self).lanes.flows.parts }
+        ensures none_open { HoldsNone (seating result.claim) }
+        ensures own { (far_id result.own ≡ (place_of self).lanes.own) × (received_by result.own ≡ (hand self).got lanes.Own) × (answered result.own ≡ (hand self).said lanes.Own) }
+        ensures lists { IsEndOf (hand self) (seating result.claim).finished }
+        ensures linked { AreLinked (place_of self).number (links self) (seating result.claim).finished }
+        ensures held { result.held.items ≡ (hand self).holding }
+        ensures paid { (result.pocket ≡ pocket_of self) × IsPocket result.pocket ((account_of self).drawn + releases_by self) ((account_of self).returned + news_by self) }
+    {
+        let Port {
+            seat,
+            lanes,
+            pocket,
+            ..
+        } = self;
+        let (own, claim, held) = lanes.into_parts();
+        Left {
+            credit: seat,
+            claim,
+            own,
+            held,
+            pocket,
+        }
+    }
+}

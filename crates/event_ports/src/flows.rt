@@ -129,7 +129,7 @@ impl FlowLanes {
         let Some(stint) = self.stints[lane].take() else {
             return;
         };
-        if stint.far.held() == 0 {
+        if is_done(&stint) {
             self.claims.give_back(&mut self.seat, stint);
         } else {
             self.stints[lane] = Some(stint);
@@ -166,7 +166,8 @@ impl FlowLanes {
     }
 }
 
-ghost use Rattle.std.specs.Prelude.{◌≡◌, replicate, IfOk};
+ghost use Rattle.std.specs.Prelude.{◌≡◌, ◌↔◌, [], true, replicate, IfOk};
+ghost use Rattle.lane_rings.specs.Ends.{unanswered};
 
 /// Places for so many flow lanes, none of which is held.
 pub(crate) fn free_places(alloc: Global, lanes: usize) -> Result<Vec<Option<Stint>>, AllocError>
@@ -177,4 +178,11 @@ pub(crate) fn free_places(alloc: Global, lanes: usize) -> Result<Vec<Option<Stin
         stints.push_reserved(None);
     }
     Ok(stints)
+}
+
+// Whether nothing of the lane is unanswered.
+fn is_done(stint: &Stint) -> bool
+    ensures { (result ≡ true) ↔ (unanswered stint.now.far ≡ []) }
+{
+    stint.far.held() == 0
 }

@@ -2,7 +2,7 @@ pub mod Holds
 pub mod Flows
 pub mod Lanes
 pub mod Handed
-pub mod Pockets
+pub mod Draws
 pub mod Ports
 pub mod Parts
 pub mod Stop

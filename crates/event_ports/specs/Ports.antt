@@ -9,12 +9,12 @@ use Rattle.credit_pool.specs.declared.account.Account.{Account}
 use Rattle.credit_pool.specs.declared.pool.Credits.{Credits}
 use Rattle.credit_pool.specs.Accounts.{free_of, in_use, IsOpen, Stays}
 use Rattle.credit_pool.specs.Pool.{account}
-use Rattle.event_ports.specs.declared.answer.Refused.{Refused}
-use Rattle.event_ports.specs.declared.answer.Refused.TheVariants.{Stopped, BadQueue, NothingHeld, Backpressure, Raced, Full}
+use Rattle.event_answers.specs.declared.answer.Refused.{Refused}
+use Rattle.event_answers.specs.declared.answer.Refused.TheVariants.{Stopped, BadQueue, NothingHeld, Backpressure, Raced, Full}
 use Rattle.event_ports.specs.declared.port.Port.{Port}
 use Rattle.event_ports.specs.Lanes.{Hand, SubmitsAll, lane_for}
 use Rattle.event_ports.specs.Handed.{LanesPlace, lanes_place, hand_of, news_of, releases_of, IsFilled}
-use Rattle.event_ports.specs.Pockets.{SameSums, Settles}
+use Rattle.event_ports.specs.Draws.{SameSums, Settles}
 
 -- what never changes of a port
 pub record Place : Type 0 where

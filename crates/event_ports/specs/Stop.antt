@@ -82,7 +82,7 @@ pub record IsJoined (pool : Credits) (claims : Claims) (credit : CreditSeat) (cl
   pub linked : (linked : ℕ → ℕ → Bool) → All (LinksAgree linked) ports → AreLinkedBy linked (seating claim).finished → AreLinkedBy linked (seating claims_after).finished
 
 -- what is left of each of these ports, in their order
-pub record AreRests (ports : List Port) (rests : List Rest) : Type 0 where
+pub record AreLeft (ports : List Port) (rests : List Rest) : Type 0 where
   pub lanes : map (λ r. far_id r.own) rests ≡ map (λ p. (place_of p).lanes.own) ports
   pub received : map (λ r. received_by r.own) rests ≡ map (λ p. (hand p).got Own) ports
   pub answered_is : map (λ r. answered r.own) rests ≡ map (λ p. (hand p).said Own) ports

@@ -4,10 +4,10 @@ ghost use Rattle.std.specs.Prelude.{◌≡◌, ◌≢◌, ◌+◌, ◌%◌, ◌^
 ghost use Rattle.evt_types.specs.declared.event.Op.TheVariants as ops;
 ghost use Rattle.credit_pool.specs.Accounts.{Stays};
 ghost use Rattle.event_ports.specs.Lanes.{Rests, Releases, Dequeues, Arrives, SubmitsTo, SubmitsAll, first_lane, release_reply};
-ghost use Rattle.event_ports.specs.Pockets.{Settles};
+ghost use Rattle.event_ports.specs.Draws.{Settles};
 ghost use Rattle.event_ports.specs.Ports.{place_of, account_of, pocket_of, hand, links, was_filled, released_first, StopsAt};
 
-use crate::answer::{Behind, Refused};
+use event_answers::{Behind, Refused};
 use crate::port::Port;
 use arrayvec::ArrayVec;
 use evt_types::{Delivery, Event, Reply};

@@ -3,7 +3,7 @@
 ghost use Rattle.std.specs.Prelude.{◌≡◌, ◌<◌, ◌≤◌, true};
 ghost use Rattle.credit_pool.specs.Accounts.{Stays};
 ghost use Rattle.credit_pool.specs.Pool.{account, limit_of, IsSeatOf};
-ghost use Rattle.event_ports.specs.Pockets.{Fills};
+ghost use Rattle.event_ports.specs.Draws.{Fills};
 
 use credit_pool::{CreditSeat, Credits, Draw};
 

@@ -8,9 +8,9 @@ ghost use Rattle.lane_rings.specs.Ends.{received_by, answered};
 ghost use Rattle.flow_claims.specs.Claims.{seating, port_of, IsSeatOf};
 ghost use Rattle.flow_claims.specs.Seats.{HoldsNone};
 ghost use Rattle.event_ports.specs.declared.lane.Lane.TheVariants as lanes;
-ghost use Rattle.event_ports.specs.Pockets.{IsPocket};
+ghost use Rattle.credit_pool.specs.Pockets.{IsPocket};
 ghost use Rattle.event_ports.specs.Ports.{place_of, account_of, pocket_of, hand, news_by, releases_by};
-ghost use Rattle.event_ports.specs.Stop.{Joins, IsPortOf, IsJoined, AreRests};
+ghost use Rattle.event_ports.specs.Stop.{Joins, IsPortOf, IsJoined, AreLeft};
 
 use crate::lane::Holding;
 use crate::parts::Left;
@@ -74,7 +74,7 @@ pub fn join_ports(
     requires ports { All (IsPortOf pool.now claims.now) ports.items }
     requires room { (into.old.items ≡ []) × (length ports.items ≤ vec_capacity into.old) }
     ensures joined { IsJoined pool.now claims.now credit claim ports.items result.0 result.1 }
-    ensures left { AreRests ports.items into.new.items }
+    ensures left { AreLeft ports.items into.new.items }
 {
     for port in ports {
         let (its_credit, its_claim, rest) = join_port(pool, claims, credit, claim, port);

@@ -2,7 +2,6 @@
 //! dequeues from them. No call of a port takes a lock or memory.
 #![tactic(auto)]
 
-mod answer;
 mod dequeue;
 mod fill;
 mod flows;
@@ -13,7 +12,7 @@ mod parts;
 mod port;
 mod stop;
 
-pub use answer::{Behind, Refused};
+pub use event_answers::{Behind, Refused};
 pub use joined::{Rest, join_port, join_ports};
 pub use lane::{Holding, Lane};
 pub use parts::{Left, Memory, Parts};

@@ -11,7 +11,7 @@ ghost use Rattle.flow_claims.specs.Seats.{HoldsNone};
 ghost use Rattle.event_ports.specs.declared.lane.Lane.TheVariants as lanes;
 ghost use Rattle.event_ports.specs.Holds.{AreLinked};
 ghost use Rattle.event_ports.specs.Lanes.{IsEmptyHand, IsEndOf};
-ghost use Rattle.event_ports.specs.Pockets.{IsPocket};
+ghost use Rattle.credit_pool.specs.Pockets.{IsPocket};
 ghost use Rattle.event_ports.specs.Ports.{place_of, account_of, pocket_of, hand, links, news_by, releases_by};
 ghost use Rattle.event_ports.specs.Parts.{FitTogether, AreFresh, place_by};
 

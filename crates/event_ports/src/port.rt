@@ -4,9 +4,9 @@ ghost use Rattle.std.specs.Prelude.{◌≡◌, ◌+◌, ◌<◌, ◌≤◌, fals
 ghost use Rattle.std.specs.Arc.{arc_value};
 ghost use Rattle.credit_pool.specs.Pool.{account, limit_of, IsSeatOf};
 ghost use Rattle.event_ports.specs.Handed.{lanes_place, news_of, releases_of};
-ghost use Rattle.event_ports.specs.Pockets.{IsPocket};
+ghost use Rattle.credit_pool.specs.Pockets.{IsPocket};
 
-use crate::answer::{Behind, Refused};
+use event_answers::{Behind, Refused};
 use crate::fill::fill;
 use crate::lanes::Lanes;
 use arrayvec::ArrayVec;
@@ -39,10 +39,10 @@ impl Port {
     ghost use Rattle.std.specs.Prelude.{◌≡◌, ◌≢◌, ◌+◌, ◌%◌, ◌^◌, ◌<◌, ◌≤◌, ◌↔◌, [], length, IsTrue, IsFalse, IfOk, IfErr, OnOk, MatchResult};
     ghost use Rattle.evt_types.specs.declared.event.Op.TheVariants as ops;
     ghost use Rattle.credit_pool.specs.Accounts.{IsOpen, Stays};
-    ghost use Rattle.event_ports.specs.declared.answer.Refused.TheVariants as refusals;
+    ghost use Rattle.event_answers.specs.declared.answer.Refused.TheVariants as refusals;
     ghost use Rattle.event_ports.specs.Lanes.{Rests, Releases, Dequeues, Arrives, Submits, SubmitsTo, lane_for, reply_of, release_reply};
     ghost use Rattle.event_ports.specs.declared.lane.Lane.TheVariants as lanes;
-    ghost use Rattle.event_ports.specs.Pockets.{Settles};
+    ghost use Rattle.event_ports.specs.Draws.{Settles};
     ghost use Rattle.event_ports.specs.Ports.{place_of, account_of, pocket_of, hand, links, was_filled, SameCredits, Stocks, Pays, Refuses, released_first};
 
     /// The port's number in the device, from 0.

@@ -10,7 +10,8 @@ use Rattle.event_scheduler.proofs.Lanes.{each_lane, same_lists, same_sight}
 use Rattle.event_scheduler.proofs.Looking.{append_none}
 use Rattle.event_scheduler.proofs.Serving.{Adds, runs_by, stays_same}
 use Rattle.event_scheduler.specs.Giving.{Hands, hand_step}
-use Rattle.event_scheduler.specs.Scheduler.{IsAccepted, IsPocket, Sight, depth_at, depth_in, offered_at, sight, taken_at}
+use Rattle.credit_pool.specs.Pockets.{IsPocket}
+use Rattle.event_scheduler.specs.Scheduler.{IsAccepted, Sight, depth_at, depth_in, offered_at, sight, taken_at}
 use Rattle.evt_types.specs.Event.{pair_of}
 use Rattle.evt_types.specs.declared.step.Step.{Step}
 use Rattle.evt_types.specs.declared.step.Step.TheVariants.{Bounced, Give}

@@ -6,7 +6,8 @@ use Rattle.credit_pool.specs.declared.account.Account.{Account}
 use Rattle.credit_pool.specs.declared.pool.Credits.{Credits}
 use Rattle.event_scheduler.proofs.Serving.{Adds, runs_by, runs_none, runs_rest}
 use Rattle.event_scheduler.specs.Looking.{Looks, Rests}
-use Rattle.event_scheduler.specs.Scheduler.{IsPocket, offered_at, sight, taken_at}
+use Rattle.credit_pool.specs.Pockets.{IsPocket}
+use Rattle.event_scheduler.specs.Scheduler.{offered_at, sight, taken_at}
 use Rattle.evt_types.specs.Event.{pair_of}
 use Rattle.evt_types.specs.declared.step.Step.{Step}
 use Rattle.evt_types.specs.declared.step.Step.TheVariants.{Shut}

@@ -11,7 +11,8 @@ use Rattle.evt_types.specs.declared.event.Delivery.{Delivery}
 use Rattle.evt_types.specs.declared.step.Step.{Step}
 use Rattle.event_scheduler.proofs.Counts.{count-append}
 use Rattle.event_scheduler.specs.Looking.{Rests}
-use Rattle.event_scheduler.specs.Scheduler.{IsAccepted, IsPocket, Runs, Serves, Sight, Site, depth_in, offered_at, taken_at}
+use Rattle.credit_pool.specs.Pockets.{IsPocket}
+use Rattle.event_scheduler.specs.Scheduler.{IsAccepted, Runs, Serves, Sight, Site, depth_in, offered_at, taken_at}
 use Rattle.lists.proofs.Lists.{list_any-append, slice_get-append_left}
 use Rattle.transcripts.proofs.Replies.{out-append, replies_in-append}
 use Rattle.transcripts.specs.Replies.{new_count, replies_in, said, turned_count}

@@ -10,7 +10,8 @@ use Rattle.event_scheduler.proofs.Lanes.{each_lane, same_lists, same_sight}
 use Rattle.event_scheduler.proofs.Looking.{append_none}
 use Rattle.event_scheduler.proofs.Replies.{after-append, by_lane-append, first_more, first_within, may-append, of_first_is, only_is, only_more, only_within, one_count, one_elsewhere, one_here, one_said, one_steps, steps-append}
 use Rattle.event_scheduler.proofs.Serving.{Adds, runs_by, runs_none, runs_runs, stays_same}
-use Rattle.event_scheduler.specs.Scheduler.{IsAccepted, IsPocket, Runs, Sight, offered_at, sight, taken_at}
+use Rattle.credit_pool.specs.Pockets.{IsPocket}
+use Rattle.event_scheduler.specs.Scheduler.{IsAccepted, Runs, Sight, offered_at, sight, taken_at}
 use Rattle.event_scheduler.specs.Taking.{Takes, entered_as, entered_by, of_first, only, replies_from, reply_from, turned_by}
 use Rattle.evt_types.specs.Event.{pair_of}
 use Rattle.evt_types.specs.Plan.{bound_of, lanes_of}

@@ -1,7 +1,8 @@
 -- What contracts see of a scheduler, and what it is for a scheduler to stand at a transcript.
-use Rattle.std.specs.Prelude.{ℕ, ◌≡◌, ◌<◌, ◌≤◌, ◌+◌, ◌%◌, ◌^◌, true, List, [], ◌++◌, map, All, Some, slice_index_or, IsTrue}
+use Rattle.std.specs.Prelude.{ℕ, ◌≡◌, ◌<◌, true, List, [], ◌++◌, map, All, Some, slice_index_or, IsTrue}
 use Rattle.std.specs.Arc.{arc_value}
 use Rattle.credit_pool.specs.Accounts.{Stays}
+use Rattle.credit_pool.specs.Pockets.{IsPocket}
 use Rattle.credit_pool.specs.Pool.{account}
 use Rattle.credit_pool.specs.declared.account.Account.{Account}
 use Rattle.credit_pool.specs.declared.pool.Credits.{Credits}
@@ -64,10 +65,6 @@ taken_at v l = slice_index_or v.taken l []
 -- the delivery has the event that was accepted under its number
 abbrev pub IsAccepted : List Step → Delivery → Type 0
 IsAccepted T d = event_at T d.queue d.number ≡ Some d.event
-
--- A pocket is what came less what went, modulo 2^64, and no more than that.
-abbrev pub IsPocket : ℕ → ℕ → ℕ → Type 0
-IsPocket pocket came went = (went + pocket ≤ came) × ((went + pocket) % 2 ^ 64 ≡ came % 2 ^ 64)
 
 -- The scheduler stands at a transcript: its core does; each lane was offered what the transcript gave it, each delivery with the
 -- accepted event of its number; from each lane were taken the replies that the transcript took; it counts what was accepted as new;

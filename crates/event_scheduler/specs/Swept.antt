@@ -4,7 +4,7 @@ use Rattle.event_scheduler.specs.Giving.{AreGifts, is_bounced, passed_by}
 use Rattle.event_scheduler.specs.Looking.{Returns}
 use Rattle.event_scheduler.specs.Scheduler.{Runs, Serves, Sight, taken_at}
 use Rattle.event_scheduler.specs.Taking.{GoByLane, count_from, replies_from}
-use Rattle.event_scheduler.specs.declared.sweep.Swept.{Swept}
+use Rattle.event_answers.specs.declared.answer.Swept.{Swept}
 use Rattle.evt_types.specs.declared.step.Step.{Step}
 use Rattle.evt_types.specs.declared.step.Step.TheVariants.{Shut}
 use Rattle.transcripts.specs.Choice.{HasNoChoice}

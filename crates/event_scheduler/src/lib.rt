@@ -10,7 +10,8 @@ mod scheduler;
 mod sweep;
 mod take;
 
+pub use event_answers::Swept;
 pub use laws::a_full_ring_ends_a_lane;
 pub use parts::Parts;
 pub use scheduler::Scheduler;
-pub use sweep::{Memory, Swept};
+pub use sweep::Memory;

@@ -1,19 +1,12 @@
 //! One sweep.
 
 use crate::scheduler::Scheduler;
+use event_answers::Swept;
 use evt_types::Step;
 use std::alloc::AllocError;
 
 /// Want of memory.
 pub type Memory = AllocError;
-
-/// What a sweep did: how many replies it took, how many events it gave, and how many lanes' rings had no room.
-#[derive(Clone, Copy, Debug, PartialEq, Eq)]
-pub struct Swept {
-    pub taken: usize,
-    pub given: usize,
-    pub bounced: usize,
-}
 
 impl Scheduler {
     ghost use Rattle.std.specs.Prelude.{◌≡◌, IfOk, IsErr};

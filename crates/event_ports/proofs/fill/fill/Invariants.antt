@@ -1,6 +1,6 @@
 use Rattle.credit_pool.specs.Accounts.{Stays}
 use Rattle.credit_pool.specs.Pool.{account, IsSeatOf}
-use Rattle.event_ports.specs.Pockets.{SameSums}
+use Rattle.event_ports.specs.Draws.{SameSums}
 use Rattle.event_ports.proofs.fill.fill.Given as goal
 
 abbrev pub invariant-loop : goal.invariant-loop

@@ -1,4 +1,4 @@
-//! What a port's calls answer where they are refused.
+//! What the calls of ports and of the scheduler answer.
 
 /// Why an event isn't taken; of several causes the first.
 #[derive(Clone, Copy, Debug, PartialEq, Eq)]
@@ -17,9 +17,26 @@ pub enum Refused {
     Full,
 }
 
-/// A reply ring had no room for all releases that a dequeue makes first.
+/// A reply ring had no room for all releases that a dequeue makes first; nothing was received.
 #[derive(Clone, Copy, Debug, PartialEq, Eq)]
 pub struct Behind {
     /// How many were released.
     pub released: usize,
+}
+
+/// What a sweep did: how many replies it took, how many events it gave, and how many lanes' rings had no room.
+#[derive(Clone, Copy, Debug, PartialEq, Eq)]
+pub struct Swept {
+    pub taken: usize,
+    pub given: usize,
+    pub bounced: usize,
+}
+
+/// Why a device isn't stopped.
+#[derive(Clone, Copy, Debug, PartialEq, Eq)]
+pub enum StopFault {
+    /// The port of this number isn't there; those below it are.
+    Missing { port: usize },
+    /// Memory ran out.
+    Memory,
 }

@@ -1,13 +1,9 @@
--- A port's pocket: the credits that it drew and didn't spend, and those of events that it released.
-use Rattle.std.specs.Prelude.{◌≡◌, ◌≢◌, ℕ, ◌+◌, ◌-◌, ◌*◌, ◌%◌, ◌^◌, ◌<◌, ◌≤◌, ◌⊎◌, IsTrue}
+-- What draws and returns make of a port's pocket: the credits that it drew and didn't spend, and those of events that it released.
+use Rattle.std.specs.Prelude.{◌≡◌, ◌≢◌, ℕ, ◌+◌, ◌-◌, ◌*◌, ◌<◌, ◌≤◌, ◌⊎◌, IsTrue}
 use Rattle.credit_pool.specs.declared.account.Account.{Account}
 use Rattle.credit_pool.specs.declared.answer.Draw.{Draw}
 use Rattle.credit_pool.specs.declared.answer.Draw.TheVariants.{Drawn, Shut, Short, Raced}
 use Rattle.credit_pool.specs.Accounts.{free_of, in_use, IsOpen}
-
--- the pocket is what came in less what went out, modulo 2^64 and at most that
-abbrev pub IsPocket : ℕ → ℕ → ℕ → Type 0
-IsPocket pocket came went = (went + pocket ≤ came) × ((went + pocket) % 2 ^ 64 ≡ came % 2 ^ 64)
 
 -- neither drawn nor returned
 abbrev pub SameSums : Account → Account → Type 0

@@ -1,0 +1,49 @@
+//! What is left in a device that was stopped.
+
+use evt_types::{Event, KeptEvent, Step};
+
+/// An event that its lane was given and that no port has dequeued.
+#[derive(Clone, Copy, Debug, PartialEq, Eq)]
+pub struct Undelivered {
+    pub lane: usize,
+    pub queue: usize,
+    pub number: u64,
+}
+
+/// An event that its port has dequeued and not answered.
+#[derive(Clone, Copy, Debug, PartialEq, Eq)]
+pub struct Held {
+    pub port: usize,
+    pub queue: usize,
+    pub number: u64,
+}
+
+/// A NEW or a FORWARD that the scheduler has not taken.
+#[derive(Clone, Copy, Debug, PartialEq, Eq)]
+pub struct Untaken {
+    pub lane: usize,
+    pub event: Event,
+}
+
+/// What a device's scheduler did, and where the events and credits are that are left in it.
+#[derive(Debug, Drop)]
+pub struct Report {
+    /// The steps of all sweeps.
+    pub log: Vec<Step>,
+    /// The events that wait: queue and number, by both.
+    pub waiting: Vec<(usize, u64)>,
+    /// The events that an ordered queue keeps until all that it handed out before is answered, by queue, in hand-out order.
+    pub kept: Vec<KeptEvent>,
+    /// By lane, oldest first.
+    pub undelivered: Vec<Undelivered>,
+    /// By port, oldest first.
+    pub held: Vec<Held>,
+    /// By lane, oldest first.
+    pub untaken: Vec<Untaken>,
+    /// The credits that any port could draw.
+    pub free: u64,
+    /// The credits in each port's pocket.
+    pub pockets: Vec<u64>,
+    /// The credits in the scheduler's pocket.
+    pub own: u64,
+}

@@ -88,6 +88,13 @@ impl Scheduler {
         }
     }
 
+    /// The scheduling core, to be read.
+    pub fn core(&self) -> &Core
+        ensures { result.now ≡ (sight_of self.now).core }
+    {
+        &self.core
+    }
+
     /// How many events wait, are kept or are unanswered.
     pub fn inside(&self) -> usize
         ensures { (T : List StepValue) → Serves T (sight_of self.now) → result ≡ transcripts.inside (sight_of self.now).core.shape T }

@@ -1,0 +1,4 @@
+pub mod Device
+pub mod Control
+pub mod Recorder
+pub mod Recorded

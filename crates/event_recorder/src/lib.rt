@@ -1,0 +1,9 @@
+//! The end of an event device: the control that shuts it, and the recorder that sweeps, stops it and accounts for every event.
+#![tactic(auto)]
+
+mod control;
+mod recorder;
+
+pub use control::Control;
+pub use event_answers::{Held, Report, StopFault, Swept, Undelivered, Untaken};
+pub use recorder::{Memory, Recorder};

@@ -1,0 +1,73 @@
+//! A recorder: a scheduler with the log of all its sweeps.
+
+use event_answers::Swept;
+use event_scheduler::Scheduler;
+use evt_types::Step;
+use std::alloc::{AllocError, Global};
+use std::marker::Model;
+
+/// Want of memory.
+pub type Memory = AllocError;
+
+/// A scheduler with the log of all its sweeps. It alone can stop the device.
+#[derive(Drop)]
+pub struct Recorder {
+    pub(crate) scheduler: Scheduler,
+    pub(crate) log: Vec<Step>,
+}
+
+impl Model for Recorder {
+    ghost use Rattle.event_recorder.specs.Recorder.{Recorded};
+
+    ghost Value = { Recorded };
+
+    ghost use Rattle.event_recorder.specs.Recorded.{recorded_in, IsRecorder};
+
+    ghost view = { recorded_in };
+
+    ghost invariant = { IsRecorder };
+}
+
+impl Recorder {
+    ghost use Rattle.std.specs.Prelude.{◌≡◌, [], IfOk, IsErr};
+    ghost use Rattle.event_scheduler.specs.Scheduler.{Serves, sight_of};
+    ghost use Rattle.event_scheduler.specs.Swept.{Sweeps};
+    ghost use Rattle.event_recorder.specs.Device.{scheduler_of};
+    ghost use Rattle.transcripts.specs.Replies.{new_count};
+    ghost use Rattle.transcripts.specs.Transcript as transcripts;
+
+    /// Begins an empty log for a scheduler that hasn't swept yet.
+    pub fn begin(alloc: Global, scheduler: Scheduler) -> Recorder
+        requires { Serves [] (sight_of scheduler) }
+        ensures log { result.log ≡ [] }
+        ensures sight { result.sight ≡ sight_of scheduler }
+    {
+        Recorder {
+            scheduler,
+            log: Vec::new(alloc),
+        }
+    }
+
+    /// One sweep of the scheduler. After want of memory nothing has changed.
+    pub fn sweep(&mut self) -> Result<Swept, Memory>
+        ensures sweeps { IfOk result (λ n. Sweeps n self.old.sight self.old.log self.new.sight self.new.log) }
+        ensures memory { IsErr result → self.new ≡ self.old }
+        ensures device { scheduler_of self.new.sight ≡ scheduler_of self.old.sight }
+    {
+        self.scheduler.sweep(&mut self.log)
+    }
+
+    /// How many events wait, are kept or are unanswered.
+    pub fn inside(&self) -> usize
+        ensures { result ≡ transcripts.inside self.now.sight.core.shape self.now.log }
+    {
+        self.scheduler.inside()
+    }
+
+    /// How many events were accepted as new.
+    pub fn accepted_new(&self) -> u64
+        ensures { result ≡ new_count self.now.log }
+    {
+        self.scheduler.accepted_new()
+    }
+}

@@ -5,8 +5,8 @@ use Rattle.std.specs.List.{cons_option}
 use Rattle.std.proofs.lemmas.Bool.{cases_eq, cases_lt, eq-eqb, ne_eqb}
 use Rattle.std.proofs.lemmas.List.{append-nil, get_or-replicate, get_or-set_same, get_or-set_other, get_or_past, length-replicate, take_more}
 use Rattle.std.proofs.lemmas.List.Elements.{filter_map-append}
-use Rattle.evt_types.specs.Plan.{Plan}
 use Rattle.transcripts.specs.Transcript.{accepted, accepted_in}
+use Rattle.evt_types.specs.declared.draft.QueueDraft.{QueueDraft}
 use Rattle.evt_types.specs.declared.event.Event.{Event}
 use Rattle.evt_types.specs.declared.step.Source.{Source}
 use Rattle.evt_types.specs.declared.step.Step.{Step}
@@ -91,11 +91,11 @@ Counts-fits n counts past h small q =
 -- ---- the lines
 
 -- the lines of the rest, after one step more
-pub lines-step : (p : Plan) (T : List Step) (i : ℕ) (s : Step) (out next all : List ℕ) → i < length T → s ≡ get_or T i s → next ≡ out ++ step_line p (number_after (take i T) s) s → out ++ lines_after p (take i T) (drop i T) ≡ all → next ++ lines_after p (take (i + 1) T) (drop (i + 1) T) ≡ all
-lines-step p T i s out next all lt is e h =
+pub lines-step : (qs : List QueueDraft) (T : List Step) (i : ℕ) (s : Step) (out next all : List ℕ) → i < length T → s ≡ get_or T i s → next ≡ out ++ step_line qs (number_after (take i T) s) s → out ++ lines_after qs (take i T) (drop i T) ≡ all → next ++ lines_after qs (take (i + 1) T) (drop (i + 1) T) ≡ all
+lines-step qs T i s out next all lt is e h =
     let at : drop i T ≡ s ∷ drop (i + 1) T = rw add-one (drop-cons T i s lt ∙ ap (λ x. x ∷ drop (suc i) T) (sym is)) in
     let front : take (i + 1) T ≡ take i T ++ s ∷ [] = take_more T i s lt ∙ ap (λ x. take i T ++ x ∷ []) (sym is) in
-    let h' : out ++ lines_after p (take i T) (s ∷ drop (i + 1) T) ≡ all = ap (λ xs. out ++ lines_after p (take i T) xs) (sym at) ∙ h in
-    ap (λ xs. xs ++ lines_after p (take (i + 1) T) (drop (i + 1) T)) e
-    ∙ ap (λ xs. (out ++ step_line p (number_after (take i T) s) s) ++ lines_after p xs (drop (i + 1) T)) front
-    ∙ append_assoc out (step_line p (number_after (take i T) s) s) (lines_after p (take i T ++ s ∷ []) (drop (i + 1) T)) ∙ h'
+    let h' : out ++ lines_after qs (take i T) (s ∷ drop (i + 1) T) ≡ all = ap (λ xs. out ++ lines_after qs (take i T) xs) (sym at) ∙ h in
+    ap (λ xs. xs ++ lines_after qs (take (i + 1) T) (drop (i + 1) T)) e
+    ∙ ap (λ xs. (out ++ step_line qs (number_after (take i T) s) s) ++ lines_after qs xs (drop (i + 1) T)) front
+    ∙ append_assoc out (step_line qs (number_after (take i T) s) s) (lines_after qs (take i T ++ s ∷ []) (drop (i + 1) T)) ∙ h'

@@ -1,11 +1,13 @@
 -- The text of a played script, byte by byte: the answers, the log and the report.
 use Rattle.std.specs.Prelude.{ℕ, ◌+◌, ◌^◌, ◌-◌, ◌<◌, false, List, [], ◌∷◌, ◌++◌, length, codes, flat_map, slice_index, slice_set, Result, Ok, Err}
 use Rattle.std.specs.Fmt.{decimal, digits, padded_integral, format_spec}
-use Rattle.evt_types.specs.Plan.{Plan, queue_of}
+use Rattle.evt_types.specs.Plan.{queue_in}
 use Rattle.transcripts.specs.Transcript.{accepted}
 use Rattle.evt_types.specs.Word.{word_of}
+use Rattle.evt_types.specs.declared.draft.QueueDraft.{QueueDraft}
 use Rattle.evt_types.specs.declared.event.Delivery.{Delivery}
 use Rattle.evt_types.specs.declared.event.Event.{Event}
+use Rattle.evt_types.specs.declared.event.KeptEvent.{KeptEvent}
 use Rattle.evt_types.specs.declared.event.Op.{Op}
 use Rattle.evt_types.specs.declared.event.Op.TheVariants as ops
 use Rattle.evt_types.specs.declared.step.Outcome.{Outcome}
@@ -14,18 +16,16 @@ use Rattle.evt_types.specs.declared.step.Source.{Source}
 use Rattle.evt_types.specs.declared.step.Source.TheVariants.{New, Of}
 use Rattle.evt_types.specs.declared.step.Step.{Step}
 use Rattle.evt_types.specs.declared.step.Step.TheVariants.{Accept, Give, Done, Turned, Bounced, Shut}
+use Rattle.event_answers.specs.declared.answer.Behind.{Behind}
+use Rattle.event_answers.specs.declared.answer.Refused.{Refused}
+use Rattle.event_answers.specs.declared.answer.Refused.TheVariants.{Stopped, BadQueue, NothingHeld, Backpressure, Raced, Full}
+use Rattle.event_answers.specs.declared.answer.Swept.{Swept}
+use Rattle.event_answers.specs.declared.report.Held.{Held}
+use Rattle.event_answers.specs.declared.report.Report.{Report}
+use Rattle.event_answers.specs.declared.report.Undelivered.{Undelivered}
+use Rattle.event_answers.specs.declared.report.Untaken.{Untaken}
 use Rattle.play_text.specs.declared.answer.Answer.{Answer}
 use Rattle.play_text.specs.declared.answer.Answer.TheVariants as answers
-use Rattle.play_text.specs.declared.answer.Behind.{Behind}
-use Rattle.play_text.specs.declared.answer.Refused.{Refused}
-use Rattle.play_text.specs.declared.answer.Refused.TheVariants.{Stopped, BadQueue, NothingHeld, Backpressure, Full}
-use Rattle.play_text.specs.declared.answer.Swept.{Swept}
-use Rattle.play_text.specs.declared.report.Held.{Held}
-use Rattle.play_text.specs.declared.report.Kept.{Kept}
-use Rattle.play_text.specs.declared.report.Report.{Report}
-use Rattle.play_text.specs.declared.report.Undelivered.{Undelivered}
-use Rattle.play_text.specs.declared.report.Untaken.{Untaken}
-use Rattle.play_text.specs.declared.report.Waiting.{Waiting}
 
 -- ---- words
 
@@ -34,8 +34,8 @@ unfoldable pub hex_word : ℕ → List ℕ
 hex_word n = padded_integral (format_spec 32 0 4 16 (2 ^ 64 - 1)) false [] (digits 16 false n)
 
 -- an event's word, with the scheduling type of the queue that it names, and its payload
-abbrev pub event_text : Plan → Event → List ℕ
-event_text p e = hex_word (word_of e (queue_of p e.queue).kind) ++ codes " " ++ decimal e.payload
+abbrev pub event_text : List QueueDraft → Event → List ℕ
+event_text qs e = hex_word (word_of e (queue_in qs e.queue).kind) ++ codes " " ++ decimal e.payload
 
 -- an event's place: its queue and number
 abbrev pub place_text : ℕ → ℕ → List ℕ
@@ -53,6 +53,7 @@ refusal_text Stopped = codes "Stopped"
 refusal_text BadQueue = codes "BadQueue"
 refusal_text NothingHeld = codes "NothingHeld"
 refusal_text (Backpressure free) = codes "Backpressure free=" ++ decimal free
+refusal_text (Raced first second) = codes "Raced"
 refusal_text Full = codes "Full"
 
 abbrev pub outcome_text : Result (Unit {0}) Refused → List ℕ
@@ -60,11 +61,11 @@ outcome_text (Ok u) = codes "ok"
 outcome_text (Err r) = refusal_text r
 
 -- a line of a dequeued event
-abbrev pub delivery_line : Plan → Delivery → List ℕ
-delivery_line p d = codes "- " ++ place_text d.queue d.number ++ codes " " ++ event_text p d.event ++ codes "\n"
+abbrev pub delivery_line : List QueueDraft → Delivery → List ℕ
+delivery_line qs d = codes "- " ++ place_text d.queue d.number ++ codes " " ++ event_text qs d.event ++ codes "\n"
 
-abbrev pub deliveries_text : Plan → List Delivery → List ℕ
-deliveries_text p ds = decimal (length ds) ++ codes "\n" ++ flat_map (delivery_line p) ds
+abbrev pub deliveries_text : List QueueDraft → List Delivery → List ℕ
+deliveries_text qs ds = decimal (length ds) ++ codes "\n" ++ flat_map (delivery_line qs) ds
 
 abbrev pub behind_text : Behind → List ℕ
 behind_text b = codes "Behind released=" ++ decimal b.released ++ codes "\n"
@@ -72,12 +73,12 @@ behind_text b = codes "Behind released=" ++ decimal b.released ++ codes "\n"
 abbrev pub swept_line : Swept → List ℕ
 swept_line s = codes "sweep: taken=" ++ decimal s.taken ++ codes " given=" ++ decimal s.given ++ codes " bounced=" ++ decimal s.bounced ++ codes "\n"
 
-abbrev pub answer_text : Plan → Answer → List ℕ
-answer_text p (answers.Enqueued port op outcome) = op_name op ++ codes " " ++ decimal port ++ codes ": " ++ outcome_text outcome ++ codes "\n"
-answer_text p (answers.Dequeued port (Ok deliveries)) = codes "deq " ++ decimal port ++ codes ": " ++ deliveries_text p deliveries.items
-answer_text p (answers.Dequeued port (Err behind)) = codes "deq " ++ decimal port ++ codes ": " ++ behind_text behind
-answer_text p (answers.Swept swept) = swept_line swept
-answer_text p answers.Shut = codes "shut: ok\n"
+abbrev pub answer_text : List QueueDraft → Answer → List ℕ
+answer_text qs (answers.Enqueued port op outcome) = op_name op ++ codes " " ++ decimal port ++ codes ": " ++ outcome_text outcome ++ codes "\n"
+answer_text qs (answers.Dequeued port (Ok deliveries)) = codes "deq " ++ decimal port ++ codes ": " ++ deliveries_text qs deliveries.items
+answer_text qs (answers.Dequeued port (Err behind)) = codes "deq " ++ decimal port ++ codes ": " ++ behind_text behind
+answer_text qs (answers.Swept swept) = swept_line swept
+answer_text qs answers.Shut = codes "shut: ok\n"
 
 -- ---- the log
 
@@ -85,22 +86,22 @@ abbrev pub source_text : Source → List ℕ
 source_text (New lane) = codes "new l" ++ decimal lane
 source_text (Of queue number) = codes "of " ++ place_text queue number
 
-abbrev pub accept_line : Plan → ℕ → ℕ → Event → Source → List ℕ
-accept_line p queue number e source =
-    codes "accept " ++ place_text queue number ++ codes " " ++ source_text source ++ codes " " ++ event_text p e ++ codes "\n"
+abbrev pub accept_line : List QueueDraft → ℕ → ℕ → Event → Source → List ℕ
+accept_line qs queue number e source =
+    codes "accept " ++ place_text queue number ++ codes " " ++ source_text source ++ codes " " ++ event_text qs e ++ codes "\n"
 
-abbrev pub done_text : Plan → Outcome → List ℕ
-done_text p Released = codes "release\n"
-done_text p (Forwarded e) = codes "forward " ++ event_text p e ++ codes "\n"
+abbrev pub done_text : List QueueDraft → Outcome → List ℕ
+done_text qs Released = codes "release\n"
+done_text qs (Forwarded e) = codes "forward " ++ event_text qs e ++ codes "\n"
 
 -- the line of a step; n is the number of an accepted event
-abbrev pub step_line : Plan → ℕ → Step → List ℕ
-step_line p n (Accept queue e source) = accept_line p queue n e source
-step_line p n (Give lane queue number) = codes "give l" ++ decimal lane ++ codes " " ++ place_text queue number ++ codes "\n"
-step_line p n (Done lane outcome) = codes "done l" ++ decimal lane ++ codes " " ++ done_text p outcome
-step_line p n (Turned lane e) = codes "turned l" ++ decimal lane ++ codes " " ++ event_text p e ++ codes "\n"
-step_line p n (Bounced lane) = codes "bounced l" ++ decimal lane ++ codes "\n"
-step_line p n Shut = codes "shut\n"
+abbrev pub step_line : List QueueDraft → ℕ → Step → List ℕ
+step_line qs n (Accept queue e source) = accept_line qs queue n e source
+step_line qs n (Give lane queue number) = codes "give l" ++ decimal lane ++ codes " " ++ place_text queue number ++ codes "\n"
+step_line qs n (Done lane outcome) = codes "done l" ++ decimal lane ++ codes " " ++ done_text qs outcome
+step_line qs n (Turned lane e) = codes "turned l" ++ decimal lane ++ codes " " ++ event_text qs e ++ codes "\n"
+step_line qs n (Bounced lane) = codes "bounced l" ++ decimal lane ++ codes "\n"
+step_line qs n Shut = codes "shut\n"
 
 -- the number of the event that the step accepts after those past: it counts what the queue accepted before
 abbrev pub number_after : List Step → Step → ℕ
@@ -112,20 +113,20 @@ number_after past (Bounced lane) = 0
 number_after past Shut = 0
 
 -- the lines of the steps that come after those past
-abbrev pub lines_after : Plan → List Step → List Step → List ℕ
-lines_after p past [] = []
-lines_after p past (s ∷ rest) = step_line p (number_after past s) s ++ lines_after p (past ++ s ∷ []) rest
+abbrev pub lines_after : List QueueDraft → List Step → List Step → List ℕ
+lines_after qs past [] = []
+lines_after qs past (s ∷ rest) = step_line qs (number_after past s) s ++ lines_after qs (past ++ s ∷ []) rest
 
-abbrev pub log_text : Plan → List Step → List ℕ
-log_text p T = codes "log\n" ++ lines_after p [] T
+abbrev pub log_text : List QueueDraft → List Step → List ℕ
+log_text qs T = codes "log\n" ++ lines_after qs [] T
 
 -- ---- the report
 
-abbrev pub waiting_line : Waiting → List ℕ
-waiting_line w = codes "waiting " ++ place_text w.queue w.number ++ codes "\n"
+abbrev pub waiting_line : ℕ × ℕ → List ℕ
+waiting_line w = codes "waiting " ++ place_text w.0 w.1 ++ codes "\n"
 
-abbrev pub kept_line : Plan → Kept → List ℕ
-kept_line p k = codes "kept " ++ place_text k.queue k.number ++ codes " " ++ event_text p k.event ++ codes "\n"
+abbrev pub kept_line : List QueueDraft → KeptEvent → List ℕ
+kept_line qs k = codes "kept " ++ place_text k.queue k.number ++ codes " " ++ event_text qs k.event ++ codes "\n"
 
 unfoldable pub undelivered_line : Undelivered → List ℕ
 undelivered_line u = codes "undelivered l" ++ decimal u.lane ++ codes " " ++ place_text u.queue u.number ++ codes "\n"
@@ -133,27 +134,27 @@ undelivered_line u = codes "undelivered l" ++ decimal u.lane ++ codes " " ++ pla
 abbrev pub held_line : Held → List ℕ
 held_line h = codes "held p" ++ decimal h.port ++ codes " " ++ place_text h.queue h.number ++ codes "\n"
 
-abbrev pub untaken_line : Plan → Untaken → List ℕ
-untaken_line p u = codes "untaken l" ++ decimal u.lane ++ codes " " ++ event_text p u.event ++ codes "\n"
+abbrev pub untaken_line : List QueueDraft → Untaken → List ℕ
+untaken_line qs u = codes "untaken l" ++ decimal u.lane ++ codes " " ++ event_text qs u.event ++ codes "\n"
 
 abbrev pub pocket_text : ℕ → List ℕ
 pocket_text n = codes " " ++ decimal n
 
-abbrev pub credits_text : Report → List ℕ
-credits_text r =
-    codes "free " ++ decimal r.free ++ codes "\npockets" ++ flat_map pocket_text r.pockets.items ++ codes "\nown " ++ decimal r.own ++ codes "\nlimit " ++ decimal r.limit ++ codes "\n"
+abbrev pub credits_text : ℕ → Report → List ℕ
+credits_text limit r =
+    codes "free " ++ decimal r.free ++ codes "\npockets" ++ flat_map pocket_text r.pockets.items ++ codes "\nown " ++ decimal r.own ++ codes "\nlimit " ++ decimal limit ++ codes "\n"
 
-abbrev pub lists_text : Plan → Report → List ℕ
-lists_text p r =
-    flat_map waiting_line r.waiting.items ++ flat_map (kept_line p) r.kept.items ++ flat_map undelivered_line r.undelivered.items ++ flat_map held_line r.held.items ++ flat_map (untaken_line p) r.untaken.items
+abbrev pub lists_text : List QueueDraft → Report → List ℕ
+lists_text qs r =
+    flat_map waiting_line r.waiting.items ++ flat_map (kept_line qs) r.kept.items ++ flat_map undelivered_line r.undelivered.items ++ flat_map held_line r.held.items ++ flat_map (untaken_line qs) r.untaken.items
 
-abbrev pub report_text : Plan → Report → List ℕ
-report_text p r = codes "report\n" ++ lists_text p r ++ credits_text r
+abbrev pub report_text : List QueueDraft → ℕ → Report → List ℕ
+report_text qs limit r = codes "report\n" ++ lists_text qs r ++ credits_text limit r
 
 -- ---- the whole
 
-unfoldable pub text_of : Plan → List Answer → List Step → Report → List ℕ
-text_of p answers log report = flat_map (answer_text p) answers ++ log_text p log ++ report_text p report
+unfoldable pub text_of : List QueueDraft → ℕ → List Answer → Report → List ℕ
+text_of qs limit answers report = flat_map (answer_text qs) answers ++ log_text qs report.log.items ++ report_text qs limit report
 
 -- a step that accepts names one of so many queues
 abbrev pub IsInRange : ℕ → Step → Type 0

@@ -2,9 +2,12 @@
 #![tactic(auto)]
 
 mod answer;
-mod report;
+mod answer_lines;
+mod log_lines;
+mod report_lines;
 mod text;
+mod words;
 
-pub use answer::{Answer, Behind, Refused, Swept};
-pub use report::{Held, Kept, Report, Undelivered, Untaken, Waiting};
+pub use answer::Answer;
+pub use event_answers::{Behind, Held, Refused, Report, Swept, Undelivered, Untaken};
 pub use text::text_of;

@@ -48,6 +48,7 @@ op_name ops.New = codes "new"
 op_name ops.Forward = codes "fwd"
 op_name ops.Release = codes "rel"
 
+-- why an event wasn't taken; the words that a race found are not told
 abbrev pub refusal_text : Refused → List ℕ
 refusal_text Stopped = codes "Stopped"
 refusal_text BadQueue = codes "BadQueue"
@@ -122,6 +123,7 @@ log_text qs T = codes "log\n" ++ lines_after qs [] T
 
 -- ---- the report
 
+-- a waiting event: its queue and number
 abbrev pub waiting_line : ℕ × ℕ → List ℕ
 waiting_line w = codes "waiting " ++ place_text w.0 w.1 ++ codes "\n"
 
@@ -140,6 +142,7 @@ untaken_line qs u = codes "untaken l" ++ decimal u.lane ++ codes " " ++ event_te
 abbrev pub pocket_text : ℕ → List ℕ
 pocket_text n = codes " " ++ decimal n
 
+-- where the credits are, and how many there are in all
 abbrev pub credits_text : ℕ → Report → List ℕ
 credits_text limit r =
     codes "free " ++ decimal r.free ++ codes "\npockets" ++ flat_map pocket_text r.pockets.items ++ codes "\nown " ++ decimal r.own ++ codes "\nlimit " ++ decimal limit ++ codes "\n"
@@ -153,6 +156,7 @@ report_text qs limit r = codes "report\n" ++ lists_text qs r ++ credits_text lim
 
 -- ---- the whole
 
+-- what a device with these queues and this limit answered, did and has left
 unfoldable pub text_of : List QueueDraft → ℕ → List Answer → Report → List ℕ
 text_of qs limit answers report = flat_map (answer_text qs) answers ++ log_text qs report.log.items ++ report_text qs limit report
 

@@ -117,7 +117,7 @@ impl Counts {
     }
 }
 
-/// The log, its events numbered.
+/// The log; each accepted event with its number.
 pub fn write_log(
     alloc: Global,
     queues: &[QueueDraft],

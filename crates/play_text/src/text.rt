@@ -11,7 +11,7 @@ use event_answers::Report;
 use evt_types::QueueDraft;
 use std::alloc::{AllocError, Global};
 
-/// The whole text of a played script.
+/// The whole text of a script that was played on a device with these queues and this limit.
 #[tactic(auto, unfolding(crate::specs::Text::text_of))]
 pub fn text_of(
     alloc: Global,

@@ -2,3 +2,7 @@ pub mod Device
 pub mod Control
 pub mod Recorder
 pub mod Recorded
+pub mod Ports
+pub mod Held
+
+pub mod Stop

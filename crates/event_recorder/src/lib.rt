@@ -2,7 +2,11 @@
 #![tactic(auto)]
 
 mod control;
+
+mod ports;
 mod recorder;
+
+mod stop;
 
 pub use control::Control;
 pub use event_answers::{Held, Report, StopFault, Swept, Undelivered, Untaken};

@@ -1,0 +1,17 @@
+use Rattle.std.proofs.Common.{rules, ◌≡◌, ◌∙◌, ℕ, List, length, subst}
+use Rattle.event_answers.specs.declared.answer.StopFault.TheVariants.{Missing, Memory}
+use Rattle.event_ports.specs.declared.port.Port.{Port}
+use Rattle.event_recorder.specs.Ports.{Refuses}
+use Rattle.event_recorder.proofs.recorder.Recorder.stop.Goals as goal
+
+pub returns-in-Some-clause-refused : goal.returns-in-Some-clause-refused
+returns-in-Some-clause-refused c =
+    let At : ℕ → Type 0 = λ n. Refuses n c.deref.result.now (Missing c.in-Some.port) in
+    let Of : List Port → Type 0 = λ xs. Refuses (length c.args.self.sight.core.shape.ports) xs (Missing c.in-Some.port) in
+    subst Of c.deref.ensures.value (subst At c.port_count-count.ensures c.in-Some.ensures)
+
+pub returns-clause-refused : goal.returns-clause-refused
+returns-clause-refused c =
+    let At : ℕ → Type 0 = λ n. Refuses n c.deref.result.now Memory in
+    let Of : List Port → Type 0 = λ xs. Refuses (length c.args.self.sight.core.shape.ports) xs Memory in
+    subst Of c.deref.ensures.value (subst At c.port_count-count.ensures c.in_default.ensures)

@@ -1,0 +1,5 @@
+pub mod Ends
+pub mod Leftovers
+pub mod Logs
+pub mod Queues
+pub mod Rooms

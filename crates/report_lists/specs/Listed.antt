@@ -1,0 +1,43 @@
+-- What the report of a stopped device lists: of the core by queue, of the lanes by lane.
+use Rattle.std.specs.Prelude.{ℕ, List, map, filter_map, flat_map, Option, Some, None}
+use Rattle.event_answers.specs.declared.report.Undelivered.{Undelivered}
+use Rattle.event_answers.specs.declared.report.Untaken.{Untaken}
+use Rattle.evt_types.specs.Plan.{Plan, lanes, queues}
+use Rattle.evt_types.specs.declared.event.Delivery.{Delivery}
+use Rattle.evt_types.specs.declared.event.Event.{Event}
+use Rattle.evt_types.specs.declared.event.KeptEvent.{KeptEvent}
+use Rattle.evt_types.specs.declared.event.Op.{Op}
+use Rattle.evt_types.specs.declared.event.Op.TheVariants as ops
+use Rattle.evt_types.specs.declared.event.Reply.{Reply}
+use Rattle.evt_types.specs.declared.step.Step.{Step}
+use Rattle.transcripts.specs.Transcript.{kept_events, pairs_of, waiting}
+use Rattle.world_laws.specs.Rest.{Rest}
+
+-- a delivery that the lane's holder didn't receive
+abbrev pub undelivered_of : ℕ → Delivery → Undelivered
+undelivered_of l d = record { lane = l; queue = d.queue; number = d.number }
+
+abbrev pub untaken_by : Op → ℕ → Event → Option Untaken
+untaken_by ops.New l e = Some (record { lane = l; event = e })
+untaken_by ops.Forward l e = Some (record { lane = l; event = e })
+untaken_by ops.Release l e = None
+
+-- a NEW or FORWARD that wasn't taken. A RELEASE has no event and isn't listed.
+abbrev pub untaken_of : ℕ → Reply → Option Untaken
+untaken_of l r = untaken_by r.event.op l r.event
+
+-- the queue and number of each waiting event, by queue, then number
+abbrev pub waiting_pairs : Plan → List Step → List (ℕ × ℕ)
+waiting_pairs p T = flat_map (λ q. pairs_of q (waiting T q)) (queues p)
+
+-- the kept events, by queue, then in hand-out order
+abbrev pub kept_all : Plan → List Step → List KeptEvent
+kept_all p T = flat_map (λ q. kept_events T q) (queues p)
+
+-- what no holder received, by lane, oldest first
+abbrev pub undelivered_all : Plan → (ℕ → Rest) → List Undelivered
+undelivered_all p rest = flat_map (λ l. map (undelivered_of l) (rest l).undelivered) (lanes p)
+
+-- the events of replies that weren't taken, by lane, oldest first
+abbrev pub untaken_all : Plan → (ℕ → Rest) → List Untaken
+untaken_all p rest = flat_map (λ l. filter_map (untaken_of l) (rest l).untaken) (lanes p)

@@ -5,4 +5,5 @@ pub mod Recorded
 pub mod Ports
 pub mod Held
 
+pub mod Room
 pub mod Stop

@@ -2,7 +2,7 @@
 use Rattle.std.specs.Prelude.{◌≡◌, ℕ, ◌+◌, ◌<◌, ◌++◌, Bool, true, List, All, map, count_by, sum_by}
 use Rattle.std.specs.List.{range_with_len}
 use Rattle.evt_types.specs.declared.event.Reply.{Reply}
-use Rattle.lane_rings.specs.Ends.{received_by, answered}
+use Rattle.lane_rings.specs.Ends.{received_by, answered, held_list}
 use Rattle.lane_rings.specs.declared.far.Far.{Far}
 use Rattle.flow_claims.specs.declared.seating.Past.{Past}
 use Rattle.flow_claims.specs.Ends.{IsEnd}
@@ -12,12 +12,13 @@ use Rattle.flow_claims.specs.declared.seating.Seating.{Seating}
 use Rattle.flow_claims.specs.Seats.{HoldsNone}
 use Rattle.event_ports.specs.declared.port.Port.{Port}
 use Rattle.event_ports.specs.Holds.{answered_past, AreLinked}
-use Rattle.event_ports.specs.Lanes.{IsEndOf}
-use Rattle.event_ports.specs.Ports.{place_of, account_of, pocket_of, hand, links}
+use Rattle.event_ports.specs.Lanes.{IsEndOf, pair_in, held_of}
+use Rattle.event_ports.specs.Ports.{place_of, account_of, pocket_of, hand, links, news_by, releases_by}
 use Rattle.event_ports.specs.declared.joined.Rest.{Rest}
 use Rattle.event_ports.specs.declared.lane.Lane.TheVariants.{Own, Flow}
 use Rattle.credit_pool.specs.declared.pool.Credits.{Credits}
 use Rattle.credit_pool.specs.declared.pool.CreditSeat.{CreditSeat}
+use Rattle.credit_pool.specs.Pockets.{IsPocket}
 use Rattle.credit_pool.specs.Pool as credits
 use Rattle.flow_claims.specs.declared.claims.Claims.{Claims}
 use Rattle.flow_claims.specs.declared.claims.ClaimSeat.{ClaimSeat}
@@ -60,6 +61,10 @@ pub record IsPortOf (pool : Credits) (claims : Claims) (p : Port) : Type 0 where
   pub pool_is : (place_of p).pool ≡ pool
   pub claims_are : (place_of p).lanes.flows.claims ≡ claims
 
+-- what the port drew and what it released paid for what it returned and its NEWs, and the rest is in its pocket
+abbrev pub IsPaid : Port → Type 0
+IsPaid p = IsPocket (pocket_of p) ((account_of p).drawn + releases_by p) ((account_of p).returned + news_by p)
+
 -- how many of a port's replies to so many flow lanes pass the test
 abbrev pub flows_in : (Reply → Bool) → ℕ → Port → ℕ
 flows_in P n p = sum_by (λ j. count_by P ((hand p).said (Flow j))) (range_with_len 0 n)
@@ -87,4 +92,5 @@ pub record AreLeft (ports : List Port) (rests : List Rest) : Type 0 where
   pub received : map (λ r. received_by r.own) rests ≡ map (λ p. (hand p).got Own) ports
   pub answered_is : map (λ r. answered r.own) rests ≡ map (λ p. (hand p).said Own) ports
   pub held : map (λ r. r.held.items) rests ≡ map (λ p. (hand p).holding) ports
+  pub ordered : map (λ r. held_list r.own) rests ≡ map (λ p. map pair_in (held_of Own (hand p).holding)) ports
   pub pockets : map (λ r. r.pocket) rests ≡ map pocket_of ports

@@ -28,11 +28,11 @@ pub(crate) struct Lanes {
 }
 
 impl Lanes {
-    ghost use Rattle.std.specs.Prelude.{◌≡◌, ◌≢◌, ℕ, ◌+◌, ◌<◌, ◌≤◌, [], ◌∷◌, true, false, length, Some, IfOk, IfErr, IfSome, MatchOption, MatchResult};
+    ghost use Rattle.std.specs.Prelude.{◌≡◌, ◌≢◌, ℕ, ◌+◌, ◌<◌, ◌≤◌, [], ◌∷◌, true, false, length, map, Some, IfOk, IfErr, IfSome, MatchOption, MatchResult};
     ghost use Rattle.evt_types.specs.Operation.{is_answer, is_new_reply};
-    ghost use Rattle.event_ports.specs.Lanes.{Rests, Submits, SubmitsTo, Takes, Arrives, HasRoomFor, IsEmptyHand, IsEndOf, first_lane};
+    ghost use Rattle.event_ports.specs.Lanes.{Rests, Submits, SubmitsTo, Takes, Arrives, HasRoomFor, IsEmptyHand, IsEndOf, first_lane, held_of, pair_in};
     ghost use Rattle.event_ports.specs.Handed.{IsReadable, lanes_place, links_of, hand_of, news_of, releases_of, CountsOne, CountsNone, IsFilled, RefusesOldest};
-    ghost use Rattle.lane_rings.specs.Ends.{received_by, answered};
+    ghost use Rattle.lane_rings.specs.Ends.{received_by, answered, held_list};
     ghost use Rattle.flow_claims.specs.Claims.{seating, port_of, IsSeatOf};
     ghost use Rattle.flow_claims.specs.Laws.{IsUnused};
     ghost use Rattle.flow_claims.specs.Seats.{HoldsNone};
@@ -182,6 +182,7 @@ impl Lanes {
         ensures lists { IsEndOf (hand_of self) (seating result.1).finished }
         ensures linked { AreLinked (lanes_place self).flows.port (links_of self) (seating result.1).finished }
         ensures held { result.2.items ≡ (hand_of self).holding }
+        ensures ordered { map pair_in (held_of lanes.Own (hand_of self).holding) ≡ held_list result.0 }
     {
         let Lanes { own, flows, order } = self;
         (own, flows.into_seat(), order)

@@ -1,16 +1,16 @@
 //! How a port is made of its parts, and taken apart again.
 
-ghost use Rattle.std.specs.Prelude.{◌≡◌, ◌+◌, ◌<◌, ◌≤◌, [], false, length, All, IfOk, IfErr};
+ghost use Rattle.std.specs.Prelude.{◌≡◌, ◌+◌, ◌<◌, ◌≤◌, [], false, length, map, All, IfOk, IfErr};
 ghost use Rattle.std.specs.Arc.{arc_value};
 ghost use Rattle.credit_pool.specs.Pool as credits;
 ghost use Rattle.lane_rings.specs.Identity.{far_id};
-ghost use Rattle.lane_rings.specs.Ends.{received_by, answered};
+ghost use Rattle.lane_rings.specs.Ends.{received_by, answered, held_list};
 ghost use Rattle.flow_claims.specs.Claims.{seating, port_of, lanes_of, IsSeatOf};
 ghost use Rattle.flow_claims.specs.Laws.{IsUnused};
 ghost use Rattle.flow_claims.specs.Seats.{HoldsNone};
 ghost use Rattle.event_ports.specs.declared.lane.Lane.TheVariants as lanes;
 ghost use Rattle.event_ports.specs.Holds.{AreLinked};
-ghost use Rattle.event_ports.specs.Lanes.{IsEmptyHand, IsEndOf};
+ghost use Rattle.event_ports.specs.Lanes.{IsEmptyHand, IsEndOf, held_of, pair_in};
 ghost use Rattle.credit_pool.specs.Pockets.{IsPocket};
 ghost use Rattle.event_ports.specs.Ports.{place_of, account_of, pocket_of, hand, links, news_by, releases_by};
 ghost use Rattle.event_ports.specs.Parts.{FitTogether, AreFresh, place_by};
@@ -122,6 +122,7 @@ impl Port {
         ensures lists { IsEndOf (hand self) (seating result.claim).finished }
         ensures linked { AreLinked (place_of self).number (links self) (seating result.claim).finished }
         ensures held { result.held.items ≡ (hand self).holding }
+        ensures ordered { map pair_in (held_of lanes.Own (hand self).holding) ≡ held_list result.own }
         ensures paid { (result.pocket ≡ pocket_of self) × IsPocket result.pocket ((account_of self).drawn + releases_by self) ((account_of self).returned + news_by self) }
     {
         let Port {

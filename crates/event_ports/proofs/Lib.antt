@@ -1,5 +1,6 @@
 pub mod Places
 pub mod Turns
+pub mod Calls
 pub mod Orders
 pub mod Counts
 pub mod Refusals

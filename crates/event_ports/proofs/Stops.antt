@@ -15,7 +15,7 @@ use Rattle.flow_claims.proofs.Records.{record_lanes}
 use Rattle.event_ports.specs.Holds.{answered_past, stints_at}
 use Rattle.event_ports.specs.Stop.{counted_past, AreLinkedBy, AreEnds, IsShared}
 
-past_append : (j : ℕ) (xs ys : List Past) → answered_past j (xs ++ ys) ≡ answered_past j xs ++ answered_past j ys
+pub past_append : (j : ℕ) (xs ys : List Past) → answered_past j (xs ++ ys) ≡ answered_past j xs ++ answered_past j ys
 past_append j xs ys = ap answered_in_all (filter-append (λ (p : Past). p.lane == j) xs ys) ∙ flat_map-append answered_in (stints_at j xs) (stints_at j ys)
 
 -- sums over numbers, term by term

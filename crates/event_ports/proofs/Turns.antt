@@ -1,7 +1,6 @@
 -- What a call on one flow lane makes of what a port has of all of them.
-use Rattle.std.proofs.Common.{◌≡◌, ◌≢◌, ℕ, suc, ◌<◌, Bool, true, false, List, [], ◌∷◌, ◌++◌, length, drop, set, Option, Some, None, All, MatchOption, refl, sym, ap, ◌∙◌, subst, arith, append-nil, append_assoc}
-use Rattle.std.specs.Option.{is_some}
-use Rattle.std.proofs.lemmas.List.{length-set, length-append}
+use Rattle.std.proofs.Common.{◌≡◌, ◌≢◌, ℕ, suc, ◌<◌, Bool, true, List, [], ◌∷◌, ◌++◌, length, drop, set, Option, Some, None, All, MatchOption, refl, sym, ap, ◌∙◌, subst, arith, append-nil, append_assoc}
+use Rattle.std.proofs.lemmas.List.{length-set}
 use Rattle.std.proofs.lemmas.List.Elements.{All-push}
 use mathlib.Core.Logic.{dite}
 use native.Mathlib.Decide.{ℕ_discrete, dec_le}
@@ -20,7 +19,7 @@ use Rattle.flow_claims.specs.Open.{IsOpen, received_so_far, answered_so_far}
 use Rattle.flow_claims.specs.Seats.{stint_at, find_lane, IsPorts}
 use Rattle.flow_claims.specs.Stints.{received_in, answered_in}
 use Rattle.flow_claims.proofs.Held.{nothing_held}
-use Rattle.event_ports.specs.Holds.{place_at, IsHeldAt, AreFlows, stints_at, received_past, answered_past, received_now, answered_now, held_now, Hands, stint_in, received_on, answered_on, held_on, Kept, Ends, Same, SameBut, Gets, Says}
+use Rattle.event_ports.specs.Holds.{place_at, IsHeldAt, AreFlows, stints_at, received_past, answered_past, received_now, answered_now, held_now, Hands, received_on, answered_on, Kept, Ends, Same, SameBut, Gets, Says}
 use Rattle.event_ports.proofs.Places.{Stints, hands, each_place, moved, free_place, held_place, past_places, past_more, other_stints, same_now, same_but, received_here, answered_here, held_here, all_same}
 
 module _ (claims : Claims) (links : List ℕ) where
@@ -258,65 +257,3 @@ all_linked claims seat ss links are k d lt = (are.ports.finished k d lt, are.lin
 pub lane_there : (claims : Claims) (seat : ClaimSeat) (ss : Stints) (links : List ℕ) (lane : ℕ) → AreFlows claims seat ss links → held_now (place_at ss lane) ≢ [] → lane < length (lanes_of claims)
 lane_there claims seat ss links lane are some =
     dite (dec_le (suc lane) (length (lanes_of claims))) (λ lt. lt) (λ le. absurd (some (ap held_now (past_places ss lane (omega (arith, le, are.places))))))
-
--- no lane is held of which nothing is unanswered
-abbrev pub AreIdle : Hands → Type 0
-AreIdle h = (j : ℕ) → held_on h j ≡ [] → is_some (stint_in h j) ≡ false
-
--- an answer, and then the lane is left
-pub idle_answered : (h k m : Hands) (lane : ℕ) (r : Reply) → Says lane r h k → ((j : ℕ) → is_some (stint_in k j) ≡ is_some (stint_in h j)) → Same k m
-    → (held_on k lane ≡ [] → is_some (stint_in m lane) ≡ false) → ((j : ℕ) → j ≢ lane → is_some (stint_in m j) ≡ is_some (stint_in k j)) → AreIdle h → AreIdle m
-idle_answered h k m lane r says places same left elsewhere idle j none =
-    let At : ℕ → Type 0 = λ i. is_some (stint_in m i) ≡ false in
-    dite (ℕ_discrete j lane)
-    (λ e. subst At (sym e) (left (sym (same.held lane) ∙ ap (held_on m) (sym e) ∙ none)))
-    (λ ne. elsewhere j ne ∙ places j ∙ idle j (sym (says.others.held j ne) ∙ sym (same.held j) ∙ none))
-
--- a lane is held, and something is received from it
-pub idle_received : (h k m : Hands) (lane : ℕ) (d : Delivery) → Same h k → ((j : ℕ) → j ≢ lane → is_some (stint_in k j) ≡ is_some (stint_in h j)) → Gets lane d k m
-    → ((j : ℕ) → is_some (stint_in m j) ≡ is_some (stint_in k j)) → AreIdle h → AreIdle m
-idle_received h k m lane d same elsewhere gets places idle j none =
-    dite (ℕ_discrete j lane)
-    (λ e. absurd (omega (arith, ap length (sym gets.held ∙ ap (held_on m) (sym e) ∙ none), length-append (held_on k lane) (d ∷ []))))
-    (λ ne. places j ∙ elsewhere j ne ∙ idle j (sym (same.held j) ∙ sym (gets.others.held j ne) ∙ none))
-
--- a lane is held, nothing is received, and it is left
-pub idle_left : (h k m n : Hands) (lane : ℕ) → Same h k → ((j : ℕ) → j ≢ lane → is_some (stint_in k j) ≡ is_some (stint_in h j)) → Same k m
-    → ((j : ℕ) → is_some (stint_in m j) ≡ is_some (stint_in k j)) → Same m n → (held_on m lane ≡ [] → is_some (stint_in n lane) ≡ false)
-    → ((j : ℕ) → j ≢ lane → is_some (stint_in n j) ≡ is_some (stint_in m j)) → AreIdle h → AreIdle n
-idle_left h k m n lane same elsewhere same' places same'' left elsewhere' idle j none =
-    let At : ℕ → Type 0 = λ i. is_some (stint_in n i) ≡ false in
-    dite (ℕ_discrete j lane)
-    (λ e. subst At (sym e) (left (sym (same''.held lane) ∙ ap (held_on n) (sym e) ∙ none)))
-    (λ ne. elsewhere' j ne ∙ places j ∙ elsewhere j ne ∙ idle j (sym (same.held j) ∙ sym (same'.held j) ∙ sym (same''.held j) ∙ none))
-
--- a lane isn't had
-pub idle_refused : (h k : Hands) (lane : ℕ) → Same h k → ((j : ℕ) → j ≢ lane → is_some (stint_in k j) ≡ is_some (stint_in h j)) → is_some (stint_in k lane) ≡ false → AreIdle h → AreIdle k
-idle_refused h k lane same elsewhere free idle j none =
-    let At : ℕ → Type 0 = λ i. is_some (stint_in k i) ≡ false in
-    dite (ℕ_discrete j lane) (λ e. subst At (sym e) free) (λ ne. elsewhere j ne ∙ idle j (sym (same.held j) ∙ none))
-
-pub same_more : (h k m : Hands) → Same h k → Same k m → Same h m
-same_more h k m a b = record { received = λ j. b.received j ∙ a.received j; answered_is = λ j. b.answered_is j ∙ a.answered_is j; held = λ j. b.held j ∙ a.held j }
-
-pub gets_after : (h k m : Hands) (lane : ℕ) (d : Delivery) → Same h k → Gets lane d k m → Gets lane d h m
-gets_after h k m lane d same gets = record {
-  others = record { received = λ j ne. gets.others.received j ne ∙ same.received j; answered_is = λ j ne. gets.others.answered_is j ne ∙ same.answered_is j; held = λ j ne. gets.others.held j ne ∙ same.held j };
-  received = gets.received ∙ ap (λ r. r ++ d ∷ []) (same.received lane);
-  answered_is = gets.answered_is ∙ same.answered_is lane;
-  held = gets.held ∙ ap (λ r. r ++ d ∷ []) (same.held lane);
-}
-
-pub says_before : (h k m : Hands) (lane : ℕ) (r : Reply) → Says lane r h k → Same k m → Says lane r h m
-says_before h k m lane r says same = record {
-  others = record { received = λ j ne. same.received j ∙ says.others.received j ne; answered_is = λ j ne. same.answered_is j ∙ says.others.answered_is j ne; held = λ j ne. same.held j ∙ says.others.held j ne };
-  received = same.received lane ∙ says.received;
-  answered_is = same.answered_is lane ∙ says.answered_is;
-  held = same.held lane ∙ says.held;
-}
-
--- a receipt answers nothing
-pub gets_no_answer : (h k : Hands) (lane : ℕ) (d : Delivery) → Gets lane d h k → (j : ℕ) → answered_on k j ≡ answered_on h j
-gets_no_answer h k lane d gets j =
-    let At : ℕ → Type 0 = λ i. answered_on k i ≡ answered_on h i in
-    dite (ℕ_discrete j lane) (λ e. subst At (sym e) gets.answered_is) (λ ne. gets.others.answered_is j ne)

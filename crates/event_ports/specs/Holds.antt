@@ -1,8 +1,9 @@
 -- What a port has of its flow lanes: a place for each lane, with the stint where the port holds the lane, and the seat's view.
-use Rattle.std.specs.Prelude.{◌≡◌, ◌≢◌, ℕ, ◌<◌, ◌≤◌, ◌==◌, List, [], ◌∷◌, ◌++◌, length, drop, filter, true, false, Option, All, slice_index_or}
+use Rattle.std.specs.Prelude.{◌≡◌, ◌≢◌, ℕ, ◌<◌, ◌≤◌, ◌==◌, List, [], ◌∷◌, ◌++◌, length, drop, filter, count_by, true, false, Option, All, slice_index_or}
 use Rattle.std.specs.Prelude.Option.{Some, None}
 use Rattle.std.specs.Option.{ForNone, ForSome, is_some}
 use Rattle.lists.specs.Lists.{has}
+use Rattle.evt_types.specs.Operation.{is_new_reply}
 use Rattle.evt_types.specs.declared.event.Delivery.{Delivery}
 use Rattle.evt_types.specs.declared.event.Reply.{Reply}
 use Rattle.lane_rings.specs.Ends.{answered, answers_among, unanswered}
@@ -88,6 +89,10 @@ answered_on h lane = answered_past lane h.view.finished ++ answered_now h.view (
 
 abbrev pub held_on : Hands → ℕ → List Delivery
 held_on h lane = held_now (stint_in h lane)
+
+-- no NEW was submitted to a flow lane
+abbrev pub HaveNoNew : Hands → Type 0
+HaveNoNew h = (lane : ℕ) → count_by is_new_reply (answered_on h lane) ≡ 0
 
 -- the lists of each lane stay
 pub record Same (h k : Hands) : Type 0 where

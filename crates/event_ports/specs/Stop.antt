@@ -1,6 +1,7 @@
 -- All ports of a device taken together, once none works any more, and what the flow lanes' ends have then.
 use Rattle.std.specs.Prelude.{◌≡◌, ℕ, ◌+◌, ◌<◌, ◌++◌, Bool, true, List, All, map, count_by, sum_by}
 use Rattle.std.specs.List.{range_with_len}
+use Rattle.evt_types.specs.Operation.{is_new_reply}
 use Rattle.evt_types.specs.declared.event.Reply.{Reply}
 use Rattle.lane_rings.specs.Ends.{received_by, answered, held_list}
 use Rattle.lane_rings.specs.declared.far.Far.{Far}
@@ -25,6 +26,10 @@ use Rattle.flow_claims.specs.declared.claims.ClaimSeat.{ClaimSeat}
 use Rattle.flow_claims.specs.Claims.{seating, port_of, IsSeatOf}
 use Rattle.lane_rings.specs.Identity.{far_id}
 use Rattle.lists.specs.Lists.{has}
+
+-- no NEW is among the replies in finished stints of a flow lane
+abbrev pub HasNoNew : List Past → Type 0
+HasNoNew ps = (j : ℕ) → count_by is_new_reply (answered_past j ps) ≡ 0
 
 -- how many of the replies in finished stints of so many flow lanes pass the test
 abbrev pub counted_past : (Reply → Bool) → ℕ → List Past → ℕ
@@ -84,6 +89,7 @@ pub record IsJoined (pool : Credits) (claims : Claims) (credit : CreditSeat) (cl
   pub bit : (credits.account credits_after).set_shut ≡ (credits.account credit).set_shut
   pub flow_parts : (seating claims_after).parts ≡ (seating claim).parts + sum_by (λ p. (place_of p).lanes.flows.parts) ports
   pub counted_is : (P : Reply → Bool) (n : ℕ) → counted_past P n (seating claims_after).finished ≡ counted_past P n (seating claim).finished + sum_by (flows_in P n) ports
+  pub no_new : HasNoNew (seating claim).finished → HasNoNew (seating claims_after).finished
   pub linked : (linked : ℕ → ℕ → Bool) → All (LinksAgree linked) ports → AreLinkedBy linked (seating claim).finished → AreLinkedBy linked (seating claims_after).finished
 
 -- what is left of each of these ports, in their order

@@ -1,8 +1,9 @@
 //! A port's seats joined into those of the device that stops.
 
-ghost use Rattle.std.specs.Prelude.{◌≡◌, ◌+◌, ◌≤◌, [], length, map, vec_capacity, All};
+ghost use Rattle.std.specs.Prelude.{◌≡◌, ℕ, ◌+◌, ◌≤◌, [], length, map, count_by, vec_capacity, All};
 ghost use Rattle.credit_pool.specs.Accounts.{after_join};
 ghost use Rattle.credit_pool.specs.Pool as credits;
+ghost use Rattle.evt_types.specs.Operation.{is_new_reply};
 ghost use Rattle.lane_rings.specs.Identity.{far_id};
 ghost use Rattle.lane_rings.specs.Ends.{received_by, answered, held_list};
 ghost use Rattle.flow_claims.specs.Claims.{seating, port_of, IsSeatOf};
@@ -44,6 +45,7 @@ pub fn join_port(
     ensures credit { credits.IsSeatOf pool.now result.0 × (credits.account result.0 ≡ after_join (credits.account credit) (account_of port)) }
     ensures bit { (credits.account result.0).set_shut ≡ (credits.account credit).set_shut }
     ensures claim { IsSeatOf claims.now result.1 × (port_of result.1 ≡ port_of claim) }
+    ensures no_new { (j : ℕ) → count_by is_new_reply ((hand port).said (lanes.Flow j)) ≡ 0 }
     ensures stints { Joins port (seating claim) (seating result.1) }
     ensures own { (far_id result.2.own ≡ (place_of port).lanes.own) × (received_by result.2.own ≡ (hand port).got lanes.Own) × (answered result.2.own ≡ (hand port).said lanes.Own) }
     ensures held { result.2.held.items ≡ (hand port).holding }

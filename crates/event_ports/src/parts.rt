@@ -1,8 +1,9 @@
 //! How a port is made of its parts, and taken apart again.
 
-ghost use Rattle.std.specs.Prelude.{◌≡◌, ◌+◌, ◌<◌, ◌≤◌, [], false, length, map, All, IfOk, IfErr};
+ghost use Rattle.std.specs.Prelude.{◌≡◌, ℕ, ◌+◌, ◌<◌, ◌≤◌, [], false, length, map, count_by, All, IfOk, IfErr};
 ghost use Rattle.std.specs.Arc.{arc_value};
 ghost use Rattle.credit_pool.specs.Pool as credits;
+ghost use Rattle.evt_types.specs.Operation.{is_new_reply};
 ghost use Rattle.lane_rings.specs.Identity.{far_id};
 ghost use Rattle.lane_rings.specs.Ends.{received_by, answered, held_list};
 ghost use Rattle.flow_claims.specs.Claims.{seating, port_of, lanes_of, IsSeatOf};
@@ -120,6 +121,7 @@ impl Port {
         ensures none_open { HoldsNone (seating result.claim) }
         ensures own { (far_id result.own ≡ (place_of self).lanes.own) × (received_by result.own ≡ (hand self).got lanes.Own) × (answered result.own ≡ (hand self).said lanes.Own) }
         ensures lists { IsEndOf (hand self) (seating result.claim).finished }
+        ensures no_new { (j : ℕ) → count_by is_new_reply ((hand self).said (lanes.Flow j)) ≡ 0 }
         ensures linked { AreLinked (place_of self).number (links self) (seating result.claim).finished }
         ensures held { result.held.items ≡ (hand self).holding }
         ensures ordered { map pair_in (held_of lanes.Own (hand self).holding) ≡ held_list result.own }

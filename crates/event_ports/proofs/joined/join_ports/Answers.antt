@@ -14,7 +14,7 @@ use Rattle.event_ports.specs.Lanes.{held_of, pair_in}
 use Rattle.event_ports.specs.Stop.{LinksAgree, flows_in, IsPaid}
 use Rattle.std.proofs.lemmas.List.Elements.{All-push}
 use Rattle.lists.proofs.Lists.{All-last, All-front}
-use Rattle.event_ports.proofs.Joining.{sum_one_more, counts_more, linked_more, one_more}
+use Rattle.event_ports.proofs.Joining.{sum_one_more, counts_more, no_new_more, linked_more, one_more}
 use Rattle.event_ports.proofs.joined.join_ports.Goals as goal
 
 pub push_reserved-requires : goal.push_reserved-requires
@@ -46,6 +46,7 @@ loop-port-preserved c =
         bit = now.bit ∙ was.bit;
         flow_parts = sum_one_more (λ p. (place_of p).lanes.flows.parts) _ (seating c.loop-port.claim).parts _ ports port was.flow_parts now.stints.parts;
         counted_is = λ P n. sum_one_more (flows_in P n) _ _ _ ports port (was.counted_is P n) (counts_more P n port (seating c.loop-port.claim) (seating c.join_port-its_credit.result.1) now.stints);
+        no_new = λ none. no_new_more port (seating c.loop-port.claim) (seating c.join_port-its_credit.result.1) now.stints now.no_new (was.no_new none);
         linked = λ linked all first.
             linked_more linked port (seating c.loop-port.claim) (seating c.join_port-its_credit.result.1) now.stints (All-last (LinksAgree linked) ports port all)
             (was.linked linked (All-front (LinksAgree linked) ports (port ∷ []) all) first);

@@ -1,4 +1,5 @@
 pub mod Places
+pub mod Unanswered
 pub mod Turns
 pub mod Calls
 pub mod Orders
@@ -9,4 +10,5 @@ pub mod Refusing
 pub mod Released
 pub mod Bursts
 pub mod Stops
+pub mod Parted
 pub mod Joining

@@ -1,5 +1,5 @@
 -- All ports of a device taken together, once none works any more, and what the flow lanes' ends have then.
-use Rattle.std.specs.Prelude.{◌≡◌, ℕ, ◌+◌, ◌<◌, ◌++◌, Bool, true, List, All, map, count_by, sum_by}
+use Rattle.std.specs.Prelude.{◌≡◌, ℕ, ◌+◌, ◌<◌, ◌++◌, Bool, true, List, length, All, map, count_by, sum_by}
 use Rattle.std.specs.List.{range_with_len}
 use Rattle.evt_types.specs.Operation.{is_new_reply}
 use Rattle.evt_types.specs.declared.event.Reply.{Reply}
@@ -12,7 +12,7 @@ use Rattle.flow_claims.specs.Stints.{IsRecordFrom, received_in_all, answered_in_
 use Rattle.flow_claims.specs.declared.seating.Seating.{Seating}
 use Rattle.flow_claims.specs.Seats.{HoldsNone}
 use Rattle.event_ports.specs.declared.port.Port.{Port}
-use Rattle.event_ports.specs.Holds.{answered_past, AreLinked}
+use Rattle.event_ports.specs.Holds.{answered_past, left_past, AreLinked}
 use Rattle.event_ports.specs.Lanes.{IsEndOf, pair_in, held_of}
 use Rattle.event_ports.specs.Ports.{place_of, account_of, pocket_of, hand, links, news_by, releases_by}
 use Rattle.event_ports.specs.declared.joined.Rest.{Rest}
@@ -89,6 +89,7 @@ pub record IsJoined (pool : Credits) (claims : Claims) (credit : CreditSeat) (cl
   pub bit : (credits.account credits_after).set_shut ≡ (credits.account credit).set_shut
   pub flow_parts : (seating claims_after).parts ≡ (seating claim).parts + sum_by (λ p. (place_of p).lanes.flows.parts) ports
   pub counted_is : (P : Reply → Bool) (n : ℕ) → counted_past P n (seating claims_after).finished ≡ counted_past P n (seating claim).finished + sum_by (flows_in P n) ports
+  pub held : (j : ℕ) → length (left_past j (seating claims_after).finished) ≡ length (left_past j (seating claim).finished) + sum_by (λ p. length (held_of (Flow j) (hand p).holding)) ports
   pub no_new : HasNoNew (seating claim).finished → HasNoNew (seating claims_after).finished
   pub linked : (linked : ℕ → ℕ → Bool) → All (LinksAgree linked) ports → AreLinkedBy linked (seating claim).finished → AreLinkedBy linked (seating claims_after).finished
 

@@ -7,14 +7,14 @@ use Rattle.credit_pool.specs.Pool.{account}
 use Rattle.credit_pool.specs.Pockets.{IsPocket}
 use Rattle.flow_claims.specs.Claims.{seating}
 use Rattle.event_ports.specs.declared.joined.Rest.{Rest}
-use Rattle.event_ports.specs.declared.lane.Lane.TheVariants.{Own}
+use Rattle.event_ports.specs.declared.lane.Lane.TheVariants.{Own, Flow}
 use Rattle.event_ports.specs.declared.port.Port.{Port}
 use Rattle.event_ports.specs.Ports.{place_of, account_of, pocket_of, hand, news_by, releases_by}
 use Rattle.event_ports.specs.Lanes.{held_of, pair_in}
 use Rattle.event_ports.specs.Stop.{LinksAgree, flows_in, IsPaid}
 use Rattle.std.proofs.lemmas.List.Elements.{All-push}
 use Rattle.lists.proofs.Lists.{All-last, All-front}
-use Rattle.event_ports.proofs.Joining.{sum_one_more, counts_more, no_new_more, linked_more, one_more}
+use Rattle.event_ports.proofs.Joining.{sum_one_more, counts_more, held_more, no_new_more, linked_more, one_more}
 use Rattle.event_ports.proofs.joined.join_ports.Goals as goal
 
 pub push_reserved-requires : goal.push_reserved-requires
@@ -46,6 +46,7 @@ loop-port-preserved c =
         bit = now.bit ∙ was.bit;
         flow_parts = sum_one_more (λ p. (place_of p).lanes.flows.parts) _ (seating c.loop-port.claim).parts _ ports port was.flow_parts now.stints.parts;
         counted_is = λ P n. sum_one_more (flows_in P n) _ _ _ ports port (was.counted_is P n) (counts_more P n port (seating c.loop-port.claim) (seating c.join_port-its_credit.result.1) now.stints);
+        held = λ j. sum_one_more (λ p. length (held_of (Flow j) (hand p).holding)) _ _ _ ports port (was.held j) (held_more port (seating c.loop-port.claim) (seating c.join_port-its_credit.result.1) j now.stints);
         no_new = λ none. no_new_more port (seating c.loop-port.claim) (seating c.join_port-its_credit.result.1) now.stints now.no_new (was.no_new none);
         linked = λ linked all first.
             linked_more linked port (seating c.loop-port.claim) (seating c.join_port-its_credit.result.1) now.stints (All-last (LinksAgree linked) ports port all)

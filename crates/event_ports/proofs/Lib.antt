@@ -9,6 +9,8 @@ pub mod Arrivals
 pub mod Refusing
 pub mod Released
 pub mod Bursts
+pub mod Totals
+pub mod ByLane
 pub mod Stops
 pub mod Parted
 pub mod Joining

@@ -44,6 +44,10 @@ pair_in x = (x.queue, x.number)
 abbrev pub held_of : Lane → List Holding → List Holding
 held_of l xs = filter (λ x. same_lane x.lane l) xs
 
+-- all of these came from the own lane or from one of so many flow lanes
+abbrev pub AreOf : ℕ → List Holding → Type 0
+AreOf n xs = length xs ≡ length (held_of Own xs) + sum_by (λ j. length (held_of (Flow j) xs)) (range_with_len 0 n)
+
 -- the lane from which the oldest came
 abbrev pub first_lane : List Holding → Option Lane
 first_lane [] = None

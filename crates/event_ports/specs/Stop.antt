@@ -13,7 +13,8 @@ use Rattle.flow_claims.specs.declared.seating.Seating.{Seating}
 use Rattle.flow_claims.specs.Seats.{HoldsNone}
 use Rattle.event_ports.specs.declared.port.Port.{Port}
 use Rattle.event_ports.specs.Holds.{answered_past, left_past, AreLinked}
-use Rattle.event_ports.specs.Lanes.{IsEndOf, pair_in, held_of}
+use Rattle.event_ports.specs.Handed.{flow_count}
+use Rattle.event_ports.specs.Lanes.{AreOf, IsEndOf, pair_in, held_of}
 use Rattle.event_ports.specs.Ports.{place_of, account_of, pocket_of, hand, links, news_by, releases_by}
 use Rattle.event_ports.specs.declared.joined.Rest.{Rest}
 use Rattle.event_ports.specs.declared.lane.Lane.TheVariants.{Own, Flow}
@@ -69,6 +70,10 @@ pub record IsPortOf (pool : Credits) (claims : Claims) (p : Port) : Type 0 where
 -- what the port drew and what it released paid for what it returned and its NEWs, and the rest is in its pocket
 abbrev pub IsPaid : Port → Type 0
 IsPaid p = IsPocket (pocket_of p) ((account_of p).drawn + releases_by p) ((account_of p).returned + news_by p)
+
+-- all that the port holds is of its own lane or of a flow lane that is there
+abbrev pub IsCounted : Port → Type 0
+IsCounted p = AreOf (flow_count (place_of p).lanes) (hand p).holding
 
 -- how many of a port's replies to so many flow lanes pass the test
 abbrev pub flows_in : (Reply → Bool) → ℕ → Port → ℕ

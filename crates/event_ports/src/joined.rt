@@ -12,7 +12,7 @@ ghost use Rattle.event_ports.specs.declared.lane.Lane.TheVariants as lanes;
 ghost use Rattle.credit_pool.specs.Pockets.{IsPocket};
 ghost use Rattle.event_ports.specs.Lanes.{held_of, pair_in};
 ghost use Rattle.event_ports.specs.Ports.{place_of, account_of, pocket_of, hand, news_by, releases_by};
-ghost use Rattle.event_ports.specs.Stop.{Joins, IsPortOf, IsPaid, IsJoined, AreLeft};
+ghost use Rattle.event_ports.specs.Stop.{Joins, IsPortOf, IsPaid, IsCounted, IsJoined, AreLeft};
 
 use crate::lane::Holding;
 use crate::parts::Left;
@@ -49,6 +49,7 @@ pub fn join_port(
     ensures stints { Joins port (seating claim) (seating result.1) }
     ensures own { (far_id result.2.own ≡ (place_of port).lanes.own) × (received_by result.2.own ≡ (hand port).got lanes.Own) × (answered result.2.own ≡ (hand port).said lanes.Own) }
     ensures held { result.2.held.items ≡ (hand port).holding }
+    ensures counted { IsCounted port }
     ensures ordered { map pair_in (held_of lanes.Own (hand port).holding) ≡ held_list result.2.own }
     ensures paid { (result.2.pocket ≡ pocket_of port) × IsPocket result.2.pocket ((account_of port).drawn + releases_by port) ((account_of port).returned + news_by port) }
 {
@@ -79,6 +80,7 @@ pub fn join_ports(
     requires room { (into.old.items ≡ []) × (length ports.items ≤ vec_capacity into.old) }
     ensures joined { IsJoined pool.now claims.now credit claim ports.items result.0 result.1 }
     ensures left { AreLeft ports.items into.new.items }
+    ensures counted { All IsCounted ports.items }
     ensures paid { All IsPaid ports.items }
 {
     for port in ports {

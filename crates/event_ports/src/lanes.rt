@@ -32,8 +32,8 @@ pub(crate) struct Lanes {
 impl Lanes {
     ghost use Rattle.std.specs.Prelude.{◌≡◌, ◌≢◌, ℕ, ◌+◌, ◌<◌, ◌≤◌, [], ◌∷◌, true, false, length, map, count_by, Some, IfOk, IfErr, IfSome, MatchOption, MatchResult};
     ghost use Rattle.evt_types.specs.Operation.{is_answer, is_new_reply};
-    ghost use Rattle.event_ports.specs.Lanes.{Rests, Submits, SubmitsTo, Takes, Arrives, HasRoomFor, IsEmptyHand, IsEndOf, first_lane, held_of, pair_in};
-    ghost use Rattle.event_ports.specs.Handed.{IsReadable, lanes_place, links_of, hand_of, news_of, releases_of, CountsOne, CountsNone, IsFilled, RefusesOldest};
+    ghost use Rattle.event_ports.specs.Lanes.{Rests, Submits, SubmitsTo, Takes, Arrives, HasRoomFor, IsEmptyHand, IsEndOf, AreOf, first_lane, held_of, pair_in};
+    ghost use Rattle.event_ports.specs.Handed.{IsReadable, lanes_place, flow_count, links_of, hand_of, news_of, releases_of, CountsOne, CountsNone, IsFilled, RefusesOldest};
     ghost use Rattle.lane_rings.specs.Ends.{received_by, answered, held_list};
     ghost use Rattle.flow_claims.specs.Claims.{seating, port_of, IsSeatOf};
     ghost use Rattle.flow_claims.specs.Laws.{IsUnused};
@@ -185,6 +185,7 @@ impl Lanes {
         ensures linked { AreLinked (lanes_place self).flows.port (links_of self) (seating result.1).finished }
         ensures no_new { (j : ℕ) → count_by is_new_reply ((hand_of self).said (lanes.Flow j)) ≡ 0 }
         ensures held { result.2.items ≡ (hand_of self).holding }
+        ensures counted { AreOf (flow_count (lanes_place self)) (hand_of self).holding }
         ensures ordered { map pair_in (held_of lanes.Own (hand_of self).holding) ≡ held_list result.0 }
     {
         let Lanes { own, flows, order } = self;

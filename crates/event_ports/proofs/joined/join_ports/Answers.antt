@@ -11,7 +11,7 @@ use Rattle.event_ports.specs.declared.lane.Lane.TheVariants.{Own, Flow}
 use Rattle.event_ports.specs.declared.port.Port.{Port}
 use Rattle.event_ports.specs.Ports.{place_of, account_of, pocket_of, hand, news_by, releases_by}
 use Rattle.event_ports.specs.Lanes.{held_of, pair_in}
-use Rattle.event_ports.specs.Stop.{LinksAgree, flows_in, IsPaid}
+use Rattle.event_ports.specs.Stop.{LinksAgree, flows_in, IsPaid, IsCounted}
 use Rattle.std.proofs.lemmas.List.Elements.{All-push}
 use Rattle.lists.proofs.Lists.{All-last, All-front}
 use Rattle.event_ports.proofs.Joining.{sum_one_more, counts_more, held_more, no_new_more, linked_more, one_more}
@@ -23,7 +23,7 @@ push_reserved-requires c =
     let same : length c.loop-port.into.items ≡ length c.loop-port.yielded =
     sym (length-map c.loop-port.into.items (λ (r : Rest). r.pocket)) ∙ ap length rests.pockets ∙ length-map c.loop-port.yielded pocket_of in
     let left : c.loop-port.port-iterator.rest.items ≡ c.in-Some.port ∷ c.next.new.self.rest.items = search rules in
-    omega (arith, same, ap length left, c.loop-port.invariant.4)
+    omega (arith, same, ap length left, c.loop-port.invariant.5)
 
 pub loop-port-preserved : goal.loop-port-preserved
 loop-port-preserved c =
@@ -61,6 +61,7 @@ loop-port-preserved c =
         pockets = one_more (λ (r : Rest). r.pocket) pocket_of c.loop-port.into.items _ rest ports port c.push_reserved.ensures.items rests.pockets now.paid.0;
       },
       All-push IsPaid ports port c.loop-port.invariant.2 paid,
-      c.push_reserved.ensures.capacity ∙ c.loop-port.invariant.3,
-      omega (arith, ap length left, c.loop-port.invariant.4, c.push_reserved.ensures.capacity, length-append ports (port ∷ [])),
+      All-push IsCounted ports port c.loop-port.invariant.3 now.counted,
+      c.push_reserved.ensures.capacity ∙ c.loop-port.invariant.4,
+      omega (arith, ap length left, c.loop-port.invariant.5, c.push_reserved.ensures.capacity, length-append ports (port ∷ [])),
     )

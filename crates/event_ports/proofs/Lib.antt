@@ -12,5 +12,6 @@ pub mod Bursts
 pub mod Totals
 pub mod ByLane
 pub mod Stops
+pub mod AtStop
 pub mod Parted
 pub mod Joining

@@ -1,5 +1,7 @@
 pub mod Places
+pub mod Unanswered
 pub mod Turns
+pub mod Calls
 pub mod Orders
 pub mod Counts
 pub mod Refusals
@@ -7,5 +9,9 @@ pub mod Arrivals
 pub mod Refusing
 pub mod Released
 pub mod Bursts
+pub mod Totals
+pub mod ByLane
 pub mod Stops
+pub mod AtStop
+pub mod Parted
 pub mod Joining

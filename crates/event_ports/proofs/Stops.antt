@@ -1,5 +1,5 @@
 -- What finished stints count, lane by lane, and whose they are.
-use Rattle.std.proofs.Common.{◌≡◌, ℕ, zero, suc, ◌+◌, ◌<◌, ◌≤◌, Bool, true, false, cond, ◌==◌, List, [], ◌∷◌, ◌++◌, get_or, append-nil, refl, sym, ap, ◌∙◌, subst, arith, count_by, sum_by}
+use Rattle.std.proofs.Common.{◌≡◌, ℕ, ◌+◌, Bool, true, false, cond, ◌==◌, List, [], ◌∷◌, ◌++◌, get_or, append-nil, refl, sym, ap, ◌∙◌, subst, arith, count_by, sum_by}
 use Rattle.std.specs.List.{range_with_len}
 use Rattle.std.proofs.lemmas.List.Sums.{sum_by-append, sum_by-cons}
 use Rattle.std.proofs.lemmas.List.Elements.{filter-append, All-contains}
@@ -12,24 +12,12 @@ use Rattle.flow_claims.specs.Ends.{IsEnd}
 use Rattle.flow_claims.specs.Lists.{no_lists}
 use Rattle.flow_claims.specs.Stints.{at_lane, answered_in, answered_in_all}
 use Rattle.flow_claims.proofs.Records.{record_lanes}
+use Rattle.event_ports.proofs.Totals.{sum_split, sum_within}
 use Rattle.event_ports.specs.Holds.{answered_past, stints_at}
 use Rattle.event_ports.specs.Stop.{counted_past, AreLinkedBy, AreEnds, IsShared}
 
-past_append : (j : ℕ) (xs ys : List Past) → answered_past j (xs ++ ys) ≡ answered_past j xs ++ answered_past j ys
+pub past_append : (j : ℕ) (xs ys : List Past) → answered_past j (xs ++ ys) ≡ answered_past j xs ++ answered_past j ys
 past_append j xs ys = ap answered_in_all (filter-append (λ (p : Past). p.lane == j) xs ys) ∙ flat_map-append answered_in (stints_at j xs) (stints_at j ys)
-
--- sums over numbers, term by term
-sum_split : (f g h : ℕ → ℕ) (a n : ℕ) → ((j : ℕ) → f j ≡ g j + h j) → sum_by f (range_with_len a n) ≡ sum_by g (range_with_len a n) + sum_by h (range_with_len a n)
-sum_split f g h a zero e = refl
-sum_split f g h a (suc n) e =
-    let rest = range_with_len (a + 1) n in
-    omega (arith, e a, sum_by-cons f a rest, sum_by-cons g a rest, sum_by-cons h a rest, sum_split f g h (a + 1) n e)
-
-sum_within : (f g : ℕ → ℕ) (a n m : ℕ) → a + n ≤ m → ((j : ℕ) → j < m → f j ≡ g j) → sum_by f (range_with_len a n) ≡ sum_by g (range_with_len a n)
-sum_within f g a zero m le e = refl
-sum_within f g a (suc n) m le e =
-    let rest = range_with_len (a + 1) n in
-    omega (arith, e a (omega (arith, le)), sum_by-cons f a rest, sum_by-cons g a rest, sum_within f g (a + 1) n m (omega (arith, le)) e)
 
 pub joined : (P : Reply → Bool) (n : ℕ) (xs ys : List Past) → counted_past P n (xs ++ ys) ≡ counted_past P n xs + counted_past P n ys
 joined P n xs ys =
@@ -43,7 +31,7 @@ one_past P j p ps true = ap (count_by P) (flat_map-append answered_in (p ∷ [])
     ∙ sum_by-append (λ (r : Reply). cond (P r) 1 0) (answered_in p) (answered_past j ps)
 one_past P j p ps false = omega arith
 
-at_one : (P : Reply → Bool) (j : ℕ) (ps : List Past) → count_by P (answered_past j ps) ≡ sum_by (at_lane j (λ p. count_by P (answered_in p))) ps
+pub at_one : (P : Reply → Bool) (j : ℕ) (ps : List Past) → count_by P (answered_past j ps) ≡ sum_by (at_lane j (λ p. count_by P (answered_in p))) ps
 at_one P j [] = refl
 at_one P j (p ∷ ps) =
     let f : Past → ℕ = λ q. count_by P (answered_in q) in

@@ -1,7 +1,6 @@
 -- What a call on one flow lane makes of what a port has of all of them.
 use Rattle.std.proofs.Common.{◌≡◌, ◌≢◌, ℕ, suc, ◌<◌, Bool, true, false, List, [], ◌∷◌, ◌++◌, length, drop, set, Option, Some, None, All, MatchOption, refl, sym, ap, ◌∙◌, subst, arith, append-nil, append_assoc}
-use Rattle.std.specs.Option.{is_some}
-use Rattle.std.proofs.lemmas.List.{length-set, length-append}
+use Rattle.std.proofs.lemmas.List.{length-set}
 use Rattle.std.proofs.lemmas.List.Elements.{All-push}
 use mathlib.Core.Logic.{dite}
 use native.Mathlib.Decide.{ℕ_discrete, dec_le}
@@ -18,9 +17,10 @@ use Rattle.flow_claims.specs.Answers.{KeepsPort, EndsStint}
 use Rattle.flow_claims.specs.Claims.{seating, port_of, lanes_of, IsSeatOf}
 use Rattle.flow_claims.specs.Open.{IsOpen, received_so_far, answered_so_far}
 use Rattle.flow_claims.specs.Seats.{stint_at, find_lane, IsPorts}
-use Rattle.flow_claims.specs.Stints.{received_in, answered_in}
+use Rattle.flow_claims.specs.Stints.{left_in, received_in, answered_in}
 use Rattle.flow_claims.proofs.Held.{nothing_held}
-use Rattle.event_ports.specs.Holds.{place_at, IsHeldAt, AreFlows, stints_at, received_past, answered_past, received_now, answered_now, held_now, Hands, stint_in, received_on, answered_on, held_on, Kept, Ends, Same, SameBut, Gets, Says}
+use Rattle.event_ports.specs.Holds.{place_at, IsHeldAt, AreFlows, stints_at, received_past, answered_past, left_past, left_on, received_now, answered_now, held_now, Hands, received_on, answered_on, Kept, Ends, Same, SameBut, Gets, Says}
+use Rattle.event_ports.proofs.Unanswered.{left_here, left_other, left_nothing, given_back, surrendered}
 use Rattle.event_ports.proofs.Places.{Stints, hands, each_place, moved, free_place, held_place, past_places, past_more, other_stints, same_now, same_but, received_here, answered_here, held_here, all_same}
 
 module _ (claims : Claims) (links : List ℕ) where
@@ -109,7 +109,7 @@ module _ (claims : Claims) (links : List ℕ) where
       all_same lane (hands v ss) (hands w (set ss lane new)) (same_but links v w ss lane new others (λ j ne. ap (stints_at j) finished) are.each)
       (received_here links v w ss lane new within ∙ (λ i. received_past lane (finished i) ++ received i) ∙ sym (ap (λ o. received_past lane v.finished ++ received_now v o) free))
       (answered_here links v w ss lane new within ∙ (λ i. answered_past lane (finished i) ++ answered i) ∙ sym (ap (λ o. answered_past lane v.finished ++ answered_now v o) free))
-      (held_here links v w ss lane new within ∙ held ∙ sym (ap held_now free))
+      (held_here links v w ss lane new within ∙ held ∙ sym (ap held_now free)) (λ j. ap (left_past j) finished)
 
   -- a claim that was refused
   pub refused_same : (seat after : ClaimSeat) (ss : Stints) → AreFlows claims seat ss links → (seating after).held ≡ (seating seat).held → (seating after).finished ≡ (seating seat).finished
@@ -120,16 +120,11 @@ module _ (claims : Claims) (links : List ℕ) where
         received = λ j i. received_past j (finished i) ++ (now j).0 i;
         answered_is = λ j i. answered_past j (finished i) ++ (now j).1 i;
         held = λ j. refl;
+        left = λ j. ap (left_past j) finished;
       }
 
   -- after the end of a stint, but for what is held
   module _ (seat after : ClaimSeat) (ss : Stints) (lane : ℕ) (stint : Stint) (gone : Bool) (are : AreFlows claims seat ss links) (ends : EndsStint claims gone stint seat after) (at : place_at ss lane ≡ Some stint) (lt : lane < length (lanes_of claims)) where
-    v : Seating
-    v = seating seat
-
-    w : Seating
-    w = seating after
-
     held : IsHeldAt links (seating seat) lane stint
     held = (are.each lane).held stint at
 
@@ -157,10 +152,25 @@ module _ (claims : Claims) (links : List ℕ) where
         ∙ ap (λ r. answered_past lane (seating seat).finished ++ r) ends.piece.2.answered
         ∙ sym (ap (λ o. answered_past lane (seating seat).finished ++ answered_now (seating seat) o) at)
 
-    pub left_same : unanswered stint.far ≡ [] → Same (hands (seating seat) ss) (hands (seating after) (set ss lane None))
-    left_same none =
+    pub ended_left : gone ≡ true → (j : ℕ) → left_on (hands (seating after) (set ss lane None)) j ≡ left_on (hands (seating seat) ss) j
+    ended_left surrenders j =
+        let p : Past = ends.piece.0 in
+        let At : ℕ → Type 0 = λ i. left_on (hands (seating after) (set ss lane None)) i ≡ left_on (hands (seating seat) ss) i in
+        let here : left_past lane (seating after).finished ≡ left_past lane (seating seat).finished ++ unanswered stint.far =
+        left_here (seating seat).finished (seating after).finished p lane ends.piece.1 its_lane
+        ∙ ap (λ r. left_past lane (seating seat).finished ++ r) (surrendered p (ends.piece.2.surrendered_is ∙ surrenders) ∙ ap left_in ends.piece.2.lists) in
+        dite (ℕ_discrete j lane)
+        (λ e.
+        subst At (sym e)
+        (ap (λ r. left_past lane (seating after).finished ++ r) (held_here links (seating seat) (seating after) ss lane None within) ∙ append-nil (left_past lane (seating after).finished) ∙ here
+        ∙ sym (ap (λ o. left_past lane (seating seat).finished ++ held_now o) at)))
+        (λ ne. (λ i. left_other (seating seat).finished (seating after).finished p lane ends.piece.1 its_lane j ne i ++ ended_but.held j ne i))
+
+    pub left_same : gone ≡ false → unanswered stint.far ≡ [] → Same (hands (seating seat) ss) (hands (seating after) (set ss lane None))
+    left_same gives none =
         all_same lane (hands (seating seat) ss) (hands (seating after) (set ss lane None)) ended_but ended_received ended_answered
         (held_here links (seating seat) (seating after) ss lane None within ∙ sym none ∙ sym (ap held_now at))
+        (left_nothing (seating seat).finished (seating after).finished ends.piece.0 lane ends.piece.1 its_lane (given_back ends.piece.0 (ends.piece.2.surrendered_is ∙ gives)))
 
   -- after a call through the stint's end
   module _ (seat : ClaimSeat) (ss : Stints) (lane : ℕ) (stint new : Stint) (are : AreFlows claims seat ss links) (at : place_at ss lane ≡ Some stint) (lt : lane < length (lanes_of claims)) where
@@ -194,7 +204,7 @@ module _ (claims : Claims) (links : List ℕ) where
         → unanswered new.far ≡ unanswered stint.far → Same (hands (seating seat) ss) (hands (seating seat) (set ss lane (Some new)))
     turn_same r a u =
         all_same lane (hands (seating seat) ss) (hands (seating seat) (set ss lane (Some new))) but (same_received r) (same_answered a)
-        (held_here links (seating seat) (seating seat) ss lane (Some new) inside ∙ u ∙ sym (ap held_now at))
+        (held_here links (seating seat) (seating seat) ss lane (Some new) inside ∙ u ∙ sym (ap held_now at)) (λ j. refl)
 
     pub turn_gets : (d : Delivery) → received_so_far (seating seat) new ≡ received_so_far (seating seat) stint ++ d ∷ [] → answered_so_far (seating seat) new ≡ answered_so_far (seating seat) stint
         → unanswered new.far ≡ unanswered stint.far ++ d ∷ [] → Gets lane d (hands (seating seat) ss) (hands (seating seat) (set ss lane (Some new)))
@@ -203,6 +213,7 @@ module _ (claims : Claims) (links : List ℕ) where
       received = received_is (d ∷ []) r;
       answered_is = same_answered a;
       held = held_here links (seating seat) (seating seat) ss lane (Some new) inside ∙ u ∙ sym (ap (λ o. held_now o ++ d ∷ []) at);
+      left = λ j. refl;
     }
 
     pub turn_says : (reply : Reply) → received_so_far (seating seat) new ≡ received_so_far (seating seat) stint → answered_so_far (seating seat) new ≡ answered_so_far (seating seat) stint ++ reply ∷ []
@@ -212,6 +223,7 @@ module _ (claims : Claims) (links : List ℕ) where
       received = same_received r;
       answered_is = answered_is (reply ∷ []) a;
       held = held_here links (seating seat) (seating seat) ss lane (Some new) inside ∙ u ∙ sym (ap (λ o. drop (answers_among (reply ∷ [])) (held_now o)) at);
+      left = λ j. refl;
     }
 
     -- a receipt: `Stint::receive` in its own words
@@ -225,15 +237,16 @@ module _ (claims : Claims) (links : List ℕ) where
 
 -- what is kept twice is kept
 pub kept_more : (h k m : Hands) → Kept h k → Kept k m → Kept h m
-kept_more h k m a b = record { received = λ j. b.received j ∙ a.received j; answered_is = λ j. b.answered_is j ∙ a.answered_is j }
+kept_more h k m a b = record { received = λ j. b.received j ∙ a.received j; answered_is = λ j. b.answered_is j ∙ a.answered_is j; left = λ j. b.left j ∙ a.left j }
 
-pub all_kept : (lane : ℕ) (h k : Hands) → SameBut lane h k → received_on k lane ≡ received_on h lane → answered_on k lane ≡ answered_on h lane → Kept h k
-all_kept lane h k others received answered =
+pub all_kept : (lane : ℕ) (h k : Hands) → SameBut lane h k → received_on k lane ≡ received_on h lane → answered_on k lane ≡ answered_on h lane → ((j : ℕ) → left_on k j ≡ left_on h j) → Kept h k
+all_kept lane h k others received answered left =
     let Received : ℕ → Type 0 = λ j. received_on k j ≡ received_on h j in
     let Answered : ℕ → Type 0 = λ j. answered_on k j ≡ answered_on h j in
     record {
       received = λ j. dite (ℕ_discrete j lane) (λ e. subst Received (sym e) received) (λ ne. others.received j ne);
       answered_is = λ j. dite (ℕ_discrete j lane) (λ e. subst Answered (sym e) answered) (λ ne. others.answered_is j ne);
+      left = left;
     }
 
 -- once there is nothing at any place, the seat holds no lane, and has what the port had
@@ -245,6 +258,7 @@ ends_with h k kept none =
     record {
       received = λ j. sym (append-nil (received_past j k.view.finished)) ∙ sym (ap (λ o. received_past j k.view.finished ++ received_now k.view o) (none j)) ∙ kept.received j;
       answered_is = λ j. sym (append-nil (answered_past j k.view.finished)) ∙ sym (ap (λ o. answered_past j k.view.finished ++ answered_now k.view o) (none j)) ∙ kept.answered_is j;
+      left = λ j. sym (append-nil (left_past j k.view.finished)) ∙ sym (ap (λ o. left_past j k.view.finished ++ held_now o) (none j)) ∙ kept.left j;
     }
 
 pub holds_none : (claims : Claims) (seat : ClaimSeat) (ss : Stints) (links : List ℕ) → AreFlows claims seat ss links → ((j : ℕ) → place_at ss j ≡ None) → (seating seat).held ≡ []
@@ -258,65 +272,3 @@ all_linked claims seat ss links are k d lt = (are.ports.finished k d lt, are.lin
 pub lane_there : (claims : Claims) (seat : ClaimSeat) (ss : Stints) (links : List ℕ) (lane : ℕ) → AreFlows claims seat ss links → held_now (place_at ss lane) ≢ [] → lane < length (lanes_of claims)
 lane_there claims seat ss links lane are some =
     dite (dec_le (suc lane) (length (lanes_of claims))) (λ lt. lt) (λ le. absurd (some (ap held_now (past_places ss lane (omega (arith, le, are.places))))))
-
--- no lane is held of which nothing is unanswered
-abbrev pub AreIdle : Hands → Type 0
-AreIdle h = (j : ℕ) → held_on h j ≡ [] → is_some (stint_in h j) ≡ false
-
--- an answer, and then the lane is left
-pub idle_answered : (h k m : Hands) (lane : ℕ) (r : Reply) → Says lane r h k → ((j : ℕ) → is_some (stint_in k j) ≡ is_some (stint_in h j)) → Same k m
-    → (held_on k lane ≡ [] → is_some (stint_in m lane) ≡ false) → ((j : ℕ) → j ≢ lane → is_some (stint_in m j) ≡ is_some (stint_in k j)) → AreIdle h → AreIdle m
-idle_answered h k m lane r says places same left elsewhere idle j none =
-    let At : ℕ → Type 0 = λ i. is_some (stint_in m i) ≡ false in
-    dite (ℕ_discrete j lane)
-    (λ e. subst At (sym e) (left (sym (same.held lane) ∙ ap (held_on m) (sym e) ∙ none)))
-    (λ ne. elsewhere j ne ∙ places j ∙ idle j (sym (says.others.held j ne) ∙ sym (same.held j) ∙ none))
-
--- a lane is held, and something is received from it
-pub idle_received : (h k m : Hands) (lane : ℕ) (d : Delivery) → Same h k → ((j : ℕ) → j ≢ lane → is_some (stint_in k j) ≡ is_some (stint_in h j)) → Gets lane d k m
-    → ((j : ℕ) → is_some (stint_in m j) ≡ is_some (stint_in k j)) → AreIdle h → AreIdle m
-idle_received h k m lane d same elsewhere gets places idle j none =
-    dite (ℕ_discrete j lane)
-    (λ e. absurd (omega (arith, ap length (sym gets.held ∙ ap (held_on m) (sym e) ∙ none), length-append (held_on k lane) (d ∷ []))))
-    (λ ne. places j ∙ elsewhere j ne ∙ idle j (sym (same.held j) ∙ sym (gets.others.held j ne) ∙ none))
-
--- a lane is held, nothing is received, and it is left
-pub idle_left : (h k m n : Hands) (lane : ℕ) → Same h k → ((j : ℕ) → j ≢ lane → is_some (stint_in k j) ≡ is_some (stint_in h j)) → Same k m
-    → ((j : ℕ) → is_some (stint_in m j) ≡ is_some (stint_in k j)) → Same m n → (held_on m lane ≡ [] → is_some (stint_in n lane) ≡ false)
-    → ((j : ℕ) → j ≢ lane → is_some (stint_in n j) ≡ is_some (stint_in m j)) → AreIdle h → AreIdle n
-idle_left h k m n lane same elsewhere same' places same'' left elsewhere' idle j none =
-    let At : ℕ → Type 0 = λ i. is_some (stint_in n i) ≡ false in
-    dite (ℕ_discrete j lane)
-    (λ e. subst At (sym e) (left (sym (same''.held lane) ∙ ap (held_on n) (sym e) ∙ none)))
-    (λ ne. elsewhere' j ne ∙ places j ∙ elsewhere j ne ∙ idle j (sym (same.held j) ∙ sym (same'.held j) ∙ sym (same''.held j) ∙ none))
-
--- a lane isn't had
-pub idle_refused : (h k : Hands) (lane : ℕ) → Same h k → ((j : ℕ) → j ≢ lane → is_some (stint_in k j) ≡ is_some (stint_in h j)) → is_some (stint_in k lane) ≡ false → AreIdle h → AreIdle k
-idle_refused h k lane same elsewhere free idle j none =
-    let At : ℕ → Type 0 = λ i. is_some (stint_in k i) ≡ false in
-    dite (ℕ_discrete j lane) (λ e. subst At (sym e) free) (λ ne. elsewhere j ne ∙ idle j (sym (same.held j) ∙ none))
-
-pub same_more : (h k m : Hands) → Same h k → Same k m → Same h m
-same_more h k m a b = record { received = λ j. b.received j ∙ a.received j; answered_is = λ j. b.answered_is j ∙ a.answered_is j; held = λ j. b.held j ∙ a.held j }
-
-pub gets_after : (h k m : Hands) (lane : ℕ) (d : Delivery) → Same h k → Gets lane d k m → Gets lane d h m
-gets_after h k m lane d same gets = record {
-  others = record { received = λ j ne. gets.others.received j ne ∙ same.received j; answered_is = λ j ne. gets.others.answered_is j ne ∙ same.answered_is j; held = λ j ne. gets.others.held j ne ∙ same.held j };
-  received = gets.received ∙ ap (λ r. r ++ d ∷ []) (same.received lane);
-  answered_is = gets.answered_is ∙ same.answered_is lane;
-  held = gets.held ∙ ap (λ r. r ++ d ∷ []) (same.held lane);
-}
-
-pub says_before : (h k m : Hands) (lane : ℕ) (r : Reply) → Says lane r h k → Same k m → Says lane r h m
-says_before h k m lane r says same = record {
-  others = record { received = λ j ne. same.received j ∙ says.others.received j ne; answered_is = λ j ne. same.answered_is j ∙ says.others.answered_is j ne; held = λ j ne. same.held j ∙ says.others.held j ne };
-  received = same.received lane ∙ says.received;
-  answered_is = same.answered_is lane ∙ says.answered_is;
-  held = same.held lane ∙ says.held;
-}
-
--- a receipt answers nothing
-pub gets_no_answer : (h k : Hands) (lane : ℕ) (d : Delivery) → Gets lane d h k → (j : ℕ) → answered_on k j ≡ answered_on h j
-gets_no_answer h k lane d gets j =
-    let At : ℕ → Type 0 = λ i. answered_on k i ≡ answered_on h i in
-    dite (ℕ_discrete j lane) (λ e. subst At (sym e) gets.answered_is) (λ ne. gets.others.answered_is j ne)

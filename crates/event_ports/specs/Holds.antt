@@ -1,8 +1,9 @@
 -- What a port has of its flow lanes: a place for each lane, with the stint where the port holds the lane, and the seat's view.
-use Rattle.std.specs.Prelude.{◌≡◌, ◌≢◌, ℕ, ◌<◌, ◌≤◌, ◌==◌, List, [], ◌∷◌, ◌++◌, length, drop, filter, true, false, Option, All, slice_index_or}
+use Rattle.std.specs.Prelude.{◌≡◌, ◌≢◌, ℕ, ◌<◌, ◌≤◌, ◌==◌, List, [], ◌∷◌, ◌++◌, length, drop, filter, flat_map, count_by, true, false, if◌then◌else◌, Option, All, slice_index_or}
 use Rattle.std.specs.Prelude.Option.{Some, None}
 use Rattle.std.specs.Option.{ForNone, ForSome, is_some}
 use Rattle.lists.specs.Lists.{has}
+use Rattle.evt_types.specs.Operation.{is_new_reply}
 use Rattle.evt_types.specs.declared.event.Delivery.{Delivery}
 use Rattle.evt_types.specs.declared.event.Reply.{Reply}
 use Rattle.lane_rings.specs.Ends.{answered, answers_among, unanswered}
@@ -15,7 +16,7 @@ use Rattle.flow_claims.specs.declared.seating.Seating.{Seating}
 use Rattle.flow_claims.specs.Claims.{seating, port_of, lanes_of, IsSeatOf}
 use Rattle.flow_claims.specs.Open.{IsOpen, received_so_far, answered_so_far}
 use Rattle.flow_claims.specs.Seats.{stint_at, IsPorts}
-use Rattle.flow_claims.specs.Stints.{received_in_all, answered_in_all}
+use Rattle.flow_claims.specs.Stints.{left_in, received_in_all, answered_in_all}
 
 -- what stands at the place of a lane; past the last there is nothing
 abbrev pub place_at : List (Option Stint) → ℕ → Option Stint
@@ -58,6 +59,14 @@ received_past lane ps = received_in_all (stints_at lane ps)
 abbrev pub answered_past : ℕ → List Past → List Reply
 answered_past lane ps = answered_in_all (stints_at lane ps)
 
+-- what a stint that surrendered its lane left unanswered; one that gave it back left nothing
+abbrev pub left_by : Past → List Delivery
+left_by p = if p.surrendered then left_in p.end else []
+
+-- what the finished stints of a lane left unanswered
+abbrev pub left_past : ℕ → List Past → List Delivery
+left_past lane ps = flat_map left_by (stints_at lane ps)
+
 -- what was received and answered in the open stint so far, and what is unanswered of it
 abbrev pub received_now : Seating → Option Stint → List Delivery
 received_now v None = []
@@ -89,16 +98,34 @@ answered_on h lane = answered_past lane h.view.finished ++ answered_now h.view (
 abbrev pub held_on : Hands → ℕ → List Delivery
 held_on h lane = held_now (stint_in h lane)
 
+-- what was left unanswered of the lane, and what is held of it
+abbrev pub left_on : Hands → ℕ → List Delivery
+left_on h lane = left_past lane h.view.finished ++ held_on h lane
+
+-- each lane that was held before was given back with nothing unanswered
+abbrev pub LeftNothing : Hands → Type 0
+LeftNothing h = (lane : ℕ) → left_past lane h.view.finished ≡ []
+
+-- what finished stints left unanswered stays
+abbrev pub SameLeft : Hands → Hands → Type 0
+SameLeft h k = (lane : ℕ) → left_past lane k.view.finished ≡ left_past lane h.view.finished
+
+-- no NEW was submitted to a flow lane
+abbrev pub HaveNoNew : Hands → Type 0
+HaveNoNew h = (lane : ℕ) → count_by is_new_reply (answered_on h lane) ≡ 0
+
 -- the lists of each lane stay
 pub record Same (h k : Hands) : Type 0 where
   pub received : (lane : ℕ) → received_on k lane ≡ received_on h lane
   pub answered_is : (lane : ℕ) → answered_on k lane ≡ answered_on h lane
   pub held : (lane : ℕ) → held_on k lane ≡ held_on h lane
+  pub left : SameLeft h k
 
--- but for what is held
+-- But for what is held: that may be left unanswered.
 pub record Kept (h k : Hands) : Type 0 where
   pub received : (lane : ℕ) → received_on k lane ≡ received_on h lane
   pub answered_is : (lane : ℕ) → answered_on k lane ≡ answered_on h lane
+  pub left : (lane : ℕ) → left_on k lane ≡ left_on h lane
 
 -- those of other lanes
 pub record SameBut (lane : ℕ) (h k : Hands) : Type 0 where
@@ -112,6 +139,7 @@ pub record Gets (lane : ℕ) (d : Delivery) (h k : Hands) : Type 0 where
   pub received : received_on k lane ≡ received_on h lane ++ d ∷ []
   pub answered_is : answered_on k lane ≡ answered_on h lane
   pub held : held_on k lane ≡ held_on h lane ++ d ∷ []
+  pub left : SameLeft h k
 
 -- a reply went to the lane; an answer is to the oldest delivery that is held of it
 pub record Says (lane : ℕ) (r : Reply) (h k : Hands) : Type 0 where
@@ -119,17 +147,20 @@ pub record Says (lane : ℕ) (r : Reply) (h k : Hands) : Type 0 where
   pub received : received_on k lane ≡ received_on h lane
   pub answered_is : answered_on k lane ≡ answered_on h lane ++ r ∷ []
   pub held : held_on k lane ≡ drop (answers_among (r ∷ [])) (held_on h lane)
+  pub left : SameLeft h k
 
--- what a seat that holds no lane has of the lanes is what the port had
+-- What a seat that holds no lane has of the lanes is what the port had; what the port held of them is left unanswered.
 pub record Ends (h : Hands) (v : Seating) : Type 0 where
   pub received : (lane : ℕ) → received_past lane v.finished ≡ received_on h lane
   pub answered_is : (lane : ℕ) → answered_past lane v.finished ≡ answered_on h lane
+  pub left : (lane : ℕ) → left_past lane v.finished ≡ left_on h lane
 
 -- nothing was received from any lane or answered to it, and no lane is held
 pub record AreEmpty (h : Hands) : Type 0 where
   pub received : (lane : ℕ) → received_on h lane ≡ []
   pub answered_is : (lane : ℕ) → answered_on h lane ≡ []
   pub held : (lane : ℕ) → is_some (stint_in h lane) ≡ false
+  pub left : LeftNothing h
 
 -- as many replies were given to the lane of the stint as its reply ring has room for, by all ports that held it
 abbrev pub IsFilledBy : Option Stint → Type 0

@@ -18,7 +18,7 @@ use Rattle.flow_claims.specs.declared.seating.Past.{Past}
 use Rattle.event_ports.specs.declared.lane.Lane.{Lane}
 use Rattle.event_ports.specs.declared.lane.Lane.TheVariants.{Own, Flow}
 use Rattle.event_ports.specs.declared.lane.Holding.{Holding}
-use Rattle.event_ports.specs.Holds.{Hands, stint_in, IsFilledBy, received_past, answered_past, received_on, answered_on, held_on}
+use Rattle.event_ports.specs.Holds.{Hands, stint_in, IsFilledBy, received_past, answered_past, left_past, received_on, answered_on, held_on}
 
 -- the reply that carries an event, and that of a release of the port's own making
 abbrev pub reply_of : Event → Reply
@@ -43,6 +43,10 @@ pair_in x = (x.queue, x.number)
 -- of what is held, that of one lane
 abbrev pub held_of : Lane → List Holding → List Holding
 held_of l xs = filter (λ x. same_lane x.lane l) xs
+
+-- all of these came from the own lane or from one of so many flow lanes
+abbrev pub AreOf : ℕ → List Holding → Type 0
+AreOf n xs = length xs ≡ length (held_of Own xs) + sum_by (λ j. length (held_of (Flow j) xs)) (range_with_len 0 n)
 
 -- the lane from which the oldest came
 abbrev pub first_lane : List Holding → Option Lane
@@ -141,10 +145,11 @@ pub record IsEmptyHand (h : Hand) : Type 0 where
   pub got : (l : Lane) → h.got l ≡ []
   pub holding : h.holding ≡ []
 
--- what was received and answered in these stints is what the port had of the flow lanes
+-- What was received and answered in these stints is what the port had of the flow lanes, and what they left unanswered is what it holds of them.
 pub record IsEndOf (h : Hand) (ps : List Past) : Type 0 where
   pub received : (j : ℕ) → received_past j ps ≡ h.got (Flow j)
   pub answered_is : (j : ℕ) → answered_past j ps ≡ h.said (Flow j)
+  pub held : (j : ℕ) → map pair_in (held_of (Flow j) h.holding) ≡ map pair_of (left_past j ps)
 
 -- a release for each of these that came from the lane
 abbrev pub releases_for : Lane → List Holding → List Reply

@@ -1,8 +1,9 @@
 -- All ports of a device taken together, once none works any more, and what the flow lanes' ends have then.
-use Rattle.std.specs.Prelude.{◌≡◌, ℕ, ◌+◌, ◌<◌, ◌++◌, Bool, true, List, All, map, count_by, sum_by}
+use Rattle.std.specs.Prelude.{◌≡◌, ℕ, ◌+◌, ◌<◌, ◌++◌, Bool, true, List, length, All, map, count_by, sum_by}
 use Rattle.std.specs.List.{range_with_len}
+use Rattle.evt_types.specs.Operation.{is_new_reply}
 use Rattle.evt_types.specs.declared.event.Reply.{Reply}
-use Rattle.lane_rings.specs.Ends.{received_by, answered}
+use Rattle.lane_rings.specs.Ends.{received_by, answered, held_list}
 use Rattle.lane_rings.specs.declared.far.Far.{Far}
 use Rattle.flow_claims.specs.declared.seating.Past.{Past}
 use Rattle.flow_claims.specs.Ends.{IsEnd}
@@ -11,19 +12,25 @@ use Rattle.flow_claims.specs.Stints.{IsRecordFrom, received_in_all, answered_in_
 use Rattle.flow_claims.specs.declared.seating.Seating.{Seating}
 use Rattle.flow_claims.specs.Seats.{HoldsNone}
 use Rattle.event_ports.specs.declared.port.Port.{Port}
-use Rattle.event_ports.specs.Holds.{answered_past, AreLinked}
-use Rattle.event_ports.specs.Lanes.{IsEndOf}
-use Rattle.event_ports.specs.Ports.{place_of, account_of, pocket_of, hand, links}
+use Rattle.event_ports.specs.Holds.{answered_past, left_past, AreLinked}
+use Rattle.event_ports.specs.Handed.{flow_count}
+use Rattle.event_ports.specs.Lanes.{AreOf, IsEndOf, pair_in, held_of}
+use Rattle.event_ports.specs.Ports.{place_of, account_of, pocket_of, hand, links, news_by, releases_by}
 use Rattle.event_ports.specs.declared.joined.Rest.{Rest}
 use Rattle.event_ports.specs.declared.lane.Lane.TheVariants.{Own, Flow}
 use Rattle.credit_pool.specs.declared.pool.Credits.{Credits}
 use Rattle.credit_pool.specs.declared.pool.CreditSeat.{CreditSeat}
+use Rattle.credit_pool.specs.Pockets.{IsPocket}
 use Rattle.credit_pool.specs.Pool as credits
 use Rattle.flow_claims.specs.declared.claims.Claims.{Claims}
 use Rattle.flow_claims.specs.declared.claims.ClaimSeat.{ClaimSeat}
 use Rattle.flow_claims.specs.Claims.{seating, port_of, IsSeatOf}
 use Rattle.lane_rings.specs.Identity.{far_id}
 use Rattle.lists.specs.Lists.{has}
+
+-- no NEW is among the replies in finished stints of a flow lane
+abbrev pub HasNoNew : List Past → Type 0
+HasNoNew ps = (j : ℕ) → count_by is_new_reply (answered_past j ps) ≡ 0
 
 -- how many of the replies in finished stints of so many flow lanes pass the test
 abbrev pub counted_past : (Reply → Bool) → ℕ → List Past → ℕ
@@ -60,6 +67,14 @@ pub record IsPortOf (pool : Credits) (claims : Claims) (p : Port) : Type 0 where
   pub pool_is : (place_of p).pool ≡ pool
   pub claims_are : (place_of p).lanes.flows.claims ≡ claims
 
+-- what the port drew and what it released paid for what it returned and its NEWs, and the rest is in its pocket
+abbrev pub IsPaid : Port → Type 0
+IsPaid p = IsPocket (pocket_of p) ((account_of p).drawn + releases_by p) ((account_of p).returned + news_by p)
+
+-- all that the port holds is of its own lane or of a flow lane that is there
+abbrev pub IsCounted : Port → Type 0
+IsCounted p = AreOf (flow_count (place_of p).lanes) (hand p).holding
+
 -- how many of a port's replies to so many flow lanes pass the test
 abbrev pub flows_in : (Reply → Bool) → ℕ → Port → ℕ
 flows_in P n p = sum_by (λ j. count_by P ((hand p).said (Flow j))) (range_with_len 0 n)
@@ -79,6 +94,8 @@ pub record IsJoined (pool : Credits) (claims : Claims) (credit : CreditSeat) (cl
   pub bit : (credits.account credits_after).set_shut ≡ (credits.account credit).set_shut
   pub flow_parts : (seating claims_after).parts ≡ (seating claim).parts + sum_by (λ p. (place_of p).lanes.flows.parts) ports
   pub counted_is : (P : Reply → Bool) (n : ℕ) → counted_past P n (seating claims_after).finished ≡ counted_past P n (seating claim).finished + sum_by (flows_in P n) ports
+  pub held : (j : ℕ) → length (left_past j (seating claims_after).finished) ≡ length (left_past j (seating claim).finished) + sum_by (λ p. length (held_of (Flow j) (hand p).holding)) ports
+  pub no_new : HasNoNew (seating claim).finished → HasNoNew (seating claims_after).finished
   pub linked : (linked : ℕ → ℕ → Bool) → All (LinksAgree linked) ports → AreLinkedBy linked (seating claim).finished → AreLinkedBy linked (seating claims_after).finished
 
 -- what is left of each of these ports, in their order
@@ -87,4 +104,5 @@ pub record AreLeft (ports : List Port) (rests : List Rest) : Type 0 where
   pub received : map (λ r. received_by r.own) rests ≡ map (λ p. (hand p).got Own) ports
   pub answered_is : map (λ r. answered r.own) rests ≡ map (λ p. (hand p).said Own) ports
   pub held : map (λ r. r.held.items) rests ≡ map (λ p. (hand p).holding) ports
+  pub ordered : map (λ r. held_list r.own) rests ≡ map (λ p. map pair_in (held_of Own (hand p).holding)) ports
   pub pockets : map (λ r. r.pocket) rests ≡ map pocket_of ports

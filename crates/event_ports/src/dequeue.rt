@@ -7,9 +7,9 @@ ghost use Rattle.event_ports.specs.Lanes.{Rests, Releases, Dequeues, Arrives, Su
 ghost use Rattle.event_ports.specs.Draws.{Settles};
 ghost use Rattle.event_ports.specs.Ports.{place_of, account_of, pocket_of, hand, links, was_filled, released_first, StopsAt};
 
-use event_answers::{Behind, Refused};
 use crate::port::Port;
 use arrayvec::ArrayVec;
+use event_answers::{Behind, Refused};
 use evt_types::{Delivery, Event, Reply};
 
 impl Port {

@@ -1,16 +1,18 @@
 //! A port's seats joined into those of the device that stops.
 
-ghost use Rattle.std.specs.Prelude.{◌≡◌, ◌+◌, ◌≤◌, [], length, vec_capacity, All};
+ghost use Rattle.std.specs.Prelude.{◌≡◌, ℕ, ◌+◌, ◌≤◌, [], length, map, count_by, vec_capacity, All};
 ghost use Rattle.credit_pool.specs.Accounts.{after_join};
 ghost use Rattle.credit_pool.specs.Pool as credits;
+ghost use Rattle.evt_types.specs.Operation.{is_new_reply};
 ghost use Rattle.lane_rings.specs.Identity.{far_id};
-ghost use Rattle.lane_rings.specs.Ends.{received_by, answered};
+ghost use Rattle.lane_rings.specs.Ends.{received_by, answered, held_list};
 ghost use Rattle.flow_claims.specs.Claims.{seating, port_of, IsSeatOf};
 ghost use Rattle.flow_claims.specs.Seats.{HoldsNone};
 ghost use Rattle.event_ports.specs.declared.lane.Lane.TheVariants as lanes;
 ghost use Rattle.credit_pool.specs.Pockets.{IsPocket};
+ghost use Rattle.event_ports.specs.Lanes.{held_of, pair_in};
 ghost use Rattle.event_ports.specs.Ports.{place_of, account_of, pocket_of, hand, news_by, releases_by};
-ghost use Rattle.event_ports.specs.Stop.{Joins, IsPortOf, IsJoined, AreLeft};
+ghost use Rattle.event_ports.specs.Stop.{Joins, IsPortOf, IsPaid, IsCounted, IsJoined, AreLeft};
 
 use crate::lane::Holding;
 use crate::parts::Left;
@@ -43,9 +45,12 @@ pub fn join_port(
     ensures credit { credits.IsSeatOf pool.now result.0 × (credits.account result.0 ≡ after_join (credits.account credit) (account_of port)) }
     ensures bit { (credits.account result.0).set_shut ≡ (credits.account credit).set_shut }
     ensures claim { IsSeatOf claims.now result.1 × (port_of result.1 ≡ port_of claim) }
+    ensures no_new { (j : ℕ) → count_by is_new_reply ((hand port).said (lanes.Flow j)) ≡ 0 }
     ensures stints { Joins port (seating claim) (seating result.1) }
     ensures own { (far_id result.2.own ≡ (place_of port).lanes.own) × (received_by result.2.own ≡ (hand port).got lanes.Own) × (answered result.2.own ≡ (hand port).said lanes.Own) }
     ensures held { result.2.held.items ≡ (hand port).holding }
+    ensures counted { IsCounted port }
+    ensures ordered { map pair_in (held_of lanes.Own (hand port).holding) ≡ held_list result.2.own }
     ensures paid { (result.2.pocket ≡ pocket_of port) × IsPocket result.2.pocket ((account_of port).drawn + releases_by port) ((account_of port).returned + news_by port) }
 {
     let Left {
@@ -75,6 +80,8 @@ pub fn join_ports(
     requires room { (into.old.items ≡ []) × (length ports.items ≤ vec_capacity into.old) }
     ensures joined { IsJoined pool.now claims.now credit claim ports.items result.0 result.1 }
     ensures left { AreLeft ports.items into.new.items }
+    ensures counted { All IsCounted ports.items }
+    ensures paid { All IsPaid ports.items }
 {
     for port in ports {
         let (its_credit, its_claim, rest) = join_port(pool, claims, credit, claim, port);

@@ -3,7 +3,7 @@
 ghost use Rattle.std.specs.Prelude.{◌≡◌, ◌≤◌, ℕ, [], false};
 ghost use Rattle.std.specs.Option.{is_some};
 ghost use Rattle.lane_rings.specs.Identity.{far_id};
-ghost use Rattle.event_ports.specs.Holds.{held_on, stint_in};
+ghost use Rattle.event_ports.specs.Holds.{HaveNoNew, LeftNothing, held_on, stint_in};
 ghost use Rattle.event_ports.specs.Lanes.{AreOrdered, holding_of};
 ghost use Rattle.event_ports.specs.Flows.{hands_of};
 
@@ -24,15 +24,17 @@ pub(crate) struct Lanes {
     order: HeapCircularBuffer<Holding>,
     ghost depth: { (order.capacity ≡ (far_id own).depth) × (order.capacity ≤ 64) },
     ghost ordered: { AreOrdered own (hands_of flows) order.items },
+    ghost left: { LeftNothing (hands_of flows) },
+    ghost no_new: { HaveNoNew (hands_of flows) },
     ghost idle: { (j : ℕ) → held_on (hands_of flows) j ≡ [] → is_some (stint_in (hands_of flows) j) ≡ false },
 }
 
 impl Lanes {
-    ghost use Rattle.std.specs.Prelude.{◌≡◌, ◌≢◌, ℕ, ◌+◌, ◌<◌, ◌≤◌, [], ◌∷◌, true, false, length, Some, IfOk, IfErr, IfSome, MatchOption, MatchResult};
+    ghost use Rattle.std.specs.Prelude.{◌≡◌, ◌≢◌, ℕ, ◌+◌, ◌<◌, ◌≤◌, [], ◌∷◌, true, false, length, map, count_by, Some, IfOk, IfErr, IfSome, MatchOption, MatchResult};
     ghost use Rattle.evt_types.specs.Operation.{is_answer, is_new_reply};
-    ghost use Rattle.event_ports.specs.Lanes.{Rests, Submits, SubmitsTo, Takes, Arrives, HasRoomFor, IsEmptyHand, IsEndOf, first_lane};
-    ghost use Rattle.event_ports.specs.Handed.{IsReadable, lanes_place, links_of, hand_of, news_of, releases_of, CountsOne, CountsNone, IsFilled, RefusesOldest};
-    ghost use Rattle.lane_rings.specs.Ends.{received_by, answered};
+    ghost use Rattle.event_ports.specs.Lanes.{Rests, Submits, SubmitsTo, Takes, Arrives, HasRoomFor, IsEmptyHand, IsEndOf, AreOf, first_lane, held_of, pair_in};
+    ghost use Rattle.event_ports.specs.Handed.{IsReadable, lanes_place, flow_count, links_of, hand_of, news_of, releases_of, CountsOne, CountsNone, IsFilled, RefusesOldest};
+    ghost use Rattle.lane_rings.specs.Ends.{received_by, answered, held_list};
     ghost use Rattle.flow_claims.specs.Claims.{seating, port_of, IsSeatOf};
     ghost use Rattle.flow_claims.specs.Laws.{IsUnused};
     ghost use Rattle.flow_claims.specs.Seats.{HoldsNone};
@@ -181,7 +183,10 @@ impl Lanes {
         ensures none_open { HoldsNone (seating result.1) }
         ensures lists { IsEndOf (hand_of self) (seating result.1).finished }
         ensures linked { AreLinked (lanes_place self).flows.port (links_of self) (seating result.1).finished }
+        ensures no_new { (j : ℕ) → count_by is_new_reply ((hand_of self).said (lanes.Flow j)) ≡ 0 }
         ensures held { result.2.items ≡ (hand_of self).holding }
+        ensures counted { AreOf (flow_count (lanes_place self)) (hand_of self).holding }
+        ensures ordered { map pair_in (held_of lanes.Own (hand_of self).holding) ≡ held_list result.0 }
     {
         let Lanes { own, flows, order } = self;
         (own, flows.into_seat(), order)

@@ -17,4 +17,4 @@ pub use joined::{Rest, join_port, join_ports};
 pub use lane::{Holding, Lane};
 pub use parts::{Left, Memory, Parts};
 pub use port::Port;
-pub use stop::flow_lanes_at_stop;
+pub use stop::{flow_lanes_at_stop, ports_at_stop};

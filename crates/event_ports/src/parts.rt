@@ -1,18 +1,20 @@
 //! How a port is made of its parts, and taken apart again.
 
-ghost use Rattle.std.specs.Prelude.{◌≡◌, ◌+◌, ◌<◌, ◌≤◌, [], false, length, All, IfOk, IfErr};
+ghost use Rattle.std.specs.Prelude.{◌≡◌, ℕ, ◌+◌, ◌<◌, ◌≤◌, [], false, length, map, count_by, All, IfOk, IfErr};
 ghost use Rattle.std.specs.Arc.{arc_value};
 ghost use Rattle.credit_pool.specs.Pool as credits;
+ghost use Rattle.evt_types.specs.Operation.{is_new_reply};
 ghost use Rattle.lane_rings.specs.Identity.{far_id};
-ghost use Rattle.lane_rings.specs.Ends.{received_by, answered};
+ghost use Rattle.lane_rings.specs.Ends.{received_by, answered, held_list};
 ghost use Rattle.flow_claims.specs.Claims.{seating, port_of, lanes_of, IsSeatOf};
 ghost use Rattle.flow_claims.specs.Laws.{IsUnused};
 ghost use Rattle.flow_claims.specs.Seats.{HoldsNone};
 ghost use Rattle.event_ports.specs.declared.lane.Lane.TheVariants as lanes;
 ghost use Rattle.event_ports.specs.Holds.{AreLinked};
-ghost use Rattle.event_ports.specs.Lanes.{IsEmptyHand, IsEndOf};
+ghost use Rattle.event_ports.specs.Lanes.{IsEmptyHand, IsEndOf, held_of, pair_in};
 ghost use Rattle.credit_pool.specs.Pockets.{IsPocket};
 ghost use Rattle.event_ports.specs.Ports.{place_of, account_of, pocket_of, hand, links, news_by, releases_by};
+ghost use Rattle.event_ports.specs.Stop.{IsCounted};
 ghost use Rattle.event_ports.specs.Parts.{FitTogether, AreFresh, place_by};
 
 use crate::flows::{FlowLanes, free_places};
@@ -120,8 +122,11 @@ impl Port {
         ensures none_open { HoldsNone (seating result.claim) }
         ensures own { (far_id result.own ≡ (place_of self).lanes.own) × (received_by result.own ≡ (hand self).got lanes.Own) × (answered result.own ≡ (hand self).said lanes.Own) }
         ensures lists { IsEndOf (hand self) (seating result.claim).finished }
+        ensures no_new { (j : ℕ) → count_by is_new_reply ((hand self).said (lanes.Flow j)) ≡ 0 }
         ensures linked { AreLinked (place_of self).number (links self) (seating result.claim).finished }
         ensures held { result.held.items ≡ (hand self).holding }
+        ensures counted { IsCounted self }
+        ensures ordered { map pair_in (held_of lanes.Own (hand self).holding) ≡ held_list result.own }
         ensures paid { (result.pocket ≡ pocket_of self) × IsPocket result.pocket ((account_of self).drawn + releases_by self) ((account_of self).returned + news_by self) }
     {
         let Port {

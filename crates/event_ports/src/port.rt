@@ -6,11 +6,11 @@ ghost use Rattle.credit_pool.specs.Pool.{account, limit_of, IsSeatOf};
 ghost use Rattle.event_ports.specs.Handed.{lanes_place, news_of, releases_of};
 ghost use Rattle.credit_pool.specs.Pockets.{IsPocket};
 
-use event_answers::{Behind, Refused};
 use crate::fill::fill;
 use crate::lanes::Lanes;
 use arrayvec::ArrayVec;
 use credit_pool::{CreditSeat, Credits, Draw, Give};
+use event_answers::{Behind, Refused};
 use evt_types::{Delivery, Event, Op, Reply};
 use lane_rings::AnswerFault;
 use std::alloc::Global;

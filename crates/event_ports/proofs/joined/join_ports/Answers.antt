@@ -1,17 +1,20 @@
 -- One port more is joined, and what is left of it is added.
-use Rattle.std.proofs.Common.{rules, ◌≡◌, ◌∙◌, ◌∷◌, [], length, ap, sym, List, arith}
+use Rattle.std.proofs.Common.{rules, ◌≡◌, ◌∙◌, ◌∷◌, [], ℕ, ◌+◌, length, map, subst, ap, sym, List, arith}
 use Rattle.std.proofs.lemmas.List.{length-map, length-append}
-use Rattle.lane_rings.specs.Ends.{received_by, answered}
+use Rattle.lane_rings.specs.Ends.{received_by, answered, held_list}
 use Rattle.lane_rings.specs.Identity.{far_id}
 use Rattle.credit_pool.specs.Pool.{account}
+use Rattle.credit_pool.specs.Pockets.{IsPocket}
 use Rattle.flow_claims.specs.Claims.{seating}
 use Rattle.event_ports.specs.declared.joined.Rest.{Rest}
-use Rattle.event_ports.specs.declared.lane.Lane.TheVariants.{Own}
+use Rattle.event_ports.specs.declared.lane.Lane.TheVariants.{Own, Flow}
 use Rattle.event_ports.specs.declared.port.Port.{Port}
-use Rattle.event_ports.specs.Ports.{place_of, account_of, pocket_of, hand}
-use Rattle.event_ports.specs.Stop.{LinksAgree, flows_in}
+use Rattle.event_ports.specs.Ports.{place_of, account_of, pocket_of, hand, news_by, releases_by}
+use Rattle.event_ports.specs.Lanes.{held_of, pair_in}
+use Rattle.event_ports.specs.Stop.{LinksAgree, flows_in, IsPaid, IsCounted}
+use Rattle.std.proofs.lemmas.List.Elements.{All-push}
 use Rattle.lists.proofs.Lists.{All-last, All-front}
-use Rattle.event_ports.proofs.Joining.{sum_one_more, counts_more, linked_more, one_more}
+use Rattle.event_ports.proofs.Joining.{sum_one_more, counts_more, held_more, no_new_more, linked_more, one_more}
 use Rattle.event_ports.proofs.joined.join_ports.Goals as goal
 
 pub push_reserved-requires : goal.push_reserved-requires
@@ -20,7 +23,7 @@ push_reserved-requires c =
     let same : length c.loop-port.into.items ≡ length c.loop-port.yielded =
     sym (length-map c.loop-port.into.items (λ (r : Rest). r.pocket)) ∙ ap length rests.pockets ∙ length-map c.loop-port.yielded pocket_of in
     let left : c.loop-port.port-iterator.rest.items ≡ c.in-Some.port ∷ c.next.new.self.rest.items = search rules in
-    omega (arith, same, ap length left, c.loop-port.invariant.3)
+    omega (arith, same, ap length left, c.loop-port.invariant.5)
 
 pub loop-port-preserved : goal.loop-port-preserved
 loop-port-preserved c =
@@ -31,6 +34,7 @@ loop-port-preserved c =
     let rest : Rest = c.join_port-its_credit.result.2 in
     let ports : List Port = c.loop-port.yielded in
     let left : c.loop-port.port-iterator.rest.items ≡ port ∷ c.next.new.self.rest.items = search rules in
+    let paid : IsPaid port = subst (λ (n : ℕ). IsPocket n ((account_of port).drawn + releases_by port) ((account_of port).returned + news_by port)) now.paid.0 now.paid.1 in
     let seat = account c.join_port-its_credit.result.0 in (
       record {
         credit_of = now.credit.0;
@@ -42,6 +46,8 @@ loop-port-preserved c =
         bit = now.bit ∙ was.bit;
         flow_parts = sum_one_more (λ p. (place_of p).lanes.flows.parts) _ (seating c.loop-port.claim).parts _ ports port was.flow_parts now.stints.parts;
         counted_is = λ P n. sum_one_more (flows_in P n) _ _ _ ports port (was.counted_is P n) (counts_more P n port (seating c.loop-port.claim) (seating c.join_port-its_credit.result.1) now.stints);
+        held = λ j. sum_one_more (λ p. length (held_of (Flow j) (hand p).holding)) _ _ _ ports port (was.held j) (held_more port (seating c.loop-port.claim) (seating c.join_port-its_credit.result.1) j now.stints);
+        no_new = λ none. no_new_more port (seating c.loop-port.claim) (seating c.join_port-its_credit.result.1) now.stints now.no_new (was.no_new none);
         linked = λ linked all first.
             linked_more linked port (seating c.loop-port.claim) (seating c.join_port-its_credit.result.1) now.stints (All-last (LinksAgree linked) ports port all)
             (was.linked linked (All-front (LinksAgree linked) ports (port ∷ []) all) first);
@@ -51,8 +57,11 @@ loop-port-preserved c =
         received = one_more (λ (r : Rest). received_by r.own) (λ (p : Port). (hand p).got Own) c.loop-port.into.items _ rest ports port c.push_reserved.ensures.items rests.received now.own.1;
         answered_is = one_more (λ (r : Rest). answered r.own) (λ (p : Port). (hand p).said Own) c.loop-port.into.items _ rest ports port c.push_reserved.ensures.items rests.answered_is now.own.2;
         held = one_more (λ (r : Rest). r.held.items) (λ (p : Port). (hand p).holding) c.loop-port.into.items _ rest ports port c.push_reserved.ensures.items rests.held now.held;
+        ordered = one_more (λ (r : Rest). held_list r.own) (λ (p : Port). map pair_in (held_of Own (hand p).holding)) c.loop-port.into.items _ rest ports port c.push_reserved.ensures.items rests.ordered (sym now.ordered);
         pockets = one_more (λ (r : Rest). r.pocket) pocket_of c.loop-port.into.items _ rest ports port c.push_reserved.ensures.items rests.pockets now.paid.0;
       },
-      c.push_reserved.ensures.capacity ∙ c.loop-port.invariant.2,
-      omega (arith, ap length left, c.loop-port.invariant.3, c.push_reserved.ensures.capacity, length-append ports (port ∷ [])),
+      All-push IsPaid ports port c.loop-port.invariant.2 paid,
+      All-push IsCounted ports port c.loop-port.invariant.3 now.counted,
+      c.push_reserved.ensures.capacity ∙ c.loop-port.invariant.4,
+      omega (arith, ap length left, c.loop-port.invariant.5, c.push_reserved.ensures.capacity, length-append ports (port ∷ [])),
     )

@@ -1,5 +1,5 @@
 -- What the end of a stint makes of the port's flow lanes.
-use Rattle.std.proofs.Common.{◌≡◌, ◌∙◌, sym, subst, false, [], Some, List, Option, length, ◌<◌, arith, set}
+use Rattle.std.proofs.Common.{◌≡◌, ◌∙◌, refl, sym, subst, false, [], Some, List, Option, length, ◌<◌, arith, set}
 use Rattle.std.specs.Arc.{arc_value}
 use Rattle.flow_claims.specs.declared.claim.Stint.{Stint}
 use Rattle.flow_claims.specs.declared.claims.Claims.{Claims}
@@ -40,4 +40,4 @@ returns-then-is_done-clause-same c =
     let none : unanswered c.in-Some.stint.far ≡ [] = c.is_done.ensures.0 c.if-is_done.true in
     let To : Option Stint → Type 0 = λ o. Same (hands (seating c.args.self.now.seat) c.args.self.now.stints.items) (hands (seating c.give_back.new.seat) (set c.args.self.now.stints.items c.args.lane o)) in
     subst To (sym c.take.ensures.after)
-    (left_same _ _ c.args.self.now.seat c.give_back.new.seat _ _ c.in-Some.stint false are (subst Ends c.deref.ensures c.give_back.ensures) at c.requires none)
+    (left_same _ _ c.args.self.now.seat c.give_back.new.seat _ _ c.in-Some.stint false are (subst Ends c.deref.ensures c.give_back.ensures) at c.requires refl none)

@@ -1,5 +1,5 @@
 -- What the surrender of a lane makes of the port's flow lanes.
-use Rattle.std.proofs.Common.{◌≡◌, ◌∙◌, sym, subst, true, Some, None, Option, length, ◌<◌, arith, set}
+use Rattle.std.proofs.Common.{◌≡◌, ◌∙◌, refl, sym, subst, true, Some, None, Option, length, ◌<◌, arith, set}
 use Rattle.std.specs.Arc.{arc_value}
 use Rattle.flow_claims.specs.declared.claims.Claims.{Claims}
 use Rattle.flow_claims.specs.declared.claim.Stint.{Stint}
@@ -7,7 +7,7 @@ use Rattle.flow_claims.specs.Answers.{EndsStint}
 use Rattle.flow_claims.specs.Claims.{seating}
 use Rattle.event_ports.specs.Holds.{place_at, AreFlows, Kept}
 use Rattle.event_ports.proofs.Places.{hands, place_read}
-use Rattle.event_ports.proofs.Turns.{ended, all_kept, ended_but, ended_received, ended_answered}
+use Rattle.event_ports.proofs.Turns.{ended, all_kept, ended_but, ended_received, ended_answered, ended_left}
 use Rattle.event_ports.proofs.flows.FlowLanes.surrender.Goals as goal
 
 pub invariant_of-self-2 : goal.invariant_of-self-2
@@ -35,4 +35,5 @@ returns-clause-kept c =
     (all_kept c.args.lane before after
     (ended_but _ _ c.args.self.now.seat c.surrender.new.seat _ _ c.in-Some.stint true are over at c.requires)
     (ended_received _ _ c.args.self.now.seat c.surrender.new.seat _ _ c.in-Some.stint true are over at c.requires)
-    (ended_answered _ _ c.args.self.now.seat c.surrender.new.seat _ _ c.in-Some.stint true are over at c.requires))
+    (ended_answered _ _ c.args.self.now.seat c.surrender.new.seat _ _ c.in-Some.stint true are over at c.requires)
+    (ended_left _ _ c.args.self.now.seat c.surrender.new.seat _ _ c.in-Some.stint true are over at c.requires refl))

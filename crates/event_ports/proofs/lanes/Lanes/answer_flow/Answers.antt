@@ -13,7 +13,8 @@ use Rattle.event_ports.specs.Lanes.{open_on, said_on}
 use Rattle.event_ports.proofs.Orders.{Notes, each_lane, answered_first, first_open}
 use Rattle.event_ports.proofs.Counts.{counts_one}
 use Rattle.event_ports.proofs.Refusals.{one_answer}
-use Rattle.event_ports.proofs.Turns.{lane_there, idle_answered, says_before}
+use Rattle.event_ports.proofs.Turns.{lane_there}
+use Rattle.event_ports.proofs.Calls.{idle_answered, says_before, says_no_new, nothing_left}
 use Rattle.event_ports.proofs.lanes.Lanes.answer_flow.Goals as goal
 
 pub answer-requires-clause-held : goal.answer-requires-clause-held
@@ -43,6 +44,15 @@ invariant_of-self-clause-ordered c =
     each_lane (λ l. l ≢ Flow c.args.lane → after l ≡ before l) (λ ne. refl) (λ j ne. says.others.held j (λ e. ne (ap Flow e))) in
     let To : List Holding → Type 0 = λ xs. Notes xs after in
     subst To (sym (ap (λ b. b.items) c.pop_front.ensures.items)) (answered_first c.args.self.now.order.items (Flow c.args.lane) before after c.requires.oldest here others c.args.self.now.ordered)
+
+pub invariant_of-self-clause-left : goal.invariant_of-self-clause-left
+invariant_of-self-clause-left c =
+    nothing_left (hands_of c.args.self.now.flows) (hands_of c.leave.new.self) (says_before _ (hands_of c.answer.new.self) _ c.args.lane c.args.reply c.in-Ok.ensures.lists c.leave.ensures.same).left c.args.self.now.left
+
+pub invariant_of-self-clause-no_new : goal.invariant_of-self-clause-no_new
+invariant_of-self-clause-no_new c =
+    says_no_new (hands_of c.args.self.now.flows) (hands_of c.leave.new.self) c.args.lane c.args.reply c.requires.answer
+    (says_before _ (hands_of c.answer.new.self) _ c.args.lane c.args.reply c.in-Ok.ensures.lists c.leave.ensures.same) c.args.self.now.no_new
 
 pub invariant_of-self-clause-idle : goal.invariant_of-self-clause-idle
 invariant_of-self-clause-idle c =

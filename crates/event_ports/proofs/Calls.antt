@@ -1,0 +1,101 @@
+-- What several calls on flow lanes, one after the other, make of what a port has of them.
+use Rattle.std.proofs.Common.{◌≡◌, ◌≢◌, ℕ, true, false, [], ◌∷◌, ◌++◌, length, sym, ap, ◌∙◌, subst, arith, count_by}
+use Rattle.std.specs.Option.{is_some}
+use Rattle.std.proofs.lemmas.List.{length-append}
+use mathlib.Core.Logic.{dite}
+use native.Mathlib.Decide.{ℕ_discrete}
+use Rattle.evt_types.specs.declared.event.Delivery.{Delivery}
+use Rattle.evt_types.specs.declared.event.Op.{Op}
+use Rattle.evt_types.specs.declared.event.Op.TheVariants as ops
+use Rattle.evt_types.specs.declared.event.Reply.{Reply}
+use Rattle.evt_types.specs.Operation.{is_answer, is_answer_op, is_new_op, is_new_reply}
+use Rattle.seat_sums.specs.Sums.{count}
+use Rattle.event_ports.specs.Holds.{Hands, stint_in, answered_on, held_on, Same, Gets, Says, HaveNoNew, LeftNothing, SameLeft}
+use Rattle.event_ports.proofs.Counts.{count_more}
+
+-- no lane is held of which nothing is unanswered
+abbrev pub AreIdle : Hands → Type 0
+AreIdle h = (j : ℕ) → held_on h j ≡ [] → is_some (stint_in h j) ≡ false
+
+-- an answer, and then the lane is left
+pub idle_answered : (h k m : Hands) (lane : ℕ) (r : Reply) → Says lane r h k → ((j : ℕ) → is_some (stint_in k j) ≡ is_some (stint_in h j)) → Same k m
+    → (held_on k lane ≡ [] → is_some (stint_in m lane) ≡ false) → ((j : ℕ) → j ≢ lane → is_some (stint_in m j) ≡ is_some (stint_in k j)) → AreIdle h → AreIdle m
+idle_answered h k m lane r says places same left elsewhere idle j none =
+    let At : ℕ → Type 0 = λ i. is_some (stint_in m i) ≡ false in
+    dite (ℕ_discrete j lane)
+    (λ e. subst At (sym e) (left (sym (same.held lane) ∙ ap (held_on m) (sym e) ∙ none)))
+    (λ ne. elsewhere j ne ∙ places j ∙ idle j (sym (says.others.held j ne) ∙ sym (same.held j) ∙ none))
+
+-- a lane is held, and something is received from it
+pub idle_received : (h k m : Hands) (lane : ℕ) (d : Delivery) → Same h k → ((j : ℕ) → j ≢ lane → is_some (stint_in k j) ≡ is_some (stint_in h j)) → Gets lane d k m
+    → ((j : ℕ) → is_some (stint_in m j) ≡ is_some (stint_in k j)) → AreIdle h → AreIdle m
+idle_received h k m lane d same elsewhere gets places idle j none =
+    dite (ℕ_discrete j lane)
+    (λ e. absurd (omega (arith, ap length (sym gets.held ∙ ap (held_on m) (sym e) ∙ none), length-append (held_on k lane) (d ∷ []))))
+    (λ ne. places j ∙ elsewhere j ne ∙ idle j (sym (same.held j) ∙ sym (gets.others.held j ne) ∙ none))
+
+-- a lane is held, nothing is received, and it is left
+pub idle_left : (h k m n : Hands) (lane : ℕ) → Same h k → ((j : ℕ) → j ≢ lane → is_some (stint_in k j) ≡ is_some (stint_in h j)) → Same k m
+    → ((j : ℕ) → is_some (stint_in m j) ≡ is_some (stint_in k j)) → Same m n → (held_on m lane ≡ [] → is_some (stint_in n lane) ≡ false)
+    → ((j : ℕ) → j ≢ lane → is_some (stint_in n j) ≡ is_some (stint_in m j)) → AreIdle h → AreIdle n
+idle_left h k m n lane same elsewhere same' places same'' left elsewhere' idle j none =
+    let At : ℕ → Type 0 = λ i. is_some (stint_in n i) ≡ false in
+    dite (ℕ_discrete j lane)
+    (λ e. subst At (sym e) (left (sym (same''.held lane) ∙ ap (held_on n) (sym e) ∙ none)))
+    (λ ne. elsewhere' j ne ∙ places j ∙ elsewhere j ne ∙ idle j (sym (same.held j) ∙ sym (same'.held j) ∙ sym (same''.held j) ∙ none))
+
+-- a lane isn't had
+pub idle_refused : (h k : Hands) (lane : ℕ) → Same h k → ((j : ℕ) → j ≢ lane → is_some (stint_in k j) ≡ is_some (stint_in h j)) → is_some (stint_in k lane) ≡ false → AreIdle h → AreIdle k
+idle_refused h k lane same elsewhere free idle j none =
+    let At : ℕ → Type 0 = λ i. is_some (stint_in k i) ≡ false in
+    dite (ℕ_discrete j lane) (λ e. subst At (sym e) free) (λ ne. elsewhere j ne ∙ idle j (sym (same.held j) ∙ none))
+
+pub same_more : (h k m : Hands) → Same h k → Same k m → Same h m
+same_more h k m a b = record { received = λ j. b.received j ∙ a.received j; answered_is = λ j. b.answered_is j ∙ a.answered_is j; held = λ j. b.held j ∙ a.held j; left = λ j. b.left j ∙ a.left j }
+
+pub gets_after : (h k m : Hands) (lane : ℕ) (d : Delivery) → Same h k → Gets lane d k m → Gets lane d h m
+gets_after h k m lane d same gets = record {
+  others = record { received = λ j ne. gets.others.received j ne ∙ same.received j; answered_is = λ j ne. gets.others.answered_is j ne ∙ same.answered_is j; held = λ j ne. gets.others.held j ne ∙ same.held j };
+  received = gets.received ∙ ap (λ r. r ++ d ∷ []) (same.received lane);
+  answered_is = gets.answered_is ∙ same.answered_is lane;
+  held = gets.held ∙ ap (λ r. r ++ d ∷ []) (same.held lane);
+  left = λ j. gets.left j ∙ same.left j;
+}
+
+pub says_before : (h k m : Hands) (lane : ℕ) (r : Reply) → Says lane r h k → Same k m → Says lane r h m
+says_before h k m lane r says same = record {
+  others = record { received = λ j ne. same.received j ∙ says.others.received j ne; answered_is = λ j ne. same.answered_is j ∙ says.others.answered_is j ne; held = λ j ne. same.held j ∙ says.others.held j ne };
+  received = same.received lane ∙ says.received;
+  answered_is = same.answered_is lane ∙ says.answered_is;
+  held = same.held lane ∙ says.held;
+  left = λ j. same.left j ∙ says.left j;
+}
+
+-- a receipt answers nothing
+pub gets_no_answer : (h k : Hands) (lane : ℕ) (d : Delivery) → Gets lane d h k → (j : ℕ) → answered_on k j ≡ answered_on h j
+gets_no_answer h k lane d gets j =
+    let At : ℕ → Type 0 = λ i. answered_on k i ≡ answered_on h i in
+    dite (ℕ_discrete j lane) (λ e. subst At (sym e) gets.answered_is) (λ ne. gets.others.answered_is j ne)
+
+-- nothing is left unanswered of the lanes that were held before
+pub nothing_left : (h k : Hands) → SameLeft h k → LeftNothing h → LeftNothing k
+nothing_left h k same none j = same j ∙ none j
+
+-- no NEW goes to a flow lane
+pub none_new : (h : Hands) → ((j : ℕ) → answered_on h j ≡ []) → HaveNoNew h
+none_new h none j = ap (count_by is_new_reply) (none j)
+
+pub same_no_new : (h k : Hands) → ((j : ℕ) → answered_on k j ≡ answered_on h j) → HaveNoNew h → HaveNoNew k
+same_no_new h k same none j = ap (count_by is_new_reply) (same j) ∙ none j
+
+is_no_new : (o : Op) → is_answer_op o ≡ true → count (is_new_op o) ≡ 0
+is_no_new ops.New e = absurd (cc)
+is_no_new ops.Forward e = omega arith
+is_no_new ops.Release e = omega arith
+
+pub says_no_new : (h k : Hands) (lane : ℕ) (r : Reply) → is_answer r ≡ true → Says lane r h k → HaveNoNew h → HaveNoNew k
+says_no_new h k lane r answers says none j =
+    let At : ℕ → Type 0 = λ i. count_by is_new_reply (answered_on k i) ≡ 0 in
+    dite (ℕ_discrete j lane)
+    (λ e. subst At (sym e) (omega (arith, count_more is_new_reply (answered_on h lane) (answered_on k lane) r says.answered_is, none lane, is_no_new r.event.op answers)))
+    (λ ne. ap (count_by is_new_reply) (says.others.answered_is j ne) ∙ none j)

@@ -22,12 +22,13 @@ rest_between near far =
 abbrev pub no_rest : Rest
 no_rest = record { offered = []; received = []; undelivered = []; answered = []; taken = []; untaken = [] }
 
+-- the lists of two ends, if both are there
 abbrev pub rest_of : Option Near → Option Far → Rest
 rest_of (Some near) (Some far) = rest_between near far
 rest_of (Some near) None = no_rest
 rest_of None far = no_rest
 
--- by lane, where each end stands at its lane's number
+-- the same by lane, where each end stands at its lane's number
 abbrev pub rest_at : List Near → List Far → ℕ → Rest
 rest_at nears fars l = rest_of (slice_get nears l) (slice_get fars l)
 

@@ -17,12 +17,13 @@ use Rattle.world_laws.specs.Rest.{Rest}
 abbrev pub undelivered_of : ℕ → Delivery → Undelivered
 undelivered_of l d = record { lane = l; queue = d.queue; number = d.number }
 
+-- a reply that wasn't taken, by its operation: a RELEASE has no event and isn't listed
 abbrev pub untaken_by : Op → ℕ → Event → Option Untaken
 untaken_by ops.New l e = Some (record { lane = l; event = e })
 untaken_by ops.Forward l e = Some (record { lane = l; event = e })
 untaken_by ops.Release l e = None
 
--- a NEW or FORWARD that wasn't taken. A RELEASE has no event and isn't listed.
+-- a NEW or FORWARD that wasn't taken
 abbrev pub untaken_of : ℕ → Reply → Option Untaken
 untaken_of l r = untaken_by r.event.op l r.event
 

@@ -1,5 +1,5 @@
 -- All ports of a device taken together, once none works any more, and what the flow lanes' ends have then.
-use Rattle.std.specs.Prelude.{◌≡◌, ℕ, ◌+◌, ◌<◌, ◌++◌, Bool, true, List, length, All, map, count_by, sum_by}
+use Rattle.std.specs.Prelude.{◌≡◌, ℕ, ◌+◌, ◌<◌, ◌≤◌, ◌++◌, Bool, true, List, length, All, map, count_by, sum_by}
 use Rattle.std.specs.List.{range_with_len}
 use Rattle.evt_types.specs.Operation.{is_new_reply}
 use Rattle.evt_types.specs.declared.event.Reply.{Reply}
@@ -100,9 +100,12 @@ pub record IsJoined (pool : Credits) (claims : Claims) (credit : CreditSeat) (cl
 
 -- what is left of each of these ports, in their order
 pub record AreLeft (ports : List Port) (rests : List Rest) : Type 0 where
+  pub numbers : map (λ r. r.number) rests ≡ map (λ p. (place_of p).number) ports
   pub lanes : map (λ r. far_id r.own) rests ≡ map (λ p. (place_of p).lanes.own) ports
   pub received : map (λ r. received_by r.own) rests ≡ map (λ p. (hand p).got Own) ports
   pub answered_is : map (λ r. answered r.own) rests ≡ map (λ p. (hand p).said Own) ports
   pub held : map (λ r. r.held.items) rests ≡ map (λ p. (hand p).holding) ports
   pub ordered : map (λ r. held_list r.own) rests ≡ map (λ p. map pair_in (held_of Own (hand p).holding)) ports
   pub pockets : map (λ r. r.pocket) rests ≡ map pocket_of ports
+  -- no port held more than it might
+  pub within : All (λ p. length (hand p).holding ≤ (place_of p).lanes.depth) ports

@@ -25,6 +25,8 @@ use lane_rings::Far;
 /// What is left of a port whose seats were joined to others.
 #[derive(Drop)]
 pub struct Rest {
+    /// The port's number.
+    pub number: usize,
     /// The end of the own lane.
     pub own: Far,
     /// What is held, in the order of the dequeues.
@@ -48,11 +50,15 @@ pub fn join_port(
     ensures no_new { (j : ℕ) → count_by is_new_reply ((hand port).said (lanes.Flow j)) ≡ 0 }
     ensures stints { Joins port (seating claim) (seating result.1) }
     ensures own { (far_id result.2.own ≡ (place_of port).lanes.own) × (received_by result.2.own ≡ (hand port).got lanes.Own) × (answered result.2.own ≡ (hand port).said lanes.Own) }
+    ensures number { result.2.number ≡ (place_of port).number }
     ensures held { result.2.held.items ≡ (hand port).holding }
+    ensures within { length (hand port).holding ≤ (place_of port).lanes.depth }
     ensures counted { IsCounted port }
     ensures ordered { map pair_in (held_of lanes.Own (hand port).holding) ≡ held_list result.2.own }
     ensures paid { (result.2.pocket ≡ pocket_of port) × IsPocket result.2.pocket ((account_of port).drawn + releases_by port) ((account_of port).returned + news_by port) }
 {
+    let number = port.number();
+    let _ = port.held();
     let Left {
         credit: its_credit,
         claim: its_claim,
@@ -62,7 +68,13 @@ pub fn join_port(
     } = port.into_left();
     let credit = pool.join(credit, its_credit);
     let claim = claims.join(claim, its_claim);
-    (credit, claim, Rest { own, held, pocket })
+    let rest = Rest {
+        number,
+        own,
+        held,
+        pocket,
+    };
+    (credit, claim, rest)
 }
 
 /// Takes all ports apart, and joins their seats into these. What is left of them is added in their order, where room was reserved.

@@ -4,6 +4,5 @@ pub mod Recorder
 pub mod Recorded
 pub mod Ports
 pub mod Held
-
 pub mod Room
 pub mod Stop

@@ -1,7 +1,7 @@
 //! What the ports hold, for the report.
 
-ghost use Rattle.std.specs.Prelude.{◌≡◌, ◌+◌, ◌≤◌, [], ◌++◌, length, map, sum_by, vec_len, vec_capacity};
-ghost use Rattle.event_recorder.specs.Held.{held_from, held_of};
+ghost use Rattle.std.specs.Prelude.{◌≡◌, ◌+◌, ◌≤◌, [], ◌++◌, length, map, flat_map, sum_by, vec_len, vec_capacity};
+ghost use Rattle.event_recorder.specs.Held.{held_in, held_of};
 
 use circular_buffer::HeapCircularBuffer;
 use event_answers::Held;
@@ -23,7 +23,7 @@ fn list_held(port: usize, mut holding: HeapCircularBuffer<Holding>, held: &mut V
     }
 }
 
-/// Lists what each port holds, and its pocket, and gathers the ends of the ports' own lanes. The ports are by number.
+/// Lists what each port holds, and its pocket, and gathers the ends of the ports' own lanes.
 pub(crate) fn list_ports(
     rests: Vec<Rest>,
     held: &mut Vec<Held>,
@@ -33,13 +33,14 @@ pub(crate) fn list_ports(
     requires held { (held.old.items ≡ []) × (sum_by (λ r. length r.held.items) rests.items ≤ vec_capacity held.old) }
     requires pockets { (pockets.old.items ≡ []) × (length rests.items ≤ vec_capacity pockets.old) }
     requires fars { (fars.old.items ≡ []) × (length rests.items ≤ vec_capacity fars.old) }
-    ensures held { held.new.items ≡ held_from 0 (map (λ r. r.held.items) rests.items) }
+    ensures held { held.new.items ≡ flat_map held_in rests.items }
     ensures pockets { pockets.new.items ≡ map (λ r. r.pocket) rests.items }
     ensures fars { fars.new.items ≡ map (λ r. r.own) rests.items }
     ensures room { vec_capacity fars.new ≡ vec_capacity fars.old }
 {
-    for (port, rest) in rests.into_iter().enumerate() {
+    for rest in rests {
         let Rest {
+            number: port,
             own,
             held: holding,
             pocket,

@@ -1,15 +1,20 @@
 //! A device is stopped, and each of its events accounted for.
 
 use crate::control::Control;
-use crate::ports::missing;
+use crate::held::{add_ends, list_ports};
+use crate::ports::{by_number, missing};
 use crate::recorder::Recorder;
+use crate::room::Room;
 use event_answers::{Report, StopFault};
-use event_ports::Port;
+use event_ports::{Port, join_ports};
+use event_scheduler::Parts;
+use report_lists::{list_kept, list_lanes, list_waiting};
 use std::alloc::Global;
 
 impl Recorder {
-    ghost use Rattle.std.specs.Prelude.{◌≡◌, length, IfOk, IfErr};
-    ghost use Rattle.event_recorder.specs.Ports.{Refuses};
+    ghost use Rattle.std.specs.Prelude.{◌≡◌, ◌<◌, ℕ, length, IfOk, IfErr};
+    ghost use Rattle.event_recorder.specs.Ports.{IsThere, Refuses};
+    ghost use Rattle.event_recorder.specs.Room.{HasRoom};
     ghost use Rattle.event_recorder.specs.Stop.{AreOf, IsReport};
 
     /// Stops the device, with its control and all its ports, in any order, and reports what its scheduler did and where each event and
@@ -29,7 +34,52 @@ impl Recorder {
         if let Some(port) = missing(&ports, count) {
             return Err((StopFault::Missing { port }, self, control, ports));
         }
-        Err((StopFault::Memory, self, control, ports))
+        match Room::reserve(alloc, self.scheduler.core()) {
+            Ok(room) => Ok(self.close(control, ports, room)),
+            Err(_) => Err((StopFault::Memory, self, control, ports)),
+        }
+    }
+
+    fn close(self, control: Control, ports: Vec<Port>, room: Room) -> Report
+        requires of { AreOf self control ports.items }
+        requires there { (n : ℕ) → n < length self.sight.core.shape.ports → IsThere ports.items n }
+        requires room { HasRoom self.sight.core room }
+        ensures { IsReport self control ports.items result }
+    {
+        let count = self.port_count();
+        let Recorder { scheduler, log } = self;
+        let Parts {
+            pool,
+            seat,
+            core,
+            lanes,
+            pocket: own,
+        } = scheduler.into_parts();
+        let Control {
+            claims,
+            credit,
+            claim,
+            ..
+        } = control;
+        let Room {
+            ports: sorted,
+            mut rests,
+            mut ends,
+            mut fars,
+            mut report,
+        } = room;
+        let ports = by_number(ports, sorted, count);
+        let (credit, claim) = join_ports(&pool, &claims, credit, claim, ports, &mut rests);
+        claims.close(claim, &mut ends);
+        report.free = pool.close(pool.join(credit, seat));
+        report.own = own;
+        report.log = log;
+        list_waiting(&core, &mut report.waiting);
+        list_kept(&core, &mut report.kept);
+        list_ports(rests, &mut report.held, &mut report.pockets, &mut fars);
+        add_ends(ends, &mut fars);
+        list_lanes(lanes, fars, &mut report.undelivered, &mut report.untaken);
+        report
     }
 
     fn port_count(&self) -> usize

@@ -1,5 +1,5 @@
 -- One port more is joined, and what is left of it is added.
-use Rattle.std.proofs.Common.{rules, ◌≡◌, ◌∙◌, ◌∷◌, [], ℕ, ◌+◌, length, map, subst, ap, sym, List, arith}
+use Rattle.std.proofs.Common.{rules, ◌≡◌, ◌≤◌, ◌∙◌, ◌∷◌, [], ℕ, ◌+◌, length, map, subst, ap, sym, List, arith}
 use Rattle.std.proofs.lemmas.List.{length-map, length-append}
 use Rattle.lane_rings.specs.Ends.{received_by, answered, held_list}
 use Rattle.lane_rings.specs.Identity.{far_id}
@@ -53,12 +53,14 @@ loop-port-preserved c =
             (was.linked linked (All-front (LinksAgree linked) ports (port ∷ []) all) first);
       },
       record {
+        numbers = one_more (λ (r : Rest). r.number) (λ (p : Port). (place_of p).number) c.loop-port.into.items _ rest ports port c.push_reserved.ensures.items rests.numbers now.number;
         lanes = one_more (λ (r : Rest). far_id r.own) (λ (p : Port). (place_of p).lanes.own) c.loop-port.into.items _ rest ports port c.push_reserved.ensures.items rests.lanes now.own.0;
         received = one_more (λ (r : Rest). received_by r.own) (λ (p : Port). (hand p).got Own) c.loop-port.into.items _ rest ports port c.push_reserved.ensures.items rests.received now.own.1;
         answered_is = one_more (λ (r : Rest). answered r.own) (λ (p : Port). (hand p).said Own) c.loop-port.into.items _ rest ports port c.push_reserved.ensures.items rests.answered_is now.own.2;
         held = one_more (λ (r : Rest). r.held.items) (λ (p : Port). (hand p).holding) c.loop-port.into.items _ rest ports port c.push_reserved.ensures.items rests.held now.held;
         ordered = one_more (λ (r : Rest). held_list r.own) (λ (p : Port). map pair_in (held_of Own (hand p).holding)) c.loop-port.into.items _ rest ports port c.push_reserved.ensures.items rests.ordered (sym now.ordered);
         pockets = one_more (λ (r : Rest). r.pocket) pocket_of c.loop-port.into.items _ rest ports port c.push_reserved.ensures.items rests.pockets now.paid.0;
+        within = All-push (λ (p : Port). length (hand p).holding ≤ (place_of p).lanes.depth) ports port rests.within now.within;
       },
       All-push IsPaid ports port c.loop-port.invariant.2 paid,
       All-push IsCounted ports port c.loop-port.invariant.3 now.counted,

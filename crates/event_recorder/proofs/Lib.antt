@@ -1,1 +1,5 @@
+mod FlowEnds
+mod Found
+mod Members
+mod Settings
 mod Sorting

@@ -13,6 +13,7 @@ use std::alloc::Global;
 
 impl Recorder {
     ghost use Rattle.std.specs.Prelude.{◌≡◌, ◌<◌, ℕ, length, IfOk, IfErr};
+    ghost use Rattle.evt_types.specs.Fault.{IsWithinLimits};
     ghost use Rattle.event_recorder.specs.Ports.{IsThere, Refuses};
     ghost use Rattle.event_recorder.specs.Room.{HasRoom};
     ghost use Rattle.event_recorder.specs.Stop.{AreOf, IsReport};
@@ -83,8 +84,11 @@ impl Recorder {
     }
 
     fn port_count(&self) -> usize
-        ensures { result ≡ length self.now.sight.core.shape.ports }
+        ensures value { result ≡ length self.now.sight.core.shape.ports }
+        ensures within { IsWithinLimits self.now.sight.core.shape }
     {
-        self.scheduler.core().shape().ports().len()
+        let shape = self.scheduler.core().shape();
+        let _ = shape.limit();
+        shape.ports().len()
     }
 }

@@ -1,1 +1,4 @@
+mod Accounts
+mod LaneSums
+mod Pockets
 mod Sorting

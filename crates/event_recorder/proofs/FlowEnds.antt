@@ -1,5 +1,5 @@
 -- What the flow lanes' ends have at stop: the ports' stints, no NEW, and all that the ports answered to them and held of them.
-use Rattle.std.proofs.Common.{◌≡◌, ℕ, ◌+◌, ◌-◌, ◌<◌, ◌≤◌, Bool, true, List, [], ◌++◌, length, map, get_or, All, refl, sym, ap, subst, ◌∙◌, arith}
+use Rattle.std.proofs.Common.{◌≡◌, ℕ, ◌+◌, ◌-◌, ◌<◌, ◌≤◌, Bool, List, [], ◌++◌, length, map, get_or, All, sym, ap, subst, ◌∙◌, arith}
 use Rattle.std.specs.Prelude.{slice_get, Some, count_by, sum_by}
 use Rattle.std.specs.List.{range_with_len}
 use Rattle.std.proofs.lemmas.Option.{get_or_from_slice_get, slice_get-get_or, slice_get_within}
@@ -7,7 +7,7 @@ use Rattle.lists.proofs.Lists.{slice_get-some}
 use Rattle.lists.proofs.Sums.{sum_by_place}
 use Rattle.lists.specs.Lists.{has}
 use Rattle.evt_types.specs.Operation.{is_new_reply}
-use Rattle.evt_types.specs.Plan.{Plan, flow_lanes, flow_links}
+use Rattle.evt_types.specs.Plan.{Plan, flow_links}
 use Rattle.evt_types.specs.declared.event.Reply.{Reply}
 use Rattle.credit_pool.specs.declared.pool.CreditSeat.{CreditSeat}
 use Rattle.credit_pool.specs.declared.pool.Credits.{Credits}
@@ -15,7 +15,6 @@ use Rattle.flow_claims.specs.Claims.{lanes_of, seating}
 use Rattle.flow_claims.specs.Ends.{IsEnd}
 use Rattle.flow_claims.specs.declared.claims.ClaimSeat.{ClaimSeat}
 use Rattle.flow_claims.specs.declared.claims.Claims.{Claims}
-use Rattle.flow_claims.specs.declared.seating.Past.{Past}
 use Rattle.lane_rings.specs.Ends.{answered, unanswered}
 use Rattle.lane_rings.specs.declared.far.Far.{Far}
 use Rattle.lane_rings.specs.declared.near.Near.{Near}
@@ -28,7 +27,6 @@ use Rattle.event_ports.specs.declared.joined.Rest as left
 use Rattle.event_ports.specs.declared.lane.Lane.TheVariants.{Own}
 use Rattle.event_ports.specs.declared.port.Port.{Port}
 use Rattle.report_lists.specs.Between.{rest_at, rest_between}
-use Rattle.world_laws.specs.Rest.{Rest}
 use Rattle.event_recorder.specs.Stop.{AreStints}
 use Rattle.event_recorder.proofs.Found.{flow_end, past_own, rest_is}
 

@@ -6,3 +6,4 @@ mod Accounts
 mod LaneSums
 mod Pockets
 mod Sorting
+mod Worlds

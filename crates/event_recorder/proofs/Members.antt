@@ -1,9 +1,9 @@
 -- What the parts of one device have, as each is known to be of it.
-use Rattle.std.proofs.Common.{◌≡◌, ℕ, ◌+◌, ◌-◌, ◌*◌, ◌<◌, ◌≤◌, suc, List, [], ◌∷◌, ◌++◌, take, drop, length, length-append, length-drop, map, get_or, All, true, false, refl, sym, ap, subst, ◌∙◌, arith}
+use Rattle.std.proofs.Common.{◌≡◌, ℕ, ◌+◌, ◌<◌, ◌≤◌, suc, List, [], ◌∷◌, take, drop, length, length-drop, map, get_or, All, false, refl, sym, ap, subst, ◌∙◌, arith}
 use Rattle.std.specs.Prelude.{slice_get, Some, sum_by}
 use Rattle.std.specs.List.{range_with_len}
 use Rattle.std.specs.List.Sorted.{IsPermutation}
-use Rattle.std.proofs.lemmas.List.{length-map, take-append-drop, get_or-map}
+use Rattle.std.proofs.lemmas.List.{length-map, get_or-map}
 use Rattle.std.proofs.lemmas.List.Elements.{All-head, All-tail}
 use Rattle.std.proofs.lemmas.List.FromFn.{length-range_with_len}
 use Rattle.std.proofs.lemmas.List.Sorted.{All-permutation}
@@ -13,7 +13,7 @@ use Rattle.lists.proofs.Ranges.{mapped_at}
 use Rattle.lists.specs.Lists.{has}
 use Rattle.evt_types.proofs.FlowLanes.{depth_within, lanes_are, replies_within}
 use Rattle.evt_types.specs.Fault.{IsWithinLimits}
-use Rattle.evt_types.specs.Plan.{Plan, PortPlan, depth_of, flow_lanes, flow_links, lanes, lanes_of, replies_of}
+use Rattle.evt_types.specs.Plan.{PortPlan, depth_of, flow_lanes, flow_links, lanes, lanes_of, replies_of}
 use Rattle.credit_pool.specs.declared.pool.Credits.{Credits}
 use Rattle.flow_claims.specs.Claims as claims
 use Rattle.flow_claims.specs.declared.claims.Claims.{Claims}
@@ -107,3 +107,7 @@ depths_small d sorted within all k p short =
     let is = all k p short in
     let none : PortPlan = record { threshold = 0; depth = 0; replies = 0; implicit = false; links = [] } in
     omega (arith, ap (λ (s : PortSite). s.depth) is.1, (within.depths (number_of (get_or sorted k p)) none is.0).1)
+
+-- the flow lanes of each are the device's
+pub flows_counted : (d : Device) (sorted : List Port) (n : ℕ) → All (IsPortOf d) sorted → length (claims.lanes_of d.claims) ≡ n → All (λ p. flow_count (place_of p).lanes ≡ n) sorted
+flows_counted d sorted n all count k p short = ap (λ (s : PortSite). length (claims.lanes_of s.claims)) (all k p short).1 ∙ count

@@ -1,18 +1,16 @@
 -- What a scheduler that was taken apart has, as its device is known.
-use Rattle.std.proofs.Common.{◌≡◌, ℕ, ◌+◌, ◌-◌, ◌*◌, ◌<◌, ◌≤◌, List, [], ◌∷◌, ◌++◌, drop, take, length, length-append, length-take, length-drop, take-append-drop, map, All, refl, sym, ap, subst, ◌∙◌, arith}
+use Rattle.std.proofs.Common.{◌≡◌, ℕ, ◌*◌, ◌≤◌, List, [], ◌∷◌, ◌++◌, drop, take, length, take-append-drop, map, All, refl, sym, ap, subst, ◌∙◌, arith}
 use Rattle.std.specs.Prelude.{sum_by}
 use Rattle.std.specs.Arc.{arc_value}
 use Rattle.std.proofs.lemmas.List.{length-map, map-append}
 use Rattle.std.proofs.lemmas.List.Sums.{sum_by-le}
 use Rattle.lists.proofs.Sums.{sum_of_map}
-use Rattle.evt_types.proofs.FlowLanes.{lanes_are}
 use Rattle.evt_types.specs.Fault.{IsWithinLimits}
-use Rattle.evt_types.specs.Plan.{Plan, flow_lanes, lanes_of, queues}
+use Rattle.evt_types.specs.Plan.{Plan, flow_lanes}
 use Rattle.credit_pool.specs.Pool.{account}
-use Rattle.credit_pool.specs.declared.account.Account.{Account}
 use Rattle.flow_claims.specs.Claims as claims
 use Rattle.lane_rings.specs.Ends.{offered, taken}
-use Rattle.lane_rings.specs.Identity.{LaneId, far_id, near_id}
+use Rattle.lane_rings.specs.Identity.{far_id, near_id}
 use Rattle.lane_rings.specs.declared.far.Far.{Far}
 use Rattle.event_ports.specs.Ports.{hand, place_of}
 use Rattle.event_ports.specs.Stop.{AreLeft}
@@ -23,7 +21,7 @@ use Rattle.event_scheduler.specs.Scheduler.{Sight}
 use Rattle.event_scheduler.specs.declared.parts.Parts.{Parts}
 use Rattle.event_recorder.specs.Device.{Device, IsDevice, IsPortOf, SchedulerSite, scheduler_of, scheduler_site}
 use Rattle.event_recorder.specs.Ports.{AreByNumber}
-use Rattle.event_recorder.proofs.Members.{depths_small, flow_lane_count, own_lanes, sorted_count}
+use Rattle.event_recorder.proofs.Members.{depths_small, flow_lane_count, own_lanes}
 
 -- the parts are the scheduler's that was seen so, and of the device
 pub record AreParts (d : Device) (s : Sight) (parts : Parts) : Type 0 where
@@ -68,7 +66,7 @@ few_held d sorted rests within all left =
     sym (sum_of_map length (λ (r : Rest). r.held.items) rests) ∙ (ap (sum_by length) left.held ∙ sum_of_map length (λ (p : Port). (hand p).holding) sorted) in
     omega (arith, few, same)
 
-map_map : {X Y Z : Type 0} (g : Y → Z) (f : X → Y) (xs : List X) → map g (map f xs) ≡ map (λ x. g (f x)) xs
+pub map_map : {X Y Z : Type 0} (g : Y → Z) (f : X → Y) (xs : List X) → map g (map f xs) ≡ map (λ x. g (f x)) xs
 map_map g f [] = refl
 map_map g f (x ∷ xs) = ap (λ ys. g (f x) ∷ ys) (map_map g f xs)
 

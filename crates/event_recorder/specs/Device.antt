@@ -1,7 +1,7 @@
 -- What the parts of one device have in common: by one equation each a port, a scheduler and a control are known to be of it.
 use Rattle.std.specs.Prelude.{ℕ, ◌≡◌, ◌-◌, ◌<◌, Bool, List, length, map, drop, slice_get, Option, Some}
 use Rattle.evt_types.specs.Plan.{Plan, depth_of, flow_links, lanes, port_of, replies_of}
-use Rattle.credit_pool.specs.Pool.{account, limit_of}
+use Rattle.credit_pool.specs.Pool.{limit_of}
 use Rattle.credit_pool.specs.declared.pool.Credits.{Credits}
 use Rattle.flow_claims.specs.Claims.{lanes_of}
 use Rattle.flow_claims.specs.declared.claims.Claims.{Claims}

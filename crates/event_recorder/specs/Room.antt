@@ -1,5 +1,5 @@
 -- Room for a stop: empty lists, each with room for what it is to hold.
-use Rattle.std.specs.Prelude.{ℕ, ◌≡◌, ◌*◌, ◌≤◌, [], length, sum_by, vec_capacity}
+use Rattle.std.specs.Prelude.{◌≡◌, ◌*◌, ◌≤◌, [], length, sum_by, vec_capacity}
 use Rattle.event_answers.specs.declared.report.Report.{Report}
 use Rattle.evt_types.specs.Plan.{flow_lanes, lanes_of, queues}
 use Rattle.transcripts.specs.Standing.{View, places_at, waiting_at}

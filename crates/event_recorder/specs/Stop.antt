@@ -6,7 +6,7 @@ use Rattle.event_answers.specs.declared.report.Report.{Report}
 use Rattle.event_ports.specs.Ports.{hand, pocket_of}
 use Rattle.event_ports.specs.declared.lane.Lane.TheVariants.{Own}
 use Rattle.event_ports.specs.declared.port.Port.{Port}
-use Rattle.event_scheduler.specs.Scheduler.{IsAccepted, Sight, offered_at, taken_at}
+use Rattle.event_scheduler.specs.Scheduler.{IsAccepted, offered_at, taken_at}
 use Rattle.evt_types.specs.declared.step.Step.{Step}
 use Rattle.flow_claims.specs.Lists.{no_lists}
 use Rattle.flow_claims.specs.Stints.{IsRecordFrom, answered_in_all, received_in_all}

@@ -1,4 +1,4 @@
-use Rattle.std.proofs.Common.{rules, ◌≡◌, ◌∙◌, ℕ, List, length, subst}
+use Rattle.std.proofs.Common.{ℕ, List, length, subst}
 use Rattle.event_answers.specs.declared.answer.StopFault.TheVariants.{Missing, Memory}
 use Rattle.event_ports.specs.declared.port.Port.{Port}
 use Rattle.event_recorder.specs.Ports.{Refuses}
@@ -8,10 +8,16 @@ pub returns-in-Some-clause-refused : goal.returns-in-Some-clause-refused
 returns-in-Some-clause-refused c =
     let At : ℕ → Type 0 = λ n. Refuses n c.deref.result.now (Missing c.in-Some.port) in
     let Of : List Port → Type 0 = λ xs. Refuses (length c.args.self.sight.core.shape.ports) xs (Missing c.in-Some.port) in
-    subst Of c.deref.ensures.value (subst At c.port_count-count.ensures c.in-Some.ensures)
+    subst Of c.deref.ensures.value (subst At c.port_count-count.ensures.value c.in-Some.ensures)
 
-pub returns-clause-refused : goal.returns-clause-refused
-returns-clause-refused c =
+pub close-requires-clause-there : goal.close-requires-clause-there
+close-requires-clause-there c =
     let At : ℕ → Type 0 = λ n. Refuses n c.deref.result.now Memory in
     let Of : List Port → Type 0 = λ xs. Refuses (length c.args.self.sight.core.shape.ports) xs Memory in
-    subst Of c.deref.ensures.value (subst At c.port_count-count.ensures c.in_default.ensures)
+    subst Of c.deref.ensures.value (subst At c.port_count-count.ensures.value c.in_default.ensures)
+
+pub returns-in-Err-clause-refused : goal.returns-in-Err-clause-refused
+returns-in-Err-clause-refused c =
+    let At : ℕ → Type 0 = λ n. Refuses n c.deref.result.now Memory in
+    let Of : List Port → Type 0 = λ xs. Refuses (length c.args.self.sight.core.shape.ports) xs Memory in
+    subst Of c.deref.ensures.value (subst At c.port_count-count.ensures.value c.in_default.ensures)

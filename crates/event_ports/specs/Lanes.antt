@@ -124,11 +124,30 @@ IsLinkedTo links (Flow j) = has j links ≡ true
 abbrev pub from_lane : Lane → List Arrival → List Delivery
 from_lane l arrived = map (λ a. a.1) (filter (λ a. same_lane a.0 l) arrived)
 
+-- the lanes that a dequeue reads, in this order: the own lane, and the flow lanes in the order of the links
+abbrev pub lanes_read : List ℕ → List Lane
+lanes_read links = Own ∷ map Flow links
+
+-- what arrived came from these lanes one after the other: all from the first lane comes first, and so on
+abbrev pub ComesInOrder : List Lane → List Arrival → Type 0
+ComesInOrder [] arrived = arrived ≡ []
+ComesInOrder (lane ∷ lanes) arrived = (here : List Arrival) × (later : List Arrival) × (arrived ≡ here ++ later) × All (λ a. a.0 ≡ lane) here × ComesInOrder lanes later
+
+-- Deliveries were received from these lanes, after those in `before`.
+pub record ArrivesFrom (lanes : List Lane) (h k : Hand) (before after : List Delivery) : Type 0 where
+  pub arrived : List Arrival
+  pub deliveries : after ≡ before ++ map (λ a. a.1) arrived
+  pub in_order : ComesInOrder lanes arrived
+  pub said : (l : Lane) → k.said l ≡ h.said l
+  pub got : (l : Lane) → k.got l ≡ h.got l ++ from_lane l arrived
+  pub holding : k.holding ≡ h.holding ++ map (λ a. holding_of a.0 a.1) arrived
+
 -- Deliveries were received, after those in `before`, each from the port's own lane or a lane to which it is linked.
 pub record Arrives (links : List ℕ) (h k : Hand) (before after : List Delivery) : Type 0 where
   pub arrived : List Arrival
   pub deliveries : after ≡ before ++ map (λ a. a.1) arrived
   pub linked : All (λ a. IsLinkedTo links a.0) arrived
+  pub in_order : ComesInOrder (lanes_read links) arrived
   pub said : (l : Lane) → k.said l ≡ h.said l
   pub got : (l : Lane) → k.got l ≡ h.got l ++ from_lane l arrived
   pub holding : k.holding ≡ h.holding ++ map (λ a. holding_of a.0 a.1) arrived

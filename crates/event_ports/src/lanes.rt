@@ -32,7 +32,7 @@ pub(crate) struct Lanes {
 impl Lanes {
     ghost use Rattle.std.specs.Prelude.{◌≡◌, ◌≢◌, ℕ, ◌+◌, ◌<◌, ◌≤◌, [], ◌∷◌, true, false, length, map, count_by, Some, IfOk, IfErr, IfSome, MatchOption, MatchResult};
     ghost use Rattle.evt_types.specs.Operation.{is_answer, is_new_reply};
-    ghost use Rattle.event_ports.specs.Lanes.{Rests, Submits, SubmitsTo, Takes, Arrives, HasRoomFor, IsEmptyHand, IsEndOf, AreOf, first_lane, held_of, pair_in};
+    ghost use Rattle.event_ports.specs.Lanes.{Rests, Submits, SubmitsTo, Takes, Arrives, ArrivesFrom, HasRoomFor, IsEmptyHand, IsEndOf, AreOf, first_lane, held_of, pair_in};
     ghost use Rattle.event_ports.specs.Handed.{IsReadable, lanes_place, flow_count, links_of, hand_of, news_of, releases_of, CountsOne, CountsNone, IsFilled, RefusesOldest};
     ghost use Rattle.lane_rings.specs.Ends.{received_by, answered, held_list};
     ghost use Rattle.flow_claims.specs.Claims.{seating, port_of, IsSeatOf};
@@ -146,7 +146,7 @@ impl Lanes {
         requires room { HasRoomFor most (lanes_place self.old).depth (hand_of self.old).holding deliveries.old.items }
         ensures place { lanes_place self.new ≡ lanes_place self.old }
         ensures counts { CountsNone self.old self.new }
-        ensures arrived { Arrives (links_of self.old) (hand_of self.old) (hand_of self.new) deliveries.old.items deliveries.new.items }
+        ensures arrived { ArrivesFrom (lane ∷ []) (hand_of self.old) (hand_of self.new) deliveries.old.items deliveries.new.items }
         ensures room { HasRoomFor most (lanes_place self.new).depth (hand_of self.new).holding deliveries.new.items }
     {
         for _ in deliveries.len()..most {

@@ -18,7 +18,7 @@ use Rattle.flow_claims.specs.declared.seating.Past.{Past}
 use Rattle.event_ports.specs.declared.lane.Lane.{Lane}
 use Rattle.event_ports.specs.declared.lane.Lane.TheVariants.{Own, Flow}
 use Rattle.event_ports.specs.declared.lane.Holding.{Holding}
-use Rattle.event_ports.specs.Holds.{Hands, stint_in, IsFilledBy, received_past, answered_past, left_past, received_on, answered_on, held_on}
+use Rattle.event_ports.specs.Holds.{Hands, stint_in, IsFilledBy, received_past, answered_past, left_past, surrendered_past, received_on, answered_on, held_on}
 
 -- the reply that carries an event, and that of a release of the port's own making
 abbrev pub reply_of : Event → Reply
@@ -165,10 +165,12 @@ pub record IsEmptyHand (h : Hand) : Type 0 where
   pub holding : h.holding ≡ []
 
 -- What was received and answered in these stints is what the port had of the flow lanes, and what they left unanswered is what it holds of them.
+-- A lane of which it holds nothing was not surrendered.
 pub record IsEndOf (h : Hand) (ps : List Past) : Type 0 where
   pub received : (j : ℕ) → received_past j ps ≡ h.got (Flow j)
   pub answered_is : (j : ℕ) → answered_past j ps ≡ h.said (Flow j)
   pub held : (j : ℕ) → map pair_in (held_of (Flow j) h.holding) ≡ map pair_of (left_past j ps)
+  pub given_back : (j : ℕ) → held_of (Flow j) h.holding ≡ [] → surrendered_past j ps ≡ []
 
 -- a release for each of these that came from the lane
 abbrev pub releases_for : Lane → List Holding → List Reply

@@ -3,7 +3,7 @@
 ghost use Rattle.std.specs.Prelude.{◌≡◌, ◌≤◌, ℕ, [], false};
 ghost use Rattle.std.specs.Option.{is_some};
 ghost use Rattle.lane_rings.specs.Identity.{far_id};
-ghost use Rattle.event_ports.specs.Holds.{HaveNoNew, LeftNothing, held_on, stint_in};
+ghost use Rattle.event_ports.specs.Holds.{HaveNoNew, GaveBack, held_on, stint_in};
 ghost use Rattle.event_ports.specs.Lanes.{AreOrdered, holding_of};
 ghost use Rattle.event_ports.specs.Flows.{hands_of};
 
@@ -24,7 +24,7 @@ pub(crate) struct Lanes {
     order: HeapCircularBuffer<Holding>,
     ghost depth: { (order.capacity ≡ (far_id own).depth) × (order.capacity ≤ 64) },
     ghost ordered: { AreOrdered own (hands_of flows) order.items },
-    ghost left: { LeftNothing (hands_of flows) },
+    ghost gave_back: { GaveBack (hands_of flows) },
     ghost no_new: { HaveNoNew (hands_of flows) },
     ghost idle: { (j : ℕ) → held_on (hands_of flows) j ≡ [] → is_some (stint_in (hands_of flows) j) ≡ false },
 }

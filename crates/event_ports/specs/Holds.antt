@@ -59,7 +59,7 @@ received_past lane ps = received_in_all (stints_at lane ps)
 abbrev pub answered_past : ℕ → List Past → List Reply
 answered_past lane ps = answered_in_all (stints_at lane ps)
 
--- those by which the lane was surrendered
+-- the finished stints by which the lane was surrendered
 abbrev pub surrendered_past : ℕ → List Past → List Past
 surrendered_past lane ps = filter (λ p. p.surrendered) (stints_at lane ps)
 

@@ -1,6 +1,6 @@
 -- What arrives comes after what was received before, lane by lane and in all.
 use Rattle.std.proofs.Common.{◌≡◌, ◌≢◌, ℕ, ◌+◌, ◌≤◌, true, false, List, [], ◌∷◌, ◌++◌, length, map, filter, refl, sym, ap, ◌∙◌, subst, arith, append-nil, append_assoc}
-use Rattle.std.proofs.lemmas.List.{map-append, length-append}
+use Rattle.std.proofs.lemmas.List.{map-append, length-append, length-map}
 use Rattle.std.proofs.lemmas.List.Elements.{All-push, filter-append}
 use Rattle.lists.proofs.Lists.{filter-push_true, filter-push_false}
 use Rattle.evt_types.specs.declared.event.Delivery.{Delivery}
@@ -75,6 +75,21 @@ arrives_more lanes more lane h k m b c e read a t = record {
       ∙ append_assoc h.holding (map (λ (x : Arrival). holding_of x.0 x.1) a.arrived) (map (λ (x : Arrival). holding_of x.0 x.1) t.arrived)
       ∙ ap (λ r. h.holding ++ r) (sym (map-append (λ (x : Arrival). holding_of x.0 x.1) a.arrived t.arrived));
 }
+
+-- how many there are then
+pub arrives_grows : (lanes : List Lane) (h k : Hand) (b c : List Delivery) → ArrivesFrom lanes h k b c → length b ≤ length c
+arrives_grows lanes h k b c a = omega (arith, ap length a.deliveries, length-append b (map (λ (x : Arrival). x.1) a.arrived))
+
+pub arrives_length : (lanes : List Lane) (h k : Hand) (c : List Delivery) → ArrivesFrom lanes h k [] c → length k.holding ≡ length h.holding + length c
+arrives_length lanes h k c a =
+    omega (
+      arith,
+      ap length a.deliveries,
+      ap length a.holding,
+      length-append h.holding (map (λ (x : Arrival). holding_of x.0 x.1) a.arrived),
+      length-map a.arrived (λ (x : Arrival). x.1),
+      length-map a.arrived (λ (x : Arrival). holding_of x.0 x.1),
+    )
 
 -- all lanes were read
 pub arrives : (links : List ℕ) (h k : Hand) (b c : List Delivery) → ArrivesFrom (lanes_read links) h k b c → Arrives links h k b c

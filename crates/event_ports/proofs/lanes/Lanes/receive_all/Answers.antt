@@ -1,11 +1,12 @@
 -- What arrived from one lane more, in the order of the links.
-use Rattle.std.proofs.Common.{◌≡◌, ◌≤◌, ◌∙◌, subst, arith, ℕ, List, [], ◌∷◌, ◌++◌, ◌+◌, length, take, slice_get, Some}
+use Rattle.std.proofs.Common.{◌≡◌, ◌≤◌, ◌∙◌, ap, subst, arith, ℕ, List, [], ◌∷◌, ◌++◌, ◌+◌, length, take, slice_get, Some}
 use Rattle.std.proofs.lemmas.List.{take_all}
 use Rattle.lists.proofs.Parts.{take_next}
 use Rattle.event_ports.specs.declared.lane.Lane.TheVariants.{Flow}
 use Rattle.event_ports.specs.Handed.{LanesPlace, hand_of, links_of}
 use Rattle.event_ports.specs.Lanes.{ArrivesFrom, lanes_read}
-use Rattle.event_ports.proofs.Arrivals.{arrives, arrives_more}
+use Rattle.event_ports.proofs.Arrivals.{arrives, arrives_more, arrives_grows, arrives_length}
+use Rattle.event_ports.proofs.Orders.{own_flow}
 use Rattle.event_ports.proofs.ReadOrder.{read_more}
 use Rattle.event_ports.proofs.lanes.Lanes.receive_all.Goals as goal
 
@@ -22,6 +23,7 @@ loop-place-preserved c =
           (hand_of c.receive_some-in-loop-place.new.self) _ _ _ (read_more (take c.loop-place.place links) (take (c.loop-place.place + 1) links) c.link.result more) was.2 some.arrived,
       some.room,
       was.4,
+      λ lt. some.others (own_flow c.link.result) ∙ was.5 (omega (arith, lt, arrives_grows _ _ _ _ _ some.arrived)),
     )
 
 pub returns-clause-arrived : goal.returns-clause-arrived
@@ -31,3 +33,18 @@ returns-clause-arrived c =
     let end : length links ≤ c.loop-place.place = omega (arith, was.4, c.loop-place-test.false) in
     let All : List ℕ → Type 0 = λ ls. ArrivesFrom (lanes_read ls) (hand_of c.args.self.now) (hand_of c.loop-place.self) [] c.loop-place.deliveries.items in
     arrives links (hand_of c.args.self.now) (hand_of c.loop-place.self) [] c.loop-place.deliveries.items (subst All (take_all c.loop-place.place links end) was.2)
+
+pub returns-clause-drained : goal.returns-clause-drained
+returns-clause-drained c few room =
+    let was = c.loop-place.invariant in
+    was.5
+    (omega (
+      arith,
+      few,
+      room,
+      c.min-most.ensures,
+      c.capacity.ensures.capacity,
+      c.len.ensures.len,
+      ap (λ (p : LanesPlace). p.depth) was.0,
+      arrives_length _ (hand_of c.args.self.now) (hand_of c.loop-place.self) _ was.2,
+    ))

@@ -16,4 +16,5 @@ loop-preserved c =
       arrives_then c.args.lane (hand_of c.args.self.now) (hand_of c.loop.self) (hand_of c.receive.new.self) _ _ _ c.in-Some.delivery was.2 takes c.push.ensures.items,
       subst Room (sym c.receive.ensures.place) room,
       omega (arith, c.push.ensures.len, was.4),
+      λ ne. c.receive.ensures.others ne ∙ was.5 ne,
     )

@@ -1,19 +1,14 @@
 -- What arrives comes after what was received before, lane by lane and in all.
 use Rattle.std.proofs.Common.{◌≡◌, ◌≢◌, ℕ, ◌+◌, ◌≤◌, true, false, List, [], ◌∷◌, ◌++◌, length, map, filter, refl, sym, ap, ◌∙◌, subst, arith, append-nil, append_assoc}
-use Rattle.std.proofs.lemmas.List.{map-append, length-append}
-use Rattle.std.proofs.lemmas.List.Elements.{All-nil, All-push, All-append, filter-append}
+use Rattle.std.proofs.lemmas.List.{map-append, length-append, length-map}
+use Rattle.std.proofs.lemmas.List.Elements.{All-push, filter-append}
 use Rattle.lists.proofs.Lists.{filter-push_true, filter-push_false}
 use Rattle.evt_types.specs.declared.event.Delivery.{Delivery}
 use Rattle.event_ports.specs.declared.lane.Lane.{Lane}
-use Rattle.event_ports.specs.declared.lane.Lane.TheVariants.{Own, Flow}
 use Rattle.event_ports.specs.declared.lane.Holding.{Holding}
-use Rattle.event_ports.specs.Lanes.{Hand, Rests, Takes, Arrival, Arrives, IsLinkedTo, HasRoomFor, from_lane, same_lane, holding_of}
-use Rattle.event_ports.specs.Handed.{LanesPlace, IsReadable}
+use Rattle.event_ports.specs.Lanes.{Hand, Rests, Takes, Arrival, Arrives, ArrivesFrom, ComesInOrder, HasRoomFor, lanes_read, from_lane, same_lane, holding_of}
 use Rattle.event_ports.proofs.Orders.{by_lane}
-
-pub linked_to : (p : LanesPlace) (lane : Lane) → IsReadable p lane → IsLinkedTo p.flows.links lane
-linked_to p Own is = tt
-linked_to p (Flow j) is = is.1
+use Rattle.event_ports.proofs.ReadOrder.{none_in_order, from_one, one_in_order, more_in_order, all_linked_to}
 
 noted : Arrival → Holding
 noted a = holding_of a.0 a.1
@@ -27,24 +22,23 @@ from_here lane l d xs e =
     ∙ map-append (λ (a : Arrival). a.1) (filter (λ (a : Arrival). same_lane a.0 l) xs) ((lane, d) ∷ [])
 
 -- nothing arrived
-pub arrives_none : (links : List ℕ) (h k : Hand) (ds : List Delivery) → Rests h k → Arrives links h k ds ds
-arrives_none links h k ds r = record {
+pub arrives_none : (lanes : List Lane) (h k : Hand) (ds : List Delivery) → Rests h k → ArrivesFrom lanes h k ds ds
+arrives_none lanes h k ds r = record {
   arrived = [];
   deliveries = sym (append-nil ds);
-  linked = All-nil (λ (a : Arrival). IsLinkedTo links a.0);
+  in_order = none_in_order lanes;
   said = r.said;
   got = λ l. r.got l ∙ sym (append-nil (h.got l));
   holding = r.holding ∙ sym (append-nil h.holding);
 }
 
--- one more arrived
-pub arrives_then : (links : List ℕ) (h k m : Hand) (b c e : List Delivery) (lane : Lane) (d : Delivery) → Arrives links h k b c → Takes lane d k m → IsLinkedTo links lane
-    → e ≡ c ++ d ∷ [] → Arrives links h m b e
-arrives_then links h k m b c e lane d a t linked same = record {
+-- one more arrived from the lane
+pub arrives_then : (lane : Lane) (h k m : Hand) (b c e : List Delivery) (d : Delivery) → ArrivesFrom (lane ∷ []) h k b c → Takes lane d k m → e ≡ c ++ d ∷ [] → ArrivesFrom (lane ∷ []) h m b e
+arrives_then lane h k m b c e d a t same = record {
   arrived = a.arrived ++ (lane, d) ∷ [];
   deliveries = same ∙ ap (λ r. r ++ d ∷ []) a.deliveries ∙ append_assoc b (map (λ (x : Arrival). x.1) a.arrived) (d ∷ [])
       ∙ ap (λ r. b ++ r) (sym (map-append (λ (x : Arrival). x.1) a.arrived ((lane, d) ∷ [])));
-  linked = All-push (λ (x : Arrival). IsLinkedTo links x.0) a.arrived (lane, d) a.linked linked;
+  in_order = one_in_order lane (a.arrived ++ (lane, d) ∷ []) (All-push (λ (x : Arrival). x.0 ≡ lane) a.arrived (lane, d) (from_one lane a.arrived a.in_order) refl);
   said = λ l. t.said l ∙ a.said l;
   got = λ l. by_lane lane l (λ t. lane ≡ lane → m.got l ≡ h.got l ++ from_lane l (a.arrived ++ (lane, d) ∷ []))
       (λ is _.
@@ -56,23 +50,23 @@ arrives_then links h k m b c e lane d a t linked same = record {
 }
 
 -- a call that received nothing
-pub arrives_rests : (links : List ℕ) (h k m : Hand) (b c : List Delivery) → Arrives links h k b c → Rests k m → Arrives links h m b c
-arrives_rests links h k m b c a r = record {
+pub arrives_rests : (lanes : List Lane) (h k m : Hand) (b c : List Delivery) → ArrivesFrom lanes h k b c → Rests k m → ArrivesFrom lanes h m b c
+arrives_rests lanes h k m b c a r = record {
   arrived = a.arrived;
   deliveries = a.deliveries;
-  linked = a.linked;
+  in_order = a.in_order;
   said = λ l. r.said l ∙ a.said l;
   got = λ l. r.got l ∙ a.got l;
   holding = r.holding ∙ a.holding;
 }
 
--- more arrived
-pub arrives_more : (links : List ℕ) (h k m : Hand) (b c e : List Delivery) → Arrives links h k b c → Arrives links k m c e → Arrives links h m b e
-arrives_more links h k m b c e a t = record {
+-- more arrived, from one lane more
+pub arrives_more : (lanes more : List Lane) (lane : Lane) (h k m : Hand) (b c e : List Delivery) → more ≡ lanes ++ lane ∷ [] → ArrivesFrom lanes h k b c → ArrivesFrom (lane ∷ []) k m c e → ArrivesFrom more h m b e
+arrives_more lanes more lane h k m b c e read a t = record {
   arrived = a.arrived ++ t.arrived;
   deliveries = t.deliveries ∙ ap (λ r. r ++ map (λ (x : Arrival). x.1) t.arrived) a.deliveries ∙ append_assoc b (map (λ (x : Arrival). x.1) a.arrived) (map (λ (x : Arrival). x.1) t.arrived)
       ∙ ap (λ r. b ++ r) (sym (map-append (λ (x : Arrival). x.1) a.arrived t.arrived));
-  linked = All-append (λ (x : Arrival). IsLinkedTo links x.0) a.arrived t.arrived a.linked t.linked;
+  in_order = subst (λ (ls : List Lane). ComesInOrder ls (a.arrived ++ t.arrived)) (sym read) (more_in_order lanes lane a.arrived t.arrived a.in_order (from_one lane t.arrived t.in_order));
   said = λ l. t.said l ∙ a.said l;
   got = λ l. t.got l ∙ ap (λ r. r ++ from_lane l t.arrived) (a.got l) ∙ append_assoc (h.got l) (from_lane l a.arrived) (from_lane l t.arrived)
       ∙ ap (λ r. h.got l ++ r) (sym (ap (map (λ (x : Arrival). x.1)) (filter-append (λ (x : Arrival). same_lane x.0 l) a.arrived t.arrived)
@@ -80,6 +74,33 @@ arrives_more links h k m b c e a t = record {
   holding = t.holding ∙ ap (λ r. r ++ map (λ (x : Arrival). holding_of x.0 x.1) t.arrived) a.holding
       ∙ append_assoc h.holding (map (λ (x : Arrival). holding_of x.0 x.1) a.arrived) (map (λ (x : Arrival). holding_of x.0 x.1) t.arrived)
       ∙ ap (λ r. h.holding ++ r) (sym (map-append (λ (x : Arrival). holding_of x.0 x.1) a.arrived t.arrived));
+}
+
+-- how many there are then
+pub arrives_grows : (lanes : List Lane) (h k : Hand) (b c : List Delivery) → ArrivesFrom lanes h k b c → length b ≤ length c
+arrives_grows lanes h k b c a = omega (arith, ap length a.deliveries, length-append b (map (λ (x : Arrival). x.1) a.arrived))
+
+pub arrives_length : (lanes : List Lane) (h k : Hand) (c : List Delivery) → ArrivesFrom lanes h k [] c → length k.holding ≡ length h.holding + length c
+arrives_length lanes h k c a =
+    omega (
+      arith,
+      ap length a.deliveries,
+      ap length a.holding,
+      length-append h.holding (map (λ (x : Arrival). holding_of x.0 x.1) a.arrived),
+      length-map a.arrived (λ (x : Arrival). x.1),
+      length-map a.arrived (λ (x : Arrival). holding_of x.0 x.1),
+    )
+
+-- all lanes were read
+pub arrives : (links : List ℕ) (h k : Hand) (b c : List Delivery) → ArrivesFrom (lanes_read links) h k b c → Arrives links h k b c
+arrives links h k b c a = record {
+  arrived = a.arrived;
+  deliveries = a.deliveries;
+  linked = all_linked_to links a.arrived a.in_order;
+  in_order = a.in_order;
+  said = a.said;
+  got = a.got;
+  holding = a.holding;
 }
 
 -- one that was received takes its place

@@ -10,7 +10,7 @@ use Rattle.evt_types.specs.declared.event.Op.TheVariants as ops
 use Rattle.evt_types.specs.declared.event.Reply.{Reply}
 use Rattle.evt_types.specs.Operation.{is_answer, is_answer_op, is_new_op, is_new_reply}
 use Rattle.seat_sums.specs.Sums.{count}
-use Rattle.event_ports.specs.Holds.{Hands, stint_in, answered_on, held_on, Same, Gets, Says, HaveNoNew, LeftNothing, SameLeft}
+use Rattle.event_ports.specs.Holds.{Hands, stint_in, answered_on, held_on, Same, Gets, Says, HaveNoNew, GaveBack, NoneSurrendered}
 use Rattle.event_ports.proofs.Counts.{count_more}
 
 -- no lane is held of which nothing is unanswered
@@ -51,7 +51,7 @@ idle_refused h k lane same elsewhere free idle j none =
     dite (ℕ_discrete j lane) (λ e. subst At (sym e) free) (λ ne. elsewhere j ne ∙ idle j (sym (same.held j) ∙ none))
 
 pub same_more : (h k m : Hands) → Same h k → Same k m → Same h m
-same_more h k m a b = record { received = λ j. b.received j ∙ a.received j; answered_is = λ j. b.answered_is j ∙ a.answered_is j; held = λ j. b.held j ∙ a.held j; left = λ j. b.left j ∙ a.left j }
+same_more h k m a b = record { received = λ j. b.received j ∙ a.received j; answered_is = λ j. b.answered_is j ∙ a.answered_is j; held = λ j. b.held j ∙ a.held j; given_back = λ j. b.given_back j ∙ a.given_back j }
 
 pub gets_after : (h k m : Hands) (lane : ℕ) (d : Delivery) → Same h k → Gets lane d k m → Gets lane d h m
 gets_after h k m lane d same gets = record {
@@ -59,7 +59,7 @@ gets_after h k m lane d same gets = record {
   received = gets.received ∙ ap (λ r. r ++ d ∷ []) (same.received lane);
   answered_is = gets.answered_is ∙ same.answered_is lane;
   held = gets.held ∙ ap (λ r. r ++ d ∷ []) (same.held lane);
-  left = λ j. gets.left j ∙ same.left j;
+  given_back = λ j. gets.given_back j ∙ same.given_back j;
 }
 
 pub says_before : (h k m : Hands) (lane : ℕ) (r : Reply) → Says lane r h k → Same k m → Says lane r h m
@@ -68,7 +68,7 @@ says_before h k m lane r says same = record {
   received = same.received lane ∙ says.received;
   answered_is = same.answered_is lane ∙ says.answered_is;
   held = same.held lane ∙ says.held;
-  left = λ j. same.left j ∙ says.left j;
+  given_back = λ j. same.given_back j ∙ says.given_back j;
 }
 
 -- a receipt answers nothing
@@ -77,9 +77,9 @@ gets_no_answer h k lane d gets j =
     let At : ℕ → Type 0 = λ i. answered_on k i ≡ answered_on h i in
     dite (ℕ_discrete j lane) (λ e. subst At (sym e) gets.answered_is) (λ ne. gets.others.answered_is j ne)
 
--- nothing is left unanswered of the lanes that were held before
-pub nothing_left : (h k : Hands) → SameLeft h k → LeftNothing h → LeftNothing k
-nothing_left h k same none j = same j ∙ none j
+-- the lanes that were held before were given back
+pub gave_back : (h k : Hands) → NoneSurrendered h k → GaveBack h → GaveBack k
+gave_back h k none before j = none j ∙ before j
 
 -- no NEW goes to a flow lane
 pub none_new : (h : Hands) → ((j : ℕ) → answered_on h j ≡ []) → HaveNoNew h

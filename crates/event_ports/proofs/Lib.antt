@@ -5,6 +5,7 @@ pub mod Calls
 pub mod Orders
 pub mod Counts
 pub mod Refusals
+pub mod ReadOrder
 pub mod Arrivals
 pub mod Refusing
 pub mod Released

@@ -1,6 +1,7 @@
 -- What a call on one flow lane makes of what a port has of all of them.
 use Rattle.std.proofs.Common.{◌≡◌, ◌≢◌, ℕ, suc, ◌<◌, Bool, true, false, List, [], ◌∷◌, ◌++◌, length, drop, set, Option, Some, None, All, MatchOption, refl, sym, ap, ◌∙◌, subst, arith, append-nil, append_assoc}
-use Rattle.std.proofs.lemmas.List.{length-set}
+use Rattle.std.proofs.lemmas.List.{length-set, get_or-set_other}
+use Rattle.std.proofs.lemmas.Option.{none-some}
 use Rattle.std.proofs.lemmas.List.Elements.{All-push}
 use mathlib.Core.Logic.{dite}
 use native.Mathlib.Decide.{ℕ_discrete, dec_le}
@@ -19,8 +20,8 @@ use Rattle.flow_claims.specs.Open.{IsOpen, received_so_far, answered_so_far}
 use Rattle.flow_claims.specs.Seats.{stint_at, find_lane, IsPorts}
 use Rattle.flow_claims.specs.Stints.{left_in, received_in, answered_in}
 use Rattle.flow_claims.proofs.Held.{nothing_held}
-use Rattle.event_ports.specs.Holds.{place_at, IsHeldAt, AreFlows, stints_at, received_past, answered_past, left_past, left_on, received_now, answered_now, held_now, Hands, received_on, answered_on, Kept, Ends, Same, SameBut, Gets, Says}
-use Rattle.event_ports.proofs.Unanswered.{left_here, left_other, left_nothing, given_back, surrendered}
+use Rattle.event_ports.specs.Holds.{place_at, IsHeldAt, AreFlows, stints_at, received_past, answered_past, left_past, surrendered_past, left_on, LeavesFree, received_now, answered_now, held_now, Hands, received_on, answered_on, Kept, Ends, Same, SameBut, Gets, Says}
+use Rattle.event_ports.proofs.Unanswered.{left_here, left_other, surrendered, none_surrendered, others_surrendered}
 use Rattle.event_ports.proofs.Places.{Stints, hands, each_place, moved, free_place, held_place, past_places, past_more, other_stints, same_now, same_but, received_here, answered_here, held_here, all_same}
 
 module _ (claims : Claims) (links : List ℕ) where
@@ -109,7 +110,7 @@ module _ (claims : Claims) (links : List ℕ) where
       all_same lane (hands v ss) (hands w (set ss lane new)) (same_but links v w ss lane new others (λ j ne. ap (stints_at j) finished) are.each)
       (received_here links v w ss lane new within ∙ (λ i. received_past lane (finished i) ++ received i) ∙ sym (ap (λ o. received_past lane v.finished ++ received_now v o) free))
       (answered_here links v w ss lane new within ∙ (λ i. answered_past lane (finished i) ++ answered i) ∙ sym (ap (λ o. answered_past lane v.finished ++ answered_now v o) free))
-      (held_here links v w ss lane new within ∙ held ∙ sym (ap held_now free)) (λ j. ap (left_past j) finished)
+      (held_here links v w ss lane new within ∙ held ∙ sym (ap held_now free)) (λ j. ap (surrendered_past j) finished)
 
   -- a claim that was refused
   pub refused_same : (seat after : ClaimSeat) (ss : Stints) → AreFlows claims seat ss links → (seating after).held ≡ (seating seat).held → (seating after).finished ≡ (seating seat).finished
@@ -120,7 +121,7 @@ module _ (claims : Claims) (links : List ℕ) where
         received = λ j i. received_past j (finished i) ++ (now j).0 i;
         answered_is = λ j i. answered_past j (finished i) ++ (now j).1 i;
         held = λ j. refl;
-        left = λ j. ap (left_past j) finished;
+        given_back = λ j. ap (surrendered_past j) finished;
       }
 
   -- after the end of a stint, but for what is held
@@ -166,11 +167,16 @@ module _ (claims : Claims) (links : List ℕ) where
         ∙ sym (ap (λ o. left_past lane (seating seat).finished ++ held_now o) at)))
         (λ ne. (λ i. left_other (seating seat).finished (seating after).finished p lane ends.piece.1 its_lane j ne i ++ ended_but.held j ne i))
 
+    pub ended_free : LeavesFree (hands (seating seat) ss) (hands (seating after) (set ss lane None))
+    ended_free j none =
+        let ne : j ≢ lane = λ e. none-some stint (sym none ∙ ap (place_at ss) e ∙ at) in
+        (get_or-set_other ss lane j None None ne ∙ none, others_surrendered (seating seat).finished (seating after).finished ends.piece.0 lane ends.piece.1 its_lane j ne)
+
     pub left_same : gone ≡ false → unanswered stint.far ≡ [] → Same (hands (seating seat) ss) (hands (seating after) (set ss lane None))
     left_same gives none =
         all_same lane (hands (seating seat) ss) (hands (seating after) (set ss lane None)) ended_but ended_received ended_answered
         (held_here links (seating seat) (seating after) ss lane None within ∙ sym none ∙ sym (ap held_now at))
-        (left_nothing (seating seat).finished (seating after).finished ends.piece.0 lane ends.piece.1 its_lane (given_back ends.piece.0 (ends.piece.2.surrendered_is ∙ gives)))
+        (none_surrendered (seating seat).finished (seating after).finished ends.piece.0 lane ends.piece.1 its_lane (ends.piece.2.surrendered_is ∙ gives))
 
   -- after a call through the stint's end
   module _ (seat : ClaimSeat) (ss : Stints) (lane : ℕ) (stint new : Stint) (are : AreFlows claims seat ss links) (at : place_at ss lane ≡ Some stint) (lt : lane < length (lanes_of claims)) where
@@ -213,7 +219,7 @@ module _ (claims : Claims) (links : List ℕ) where
       received = received_is (d ∷ []) r;
       answered_is = same_answered a;
       held = held_here links (seating seat) (seating seat) ss lane (Some new) inside ∙ u ∙ sym (ap (λ o. held_now o ++ d ∷ []) at);
-      left = λ j. refl;
+      given_back = λ j. refl;
     }
 
     pub turn_says : (reply : Reply) → received_so_far (seating seat) new ≡ received_so_far (seating seat) stint → answered_so_far (seating seat) new ≡ answered_so_far (seating seat) stint ++ reply ∷ []
@@ -223,7 +229,7 @@ module _ (claims : Claims) (links : List ℕ) where
       received = same_received r;
       answered_is = answered_is (reply ∷ []) a;
       held = held_here links (seating seat) (seating seat) ss lane (Some new) inside ∙ u ∙ sym (ap (λ o. drop (answers_among (reply ∷ [])) (held_now o)) at);
-      left = λ j. refl;
+      given_back = λ j. refl;
     }
 
     -- a receipt: `Stint::receive` in its own words
@@ -235,18 +241,22 @@ module _ (claims : Claims) (links : List ℕ) where
     received_lists None is held received answered = turn_same (received (seating seat) is) (answered (seating seat)) held
     received_lists (Some d) is held received answered = turn_gets d (received (seating seat) is) (answered (seating seat)) held
 
+leaves_more : (h k m : Hands) → LeavesFree h k → LeavesFree k m → LeavesFree h m
+leaves_more h k m a b j none = ((b j (a j none).0).0, (b j (a j none).0).1 ∙ (a j none).1)
+
 -- what is kept twice is kept
 pub kept_more : (h k m : Hands) → Kept h k → Kept k m → Kept h m
-kept_more h k m a b = record { received = λ j. b.received j ∙ a.received j; answered_is = λ j. b.answered_is j ∙ a.answered_is j; left = λ j. b.left j ∙ a.left j }
+kept_more h k m a b = record { received = λ j. b.received j ∙ a.received j; answered_is = λ j. b.answered_is j ∙ a.answered_is j; left = λ j. b.left j ∙ a.left j; free = leaves_more h k m a.free b.free }
 
-pub all_kept : (lane : ℕ) (h k : Hands) → SameBut lane h k → received_on k lane ≡ received_on h lane → answered_on k lane ≡ answered_on h lane → ((j : ℕ) → left_on k j ≡ left_on h j) → Kept h k
-all_kept lane h k others received answered left =
+pub all_kept : (lane : ℕ) (h k : Hands) → SameBut lane h k → received_on k lane ≡ received_on h lane → answered_on k lane ≡ answered_on h lane → ((j : ℕ) → left_on k j ≡ left_on h j) → LeavesFree h k → Kept h k
+all_kept lane h k others received answered left free =
     let Received : ℕ → Type 0 = λ j. received_on k j ≡ received_on h j in
     let Answered : ℕ → Type 0 = λ j. answered_on k j ≡ answered_on h j in
     record {
       received = λ j. dite (ℕ_discrete j lane) (λ e. subst Received (sym e) received) (λ ne. others.received j ne);
       answered_is = λ j. dite (ℕ_discrete j lane) (λ e. subst Answered (sym e) answered) (λ ne. others.answered_is j ne);
       left = left;
+      free = free;
     }
 
 -- once there is nothing at any place, the seat holds no lane, and has what the port had
@@ -259,6 +269,7 @@ ends_with h k kept none =
       received = λ j. sym (append-nil (received_past j k.view.finished)) ∙ sym (ap (λ o. received_past j k.view.finished ++ received_now k.view o) (none j)) ∙ kept.received j;
       answered_is = λ j. sym (append-nil (answered_past j k.view.finished)) ∙ sym (ap (λ o. answered_past j k.view.finished ++ answered_now k.view o) (none j)) ∙ kept.answered_is j;
       left = λ j. sym (append-nil (left_past j k.view.finished)) ∙ sym (ap (λ o. left_past j k.view.finished ++ held_now o) (none j)) ∙ kept.left j;
+      free = λ j was. (kept.free j was).1;
     }
 
 pub holds_none : (claims : Claims) (seat : ClaimSeat) (ss : Stints) (links : List ℕ) → AreFlows claims seat ss links → ((j : ℕ) → place_at ss j ≡ None) → (seating seat).held ≡ []

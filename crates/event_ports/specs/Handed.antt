@@ -2,8 +2,10 @@
 use Rattle.std.specs.Prelude.{◌≡◌, ◌+◌, ◌<◌, ℕ, true, List, length, Option}
 use Rattle.lists.specs.Lists.{has}
 use Rattle.evt_types.specs.Operation.{is_new_reply, is_release_reply}
+use Rattle.evt_types.specs.declared.event.Delivery.{Delivery}
 use Rattle.evt_types.specs.declared.event.Reply.{Reply}
 use Rattle.seat_sums.specs.Sums.{count}
+use Rattle.lane_rings.specs.Ends.{seen_deliveries}
 use Rattle.lane_rings.specs.Identity.{far_id, LaneId}
 use Rattle.lane_rings.specs.declared.far.AnswerFault.{AnswerFault}
 use Rattle.flow_claims.specs.Claims.{lanes_of}
@@ -32,6 +34,10 @@ flow_count p = length (lanes_of p.flows.claims)
 
 abbrev pub hand_of : Lanes → Hand
 hand_of a = record { said = said_on a.own (hands_of a.flows); got = got_on a.own (hands_of a.flows); holding = a.order.items }
+
+-- the deliveries that the port saw in the ring of its own lane and didn't receive
+abbrev pub seen_own : Lanes → List Delivery
+seen_own a = seen_deliveries a.own
 
 -- the port may receive from the lane: its own one, or a flow lane to which it is linked
 abbrev pub IsReadable : LanesPlace → Lane → Type 0

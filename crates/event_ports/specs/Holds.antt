@@ -59,6 +59,10 @@ received_past lane ps = received_in_all (stints_at lane ps)
 abbrev pub answered_past : ℕ → List Past → List Reply
 answered_past lane ps = answered_in_all (stints_at lane ps)
 
+-- the finished stints by which the lane was surrendered
+abbrev pub surrendered_past : ℕ → List Past → List Past
+surrendered_past lane ps = filter (λ p. p.surrendered) (stints_at lane ps)
+
 -- what a stint that surrendered its lane left unanswered; one that gave it back left nothing
 abbrev pub left_by : Past → List Delivery
 left_by p = if p.surrendered then left_in p.end else []
@@ -102,13 +106,17 @@ held_on h lane = held_now (stint_in h lane)
 abbrev pub left_on : Hands → ℕ → List Delivery
 left_on h lane = left_past lane h.view.finished ++ held_on h lane
 
--- each lane that was held before was given back with nothing unanswered
-abbrev pub LeftNothing : Hands → Type 0
-LeftNothing h = (lane : ℕ) → left_past lane h.view.finished ≡ []
+-- each lane that was held before was given back
+abbrev pub GaveBack : Hands → Type 0
+GaveBack h = (lane : ℕ) → surrendered_past lane h.view.finished ≡ []
 
--- what finished stints left unanswered stays
-abbrev pub SameLeft : Hands → Hands → Type 0
-SameLeft h k = (lane : ℕ) → left_past lane k.view.finished ≡ left_past lane h.view.finished
+-- no lane was surrendered
+abbrev pub NoneSurrendered : Hands → Hands → Type 0
+NoneSurrendered h k = (lane : ℕ) → surrendered_past lane k.view.finished ≡ surrendered_past lane h.view.finished
+
+-- a lane that isn't held is neither surrendered nor held later
+abbrev pub LeavesFree : Hands → Hands → Type 0
+LeavesFree h k = (lane : ℕ) → stint_in h lane ≡ None → (stint_in k lane ≡ None) × (surrendered_past lane k.view.finished ≡ surrendered_past lane h.view.finished)
 
 -- no NEW was submitted to a flow lane
 abbrev pub HaveNoNew : Hands → Type 0
@@ -119,13 +127,14 @@ pub record Same (h k : Hands) : Type 0 where
   pub received : (lane : ℕ) → received_on k lane ≡ received_on h lane
   pub answered_is : (lane : ℕ) → answered_on k lane ≡ answered_on h lane
   pub held : (lane : ℕ) → held_on k lane ≡ held_on h lane
-  pub left : SameLeft h k
+  pub given_back : NoneSurrendered h k
 
--- But for what is held: that may be left unanswered.
+-- But for what is held: a lane may be surrendered, and what is unanswered of it is left.
 pub record Kept (h k : Hands) : Type 0 where
   pub received : (lane : ℕ) → received_on k lane ≡ received_on h lane
   pub answered_is : (lane : ℕ) → answered_on k lane ≡ answered_on h lane
   pub left : (lane : ℕ) → left_on k lane ≡ left_on h lane
+  pub free : LeavesFree h k
 
 -- those of other lanes
 pub record SameBut (lane : ℕ) (h k : Hands) : Type 0 where
@@ -139,7 +148,7 @@ pub record Gets (lane : ℕ) (d : Delivery) (h k : Hands) : Type 0 where
   pub received : received_on k lane ≡ received_on h lane ++ d ∷ []
   pub answered_is : answered_on k lane ≡ answered_on h lane
   pub held : held_on k lane ≡ held_on h lane ++ d ∷ []
-  pub left : SameLeft h k
+  pub given_back : NoneSurrendered h k
 
 -- a reply went to the lane; an answer is to the oldest delivery that is held of it
 pub record Says (lane : ℕ) (r : Reply) (h k : Hands) : Type 0 where
@@ -147,20 +156,21 @@ pub record Says (lane : ℕ) (r : Reply) (h k : Hands) : Type 0 where
   pub received : received_on k lane ≡ received_on h lane
   pub answered_is : answered_on k lane ≡ answered_on h lane ++ r ∷ []
   pub held : held_on k lane ≡ drop (answers_among (r ∷ [])) (held_on h lane)
-  pub left : SameLeft h k
+  pub given_back : NoneSurrendered h k
 
--- What a seat that holds no lane has of the lanes is what the port had; what the port held of them is left unanswered.
+-- What a seat that holds no lane has of the lanes is what the port had; the lanes that it held were surrendered, and what it held of them is left.
 pub record Ends (h : Hands) (v : Seating) : Type 0 where
   pub received : (lane : ℕ) → received_past lane v.finished ≡ received_on h lane
   pub answered_is : (lane : ℕ) → answered_past lane v.finished ≡ answered_on h lane
   pub left : (lane : ℕ) → left_past lane v.finished ≡ left_on h lane
+  pub free : (lane : ℕ) → stint_in h lane ≡ None → surrendered_past lane v.finished ≡ surrendered_past lane h.view.finished
 
 -- nothing was received from any lane or answered to it, and no lane is held
 pub record AreEmpty (h : Hands) : Type 0 where
   pub received : (lane : ℕ) → received_on h lane ≡ []
   pub answered_is : (lane : ℕ) → answered_on h lane ≡ []
   pub held : (lane : ℕ) → is_some (stint_in h lane) ≡ false
-  pub left : LeftNothing h
+  pub given_back : GaveBack h
 
 -- as many replies were given to the lane of the stint as its reply ring has room for, by all ports that held it
 abbrev pub IsFilledBy : Option Stint → Type 0

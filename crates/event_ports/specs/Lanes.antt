@@ -18,7 +18,7 @@ use Rattle.flow_claims.specs.declared.seating.Past.{Past}
 use Rattle.event_ports.specs.declared.lane.Lane.{Lane}
 use Rattle.event_ports.specs.declared.lane.Lane.TheVariants.{Own, Flow}
 use Rattle.event_ports.specs.declared.lane.Holding.{Holding}
-use Rattle.event_ports.specs.Holds.{Hands, stint_in, IsFilledBy, received_past, answered_past, left_past, received_on, answered_on, held_on}
+use Rattle.event_ports.specs.Holds.{Hands, stint_in, IsFilledBy, received_past, answered_past, left_past, surrendered_past, received_on, answered_on, held_on}
 
 -- the reply that carries an event, and that of a release of the port's own making
 abbrev pub reply_of : Event → Reply
@@ -124,11 +124,30 @@ IsLinkedTo links (Flow j) = has j links ≡ true
 abbrev pub from_lane : Lane → List Arrival → List Delivery
 from_lane l arrived = map (λ a. a.1) (filter (λ a. same_lane a.0 l) arrived)
 
+-- the lanes that a dequeue reads, in this order: the own lane, and the flow lanes in the order of the links
+abbrev pub lanes_read : List ℕ → List Lane
+lanes_read links = Own ∷ map Flow links
+
+-- what arrived came from these lanes one after the other: all from the first lane comes first, and so on
+abbrev pub ComesInOrder : List Lane → List Arrival → Type 0
+ComesInOrder [] arrived = arrived ≡ []
+ComesInOrder (lane ∷ lanes) arrived = (here : List Arrival) × (later : List Arrival) × (arrived ≡ here ++ later) × All (λ a. a.0 ≡ lane) here × ComesInOrder lanes later
+
+-- Deliveries were received from these lanes, after those in `before`.
+pub record ArrivesFrom (lanes : List Lane) (h k : Hand) (before after : List Delivery) : Type 0 where
+  pub arrived : List Arrival
+  pub deliveries : after ≡ before ++ map (λ a. a.1) arrived
+  pub in_order : ComesInOrder lanes arrived
+  pub said : (l : Lane) → k.said l ≡ h.said l
+  pub got : (l : Lane) → k.got l ≡ h.got l ++ from_lane l arrived
+  pub holding : k.holding ≡ h.holding ++ map (λ a. holding_of a.0 a.1) arrived
+
 -- Deliveries were received, after those in `before`, each from the port's own lane or a lane to which it is linked.
 pub record Arrives (links : List ℕ) (h k : Hand) (before after : List Delivery) : Type 0 where
   pub arrived : List Arrival
   pub deliveries : after ≡ before ++ map (λ a. a.1) arrived
   pub linked : All (λ a. IsLinkedTo links a.0) arrived
+  pub in_order : ComesInOrder (lanes_read links) arrived
   pub said : (l : Lane) → k.said l ≡ h.said l
   pub got : (l : Lane) → k.got l ≡ h.got l ++ from_lane l arrived
   pub holding : k.holding ≡ h.holding ++ map (λ a. holding_of a.0 a.1) arrived
@@ -146,10 +165,12 @@ pub record IsEmptyHand (h : Hand) : Type 0 where
   pub holding : h.holding ≡ []
 
 -- What was received and answered in these stints is what the port had of the flow lanes, and what they left unanswered is what it holds of them.
+-- A lane of which it holds nothing was not surrendered.
 pub record IsEndOf (h : Hand) (ps : List Past) : Type 0 where
   pub received : (j : ℕ) → received_past j ps ≡ h.got (Flow j)
   pub answered_is : (j : ℕ) → answered_past j ps ≡ h.said (Flow j)
   pub held : (j : ℕ) → map pair_in (held_of (Flow j) h.holding) ≡ map pair_of (left_past j ps)
+  pub given_back : (j : ℕ) → held_of (Flow j) h.holding ≡ [] → surrendered_past j ps ≡ []
 
 -- a release for each of these that came from the lane
 abbrev pub releases_for : Lane → List Holding → List Reply

@@ -2,6 +2,7 @@
 use Rattle.std.specs.Prelude.{◌≡◌, ◌≢◌, ℕ, ◌+◌, ◌%◌, ◌^◌, ◌<◌, ◌≤◌, Bool, List, [], length, take, slice_get, if◌then◌else◌, IsTrue}
 use Rattle.std.specs.Prelude.Option.{Some}
 use Rattle.std.specs.Arc.{arc_value}
+use Rattle.evt_types.specs.declared.event.Delivery.{Delivery}
 use Rattle.evt_types.specs.declared.event.Event.{Event}
 use Rattle.evt_types.specs.declared.event.Op.{Op}
 use Rattle.evt_types.specs.declared.event.Op.TheVariants as ops
@@ -13,7 +14,7 @@ use Rattle.event_answers.specs.declared.answer.Refused.{Refused}
 use Rattle.event_answers.specs.declared.answer.Refused.TheVariants.{Stopped, BadQueue, NothingHeld, Backpressure, Raced, Full}
 use Rattle.event_ports.specs.declared.port.Port.{Port}
 use Rattle.event_ports.specs.Lanes.{Hand, SubmitsAll, lane_for}
-use Rattle.event_ports.specs.Handed.{LanesPlace, lanes_place, hand_of, news_of, releases_of, IsFilled}
+use Rattle.event_ports.specs.Handed.{LanesPlace, lanes_place, seen_own, hand_of, news_of, releases_of, IsFilled}
 use Rattle.event_ports.specs.Draws.{SameSums, Settles}
 
 -- what never changes of a port
@@ -47,6 +48,10 @@ pocket_of p = p.pocket
 -- what it submitted, received and holds
 abbrev pub hand : Port → Hand
 hand p = hand_of p.lanes
+
+-- the deliveries that it saw in the ring of its own lane and didn't receive
+abbrev pub seen_by : Port → List Delivery
+seen_by p = seen_own p.lanes
 
 -- the flow lanes to which it is linked
 abbrev pub links : Port → List ℕ

@@ -5,7 +5,7 @@ ghost use Rattle.evt_types.specs.declared.event.Op.TheVariants as ops;
 ghost use Rattle.credit_pool.specs.Accounts.{Stays};
 ghost use Rattle.event_ports.specs.Lanes.{Rests, Releases, Dequeues, Arrives, SubmitsTo, SubmitsAll, first_lane, release_reply};
 ghost use Rattle.event_ports.specs.Draws.{Settles};
-ghost use Rattle.event_ports.specs.Ports.{place_of, account_of, pocket_of, hand, links, was_filled, released_first, StopsAt};
+ghost use Rattle.event_ports.specs.Ports.{place_of, account_of, pocket_of, hand, seen_by, links, was_filled, released_first, StopsAt};
 
 use crate::port::Port;
 use arrayvec::ArrayVec;
@@ -14,12 +14,14 @@ use evt_types::{Delivery, Event, Reply};
 
 impl Port {
     /// Receives at most `max` deliveries, and no more than may be held. With implicit release all that is held is released first,
-    /// oldest first; where a reply ring has no room for all of it, nothing is received and the rest stays held.
+    /// oldest first; where a reply ring has no room for all of it, nothing is received and the rest stays held. Where fewer come than
+    /// may, the own lane's ring was seen empty.
     pub fn dequeue(&mut self, max: usize) -> Result<ArrayVec<Delivery, 64>, Behind>
         ensures place { place_of self.new ≡ place_of self.old }
         ensures credit { Stays (account_of self.old) (account_of self.new) }
         ensures ok { IfOk result (λ v. Dequeues (links self.old) (released_first self.old) (hand self.old) (hand self.new) v.items) }
         ensures few { IfOk result (λ v. (length v.items ≤ max) × (length (hand self.new).holding ≤ (place_of self.old).lanes.depth)) }
+        ensures drained { IfOk result (λ v. length v.items < max → length (hand self.new).holding < (place_of self.old).lanes.depth → seen_by self.new ≡ []) }
         ensures behind { IfErr result (λ b. IsTrue (place_of self.old).implicit × (b.released < length (hand self.old).holding) × Releases b.released (hand self.old) (hand self.new) × was_filled self.new ops.Release) }
         ensures settled { MatchResult result
             (λ _. Settles (place_of self.old).quantum ((pocket_of self.old + released_first self.old) % 2 ^ 64) (account_of self.old) (pocket_of self.new) (account_of self.new))
@@ -53,6 +55,7 @@ impl Port {
         ensures credit { account_of self.new ≡ account_of self.old }
         ensures ok { IfOk result (λ v. Dequeues (links self.old) (released_first self.old) (hand self.old) (hand self.new) v.items) }
         ensures few { IfOk result (λ v. (length v.items ≤ max) × (length (hand self.new).holding ≤ (place_of self.old).lanes.depth)) }
+        ensures drained { IfOk result (λ v. length v.items < max → length (hand self.new).holding < (place_of self.old).lanes.depth → seen_by self.new ≡ []) }
         ensures behind { IfErr result (λ b. IsTrue (place_of self.old).implicit × (b.released < length (hand self.old).holding) × Releases b.released (hand self.old) (hand self.new) × was_filled self.new ops.Release) }
         ensures pocket { MatchResult result
             (λ _. pocket_of self.new ≡ (pocket_of self.old + released_first self.old) % 2 ^ 64)
@@ -72,6 +75,7 @@ impl Port {
         ensures credit { (account_of self.new ≡ account_of self.old) × (pocket_of self.new ≡ pocket_of self.old) × (pocket_of self.old < 2 ^ 64) }
         ensures arrived { Arrives (links self.old) (hand self.old) (hand self.new) [] result.items }
         ensures few { (length result.items ≤ max) × (length (hand self.new).holding ≤ (place_of self.old).lanes.depth) }
+        ensures drained { length result.items < max → length (hand self.new).holding < (place_of self.old).lanes.depth → seen_by self.new ≡ [] }
     {
         let _pocket = self.pocket;
         self.lanes.receive_all(max)

@@ -20,7 +20,7 @@ pub(crate) struct FlowLanes {
 }
 
 impl FlowLanes {
-    ghost use Rattle.std.specs.Prelude.{◌≡◌, ◌≢◌, ℕ, ◌<◌, ◌≤◌, [], ◌++◌, true, false, length, replicate, All, IfOk, IfErr, MatchOption, MatchResult};
+    ghost use Rattle.std.specs.Prelude.{◌≡◌, ◌≢◌, ℕ, ◌<◌, ◌≤◌, [], ◌++◌, true, false, length, slice_get, replicate, All, IfOk, IfErr, MatchOption, MatchResult};
     ghost use Rattle.std.specs.Option.{is_some};
     ghost use Rattle.lists.specs.Lists.{has};
     ghost use Rattle.evt_types.specs.Operation.{is_answer};
@@ -63,6 +63,7 @@ impl FlowLanes {
         requires { place < length (flow_place self.now).links }
         ensures exists { result < length (lanes_of (flow_place self.now).claims) }
         ensures linked { has result (flow_place self.now).links ≡ true }
+        ensures at_place { slice_get (flow_place self.now).links place ≡ Some result }
     {
         self.links[place]
     }

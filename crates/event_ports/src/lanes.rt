@@ -3,7 +3,7 @@
 ghost use Rattle.std.specs.Prelude.{◌≡◌, ◌≤◌, ℕ, [], false};
 ghost use Rattle.std.specs.Option.{is_some};
 ghost use Rattle.lane_rings.specs.Identity.{far_id};
-ghost use Rattle.event_ports.specs.Holds.{HaveNoNew, LeftNothing, held_on, stint_in};
+ghost use Rattle.event_ports.specs.Holds.{HaveNoNew, GaveBack, held_on, stint_in};
 ghost use Rattle.event_ports.specs.Lanes.{AreOrdered, holding_of};
 ghost use Rattle.event_ports.specs.Flows.{hands_of};
 
@@ -24,16 +24,16 @@ pub(crate) struct Lanes {
     order: HeapCircularBuffer<Holding>,
     ghost depth: { (order.capacity ≡ (far_id own).depth) × (order.capacity ≤ 64) },
     ghost ordered: { AreOrdered own (hands_of flows) order.items },
-    ghost left: { LeftNothing (hands_of flows) },
+    ghost gave_back: { GaveBack (hands_of flows) },
     ghost no_new: { HaveNoNew (hands_of flows) },
     ghost idle: { (j : ℕ) → held_on (hands_of flows) j ≡ [] → is_some (stint_in (hands_of flows) j) ≡ false },
 }
 
 impl Lanes {
-    ghost use Rattle.std.specs.Prelude.{◌≡◌, ◌≢◌, ℕ, ◌+◌, ◌<◌, ◌≤◌, [], ◌∷◌, true, false, length, map, count_by, Some, IfOk, IfErr, IfSome, MatchOption, MatchResult};
+    ghost use Rattle.std.specs.Prelude.{◌≡◌, ◌≢◌, ℕ, ◌+◌, ◌<◌, ◌≤◌, [], ◌∷◌, true, false, length, map, count_by, Some, IfOk, IfErr, IfSome, IfNone, MatchOption, MatchResult};
     ghost use Rattle.evt_types.specs.Operation.{is_answer, is_new_reply};
-    ghost use Rattle.event_ports.specs.Lanes.{Rests, Submits, SubmitsTo, Takes, Arrives, HasRoomFor, IsEmptyHand, IsEndOf, AreOf, first_lane, held_of, pair_in};
-    ghost use Rattle.event_ports.specs.Handed.{IsReadable, lanes_place, flow_count, links_of, hand_of, news_of, releases_of, CountsOne, CountsNone, IsFilled, RefusesOldest};
+    ghost use Rattle.event_ports.specs.Lanes.{Rests, Submits, SubmitsTo, Takes, Arrives, ArrivesFrom, HasRoomFor, IsEmptyHand, IsEndOf, AreOf, first_lane, held_of, pair_in};
+    ghost use Rattle.event_ports.specs.Handed.{IsReadable, lanes_place, flow_count, links_of, seen_own, hand_of, news_of, releases_of, CountsOne, CountsNone, IsFilled, RefusesOldest};
     ghost use Rattle.lane_rings.specs.Ends.{received_by, answered, held_list};
     ghost use Rattle.flow_claims.specs.Claims.{seating, port_of, IsSeatOf};
     ghost use Rattle.flow_claims.specs.Laws.{IsUnused};
@@ -133,6 +133,8 @@ impl Lanes {
         ensures place { lanes_place self.new ≡ lanes_place self.old }
         ensures counts { CountsNone self.old self.new }
         ensures lists { MatchOption result (Rests (hand_of self.old) (hand_of self.new)) (λ d. Takes lane d (hand_of self.old) (hand_of self.new)) }
+        ensures drained { lane ≡ lanes.Own → IfNone result (seen_own self.new ≡ []) }
+        ensures others { lane ≢ lanes.Own → seen_own self.new ≡ seen_own self.old }
     {
         match lane {
             Lane::Own => self.receive_own(),
@@ -146,8 +148,10 @@ impl Lanes {
         requires room { HasRoomFor most (lanes_place self.old).depth (hand_of self.old).holding deliveries.old.items }
         ensures place { lanes_place self.new ≡ lanes_place self.old }
         ensures counts { CountsNone self.old self.new }
-        ensures arrived { Arrives (links_of self.old) (hand_of self.old) (hand_of self.new) deliveries.old.items deliveries.new.items }
+        ensures arrived { ArrivesFrom (lane ∷ []) (hand_of self.old) (hand_of self.new) deliveries.old.items deliveries.new.items }
         ensures room { HasRoomFor most (lanes_place self.new).depth (hand_of self.new).holding deliveries.new.items }
+        ensures drained { lane ≡ lanes.Own → length deliveries.new.items < most → seen_own self.new ≡ [] }
+        ensures others { lane ≢ lanes.Own → seen_own self.new ≡ seen_own self.old }
     {
         for _ in deliveries.len()..most {
             let Some(delivery) = self.receive(lane) else {
@@ -164,6 +168,7 @@ impl Lanes {
         ensures counts { CountsNone self.old self.new }
         ensures arrived { Arrives (links_of self.old) (hand_of self.old) (hand_of self.new) [] result.items }
         ensures few { (length result.items ≤ max) × (length (hand_of self.new).holding ≤ (lanes_place self.new).depth) }
+        ensures drained { length result.items < max → length (hand_of self.new).holding < (lanes_place self.new).depth → seen_own self.new ≡ [] }
     {
         let most = max.min(self.order.capacity() - self.order.len());
         let mut deliveries = ArrayVec::new();
@@ -197,6 +202,7 @@ impl Lanes {
         ensures place { lanes_place self.new ≡ lanes_place self.old }
         ensures counts { CountsNone self.old self.new }
         ensures lists { MatchOption result (Rests (hand_of self.old) (hand_of self.new)) (λ d. Takes lanes.Own d (hand_of self.old) (hand_of self.new)) }
+        ensures drained { IfNone result (seen_own self.new ≡ []) }
     {
         let Some(delivery) = self.own.receive() else {
             return None;
@@ -213,6 +219,7 @@ impl Lanes {
         ensures place { lanes_place self.new ≡ lanes_place self.old }
         ensures counts { CountsNone self.old self.new }
         ensures lists { MatchOption result (Rests (hand_of self.old) (hand_of self.new)) (λ d. Takes (lanes.Flow lane) d (hand_of self.old) (hand_of self.new)) }
+        ensures others { seen_own self.new ≡ seen_own self.old }
     {
         if !self.flows.hold(lane) {
             return None;

@@ -7,7 +7,7 @@ use Rattle.flow_claims.specs.Answers.{EndsStint}
 use Rattle.flow_claims.specs.Claims.{seating}
 use Rattle.event_ports.specs.Holds.{place_at, AreFlows, Kept}
 use Rattle.event_ports.proofs.Places.{hands, place_read}
-use Rattle.event_ports.proofs.Turns.{ended, all_kept, ended_but, ended_received, ended_answered, ended_left}
+use Rattle.event_ports.proofs.Turns.{ended, all_kept, ended_but, ended_received, ended_answered, ended_left, ended_free}
 use Rattle.event_ports.proofs.flows.FlowLanes.surrender.Goals as goal
 
 pub invariant_of-self-2 : goal.invariant_of-self-2
@@ -36,4 +36,5 @@ returns-clause-kept c =
     (ended_but _ _ c.args.self.now.seat c.surrender.new.seat _ _ c.in-Some.stint true are over at c.requires)
     (ended_received _ _ c.args.self.now.seat c.surrender.new.seat _ _ c.in-Some.stint true are over at c.requires)
     (ended_answered _ _ c.args.self.now.seat c.surrender.new.seat _ _ c.in-Some.stint true are over at c.requires)
-    (ended_left _ _ c.args.self.now.seat c.surrender.new.seat _ _ c.in-Some.stint true are over at c.requires refl))
+    (ended_left _ _ c.args.self.now.seat c.surrender.new.seat _ _ c.in-Some.stint true are over at c.requires refl)
+    (ended_free _ _ c.args.self.now.seat c.surrender.new.seat _ _ c.in-Some.stint true are over at c.requires))

@@ -14,7 +14,7 @@ use Rattle.event_ports.proofs.Orders.{Notes, each_lane, answered_first, first_op
 use Rattle.event_ports.proofs.Counts.{counts_one}
 use Rattle.event_ports.proofs.Refusals.{one_answer}
 use Rattle.event_ports.proofs.Turns.{lane_there}
-use Rattle.event_ports.proofs.Calls.{idle_answered, says_before, says_no_new, nothing_left}
+use Rattle.event_ports.proofs.Calls.{idle_answered, says_before, says_no_new, gave_back}
 use Rattle.event_ports.proofs.lanes.Lanes.answer_flow.Goals as goal
 
 pub answer-requires-clause-held : goal.answer-requires-clause-held
@@ -45,9 +45,9 @@ invariant_of-self-clause-ordered c =
     let To : List Holding → Type 0 = λ xs. Notes xs after in
     subst To (sym (ap (λ b. b.items) c.pop_front.ensures.items)) (answered_first c.args.self.now.order.items (Flow c.args.lane) before after c.requires.oldest here others c.args.self.now.ordered)
 
-pub invariant_of-self-clause-left : goal.invariant_of-self-clause-left
-invariant_of-self-clause-left c =
-    nothing_left (hands_of c.args.self.now.flows) (hands_of c.leave.new.self) (says_before _ (hands_of c.answer.new.self) _ c.args.lane c.args.reply c.in-Ok.ensures.lists c.leave.ensures.same).left c.args.self.now.left
+pub invariant_of-self-clause-gave_back : goal.invariant_of-self-clause-gave_back
+invariant_of-self-clause-gave_back c =
+    gave_back (hands_of c.args.self.now.flows) (hands_of c.leave.new.self) (says_before _ (hands_of c.answer.new.self) _ c.args.lane c.args.reply c.in-Ok.ensures.lists c.leave.ensures.same).given_back c.args.self.now.gave_back
 
 pub invariant_of-self-clause-no_new : goal.invariant_of-self-clause-no_new
 invariant_of-self-clause-no_new c =

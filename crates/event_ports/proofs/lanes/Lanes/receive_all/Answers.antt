@@ -1,19 +1,50 @@
--- What arrived from one lane more.
-use Rattle.std.proofs.Common.{◌∙◌, subst}
-use Rattle.event_ports.specs.Handed.{LanesPlace, hand_of}
-use Rattle.event_ports.specs.Lanes.{Arrives}
-use Rattle.event_ports.proofs.Arrivals.{arrives_more}
+-- What arrived from one lane more, in the order of the links.
+use Rattle.std.proofs.Common.{◌≡◌, ◌≤◌, ◌∙◌, ap, subst, arith, ℕ, List, [], ◌∷◌, ◌++◌, ◌+◌, length, take, slice_get, Some}
+use Rattle.std.proofs.lemmas.List.{take_all}
+use Rattle.lists.proofs.Parts.{take_next}
+use Rattle.event_ports.specs.declared.lane.Lane.TheVariants.{Flow}
+use Rattle.event_ports.specs.Handed.{LanesPlace, hand_of, links_of}
+use Rattle.event_ports.specs.Lanes.{ArrivesFrom, lanes_read}
+use Rattle.event_ports.proofs.Arrivals.{arrives, arrives_more, arrives_grows, arrives_length}
+use Rattle.event_ports.proofs.Orders.{own_flow}
+use Rattle.event_ports.proofs.ReadOrder.{read_more}
 use Rattle.event_ports.proofs.lanes.Lanes.receive_all.Goals as goal
 
 pub loop-place-preserved : goal.loop-place-preserved
 loop-place-preserved c =
     let was = c.loop-place.invariant in
     let some = c.receive_some-in-loop-place.ensures in
-    let now = hand_of c.receive_some-in-loop-place.new.self in
-    let From = λ (p : LanesPlace). Arrives p.flows.links (hand_of c.loop-place.self) now c.loop-place.deliveries.items c.receive_some-in-loop-place.new.deliveries.items in (
+    let links : List ℕ = links_of c.args.self.now in
+    let At : LanesPlace → Type 0 = λ p. slice_get p.flows.links c.loop-place.place ≡ Some c.link.result in
+    let more : take (c.loop-place.place + 1) links ≡ take c.loop-place.place links ++ c.link.result ∷ [] = take_next links c.loop-place.place c.link.result (subst At was.0 c.link.ensures.at_place) in (
       some.place ∙ was.0,
       record { news = some.counts.news ∙ was.1.news; releases = some.counts.releases ∙ was.1.releases },
-      arrives_more _ (hand_of c.args.self.now) (hand_of c.loop-place.self) now _ _ _ was.2 (subst From was.0 some.arrived),
+      arrives_more (lanes_read (take c.loop-place.place links)) (lanes_read (take (c.loop-place.place + 1) links)) (Flow c.link.result) (hand_of c.args.self.now) (hand_of c.loop-place.self)
+          (hand_of c.receive_some-in-loop-place.new.self) _ _ _ (read_more (take c.loop-place.place links) (take (c.loop-place.place + 1) links) c.link.result more) was.2 some.arrived,
       some.room,
       was.4,
+      λ lt. some.others (own_flow c.link.result) ∙ was.5 (omega (arith, lt, arrives_grows _ _ _ _ _ some.arrived)),
     )
+
+pub returns-clause-arrived : goal.returns-clause-arrived
+returns-clause-arrived c =
+    let was = c.loop-place.invariant in
+    let links : List ℕ = links_of c.args.self.now in
+    let end : length links ≤ c.loop-place.place = omega (arith, was.4, c.loop-place-test.false) in
+    let All : List ℕ → Type 0 = λ ls. ArrivesFrom (lanes_read ls) (hand_of c.args.self.now) (hand_of c.loop-place.self) [] c.loop-place.deliveries.items in
+    arrives links (hand_of c.args.self.now) (hand_of c.loop-place.self) [] c.loop-place.deliveries.items (subst All (take_all c.loop-place.place links end) was.2)
+
+pub returns-clause-drained : goal.returns-clause-drained
+returns-clause-drained c few room =
+    let was = c.loop-place.invariant in
+    was.5
+    (omega (
+      arith,
+      few,
+      room,
+      c.min-most.ensures,
+      c.capacity.ensures.capacity,
+      c.len.ensures.len,
+      ap (λ (p : LanesPlace). p.depth) was.0,
+      arrives_length _ (hand_of c.args.self.now) (hand_of c.loop-place.self) _ was.2,
+    ))

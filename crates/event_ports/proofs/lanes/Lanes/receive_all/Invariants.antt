@@ -1,11 +1,11 @@
-use Rattle.std.proofs.Common.{◌≡◌, length, []}
-use Rattle.event_ports.specs.Lanes.{Arrives, HasRoomFor}
-use Rattle.event_ports.specs.Handed.{lanes_place, links_of, hand_of, CountsNone}
+use Rattle.std.proofs.Common.{◌≡◌, ◌<◌, length, take, []}
+use Rattle.event_ports.specs.Lanes.{ArrivesFrom, HasRoomFor, lanes_read}
+use Rattle.event_ports.specs.Handed.{lanes_place, links_of, seen_own, hand_of, CountsNone}
 use Rattle.event_ports.proofs.lanes.Lanes.receive_all.Given as goal
 
 abbrev pub invariant-loop-place : goal.invariant-loop-place
 invariant-loop-place l =
     (lanes_place l.self ≡ lanes_place l.fn.self) × CountsNone l.fn.self l.self
-    × Arrives (links_of l.fn.self) (hand_of l.fn.self) (hand_of l.self) [] l.deliveries.items
+    × ArrivesFrom (lanes_read (take l.place (links_of l.fn.self))) (hand_of l.fn.self) (hand_of l.self) [] l.deliveries.items
     × HasRoomFor l.most (lanes_place l.self).depth (hand_of l.self).holding l.deliveries.items
-    × (l.place-end ≡ length (links_of l.fn.self))
+    × (l.place-end ≡ length (links_of l.fn.self)) × (length l.deliveries.items < l.most → seen_own l.self ≡ [])

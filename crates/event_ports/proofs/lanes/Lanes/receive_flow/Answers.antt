@@ -11,7 +11,7 @@ use Rattle.event_ports.specs.Flows.{FlowPlace, flow_place, hands_of}
 use Rattle.event_ports.specs.Lanes.{said_on, open_on, holding_of}
 use Rattle.event_ports.proofs.Orders.{Notes, each_lane, received_last}
 use Rattle.event_ports.proofs.Counts.{counts_none}
-use Rattle.event_ports.proofs.Calls.{nothing_left, same_no_new, idle_received, gets_after, gets_no_answer}
+use Rattle.event_ports.proofs.Calls.{gave_back, same_no_new, idle_received, gets_after, gets_no_answer}
 use Rattle.event_ports.proofs.lanes.Lanes.receive_flow.Goals as goal
 
 pub invariant_of-self-2-clause-ordered : goal.invariant_of-self-2-clause-ordered
@@ -26,10 +26,10 @@ invariant_of-self-2-clause-ordered c =
     let To : List Holding → Type 0 = λ xs. Notes xs after in
     subst To (sym noted) (received_last c.args.self.now.order.items (Flow c.args.lane) c.in-Some.delivery before after gets.held others c.args.self.now.ordered)
 
-pub invariant_of-self-2-clause-left : goal.invariant_of-self-2-clause-left
-invariant_of-self-2-clause-left c =
-    nothing_left (hands_of c.args.self.now.flows) (hands_of c.receive.new.self)
-    (gets_after _ (hands_of c.hold.new.self) _ c.args.lane c.in-Some.delivery c.hold.ensures.same c.in-Some.ensures.lists).left c.args.self.now.left
+pub invariant_of-self-2-clause-gave_back : goal.invariant_of-self-2-clause-gave_back
+invariant_of-self-2-clause-gave_back c =
+    gave_back (hands_of c.args.self.now.flows) (hands_of c.receive.new.self)
+    (gets_after _ (hands_of c.hold.new.self) _ c.args.lane c.in-Some.delivery c.hold.ensures.same c.in-Some.ensures.lists).given_back c.args.self.now.gave_back
 
 pub invariant_of-self-2-clause-no_new : goal.invariant_of-self-2-clause-no_new
 invariant_of-self-2-clause-no_new c =

@@ -1,0 +1,5 @@
+pub mod Credits
+pub mod Devices
+pub mod Ends
+pub mod Making
+pub mod Sites

@@ -1,0 +1,41 @@
+//! Why a device isn't made.
+
+ghost use Rattle.std.specs.Prelude.{◌≡◌};
+ghost use Rattle.event_device.specs.Fault.{shape_in};
+
+use event_recorder::Memory;
+use evt_types::Shape;
+
+/// Why a device isn't made. The configuration comes back.
+#[derive(Debug, Drop)]
+pub enum DeviceFault {
+    /// Memory ran out.
+    Memory(Shape),
+    /// A seat of the credits or of the flow lanes' claims couldn't be had.
+    NoSeat(Shape),
+}
+
+/// What was wanting for a device.
+#[derive(Clone, Copy)]
+pub(crate) enum Want {
+    Memory,
+    Seat,
+}
+
+impl From<Memory> for Want {
+    fn from(_: Memory) -> Want {
+        Want::Memory
+    }
+}
+
+impl Want {
+    /// The fault, with the configuration.
+    pub(crate) fn into_fault(self, shape: Shape) -> DeviceFault
+        ensures { shape_in result ≡ shape }
+    {
+        match self {
+            Want::Memory => DeviceFault::Memory(shape),
+            Want::Seat => DeviceFault::NoSeat(shape),
+        }
+    }
+}

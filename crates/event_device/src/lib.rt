@@ -1,0 +1,17 @@
+//! An event device: a scheduler, which sweeps, its ports, each for one thread, and its control, which shuts it. This is the crate
+//! that a program names.
+#![tactic(auto)]
+
+mod fault;
+mod lanes;
+mod ports;
+mod shared;
+mod start;
+
+pub use event_ports::{Behind, Holding, Lane, Port, Refused};
+pub use event_recorder::{
+    Control, Held, Memory, Recorder, Report, StopFault, Swept, Undelivered, Untaken,
+};
+pub use event_scheduler::Scheduler;
+pub use fault::DeviceFault;
+pub use start::device;

@@ -1,3 +1,4 @@
 pub mod EarlyFaults
 pub mod Keeping
 pub mod Playing
+pub mod Stopping

@@ -1,11 +1,13 @@
 //! A device that one thread plays.
 
-ghost use Rattle.std.specs.Prelude.{IfOk};
+ghost use Rattle.std.specs.Prelude.{ℕ, IfErr, IfOk, List, Option};
 ghost use Rattle.event_recorder.specs.Stop.{AreOf, IsReport};
+ghost use Rattle.pipeline_app.specs.Play.{IsEarlyFault};
+ghost use Rattle.pipeline_app.specs.Rig.{IsNew};
 
-use event_answers::Report;
-use event_ports::Port;
-use event_recorder::{Control, Recorder};
+use event_device::{Control, DeviceFault, Port, Recorder, Report, device};
+use evt_types::Shape;
+use play_command::AppFault;
 use std::alloc::{AllocError, Global};
 
 /// A device: its scheduler with the log of all sweeps, its ports by number, and its control.
@@ -17,6 +19,22 @@ pub struct Rig {
 }
 
 impl Rig {
+    /// A device of this configuration, in which nothing has happened.
+    pub fn new(alloc: Global, shape: Shape) -> Result<Rig, AppFault>
+        ensures made { IfOk result (IsNew shape) }
+        ensures fault { (known : Option (List ℕ)) → IfErr result (IsEarlyFault known) }
+    {
+        match device(alloc, shape) {
+            Ok((scheduler, ports, control)) => Ok(Rig {
+                recorder: Recorder::begin(alloc, scheduler),
+                ports,
+                control,
+            }),
+            Err(DeviceFault::Memory(_)) => Err(AppFault::Memory),
+            Err(DeviceFault::NoSeat(_)) => Err(AppFault::NoSeat),
+        }
+    }
+
     /// Stops the device. All its ports are there, so what it may want is memory.
     pub fn stop(self, alloc: Global) -> Result<Report, AllocError>
         requires { AreOf self.recorder self.control self.ports.items }

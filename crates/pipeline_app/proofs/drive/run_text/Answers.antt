@@ -1,12 +1,28 @@
-use Rattle.std.proofs.Common.{ℕ, List, All, length, refl, sym, ap, subst, ◌∙◌}
+use Rattle.std.proofs.Common.{Result, Ok, Err, ◌≡◌, ℕ, List, All, length, refl, sym, ap, subst, ◌∙◌}
+use Rattle.std.specs.Prelude.{IfErr, IsErrAnd}
+use Rattle.play_command.specs.declared.fault.AppFault.{AppFault}
+use Rattle.event_answers.specs.declared.report.Report.{Report}
+use Rattle.evt_types.specs.declared.draft.QueueDraft.{QueueDraft}
 use Rattle.play_documents.specs.Command.{IsPortThere}
 use Rattle.play_text.specs.Text.{text_of}
+use Rattle.play_text.specs.declared.answer.Answer.{Answer}
+use Rattle.pipeline_app.specs.Play.{IsEarlyFault}
 use Rattle.pipeline_app.specs.Rig.{scene_of}
 use Rattle.pipeline_app.proofs.Stopping.{fresh_count, played_plan, played_whole, report_in_range}
 use Rattle.pipeline_app.proofs.drive.run_text.Goals as goal
 
+-- what holds of an error holds of that error where it is handed on
+err_same : {X : Type 0} (P : AppFault → Type 0) (r : Result X AppFault) (e : AppFault) → IsErrAnd r (λ f. f ≡ e) → P e → IfErr r P
+err_same P (Ok x) e h p = tt
+err_same P (Err f) e h p = subst P (sym h) p
+
+-- the text of the same queues, limit and answers
+text_same : (qs rs : List QueueDraft) (m n : ℕ) (given said : List Answer) (report : Report) → qs ≡ rs → m ≡ n → given ≡ said → text_of qs m given report ≡ text_of rs n said report
+text_same qs rs m n given said report e f g =
+    ap (λ xs. text_of xs m given report) e ∙ (ap (λ k. text_of rs k given report) f ∙ ap (λ xs. text_of rs n xs report) g)
+
 pub returns-in_err-rig-clause-fault : goal.returns-in_err-rig-clause-fault
-returns-in_err-rig-clause-fault c known = ?
+returns-in_err-rig-clause-fault c known = err_same (IsEarlyFault known) c.from_residual-in_err-rig.result _ c.from_residual-in_err-rig.ensures.1 (c.in_err-rig.ensures.fault known)
 
 pub obey_all-requires : goal.obey_all-requires
 obey_all-requires c =
@@ -43,5 +59,5 @@ returns-clause-run c =
       control_is = c.in_ok-answers.ensures.control ∙ made.control_is;
       control_shut = refl;
       reported = c.in_ok-report.ensures;
-      written = ?;
+      written = c.in_ok-text_of.ensures ∙ text_same _ _ _ _ _ _ _ queues (c.from-limit.ensures ∙ c.limit.ensures.value) c.deref-3.ensures.value;
     }

@@ -1,14 +1,18 @@
 -- The parts of a device that was played belong together at its stop; and a lawful log names queues that are there.
-use Rattle.std.proofs.Common.{◌≡◌, ℕ, ◌+◌, ◌<◌, List, length, map, get_or, sym, ap, subst, ◌∙◌, arith, zero-add}
-use Rattle.std.specs.Prelude.{All}
+use Rattle.std.proofs.Common.{◌≡◌, ◌≢◌, ℕ, zero, suc, ◌+◌, ◌<◌, List, [], ◌∷◌, Some, refl, length, map, get_or, sym, ap, subst, ◌∙◌, arith, zero-add}
+use Rattle.std.specs.Prelude.{All, slice_get}
 use Rattle.std.specs.List.{range_with_len}
 use Rattle.std.proofs.lemmas.List.{get_or-map, length-map}
 use Rattle.std.proofs.lemmas.List.Elements.{All-weaker}
 use Rattle.std.proofs.lemmas.List.FromFn.{get_or-map-range_with_len, length-map-range_with_len}
+use Rattle.std.proofs.lemmas.Option.{get_or_from_slice_get}
+use Rattle.lists.proofs.Lists.{All-slice_get}
+use Rattle.event_answers.specs.declared.answer.StopFault.{StopFault}
+use Rattle.event_answers.specs.declared.answer.StopFault.TheVariants.{Missing}
 use Rattle.event_ports.specs.declared.port.Port.{Port}
 use Rattle.event_recorder.specs.Control.{control_of}
 use Rattle.event_recorder.specs.Device.{Device, IsPortOf, PortSite, SchedulerSite, control_site, number_of, port_site, site_of}
-use Rattle.event_recorder.specs.Ports.{DifferInNumber}
+use Rattle.event_recorder.specs.Ports.{DifferInNumber, IsAbsent, IsThere, Refuses}
 use Rattle.event_recorder.specs.Stop.{AreOf}
 use Rattle.event_recorder.specs.declared.control.Control.{Control}
 use Rattle.evt_types.specs.Plan.{Plan}
@@ -23,6 +27,12 @@ use Rattle.play_text.specs.declared.answer.Answer.{Answer}
 use Rattle.transcripts.specs.Lawful.{IsFormed}
 use Rattle.pipeline_app.specs.Rig.{ArePlayed, IsFresh, Scene}
 use Rattle.pipeline_app.proofs.Keeping.{played_keeps}
+
+-- below a list's length there is an element
+element_at : {X : Type 0} (xs : List X) (i : ℕ) → i < length xs → (x : X) × (slice_get xs i ≡ Some x)
+element_at [] i lt = absurd (omega (arith, lt))
+element_at (x ∷ xs) zero lt = (x, refl)
+element_at (x ∷ xs) (suc i) lt = element_at xs i (omega (arith, lt))
 
 -- ---- ports with the sites of a device's ports, in their order
 module _ (d : Device) (ports : List Port) (n : ℕ) (sites : map site_of ports ≡ map (port_site d) (range_with_len 0 n)) where
@@ -48,6 +58,21 @@ module _ (d : Device) (ports : List Port) (n : ℕ) (sites : map site_of ports �
       let at_i : number_of (get_or ports i x) ≡ i = number_here i x (omega (arith, low, there)) in
       let at_j : number_of (get_or ports j x) ≡ j = number_here j x there in
       omega (arith, low, at_i, at_j, e)
+
+  pub are_there : (k : ℕ) → k < n → IsThere ports k
+  are_there k low =
+      let found = element_at ports k (omega (arith, port_count, low)) in
+      (k, found.0, found.1, sym (ap number_of (get_or_from_slice_get ports k found.0 found.0 found.1)) ∙ number_here k found.0 (omega (arith, port_count, low)))
+
+-- a port that is there isn't absent
+there_or_absent : (ports : List Port) (n : ℕ) → IsThere ports n → IsAbsent ports n → ⊥
+there_or_absent ports n there absent = All-slice_get (λ p. number_of p ≢ n) ports there.0 there.1 absent there.2 there.3
+
+-- where all ports are there a stop misses none
+pub not_missing : (count : ℕ) (ports : List Port) (f : StopFault) (n : ℕ) → Refuses count ports f → f ≡ Missing n → ((k : ℕ) → k < count → IsThere ports k) → ⊥
+not_missing count ports f n h e there =
+    let missed : Refuses count ports (Missing n) = subst (Refuses count ports) e h in
+    there_or_absent ports n (there n missed.0) missed.1
 
 -- a device just made has the ports of its configuration
 pub fresh_count : (p : Plan) (d : Device) (s : Scene) → IsFresh p d s → length s.ports ≡ length p.ports
@@ -75,6 +100,13 @@ pub played_plan : (p : Plan) (d : Device) (s : Scene) (cs : List Line) (given : 
 played_plan p d s cs given t fresh played =
     let kept = played_keeps s cs given t played in
     ap (λ (x : SchedulerSite). x.plan) (kept.scheduler ∙ fresh.scheduler_is) ∙ fresh.plan
+
+-- all its ports are there
+pub played_there : (p : Plan) (d : Device) (s : Scene) (cs : List Line) (given : List Answer) (t : Scene) → IsFresh p d s → ArePlayed s cs given t → (n : ℕ) → n < length t.recorder.sight.core.shape.ports → IsThere t.ports n
+played_there p d s cs given t fresh played n low =
+    let kept = played_keeps s cs given t played in
+    let count : length t.recorder.sight.core.shape.ports ≡ length p.ports = ap (λ (x : Plan). length x.ports) (played_plan p d s cs given t fresh played) in
+    are_there d t.ports (length p.ports) (kept.ports ∙ fresh.ports_are) n (omega (arith, count, low))
 
 -- ---- the log
 

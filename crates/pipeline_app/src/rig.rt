@@ -1,11 +1,12 @@
 //! A device that one thread plays.
 
-ghost use Rattle.std.specs.Prelude.{ℕ, IfErr, IfOk, List, Option};
+ghost use Rattle.std.specs.Prelude.{ℕ, ◌<◌, IfErr, IfOk, List, Option, length};
+ghost use Rattle.event_recorder.specs.Ports.{IsThere};
 ghost use Rattle.event_recorder.specs.Stop.{AreOf, IsReport};
 ghost use Rattle.pipeline_app.specs.Play.{IsEarlyFault};
 ghost use Rattle.pipeline_app.specs.Rig.{IsNew};
 
-use event_device::{Control, DeviceFault, Port, Recorder, Report, device};
+use event_device::{Control, DeviceFault, Port, Recorder, Report, StopFault, device};
 use evt_types::Shape;
 use play_command::AppFault;
 use std::alloc::{AllocError, Global};
@@ -37,7 +38,8 @@ impl Rig {
 
     /// Stops the device. All its ports are there, so what it may want is memory.
     pub fn stop(self, alloc: Global) -> Result<Report, AllocError>
-        requires { AreOf self.recorder self.control self.ports.items }
+        requires whole { AreOf self.recorder self.control self.ports.items }
+        requires there { (n : ℕ) → n < length self.recorder.sight.core.shape.ports → IsThere self.ports.items n }
         ensures { IfOk result (IsReport self.recorder self.control self.ports.items) }
     {
         let Rig {
@@ -47,7 +49,8 @@ impl Rig {
         } = self;
         match recorder.stop(alloc, control, ports) {
             Ok(report) => Ok(report),
-            Err(_) => Err(AllocError),
+            Err((StopFault::Memory, ..)) => Err(AllocError),
+            Err((StopFault::Missing { .. }, ..)) => unreachable!(),
         }
     }
 }

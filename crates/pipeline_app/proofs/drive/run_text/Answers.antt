@@ -8,7 +8,7 @@ use Rattle.play_text.specs.Text.{text_of}
 use Rattle.play_text.specs.declared.answer.Answer.{Answer}
 use Rattle.pipeline_app.specs.Play.{IsEarlyFault}
 use Rattle.pipeline_app.specs.Rig.{scene_of}
-use Rattle.pipeline_app.proofs.Stopping.{fresh_count, played_plan, played_whole, report_in_range}
+use Rattle.pipeline_app.proofs.Stopping.{fresh_count, played_plan, played_there, played_whole, report_in_range}
 use Rattle.pipeline_app.proofs.drive.run_text.Goals as goal
 
 -- what holds of an error holds of that error where it is handed on
@@ -30,10 +30,15 @@ obey_all-requires c =
     let ports = fresh_count c.args.document.shape made.device (scene_of c.in_ok-rig.rig) made.fresh in
     rw c.deref.ensures.value (subst (λ n. All (IsPortThere n) c.args.document.commands.items) (sym ports) c.requires)
 
-pub stop-requires : goal.stop-requires
-stop-requires c =
+pub stop-requires-clause-whole : goal.stop-requires-clause-whole
+stop-requires-clause-whole c =
     let made = c.in_ok-rig.ensures.made in
     played_whole c.args.document.shape made.device (scene_of c.in_ok-rig.rig) _ c.in_ok-answers.answers.items (scene_of c.obey_all.new.self) c.obey_all.new.self.control made.fresh c.in_ok-answers.ensures.answers (c.in_ok-answers.ensures.control ∙ made.control_is)
+
+pub stop-requires-clause-there : goal.stop-requires-clause-there
+stop-requires-clause-there c =
+    let made = c.in_ok-rig.ensures.made in
+    played_there c.args.document.shape made.device (scene_of c.in_ok-rig.rig) _ c.in_ok-answers.answers.items (scene_of c.obey_all.new.self) made.fresh c.in_ok-answers.ensures.answers
 
 pub text_of-requires : goal.text_of-requires
 text_of-requires c =

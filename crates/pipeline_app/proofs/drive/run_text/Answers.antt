@@ -1,4 +1,4 @@
-use Rattle.std.proofs.Common.{Result, Ok, Err, ◌≡◌, ℕ, List, All, length, refl, sym, ap, subst, ◌∙◌}
+use Rattle.std.proofs.Common.{Result, Ok, Err, ◌≡◌, ℕ, List, All, refl, sym, ap, subst, ◌∙◌}
 use Rattle.std.specs.Prelude.{IfErr, IsErrAnd}
 use Rattle.play_command.specs.declared.fault.AppFault.{AppFault}
 use Rattle.event_answers.specs.declared.report.Report.{Report}

@@ -26,7 +26,7 @@ IsEarlyFault-input known Write h = absurd h
 IsEarlyFault-input None (Document f) h = (long_named f h.0, tt)
 IsEarlyFault-input (Some input) (Document f) h = (long_named f h.0, too_long input h.1 ∙ ap Err (sym h.0))
 IsEarlyFault-input known Memory h = tt
-IsEarlyFault-input known NoSeat h = absurd h
+IsEarlyFault-input known NoSeat h = tt
 
 pub IsEarlyFault-document : (bytes : List ℕ) (e : ReadFault) → Fails e (document_of bytes) → IsNamed e → IsEarlyFault (Some bytes) (app_fault e)
 IsEarlyFault-document bytes (reads.Document f) h named = (named, h)

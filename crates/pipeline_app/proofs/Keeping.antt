@@ -1,31 +1,114 @@
--- What a core keeps, and the steps that it makes, beside the room that a sweep has reserved.
-use Rattle.std.proofs.Common.{◌≡◌, ℕ, zero, suc, Bool, true, false, cond, List, [], ◌∷◌, ◌++◌, length, get_or, set, refl, arith}
-use Rattle.std.specs.Prelude.{sum_by}
-use Rattle.std.proofs.lemmas.List.Sums.{sum_by-append, sum_by-cons}
-use Rattle.evt_types.specs.Plan.{is_ordered, queue_of}
-use Rattle.transcripts.specs.Standing.{View, after, kept_in}
-use Rattle.evt_types.specs.Place.{Place}
-use Rattle.evt_types.specs.declared.step.Step.TheVariants.{Give}
+-- What no command changes: of which device the scheduler and the ports are.
+use Rattle.std.proofs.Common.{◌≡◌, ℕ, List, [], ◌∷◌, Some, length, set, map, refl, sym, ap, ◌∙◌}
+use Rattle.std.specs.Prelude.{slice_get}
+use Rattle.std.proofs.Math.Seq.{map-set_same}
+use Rattle.std.proofs.lemmas.List.{length-map}
+use Rattle.std.proofs.lemmas.Option.{get_or_from_slice_get}
+use Rattle.credit_pool.specs.Accounts.{Stays}
+use Rattle.event_answers.specs.declared.answer.Swept.{Swept}
+use Rattle.event_ports.specs.Ports.{Place, account_of, place_of}
+use Rattle.event_ports.specs.declared.port.Port.{Port}
+use Rattle.event_recorder.specs.Device.{PortSite, SchedulerSite, scheduler_of, site_of}
+use Rattle.event_scheduler.specs.Scheduler.{Sight, Site}
+use Rattle.event_scheduler.specs.Swept.{Sweeps}
+use Rattle.evt_types.specs.Plan.{Plan}
+use Rattle.evt_types.specs.declared.step.Step.{Step}
+use Rattle.play_documents.specs.Command.{Line, Enqueue, Dequeue, Sweep, Shut}
+use Rattle.play_text.specs.declared.answer.Answer.{Answer}
+use Rattle.play_text.specs.declared.answer.Answer.TheVariants as answers
+use Rattle.pipeline_app.specs.Rig.{ArePlayed, IsAnswerTo, Scene}
 
-abbrev sent_by : List Place → ℕ
-sent_by ps = sum_by (λ (x : Place). length x.forwards) ps
+-- ---- a call
 
-abbrev handed_out : ℕ → Place
-handed_out n = record { number = n; answered = false; forwards = [] }
+-- the site of a port in this place with so many parts of the credits
+abbrev site_at : Place → ℕ → PortSite
+site_at w parts =
+    record {
+      pool = w.pool;
+      claims = w.lanes.flows.claims;
+      lane = Some w.lanes.own;
+      links = w.lanes.flows.links;
+      number = w.number;
+      depth = w.lanes.depth;
+      queues = w.queues;
+      implicit = w.implicit;
+      quantum = w.quantum;
+      threshold = w.threshold;
+      credit_parts = parts;
+      claim_parts = w.lanes.flows.parts;
+    }
 
--- of a place that was just handed out nothing is kept
-kept_at : (n q : ℕ) (pss : List (List Place)) → sum_by sent_by (set pss q (get_or pss q [] ++ handed_out n ∷ [])) ≡ sum_by sent_by pss
-kept_at n q [] = refl
-kept_at n zero (ps ∷ pss) =
-    let none : sent_by (handed_out n ∷ []) ≡ 0 = refl in
-    omega (arith, none, sum_by-append (λ (x : Place). length x.forwards) ps (handed_out n ∷ []), sum_by-cons sent_by (ps ++ handed_out n ∷ []) pss, sum_by-cons sent_by ps pss)
-kept_at n (suc q) (ps ∷ pss) =
-    omega (arith, kept_at n q pss, sum_by-cons sent_by ps (set pss q (get_or pss q [] ++ handed_out n ∷ [])), sum_by-cons sent_by ps pss)
+-- a port keeps its site
+same_site : (p q : Port) → place_of q ≡ place_of p → Stays (account_of p) (account_of q) → site_of q ≡ site_of p
+same_site p q place stays = ap (λ w. site_at w (account_of q).parts) place ∙ ap (site_at (place_of p)) stays.parts
 
--- what is given is kept by none
-pub kept_in-give : (v : View) (l q n : ℕ) → kept_in (after v (Give l q n ∷ [])) ≡ kept_in v
-kept_in-give v l q n = by_kind (is_ordered (queue_of v.shape q).kind)
-  where
-    by_kind : (b : Bool) → sum_by sent_by (cond b (set v.places q (get_or v.places q [] ++ handed_out n ∷ [])) v.places) ≡ kept_in v
-    by_kind true = kept_at n q v.places
-    by_kind false = refl
+-- so do all where one of them was called
+same_sites : (ports : List Port) (n : ℕ) (p q : Port) → slice_get ports n ≡ Some p → place_of q ≡ place_of p → Stays (account_of p) (account_of q) → map site_of (set ports n q) ≡ map site_of ports
+same_sites ports n p q is place stays =
+    map-set_same site_of ports n q p (same_site p q place stays ∙ ap site_of (sym (get_or_from_slice_get ports n p p is)))
+
+-- what never changes of a scheduler with this configuration
+abbrev scheduler_at : Plan → Site → ℕ → SchedulerSite
+scheduler_at p site parts = record { plan = p; pool = site.pool; lanes = site.lanes; parts = parts }
+
+-- a sweep keeps it
+same_scheduler : (n : Swept) (s : Sight) (log : List Step) (t : Sight) (longer : List Step) → Sweeps n s log t longer → scheduler_of t ≡ scheduler_of s
+same_scheduler n s log t longer h =
+    ap (λ p. scheduler_at p t.site t.account.parts) h.runs.shape
+    ∙ (ap (λ site. scheduler_at s.core.shape site t.account.parts) h.runs.site ∙ ap (scheduler_at s.core.shape s.site) h.runs.account.parts)
+
+-- ---- commands
+
+-- the scheduler and the ports have the sites that they had
+pub record KeepsSites (s t : Scene) : Type 0 where
+  pub scheduler : scheduler_of t.recorder.sight ≡ scheduler_of s.recorder.sight
+  pub ports : map site_of t.ports ≡ map site_of s.ports
+
+keeps_same : (s : Scene) → KeepsSites s s
+keeps_same s = record { scheduler = refl; ports = refl }
+
+keeps_then : (s t u : Scene) → KeepsSites s t → KeepsSites t u → KeepsSites s u
+keeps_then s t u h k = record { scheduler = k.scheduler ∙ h.scheduler; ports = k.ports ∙ h.ports }
+
+-- a command keeps them
+answer_keeps : (c : Line) (a : Answer) (s t : Scene) → IsAnswerTo c a s t → KeepsSites s t
+answer_keeps (Enqueue n fields) (answers.Enqueued port op outcome) s t h =
+    let call = h.2 in
+    record {
+      scheduler = ap (λ r. scheduler_of r.sight) call.recorder;
+      ports = ap (map site_of) call.ports ∙ same_sites s.ports n call.port call.after call.port_is call.call.place call.call.credit;
+    }
+answer_keeps (Enqueue n fields) (answers.Dequeued port outcome) s t h = absurd h
+answer_keeps (Enqueue n fields) (answers.Swept swept) s t h = absurd h
+answer_keeps (Enqueue n fields) answers.Shut s t h = absurd h
+answer_keeps (Dequeue n max) (answers.Enqueued port op outcome) s t h = absurd h
+answer_keeps (Dequeue n max) (answers.Dequeued port outcome) s t h =
+    let call = h.1 in
+    record {
+      scheduler = ap (λ r. scheduler_of r.sight) call.recorder;
+      ports = ap (map site_of) call.ports ∙ same_sites s.ports n call.port call.after call.port_is call.call.place call.call.credit;
+    }
+answer_keeps (Dequeue n max) (answers.Swept swept) s t h = absurd h
+answer_keeps (Dequeue n max) answers.Shut s t h = absurd h
+answer_keeps Sweep (answers.Enqueued port op outcome) s t h = absurd h
+answer_keeps Sweep (answers.Dequeued port outcome) s t h = absurd h
+answer_keeps Sweep (answers.Swept swept) s t h =
+    record { scheduler = same_scheduler swept s.recorder.sight s.recorder.log t.recorder.sight t.recorder.log h.sweeps; ports = ap (map site_of) h.ports }
+answer_keeps Sweep answers.Shut s t h = absurd h
+answer_keeps Shut (answers.Enqueued port op outcome) s t h = absurd h
+answer_keeps Shut (answers.Dequeued port outcome) s t h = absurd h
+answer_keeps Shut (answers.Swept swept) s t h = absurd h
+answer_keeps Shut answers.Shut s t h = record { scheduler = ap (λ r. scheduler_of r.sight) h.recorder; ports = ap (map site_of) h.ports }
+
+-- so do all commands
+pub played_keeps : (s : Scene) (cs : List Line) (given : List Answer) (t : Scene) → ArePlayed s cs given t → KeepsSites s t
+played_keeps s [] [] t h = record { scheduler = ap (λ (x : Scene). scheduler_of x.recorder.sight) h; ports = ap (λ (x : Scene). map site_of x.ports) h }
+played_keeps s [] (a ∷ more) t h = absurd h
+played_keeps s (c ∷ cs) [] t h = absurd h
+played_keeps s (c ∷ cs) (a ∷ more) t h = keeps_then s h.0 t (answer_keeps c a s h.0 h.1) (played_keeps h.0 cs more t h.2)
+
+-- there are as many ports as there were
+pub played_count : (s : Scene) (cs : List Line) (given : List Answer) (t : Scene) → ArePlayed s cs given t → length t.ports ≡ length s.ports
+played_count s cs given t h =
+    let kept = played_keeps s cs given t h in
+    sym (length-map t.ports site_of) ∙ (ap length kept.ports ∙ length-map s.ports site_of)

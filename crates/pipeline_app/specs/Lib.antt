@@ -1,6 +1,3 @@
-pub mod Pairs
-pub mod Play
-pub mod Refusals
+pub mod Calls
 pub mod Rig
-pub mod Stopped
-pub mod Swept
+pub mod Play

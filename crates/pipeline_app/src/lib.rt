@@ -3,11 +3,8 @@
 #![tactic(auto)]
 
 mod drive;
-mod pool;
+mod obey;
 mod rig;
-mod rig_port;
-mod stop;
-mod sweep;
 
 pub use drive::play;
 pub use play_command::{AppFault, Choice, choice, fault_line};

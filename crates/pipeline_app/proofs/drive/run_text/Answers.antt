@@ -1,50 +1,68 @@
-use Rattle.std.proofs.Common.{◌≡◌, Result, Ok, Err, IfOk, length, All, subst, sym, ap, ◌∙◌}
-use Rattle.evt_types.specs.Plan.{lanes_of}
-use Rattle.evt_types.proofs.FlowLanes.{lanes_by_ports}
+use Rattle.std.proofs.Common.{Result, Ok, Err, ◌≡◌, ℕ, List, All, refl, sym, ap, subst, ◌∙◌}
+use Rattle.std.specs.Prelude.{IfErr, IsErrAnd}
+use Rattle.play_command.specs.declared.fault.AppFault.{AppFault}
+use Rattle.event_answers.specs.declared.report.Report.{Report}
+use Rattle.evt_types.specs.declared.draft.QueueDraft.{QueueDraft}
 use Rattle.play_documents.specs.Command.{IsPortThere}
 use Rattle.play_text.specs.Text.{text_of}
+use Rattle.play_text.specs.declared.answer.Answer.{Answer}
+use Rattle.pipeline_app.specs.Play.{IsEarlyFault}
+use Rattle.pipeline_app.specs.Rig.{scene_of}
+use Rattle.pipeline_app.proofs.Stopping.{fresh_count, played_plan, played_there, played_whole, report_in_range}
 use Rattle.pipeline_app.proofs.drive.run_text.Goals as goal
 
--- what follows from what holds of an `Ok`
-if_ok : {X E : Type 0} (P Q : X → Type 0) (r : Result X E) → ((x : X) → P x → Q x) → IfOk r P → IfOk r Q
-if_ok P Q (Ok x) f h = f x h
-if_ok P Q (Err e) f h = tt
+-- what holds of an error holds of that error where it is handed on
+err_same : {X : Type 0} (P : AppFault → Type 0) (r : Result X AppFault) (e : AppFault) → IsErrAnd r (λ f. f ≡ e) → P e → IfErr r P
+err_same P (Ok x) e h p = tt
+err_same P (Err f) e h p = subst P (sym h) p
 
-pub obey_all-requires-clause-ports : goal.obey_all-requires-clause-ports
-obey_all-requires-clause-ports c =
-    let ports : length c.args.document.shape.ports ≡ lanes_of c.in_ok-rig.rig.core.shape =
-    sym (lanes_by_ports c.args.document.shape c.requires.serving) ∙ ap lanes_of (sym c.in_ok-rig.ensures.shape) in
-    rw c.deref.ensures.value (subst (λ n. All (IsPortThere n) c.args.document.commands.items) ports c.requires.ports)
+-- the text of the same queues, limit and answers
+text_same : (qs rs : List QueueDraft) (m n : ℕ) (given said : List Answer) (report : Report) → qs ≡ rs → m ≡ n → given ≡ said → text_of qs m given report ≡ text_of rs n said report
+text_same qs rs m n given said report e f g =
+    ap (λ xs. text_of xs m given report) e ∙ (ap (λ k. text_of rs k given report) f ∙ ap (λ xs. text_of rs n xs report) g)
 
-pub returns : goal.returns
-returns c =
+pub returns-in_err-rig-clause-fault : goal.returns-in_err-rig-clause-fault
+returns-in_err-rig-clause-fault c known = err_same (IsEarlyFault known) c.from_residual-in_err-rig.result _ c.from_residual-in_err-rig.ensures.1 (c.in_err-rig.ensures.fault known)
+
+pub obey_all-requires : goal.obey_all-requires
+obey_all-requires c =
+    let made = c.in_ok-rig.ensures.made in
+    let ports = fresh_count c.args.document.shape made.device (scene_of c.in_ok-rig.rig) made.fresh in
+    rw c.deref.ensures.value (subst (λ n. All (IsPortThere n) c.args.document.commands.items) (sym ports) c.requires)
+
+pub stop-requires-clause-whole : goal.stop-requires-clause-whole
+stop-requires-clause-whole c =
+    let made = c.in_ok-rig.ensures.made in
+    played_whole c.args.document.shape made.device (scene_of c.in_ok-rig.rig) _ c.in_ok-answers.answers.items (scene_of c.obey_all.new.self) c.obey_all.new.self.control made.fresh c.in_ok-answers.ensures.answers (c.in_ok-answers.ensures.control ∙ made.control_is)
+
+pub stop-requires-clause-there : goal.stop-requires-clause-there
+stop-requires-clause-there c =
+    let made = c.in_ok-rig.ensures.made in
+    played_there c.args.document.shape made.device (scene_of c.in_ok-rig.rig) _ c.in_ok-answers.answers.items (scene_of c.obey_all.new.self) made.fresh c.in_ok-answers.ensures.answers
+
+pub text_of-requires : goal.text_of-requires
+text_of-requires c =
+    let made = c.in_ok-rig.ensures.made in
     let rig = c.obey_all.new.self in
-    let report = c.in_ok-report.report in
-    let of_document : rig.core.shape ≡ c.args.document.shape = c.in_ok-answers.ensures.shape ∙ c.in_ok-rig.ensures.shape in
-    if_ok _ _ c.text_of.result
-    (λ text e. record {
+    let reported = c.in_ok-report.ensures in
+    let plan = played_plan c.args.document.shape made.device (scene_of c.in_ok-rig.rig) _ c.in_ok-answers.answers.items (scene_of rig) made.fresh c.in_ok-answers.ensures.answers in
+    report_in_range c.args.document.shape c.deref-2.result.now rig.recorder c.in_ok-report.report.log.items plan (c.deref-2.ensures.value ∙ (c.in_ok-queues.ensures.items ∙ c.queues.ensures.value)) reported.log reported.rests.lawful.formed
+
+pub returns-clause-run : goal.returns-clause-run
+returns-clause-run c =
+    let made = c.in_ok-rig.ensures.made in
+    let queues = c.deref-2.ensures.value ∙ (c.in_ok-queues.ensures.items ∙ c.queues.ensures.value) in
+    record {
+      device = made.device;
+      start = scene_of c.in_ok-rig.rig;
+      end = scene_of c.obey_all.new.self;
+      control = c.obey_all.new.self.control;
       answers = c.in_ok-answers.answers.items;
-      log = rig.log.items;
-      report = report;
-      view = rig.core;
-      ports = rig.ports.items;
-      shape = of_document;
-      played = rw (c.deref.ensures.value, c.in_ok-rig.ensures.fresh.0, c.in_ok-rig.ensures.fresh.1) at c.in_ok-answers.ensures.answers;
-      stands = c.in_ok-answers.ensures.sound.stands;
-      reported = record {
-        waiting = c.in_ok-report.ensures.waiting;
-        kept = c.in_ok-report.ensures.kept;
-        lanes = c.in_ok-answers.ensures.sound.ports;
-        left = c.in_ok-answers.ensures.sound.left;
-        held = c.in_ok-report.ensures.held;
-        undelivered = c.in_ok-report.ensures.undelivered;
-        untaken = c.in_ok-report.ensures.untaken;
-        pockets = c.in_ok-report.ensures.pockets;
-        own = c.in_ok-report.ensures.own;
-        limit = c.in_ok-report.ensures.limit;
-      };
-      written = e ∙ ap (λ p. text_of p c.deref-2.result.now c.deref-3.result.now report) (c.shape.ensures ∙ of_document)
-          ∙ ap (λ answers. text_of c.args.document.shape answers c.deref-3.result.now report) c.deref-2.ensures.value
-          ∙ ap (λ log. text_of c.args.document.shape c.in_ok-answers.answers.items log report) c.deref-3.ensures.value;
-    })
-    c.text_of.ensures
+      report = c.in_ok-report.report;
+      fresh = made.fresh;
+      played = rw c.deref.ensures.value at c.in_ok-answers.ensures.answers;
+      control_is = c.in_ok-answers.ensures.control ∙ made.control_is;
+      control_shut = refl;
+      reported = c.in_ok-report.ensures;
+      written = c.in_ok-text_of.ensures ∙ text_same _ _ _ _ _ _ _ queues (c.from-limit.ensures ∙ c.limit.ensures.value) c.deref-3.ensures.value;
+    }

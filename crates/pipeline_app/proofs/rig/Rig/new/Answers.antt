@@ -1,14 +1,25 @@
-use Rattle.std.proofs.Common.{subst}
-use Rattle.evt_types.proofs.FlowLanes.{lanes_few}
-use Rattle.pipeline_app.specs.Rig.{IsSmall}
+use Rattle.std.proofs.Common.{[], sym, ap, subst, ◌∙◌}
+use Rattle.event_recorder.specs.Device.{scheduler_of}
+use Rattle.event_scheduler.specs.Scheduler.{Serves}
 use Rattle.pipeline_app.proofs.rig.Rig.new.Goals as goal
 
-pub returns-in-Ok-clause-sound : goal.returns-in-Ok-clause-sound
-returns-in-Ok-clause-sound c =
-    let within = c.shape.invariant.within in
+pub returns-in-Ok-clause-made : goal.returns-in-Ok-clause-made
+returns-in-Ok-clause-made c =
+    let made = c.in-Ok.ensures.made in
+    let sight = c.begin.ensures.sight in
     record {
-      stands = rw c.new-in-Ok.ensures.items c.in-Ok.ensures.stands;
-      small = rw c.in-Ok.ensures.shape (subst (λ p. IsSmall p) c.shape.view_is (record { queues = within.queue_count.1; lanes = lanes_few _ within; sweep = within.sweep.1 }));
-      ports = rw c.in-Ok.ensures.shape c.in_ok-ports.ensures.count;
-      left = rw c.new-in-Ok.ensures.items c.in_ok-ports.ensures.empty;
+      device = made.device;
+      fresh = record {
+        plan = made.plan;
+        fits = made.fits;
+        scheduler_is = ap scheduler_of sight ∙ made.scheduler_is;
+        serves = subst (λ v. Serves [] v) (sym sight) made.serves;
+        unused = (ap (λ v. v.pocket) sight ∙ made.unused.0, ap (λ v. v.account.returned) sight ∙ made.unused.1);
+        log = c.begin.ensures.log;
+        ports_are = made.ports_are;
+        empty = made.empty;
+        undrawn = made.undrawn;
+        not_shut = made.not_shut;
+      };
+      control_is = made.control_is;
     }

@@ -1,0 +1,6 @@
+pub mod Comings
+pub mod Finished
+pub mod Members
+pub mod Rising
+pub mod SentAnswers
+pub mod Stages

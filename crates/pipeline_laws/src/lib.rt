@@ -1,0 +1,10 @@
+//! The law of pipelines: a pipeline whose stages are queues, run by any threads in whatever order, leaves what one thread would
+//! compute from its trace. Definitions, in `specs`; the laws, each the contract of a function that does nothing; a stage's answer; and
+//! the check and the text of a finished log.
+#![tactic(auto)]
+
+mod laws;
+mod stage;
+
+pub use laws::finished_run_is_plain;
+pub use stage::{Action, Entry};

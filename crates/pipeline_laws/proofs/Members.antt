@@ -1,8 +1,8 @@
 -- Lemmas on lists: what stands in a list, fronts that are whole, lists that rise, and going over the places of a list.
-use Rattle.std.proofs.Common.{◌≡◌, ℕ, zero, suc, ◌+◌, ◌<◌, ◌≤◌, Bool, false, cond, List, [], ◌∷◌, ◌++◌, length, filter, filter_map, get_or, All, AllPairs, Contains, Option, Some, None, slice_get, ◌⊎◌, inl, inr, ⊎_elim, refl, sym, ap, ◌∙◌, subst, arith, append-nil, append_assoc, length-append}
+use Rattle.std.proofs.Common.{◌≡◌, ℕ, zero, suc, ◌+◌, ◌<◌, ◌≤◌, Bool, false, cond, List, [], ◌∷◌, ◌++◌, length, map, filter, filter_map, get_or, All, AllPairs, Contains, Option, Some, None, slice_get, ◌⊎◌, inl, inr, ⊎_elim, refl, sym, ap, ◌∙◌, subst, arith, append-nil, append_assoc, length-append}
 use Rattle.std.specs.List.{cons_option, range_with_len}
-use Rattle.std.proofs.lemmas.List.{length_push, get_or_append_left}
-use Rattle.std.proofs.lemmas.List.Elements.{All-nil, All-cons, All-weaker, All-contains, All-contains_itself, Contains-append_right}
+use Rattle.std.proofs.lemmas.List.{length_push, get_or_append_left, map-append}
+use Rattle.std.proofs.lemmas.List.Elements.{All-nil, All-cons, All-weaker, All-contains, All-contains_itself, Contains-append_right, filter_map-append}
 use Rattle.std.proofs.lemmas.List.FromFn.{length-range_with_len, get_or-range_with_len}
 use Rattle.std.proofs.lemmas.Option.{slice_get_within, get_or_from_slice_get, slice_get-get_or}
 use Rattle.lists.proofs.Filters.{tested_by, filter_map-filter}
@@ -84,6 +84,15 @@ prefix_whole {X} xs ys h le = by_rest h.0 h.1
     by_rest : (zs : List X) → xs ++ zs ≡ ys → xs ≡ ys
     by_rest [] e = sym (append-nil xs) ∙ e
     by_rest (z ∷ zs) e = absurd (omega (arith, ap length e, length-append xs (z ∷ zs)))
+
+pub prefix_then : {X : Type 0} (xs ys zs : List X) → IsPrefix xs ys → IsPrefix ys zs → IsPrefix xs zs
+prefix_then xs ys zs h k = (h.0 ++ k.0, sym (append_assoc xs h.0 k.0) ∙ (ap (λ us. us ++ k.0) h.1 ∙ k.1))
+
+pub prefix_map : {X Y : Type 0} (f : X → Y) (xs ys : List X) → IsPrefix xs ys → IsPrefix (map f xs) (map f ys)
+prefix_map f xs ys h = (map f h.0, sym (map-append f xs h.0) ∙ ap (map f) h.1)
+
+pub prefix_filter_map : {X Y : Type 0} (g : X → Option Y) (xs ys : List X) → IsPrefix xs ys → IsPrefix (filter_map g xs) (filter_map g ys)
+prefix_filter_map g xs ys h = (filter_map g h.0, sym (filter_map-append g xs h.0) ∙ ap (filter_map g) h.1)
 
 -- ---- lists that rise
 

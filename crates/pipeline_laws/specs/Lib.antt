@@ -1,2 +1,3 @@
 pub mod Pipeline
+pub mod Promises
 pub mod Worked

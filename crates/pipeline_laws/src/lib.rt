@@ -6,5 +6,5 @@
 mod laws;
 mod stage;
 
-pub use laws::finished_run_is_plain;
+pub use laws::{finished_run_is_plain, promised_log_is_worked, promised_news_are_first};
 pub use stage::{Action, Entry};

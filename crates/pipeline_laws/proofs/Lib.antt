@@ -1,7 +1,10 @@
 pub mod Comings
+pub mod DueAnswers
 pub mod Finished
 pub mod Members
+pub mod Pasts
 pub mod Promised
+pub mod Readings
 pub mod Rising
 pub mod SentAnswers
 pub mod Stages

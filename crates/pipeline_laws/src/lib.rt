@@ -3,8 +3,13 @@
 //! the check and the text of a finished log.
 #![tactic(auto)]
 
+mod answers;
+mod check;
 mod laws;
+mod past;
 mod stage;
 
+pub use answers::answer;
+pub use check::answers_are_due;
 pub use laws::{finished_run_is_plain, promised_log_is_worked, promised_news_are_first};
 pub use stage::{Action, Entry};

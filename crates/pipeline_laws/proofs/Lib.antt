@@ -1,10 +1,12 @@
 pub mod Comings
 pub mod DueAnswers
 pub mod Finished
+pub mod Halves
 pub mod Members
 pub mod Pasts
 pub mod Promised
 pub mod Readings
 pub mod Rising
+pub mod RunTexts
 pub mod SentAnswers
 pub mod Stages

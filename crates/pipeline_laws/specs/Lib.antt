@@ -1,4 +1,5 @@
 pub mod Past
 pub mod Pipeline
 pub mod Promises
+pub mod RunText
 pub mod Worked

@@ -5,6 +5,7 @@ ghost use Rattle.evt_types.specs.Plan.{Plan};
 ghost use Rattle.evt_types.specs.declared.step.Step.{Step};
 ghost use Rattle.pipeline_laws.specs.Pipeline.{plain};
 ghost use Rattle.pipeline_laws.specs.Promises.{IsLane, IsProducer, KeepPromises, OthersSayNoNew, PortLists};
+ghost use Rattle.pipeline_laws.specs.RunText.{plain_text, run_text};
 ghost use Rattle.pipeline_laws.specs.Worked.{IsFinished, IsStaged, IsWorked, logged, new_event, newcomers};
 ghost use Rattle.pipeline_laws.specs.declared.stage.Action.{Action};
 ghost use Rattle.pipeline_laws.specs.declared.stage.Entry.{Entry};
@@ -16,6 +17,12 @@ ghost use Rattle.transcripts.specs.Replies.{replies_in, said};
 pub fn finished_run_is_plain()
     ensures { (p : Plan) (actions : List Action) (trace : List Entry) (T : List Step) → Lawful p T → IsStaged p actions → IsWorked actions trace T
         → IsFinished p trace T → (k f c : ℕ) → k < length actions → logged T k f c ≡ plain actions trace k f c }
+{}
+
+/// So the text of such a transcript is the plain pipeline's.
+pub fn finished_text_is_plain()
+    ensures { (p : Plan) (actions : List Action) (trace : List Entry) (T : List Step) → Lawful p T → IsStaged p actions → IsWorked actions trace T
+        → IsFinished p trace T → run_text (length actions) (logged T) ≡ plain_text actions trace }
 {}
 
 /// Whatever the schedule: where port 0 submits the trace and each other port answers what it receives by its stage's action, a lawful

@@ -8,8 +8,12 @@ mod check;
 mod laws;
 mod past;
 mod stage;
+mod text;
 
 pub use answers::answer;
 pub use check::answers_are_due;
-pub use laws::{finished_run_is_plain, promised_log_is_worked, promised_news_are_first};
+pub use laws::{
+    finished_run_is_plain, finished_text_is_plain, promised_log_is_worked, promised_news_are_first,
+};
 pub use stage::{Action, Entry};
+pub use text::write_run;

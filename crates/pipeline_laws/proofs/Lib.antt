@@ -1,5 +1,6 @@
 pub mod Comings
 pub mod DueAnswers
+pub mod Examples
 pub mod Finished
 pub mod Halves
 pub mod Members

@@ -1,3 +1,4 @@
+pub mod Example
 pub mod Past
 pub mod Pipeline
 pub mod Promises

@@ -5,6 +5,7 @@
 
 mod answers;
 mod check;
+mod example;
 mod laws;
 mod past;
 mod stage;
@@ -12,6 +13,7 @@ mod text;
 
 pub use answers::answer;
 pub use check::answers_are_due;
+pub use example::worked_run_is_finished;
 pub use laws::{
     finished_run_is_plain, finished_text_is_plain, promised_log_is_worked, promised_news_are_first,
 };

@@ -1,0 +1,13 @@
+pub mod Comings
+pub mod DueAnswers
+pub mod Examples
+pub mod Finished
+pub mod Halves
+pub mod Members
+pub mod Pasts
+pub mod Promised
+pub mod Readings
+pub mod Rising
+pub mod RunTexts
+pub mod SentAnswers
+pub mod Stages

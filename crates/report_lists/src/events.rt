@@ -53,9 +53,6 @@ pub fn list_kept(core: &Core, into: &mut Vec<KeptEvent>)
     ensures { (T : List Step) → Stands T core.now → into.new.items ≡ kept_all core.now.shape T }
 {
     for queue in 0..core.shape().queues().len() {
-        // A place keeps one event at most, so there is always room.
-        if core.places_len(queue) <= into.capacity() - into.len() {
-            core.list_kept(queue, into);
-        }
+        core.list_kept(queue, into);
     }
 }

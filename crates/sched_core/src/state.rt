@@ -117,6 +117,7 @@ impl Core {
         requires queue { queue < length self.now.shape.queues }
         requires room { vec_len into.old + length (places_at self.now queue) ≤ vec_capacity into.old }
         ensures kept { into.new.items ≡ into.old.items ++ map (kept_event queue) (kept_at self.now queue) }
+        ensures few { vec_len into.new ≤ vec_len into.old + length (places_at self.now queue) }
         ensures model { (T : List StepValue) → Stands T self.now → into.new.items ≡ into.old.items ++ kept_events T queue }
         ensures room { vec_capacity into.new ≡ vec_capacity into.old }
     {

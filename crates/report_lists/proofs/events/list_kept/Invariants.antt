@@ -9,6 +9,6 @@ abbrev pub invariant-loop-queue : goal.invariant-loop-queue
 invariant-loop-queue l =
     record {
       listed : (T : List Step) → Stands T l.core → l.into.items ≡ flat_map (λ q. kept_events T q) (range_with_len 0 l.queue);
-      length : (T : List Step) → Stands T l.core → vec_len l.into ≤ sum_by (λ q. length (places_at l.core q)) (range_with_len 0 l.queue);
+      length : vec_len l.into ≤ sum_by (λ q. length (places_at l.core q)) (range_with_len 0 l.queue);
       room : vec_capacity l.into ≡ vec_capacity l.initial.into;
     }

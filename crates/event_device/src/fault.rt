@@ -23,6 +23,10 @@ pub(crate) enum Want {
 }
 
 impl From<Memory> for Want {
+    ghost use Rattle.event_device.specs.declared.fault.Want.TheVariants as wants;
+
+    ghost from_gives = { λ _ want. want ≡ wants.Memory };
+
     fn from(_: Memory) -> Want {
         Want::Memory
     }

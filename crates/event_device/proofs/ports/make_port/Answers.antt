@@ -39,7 +39,7 @@ new-requires-clause-fit c =
       claim = subst OfClaims (sym claims) seats.unused_claim.of_claims;
       port = (c.requires.seats.1, omega arith);
       flows = flows ∙ sym c.requires.shared.flows ∙ ap (λ claims. length (lanes_of claims)) (sym claims);
-      links_exist = subst (λ count. Below count c.in_ok-links.links.items) (sym flows) (subst (Below (length (flow_lanes p))) (sym links) (links_there p n));
+      links_exist = subst (λ count. Below count c.in_ok-links.links.items) (sym flows) (subst (Below (length (flow_lanes p))) (sym links) (links_there p _));
       depth = (c.depth_of.ensures.value ∙ sym c.requires.own.0, c.depth_of.ensures.range.1);
       quantum = (omega arith, omega arith, omega (arith, limit, c.requires.shared.limit));
     }

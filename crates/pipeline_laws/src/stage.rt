@@ -2,6 +2,8 @@
 
 ghost use Rattle.std.specs.Prelude.{◌<◌, ◌^◌};
 
+use evt_types::{Event, Op};
+
 /// What a stage does with a payload.
 #[derive(Clone, Copy, Debug, PartialEq, Eq)]
 pub enum Action {
@@ -41,6 +43,27 @@ impl Action {
                     Some(payload)
                 }
             }
+        }
+    }
+}
+
+impl Entry {
+    ghost use Rattle.std.specs.Prelude.{◌≡◌};
+    ghost use Rattle.pipeline_laws.specs.Worked.{new_event};
+
+    /// The NEW by which it is brought to the first queue.
+    pub fn event(&self) -> Event
+        ensures { result ≡ new_event self.now }
+    {
+        Event {
+            flow: self.flow,
+            sub_type: 0,
+            event_type: 0,
+            op: Op::New,
+            queue: 0,
+            priority: self.priority,
+            impl_opaque: 0,
+            payload: self.payload,
         }
     }
 }

@@ -29,6 +29,7 @@ pub record Scene : Type 0 where
   pub ports : List Port
   pub shut : Bool
 
+-- what is seen of a rig
 abbrev pub scene_of : Rig → Scene
 scene_of r = record { recorder = r.recorder; ports = r.ports.items; shut = was_shut r.control }
 

@@ -1,0 +1,64 @@
+//! The cases that are measured.
+
+ghost use Rattle.std.specs.Prelude.{◌≡◌, ◌<◌, ◌≤◌, ◌^◌};
+
+use evt_types::{Event, Kind, Op};
+
+/// The queue that new events enter.
+pub const FIRST: u8 = 0;
+/// The queue that forwarded events enter.
+pub const SECOND: u8 = 1;
+/// The bursts with which each case runs.
+pub const BURSTS: [usize; 2] = [1, 32];
+
+/// A case: the queue that new events enter, and what the worker does with them.
+#[derive(Clone, Copy, Debug, PartialEq, Eq)]
+pub struct Case {
+    pub name: &'static str,
+    pub kind: Kind,
+    /// Of how many flows the events are.
+    pub flows: u32,
+    /// Whether the worker forwards each event to a parallel queue, and releases it there.
+    pub forwards: bool,
+    pub ghost in_range: { (1 ≤ flows) × (flows ≤ 2 ^ 20) },
+}
+
+/// A case.
+fn make_case(name: &'static str, kind: Kind, flows: u32, forwards: bool) -> Case
+    requires { (1 ≤ flows) × (flows ≤ 2 ^ 20) }
+{
+    Case {
+        name,
+        kind,
+        flows,
+        forwards,
+    }
+}
+
+/// The cases, in the order in which they run.
+pub fn cases() -> [Case; 6] {
+    [
+        make_case("atomic-1-flow", Kind::Atomic, 1, false),
+        make_case("atomic-64-flows", Kind::Atomic, 64, false),
+        make_case("atomic-1024-flows", Kind::Atomic, 1024, false),
+        make_case("parallel", Kind::Parallel, 64, false),
+        make_case("ordered", Kind::Ordered, 64, false),
+        make_case("ordered-to-parallel", Kind::Ordered, 64, true),
+    ]
+}
+
+impl Case {
+    /// The new event of this number.
+    pub fn event(&self, number: u64) -> Event {
+        Event {
+            flow: (number % u64::from(self.flows)) as u32,
+            sub_type: 0,
+            event_type: 0,
+            op: Op::New,
+            queue: FIRST,
+            priority: 128,
+            impl_opaque: 0,
+            payload: number,
+        }
+    }
+}

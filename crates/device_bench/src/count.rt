@@ -1,0 +1,47 @@
+//! How many events of a case go by.
+
+ghost use Rattle.std.specs.Prelude.{◌≡◌, ◌*◌, IfOk};
+ghost use Rattle.device_bench.specs.Rounds.{gifts_of};
+
+use crate::bench::{Bench, Counts};
+use crate::case::Case;
+use crate::fault::BenchFault;
+use std::alloc::Global;
+
+/// So many bursts go through the device while its events are counted.
+const ROUNDS: u64 = 20;
+
+/// How many events went by, and how many were inside at the end.
+#[derive(Clone, Copy, Debug, PartialEq, Eq)]
+pub struct Passed {
+    /// So many new events were enqueued.
+    pub entered: u64,
+    /// So many were given to the worker.
+    pub given: u64,
+    /// So many were released.
+    pub released: u64,
+    /// So many were inside at the end.
+    pub inside: usize,
+}
+
+/// Lets some bursts of events of the case go through a device.
+pub fn count(alloc: Global, case: Case, burst: usize) -> Result<Passed, BenchFault>
+    ensures entered { IfOk result (λ p. p.entered ≡ ROUNDS * burst) }
+    ensures given { IfOk result (λ p. p.given ≡ ROUNDS * (gifts_of case * burst)) }
+    ensures released { IfOk result (λ p. p.released ≡ ROUNDS * burst) }
+{
+    let mut bench = Bench::new(alloc, case, burst)?;
+    bench.rounds(ROUNDS)?;
+    let inside = bench.settle()?;
+    let Counts {
+        entered,
+        given,
+        released,
+    } = bench.counts;
+    Ok(Passed {
+        entered,
+        given,
+        released,
+        inside,
+    })
+}

@@ -1,0 +1,2 @@
+mod Sites
+mod Stopping

@@ -1,0 +1,28 @@
+//! Tests of the event device over what it makes public: known rows through the calls, what a stop hands back, and runs of several
+//! threads whose log is checked step by step.
+#![tactic(auto)]
+
+#[cfg(test)]
+mod calls;
+#[cfg(test)]
+mod checker;
+#[cfg(test)]
+mod checks;
+#[cfg(test)]
+mod flow_rows;
+#[cfg(test)]
+mod left;
+#[cfg(test)]
+mod logged_queue;
+#[cfg(test)]
+mod plans;
+#[cfg(test)]
+mod rig;
+#[cfg(test)]
+mod rows;
+#[cfg(test)]
+mod steps;
+#[cfg(test)]
+mod stops;
+#[cfg(test)]
+mod threads;

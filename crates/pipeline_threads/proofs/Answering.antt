@@ -97,13 +97,12 @@ module _ (actions : List Action) where
 
   -- so are those of one that received a delivery, as long as it is not answered
   pub due_worker : (p q s : Port) (d : Delivery) → IsEven actions p → Receives d p q → Rests (hand q) (hand s) → IsWorker actions (lists_of s)
-  due_worker p q s d h g r =
-      (
-        said_to actions d ∷ [],
-        ap (λ xs. map said xs ++ said_to actions d ∷ []) (r.said Own ∙ g.submitted)
+  due_worker p q s d h g r = (
+    said_to actions d ∷ [],
+    ap (λ xs. map said xs ++ said_to actions d ∷ []) (r.said Own ∙ g.submitted)
         ∙ (ap (λ xs. xs ++ said_to actions d ∷ []) h.answered
         ∙ (sym (map-append (said_to actions) (received_by p) (d ∷ [])) ∙ ap (map (said_to actions)) (sym (r.got Own ∙ g.received)))),
-      )
+  )
 
   lane_own : (o : Op) (x : Holding) → x.lane ≡ Own → is_answer_op o ≡ true → lane_for o (x ∷ []) ≡ Some Own
   lane_own ops.New x own e = absurd (false≢true e)

@@ -32,11 +32,10 @@ module _ (trace : List Entry) where
 
   -- what was submitted is the front of the trace
   pub brought_front : (n : ℕ) (p : Port) → HasBrought n p → IsProducer trace (lists_of p)
-  brought_front n p h =
-      (
-        map said_new (drop n trace),
-        ap (λ xs. xs ++ map said_new (drop n trace)) h ∙ (sym (map-append said_new (take n trace) (drop n trace)) ∙ ap (map said_new) (take-append-drop n trace)),
-      )
+  brought_front n p h = (
+    map said_new (drop n trace),
+    ap (λ xs. xs ++ map said_new (drop n trace)) h ∙ (sym (map-append said_new (take n trace) (drop n trace)) ∙ ap (map said_new) (take-append-drop n trace)),
+  )
 
   -- so it is where the next event was not taken
   pub stopped_front : (n : ℕ) (p q : Port) → HasBrought n p → Rests (hand p) (hand q) → IsProducer trace (lists_of q)

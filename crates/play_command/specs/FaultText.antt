@@ -5,7 +5,7 @@ use Rattle.evt_types.specs.declared.shape.ShapeFault.TheVariants as shapes
 use Rattle.play_command.specs.declared.fault.AppFault.{AppFault}
 use Rattle.play_command.specs.declared.fault.AppFault.TheVariants.{Read, Write, Document, Memory, NoSeat}
 use Rattle.play_documents.specs.declared.fault.DocFault.{DocFault}
-use Rattle.play_documents.specs.declared.fault.DocFault.TheVariants.{TooLong, NotToml, UnknownKey, MissingKey, BadValue, Shape, BadCommand}
+use Rattle.play_documents.specs.declared.fault.DocFault.TheVariants.{TooLong, NotToml, UnknownKey, MissingKey, BadValue, ParallelInside, LastAction, Shape, LimitTight, BadCommand, BadTrace}
 
 -- the name of a configuration's refusal, which want of memory isn't
 abbrev pub shape_fault_name : ShapeFault → Option (List ℕ)
@@ -31,8 +31,12 @@ doc_fault_name NotToml = Some (codes "NotToml")
 doc_fault_name UnknownKey = Some (codes "UnknownKey")
 doc_fault_name MissingKey = Some (codes "MissingKey")
 doc_fault_name BadValue = Some (codes "BadValue")
+doc_fault_name ParallelInside = Some (codes "ParallelInside")
+doc_fault_name LastAction = Some (codes "LastAction")
 doc_fault_name (Shape f) = shape_fault_name f
+doc_fault_name LimitTight = Some (codes "LimitTight")
 doc_fault_name (BadCommand n) = Some (codes "BadCommand")
+doc_fault_name (BadTrace n) = Some (codes "BadTrace")
 
 -- the number of the line that a fault names
 abbrev pub line_number : DocFault → List ℕ
@@ -41,8 +45,12 @@ line_number NotToml = []
 line_number UnknownKey = []
 line_number MissingKey = []
 line_number BadValue = []
+line_number ParallelInside = []
+line_number LastAction = []
 line_number (Shape f) = []
+line_number LimitTight = []
 line_number (BadCommand n) = codes " " ++ decimal n
+line_number (BadTrace n) = codes " " ++ decimal n
 
 -- what is printed where memory ran out
 abbrev pub no_memory : List ℕ

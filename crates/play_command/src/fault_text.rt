@@ -46,8 +46,12 @@ fn doc_fault_name(fault: DocFault) -> Option<&'static str>
         DocFault::UnknownKey => Some("UnknownKey"),
         DocFault::MissingKey => Some("MissingKey"),
         DocFault::BadValue => Some("BadValue"),
+        DocFault::ParallelInside => Some("ParallelInside"),
+        DocFault::LastAction => Some("LastAction"),
         DocFault::Shape(fault) => shape_fault_name(fault),
+        DocFault::LimitTight => Some("LimitTight"),
         DocFault::BadCommand(_) => Some("BadCommand"),
+        DocFault::BadTrace(_) => Some("BadTrace"),
     }
 }
 
@@ -57,7 +61,7 @@ fn push_line_number(fault: DocFault, out: &mut ArrayString<64>)
     ensures { out.new.bytes ≡ out.old.bytes ++ line_number fault }
 {
     match fault {
-        DocFault::BadCommand(line) => {
+        DocFault::BadCommand(line) | DocFault::BadTrace(line) => {
             out.push_str(" ");
             out.push_str(Buffer::new().format(line));
         }
@@ -66,7 +70,10 @@ fn push_line_number(fault: DocFault, out: &mut ArrayString<64>)
         | DocFault::UnknownKey
         | DocFault::MissingKey
         | DocFault::BadValue
-        | DocFault::Shape(_) => {}
+        | DocFault::ParallelInside
+        | DocFault::LastAction
+        | DocFault::Shape(_)
+        | DocFault::LimitTight => {}
     }
 }
 

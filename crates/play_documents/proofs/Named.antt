@@ -21,11 +21,11 @@ use Rattle.play_documents.specs.declared.fault.ReadFault.TheVariants as reads
 use Rattle.play_documents.specs.declared.fault.DocFault.{DocFault}
 use Rattle.play_documents.specs.declared.fault.DocFault.TheVariants as doc
 
-err_doc : {A : Type 0} (x y : DocFault) → ◌≡◌ {A = Result A DocFault} (Err x) (Err y) → x ≡ y
+pub err_doc : {A : Type 0} (x y : DocFault) → ◌≡◌ {A = Result A DocFault} (Err x) (Err y) → x ≡ y
 err_doc x y e = cc
 
 -- the fault of two steps is the first's or the second's
-bind_named : {A B : Type 0} (r : Result A DocFault) (k : A → Result B DocFault) (f : DocFault) → (r ≡ Err f → IsNamedDoc f)
+pub bind_named : {A B : Type 0} (r : Result A DocFault) (k : A → Result B DocFault) (f : DocFault) → (r ≡ Err f → IsNamedDoc f)
     → ((x : A) → k x ≡ Err f → IsNamedDoc f) → (r >>= k) ≡ Err f → IsNamedDoc f
 bind_named (Ok x) k f first second e = second x e
 bind_named (Err d) k f first second e = first (ap Err (err_doc d f e))
@@ -62,7 +62,7 @@ plan_named : (o : Option ShapeFault) (p : Plan) (f : DocFault) → IfSome o (λ 
 plan_named None p f h e = absurd cc
 plan_named (Some g) p f h e = subst IsNamedDoc (err_doc (doc.Shape g) f e) h
 
-checked_named : (p : Plan) (f : DocFault) → checked p ≡ Err f → IsNamedDoc f
+pub checked_named : (p : Plan) (f : DocFault) → checked p ≡ Err f → IsNamedDoc f
 unfolding checked
 checked_named p f e = plan_named (fault_of p) p f (refusal_named p) e
 
@@ -80,7 +80,7 @@ first_named : (s : SurveySeen) → IfSome (first_fault s) IsNamedDoc
 unfolding first_fault
 first_named s = tests_named (has_unknown s) (has_missing s) (has_bad s) (is_unserved s)
 
-rows_named : {A : Type 0} (o : Option DocFault) (rest : Result A DocFault) (f : DocFault) → IfSome o IsNamedDoc → (rest ≡ Err f → IsNamedDoc f)
+pub rows_named : {A : Type 0} (o : Option DocFault) (rest : Result A DocFault) (f : DocFault) → IfSome o IsNamedDoc → (rest ≡ Err f → IsNamedDoc f)
     → unless_fault o rest ≡ Err f → IsNamedDoc f
 rows_named None rest f h more e = more e
 rows_named (Some g) rest f h more e = subst IsNamedDoc (err_doc g f e) h
@@ -111,11 +111,11 @@ text_named : (b : Bool) (o : Option Members) (f : DocFault) → cond b (table_or
 text_named true o f e = table_named o f e
 text_named false o f e = subst IsNamedDoc (err_doc doc.NotToml f e) tt
 
-parsed_named : (bytes : List ℕ) (f : DocFault) → parsed bytes ≡ Err f → IsNamedDoc f
+pub parsed_named : (bytes : List ℕ) (f : DocFault) → parsed bytes ≡ Err f → IsNamedDoc f
 unfolding parsed
 parsed_named bytes f e = text_named (is_utf8 bytes) (parse_document bytes) f e
 
-long_named : {A : Type 0} (b : Bool) (rest : Result A DocFault) (f : DocFault) → (rest ≡ Err f → IsNamedDoc f) → cond b (Err doc.TooLong) rest ≡ Err f → IsNamedDoc f
+pub long_named : {A : Type 0} (b : Bool) (rest : Result A DocFault) (f : DocFault) → (rest ≡ Err f → IsNamedDoc f) → cond b (Err doc.TooLong) rest ≡ Err f → IsNamedDoc f
 long_named true rest f more e = subst IsNamedDoc (err_doc doc.TooLong f e) tt
 long_named false rest f more e = more e
 

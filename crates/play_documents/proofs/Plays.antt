@@ -33,14 +33,14 @@ use Rattle.play_documents.specs.declared.field.Field.TheVariants.{Absent, Bad, G
 pub ok_is : {A E : Type 0} (x y : A) → ◌≡◌ {A = Result A E} (Ok x) (Ok y) → x ≡ y
 ok_is x y e = cc
 
-some_is : {A : Type 0} (x y : A) → Some x ≡ Some y → x ≡ y
+pub some_is : {A : Type 0} (x y : A) → Some x ≡ Some y → x ≡ y
 some_is x y e = cc
 
-bind_ok : {A B : Type 0} (r : Result A DocFault) (f : A → Result B DocFault) (y : B) → (r >>= f) ≡ Ok y → (x : A) × (r ≡ Ok x) × (f x ≡ Ok y)
+pub bind_ok : {A B : Type 0} (r : Result A DocFault) (f : A → Result B DocFault) (y : B) → (r >>= f) ≡ Ok y → (x : A) × (r ≡ Ok x) × (f x ≡ Ok y)
 bind_ok (Ok x) f y e = (x, refl, e)
 bind_ok (Err d) f y e = absurd cc
 
-bind_some : {A B : Type 0} (f : A → Option B) (o : Option A) (y : B) → option_and_then f o ≡ Some y → (x : A) × (o ≡ Some x) × (f x ≡ Some y)
+pub bind_some : {A B : Type 0} (f : A → Option B) (o : Option A) (y : B) → option_and_then f o ≡ Some y → (x : A) × (o ≡ Some x) × (f x ≡ Some y)
 bind_some f None y e = absurd cc
 bind_some f (Some x) y e = (x, refl, e)
 
@@ -217,7 +217,7 @@ ports_there ports (commands.Shut ∷ cs) h = (tt, ports_there ports cs h.1)
 abbrev pub IsPlayable : Planned → Type 0
 IsPlayable x = AllByRecursion (IsGood (length x.plan.ports)) x.commands × (x.plan.serving ≡ Ports)
 
-checked_is : (p : Plan) (f : Option ShapeFault) (s : Plan) → plan_or_fault p f ≡ Ok s → s ≡ p
+pub checked_is : (p : Plan) (f : Option ShapeFault) (s : Plan) → plan_or_fault p f ≡ Ok s → s ≡ p
 checked_is p None s e = cc
 checked_is p (Some f) s e = absurd cc
 
@@ -225,7 +225,7 @@ asked_by_ports : (s : SurveySeen) (p : Plan) → first_fault s ≡ None → chec
 unfolding checked plan_asked
 asked_by_ports s p none is = ap (λ (q : Plan). q.serving) (checked_is (plan_asked s) (fault_of (plan_asked s)) p is) ∙ by_ports s none
 
-no_fault : {A : Type 0} (f : Option DocFault) (rest : Result A DocFault) (x : A) → unless_fault f rest ≡ Ok x → (f ≡ None) × (rest ≡ Ok x)
+pub no_fault : {A : Type 0} (f : Option DocFault) (rest : Result A DocFault) (x : A) → unless_fault f rest ≡ Ok x → (f ≡ None) × (rest ≡ Ok x)
 no_fault None rest x e = (refl, e)
 no_fault (Some f) rest x e = absurd cc
 
@@ -238,7 +238,7 @@ playable_rows s x e =
     subst IsPlayable (ok_is (record { plan = a.0; commands = b.0 }) x b.2)
     (good_script (length a.0.ports) (value_or [] s.script) b.0 b.1, asked_by_ports s a.0 none.0 a.1)
 
-short_enough : {A : Type 0} (b : Bool) (rest : Result A DocFault) (x : A) → cond b (Err doc.TooLong) rest ≡ Ok x → rest ≡ Ok x
+pub short_enough : {A : Type 0} (b : Bool) (rest : Result A DocFault) (x : A) → cond b (Err doc.TooLong) rest ≡ Ok x → rest ≡ Ok x
 short_enough true rest x e = absurd cc
 short_enough false rest x e = e
 

@@ -111,8 +111,12 @@ IsNamedDoc doc.NotToml = Unit {0}
 IsNamedDoc doc.UnknownKey = Unit {0}
 IsNamedDoc doc.MissingKey = Unit {0}
 IsNamedDoc doc.BadValue = Unit {0}
+IsNamedDoc doc.ParallelInside = Unit {0}
+IsNamedDoc doc.LastAction = Unit {0}
 IsNamedDoc (doc.Shape f) = f ≢ shapes.Memory
+IsNamedDoc doc.LimitTight = Unit {0}
 IsNamedDoc (doc.BadCommand n) = Unit {0}
+IsNamedDoc (doc.BadTrace n) = Unit {0}
 
 abbrev pub IsNamed : ReadFault → Type 0
 IsNamed (reads.Document f) = IsNamedDoc f

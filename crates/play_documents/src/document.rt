@@ -33,7 +33,7 @@ pub struct Document {
 }
 
 /// The table that the bytes write.
-fn parsed(alloc: Global, bytes: &[u8]) -> Result<Table, ReadFault>
+pub fn parsed(alloc: Global, bytes: &[u8]) -> Result<Table, ReadFault>
     ensures { Gives table_view result (parsed bytes.now) }
 {
     match toml::table_from_slice(alloc, bytes) {
@@ -49,7 +49,7 @@ fn parsed(alloc: Global, bytes: &[u8]) -> Result<Table, ReadFault>
 }
 
 /// The fault of a refused configuration.
-fn shape_fault(fault: ShapeFault) -> ReadFault
+pub fn shape_fault(fault: ShapeFault) -> ReadFault
     ensures { result ≡ shape_fault fault }
 {
     match fault {

@@ -17,7 +17,7 @@ use std::alloc::{AllocError, Global};
 const NORMAL_PRIORITY: u8 = 128;
 
 /// What a queue's row asks for.
-fn queue_draft(row: &QueueRow) -> QueueDraft
+pub fn queue_draft(row: &QueueRow) -> QueueDraft
     ensures { result ≡ queue_asked row.now }
 {
     QueueDraft {

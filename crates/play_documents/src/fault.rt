@@ -19,10 +19,18 @@ pub enum DocFault {
     MissingKey,
     /// A value isn't of its key's type, range or texts.
     BadValue,
+    /// A stage that isn't its pipeline's last is parallel.
+    ParallelInside,
+    /// A pipeline's last stage has another action than to pass.
+    LastAction,
     /// The configuration is refused. What is held is never `Memory`.
     Shape(ShapeFault),
+    /// A pipeline's limit leaves no room for the credits that rest with its ports.
+    LimitTight,
     /// The script's line of this number, counted from 1, is no command.
     BadCommand(u32),
+    /// The trace's line of this number, counted from 1, is no event.
+    BadTrace(u32),
 }
 
 /// Why the reading of a document ends without one.

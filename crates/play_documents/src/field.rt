@@ -51,7 +51,7 @@ impl<T: Copy> Field<T> {
 }
 
 /// A value that is there.
-fn good_or_bad<T>(value: Option<T>) -> Field<T>
+pub fn good_or_bad<T>(value: Option<T>) -> Field<T>
     ensures { result ≡ good_or_bad value }
 {
     match value {

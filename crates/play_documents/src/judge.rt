@@ -41,7 +41,8 @@ fn lacks_slots(queue: &QueueRow) -> bool
     }
 }
 
-fn misses_queue(queue: &QueueRow) -> bool
+/// Whether a queue's table lacks a key that it needs.
+pub fn misses_queue(queue: &QueueRow) -> bool
     ensures { result ≡ misses_queue queue.now }
 {
     queue.kind.is_absent() || lacks_slots(queue)
@@ -56,7 +57,8 @@ fn misses_port(port: &PortRow) -> bool
         || port.links.is_absent()
 }
 
-fn has_bad_queue(queue: &QueueRow) -> bool
+/// Whether a queue's table has a refused value.
+pub fn has_bad_queue(queue: &QueueRow) -> bool
     ensures { result ≡ has_bad_queue queue.now }
 {
     queue.kind.is_bad()

@@ -77,7 +77,7 @@ fn serving_named(name: &str) -> Field<Serving>
 }
 
 /// The scheduling type at a key.
-fn kind_at(table: &Table, key: &str) -> Field<Kind>
+pub fn kind_at(table: &Table, key: &str) -> Field<Kind>
     ensures { result ≡ kind_at key.now (table_view table.now) }
 {
     match text_at(table, key) {
@@ -88,7 +88,7 @@ fn kind_at(table: &Table, key: &str) -> Field<Kind>
 }
 
 /// The serving at a key.
-fn serving_at(table: &Table, key: &str) -> Field<Serving>
+pub fn serving_at(table: &Table, key: &str) -> Field<Serving>
     ensures { result ≡ serving_at key.now (table_view table.now) }
 {
     match text_at(table, key) {

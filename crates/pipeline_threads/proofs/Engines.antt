@@ -1,0 +1,106 @@
+-- The parts of one device: as they are made, and as they are handed to a stop.
+use Rattle.std.proofs.Common.{◌≡◌, ◌≢◌, ℕ, zero, suc, ◌<◌, ◌≤◌, false, List, [], ◌∷◌, ◌++◌, length, map, get_or, All, Some, slice_get, refl, sym, ap, subst, ◌∙◌, arith, zero-add}
+use Rattle.std.specs.List.{range_with_len}
+use Rattle.std.proofs.lemmas.List.{get_or-map, length-map, map-append}
+use Rattle.std.proofs.lemmas.List.FromFn.{get_or-map-range_with_len, length-map-range_with_len}
+use Rattle.std.proofs.lemmas.Option.{slice_get-get_or}
+use Rattle.event_ports.specs.Lanes.{IsEmptyHand}
+use Rattle.event_ports.specs.Ports.{hand, links, pocket_of}
+use Rattle.event_ports.specs.declared.port.Port.{Port}
+use Rattle.event_recorder.specs.Control.{control_of}
+use Rattle.event_recorder.specs.Device.{ControlSite, Device, IsDevice, IsPortOf, PortSite, SchedulerSite, control_site, number_of, port_site, scheduler_of, scheduler_site, site_of}
+use Rattle.event_recorder.specs.Ports.{DifferInNumber, IsThere}
+use Rattle.event_recorder.specs.Stop.{AreOf}
+use Rattle.evt_types.specs.Fault.{IsWithinLimits}
+use Rattle.evt_types.specs.Plan.{Plan, flow_lanes, flow_links, lanes_of, linked_places}
+use Rattle.evt_types.specs.declared.draft.Serving.TheVariants.{Ports}
+use Rattle.pipeline_threads.specs.Ports.{IsIdle}
+use Rattle.pipeline_threads.specs.Run.{IsEngineOf}
+use Rattle.pipeline_threads.specs.declared.engine.Engine.{Engine}
+
+-- ---- served by ports alone
+
+no_flows : (p : Plan) → p.serving ≡ Ports → flow_lanes p ≡ []
+unfolding flow_lanes
+no_flows p e = rw e refl
+
+no_links : (p : Plan) (n : ℕ) → p.serving ≡ Ports → flow_links p n ≡ []
+unfolding linked_places
+no_links p n e = rw (no_flows p e) refl
+
+-- there are as many lanes as ports
+pub own_lanes : (p : Plan) → p.serving ≡ Ports → lanes_of p ≡ length p.ports
+unfolding lanes_of
+own_lanes p e = omega (arith, ap length (no_flows p e))
+
+-- ---- ports with the sites of a device's ports, in their order
+module _ (d : Device) (ports : List Port) (n : ℕ) (sites : map site_of ports ≡ map (port_site d) (range_with_len 0 n)) where
+  pub port_count : length ports ≡ n
+  port_count = sym (length-map ports site_of) ∙ (ap length sites ∙ length-map-range_with_len (port_site d) 0 n)
+
+  pub site_here : (i : ℕ) (x : Port) → i < length ports → site_of (get_or ports i x) ≡ port_site d i
+  site_here i x there =
+      let low : i < n = omega (arith, port_count, there) in
+      sym (get_or-map site_of ports i x (site_of x) there) ∙ (ap (λ xs. get_or xs i (site_of x)) sites ∙ get_or-map-range_with_len (port_site d) 0 n i i (site_of x) low (zero-add i))
+
+  -- the port at a place has that number
+  pub number_here : (i : ℕ) (x : Port) → i < length ports → number_of (get_or ports i x) ≡ i
+  number_here i x there = ap (λ (s : PortSite). s.number) (site_here i x there)
+
+  are_ports : n ≡ length d.plan.ports → All (IsPortOf d) ports
+  are_ports count i x there =
+      let number : number_of (get_or ports i x) ≡ i = number_here i x there in
+      (omega (arith, number, there, port_count, count), site_here i x there ∙ ap (port_site d) (sym number))
+
+  ports_differ : DifferInNumber ports
+  ports_differ i j x low there e =
+      let at_i : number_of (get_or ports i x) ≡ i = number_here i x (omega (arith, low, there)) in
+      let at_j : number_of (get_or ports j x) ≡ j = number_here j x there in
+      omega (arith, low, at_i, at_j, e)
+
+  pub are_there : (k : ℕ) → k < n → IsThere ports k
+  are_there k low = at ports refl (omega (arith, port_count, low))
+    where
+      at : (xs : List Port) → xs ≡ ports → k < length ports → IsThere ports k
+      at [] e there = absurd (omega (arith, there, ap length e))
+      at (x ∷ xs) e there = (k, get_or ports k x, slice_get-get_or ports k x there, number_here k x there)
+
+  -- ports that nothing was done with, of a plan that is served by ports alone
+  pub idle_ports : d.plan.serving ≡ Ports → All (λ (x : Port). IsEmptyHand (hand x) × (pocket_of x ≡ 0)) ports → All IsIdle ports
+  idle_ports serving empty i x there =
+      record { empty = (empty i x there).0; own = ap (λ (s : PortSite). s.links) (site_here i x there) ∙ no_links d.plan i serving }
+
+-- ---- an engine
+
+-- its parts may be handed to a stop
+pub engine_parts : (p : Plan) (e : Engine) → IsEngineOf p e → AreOf e.recorder e.control e.ports.items
+engine_parts p e h =
+    record {
+      device = h.device;
+      fits = h.fits;
+      scheduler_is = h.scheduler_is;
+      control_is = h.control_is;
+      ports_are = are_ports h.device e.ports.items (length p.ports) h.ports_are (ap (λ (x : Plan). length x.ports) (sym h.plan));
+      once = ports_differ h.device e.ports.items (length p.ports) h.ports_are;
+    }
+
+-- its scheduler has the plan
+pub engine_plan : (p : Plan) (e : Engine) → IsEngineOf p e → e.recorder.sight.core.shape ≡ p
+engine_plan p e h = ap (λ (s : SchedulerSite). s.plan) h.scheduler_is ∙ h.plan
+
+-- all its ports are there
+pub engine_there : (p : Plan) (e : Engine) → IsEngineOf p e → (k : ℕ) → k < length e.recorder.sight.core.shape.ports → IsThere e.ports.items k
+engine_there p e h k low = are_there h.device e.ports.items (length p.ports) h.ports_are k (omega (arith, low, ap (λ (x : Plan). length x.ports) (engine_plan p e h)))
+
+-- one with the same parts is of the same device
+pub same_engine : (p : Plan) (e f : Engine) → IsEngineOf p e → scheduler_of f.recorder.sight ≡ scheduler_of e.recorder.sight → control_of f.control ≡ control_of e.control
+    → map site_of f.ports.items ≡ map site_of e.ports.items → IsEngineOf p f
+same_engine p e f h scheduler control ports =
+    record {
+      device = h.device;
+      plan = h.plan;
+      fits = h.fits;
+      scheduler_is = scheduler ∙ h.scheduler_is;
+      control_is = control ∙ h.control_is;
+      ports_are = ports ∙ h.ports_are;
+    }

@@ -1,0 +1,26 @@
+use Rattle.std.proofs.Common.{length, ap, ◌∙◌, arith}
+use Rattle.event_recorder.specs.Device.{scheduler_of}
+use Rattle.evt_types.specs.Plan.{Plan}
+use Rattle.pipeline_threads.proofs.Engines.{idle_ports, port_count}
+use Rattle.pipeline_threads.proofs.engine.Engine.new.Goals as goal
+
+pub returns-in-Ok-clause-made : goal.returns-in-Ok-clause-made
+returns-in-Ok-clause-made c =
+    let made = c.in-Ok.ensures.made in
+    record {
+      device = made.device;
+      plan = made.plan;
+      fits = made.fits;
+      scheduler_is = ap scheduler_of c.begin.ensures.sight ∙ made.scheduler_is;
+      control_is = made.control_is;
+      ports_are = made.ports_are;
+    }
+
+pub returns-in-Ok-clause-ready : goal.returns-in-Ok-clause-ready
+returns-in-Ok-clause-ready c =
+    let made = c.in-Ok.ensures.made in
+    let count = port_count made.device c.in-Ok.ports.items (length c.args.shape.ports) made.ports_are in
+    record {
+      some = omega (arith, count, c.limit.ensures.within.port_count.0);
+      idle = idle_ports made.device c.in-Ok.ports.items (length c.args.shape.ports) made.ports_are (ap (λ (p : Plan). p.serving) made.plan ∙ c.requires) made.empty;
+    }

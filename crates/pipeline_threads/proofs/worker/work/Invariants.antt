@@ -1,0 +1,8 @@
+use Rattle.std.proofs.Common.{◌≡◌}
+use Rattle.event_recorder.specs.Device.{site_of}
+use Rattle.pipeline_threads.specs.Ports.{IsEven}
+use Rattle.pipeline_threads.proofs.worker.work.Given as goal
+
+abbrev pub invariant-loop : goal.invariant-loop
+invariant-loop g l =
+    (goal.iterator-loop g).can_next l.iterator' × (goal.iterator-loop g).is_finite l.iterator' × (site_of l.port ≡ site_of l.fn.port) × IsEven l.actions l.port

@@ -1,0 +1,66 @@
+//! A device whose ports are handed to threads.
+
+ghost use Rattle.std.specs.Prelude.{◌≡◌, IfOk, OnOk, length, All};
+ghost use Rattle.evt_types.specs.declared.draft.Serving.TheVariants.{Ports};
+ghost use Rattle.event_recorder.specs.Device.{scheduler_of};
+ghost use Rattle.event_recorder.specs.Stop.{IsReport};
+ghost use Rattle.transcripts.specs.Replies.{new_count};
+ghost use Rattle.transcripts.specs.Transcript as transcripts;
+ghost use Rattle.pipeline_threads.specs.Run.{IsEngineOf, IsReady};
+
+use crate::fault::RunFault;
+use event_device::{Control, DeviceFault, Memory, Port, Recorder, Report, StopFault, device};
+use evt_types::Shape;
+use std::alloc::{AllocError, Global};
+use std::sync::Wait;
+use std::thread;
+
+/// A device: its scheduler with the log of all sweeps, its control, and its ports by number.
+#[derive(Drop)]
+pub(crate) struct Engine {
+    pub(crate) recorder: Recorder,
+    pub(crate) control: Control,
+    pub(crate) ports: Vec<Port>,
+}
+
+impl Engine {
+    /// A device of this configuration, in which nothing has happened.
+    pub(crate) fn new(alloc: Global, shape: Shape) -> Result<Engine, RunFault>
+        requires { shape.serving ≡ Ports }
+        ensures made { IfOk result (IsEngineOf shape) }
+        ensures ready { IfOk result IsReady }
+    {
+        let _ = shape.limit();
+        match device(alloc, shape) {
+            Ok((scheduler, ports, control)) => Ok(Engine {
+                recorder: Recorder::begin(alloc, scheduler),
+                control,
+                ports,
+            }),
+            Err(DeviceFault::Memory(_)) => Err(RunFault::Memory),
+            Err(DeviceFault::NoSeat(_)) => Err(RunFault::NoSeat),
+        }
+    }
+}
+
+/// Sweeps until so many events were accepted as new and none is inside.
+pub(crate) fn sweep_all<R: Wait>(
+    rt: &R,
+    recorder: &mut Recorder,
+    count: usize,
+) -> Result<(), Memory>
+    ensures scheduler { scheduler_of recorder.new.sight ≡ scheduler_of recorder.old.sight }
+    ensures all { OnOk result (new_count recorder.new.log ≡ count) }
+    ensures none_inside { OnOk result (transcripts.inside recorder.new.sight.core.shape recorder.new.log ≡ 0) }
+{
+    for _ in rt.forever() {
+        let swept = recorder.sweep()?;
+        if recorder.accepted_new() == count as u64 && recorder.inside() == 0 {
+            return Ok(());
+        }
+        if swept.taken == 0 && swept.given == 0 {
+            thread::yield_now();
+        }
+    }
+    unreachable!()
+}

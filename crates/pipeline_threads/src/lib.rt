@@ -1,0 +1,17 @@
+//! A pipeline on a device: a producer that brings a trace in, workers that carry out the stages' actions, each in a thread of its
+//! own, and the scheduler in the caller's.
+#![tactic(auto)]
+
+mod engine;
+mod fault;
+mod gate;
+mod producer;
+mod promise;
+mod run;
+mod submit;
+mod threads;
+mod worker;
+
+pub use fault::RunFault;
+pub use gate::{Gate, OpenGate};
+pub use run::run_pipeline;

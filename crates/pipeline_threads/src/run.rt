@@ -1,0 +1,46 @@
+//! A pipeline is run on a device.
+
+ghost use Rattle.std.specs.Prelude.{◌≡◌, ◌<◌, [], All, IfOk, length};
+ghost use Rattle.evt_types.specs.Plan.{port_of};
+ghost use Rattle.evt_types.specs.declared.draft.Serving.TheVariants.{Ports};
+ghost use Rattle.pipeline_laws.specs.Pipeline.{IsProper};
+ghost use Rattle.pipeline_laws.specs.Worked.{IsFinished, IsStaged, IsWorked};
+ghost use Rattle.transcripts.specs.Lawful.{Lawful};
+
+use crate::engine::Engine;
+use crate::fault::RunFault;
+use crate::gate::Gate;
+use crate::threads::run_threads;
+use event_device::Report;
+use evt_types::Shape;
+use pipeline_laws::{Action, Entry};
+use std::alloc::Global;
+use std::sync::Wait;
+use std::thread::Threads;
+
+/// Runs the trace through the pipeline whose stages are the queues, on a device of this configuration: port 0 brings the events in, each
+/// other port carries out the stages' actions, each in a thread of its own, and the scheduler runs in this one. The report is that of
+/// the stop; whatever the schedule was, its log is that of a finished run.
+pub fn run_pipeline<R: Threads + Wait + Sync, G: Gate>(
+    rt: &R,
+    alloc: Global,
+    shape: Shape,
+    actions: &[Action],
+    trace: &[Entry],
+    gate: &G,
+) -> Result<Report, RunFault>
+    requires serving { shape.serving ≡ Ports }
+    requires staged { IsStaged shape actions.now }
+    requires proper { All IsProper actions.now }
+    requires workers { 1 < length shape.ports }
+    requires producer { (port_of shape 0).links ≡ [] }
+    ensures { IfOk result (λ report. Lawful shape report.log.items × IsWorked actions.now trace.now report.log.items × IsFinished shape trace.now report.log.items) }
+{
+    let _ = shape.limit();
+    let engine = Engine::new(alloc, shape)?;
+    let engine = run_threads(rt, gate, actions, trace, engine)?;
+    match engine.recorder.stop(alloc, engine.control, engine.ports) {
+        Ok(report) => Ok(report),
+        Err((_, ..)) => Err(RunFault::Memory),
+    }
+}

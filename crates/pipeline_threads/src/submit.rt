@@ -1,0 +1,31 @@
+//! An event is enqueued, as often as it takes.
+
+ghost use Rattle.std.specs.Prelude.{◌≡◌, IsTrue, IsFalse};
+ghost use Rattle.event_ports.specs.Lanes.{Rests, SubmitsTo, lane_for, reply_of};
+ghost use Rattle.event_ports.specs.Ports.{hand};
+ghost use Rattle.event_recorder.specs.Device.{site_of};
+
+use event_device::Port;
+use evt_types::Event;
+use std::sync::Wait;
+use std::thread;
+
+/// Enqueues the event, again after each refusal, until it is taken or the device is seen shut: whether it was taken.
+pub(crate) fn submit<R: Wait>(rt: &R, port: &mut Port, event: Event) -> bool
+    ensures site { site_of port.new ≡ site_of port.old }
+    ensures taken { IsTrue result → SubmitsTo (lane_for event.op (hand port.old).holding) (reply_of event) (hand port.old) (hand port.new) }
+    ensures shut { IsFalse result → Rests (hand port.old) (hand port.new) }
+{
+    for _ in rt.forever() {
+        match port.enqueue(event) {
+            Ok(()) => return true,
+            Err(_) => {
+                if port.shut_seen() {
+                    return false;
+                }
+            }
+        }
+        thread::yield_now();
+    }
+    unreachable!()
+}

@@ -1,0 +1,42 @@
+use Rattle.std.proofs.Common.{◌+◌, drop, false-eqb, Err, refl, sym, ap, ◌∙◌, arith}
+use Rattle.std.proofs.lemmas.Bool.{eqb-true}
+use Rattle.play_documents.specs.declared.fault.DocFault.TheVariants.{BadTrace}
+use Rattle.play_documents.proofs.Lines.{few_lines, texts}
+use Rattle.run_documents.specs.Trace.{trace_from}
+use Rattle.run_documents.proofs.TraceLines.{with_entries, trace-starts, trace-skips, trace-goes, trace-stops, trace-ends}
+use Rattle.run_documents.proofs.trace.read_trace.Goals as goal
+
+pub loop-line-init : goal.loop-line-init
+loop-line-init c =
+    (refl, trace-starts c.args.text.now c.deref-line-items.result.now _ c.new-entries.ensures.items (ap texts c.deref-line-items.ensures.value ∙ c.in_ok-lines.ensures))
+
+pub overflow_add-number : goal.overflow_add-number
+overflow_add-number c =
+    let few = few_lines c.deref-line-items.result.now c.args.text.now (ap texts c.deref-line-items.ensures.value ∙ c.in_ok-lines.ensures) in
+    omega (arith, few, c.loop-line.invariant.0)
+
+pub loop-line-preserved-then-is_empty : goal.loop-line-preserved-then-is_empty
+loop-line-preserved-then-is_empty c =
+    let none = eqb-true _ _ (sym c.is_empty.ensures ∙ c.if-is_empty.true) in
+    let skips = trace-skips c.deref-line-items.result.now c.loop-line.line-index _ c.loop-line-test.true c.without_carriage_return-line.result.now c.without_carriage_return-line.ensures none in
+    (ap (λ n. n + 1) c.loop-line.invariant.0, ap (with_entries c.loop-line.entries.items) (sym skips) ∙ c.loop-line.invariant.1)
+
+pub returns-in-None : goal.returns-in-None
+returns-in-None c =
+    let some = false-eqb _ _ (sym c.if-is_empty.false ∙ c.is_empty.ensures) in
+    let bad = sym c.in_ok-entry.ensures ∙ c.in-None.is in
+    let stops = trace-stops c.deref-line-items.result.now c.loop-line.line-index _ c.loop-line-test.true c.without_carriage_return-line.result.now c.without_carriage_return-line.ensures some bad in
+    sym c.loop-line.invariant.1 ∙ ap (with_entries c.loop-line.entries.items) stops ∙ ap (λ n. Err (BadTrace (n + 1))) (sym c.loop-line.invariant.0)
+
+pub loop-line-preserved : goal.loop-line-preserved
+loop-line-preserved c =
+    let some = false-eqb _ _ (sym c.if-is_empty.false ∙ c.is_empty.ensures) in
+    let good = sym c.in_ok-entry.ensures ∙ c.in-Some.is in
+    let goes = trace-goes c.deref-line-items.result.now c.loop-line.line-index _ c.loop-line-test.true c.without_carriage_return-line.result.now c.without_carriage_return-line.ensures
+    c.loop-line.entries.items c.in-Some.entry some good in (
+      ap (λ n. n + 1) c.loop-line.invariant.0,
+      ap (λ front. with_entries front (trace_from (c.loop-line.line-index + 1 + 1) (texts (drop (c.loop-line.line-index + 1) c.deref-line-items.result.now)))) c.in_ok-push-in-Some.ensures.items ∙ sym goes ∙ c.loop-line.invariant.1,
+    )
+
+pub returns : goal.returns
+returns c = sym c.loop-line.invariant.1 ∙ trace-ends (c.loop-line.line-index + 1) c.deref-line-items.result.now c.loop-line.line-index c.loop-line.entries.items c.loop-line-test.false

@@ -1,0 +1,88 @@
+-- The faults that a pipeline's rows show, in their order.
+use Rattle.std.specs.Prelude.{◌-◌, Bool, true, false, not, ◌||◌, List, length, take, slice_get, Option, Some, None, if◌then◌else◌}
+use Rattle.std.specs.List.{list_any}
+use Rattle.evt_types.specs.declared.event.Kind.{Kind}
+use Rattle.evt_types.specs.declared.event.Kind.TheVariants.{Ordered, Atomic, Parallel}
+use Rattle.pipeline_laws.specs.declared.stage.Action.{Action}
+use Rattle.pipeline_laws.specs.declared.stage.Action.TheVariants.{Pass, Add, DropMultiples}
+use Rattle.play_documents.specs.Field.{is_absent, is_bad, rows, value_or}
+use Rattle.play_documents.specs.Judge.{has_bad_queue, is_by_flows, misses_queue}
+use Rattle.play_documents.specs.declared.fault.DocFault.{DocFault}
+use Rattle.play_documents.specs.declared.fault.DocFault.TheVariants.{UnknownKey, MissingKey, BadValue, ParallelInside, LastAction}
+use Rattle.play_documents.specs.declared.field.Field.{Field}
+use Rattle.play_documents.specs.declared.field.Field.TheVariants.{Absent, Bad, Good}
+use Rattle.run_documents.specs.Survey.{SurveySeen}
+use Rattle.run_documents.specs.declared.survey.StageRow.{StageRow}
+
+-- some key isn't a stage's
+abbrev pub is_unknown_stage : StageRow → Bool
+is_unknown_stage r = not r.queue.known
+
+-- a stage needs what its queue needs
+abbrev pub misses_stage : StageRow → Bool
+misses_stage r = misses_queue r.queue
+
+-- some value is refused
+abbrev pub has_bad_stage : StageRow → Bool
+has_bad_stage r = has_bad_queue r.queue || is_bad r.action
+
+-- the three tests of a whole document
+unfoldable pub has_unknown : SurveySeen → Bool
+has_unknown s = not s.known || list_any is_unknown_stage (rows s.stages)
+
+unfoldable pub has_missing : SurveySeen → Bool
+has_missing s =
+    is_absent s.limit || is_absent s.quantum || is_absent s.sweep || is_absent s.depth || is_absent s.replies || is_absent s.trace || is_absent s.stages
+    || list_any misses_stage (rows s.stages)
+
+unfoldable pub has_bad_top : SurveySeen → Bool
+has_bad_top s =
+    is_bad s.limit || is_bad s.quantum || is_bad s.sweep || is_bad s.depth || is_bad s.replies || is_bad s.serving || is_bad s.trace || is_bad s.stages
+
+unfoldable pub has_bad : SurveySeen → Bool
+has_bad s = has_bad_top s || list_any has_bad_stage (rows s.stages)
+
+-- the device serves by its ports alone
+abbrev pub is_unserved : SurveySeen → Bool
+is_unserved s = is_by_flows s.serving
+
+-- a stage but the last is parallel
+abbrev pub is_parallel_kind : Field Kind → Bool
+is_parallel_kind (Good Parallel) = true
+is_parallel_kind (Good Ordered) = false
+is_parallel_kind (Good Atomic) = false
+is_parallel_kind Absent = false
+is_parallel_kind Bad = false
+
+abbrev pub is_parallel : StageRow → Bool
+is_parallel r = is_parallel_kind r.queue.kind
+
+unfoldable pub has_parallel_inside : List StageRow → Bool
+has_parallel_inside stages = list_any is_parallel (take (length stages - 1) stages)
+
+-- a stage's action; where none is named it passes
+abbrev pub action_asked : StageRow → Action
+action_asked r = value_or Pass r.action
+
+-- the last stage, where there is one, doesn't pass
+abbrev pub is_pass : Action → Bool
+is_pass Pass = true
+is_pass (Add k) = false
+is_pass (DropMultiples m) = false
+
+abbrev pub acts : Option StageRow → Bool
+acts None = false
+acts (Some r) = not (is_pass (action_asked r))
+
+unfoldable pub has_last_action : List StageRow → Bool
+has_last_action stages = acts (slice_get stages (length stages - 1))
+
+-- the first fault: each is looked for in the whole document before the next
+unfoldable pub first_fault : SurveySeen → Option DocFault
+first_fault s =
+    if has_unknown s then Some UnknownKey
+    else (if has_missing s then Some MissingKey
+    else (if has_bad s then Some BadValue
+    else (if is_unserved s then Some BadValue
+    else (if has_parallel_inside (rows s.stages) then Some ParallelInside
+    else (if has_last_action (rows s.stages) then Some LastAction else None)))))

@@ -1,0 +1,97 @@
+//! The configuration and the actions that a pipeline's rows ask for.
+
+ghost use Rattle.std.specs.Prelude.{◌≡◌, ◌≤◌, length, map, IfOk};
+ghost use Rattle.std.specs.List.{range_with_len};
+ghost use Rattle.evt_types.specs.Plan.{port_plan};
+ghost use Rattle.evt_types.specs.Plan as plans;
+ghost use Rattle.play_documents.specs.Field.{rows};
+ghost use Rattle.run_documents.specs.Drafts.{actions_asked, plan_asked, port_asked, ports_asked, producer_asked, stage_asked, worker_asked};
+ghost use Rattle.run_documents.specs.Survey.{survey_seen};
+
+use crate::judge::{action_asked, stage_rows};
+use crate::survey::{StageRow, Survey};
+use evt_types::{Draft, MAX_QUEUES, PortDraft, QueueDraft, Serving};
+use pipeline_laws::Action;
+use play_documents::queue_draft;
+use std::alloc::{AllocError, Global};
+
+/// The stages' queues.
+fn queue_drafts(alloc: Global, rows: &[StageRow]) -> Result<Vec<QueueDraft>, AllocError>
+    ensures { IfOk result (λ v. v.items ≡ map stage_asked rows.now) }
+{
+    let mut drafts = Vec::new(alloc);
+    for row in rows {
+        drafts.push(queue_draft(&row.queue))?;
+    }
+    Ok(drafts)
+}
+
+/// A port with these links.
+fn port_draft(survey: &Survey, links: Vec<u32>) -> PortDraft
+    ensures { port_plan result ≡ port_asked (survey_seen survey.now) links.items }
+{
+    PortDraft {
+        threshold: survey.limit.value_or(0),
+        depth: survey.depth.value_or(0),
+        replies: survey.replies.value_or(0),
+        implicit: false,
+        links,
+    }
+}
+
+/// The numbers of so many queues.
+fn all_queues(alloc: Global, count: usize) -> Result<Vec<u32>, AllocError>
+    requires { count ≤ MAX_QUEUES }
+    ensures { IfOk result (λ v. v.items ≡ range_with_len 0 count) }
+{
+    (0..count as u32).collect(alloc)
+}
+
+/// A worker's port, which is linked to every stage's queue.
+fn worker_draft(alloc: Global, survey: &Survey) -> Result<PortDraft, AllocError>
+    requires { length (rows (survey_seen survey.now).stages) ≤ MAX_QUEUES }
+    ensures { IfOk result (λ p. port_plan p ≡ worker_asked (survey_seen survey.now)) }
+{
+    let links = all_queues(alloc, stage_rows(survey).len())?;
+    Ok(port_draft(survey, links))
+}
+
+/// Port 0, which is linked to nothing, and the workers' ports.
+fn port_drafts(alloc: Global, survey: &Survey, workers: usize) -> Result<Vec<PortDraft>, AllocError>
+    requires { length (rows (survey_seen survey.now).stages) ≤ MAX_QUEUES }
+    ensures { IfOk result (λ v. map port_plan v.items ≡ ports_asked workers (survey_seen survey.now)) }
+{
+    let mut drafts = Vec::new(alloc);
+    drafts.push(port_draft(survey, Vec::new(alloc)))?;
+    for _ in 0..workers {
+        drafts.push(worker_draft(alloc, survey)?)?;
+    }
+    Ok(drafts)
+}
+
+/// What a pipeline's rows ask for, with so many workers.
+#[tactic(auto, unfolding(crate::specs::Drafts::plan_asked))]
+pub fn draft_of(alloc: Global, survey: &Survey, workers: usize) -> Result<Draft, AllocError>
+    requires { length (rows (survey_seen survey.now).stages) ≤ MAX_QUEUES }
+    ensures { IfOk result (λ d. plans.plan_of d ≡ plan_asked workers (survey_seen survey.now)) }
+{
+    Ok(Draft {
+        limit: survey.limit.value_or(0),
+        quantum: survey.quantum.value_or(0),
+        sweep: survey.sweep.value_or(0),
+        serving: survey.serving.value_or(Serving::Ports),
+        queues: queue_drafts(alloc, stage_rows(survey))?,
+        ports: port_drafts(alloc, survey, workers)?,
+    })
+}
+
+/// The stages' actions.
+pub fn actions_of(alloc: Global, survey: &Survey) -> Result<Vec<Action>, AllocError>
+    ensures { IfOk result (λ v. v.items ≡ actions_asked (survey_seen survey.now)) }
+{
+    let mut actions = Vec::new(alloc);
+    for row in stage_rows(survey) {
+        actions.push(action_asked(row))?;
+    }
+    Ok(actions)
+}

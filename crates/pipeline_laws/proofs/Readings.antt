@@ -8,7 +8,7 @@ use Rattle.evt_types.specs.declared.step.Step.{Step}
 use Rattle.evt_types.specs.declared.step.Step.TheVariants.{Accept, Give, Done, Turned, Bounced, Shut}
 use Rattle.pipeline_laws.proofs.DueAnswers.{due_taken, strays}
 use Rattle.pipeline_laws.specs.Past.{Follows, HasPlace, HasSizes, IsDueAfter}
-use Rattle.pipeline_laws.specs.Worked.{AnswersAreDue}
+use Rattle.pipeline_laws.specs.Worked.{AnswersAreDue, IsLogOf}
 use Rattle.pipeline_laws.specs.declared.past.Past.{Past}
 use Rattle.pipeline_laws.specs.declared.stage.Action.{Action}
 use Rattle.transcripts.proofs.Facts.{AllowedAfter-at}
@@ -18,14 +18,14 @@ use Rattle.transcripts.specs.Allowed.{Allowed}
 use Rattle.transcripts.specs.Lawful.{Lawful}
 use Rattle.transcripts.specs.Transcript.{answers, out}
 
-pub record Reading (p : Plan) (actions : List Action) (T : List Step) (k : ℕ) (past : Past) : Type 0 where
-  pub sizes : HasSizes past (length p.queues) (lanes_of p)
+pub record Reading (queues lanes : ℕ) (actions : List Action) (T : List Step) (k : ℕ) (past : Past) : Type 0 where
+  pub sizes : HasSizes past queues lanes
   pub follows : Follows (take k T) past
   pub due : AnswersAreDue actions (take k T)
 
-pub reading_none : (p : Plan) (actions : List Action) (T : List Step) (past : Past) → HasSizes past (length p.queues) (lanes_of p) → Follows [] past → Reading p actions T 0 past
+pub reading_none : (queues lanes : ℕ) (actions : List Action) (T : List Step) (past : Past) → HasSizes past queues lanes → Follows [] past → Reading queues lanes actions T 0 past
 unfolding answers out
-reading_none p actions T past sizes follows = record { sizes = sizes; follows = follows; due = λ l. ([], refl) }
+reading_none queues lanes actions T past sizes follows = record { sizes = sizes; follows = follows; due = λ l. ([], refl) }
 
 -- what an allowed step names is there
 has_place : (p : Plan) (P : List Step) (past : Past) (s : Step) → HasSizes past (length p.queues) (lanes_of p) → Follows P past → Allowed p P s → HasPlace past s
@@ -48,28 +48,31 @@ has_place p P past Shut sizes follows a = tt
 allowed_at : (p : Plan) (T : List Step) (k : ℕ) (s : Step) → Lawful p T → k < length T → s ≡ get_or T k s → Allowed p (take k T) s
 allowed_at p T k s lawful lt is = subst (Allowed p (take k T)) (sym is) (AllowedAfter-at p [] T k s lt (steps-Lawful p T lawful).steps)
 
-pub reading_place : (p : Plan) (actions : List Action) (T : List Step) (k : ℕ) (past : Past) (s : Step) → Lawful p T → Reading p actions T k past → k < length T → s ≡ get_or T k s
-    → HasPlace past s
-reading_place p actions T k past s lawful r lt is = has_place p (take k T) past s r.sizes r.follows (allowed_at p T k s lawful lt is)
+pub reading_place : (queues lanes : ℕ) (actions : List Action) (T : List Step) (k : ℕ) (past : Past) (s : Step) → IsLogOf queues lanes T → Reading queues lanes actions T k past → k < length T
+    → s ≡ get_or T k s → HasPlace past s
+reading_place queues lanes actions T k past s log r lt is =
+    let sizes : HasSizes past (length log.plan.queues) (lanes_of log.plan) =
+    subst (HasSizes past (length log.plan.queues)) (sym log.lanes_are) (subst (λ n. HasSizes past n lanes) (sym log.queues_are) r.sizes) in
+    has_place log.plan (take k T) past s sizes r.follows (allowed_at log.plan T k s log.lawful lt is)
 
 -- one step more, which was due
-pub reading_more : (p : Plan) (actions : List Action) (T : List Step) (k : ℕ) (past new : Past) (s : Step) (b : Bool) → Lawful p T → Reading p actions T k past → k < length T
-    → s ≡ get_or T k s → HasSizes new (length p.queues) (lanes_of p) → Follows (take k T ++ s ∷ []) new → (b ≡ true) ↔ IsDueAfter actions (take k T) s → b ≡ true
-    → Reading p actions T (k + 1) new
-reading_more p actions T k past new s b lawful r lt is sizes follows tells is_due = record {
+pub reading_more : (queues lanes : ℕ) (actions : List Action) (T : List Step) (k : ℕ) (past new : Past) (s : Step) (b : Bool) → IsLogOf queues lanes T → Reading queues lanes actions T k past
+    → k < length T → s ≡ get_or T k s → HasSizes new queues lanes → Follows (take k T ++ s ∷ []) new → (b ≡ true) ↔ IsDueAfter actions (take k T) s → b ≡ true
+    → Reading queues lanes actions T (k + 1) new
+reading_more queues lanes actions T k past new s b log r lt is sizes follows tells is_due = record {
   sizes = sizes;
   follows = subst (λ P. Follows P new) (ap (λ t. take k T ++ t ∷ []) is ∙ sym (take_more T k s lt)) follows;
-  due = due_taken p actions T k s (steps-Lawful p T lawful).steps lt r.due (subst (IsDueAfter actions (take k T)) is (tells.0 is_due));
+  due = due_taken log.plan actions T k s (steps-Lawful log.plan T log.lawful).steps lt r.due (subst (IsDueAfter actions (take k T)) is (tells.0 is_due));
 }
 
 -- a step that wasn't due
-pub reading_strays : (p : Plan) (actions : List Action) (T : List Step) (k : ℕ) (s : Step) (b : Bool) → Lawful p T → k < length T → s ≡ get_or T k s
+pub reading_strays : (queues lanes : ℕ) (actions : List Action) (T : List Step) (k : ℕ) (s : Step) (b : Bool) → IsLogOf queues lanes T → k < length T → s ≡ get_or T k s
     → (b ≡ true) ↔ IsDueAfter actions (take k T) s → b ≡ false → (false ≡ true) ↔ AnswersAreDue actions T
-reading_strays p actions T k s b lawful lt is tells no' = (
+reading_strays queues lanes actions T k s b log lt is tells no' = (
   λ h. absurd (false≢true h),
-  λ h. sym no' ∙ tells.1 (subst (IsDueAfter actions (take k T)) (sym is) (strays p actions T k s (steps-Lawful p T lawful).steps lt h)),
+  λ h. sym no' ∙ tells.1 (subst (IsDueAfter actions (take k T)) (sym is) (strays log.plan actions T k s (steps-Lawful log.plan T log.lawful).steps lt h)),
 )
 
 -- all steps read
-pub reading_all : (p : Plan) (actions : List Action) (T : List Step) (k : ℕ) (past : Past) → Reading p actions T k past → length T ≤ k → (true ≡ true) ↔ AnswersAreDue actions T
-reading_all p actions T k past r past_end = (λ h. subst (AnswersAreDue actions) (take_all k T past_end) r.due, λ h. refl)
+pub reading_all : (queues lanes : ℕ) (actions : List Action) (T : List Step) (k : ℕ) (past : Past) → Reading queues lanes actions T k past → length T ≤ k → (true ≡ true) ↔ AnswersAreDue actions T
+reading_all queues lanes actions T k past r past_end = (λ h. subst (AnswersAreDue actions) (take_all k T past_end) r.due, λ h. refl)

@@ -3,7 +3,7 @@
 use Rattle.std.specs.Prelude.{ℕ, ◌≡◌, ◌+◌, ◌<◌, Bool, true, ◌&&◌, ◌||◌, ◌==◌, nat_lt, List, length, map, filter, filter_map, slice_index_or, Option, Some, None, if◌then◌else◌}
 use Rattle.std.proofs.Common.{lit<}
 use Rattle.evt_types.specs.Event.{forwarded_event}
-use Rattle.evt_types.specs.Plan.{Plan, queue_of, level_of, is_atomic, is_ordered}
+use Rattle.evt_types.specs.Plan.{Plan, lanes_of, queue_of, level_of, is_atomic, is_ordered}
 use Rattle.evt_types.specs.declared.event.Event.{Event}
 use Rattle.evt_types.specs.declared.event.Op.TheVariants as ops
 use Rattle.evt_types.specs.declared.step.Outcome.{Outcome}
@@ -15,7 +15,7 @@ use Rattle.pipeline_laws.specs.Pipeline.{acted}
 use Rattle.pipeline_laws.specs.declared.stage.Action.{Action}
 use Rattle.pipeline_laws.specs.declared.stage.Action.TheVariants.{Pass}
 use Rattle.pipeline_laws.specs.declared.stage.Entry.{Entry}
-use Rattle.transcripts.specs.Lawful.{IsPrefix}
+use Rattle.transcripts.specs.Lawful.{IsPrefix, Lawful}
 use Rattle.transcripts.specs.Replies.{new_count}
 use Rattle.transcripts.specs.Transcript.{accepted, answers, event_at, inside, out}
 
@@ -80,6 +80,15 @@ newcomers T = filter_map new_in T
 pub record IsWorked (actions : List Action) (trace : List Entry) (T : List Step) : Type 0 where
   pub answers : AnswersAreDue actions T
   pub newcomers : IsPrefix (newcomers T) (map new_event trace)
+
+-- ---- the log of a device
+
+-- a lawful transcript of a device with so many queues and lanes
+pub record IsLogOf (queues lanes : ℕ) (T : List Step) : Type 0 where
+  pub plan : Plan
+  pub queues_are : length plan.queues ≡ queues
+  pub lanes_are : lanes_of plan ≡ lanes
+  pub lawful : Lawful plan T
 
 -- ---- the pipeline, and its end
 

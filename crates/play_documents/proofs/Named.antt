@@ -12,7 +12,7 @@ use Rattle.play_documents.specs.Command.{Line}
 use Rattle.play_documents.specs.Document.{planned_of, IsNamed, IsNamedDoc, Gives, ◌>>=◌, parsed, table_or_fault, checked, plan_or_fault, commands_in, lines_or_fault, judged, document_of, unless_fault}
 use Rattle.play_documents.specs.Drafts.{plan_asked}
 use Rattle.play_documents.specs.Field.{value_or}
-use Rattle.play_documents.specs.Judge.{first_fault, has_unknown, has_missing, has_bad, is_unserved}
+use Rattle.play_documents.specs.Judge.{first_fault, has_unknown, has_missing, has_bad}
 use Rattle.play_documents.specs.Script.{script_of}
 use Rattle.play_documents.specs.Survey.{SurveySeen, survey_of}
 use Rattle.play_documents.specs.declared.document.Document.{Document}
@@ -68,17 +68,15 @@ checked_named p f e = plan_named (fault_of p) p f (refusal_named p) e
 
 -- ---- the rows and the script
 
-tests_named : (u m b s : Bool)
-    → IfSome (cond u (Some doc.UnknownKey) (cond m (Some doc.MissingKey) (cond b (Some doc.BadValue) (cond s (Some doc.BadValue) None)))) IsNamedDoc
-tests_named true m b s = tt
-tests_named false true b s = tt
-tests_named false false true s = tt
-tests_named false false false true = tt
-tests_named false false false false = tt
+tests_named : (u m b : Bool) → IfSome (cond u (Some doc.UnknownKey) (cond m (Some doc.MissingKey) (cond b (Some doc.BadValue) None))) IsNamedDoc
+tests_named true m b = tt
+tests_named false true b = tt
+tests_named false false true = tt
+tests_named false false false = tt
 
 first_named : (s : SurveySeen) → IfSome (first_fault s) IsNamedDoc
 unfolding first_fault
-first_named s = tests_named (has_unknown s) (has_missing s) (has_bad s) (is_unserved s)
+first_named s = tests_named (has_unknown s) (has_missing s) (has_bad s)
 
 pub rows_named : {A : Type 0} (o : Option DocFault) (rest : Result A DocFault) (f : DocFault) → IfSome o IsNamedDoc → (rest ≡ Err f → IsNamedDoc f)
     → unless_fault o rest ≡ Err f → IsNamedDoc f

@@ -1,4 +1,4 @@
--- What a document that has no fault says: it is served by its ports, and they are there.
+-- What a document that has no fault says: its commands speak of ports that are there.
 use Rattle.std.proofs.Common.{◌≡◌, ℕ, ◌+◌, ◌<◌, Bool, true, false, cond, eqb, nat_lt, List, [], ◌∷◌, length, map, codes, Option, Some, None, Result, Ok, Err, refl, sym, ap, subst, ◌∙◌, arith}
 use Rattle.std.specs.Prelude.{option_map, option_and_then, IfOk}
 use Rattle.std.specs.List.{slice_split, AllByRecursion}
@@ -7,7 +7,6 @@ use Rattle.std.proofs.lemmas.Bool.Decides.{nat_tests}
 use Rattle.std.proofs.lemmas.List.Elements.{All-from_recursion}
 use Rattle.evt_types.specs.Fault.{fault_of}
 use Rattle.evt_types.specs.Plan.{Plan}
-use Rattle.evt_types.specs.declared.draft.Serving.TheVariants.{Ports, Flows}
 use Rattle.evt_types.specs.declared.event.Op.{Op}
 use Rattle.evt_types.specs.declared.shape.ShapeFault.{ShapeFault}
 use Rattle.evt_types.specs.declared.shape.ShapeFault.TheVariants as shapes
@@ -15,7 +14,7 @@ use Rattle.play_documents.specs.Command.{Line, Enqueue, Dequeue, Sweep, Shut, li
 use Rattle.play_documents.specs.Document.{Planned, planned_of, document_of, Fails, Gives, ◌>>=◌, parsed, shape_fault, checked, plan_or_fault, commands_in, lines_or_fault, judged, unless_fault}
 use Rattle.play_documents.specs.Drafts.{plan_asked}
 use Rattle.play_documents.specs.Field.{value_or, is_text}
-use Rattle.play_documents.specs.Judge.{first_fault, has_unknown, has_missing, has_bad, is_unserved, is_by_flows}
+use Rattle.play_documents.specs.Judge.{first_fault}
 use Rattle.play_documents.specs.Script.{command_of, entry_op, line_command, event_line, release_line, dequeue_line, script_from, script_of, with_command}
 use Rattle.play_documents.specs.Survey.{SurveySeen, survey_of}
 use Rattle.play_documents.specs.Words.{number, port_number, below}
@@ -25,8 +24,6 @@ use Rattle.play_documents.specs.declared.document.Document.{Document}
 use Rattle.play_documents.specs.declared.fault.ReadFault.{ReadFault}
 use Rattle.play_documents.specs.declared.fault.DocFault.{DocFault}
 use Rattle.play_documents.specs.declared.fault.DocFault.TheVariants as doc
-use Rattle.play_documents.specs.declared.field.Field.{Field}
-use Rattle.play_documents.specs.declared.field.Field.TheVariants.{Absent, Bad, Good}
 
 -- ---- results that are good
 
@@ -43,28 +40,6 @@ bind_ok (Err d) f y e = absurd cc
 pub bind_some : {A B : Type 0} (f : A → Option B) (o : Option A) (y : B) → option_and_then f o ≡ Some y → (x : A) × (o ≡ Some x) × (f x ≡ Some y)
 bind_some f None y e = absurd cc
 bind_some f (Some x) y e = (x, refl, e)
-
--- ---- the rows' tests
-
-good_tests : (u m b s : Bool) → cond u (Some doc.UnknownKey) (cond m (Some doc.MissingKey) (cond b (Some doc.BadValue) (cond s (Some doc.BadValue) None))) ≡ None → s ≡ false
-good_tests true m b s e = absurd cc
-good_tests false true b s e = absurd cc
-good_tests false false true s e = absurd cc
-good_tests false false false true e = absurd cc
-good_tests false false false false e = refl
-
-served : (s : SurveySeen) → first_fault s ≡ None → is_unserved s ≡ false
-unfolding first_fault
-served s e = good_tests (has_unknown s) (has_missing s) (has_bad s) (is_unserved s) e
-
-ports_alone : (f : Field _) → is_by_flows f ≡ false → value_or Ports f ≡ Ports
-ports_alone Absent e = refl
-ports_alone Bad e = refl
-ports_alone (Good Ports) e = refl
-ports_alone (Good Flows) e = absurd cc
-
-pub by_ports : (s : SurveySeen) → first_fault s ≡ None → value_or Ports s.serving ≡ Ports
-by_ports s e = ports_alone s.serving (served s e)
 
 -- ---- the configuration
 
@@ -213,17 +188,13 @@ ports_there ports (commands.Shut ∷ cs) h = (tt, ports_there ports cs h.1)
 
 -- ---- a document
 
--- the commands' ports are there, and the device serves by its ports
+-- the commands' ports are there
 abbrev pub IsPlayable : Planned → Type 0
-IsPlayable x = AllByRecursion (IsGood (length x.plan.ports)) x.commands × (x.plan.serving ≡ Ports)
+IsPlayable x = AllByRecursion (IsGood (length x.plan.ports)) x.commands
 
 pub checked_is : (p : Plan) (f : Option ShapeFault) (s : Plan) → plan_or_fault p f ≡ Ok s → s ≡ p
 checked_is p None s e = cc
 checked_is p (Some f) s e = absurd cc
-
-asked_by_ports : (s : SurveySeen) (p : Plan) → first_fault s ≡ None → checked (plan_asked s) ≡ Ok p → p.serving ≡ Ports
-unfolding checked plan_asked
-asked_by_ports s p none is = ap (λ (q : Plan). q.serving) (checked_is (plan_asked s) (fault_of (plan_asked s)) p is) ∙ by_ports s none
 
 pub no_fault : {A : Type 0} (f : Option DocFault) (rest : Result A DocFault) (x : A) → unless_fault f rest ≡ Ok x → (f ≡ None) × (rest ≡ Ok x)
 no_fault None rest x e = (refl, e)
@@ -235,8 +206,7 @@ playable_rows s x e =
     let none = no_fault (first_fault s) _ x e in
     let a = bind_ok (checked (plan_asked s)) _ x none.1 in
     let b = bind_ok (commands_in (length a.0.ports) (value_or [] s.script)) _ x a.2 in
-    subst IsPlayable (ok_is (record { plan = a.0; commands = b.0 }) x b.2)
-    (good_script (length a.0.ports) (value_or [] s.script) b.0 b.1, asked_by_ports s a.0 none.0 a.1)
+    subst IsPlayable (ok_is (record { plan = a.0; commands = b.0 }) x b.2) (good_script (length a.0.ports) (value_or [] s.script) b.0 b.1)
 
 pub short_enough : {A : Type 0} (b : Bool) (rest : Result A DocFault) (x : A) → cond b (Err doc.TooLong) rest ≡ Ok x → rest ≡ Ok x
 short_enough true rest x e = absurd cc
@@ -250,10 +220,6 @@ playable bytes x e =
 
 pub gives-ports : (bytes : List ℕ) (r : Result Document ReadFault) → Gives planned_of r (document_of bytes) → IfOk r (λ d. AllPortsThere d.shape d.commands.items)
 gives-ports bytes (Ok d) e =
-    let lines = (playable bytes (planned_of d) e).0 in
+    let lines = playable bytes (planned_of d) e in
     All-from_recursion (IsPortThere (length d.shape.ports)) d.commands.items (ports_there (length d.shape.ports) d.commands.items lines)
 gives-ports bytes (Err f) e = tt
-
-pub gives-serving : (bytes : List ℕ) (r : Result Document ReadFault) → Gives planned_of r (document_of bytes) → IfOk r (λ d. d.shape.serving ≡ Ports)
-gives-serving bytes (Ok d) e = (playable bytes (planned_of d) e).1
-gives-serving bytes (Err f) e = tt

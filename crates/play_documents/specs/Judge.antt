@@ -1,8 +1,6 @@
 -- The faults that a document's rows show, in their order.
-use Rattle.std.specs.Prelude.{Bool, true, false, not, ◌||◌, Option, Some, None, if◌then◌else◌}
+use Rattle.std.specs.Prelude.{Bool, false, not, ◌||◌, Option, Some, None, if◌then◌else◌}
 use Rattle.std.specs.List.{list_any}
-use Rattle.evt_types.specs.declared.draft.Serving.{Serving}
-use Rattle.evt_types.specs.declared.draft.Serving.TheVariants.{Ports, Flows}
 use Rattle.evt_types.specs.declared.event.Kind.{Kind}
 use Rattle.evt_types.specs.declared.event.Kind.TheVariants.{Ordered, Atomic, Parallel}
 use Rattle.play_documents.specs.Field.{is_absent, is_bad, rows}
@@ -44,14 +42,7 @@ has_bad_queue q = is_bad q.kind || is_bad q.priority || is_bad q.slots || is_bad
 abbrev pub has_bad_port : PortSeen → Bool
 has_bad_port p = is_bad p.threshold || is_bad p.depth || is_bad p.replies || is_bad p.implicit || is_bad p.links
 
--- the device is to be served by flows
-abbrev pub is_by_flows : Field Serving → Bool
-is_by_flows (Good Flows) = true
-is_by_flows (Good Ports) = false
-is_by_flows Absent = false
-is_by_flows Bad = false
-
--- the four tests of a whole document
+-- the three tests of a whole document
 unfoldable pub has_unknown : SurveySeen → Bool
 has_unknown s = not s.known || list_any is_unknown_queue (rows s.queues) || list_any is_unknown_port (rows s.ports)
 
@@ -66,14 +57,9 @@ has_bad_top s = is_bad s.limit || is_bad s.quantum || is_bad s.sweep || is_bad s
 unfoldable pub has_bad : SurveySeen → Bool
 has_bad s = has_bad_top s || list_any has_bad_queue (rows s.queues) || list_any has_bad_port (rows s.ports)
 
--- the device serves by its ports alone
-abbrev pub is_unserved : SurveySeen → Bool
-is_unserved s = is_by_flows s.serving
-
 -- the first fault: each is looked for in the whole document before the next
 unfoldable pub first_fault : SurveySeen → Option DocFault
 first_fault s =
     if has_unknown s then Some UnknownKey
     else (if has_missing s then Some MissingKey
-    else (if has_bad s then Some BadValue
-    else (if is_unserved s then Some BadValue else None)))
+    else (if has_bad s then Some BadValue else None))

@@ -7,7 +7,6 @@ ghost use Rattle.play_documents.specs.Document.{Gives, IsNamed, parsed, shape_fa
 ghost use Rattle.play_documents.specs.Drafts.{plan_asked};
 ghost use Rattle.play_documents.specs.Field.{value_or};
 ghost use Rattle.play_documents.specs.Survey.{survey_seen};
-ghost use Rattle.evt_types.specs.declared.draft.Serving.TheVariants.{Ports};
 
 use crate::command::Command;
 use crate::drafts::draft_of;
@@ -133,12 +132,11 @@ fn planned(alloc: Global, bytes: &[u8]) -> Result<Document, ReadFault>
     judged(alloc, &survey)
 }
 
-/// Reads a document: its configuration, which is served by its ports, and its script's commands, or its first fault.
+/// Reads a document: its configuration and its script's commands, or its first fault.
 pub fn read_document(alloc: Global, bytes: &[u8]) -> Result<Document, ReadFault>
     ensures read { Gives planned_of result (document_of bytes.now) }
     ensures named { IfErr result IsNamed }
     ensures ports { IfOk result (λ d. AllPortsThere d.shape d.commands.items) }
-    ensures serving { IfOk result (λ d. d.shape.serving ≡ Ports) }
 {
     planned(alloc, bytes)
 }

@@ -2,14 +2,14 @@
 
 ghost use Rattle.std.specs.Prelude.{◌≡◌, map};
 ghost use Rattle.std.specs.List.{list_any};
-ghost use Rattle.play_documents.specs.Judge.{is_unknown_queue, is_unknown_port, lacks_slots, misses_queue, misses_port, has_bad_queue, has_bad_port, has_unknown, has_missing, has_bad_top, has_bad, is_unserved, first_fault};
+ghost use Rattle.play_documents.specs.Judge.{is_unknown_queue, is_unknown_port, lacks_slots, misses_queue, misses_port, has_bad_queue, has_bad_port, has_unknown, has_missing, has_bad_top, has_bad, first_fault};
 ghost use Rattle.play_documents.specs.Survey.{port_seen, ports_seen, survey_seen};
 ghost use Rattle.play_documents.specs.Field.{field_map, rows};
 
 use crate::fault::DocFault;
 use crate::field::Field;
 use crate::survey::{PortRow, QueueRow, Survey};
-use evt_types::{Kind, Serving};
+use evt_types::Kind;
 
 /// The queues' rows. Of a field that is no array of tables nothing is looked at.
 pub fn queue_rows<'a>(survey: &'a Survey) -> &'a [QueueRow]
@@ -158,13 +158,6 @@ fn has_bad(survey: &Survey) -> bool
     has_bad_top(survey) || any_bad_queue(queue_rows(survey)) || any_bad_port(port_rows(survey))
 }
 
-/// Whether the device doesn't serve it: it serves by its ports alone.
-fn is_unserved(survey: &Survey) -> bool
-    ensures { result ≡ is_unserved (survey_seen survey.now) }
-{
-    matches!(survey.serving, Field::Good(Serving::Flows))
-}
-
 /// The first fault. Each is looked for in the whole document before the next.
 #[tactic(auto, unfolding(crate::specs::Judge::first_fault))]
 pub fn first_fault(survey: &Survey) -> Option<DocFault>
@@ -175,8 +168,6 @@ pub fn first_fault(survey: &Survey) -> Option<DocFault>
     } else if has_missing(survey) {
         Some(DocFault::MissingKey)
     } else if has_bad(survey) {
-        Some(DocFault::BadValue)
-    } else if is_unserved(survey) {
         Some(DocFault::BadValue)
     } else {
         None

@@ -13,26 +13,25 @@ use Rattle.play_documents.specs.declared.fault.DocFault.TheVariants as doc
 use Rattle.play_documents.specs.declared.fault.ReadFault.{ReadFault}
 use Rattle.play_documents.specs.declared.fault.ReadFault.TheVariants as reads
 use Rattle.run_documents.specs.Drafts.{plan_asked}
-use Rattle.run_documents.specs.Judge.{first_fault, has_bad, has_last_action, has_missing, has_parallel_inside, has_unknown, is_unserved}
+use Rattle.run_documents.specs.Judge.{first_fault, has_bad, has_last_action, has_missing, has_parallel_inside, has_unknown}
 use Rattle.run_documents.specs.Pipelines.{is_tight, judged, loose, pipeline_of, planned_of, trace_in}
 use Rattle.run_documents.specs.Survey.{SurveySeen, survey_of}
 use Rattle.run_documents.specs.Trace.{line_entry, trace_from, trace_of, with_entry}
 use Rattle.run_documents.specs.declared.pipeline.Pipeline.{Pipeline}
 
-tests_named : (u m b s p l : Bool) → IfSome (cond u (Some doc.UnknownKey) (cond m (Some doc.MissingKey) (cond b (Some doc.BadValue) (cond s (Some doc.BadValue)
-    (cond p (Some doc.ParallelInside) (cond l (Some doc.LastAction) None)))))) IsNamedDoc
-tests_named true m b s p l = tt
-tests_named false true b s p l = tt
-tests_named false false true s p l = tt
-tests_named false false false true p l = tt
-tests_named false false false false true l = tt
-tests_named false false false false false true = tt
-tests_named false false false false false false = tt
+tests_named : (u m b p l : Bool) → IfSome (cond u (Some doc.UnknownKey) (cond m (Some doc.MissingKey) (cond b (Some doc.BadValue)
+    (cond p (Some doc.ParallelInside) (cond l (Some doc.LastAction) None))))) IsNamedDoc
+tests_named true m b p l = tt
+tests_named false true b p l = tt
+tests_named false false true p l = tt
+tests_named false false false true l = tt
+tests_named false false false false true = tt
+tests_named false false false false false = tt
 
 first_named : (s : SurveySeen) → IfSome (first_fault s) IsNamedDoc
 unfolding first_fault
 first_named s =
-    tests_named (has_unknown s) (has_missing s) (has_bad s) (is_unserved s) (has_parallel_inside (rows s.stages)) (has_last_action (rows s.stages))
+    tests_named (has_unknown s) (has_missing s) (has_bad s) (has_parallel_inside (rows s.stages)) (has_last_action (rows s.stages))
 
 tight_named : (b : Bool) (p : Plan) (f : DocFault) → cond b (Err doc.LimitTight) (Ok p) ≡ Err f → IsNamedDoc f
 tight_named true p f e = subst IsNamedDoc (err_doc doc.LimitTight f e) tt

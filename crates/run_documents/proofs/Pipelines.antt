@@ -1,37 +1,31 @@
 -- What holds of a pipeline that was read.
-use Rattle.std.proofs.Common.{◌≡◌, ℕ, ◌+◌, ◌*◌, ◌≤◌, false, List, length, Result, Ok, Err, sym, ap, subst, ◌∙◌}
+use Rattle.std.proofs.Common.{◌≡◌, ℕ, ◌+◌, ◌*◌, ◌≤◌, false, List, length, Result, Ok, Err, sym, subst}
 use Rattle.std.specs.Prelude.{All, IfOk}
 use Rattle.std.proofs.lemmas.Bool.{ltb-false}
 use Rattle.evt_types.proofs.Limits.{within}
 use Rattle.evt_types.specs.Fault.{IsWithinLimits}
 use Rattle.evt_types.specs.Plan.{Plan}
-use Rattle.evt_types.specs.declared.draft.Serving.TheVariants.{Ports}
 use Rattle.evt_types.specs.declared.shape.TheConstants.{MAX_QUEUES}
 use Rattle.pipeline_laws.specs.Pipeline.{IsProper}
 use Rattle.pipeline_laws.specs.Worked.{IsStaged}
 use Rattle.pipeline_laws.specs.declared.stage.Action.{Action}
 use Rattle.play_documents.specs.Document.{Gives}
 use Rattle.play_documents.specs.declared.fault.ReadFault.{ReadFault}
-use Rattle.run_documents.proofs.Readings.{IsReading, reading}
-use Rattle.run_documents.proofs.Stages.{by_ports, proper, staged}
+use Rattle.run_documents.proofs.Readings.{reading}
+use Rattle.run_documents.proofs.Stages.{proper, staged}
 use Rattle.run_documents.proofs.Workers.{asked}
-use Rattle.run_documents.specs.Drafts.{actions_asked, plan_asked}
+use Rattle.run_documents.specs.Drafts.{actions_asked}
 use Rattle.run_documents.specs.Pipelines.{HasWorkers, Planned, is_tight, pipeline_of, planned_of}
-use Rattle.run_documents.specs.Survey.{SurveySeen, survey_of}
+use Rattle.run_documents.specs.Survey.{survey_of}
 use Rattle.run_documents.specs.declared.pipeline.Pipeline.{Pipeline}
 
--- the premises of the law of pipelines, and the device that serves it
+-- the premises of the law of pipelines
 pub record IsReady (workers : ℕ) (x : Planned) : Type 0 where
   pub staged : IsStaged x.plan x.actions
   pub proper : All IsProper x.actions
   pub some : (1 ≤ length x.actions) × (length x.actions ≤ MAX_QUEUES)
   pub ports : HasWorkers workers x.plan
-  pub serving : x.plan.serving ≡ Ports
   pub room : 2 * x.plan.quantum * (workers + 1) ≤ x.plan.limit
-
-as_served : (workers : ℕ) (s : SurveySeen) (x : Planned) → IsReading workers s x → x.plan.serving ≡ Ports
-unfolding plan_asked
-as_served workers s x h = ap (λ (p : Plan). p.serving) h.plan ∙ by_ports s h.none
 
 has_room : (workers : ℕ) (p : Plan) → is_tight workers p ≡ false → 2 * p.quantum * (workers + 1) ≤ p.limit
 unfolding is_tight
@@ -52,7 +46,6 @@ ready workers bytes x e =
       proper = subst (All IsProper) (sym h.actions) (proper read.0);
       some = as_many x is_staged (within x.plan h.accepted);
       ports = subst (HasWorkers workers) (sym h.plan) (asked workers s);
-      serving = as_served workers s x h;
       room = has_room workers x.plan h.roomy;
     }
 

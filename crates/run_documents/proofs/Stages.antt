@@ -7,8 +7,6 @@ use Rattle.std.proofs.lemmas.List.{get_or-map, get_or-take, length-map, length-t
 use Rattle.std.proofs.lemmas.List.Elements.{All-from_recursion}
 use Rattle.std.proofs.lemmas.List.Folds.{list_any_at}
 use Rattle.evt_types.specs.Plan.{is_atomic, is_ordered, queue_of}
-use Rattle.evt_types.specs.declared.draft.Serving.{Serving}
-use Rattle.evt_types.specs.declared.draft.Serving.TheVariants.{Ports, Flows}
 use Rattle.evt_types.specs.declared.event.Kind.{Kind}
 use Rattle.evt_types.specs.declared.event.Kind.TheVariants.{Ordered, Atomic, Parallel}
 use Rattle.pipeline_laws.specs.Pipeline.{IsProper}
@@ -16,7 +14,6 @@ use Rattle.pipeline_laws.specs.Worked.{IsStaged}
 use Rattle.pipeline_laws.specs.declared.stage.Action.{Action}
 use Rattle.pipeline_laws.specs.declared.stage.Action.TheVariants.{Pass, Add, DropMultiples}
 use Rattle.play_documents.specs.Field.{field_map, good_or_bad, is_text, rows, text_at, tables_at, value_or}
-use Rattle.play_documents.specs.Judge.{is_by_flows}
 use Rattle.play_documents.specs.Survey.{by_name}
 use Rattle.play_documents.specs.Words.{number}
 use Rattle.play_documents.specs.declared.fault.DocFault.TheVariants as doc
@@ -24,35 +21,25 @@ use Rattle.play_documents.specs.declared.field.Field.{Field}
 use Rattle.play_documents.specs.declared.field.Field.TheVariants.{Absent, Bad, Good}
 use Rattle.run_documents.specs.Actions.{action_in, action_named, action_of, adds, drop_by, drops}
 use Rattle.run_documents.specs.Drafts.{actions_asked, plan_asked, stage_asked}
-use Rattle.run_documents.specs.Judge.{action_asked, first_fault, has_bad, has_last_action, has_missing, has_parallel_inside, has_unknown, is_parallel, is_parallel_kind, is_unserved}
+use Rattle.run_documents.specs.Judge.{action_asked, first_fault, has_bad, has_last_action, has_missing, has_parallel_inside, has_unknown, is_parallel, is_parallel_kind}
 use Rattle.run_documents.specs.Survey.{SurveySeen, stage_row, survey_of}
 use Rattle.run_documents.specs.declared.survey.StageRow.{StageRow}
 use Rattle.toml.specs.Data.{Members}
 
 -- ---- the rows' tests
 
-good_tests : (u m b s p l : Bool) → cond u (Some doc.UnknownKey) (cond m (Some doc.MissingKey) (cond b (Some doc.BadValue) (cond s (Some doc.BadValue)
-    (cond p (Some doc.ParallelInside) (cond l (Some doc.LastAction) None))))) ≡ None → (s ≡ false) × (p ≡ false)
-good_tests true m b s p l e = absurd cc
-good_tests false true b s p l e = absurd cc
-good_tests false false true s p l e = absurd cc
-good_tests false false false true p l e = absurd cc
-good_tests false false false false true l e = absurd cc
-good_tests false false false false false true e = absurd cc
-good_tests false false false false false false e = (refl, refl)
+good_tests : (u m b p l : Bool) → cond u (Some doc.UnknownKey) (cond m (Some doc.MissingKey) (cond b (Some doc.BadValue)
+    (cond p (Some doc.ParallelInside) (cond l (Some doc.LastAction) None)))) ≡ None → p ≡ false
+good_tests true m b p l e = absurd cc
+good_tests false true b p l e = absurd cc
+good_tests false false true p l e = absurd cc
+good_tests false false false true l e = absurd cc
+good_tests false false false false true e = absurd cc
+good_tests false false false false false e = refl
 
-good_rows : (s : SurveySeen) → first_fault s ≡ None → (is_unserved s ≡ false) × (has_parallel_inside (rows s.stages) ≡ false)
+good_rows : (s : SurveySeen) → first_fault s ≡ None → has_parallel_inside (rows s.stages) ≡ false
 unfolding first_fault
-good_rows s e = good_tests (has_unknown s) (has_missing s) (has_bad s) (is_unserved s) (has_parallel_inside (rows s.stages)) (has_last_action (rows s.stages)) e
-
-ports_alone : (f : Field Serving) → is_by_flows f ≡ false → value_or Ports f ≡ Ports
-ports_alone Absent e = refl
-ports_alone Bad e = refl
-ports_alone (Good Ports) e = refl
-ports_alone (Good Flows) e = absurd cc
-
-pub by_ports : (s : SurveySeen) → first_fault s ≡ None → value_or Ports s.serving ≡ Ports
-by_ports s e = ports_alone s.serving (good_rows s e).0
+good_rows s e = good_tests (has_unknown s) (has_missing s) (has_bad s) (has_parallel_inside (rows s.stages)) (has_last_action (rows s.stages)) e
 
 -- ---- kinds
 
@@ -84,7 +71,7 @@ staged workers s none =
       kinds = λ k lt. let short : k + 1 < length stages = rw (← length-map stages action_asked) lt in
           let d = first_of_some stages (omega arith) in
           let at : queue_of (plan_asked workers s) k ≡ stage_asked (slice_index_or stages k d) = get_or-map stage_asked stages k d _ (omega arith) in
-          rw at (kind_keeps (slice_index_or stages k d).queue.kind (inside_at stages k d (good_rows s none).1 short));
+          rw at (kind_keeps (slice_index_or stages k d).queue.kind (inside_at stages k d (good_rows s none) short));
     }
 
 -- ---- actions

@@ -6,7 +6,7 @@ use Rattle.evt_types.specs.declared.event.Kind.TheVariants.{Ordered, Atomic, Par
 use Rattle.pipeline_laws.specs.declared.stage.Action.{Action}
 use Rattle.pipeline_laws.specs.declared.stage.Action.TheVariants.{Pass, Add, DropMultiples}
 use Rattle.play_documents.specs.Field.{is_absent, is_bad, rows, value_or}
-use Rattle.play_documents.specs.Judge.{has_bad_queue, is_by_flows, misses_queue}
+use Rattle.play_documents.specs.Judge.{has_bad_queue, misses_queue}
 use Rattle.play_documents.specs.declared.fault.DocFault.{DocFault}
 use Rattle.play_documents.specs.declared.fault.DocFault.TheVariants.{UnknownKey, MissingKey, BadValue, ParallelInside, LastAction}
 use Rattle.play_documents.specs.declared.field.Field.{Field}
@@ -41,10 +41,6 @@ has_bad_top s =
 
 unfoldable pub has_bad : SurveySeen → Bool
 has_bad s = has_bad_top s || list_any has_bad_stage (rows s.stages)
-
--- the device serves by its ports alone
-abbrev pub is_unserved : SurveySeen → Bool
-is_unserved s = is_by_flows s.serving
 
 -- a stage but the last is parallel
 abbrev pub is_parallel_kind : Field Kind → Bool
@@ -83,6 +79,5 @@ first_fault s =
     if has_unknown s then Some UnknownKey
     else (if has_missing s then Some MissingKey
     else (if has_bad s then Some BadValue
-    else (if is_unserved s then Some BadValue
     else (if has_parallel_inside (rows s.stages) then Some ParallelInside
-    else (if has_last_action (rows s.stages) then Some LastAction else None)))))
+    else (if has_last_action (rows s.stages) then Some LastAction else None))))

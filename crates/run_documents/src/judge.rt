@@ -3,11 +3,11 @@
 ghost use Rattle.std.specs.Prelude.{◌≡◌};
 ghost use Rattle.std.specs.List.{list_any};
 ghost use Rattle.play_documents.specs.Field.{rows};
-ghost use Rattle.run_documents.specs.Judge.{action_asked, first_fault, has_bad, has_bad_stage, has_bad_top, has_last_action, has_missing, has_parallel_inside, has_unknown, is_parallel, is_pass, is_unknown_stage, is_unserved, misses_stage};
+ghost use Rattle.run_documents.specs.Judge.{action_asked, first_fault, has_bad, has_bad_stage, has_bad_top, has_last_action, has_missing, has_parallel_inside, has_unknown, is_parallel, is_pass, is_unknown_stage, misses_stage};
 ghost use Rattle.run_documents.specs.Survey.{survey_seen};
 
 use crate::survey::{StageRow, Survey};
-use evt_types::{Kind, Serving};
+use evt_types::Kind;
 use pipeline_laws::Action;
 use play_documents::field::Field;
 use play_documents::{DocFault, has_bad_queue, misses_queue};
@@ -109,13 +109,6 @@ fn has_bad(survey: &Survey) -> bool
     has_bad_top(survey) || any_bad_stage(stage_rows(survey))
 }
 
-/// Whether the device doesn't serve it: it serves by its ports alone.
-fn is_unserved(survey: &Survey) -> bool
-    ensures { result ≡ is_unserved (survey_seen survey.now) }
-{
-    matches!(survey.serving, Field::Good(Serving::Flows))
-}
-
 /// Whether a stage but the last is parallel.
 #[tactic(auto, unfolding(crate::specs::Judge::has_parallel_inside))]
 fn has_parallel_inside(stages: &[StageRow]) -> bool
@@ -159,8 +152,6 @@ pub fn first_fault(survey: &Survey) -> Option<DocFault>
     } else if has_missing(survey) {
         Some(DocFault::MissingKey)
     } else if has_bad(survey) {
-        Some(DocFault::BadValue)
-    } else if is_unserved(survey) {
         Some(DocFault::BadValue)
     } else if has_parallel_inside(stage_rows(survey)) {
         Some(DocFault::ParallelInside)

@@ -1,7 +1,6 @@
 //! The reading of a pipeline's document.
 
 ghost use Rattle.std.specs.Prelude.{◌≡◌, ◌≤◌, ◌<◌, ◌+◌, ◌*◌, [], length, All, IfOk, IfErr, OnOk};
-ghost use Rattle.evt_types.specs.declared.draft.Serving.TheVariants.{Ports};
 ghost use Rattle.pipeline_laws.specs.Pipeline.{IsProper};
 ghost use Rattle.pipeline_laws.specs.Worked.{IsStaged};
 ghost use Rattle.play_documents.specs.Document.{Gives, IsNamed, checked};
@@ -126,7 +125,6 @@ pub fn read_pipeline(alloc: Global, bytes: &[u8], workers: usize) -> Result<Pipe
     ensures proper { IfOk result (λ p. All IsProper p.actions.items) }
     ensures some { IfOk result (λ p. (1 ≤ length p.actions.items) × (length p.actions.items ≤ MAX_QUEUES)) }
     ensures workers { IfOk result (λ p. HasWorkers workers p.shape) }
-    ensures serving { IfOk result (λ p. p.shape.serving ≡ Ports) }
     ensures room { IfOk result (λ p. 2 * p.shape.quantum * (workers + 1) ≤ p.shape.limit) }
 {
     planned(alloc, bytes, workers)

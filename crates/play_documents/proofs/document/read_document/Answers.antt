@@ -1,5 +1,5 @@
 use Rattle.play_documents.proofs.Named.{gives-named}
-use Rattle.play_documents.proofs.Plays.{gives-ports, gives-serving}
+use Rattle.play_documents.proofs.Plays.{gives-ports}
 use Rattle.play_documents.proofs.document.read_document.Goals as goal
 
 pub returns-clause-read : goal.returns-clause-read
@@ -10,6 +10,3 @@ returns-clause-named c = gives-named c.args.bytes.now c.planned.result c.planned
 
 pub returns-clause-ports : goal.returns-clause-ports
 returns-clause-ports c = gives-ports c.args.bytes.now c.planned.result c.planned.ensures
-
-pub returns-clause-serving : goal.returns-clause-serving
-returns-clause-serving c = gives-serving c.args.bytes.now c.planned.result c.planned.ensures

@@ -1,4 +1,4 @@
-use Rattle.evt_types.specs.Plan.{Plan, plan_of}
+use Rattle.evt_types.specs.Plan.{plan_of}
 use Rattle.play_documents.specs.Drafts.{plan_asked}
 use Rattle.play_documents.specs.Survey.{survey_seen}
 use Rattle.play_documents.proofs.Plays.{checked-Ok, shape-Fails}

@@ -27,11 +27,6 @@ returns-clause-workers c =
     IfOk-weaker c.planned.result (λ p. IsReady c.args.workers (planned_of p)) _ (λ p h. h.ports)
     (gives-ready c.args.workers c.args.bytes.now c.planned.result c.planned.ensures)
 
-pub returns-clause-serving : goal.returns-clause-serving
-returns-clause-serving c =
-    IfOk-weaker c.planned.result (λ p. IsReady c.args.workers (planned_of p)) _ (λ p h. h.serving)
-    (gives-ready c.args.workers c.args.bytes.now c.planned.result c.planned.ensures)
-
 pub returns-clause-room : goal.returns-clause-room
 returns-clause-room c =
     IfOk-weaker c.planned.result (λ p. IsReady c.args.workers (planned_of p)) _ (λ p h. h.room)

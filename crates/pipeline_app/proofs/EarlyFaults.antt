@@ -8,7 +8,7 @@ use Rattle.play_documents.specs.declared.fault.ReadFault.TheVariants as reads
 use Rattle.pipeline_app.specs.Play.{IsEarlyFault}
 use Rattle.play_command.specs.Fault.{app_fault}
 use Rattle.play_command.specs.declared.fault.AppFault.{AppFault}
-use Rattle.play_command.specs.declared.fault.AppFault.TheVariants.{Read, Write, Document, Memory, NoSeat}
+use Rattle.play_command.specs.declared.fault.AppFault.TheVariants.{Read, Write, Document, Memory, NoSeat, Strayed}
 use Rattle.play_documents.specs.declared.fault.DocFault.{DocFault}
 use Rattle.play_documents.specs.declared.fault.DocFault.TheVariants.{TooLong}
 use Rattle.play_documents.specs.declared.document.TheConstants.{MAX_INPUT}
@@ -27,6 +27,7 @@ IsEarlyFault-input None (Document f) h = (long_named f h.0, tt)
 IsEarlyFault-input (Some input) (Document f) h = (long_named f h.0, too_long input h.1 ∙ ap Err (sym h.0))
 IsEarlyFault-input known Memory h = tt
 IsEarlyFault-input known NoSeat h = tt
+IsEarlyFault-input known Strayed h = absurd h
 
 pub IsEarlyFault-document : (bytes : List ℕ) (e : ReadFault) → Fails e (document_of bytes) → IsNamed e → IsEarlyFault (Some bytes) (app_fault e)
 IsEarlyFault-document bytes (reads.Document f) h named = (named, h)

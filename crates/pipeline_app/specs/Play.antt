@@ -53,6 +53,7 @@ AfterFault known old new app.Read = Keeps old new
 AfterFault known old new (app.Document f) = Keeps old new
 AfterFault known old new app.Memory = Keeps old new
 AfterFault known old new app.NoSeat = Keeps old new
+AfterFault known old new app.Strayed = Keeps old new
 
 -- which faults come before the first byte is written: a document's where it is its first
 abbrev pub IsEarlyFault : Option (List ℕ) → AppFault → Type 0
@@ -61,6 +62,7 @@ IsEarlyFault known app.Read = Unit {0}
 IsEarlyFault known (app.Document f) = IsNamedDoc f × IfSome known (λ input. document_of input ≡ Err f)
 IsEarlyFault known app.Memory = Unit {0}
 IsEarlyFault known app.NoSeat = Unit {0}
+IsEarlyFault known app.Strayed = ⊥
 
 -- which faults a play ends with: a document's where it is its first
 abbrev pub IsFaultOf : Option (List ℕ) → AppFault → Type 0
@@ -69,3 +71,4 @@ IsFaultOf known app.Read = Unit {0}
 IsFaultOf known (app.Document f) = IsNamedDoc f × IfSome known (λ input. document_of input ≡ Err f)
 IsFaultOf known app.Memory = Unit {0}
 IsFaultOf known app.NoSeat = Unit {0}
+IsFaultOf known app.Strayed = ⊥

@@ -3,7 +3,7 @@ use Rattle.std.specs.Prelude.{ℕ, List, [], ◌++◌, codes, decimal, Option, S
 use Rattle.evt_types.specs.declared.shape.ShapeFault.{ShapeFault}
 use Rattle.evt_types.specs.declared.shape.ShapeFault.TheVariants as shapes
 use Rattle.play_command.specs.declared.fault.AppFault.{AppFault}
-use Rattle.play_command.specs.declared.fault.AppFault.TheVariants.{Read, Write, Document, Memory, NoSeat}
+use Rattle.play_command.specs.declared.fault.AppFault.TheVariants.{Read, Write, Document, Memory, NoSeat, Strayed}
 use Rattle.play_documents.specs.declared.fault.DocFault.{DocFault}
 use Rattle.play_documents.specs.declared.fault.DocFault.TheVariants.{TooLong, NotToml, UnknownKey, MissingKey, BadValue, ParallelInside, LastAction, Shape, LimitTight, BadCommand, BadTrace}
 
@@ -72,6 +72,7 @@ status_of Write = 3
 status_of (Document f) = named_status (doc_fault_name f)
 status_of Memory = 5
 status_of NoSeat = 5
+status_of Strayed = 6
 
 -- the line, without its line end
 abbrev pub line_of_fault : AppFault → List ℕ
@@ -80,3 +81,4 @@ line_of_fault Write = codes "evsched: write failed"
 line_of_fault (Document f) = named_line (doc_fault_name f) (line_number f)
 line_of_fault Memory = no_memory
 line_of_fault NoSeat = no_memory
+line_of_fault Strayed = codes "evsched: a worker strayed"

@@ -1,11 +1,11 @@
 //! The reading of a command line.
 
-ghost use Rattle.std.specs.Prelude.{◌≡◌, ◌⊎◌, IfErr, OnOk, Err};
-ghost use Rattle.play_command.specs.CommandLine.{IsStatus};
+ghost use Rattle.std.specs.Prelude.{◌≡◌, ◌⊎◌, ◌≤◌, IfOk, IfErr, OnOk, Err};
+ghost use Rattle.play_command.specs.CommandLine.{HasFewWorkers, IsStatus};
 
 use crate::options::Choice;
 use clap::error::ErrorKind;
-use clap::{Command, Error};
+use clap::{Arg, ArgMatches, Command, Error, value_parser};
 use std::alloc::{AllocError, Global};
 
 /// The status after help, and after words that are refused.
@@ -15,16 +15,74 @@ const REFUSED: u8 = 2;
 /// The status after an allocation that was refused.
 const NO_MEMORY: u8 = 5;
 
+/// The subcommand that runs a pipeline.
+const RUN: &str = "run";
+
+/// Its option, which says how many workers serve the stages.
+const WORKERS: &str = "workers";
+
+/// The fewest and the most workers that a run may have.
+const MIN_WORKERS: u32 = 1;
+
+const MAX_WORKERS: u32 = 8;
+
+/// How many a run has where the words don't say.
+const DEFAULT_WORKERS: &str = "2";
+
+/// The subcommand that plays a script.
+fn play_command<'a>(alloc: Global) -> Command<'a> {
+    Command::new(alloc, "play").about(
+        "Plays the script of a document, read from standard input, and prints what happened",
+    )
+}
+
+/// The subcommand that runs a pipeline.
+fn run_command<'a>(alloc: Global) -> Result<Command<'a>, AllocError> {
+    let range = i64::from(MIN_WORKERS)..=i64::from(MAX_WORKERS);
+    let workers = Arg::new(alloc, WORKERS)
+        .long(WORKERS)
+        .value_name("N")
+        .help("The number of worker threads, from 1 to 8")
+        .value_parser(value_parser!(u32).range(range))
+        .default_value(DEFAULT_WORKERS);
+    Command::new(alloc, RUN)
+        .about(
+            "Runs the trace of a document, read from standard input, through its stages by worker threads, and prints what each stage accepted",
+        )
+        .arg(workers)
+}
+
 /// The program's command line.
 fn command<'a>(alloc: Global) -> Result<Command<'a>, AllocError> {
-    let play = Command::new(alloc, "play").about(
-        "Plays the script of a document, read from standard input, and prints what happened",
-    );
     Command::new(alloc, "evsched")
         .about("An event device with a software scheduler")
         .no_binary_name(true)
         .subcommand_required(true)
-        .subcommand(play)
+        .subcommand(play_command(alloc))?
+        .subcommand(run_command(alloc)?)
+}
+
+/// The number of workers of a run. clap has refused any other; the bounds stand here too, so that what is promised doesn't rest on
+/// a parser.
+fn workers(options: &ArgMatches) -> u32
+    ensures { (MIN_WORKERS ≤ result) × (result ≤ MAX_WORKERS) }
+{
+    options
+        .get_one(WORKERS)
+        .unwrap_or(MIN_WORKERS)
+        .clamp(MIN_WORKERS, MAX_WORKERS)
+}
+
+/// What the words ask for that clap has accepted.
+fn chosen(words: &ArgMatches) -> Choice
+    ensures workers { HasFewWorkers result }
+{
+    match words.subcommand_matches(RUN) {
+        Some(options) => Choice::Run {
+            workers: workers(options),
+        },
+        None => Choice::Play,
+    }
 }
 
 /// Puts what clap prints into `text`, and gives the status.
@@ -46,6 +104,7 @@ fn refused(alloc: Global, error: &Error, text: &mut String) -> u8
 /// the text to print in `text`, and 5 where memory ran out.
 pub fn choice(alloc: Global, words: &[&str], text: &mut String) -> Result<Choice, u8>
     ensures ok { OnOk result (text.new ≡ text.old) }
+    ensures workers { IfOk result HasFewWorkers }
     ensures status { IfErr result IsStatus }
     ensures memory { result ≡ Err NO_MEMORY → text.new ≡ text.old }
 {
@@ -53,7 +112,7 @@ pub fn choice(alloc: Global, words: &[&str], text: &mut String) -> Result<Choice
         return Err(NO_MEMORY);
     };
     match command.try_get_matches_from(words) {
-        Ok(_) => Ok(Choice::Play),
+        Ok(matches) => Ok(chosen(&matches)),
         Err(error) => Err(refused(alloc, &error, text)),
     }
 }

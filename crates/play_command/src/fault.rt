@@ -20,6 +20,8 @@ pub enum AppFault {
     Memory,
     /// The device couldn't be shared out to its ports.
     NoSeat,
+    /// A worker answered an event otherwise than its stage's action.
+    Strayed,
 }
 
 impl From<AllocError> for AppFault {

@@ -5,4 +5,6 @@
 pub enum Choice {
     /// To play the script of a document that is read from standard input.
     Play,
+    /// To run the pipeline of a document that is read from standard input, with so many workers, from 1 to 8.
+    Run { workers: u32 },
 }

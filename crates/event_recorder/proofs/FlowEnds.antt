@@ -1,9 +1,11 @@
 -- What the flow lanes' ends have at stop: the ports' stints, no NEW, and all that the ports answered to them and held of them.
-use Rattle.std.proofs.Common.{◌≡◌, ℕ, ◌+◌, ◌-◌, ◌<◌, ◌≤◌, Bool, List, [], ◌++◌, length, map, get_or, All, sym, ap, subst, ◌∙◌, arith}
+use Rattle.std.proofs.Common.{◌≡◌, ℕ, ◌+◌, ◌-◌, ◌<◌, ◌≤◌, Bool, true, false, cond, List, [], ◌∷◌, ◌++◌, length, map, get_or, All, refl, sym, ap, subst, ◌∙◌, arith}
 use Rattle.std.specs.Prelude.{slice_get, Some, count_by, sum_by}
 use Rattle.std.specs.List.{range_with_len}
+use Rattle.std.proofs.lemmas.List.Elements.{All-cons, All-nil}
 use Rattle.std.proofs.lemmas.Option.{get_or_from_slice_get, slice_get-get_or, slice_get_within}
 use Rattle.lists.proofs.Lists.{slice_get-some}
+use Rattle.lists.proofs.Parts.{count_by-cons}
 use Rattle.lists.proofs.Sums.{sum_by_place}
 use Rattle.lists.specs.Lists.{has}
 use Rattle.evt_types.specs.Operation.{is_new_reply}
@@ -30,6 +32,18 @@ use Rattle.report_lists.specs.Between.{rest_at, rest_between}
 use Rattle.event_recorder.specs.Stop.{AreStints}
 use Rattle.event_recorder.proofs.Found.{flow_end, past_own, rest_is}
 
+-- items of which none is counted
+none_counted : {X : Type 0} (p : X → Bool) (xs : List X) → count_by p xs ≡ 0 → All (λ x. p x ≡ false) xs
+none_counted p [] none = All-nil (λ x. p x ≡ false)
+none_counted p (x ∷ xs) none = All-cons (λ y. p y ≡ false) x xs (here (p x) refl) (none_counted p xs (omega (arith, none, count_by-cons p x xs)))
+  where
+    here : (b : Bool) → p x ≡ b → b ≡ false
+    here true e =
+        let weight : Bool → ℕ = λ c. cond c 1 0 in
+        let counted : weight (p x) ≡ weight true = ap weight e in
+        absurd (omega (arith, none, count_by-cons p x xs, counted))
+    here false e = refl
+
 module _ (pool : Credits) (claims : Claims) (credit : CreditSeat) (claim : ClaimSeat) (sorted : List Port) (credits_after : CreditSeat) (claims_after : ClaimSeat) (ends : List Far)
     (is : IsJoined pool claims credit claim sorted credits_after claims_after) (fresh : (seating claim).finished ≡ [])
     (ended : (j : ℕ) (far : Far) → slice_get ends j ≡ Some far → IsEnd (lanes_of claims) (seating claims_after).finished j far) (as_many : length ends ≡ length (lanes_of claims)) where
@@ -44,7 +58,7 @@ module _ (pool : Credits) (claims : Claims) (credit : CreditSeat) (claim : Claim
       ap (λ (x : Far). count_by is_new_reply (answered x)) (sym (get_or_from_slice_get ends (l - n) far far there))
       ∙ at_stop.no_new pool claims credit claim sorted credits_after claims_after (λ j. get_or ends j far) is fresh (are_ends far) (l - n) low
 
-  -- each flow lane's lists are those of its stints, whose ports are linked to it
+  -- each flow lane's lists are those of its stints, whose ports are linked to it, with no NEW among them
   pub stints_are :
       (p : Plan) (nears : List Near) (fars : List Far) (rests : List left.Rest) (n j : ℕ) → fars ≡ map (λ (r : left.Rest). r.own) rests ++ ends → length rests ≡ n → length fars ≡ length nears
       → All (LinksAgree (λ port lane. has lane (flow_links p port))) sorted → j < length ends → AreStints p j (rest_at nears fars (n + j))
@@ -64,6 +78,7 @@ module _ (pool : Credits) (claims : Claims) (credit : CreditSeat) (claim : Claim
         linked = has_shared.linked_ports;
         received = has_shared.received;
         answered_is = has_shared.answered_is;
+        no_news = none_counted is_new_reply (answered far) (no_new_past fars rests n (n + j) far are count (omega arith) at_far);
       })
 
   -- all that the ports held, and all that they answered to flow lanes

@@ -1,5 +1,6 @@
 -- What a stop takes, and the report that it gives.
-use Rattle.std.specs.Prelude.{ℕ, ◌≡◌, ◌+◌, ◌<◌, true, List, length, map, flat_map, take, All, sum}
+use Rattle.std.specs.Prelude.{ℕ, ◌≡◌, ◌+◌, ◌<◌, true, false, List, length, map, flat_map, take, All, sum}
+use Rattle.evt_types.specs.Operation.{is_new_reply}
 use Rattle.evt_types.specs.Plan.{Plan, flow_lanes, flow_links}
 use Rattle.lists.specs.Lists.{has}
 use Rattle.event_answers.specs.declared.report.Report.{Report}
@@ -7,6 +8,7 @@ use Rattle.event_ports.specs.Ports.{hand, pocket_of}
 use Rattle.event_ports.specs.declared.lane.Lane.TheVariants.{Own}
 use Rattle.event_ports.specs.declared.port.Port.{Port}
 use Rattle.event_scheduler.specs.Scheduler.{IsAccepted, offered_at, taken_at}
+use Rattle.evt_types.specs.declared.event.Reply.{Reply}
 use Rattle.evt_types.specs.declared.step.Step.{Step}
 use Rattle.flow_claims.specs.Lists.{no_lists}
 use Rattle.flow_claims.specs.Stints.{IsRecordFrom, answered_in_all, received_in_all}
@@ -35,13 +37,15 @@ pub record AreOf (r : Recorded) (control : Control) (ports : List Port) : Type 0
 
 -- ---- the lanes
 
--- what was received from a flow lane and answered to it is what its stints had, one after the other, each of a port that is linked to it
+-- What was received from a flow lane and answered to it is what its stints had, one after the other, each of a port that is linked to it;
+-- no NEW went to it.
 pub record AreStints (p : Plan) (j : ℕ) (r : Rest) : Type 0 where
   pub past : List Past
   pub recorded : IsRecordFrom j 0 no_lists past
   pub linked : All (λ x. has j (flow_links p x.port) ≡ true) past
   pub received : r.received ≡ received_in_all past
   pub answered_is : r.answered ≡ answered_in_all past
+  pub no_news : All (λ (x : Reply). is_new_reply x ≡ false) r.answered
 
 -- Each lane has what the scheduler offered to it and took from it, each delivery with the accepted event of its number, and what its
 -- holder received and answered: of a port's own lane the port, of a flow lane the ports that had it one after the other.

@@ -1,0 +1,23 @@
+-- A finished log's text is that of the plain pipeline.
+use Rattle.std.proofs.Common.{◌≡◌, ℕ, List, length, map, sym, ap, subst, ◌∙◌}
+use Rattle.evt_types.specs.Plan.{Plan}
+use Rattle.evt_types.specs.declared.step.Step.{Step}
+use Rattle.pipeline_laws.proofs.RunTexts.{text_is_plain}
+use Rattle.pipeline_laws.specs.RunText.{plain_text, run_text}
+use Rattle.pipeline_laws.specs.Worked.{AnswersAreDue, IsFinished, IsStaged, logged, new_event, newcomers}
+use Rattle.pipeline_laws.specs.declared.stage.Action.{Action}
+use Rattle.pipeline_laws.specs.declared.stage.Entry.{Entry}
+use Rattle.transcripts.specs.Lawful.{IsPrefix, Lawful}
+
+-- the same actions and the same log
+pub due_same : (actions others : List Action) (T U : List Step) → actions ≡ others → T ≡ U → AnswersAreDue actions T → AnswersAreDue others U
+due_same actions others T U a t h = subst (AnswersAreDue others) t (subst (λ xs. AnswersAreDue xs T) a h)
+
+pub finished_text : (p : Plan) (actions others : List Action) (trace entries : List Entry) (T U : List Step) → others ≡ actions → entries ≡ trace → U ≡ T → Lawful p T → IsStaged p actions
+    → AnswersAreDue others U → IsPrefix (newcomers T) (map new_event entries) → IsFinished p entries T → run_text (length others) (logged U) ≡ plain_text actions trace
+finished_text p actions others trace entries T U a e t lawful staged answers news finished =
+    ap (λ xs. run_text (length xs) (logged U)) a
+    ∙ (ap (λ S. run_text (length actions) (logged S)) t
+    ∙ text_is_plain p actions trace T lawful staged
+    (record { answers = due_same others actions U T a t answers; newcomers = subst (λ ts. IsPrefix (newcomers T) (map new_event ts)) e news })
+    (subst (λ ts. IsFinished p ts T) e finished))

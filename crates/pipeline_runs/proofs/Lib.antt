@@ -1,0 +1,2 @@
+pub mod Finished
+pub mod EarlyFaults

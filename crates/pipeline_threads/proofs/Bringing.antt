@@ -18,7 +18,7 @@ module _ (trace : List Entry) where
   HasBrought n p = map said (submitted_by p) ≡ map said_new (take n trace)
 
   pub idle_brought : (p : Port) → IsIdle p → HasBrought 0 p
-  idle_brought p h = ap (map said) (h.empty.said Own)
+  idle_brought p h = ap (map said) (h.said Own)
 
   -- one event more
   pub brought_more : (n : ℕ) (t : Entry) (e : Event) (p q : Port) → n < length trace → t ≡ get_or trace n t → e ≡ new_event t → HasBrought n p

@@ -4,8 +4,7 @@ use Rattle.std.specs.List.{range_with_len}
 use Rattle.std.proofs.lemmas.List.{get_or-map, length-map, map-append}
 use Rattle.std.proofs.lemmas.List.FromFn.{get_or-map-range_with_len, length-map-range_with_len}
 use Rattle.std.proofs.lemmas.Option.{slice_get-get_or}
-use Rattle.event_ports.specs.Lanes.{IsEmptyHand}
-use Rattle.event_ports.specs.Ports.{hand, links, pocket_of}
+use Rattle.event_ports.specs.Ports.{links}
 use Rattle.event_ports.specs.declared.port.Port.{Port}
 use Rattle.event_recorder.specs.Control.{control_of}
 use Rattle.event_recorder.specs.Device.{ControlSite, Device, IsDevice, IsPortOf, PortSite, SchedulerSite, control_site, number_of, port_site, scheduler_of, scheduler_site, site_of}
@@ -14,7 +13,6 @@ use Rattle.event_recorder.specs.Stop.{AreOf}
 use Rattle.evt_types.specs.Fault.{IsWithinLimits}
 use Rattle.evt_types.specs.Plan.{Plan, flow_lanes, flow_links, lanes_of, linked_places}
 use Rattle.evt_types.specs.declared.draft.Serving.TheVariants.{Ports}
-use Rattle.pipeline_threads.specs.Ports.{IsIdle}
 use Rattle.pipeline_threads.specs.Run.{IsEngineOf}
 use Rattle.pipeline_threads.specs.declared.engine.Engine.{Engine}
 
@@ -65,10 +63,9 @@ module _ (d : Device) (ports : List Port) (n : ℕ) (sites : map site_of ports �
       at [] e there = absurd (omega (arith, there, ap length e))
       at (x ∷ xs) e there = (k, get_or ports k x, slice_get-get_or ports k x there, number_here k x there)
 
-  -- ports that nothing was done with, of a plan that is served by ports alone
-  pub idle_ports : d.plan.serving ≡ Ports → All (λ (x : Port). IsEmptyHand (hand x) × (pocket_of x ≡ 0)) ports → All IsIdle ports
-  idle_ports serving empty i x there =
-      record { empty = (empty i x there).0; own = ap (λ (s : PortSite). s.links) (site_here i x there) ∙ no_links d.plan i serving }
+  -- of a plan that is served by ports alone none is linked to a flow lane
+  pub none_linked : d.plan.serving ≡ Ports → All (λ (x : Port). links x ≡ []) ports
+  none_linked serving i x there = ap (λ (s : PortSite). s.links) (site_here i x there) ∙ no_links d.plan i serving
 
 -- ---- an engine
 

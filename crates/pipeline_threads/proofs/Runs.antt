@@ -7,10 +7,9 @@ use Rattle.event_ports.specs.declared.port.Port.{Port}
 use Rattle.event_recorder.specs.Control.{control_of}
 use Rattle.event_recorder.specs.Device.{scheduler_of, site_of}
 use Rattle.event_recorder.specs.Recorder.{Recorded}
-use Rattle.pipeline_laws.specs.Promises.{IsWorker}
 use Rattle.pipeline_laws.specs.declared.stage.Action.{Action}
 use Rattle.pipeline_laws.specs.declared.stage.Entry.{Entry}
-use Rattle.pipeline_threads.specs.Ports.{IsIdle, ReturnsWorker, lists_of}
+use Rattle.pipeline_threads.specs.Ports.{HasWorked, IsIdle, ReturnsWorker}
 use Rattle.pipeline_threads.specs.Run.{ArePromised, HasProduced, HasRun, IsDone, IsReady}
 use Rattle.pipeline_threads.specs.declared.engine.Engine.{Engine}
 use Rattle.pipeline_threads.proofs.Reports.{promised_more}
@@ -31,7 +30,7 @@ produced_run actions trace whole rest after p recorder control none ports h =
       scheduler = h.scheduler ∙ ap (λ (r : Recorded). scheduler_of r.sight) recorder;
       control = h.control ∙ control;
       ports = ap (map site_of) h.ports ∙ (ap (λ s. s ∷ []) h.promised.site ∙ sym (ap (map site_of) one));
-      promised = subst (ArePromised actions trace) (sym h.ports) (h.promised.producer, All-nil (λ (q : Port). IsWorker actions (lists_of q)));
+      promised = subst (ArePromised actions trace) (sym h.ports) (h.promised.producer, All-nil (HasWorked actions));
       done = h.done;
     }
 
@@ -47,6 +46,6 @@ worker_run actions trace whole rest ran after p back recorder control ports h w 
           ∙ (map-append site_of ran.ports.items (back ∷ [])
           ∙ (ap (λ xs. xs ++ site_of back ∷ []) h.ports
           ∙ (ap (λ s. map site_of rest.ports.items ++ s ∷ []) w.site ∙ (sym (map-append site_of rest.ports.items (p ∷ [])) ∙ ap (map site_of) (sym ports)))));
-      promised = subst (ArePromised actions trace) (sym ports_after) (promised_more actions trace ran.ports.items back h.promised w.worker);
+      promised = subst (ArePromised actions trace) (sym ports_after) (promised_more actions trace ran.ports.items back h.promised w.worked);
       done = subst (IsDone trace) (sym recorder_after) h.done;
     }

@@ -1,16 +1,16 @@
 -- A whole run: from the threads that were joined to the log that the stop hands out.
-use Rattle.std.proofs.Common.{◌≡◌, ℕ, List, length, sym, ap, subst, ◌∙◌}
+use Rattle.std.proofs.Common.{◌≡◌, ℕ, ◌+◌, ◌<◌, List, length, sym, ap, subst, ◌∙◌}
 use Rattle.event_answers.specs.declared.report.Report.{Report}
-use Rattle.event_recorder.specs.Stop.{AreOf, IsReport}
-use Rattle.evt_types.specs.Plan.{Plan}
-use Rattle.evt_types.specs.declared.draft.Serving.TheVariants.{Ports}
+use Rattle.event_recorder.specs.Stop.{AreOf, AreStints, IsReport}
+use Rattle.evt_types.specs.Plan.{Plan, flow_lanes}
 use Rattle.evt_types.specs.declared.step.Step.{Step}
-use Rattle.pipeline_laws.proofs.Promised.{promised_worked}
+use Rattle.pipeline_laws.proofs.Promised.{promised_first, promised_worked}
+use Rattle.pipeline_laws.specs.Promises.{IsLane}
 use Rattle.pipeline_laws.specs.Worked.{IsFinished}
 use Rattle.pipeline_laws.specs.declared.stage.Action.{Action}
 use Rattle.pipeline_laws.specs.declared.stage.Entry.{Entry}
-use Rattle.pipeline_threads.proofs.Engines.{engine_parts, engine_plan, own_lanes, same_engine}
-use Rattle.pipeline_threads.proofs.Reports.{kept_promises, lane_known, lists_at}
+use Rattle.pipeline_threads.proofs.Engines.{engine_parts, engine_plan, none_linked, own_lanes, same_engine}
+use Rattle.pipeline_threads.proofs.Reports.{AreOwn, kept_producer, kept_promises, lane_known, lists_at, no_other_news}
 use Rattle.pipeline_threads.specs.Run.{HasRun, IsEngineOf, IsRunLog}
 use Rattle.pipeline_threads.specs.declared.engine.Engine.{Engine}
 use Rattle.transcripts.specs.Lawful.{Lawful}
@@ -24,15 +24,24 @@ module _ (p : Plan) (actions : List Action) (trace : List Entry) (before after :
   stop_parts = engine_parts p after ran
 
   -- and the log that this hands out is a run's
-  pub run_log : (report : Report) → p.serving ≡ Ports → IsReport after.recorder after.control after.ports.items report → IsRunLog p actions trace report.log.items
-  run_log report serving h =
+  pub run_log : (report : Report) → IsReport after.recorder after.control after.ports.items report → IsRunLog p actions trace report.log.items
+  run_log report h =
       let T : List Step = after.recorder.log in
-      let plan = engine_plan p after ran in
+      let plan : after.recorder.sight.core.shape ≡ p = engine_plan p after ran in
       let lawful : Lawful p T = subst (λ (x : Plan). Lawful x T) plan h.rests.lawful in
-      let keep = kept_promises ran.device actions trace h.rest p after.ports.items (length p.ports) ran.ports_are (own_lanes p serving) (h.lanes.received, h.lanes.answered_is) run.promised in
+      let known : (l : ℕ) → IsLane T l (lists_at h.rest l) = λ l. lane_known T l (h.rest l) (h.rests.each l) (h.lanes.events l) in
+      let own : AreOwn h.rest after.ports.items = (h.lanes.received, h.lanes.answered_is) in
+      let flows : (j : ℕ) → j < length (flow_lanes p) → AreStints p j (h.rest (length p.ports + j)) =
+      subst (λ (x : Plan). (j : ℕ) → j < length (flow_lanes x) → AreStints x j (h.rest (length x.ports + j))) plan h.lanes.flows in
+      let producer = kept_producer ran.device actions trace h.rest after.ports.items (length p.ports) ran.ports_are own run.promised in
+      let others = no_other_news ran.device actions trace h.rest p after.ports.items ran.ports_are own run.promised flows in
       subst (IsRunLog p actions trace) (sym h.log)
       (record {
         lawful = lawful;
-        worked = promised_worked p actions trace T (lists_at h.rest) lawful (λ l. lane_known T l (h.rest l) (h.rests.each l) (h.lanes.events l)) keep;
+        answers = λ serving.
+            let alone = none_linked ran.device after.ports.items (length p.ports) ran.ports_are (ap (λ (x : Plan). x.serving) ran.plan ∙ serving) in
+            let keep = kept_promises ran.device actions trace h.rest p after.ports.items (length p.ports) ran.ports_are (own_lanes p serving) alone own run.promised in
+            (promised_worked p actions trace T (lists_at h.rest) lawful known keep).answers;
+        newcomers = promised_first p trace T (lists_at h.rest) lawful (λ l. (known l).taken) producer others;
         finished = subst (λ (x : Plan). IsFinished x trace T) plan run.done;
       })

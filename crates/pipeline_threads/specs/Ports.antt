@@ -1,10 +1,12 @@
 -- What the threads of a pipeline do with their ports, and what each promises of the port that it returns.
-use Rattle.std.specs.Prelude.{◌≡◌, List, [], ◌∷◌, ◌++◌, map}
+use Rattle.std.specs.Prelude.{◌≡◌, false, List, [], ◌∷◌, ◌++◌, map, All}
 use Rattle.event_ports.specs.Lanes.{IsEmptyHand, holding_of}
 use Rattle.event_ports.specs.Ports.{hand, links}
+use Rattle.event_ports.specs.declared.lane.Lane.{Lane}
 use Rattle.event_ports.specs.declared.lane.Lane.TheVariants.{Own}
 use Rattle.event_ports.specs.declared.port.Port.{Port}
 use Rattle.event_recorder.specs.Device.{site_of}
+use Rattle.evt_types.specs.Operation.{is_new_reply}
 use Rattle.evt_types.specs.declared.event.Delivery.{Delivery}
 use Rattle.evt_types.specs.declared.event.Reply.{Reply}
 use Rattle.pipeline_laws.specs.Promises.{IsProducer, IsWorker, PortLists, said_to}
@@ -23,22 +25,27 @@ received_by p = (hand p).got Own
 abbrev pub lists_of : Port → PortLists
 lists_of p = record { submitted = submitted_by p; received = received_by p }
 
--- it has its own lane alone, and nothing was done with it
-pub record IsIdle (p : Port) : Type 0 where
-  pub empty : IsEmptyHand (hand p)
-  pub own : links p ≡ []
+-- nothing was done with it
+abbrev pub IsIdle : Port → Type 0
+IsIdle p = IsEmptyHand (hand p)
 
--- it has its own lane alone, all that it received is answered as is due, and it holds nothing
+-- it submitted no NEW to its own lane
+abbrev pub HasNoNews : Port → Type 0
+HasNoNews p = All (λ (r : Reply). is_new_reply r ≡ false) (submitted_by p)
+
+-- It holds nothing and submitted no NEW; where it has its own lane alone, all that it received is answered as is due.
 pub record IsEven (actions : List Action) (p : Port) : Type 0 where
-  pub answered : map said (submitted_by p) ≡ map (said_to actions) (received_by p)
+  pub answered : links p ≡ [] → map said (submitted_by p) ≡ map (said_to actions) (received_by p)
   pub holds_none : (hand p).holding ≡ []
-  pub own : links p ≡ []
+  pub no_news : HasNoNews p
 
--- one delivery came from its own lane, and is all that it holds
+-- one delivery came, and is all that it holds; where it has its own lane alone it came from that
 pub record Receives (d : Delivery) (p q : Port) : Type 0 where
+  pub lane : Lane
   pub submitted : submitted_by q ≡ submitted_by p
-  pub received : received_by q ≡ received_by p ++ d ∷ []
-  pub holding : (hand q).holding ≡ holding_of Own d ∷ []
+  pub holding : (hand q).holding ≡ holding_of lane d ∷ []
+  pub own : links p ≡ [] → lane ≡ Own
+  pub received : links p ≡ [] → received_by q ≡ received_by p ++ d ∷ []
 
 -- nothing came, and it holds nothing
 pub record ReceivesNone (p q : Port) : Type 0 where
@@ -48,11 +55,16 @@ pub record ReceivesNone (p q : Port) : Type 0 where
 
 -- ---- promises
 
--- the port that a worker returns is the one that it was given, and what it submitted are the answers due to the first events that it
--- received, in order
+-- It submitted no NEW; where it has its own lane alone, what it submitted are the answers due to the first events that it received, in
+-- order.
+pub record HasWorked (actions : List Action) (p : Port) : Type 0 where
+  pub worker : links p ≡ [] → IsWorker actions (lists_of p)
+  pub no_news : HasNoNews p
+
+-- the port that a worker returns is the one that it was given, and it worked with it
 pub record ReturnsWorker (actions : List Action) (start back : Port) : Type 0 where
   pub site : site_of back ≡ site_of start
-  pub worker : IsWorker actions (lists_of back)
+  pub worked : HasWorked actions back
 
 -- the port that the producer returns is the one that it was given, and what it submitted is the front of the trace, in order
 pub record ReturnsProducer (trace : List Entry) (start back : Port) : Type 0 where

@@ -5,20 +5,21 @@ use Rattle.event_recorder.specs.Control.{control_of}
 use Rattle.event_recorder.specs.Device.{Device, IsDevice, control_site, port_site, scheduler_of, scheduler_site, site_of}
 use Rattle.event_recorder.specs.Recorder.{Recorded}
 use Rattle.evt_types.specs.Plan.{Plan}
+use Rattle.evt_types.specs.declared.draft.Serving.TheVariants.{Ports}
 use Rattle.evt_types.specs.declared.step.Step.{Step}
-use Rattle.pipeline_laws.specs.Promises.{IsProducer, IsWorker}
-use Rattle.pipeline_laws.specs.Worked.{IsFinished, IsWorked}
+use Rattle.pipeline_laws.specs.Promises.{IsProducer}
+use Rattle.pipeline_laws.specs.Worked.{AnswersAreDue, IsFinished, new_event, newcomers}
 use Rattle.pipeline_laws.specs.declared.stage.Action.{Action}
 use Rattle.pipeline_laws.specs.declared.stage.Entry.{Entry}
-use Rattle.pipeline_threads.specs.Ports.{IsIdle, ReturnsProducer, lists_of}
+use Rattle.pipeline_threads.specs.Ports.{HasWorked, IsIdle, ReturnsProducer, lists_of}
 use Rattle.pipeline_threads.specs.declared.engine.Engine.{Engine}
 use Rattle.std.specs.List.{range_with_len}
-use Rattle.transcripts.specs.Lawful.{Lawful}
+use Rattle.transcripts.specs.Lawful.{IsPrefix, Lawful}
 
 -- port 0 kept the producer's promise, each other port a worker's
 abbrev pub ArePromised : List Action → List Entry → List Port → Type 0
 ArePromised actions trace [] = ⊥
-ArePromised actions trace (p ∷ ps) = IsProducer trace (lists_of p) × All (λ (q : Port). IsWorker actions (lists_of q)) ps
+ArePromised actions trace (p ∷ ps) = IsProducer trace (lists_of p) × All (HasWorked actions) ps
 
 -- its parts are those of one device with this plan, the ports in their order
 pub record IsEngineOf (p : Plan) (e : Engine) : Type 0 where
@@ -56,8 +57,10 @@ pub record HasRun (actions : List Action) (trace : List Entry) (before after : E
   pub promised : ArePromised actions trace after.ports.items
   pub done : IsDone trace after.recorder
 
--- the log is lawful, each of its answers is its stage's action, what came in is the front of the trace, and all of that went through
+-- The log is lawful, what came in is the front of the trace, and all of that went through; where the device serves by ports each answer
+-- is its stage's action.
 pub record IsRunLog (p : Plan) (actions : List Action) (trace : List Entry) (T : List Step) : Type 0 where
   pub lawful : Lawful p T
-  pub worked : IsWorked actions trace T
+  pub answers : p.serving ≡ Ports → AnswersAreDue actions T
+  pub newcomers : IsPrefix (newcomers T) (map new_event trace)
   pub finished : IsFinished p trace T

@@ -1,7 +1,6 @@
 //! A device whose ports are handed to threads.
 
 ghost use Rattle.std.specs.Prelude.{◌≡◌, IfOk, OnOk, length, All};
-ghost use Rattle.evt_types.specs.declared.draft.Serving.TheVariants.{Ports};
 ghost use Rattle.event_recorder.specs.Device.{scheduler_of};
 ghost use Rattle.event_recorder.specs.Stop.{IsReport};
 ghost use Rattle.transcripts.specs.Replies.{new_count};
@@ -9,6 +8,7 @@ ghost use Rattle.transcripts.specs.Transcript as transcripts;
 ghost use Rattle.pipeline_threads.specs.Run.{IsEngineOf, IsReady};
 
 use crate::fault::RunFault;
+use crate::gate::Gate;
 use event_device::{Control, DeviceFault, Memory, Port, Recorder, Report, StopFault, device};
 use evt_types::Shape;
 use std::alloc::{AllocError, Global};
@@ -26,7 +26,6 @@ pub(crate) struct Engine {
 impl Engine {
     /// A device of this configuration, in which nothing has happened.
     pub(crate) fn new(alloc: Global, shape: Shape) -> Result<Engine, RunFault>
-        requires { shape.serving ≡ Ports }
         ensures made { IfOk result (IsEngineOf shape) }
         ensures ready { IfOk result IsReady }
     {
@@ -44,8 +43,9 @@ impl Engine {
 }
 
 /// Sweeps until so many events were accepted as new and none is inside.
-pub(crate) fn sweep_all<R: Wait>(
+pub(crate) fn sweep_all<R: Wait, G: Gate>(
     rt: &R,
+    gate: &G,
     recorder: &mut Recorder,
     count: usize,
 ) -> Result<(), Memory>
@@ -55,7 +55,10 @@ pub(crate) fn sweep_all<R: Wait>(
 {
     for _ in rt.forever() {
         let swept = recorder.sweep()?;
-        if recorder.accepted_new() == count as u64 && recorder.inside() == 0 {
+        let accepted = recorder.accepted_new();
+        let inside = recorder.inside();
+        gate.swept(accepted, inside);
+        if accepted == count as u64 && inside == 0 {
             return Ok(());
         }
         if swept.taken == 0 && swept.given == 0 {

@@ -1,11 +1,11 @@
 //! A pipeline is run on a device.
 
-ghost use Rattle.std.specs.Prelude.{◌≡◌, ◌<◌, [], All, IfOk, length};
+ghost use Rattle.std.specs.Prelude.{◌≡◌, ◌<◌, [], All, IfOk, length, map};
 ghost use Rattle.evt_types.specs.Plan.{port_of};
 ghost use Rattle.evt_types.specs.declared.draft.Serving.TheVariants.{Ports};
 ghost use Rattle.pipeline_laws.specs.Pipeline.{IsProper};
-ghost use Rattle.pipeline_laws.specs.Worked.{IsFinished, IsStaged, IsWorked};
-ghost use Rattle.transcripts.specs.Lawful.{Lawful};
+ghost use Rattle.pipeline_laws.specs.Worked.{AnswersAreDue, IsFinished, IsStaged, new_event, newcomers};
+ghost use Rattle.transcripts.specs.Lawful.{IsPrefix, Lawful};
 
 use crate::engine::Engine;
 use crate::fault::RunFault;
@@ -20,7 +20,8 @@ use std::thread::Threads;
 
 /// Runs the trace through the pipeline whose stages are the queues, on a device of this configuration: port 0 brings the events in, each
 /// other port carries out the stages' actions, each in a thread of its own, and the scheduler runs in this one. The report is that of
-/// the stop; whatever the schedule was, its log is that of a finished run.
+/// the stop; whatever the schedule was, its log is that of a finished run. Where the device serves by ports, each answer in it is its
+/// stage's action of the event that it answers.
 pub fn run_pipeline<R: Threads + Wait + Sync, G: Gate>(
     rt: &R,
     alloc: Global,
@@ -29,12 +30,14 @@ pub fn run_pipeline<R: Threads + Wait + Sync, G: Gate>(
     trace: &[Entry],
     gate: &G,
 ) -> Result<Report, RunFault>
-    requires serving { shape.serving ≡ Ports }
     requires staged { IsStaged shape actions.now }
     requires proper { All IsProper actions.now }
     requires workers { 1 < length shape.ports }
     requires producer { (port_of shape 0).links ≡ [] }
-    ensures { IfOk result (λ report. Lawful shape report.log.items × IsWorked actions.now trace.now report.log.items × IsFinished shape trace.now report.log.items) }
+    ensures lawful { IfOk result (λ report. Lawful shape report.log.items) }
+    ensures answers { shape.serving ≡ Ports → IfOk result (λ report. AnswersAreDue actions.now report.log.items) }
+    ensures newcomers { IfOk result (λ report. IsPrefix (newcomers report.log.items) (map new_event trace.now)) }
+    ensures finished { IfOk result (λ report. IsFinished shape trace.now report.log.items) }
 {
     let _ = shape.limit();
     let engine = Engine::new(alloc, shape)?;

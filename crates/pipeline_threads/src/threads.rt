@@ -19,9 +19,10 @@ use std::thread;
 use std::thread::{Scope, Threads};
 
 /// Starts the producer with this port, sweeps until the whole trace went through, shuts the device and joins the producer.
-fn run_producer<'s, E, R: Threads + Wait + Sync>(
+fn run_producer<'s, E, R: Threads + Wait + Sync, G: Gate>(
     rt: &'s R,
     scope: &Scope<'s, E>,
+    gate: &G,
     trace: &'s [Entry],
     engine: Engine,
     port: Port,
@@ -43,7 +44,7 @@ fn run_producer<'s, E, R: Threads + Wait + Sync>(
         engine.control.shut();
         return Err(AllocError);
     };
-    let swept = sweep_all(rt, &mut engine.recorder, trace.len());
+    let swept = sweep_all(rt, gate, &mut engine.recorder, trace.len());
     engine.control.shut();
     let port = producer.join(rt);
     swept?;
@@ -72,7 +73,7 @@ fn run_ports<'s, E, R: Threads + Wait + Sync, G: Gate>(
         unreachable!()
     };
     if engine.ports.is_empty() {
-        return run_producer(rt, scope, trace, engine, port);
+        return run_producer(rt, scope, gate, trace, engine, port);
     }
     let promise = Worked {
         start: Snapshot::of(&port),

@@ -2,12 +2,12 @@
 
 ghost use Rattle.std.specs.Prelude.{◌≡◌, ◌≤◌, [], true, All, IsTrue, length, MatchOption};
 ghost use Rattle.event_ports.specs.Lanes.{reply_of};
-ghost use Rattle.event_ports.specs.Ports.{hand, links};
+ghost use Rattle.event_ports.specs.Ports.{hand};
 ghost use Rattle.event_recorder.specs.Device.{site_of};
 ghost use Rattle.evt_types.specs.Operation.{is_answer_op};
 ghost use Rattle.pipeline_laws.specs.Pipeline.{IsProper};
-ghost use Rattle.pipeline_laws.specs.Promises.{IsWorker, said_to};
-ghost use Rattle.pipeline_threads.specs.Ports.{IsEven, IsIdle, Receives, ReceivesNone, ReturnsWorker, lists_of};
+ghost use Rattle.pipeline_laws.specs.Promises.{said_to};
+ghost use Rattle.pipeline_threads.specs.Ports.{HasWorked, IsEven, IsIdle, Receives, ReceivesNone, ReturnsWorker};
 ghost use Rattle.transcripts.specs.Replies.{said};
 
 use crate::gate::Gate;
@@ -20,7 +20,6 @@ use std::thread;
 
 /// The next event, where one has come.
 fn receive(port: &mut Port) -> Option<Delivery>
-    requires own { links port.old ≡ [] }
     requires none { (hand port.old).holding ≡ [] }
     ensures site { site_of port.new ≡ site_of port.old }
     ensures received { MatchOption result (ReceivesNone port.old port.new) (λ d. Receives d port.old port.new) }
@@ -51,7 +50,7 @@ fn turn<R: Wait, G: Gate>(rt: &R, gate: &G, actions: &[Action], port: &mut Port)
     requires even { IsEven actions.now port.old }
     ensures site { site_of port.new ≡ site_of port.old }
     ensures even { IsTrue result → IsEven actions.now port.new }
-    ensures worker { IsWorker actions.now (lists_of port.new) }
+    ensures worked { HasWorked actions.now port.new }
 {
     match receive(port) {
         Some(delivery) => {

@@ -7,5 +7,5 @@ pub returns-in-Ok-clause-received : goal.returns-in-Ok-clause-received
 returns-in-Ok-clause-received c =
     let before = c.args.port.now in
     let after = c.dequeue.new.self in
-    received_first before after c.in-Ok.deliveries.items c.copied.result (took (links before) (released_first before) (hand before) (hand after) c.in-Ok.deliveries.items c.requires.own c.requires.none c.in-Ok.ensures.ok) c.in-Ok.ensures.few.0
+    received_first before after c.in-Ok.deliveries.items c.copied.result (took (links before) (released_first before) (hand before) (hand after) c.in-Ok.deliveries.items c.requires.none c.in-Ok.ensures.ok) c.in-Ok.ensures.few.0
     (c.copied.ensures ∙ (c.first.ensures.value ∙ ap (λ xs. slice_get xs 0) c.deref.ensures.0))

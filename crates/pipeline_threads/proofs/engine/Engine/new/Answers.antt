@@ -1,7 +1,6 @@
 use Rattle.std.proofs.Common.{length, ap, ◌∙◌, arith}
 use Rattle.event_recorder.specs.Device.{scheduler_of}
-use Rattle.evt_types.specs.Plan.{Plan}
-use Rattle.pipeline_threads.proofs.Engines.{idle_ports, port_count}
+use Rattle.pipeline_threads.proofs.Engines.{port_count}
 use Rattle.pipeline_threads.proofs.engine.Engine.new.Goals as goal
 
 pub returns-in-Ok-clause-made : goal.returns-in-Ok-clause-made
@@ -22,5 +21,5 @@ returns-in-Ok-clause-ready c =
     let count = port_count made.device c.in-Ok.ports.items (length c.args.shape.ports) made.ports_are in
     record {
       some = omega (arith, count, c.limit.ensures.within.port_count.0);
-      idle = idle_ports made.device c.in-Ok.ports.items (length c.args.shape.ports) made.ports_are (ap (λ (p : Plan). p.serving) made.plan ∙ c.requires) made.empty;
+      idle = λ i x there. (made.empty i x there).0;
     }

@@ -1,10 +1,20 @@
-//! The program `evsched`: it plays the script of a document, which stands on standard input, on an event device.
+//! The program `evsched`: it plays the script of a document on an event device, or runs the document's trace through a pipeline.
+//! The document stands on standard input.
 #![tactic(auto)]
 
+ghost use Rattle.std.specs.Prelude.{◌≤◌};
+
+mod progress;
+
 use arrayvec::ArrayString;
-use pipeline_app::{AppFault, Choice, choice, fault_line, play};
+use pipeline_app::{AppFault, Choice, choice, fault_line, play, run_trace};
+use progress::Progress;
+use std::io::IsTerminal;
 use std::process::ExitCode;
 use std::rt::Env;
+use std::sync::Wait;
+use std::thread::Threads;
+use std::time::Clock;
 use std::{env, io};
 
 /// The status after a command line that is refused.
@@ -60,11 +70,39 @@ fn played<R: AllocGlobal + Input + Print + Eprint>(rt: &R) -> u8 {
     }
 }
 
+/// Runs the trace of the document on standard input with so many workers, and gives the status. The progress is shown where
+/// standard error is a terminal.
+fn ran<R: AllocGlobal + Input + Print + Eprint + Clock + Threads + Wait + Sync>(
+    rt: &R,
+    workers: u32,
+    on_terminal: bool,
+) -> u8
+    requires { (1 ≤ workers) × (workers ≤ 8) }
+{
+    let progress = Progress::new(rt, on_terminal);
+    match run_trace(
+        rt,
+        rt.alloc(),
+        &mut rt.reader(),
+        workers,
+        &progress,
+        &mut io::writer(rt),
+    ) {
+        Ok(()) => 0,
+        Err(fault) => failed(rt, &fault),
+    }
+}
+
 /// Does what the words after the program's name ask for, and gives the status.
-fn run<R: AllocGlobal + Env + Input + Print + Eprint>(rt: &R, words: &[&str]) -> u8 {
+fn run<R: AllocGlobal + Input + Print + Eprint + Clock + Threads + Wait + Sync>(
+    rt: &R,
+    words: &[&str],
+    on_terminal: bool,
+) -> u8 {
     let mut text = String::new(rt.alloc());
     match choice(rt.alloc(), words, &mut text) {
         Ok(Choice::Play) => played(rt),
+        Ok(Choice::Run { workers }) => ran(rt, workers, on_terminal),
         Err(status) => explained(rt, status, text.as_str()),
     }
 }
@@ -80,7 +118,7 @@ fn main(rt: HostRuntime) -> ExitCode {
         .map(|word| word.as_str())
         .collect(rt.alloc());
     match words {
-        Ok(words) => ExitCode::from(run(&rt, &words)),
+        Ok(words) => ExitCode::from(run(&rt, &words, rt.stderr().is_terminal())),
         Err(_) => ExitCode::from(failed(&rt, &AppFault::Memory)),
     }
 }

@@ -13,11 +13,11 @@ use Rattle.transcripts.specs.Lawful.{IsPrefix, Lawful}
 pub due_same : (actions others : List Action) (T U : List Step) → actions ≡ others → T ≡ U → AnswersAreDue actions T → AnswersAreDue others U
 due_same actions others T U a t h = subst (AnswersAreDue others) t (subst (λ xs. AnswersAreDue xs T) a h)
 
-pub finished_text : (p : Plan) (actions others : List Action) (trace entries : List Entry) (T U : List Step) → others ≡ actions → entries ≡ trace → U ≡ T → Lawful p T → IsStaged p actions
-    → AnswersAreDue others U → IsPrefix (newcomers T) (map new_event entries) → IsFinished p entries T → run_text (length others) (logged U) ≡ plain_text actions trace
-finished_text p actions others trace entries T U a e t lawful staged answers news finished =
-    ap (λ xs. run_text (length xs) (logged U)) a
-    ∙ (ap (λ S. run_text (length actions) (logged S)) t
+pub finished_text : (p : Plan) (actions others : List Action) (trace entries : List Entry) (T U V : List Step) (n : ℕ) → n ≡ length actions → others ≡ actions → entries ≡ trace → U ≡ T → V ≡ T
+    → Lawful p T → IsStaged p actions → AnswersAreDue others V → IsPrefix (newcomers T) (map new_event entries) → IsFinished p entries T → run_text n (logged U) ≡ plain_text actions trace
+finished_text p actions others trace entries T U V n count a e u v lawful staged answers news finished =
+    ap (λ k. run_text k (logged U)) count
+    ∙ (ap (λ S. run_text (length actions) (logged S)) u
     ∙ text_is_plain p actions trace T lawful staged
-    (record { answers = due_same others actions U T a t answers; newcomers = subst (λ ts. IsPrefix (newcomers T) (map new_event ts)) e news })
+    (record { answers = due_same others actions V T a v answers; newcomers = subst (λ ts. IsPrefix (newcomers T) (map new_event ts)) e news })
     (subst (λ ts. IsFinished p ts T) e finished))

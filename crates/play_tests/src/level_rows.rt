@@ -1,6 +1,6 @@
 //! Worked rows: the order in which waiting events are given, by the priorities of queues and events, and the sweep quantum.
 
-use crate::row::{ATOMIC, Row, SOURCE, WORKER, WORKER_OF_BOTH};
+use crate::row::{ATOMIC, BY_PORTS, Row, SOURCE, WORKER, WORKER_OF_BOTH};
 use std::test::Fail;
 
 const LATE_AND_EARLY: &str = "[[queue]]\nkind = \"atomic\"\nslots = 4\npriority = 200\n\
@@ -88,7 +88,7 @@ limit 4
 #[test]
 fn plays_the_rows(rt: HostRuntime) -> Result<(), Fail> {
     for row in &ROWS {
-        row.plays(&rt, rt.alloc())?;
+        row.plays(&rt, rt.alloc(), BY_PORTS)?;
     }
     Ok(())
 }

@@ -6,6 +6,8 @@ mod command_line;
 #[cfg(test)]
 mod faults;
 #[cfg(test)]
+mod flow_rows;
+#[cfg(test)]
 mod level_rows;
 #[cfg(test)]
 mod ordered_rows;

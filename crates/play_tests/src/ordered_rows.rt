@@ -1,6 +1,6 @@
 //! Worked rows: of ordered queues. What they hand out may be answered in any order, and passes on in the order of the hand-out.
 
-use crate::row::{Port, Row, SOURCE, WORKER, WORKER_OF_BOTH};
+use crate::row::{BY_FLOWS, BY_PORTS, Port, Row, SOURCE, WORKER, WORKER_OF_BOTH};
 use std::test::Fail;
 
 const ORDERED_AND_PARALLEL: &str =
@@ -196,7 +196,16 @@ limit 8
 #[test]
 fn plays_the_rows(rt: HostRuntime) -> Result<(), Fail> {
     for row in &ROWS {
-        row.plays(&rt, rt.alloc())?;
+        row.plays(&rt, rt.alloc(), BY_PORTS)?;
+    }
+    Ok(())
+}
+
+// Only atomic queues have flow lanes, so these rows play the same by flows.
+#[test]
+fn plays_the_rows_by_flows(rt: HostRuntime) -> Result<(), Fail> {
+    for row in &ROWS {
+        row.plays(&rt, rt.alloc(), BY_FLOWS)?;
     }
     Ok(())
 }

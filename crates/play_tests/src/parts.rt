@@ -61,7 +61,7 @@ pub static LIMITS: [(&str, &str); 28] = [
 ];
 
 /// Parts of the good document, each with what stands in its place and the name of the document's fault.
-pub static REPLACED: [(&str, &str, &str); 77] = [
+pub static REPLACED: [(&str, &str, &str); 76] = [
     ("limit = 4", "limt = 4\nlimit = 4", "UnknownKey"),
     ("slots = 4", "slots = 4\nslot = 4", "UnknownKey"),
     ("links = [0]", "links = [0]\nlink = 0", "UnknownKey"),
@@ -121,11 +121,6 @@ pub static REPLACED: [(&str, &str, &str); 77] = [
     ("links = [0]", "links = [true]", "BadValue"),
     ("links = [0]", "links = [0, -1]", "BadValue"),
     ("quantum = 2", "quantum = 2\nserving = \"ports\"", ""),
-    (
-        "quantum = 2",
-        "quantum = 2\nserving = \"flows\"",
-        "BadValue",
-    ),
     (
         "quantum = 2",
         "quantum = 2\nserving = \"lanes\"",

@@ -96,6 +96,11 @@ pub const ATOMIC: &str = "[[queue]]\nkind = \"atomic\"\nslots = 4\n";
 pub const ATOMIC_AND_PARALLEL: &str =
     "[[queue]]\nkind = \"atomic\"\nslots = 4\n[[queue]]\nkind = \"parallel\"\n";
 
+/// How a document says that the device is served by its ports, and by flows.
+pub const BY_PORTS: &str = "";
+
+pub const BY_FLOWS: &str = "serving = \"flows\"\n";
+
 /// A device, the script that is played on it, and all that is written.
 pub struct Row {
     pub name: &'static str,
@@ -109,8 +114,8 @@ pub struct Row {
 }
 
 impl Row {
-    /// The document of the row.
-    fn document(&self, alloc: Global) -> Result<String, Fail> {
+    /// The document of the row, for a device that is served like this.
+    fn document(&self, alloc: Global, serving: &str) -> Result<String, Fail> {
         let (limit, quantum, sweep) = (self.limit, self.quantum, self.sweep);
         let (queues, script) = (self.queues, self.script);
         let mut text = String::new(alloc);
@@ -118,7 +123,7 @@ impl Row {
             text,
             "limit = {limit}\nquantum = {quantum}\nsweep = {sweep}"
         )?;
-        write!(text, "script = \"\"\"\n{script}\"\"\"\n{queues}")?;
+        write!(text, "{serving}script = \"\"\"\n{script}\"\"\"\n{queues}")?;
         for port in self.ports {
             let Port {
                 threshold,
@@ -136,10 +141,10 @@ impl Row {
         Ok(text)
     }
 
-    /// Plays the row, and compares all that is written.
-    pub fn plays(&self, rt: &impl Abort, alloc: Global) -> Result<(), Fail> {
+    /// Plays the row on a device that is served like this, and compares all that is written.
+    pub fn plays(&self, rt: &impl Abort, alloc: Global, serving: &str) -> Result<(), Fail> {
         let name = self.name;
-        let document = self.document(alloc)?;
+        let document = self.document(alloc, serving)?;
         let mut reader = document.as_bytes();
         let mut written = Vec::new(alloc);
         let outcome = play(alloc, &mut reader, &mut written);

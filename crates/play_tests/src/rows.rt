@@ -1,8 +1,8 @@
 //! Worked rows: of atomic and parallel queues.
 
 use crate::row::{
-    ATOMIC, ATOMIC_AND_PARALLEL, LOW_SOURCE, LOW_WORKER, Row, SHALLOW_WORKER, SOURCE, TIGHT_WORKER,
-    WIDE_SOURCE, WIDE_WORKER, WORKER, WORKER_OF_BOTH,
+    ATOMIC, ATOMIC_AND_PARALLEL, BY_PORTS, LOW_SOURCE, LOW_WORKER, Row, SHALLOW_WORKER, SOURCE,
+    TIGHT_WORKER, WIDE_SOURCE, WIDE_WORKER, WORKER, WORKER_OF_BOTH,
 };
 use std::test::Fail;
 
@@ -412,7 +412,7 @@ limit 4
 #[test]
 fn plays_the_rows(rt: HostRuntime) -> Result<(), Fail> {
     for row in &ROWS {
-        row.plays(&rt, rt.alloc())?;
+        row.plays(&rt, rt.alloc(), BY_PORTS)?;
     }
     Ok(())
 }

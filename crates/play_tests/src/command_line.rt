@@ -3,13 +3,27 @@
 use play_command::{Choice, choice};
 
 /// The words after the program's name, what they ask for or the status to end with, and a part of what is printed.
-static LINES: [(&[&str], Result<Choice, u8>, &str); 6] = [
+static LINES: [(&[&str], Result<Choice, u8>, &str); 12] = [
     (&["play"], Ok(Choice::Play), ""),
     (&["--help"], Err(0), "play"),
     (&["help"], Err(0), "play"),
     (&[], Err(2), "play"),
     (&["stop"], Err(2), "stop"),
     (&["play", "now"], Err(2), "now"),
+    (&["run"], Ok(Choice::Run { workers: 2 }), ""),
+    (
+        &["run", "--workers", "1"],
+        Ok(Choice::Run { workers: 1 }),
+        "",
+    ),
+    (
+        &["run", "--workers", "8"],
+        Ok(Choice::Run { workers: 8 }),
+        "",
+    ),
+    (&["run", "--workers", "0"], Err(2), "0"),
+    (&["run", "--workers", "9"], Err(2), "9"),
+    (&["run", "--help"], Err(0), "--workers"),
 ];
 
 #[test]

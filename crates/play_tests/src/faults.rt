@@ -18,11 +18,12 @@ static FEW_BYTES: [(&[u8], &str); 3] = [
 ];
 
 /// Faults with their lines and statuses.
-static FAULTS: [(AppFault, &str, u8); 5] = [
+static FAULTS: [(AppFault, &str, u8); 6] = [
     (AppFault::Read, "evsched: read failed", 3),
     (AppFault::Write, "evsched: write failed", 3),
     (AppFault::Memory, "evsched: out of memory or seats", 5),
     (AppFault::NoSeat, "evsched: out of memory or seats", 5),
+    (AppFault::Strayed, "evsched: a worker strayed", 6),
     (
         AppFault::Document(DocFault::BadCommand(4294967295)),
         "evsched: document: BadCommand 4294967295",

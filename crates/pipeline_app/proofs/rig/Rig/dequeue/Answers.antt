@@ -15,6 +15,7 @@ returns-in_ok-from_slice-in-Ok-clause-call c =
         credit = c.dequeue.ensures.credit;
         ok = rw copied c.in-Ok.ensures.ok;
         few = rw copied c.in-Ok.ensures.few;
+        drained = rw copied c.in-Ok.ensures.drained;
         behind = tt;
         settled = c.in-Ok.ensures.settled;
       };
@@ -35,6 +36,7 @@ returns-in-Err-clause-call c =
         credit = c.dequeue.ensures.credit;
         ok = tt;
         few = tt;
+        drained = tt;
         behind = c.in-Err.ensures.behind;
         settled = c.in-Err.ensures.settled;
       };

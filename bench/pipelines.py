@@ -1,0 +1,84 @@
+#!/usr/bin/env python3
+"""Times pipelines that threads run, where the scheduler serves the ports and where it serves flow lanes, with 1, 2, 4 and 8 workers.
+It fails where the memory of a run of 200,000 events is more than 2.3 times that of a run of 100,000.
+
+    pipelines.py [PROGRAM]
+
+The program is `run_bench`; where none is named it is built. Each time is the best of three runs, less that of a run with no event.
+How much faster more workers are is no fault: how many processors there are decides that.
+"""
+import os
+import pathlib
+import subprocess
+import sys
+import time
+
+SERVINGS, WORKERS, EVENTS, RUNS = ("ports", "flows"), (1, 2, 4, 8), 200_000, 3
+COUNTS, MOST = (100_000, 200_000), 2.3
+CRATE = pathlib.Path(__file__).resolve().parent.parent / "crates" / "run_bench"
+
+
+def built():
+    """The program, which `rt run` proves and builds where it is older than its sources."""
+    words = (CRATE / "args").read_text().split()
+    run = subprocess.run(["rt", "run", "--", *words], cwd=CRATE, stdout=subprocess.PIPE, stderr=subprocess.STDOUT, check=False)
+    if run.returncode != 0:
+        sys.exit(f"run_bench isn't built: {run.stdout.decode()[-2000:]}")
+    return CRATE / "out" / "run_bench"
+
+
+def named():
+    """The program that the command line names, or else the built one."""
+    return pathlib.Path(sys.argv[1]).resolve() if len(sys.argv) == 2 else built()
+
+
+def run(program, serving, workers, events):
+    """The seconds that a run takes and the kilobytes that it holds at most, once its line is checked."""
+    start = time.perf_counter()
+    child = subprocess.Popen([program, serving, str(workers), str(events)], stdout=subprocess.PIPE)
+    line = child.stdout.read().decode()
+    _, status, used = os.wait4(child.pid, 0)
+    elapsed = time.perf_counter() - start
+    child.stdout.close()
+    child.returncode = os.waitstatus_to_exitcode(status)
+    if child.returncode != 0 or not line.startswith(f"{serving} workers={workers} events={events} bytes="):
+        sys.exit(f"{program} ended with {child.returncode}: {line}")
+    return elapsed, used.ru_maxrss
+
+
+def seconds(program, serving, workers):
+    """What the events take: the least of some runs, less the least without events."""
+    least = {events: min(run(program, serving, workers, events)[0] for _ in range(RUNS)) for events in (0, EVENTS)}
+    return least[EVENTS] - least[0]
+
+
+def compare_speeds(program):
+    """Prints the events per second of both servings, and the ratio of each to that of one worker."""
+    print(f"{os.cpu_count()} processors, {EVENTS:,} events")
+    print(f"{'workers':7}" + "".join(f" {serving + ' per second':>16} {'ratio':>5}" for serving in SERVINGS))
+    first = {}
+    for workers in WORKERS:
+        times = {serving: seconds(program, serving, workers) for serving in SERVINGS}
+        first = first or times
+        print(f"{workers:7}" + "".join(f" {EVENTS / times[each]:16,.0f} {first[each] / times[each]:5.2f}" for each in SERVINGS))
+
+
+def compare_memory(program):
+    """Prints the memory of a run and of one with twice the events, and whether neither serving takes more than `MOST` times as much."""
+    ratios = []
+    for serving in SERVINGS:
+        short, long = (run(program, serving, 2, events)[1] for events in COUNTS)
+        print(f"{serving}: {short / 1024:.1f} MiB at {COUNTS[0]:,} events, {long / 1024:.1f} at {COUNTS[1]:,}, ratio {long / short:.2f}")
+        ratios.append(long / short)
+    return max(ratios) <= MOST
+
+
+def main():
+    if len(sys.argv) > 2:
+        sys.exit(__doc__)
+    program = named()
+    compare_speeds(program)
+    sys.exit(0 if compare_memory(program) else 1)
+
+
+main()

@@ -1,0 +1,61 @@
+//! The program `run_bench`: the trace of so many events is run by threads through a pipeline of three stages. It prints how long the
+//! text is of what the stages accepted.
+#![tactic(auto)]
+
+mod asked;
+mod document;
+mod fault;
+mod run;
+mod trace;
+
+use asked::{Asked, read_words, serving_word};
+use document::document;
+use fault::BenchFault;
+use run::text_length;
+use std::env;
+use std::process::ExitCode;
+use std::rt::Env;
+use std::sync::Wait;
+use std::thread::Threads;
+
+/// The words of the command line after the program's name.
+fn words<R: AllocGlobal + Env>(rt: &R) -> Result<Vec<String>, BenchFault> {
+    match env::args(rt) {
+        Ok(args) => match args.skip(1).collect(rt.alloc()) {
+            Ok(words) => Ok(words),
+            Err(_) => Err(BenchFault::Memory),
+        },
+        Err(_) => Err(BenchFault::WordCount),
+    }
+}
+
+/// Makes the run that the words ask for, and prints its line.
+fn print_run<R: AllocGlobal + Env + Print + Threads + Wait + Sync>(
+    rt: &R,
+) -> Result<(), BenchFault> {
+    let words = words(rt)?;
+    let asked = read_words(&words)?;
+    let Asked {
+        serving,
+        workers,
+        events,
+    } = asked;
+    let document = document(rt.alloc(), serving)?;
+    let bytes = text_length(rt, rt.alloc(), document.as_bytes(), workers, events)?;
+    let serving = serving_word(serving);
+    match println!(rt; "{serving} workers={workers} events={events} bytes={bytes}") {
+        Ok(()) => Ok(()),
+        Err(_) => Err(BenchFault::Write),
+    }
+}
+
+fn main(rt: HostRuntime) -> ExitCode {
+    match print_run(&rt) {
+        Ok(()) => ExitCode::from(0),
+        Err(fault) => {
+            let text = fault.text();
+            let _ = eprintln!(rt; "run_bench: {text}");
+            ExitCode::from(fault.status())
+        }
+    }
+}

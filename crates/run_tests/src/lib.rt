@@ -7,6 +7,8 @@ mod faults;
 #[cfg(test)]
 mod gates;
 #[cfg(test)]
+mod logs;
+#[cfg(test)]
 mod row;
 #[cfg(test)]
 mod rows;

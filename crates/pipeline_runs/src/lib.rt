@@ -5,4 +5,4 @@ mod run;
 
 pub use pipeline_threads::{Gate, OpenGate};
 pub use play_command::AppFault;
-pub use run::run_trace;
+pub use run::{pipeline_text, run_trace};

@@ -60,8 +60,9 @@ fn run_fault(fault: RunFault) -> AppFault
     }
 }
 
-/// The text of the pipeline's run, which is that of the plain pipeline.
-fn pipeline_text<R: Threads + Wait + Sync, G: Gate>(
+/// Runs the pipeline's trace through its stages, each port in a thread of its own, and gives the text of what each stage accepted, by
+/// flow and level. Whatever the schedule, it is that of the plain pipeline.
+pub fn pipeline_text<R: Threads + Wait + Sync, G: Gate>(
     rt: &R,
     alloc: Global,
     pipeline: Pipeline,

@@ -3,7 +3,7 @@
 ghost use Rattle.std.specs.Prelude.{◌≡◌, if◌then◌else◌};
 ghost use Rattle.run_bench.specs.Fault.{is_of_words};
 
-use pipeline_threads::RunFault;
+use pipeline_runs::AppFault;
 use play_documents::ReadFault;
 use std::alloc::{AllocError, AllocFailed};
 
@@ -87,11 +87,14 @@ impl From<ReadFault> for BenchFault {
     }
 }
 
-impl From<RunFault> for BenchFault {
-    fn from(fault: RunFault) -> BenchFault {
+impl From<AppFault> for BenchFault {
+    fn from(fault: AppFault) -> BenchFault {
         match fault {
-            RunFault::Memory => BenchFault::Memory,
-            RunFault::NoSeat => BenchFault::NoSeat,
+            AppFault::Read | AppFault::Document(_) => BenchFault::Document,
+            AppFault::Write => BenchFault::Write,
+            AppFault::Memory => BenchFault::Memory,
+            AppFault::NoSeat => BenchFault::NoSeat,
+            AppFault::Strayed => BenchFault::Strayed,
         }
     }
 }

@@ -6,7 +6,7 @@ use Rattle.device_bench.specs.declared.case.Case.{Case}
 -- a bench of this case and burst, by which nothing went
 pub record IsFresh (b : Bench) (case : Case) (burst : ℕ) : Type 0 where
   pub case_is : b.case ≡ case
-  pub burst_is : b.burst ≡ burst
+  pub burst_is : b.burst.length ≡ burst
   pub entered : b.counts.entered ≡ 0
   pub given : b.counts.given ≡ 0
   pub released : b.counts.released ≡ 0
@@ -25,4 +25,4 @@ gifts_of case = if case.forwards then 2 else 1
 
 -- how many events a round gives to the worker
 abbrev pub through : Bench → ℕ
-through b = gifts_of b.case * b.burst
+through b = gifts_of b.case * b.burst.length

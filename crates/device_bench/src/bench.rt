@@ -1,8 +1,9 @@
 //! A device, and the calls by which a burst of events goes through it.
 
 ghost use Rattle.std.specs.Prelude.{◌≡◌, ◌+◌, ◌*◌, IfOk, OnOk};
-ghost use Rattle.device_bench.specs.Rounds.{IsFresh, Moves, through};
+ghost use Rattle.device_bench.specs.Rounds.{IsFresh, Moves, gifts_of, through};
 
+use crate::burst::Burst;
 use crate::case::{Case, SECOND};
 use crate::config::bench_shape;
 use crate::fault::BenchFault;
@@ -32,21 +33,21 @@ pub struct Bench {
     log: Vec<Step>,
     /// The events of a burst.
     events: Vec<Event>,
-    /// A burst of releases.
+    /// A portion of releases.
     releases: Vec<Event>,
     case: Case,
-    burst: u64,
+    burst: Burst,
     pub counts: Counts,
 }
 
-/// The count once a burst came; anything else than a burst is a fault.
-fn add(count: u64, came: usize, burst: u64) -> Result<u64, BenchFault>
-    ensures { IfOk result (λ n. (n ≡ count + came) × (came ≡ burst)) }
+/// The count once so many came as were wanted; anything else is a fault.
+fn add(count: u64, came: usize, wanted: u64) -> Result<u64, BenchFault>
+    ensures { IfOk result (λ n. (n ≡ count + came) × (came ≡ wanted)) }
 {
-    if came as u64 != burst {
+    if came as u64 != wanted {
         return Err(BenchFault::Stuck);
     }
-    count.checked_add(burst).ok_or(BenchFault::Stuck)
+    count.checked_add(wanted).ok_or(BenchFault::Stuck)
 }
 
 impl Bench {
@@ -61,15 +62,16 @@ impl Bench {
         let (Some(worker), Some(source)) = (ports.pop(), ports.pop()) else {
             return Err(BenchFault::Device);
         };
+        let burst = Burst::new(burst, case.room())?;
         Ok(Bench {
             scheduler,
             source,
             worker,
             log: Vec::new(alloc),
-            events: Vec::with_capacity(alloc, burst)?,
-            releases: vec![in alloc; Event::release(); burst]?,
+            events: Vec::with_capacity(alloc, burst.length as usize)?,
+            releases: vec![in alloc; Event::release(); burst.portion as usize]?,
             case,
-            burst: burst as u64,
+            burst,
             counts: Counts {
                 entered: 0,
                 given: 0,
@@ -80,34 +82,34 @@ impl Bench {
 
     /// The source enqueues a burst of new events.
     fn enter(&mut self) -> Result<(), BenchFault>
-        ensures { OnOk result (Moves self.old self.new self.old.burst 0 0) }
+        ensures { OnOk result (Moves self.old self.new self.old.burst.length 0 0) }
     {
         let first = self.counts.entered;
         self.events.clear();
-        for place in 0..self.burst {
+        for place in 0..self.burst.length {
             self.events
                 .push(self.case.event(first.wrapping_add(place)))?;
         }
         let (taken, _) = self.source.enqueue_burst(&self.events);
-        self.counts.entered = add(first, taken, self.burst)?;
+        self.counts.entered = add(first, taken, self.burst.length)?;
         Ok(())
     }
 
-    /// A sweep, which gives a burst to the worker.
+    /// A sweep, which gives a portion to the worker.
     fn sweep(&mut self) -> Result<(), BenchFault>
-        ensures { OnOk result (Moves self.old self.new 0 self.old.burst 0) }
+        ensures { OnOk result (Moves self.old self.new 0 self.old.burst.portion 0) }
     {
         self.log.clear();
         let swept = self.scheduler.sweep(&mut self.log)?;
-        self.counts.given = add(self.counts.given, swept.given, self.burst)?;
+        self.counts.given = add(self.counts.given, swept.given, self.burst.portion)?;
         Ok(())
     }
 
-    /// The worker dequeues a burst.
+    /// The worker dequeues a portion.
     fn receive(&mut self) -> ArrayVec<Delivery, 64>
         ensures { Moves self.old self.new 0 0 0 }
     {
-        match self.worker.dequeue(self.burst as usize) {
+        match self.worker.dequeue(self.burst.portion as usize) {
             Ok(deliveries) => deliveries,
             Err(_) => ArrayVec::new(),
         }
@@ -124,26 +126,25 @@ impl Bench {
             self.events.push(event.forwarded(SECOND, event.payload))?;
         }
         let (taken, _) = self.worker.enqueue_burst(&self.events);
-        add(0, taken, self.burst)?;
+        add(0, taken, self.burst.portion)?;
         Ok(())
     }
 
     /// The worker releases what it dequeues.
     fn release(&mut self) -> Result<(), BenchFault>
-        ensures { OnOk result (Moves self.old self.new 0 0 self.old.burst) }
+        ensures { OnOk result (Moves self.old self.new 0 0 self.old.burst.portion) }
     {
         let deliveries = self.receive();
-        add(0, deliveries.len(), self.burst)?;
+        add(0, deliveries.len(), self.burst.portion)?;
         let (taken, _) = self.worker.enqueue_burst(&self.releases);
-        self.counts.released = add(self.counts.released, taken, self.burst)?;
+        self.counts.released = add(self.counts.released, taken, self.burst.portion)?;
         Ok(())
     }
 
-    /// A burst goes through the device.
-    fn round(&mut self) -> Result<(), BenchFault>
-        ensures { OnOk result (Moves self.old self.new self.old.burst (through self.old) self.old.burst) }
+    /// The worker gets a portion of what is inside, and it leaves the device.
+    fn pass_portion(&mut self) -> Result<(), BenchFault>
+        ensures { OnOk result (Moves self.old self.new 0 (gifts_of self.old.case * self.old.burst.portion) self.old.burst.portion) }
     {
-        self.enter()?;
         self.sweep()?;
         if self.case.forwards {
             self.forward()?;
@@ -152,9 +153,27 @@ impl Bench {
         self.release()
     }
 
+    /// All portions of a burst leave the device.
+    fn pass_burst(&mut self) -> Result<(), BenchFault>
+        ensures { OnOk result (Moves self.old self.new 0 (through self.old) self.old.burst.length) }
+    {
+        for _ in 0..self.burst.portions {
+            self.pass_portion()?;
+        }
+        Ok(())
+    }
+
+    /// A burst goes through the device.
+    fn round(&mut self) -> Result<(), BenchFault>
+        ensures { OnOk result (Moves self.old self.new self.old.burst.length (through self.old) self.old.burst.length) }
+    {
+        self.enter()?;
+        self.pass_burst()
+    }
+
     /// So many rounds.
     pub fn rounds(&mut self, count: u64) -> Result<(), BenchFault>
-        ensures { OnOk result (Moves self.old self.new (count * self.old.burst) (count * through self.old) (count * self.old.burst)) }
+        ensures { OnOk result (Moves self.old self.new (count * self.old.burst.length) (count * through self.old) (count * self.old.burst.length)) }
     {
         for _ in 0..count {
             self.round()?;

@@ -2,7 +2,7 @@
 
 ghost use Rattle.std.specs.Prelude.{◌≡◌, ◌<◌, ◌≤◌, ◌^◌};
 
-use evt_types::{Event, Kind, Op};
+use evt_types::{Event, FLOW_DEPTH, Kind, MAX_DEPTH, MAX_SLOTS, Op, Serving};
 
 /// The queue that new events enter.
 pub const FIRST: u8 = 0;
@@ -16,6 +16,7 @@ pub const BURSTS: [usize; 2] = [1, 32];
 pub struct Case {
     pub name: &'static str,
     pub kind: Kind,
+    pub serving: Serving,
     /// Of how many flows the events are.
     pub flows: u32,
     /// Whether the worker forwards each event to a parallel queue, and releases it there.
@@ -23,24 +24,41 @@ pub struct Case {
     pub ghost in_range: { (1 ≤ flows) × (flows ≤ 2 ^ 20) },
 }
 
-/// A case.
+/// A case in which the scheduler hands all events to the ports.
 fn make_case(name: &'static str, kind: Kind, flows: u32, forwards: bool) -> Case
     requires { (1 ≤ flows) × (flows ≤ 2 ^ 20) }
 {
     Case {
         name,
         kind,
+        serving: Serving::Ports,
         flows,
         forwards,
     }
 }
 
+/// A case in which each slot of an atomic queue has a lane, which the worker claims.
+fn make_lane_case(name: &'static str, flows: u32) -> Case
+    requires { (1 ≤ flows) × (flows ≤ 2 ^ 20) }
+{
+    Case {
+        name,
+        kind: Kind::Atomic,
+        serving: Serving::Flows,
+        flows,
+        forwards: false,
+    }
+}
+
 /// The cases, in the order in which they run.
-pub fn cases() -> [Case; 6] {
+pub fn cases() -> [Case; 9] {
     [
         make_case("atomic-1-flow", Kind::Atomic, 1, false),
         make_case("atomic-64-flows", Kind::Atomic, 64, false),
         make_case("atomic-1024-flows", Kind::Atomic, 1024, false),
+        make_lane_case("atomic-1-flow-lanes", 1),
+        make_lane_case("atomic-64-flows-lanes", 64),
+        make_lane_case("atomic-1024-flows-lanes", 1024),
         make_case("parallel", Kind::Parallel, 64, false),
         make_case("ordered", Kind::Ordered, 64, false),
         make_case("ordered-to-parallel", Kind::Ordered, 64, true),
@@ -48,6 +66,18 @@ pub fn cases() -> [Case; 6] {
 }
 
 impl Case {
+    /// How many of its events the worker may hold: of a slot's lane no more than the lane's depth.
+    pub fn room(&self) -> u32 {
+        match self.serving {
+            Serving::Ports => MAX_DEPTH,
+            Serving::Flows => self
+                .flows
+                .min(MAX_SLOTS)
+                .saturating_mul(FLOW_DEPTH)
+                .min(MAX_DEPTH),
+        }
+    }
+
     /// The new event of this number.
     pub fn event(&self, number: u64) -> Event {
         Event {

@@ -2,9 +2,7 @@
 
 use crate::case::Case;
 use crate::fault::BenchFault;
-use evt_types::{
-    Draft, Kind, MAX_DEPTH, MAX_ORDER, MAX_SLOTS, PortDraft, QueueDraft, Serving, Shape,
-};
+use evt_types::{Draft, Kind, MAX_DEPTH, MAX_ORDER, MAX_SLOTS, PortDraft, QueueDraft, Shape};
 use std::alloc::{AllocError, Global};
 
 /// How many events may be inside.
@@ -44,7 +42,7 @@ pub fn bench_shape(alloc: Global, case: Case) -> Result<Shape, BenchFault> {
         limit: LIMIT,
         quantum: QUANTUM,
         sweep: SWEEP,
-        serving: Serving::Ports,
+        serving: case.serving,
         queues: Vec::from_array(alloc, queues)?,
         ports: Vec::from_array(alloc, ports)?,
     };

@@ -3,6 +3,7 @@
 #![tactic(auto)]
 
 mod bench;
+mod burst;
 mod case;
 mod config;
 mod count;

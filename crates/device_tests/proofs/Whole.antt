@@ -7,7 +7,6 @@ use Rattle.std.proofs.lemmas.List.{get_or-map, length-map}
 use Rattle.std.proofs.lemmas.List.FromFn.{get_or-map-range_with_len, length-map-range_with_len}
 use Rattle.std.proofs.lemmas.Option.{get_or_from_slice_get}
 use Rattle.credit_pool.specs.Accounts.{Stays}
-use Rattle.credit_pool.specs.declared.pool.Credits.{Credits}
 use Rattle.evt_types.specs.Plan.{Plan}
 use Rattle.event_ports.specs.Ports.{Place, account_of, place_of}
 use Rattle.event_ports.specs.declared.port.Port.{Port}
@@ -17,9 +16,6 @@ use Rattle.event_recorder.specs.Ports.{DifferInNumber}
 use Rattle.event_recorder.specs.Recorder.{Recorded}
 use Rattle.event_recorder.specs.Stop.{AreOf}
 use Rattle.event_recorder.specs.declared.control.Control.{Control}
-use Rattle.event_scheduler.specs.Scheduler.{Site}
-use Rattle.flow_claims.specs.declared.claims.Claims.{Claims}
-use Rattle.lane_rings.specs.Identity.{LaneId}
 use Rattle.device_tests.specs.Whole.{IsWhole, device_at}
 
 -- ---- calls

@@ -97,7 +97,8 @@ fn a_burst_may_release(rt: HostRuntime) -> Result<(), Fail> {
 #[test]
 fn ports_have_numbers(rt: HostRuntime) -> Result<(), Fail> {
     let parts = Parts::new(rt.alloc())?;
-    assert_eq!(rt; (parts.source.number(), parts.worker.number()), (0, 1));
-    assert_eq!(rt; (parts.source.held(), parts.worker.held()), (0, 0));
+    let Parts { source, worker, .. } = &parts;
+    assert_eq!(rt; (source.number(), worker.number()), (0, 1));
+    assert_eq!(rt; (source.held(), worker.held()), (0, 0));
     Ok(())
 }

@@ -128,6 +128,31 @@ impl Checker {
         }
     }
 
+    /// The event of this number of the queue.
+    pub(crate) fn event(&self, queue: usize, number: u64) -> Result<Event, Fault> {
+        let Some(queue) = self.queues.get(queue) else {
+            return Err(Fault::Unknown);
+        };
+        queue.event(number).ok_or(Fault::Unknown)
+    }
+
+    /// How many events the queue gave that weren't answered.
+    pub(crate) fn unanswered(&self, queue: usize) -> usize {
+        match self.queues.get(queue) {
+            Some(queue) => queue.unanswered(),
+            None => 0,
+        }
+    }
+
+    /// The events that were released.
+    pub(crate) fn released(&self, alloc: Global) -> Result<Vec<Event>, Fault> {
+        let mut events = Vec::new(alloc);
+        for queue in &self.queues {
+            queue.list_released(&mut events)?;
+        }
+        Ok(events)
+    }
+
     /// How many events were accepted as new.
     pub(crate) fn entered(&self) -> u64 {
         self.entered

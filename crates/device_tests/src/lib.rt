@@ -3,6 +3,8 @@
 #![tactic(auto)]
 
 #[cfg(test)]
+mod accounts;
+#[cfg(test)]
 mod calls;
 #[cfg(test)]
 mod checker;
@@ -10,6 +12,8 @@ mod checker;
 mod checks;
 #[cfg(test)]
 mod flow_rows;
+#[cfg(test)]
+mod flow_threads;
 #[cfg(test)]
 mod left;
 #[cfg(test)]
@@ -20,6 +24,8 @@ mod plans;
 mod rig;
 #[cfg(test)]
 mod rows;
+#[cfg(test)]
+mod runs;
 #[cfg(test)]
 mod steps;
 #[cfg(test)]

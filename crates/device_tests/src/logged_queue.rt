@@ -249,6 +249,32 @@ impl LoggedQueue {
         })
     }
 
+    /// The event of this number.
+    pub(crate) fn event(&self, number: u64) -> Option<Event> {
+        match self.entries.get(number as usize) {
+            Some(entry) => Some(entry.event),
+            None => None,
+        }
+    }
+
+    /// How many events were given and not answered.
+    pub(crate) fn unanswered(&self) -> usize {
+        let entries = self.entries.iter();
+        entries
+            .filter(|entry| entry.is_given && entry.outcome.is_none())
+            .count()
+    }
+
+    /// Appends the events that were released.
+    pub(crate) fn list_released(&self, events: &mut Vec<Event>) -> Result<(), Fault> {
+        for entry in self.entries.iter() {
+            if entry.outcome == Some(Outcome::Released) {
+                append(events, entry.event)?;
+            }
+        }
+        Ok(())
+    }
+
     /// How many events it accepted.
     pub(crate) fn len(&self) -> usize {
         self.entries.len()

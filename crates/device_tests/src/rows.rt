@@ -15,13 +15,21 @@ fn rig_of(alloc: Global, ports: &[PortPlan]) -> Result<Rig, Fail> {
     Rig::new(alloc, &one_queue(Serving::Ports, &queues, ports))
 }
 
-/// An event was brought in, handed out and released, and the last sweep made.
-fn first_event(alloc: Global) -> Result<Rig, Fail> {
+/// An event was brought in and handed out, and port 1 holds it.
+fn one_held(alloc: Global) -> Result<Rig, Fail> {
     let mut rig = rig_of(alloc, &[SOURCE, WORKER])?;
     rig.play(&[
         taken(0, new_event(7, 5)),
         swept(1, 1),
         dequeued(1, 4, &[delivery(0, new_event(7, 5))]),
+    ])?;
+    Ok(rig)
+}
+
+/// It was released, and the last sweep made.
+fn first_event(alloc: Global) -> Result<Rig, Fail> {
+    let mut rig = one_held(alloc)?;
+    rig.play(&[
         release(1),
         swept(1, 0),
         Call::Look {
@@ -81,14 +89,8 @@ fn misuse_is_refused(rt: HostRuntime) -> Result<(), Fail> {
 /// Of a RELEASE nothing but its operation counts.
 #[test]
 fn a_release_may_name_any_queue(rt: HostRuntime) -> Result<(), Fail> {
-    let mut rig = rig_of(rt.alloc(), &[SOURCE, WORKER])?;
-    rig.play(&[
-        taken(0, new_event(7, 5)),
-        swept(1, 1),
-        dequeued(1, 4, &[delivery(0, new_event(7, 5))]),
-        taken(1, event(Op::Release, 200, 0, 0)),
-        swept(1, 0),
-    ])
+    let mut rig = one_held(rt.alloc())?;
+    rig.play(&[taken(1, event(Op::Release, 200, 0, 0)), swept(1, 0)])
 }
 
 /// Two NEWs were made before the device was shut, and one after it.

@@ -1,7 +1,7 @@
 use Rattle.std.proofs.Common.{ap, arith, sym, ◌∙◌}
 use Rattle.event_recorder.specs.Device.{site_of}
 use Rattle.device_tests.proofs.Whole.{map_by_place}
-use Rattle.device_tests.proofs.threads.serve_all.Goals as goal
+use Rattle.device_tests.proofs.runs.serve_all.Goals as goal
 
 pub returns : goal.returns
 returns g c =

@@ -58,10 +58,11 @@ fn check_stopped<R: Abort>(
     alloc: Global,
     queues: &[QueueDraft],
     report: &Report,
+    is_seen: bool,
 ) -> Result<(), Fail> {
     let mut checker = Checker::new(alloc, queues, MAX_LANES)?;
     checker.read(&report.log)?;
-    assert!(rt; checker.is_shut() && report.kept.is_empty());
+    assert!(rt; checker.is_shut() == is_seen && report.kept.is_empty());
     let entries = entry_count(report);
     assert_eq!(rt;
         credits(report).saturating_add(entries as u64),
@@ -83,11 +84,11 @@ fn check_stopped<R: Abort>(
 }
 
 /// Stops the device once half of the events have come in.
-fn stop_halfway<R: Threads + Abort + Sync>(rt: &R, alloc: Global) -> Result<(), Fail> {
+fn stop_halfway<R: Threads + Abort + Sync>(rt: &R, alloc: Global, end: End) -> Result<(), Fail> {
     let queues = queues();
-    let rig = run_lanes(rt, alloc, &queues, End::Halfway)?;
+    let rig = run_lanes(rt, alloc, &queues, end)?;
     let report = rig.stop(alloc)?;
-    check_stopped(rt, alloc, &queues, &report)
+    check_stopped(rt, alloc, &queues, &report, end == End::Seen)
 }
 
 /// Passes all events over all queues.
@@ -100,8 +101,13 @@ fn pass_all<R: Threads + Abort + Sync>(rt: &R, alloc: Global) -> Result<(), Fail
 }
 
 #[test]
-fn lanes_stopped_halfway(rt: HostRuntime) -> Result<(), Fail> {
-    stop_halfway(&rt, rt.alloc())
+fn lanes_stopped_after_a_sweep(rt: HostRuntime) -> Result<(), Fail> {
+    stop_halfway(&rt, rt.alloc(), End::Seen)
+}
+
+#[test]
+fn lanes_stopped_at_once(rt: HostRuntime) -> Result<(), Fail> {
+    stop_halfway(&rt, rt.alloc(), End::Unseen)
 }
 
 #[test]

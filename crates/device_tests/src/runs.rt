@@ -27,8 +27,10 @@ const BATCH: usize = 4;
 /// When the device is shut.
 #[derive(Clone, Copy, PartialEq, Eq)]
 pub(crate) enum End {
-    /// Once half of the events were accepted, while the others work on.
-    Halfway,
+    /// Once half of the events were accepted, while the ports work on; one more sweep sees it.
+    Seen,
+    /// Then too, but after the last sweep, so that what the ports answer meanwhile stays untaken.
+    Unseen,
     /// Once all have come and gone.
     Through,
 }
@@ -186,7 +188,7 @@ fn serve_all<R: Threads + Sync>(rt: &R, ports: Vec<Port>, last: u8) -> Result<Ve
 fn is_reached(recorder: &Recorder, end: End) -> bool {
     let accepted = recorder.accepted_new();
     match end {
-        End::Halfway => accepted >= u64::from(EVENTS / 2),
+        End::Seen | End::Unseen => accepted >= u64::from(EVENTS / 2),
         End::Through => accepted == u64::from(EVENTS) && recorder.inside() == 0,
     }
 }
@@ -215,8 +217,9 @@ fn schedule(recorder: Recorder, control: Control, end: End) -> (Recorder, Contro
         }
     }
     control.shut();
-    // This sweep sees it.
-    let _ = recorder.sweep();
+    if end != End::Unseen {
+        let _ = recorder.sweep();
+    }
     (recorder, control)
 }
 

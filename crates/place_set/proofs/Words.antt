@@ -1,0 +1,46 @@
+-- Bits of a word: of a set of them, of the first ones, of two words joined.
+use Rattle.std.proofs.Common.{◌≡◌, ◌≢◌, ℕ, ◌-◌, ◌*◌, ◌^◌, ◌%◌, ◌<◌, ◌≤◌, inl, inr, ⊎_elim, ◌∙◌, sym, arith, w64}
+use Rattle.std.proofs.lemmas.Bool.{cases_lt, cases_eq}
+use Rattle.std.proofs.lemmas.Nat.Bits.{bit_at_and, bit_at_or, bit_at-lt, bit_at-zero, bit_at-trailing_zeros, bit_at_clear_other, bit_at_above, bit_at_ones, bit_at_ones_above, same_from_bits}
+use Rattle.std.specs.Prelude.{bit_and, bit_or, ◌↔◌, ◌⊎◌}
+use Rattle.std.specs.Int.{bit_at, bit_not, trailing_zeros}
+
+pub same_bits : (a b : ℕ) → a ≡ b → (a ≡ 1) ↔ (b ≡ 1)
+same_bits a b e = (λ x. sym e ∙ x, λ x. e ∙ x)
+
+pub in_both : (a b i : ℕ) → (bit_at (bit_and a b) i ≡ 1) ↔ ((bit_at a i ≡ 1) × (bit_at b i ≡ 1))
+in_both a b i =
+    let e = bit_at_and a b i in
+    let x = bit_at-lt a i in
+    let y = bit_at-lt b i in
+    (λ h. (omega arith, omega arith), λ h. let l = h.0 in let r = h.1 in omega arith)
+
+pub in_either : (a b i : ℕ) → (bit_at (bit_or a b) i ≡ 1) ↔ ((bit_at a i ≡ 1) ⊎ (bit_at b i ≡ 1))
+in_either a b i =
+    let e = bit_at_or a b i in
+    let x = bit_at-lt a i in
+    let y = bit_at-lt b i in
+    (λ h. ⊎_elim (λ (z : bit_at a i ≡ 1). inl z) (λ other. inr (omega arith)) (cases_eq (bit_at a i) 1), λ h. ⊎_elim (λ l. omega arith) (λ r. omega arith) h)
+
+-- the first ones
+pub in_ones : (k i : ℕ) → (bit_at (2 ^ k - 1) i ≡ 1) ↔ (i < k)
+in_ones k i =
+    (λ h. ⊎_elim (λ lt. lt) (λ ge. let zero = bit_at_ones_above k i ge in absurd (omega arith)) (cases_lt i k), λ lt. bit_at_ones k i lt)
+
+-- a word without ones is 0
+pub no_ones : (n : ℕ) → ((i : ℕ) → bit_at n i ≡ 1 → ⊥) → n ≡ 0
+no_ones n none = same_from_bits n 0 (λ i. let zero = bit_at-zero i in let small = bit_at-lt n i in ⊎_elim (λ one. absurd (none i one)) (λ other. omega arith) (cases_eq (bit_at n i) 1))
+
+-- the lowest one
+pub lowest : (n : ℕ) → n ≢ 0 → n < 2 ^ 64 → (trailing_zeros w64 n < 64) × (bit_at n (trailing_zeros w64 n) ≡ 1) × ((i : ℕ) → bit_at n i ≡ 1 → trailing_zeros w64 n ≤ i)
+lowest n some fits =
+    let t = bit_at-trailing_zeros w64 n (omega arith) fits in
+    (t.0, t.1, λ i one. ⊎_elim (λ lt. let zero = t.2 i lt in absurd (omega arith)) (λ ge. ge) (cases_lt i (trailing_zeros w64 n)))
+
+-- a one is cleared
+module _ (n k : ℕ) (within : k < 64) (fits : n < 2 ^ 64) where
+  pub cleared_others : (i : ℕ) → i ≢ k → bit_at (bit_and n (bit_not w64 (1 * 2 ^ k % 2 ^ 64))) i ≡ bit_at n i
+  cleared_others i apart =
+      ⊎_elim (λ low. bit_at_clear_other w64 n k within i low apart)
+      (λ high. let zero = bit_at_above n 64 i fits high in let both = bit_at_and n (bit_not w64 (1 * 2 ^ k % 2 ^ 64)) i in omega arith)
+      (cases_lt i 64)

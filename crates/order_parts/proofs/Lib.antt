@@ -1,2 +1,3 @@
+pub mod HeldSlots
 pub mod Holds
 pub mod Places

@@ -1,3 +1,4 @@
+pub mod Held
 pub mod History
 pub mod Pins
 pub mod Reorder

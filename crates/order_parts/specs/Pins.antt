@@ -1,5 +1,5 @@
 -- The pins of an atomic queue's slots: how many unanswered events of a slot there are, and the lane on which they stand.
-use Rattle.std.specs.Prelude.{ℕ, ◌+◌, ◌-◌, Bool, ◌||◌, ◌==◌, List, slice_index_or}
+use Rattle.std.specs.Prelude.{ℕ, ◌+◌, ◌-◌, Bool, ◌||◌, ◌==◌, nat_lt, List, slice_index_or, if◌then◌else◌}
 use Rattle.order_parts.specs.declared.pins.Hold.{Hold}
 
 -- how many unanswered events of the slot there are, and the last lane that was given one
@@ -28,3 +28,7 @@ pinned p l = record { count = p.count + 1; lane = l }
 -- one event fewer; the lane stays
 abbrev pub unpinned : Pin → Pin
 unpinned p = record { count = p.count - 1; lane = p.lane }
+
+-- the number under which the slots of a lane are noted: a port's lane has its own, all flow lanes have one
+abbrev pub cell_of : ℕ → ℕ
+cell_of l = if nat_lt l 32 then l else 32

@@ -1,10 +1,13 @@
 //! Which lane holds each slot of an atomic queue.
 
-ghost use Rattle.std.specs.Prelude.{◌≡◌, ◌<◌, length, replicate, slice_set, IfOk, IsTrue};
+ghost use Rattle.std.specs.Prelude.{◌≡◌, ℕ, ◌<◌, ◌≤◌, ◌↔◌, length, replicate, slice_set, IfOk, IsTrue};
 ghost use Rattle.evt_types.specs.declared.shape.TheConstants.{MAX_DEPTH};
-ghost use Rattle.order_parts.specs.Pins.{free, pin_at, may_pin, pinned, unpinned};
+ghost use Rattle.order_parts.specs.Pins.{cell_of, free, pin_at, may_pin, pinned, unpinned};
+ghost use Rattle.place_set.specs.Places.{Has};
 
 use crate::Memory;
+use evt_types::{MAX_PORTS, MAX_SLOTS};
+use place_set::Places;
 use std::alloc::Global;
 use std::marker::Model;
 
@@ -15,28 +18,51 @@ struct Hold {
     lane: usize,
 }
 
+/// How many sets of held slots there are: one for each port's lane, and one for all flow lanes.
+const CELLS: usize = MAX_PORTS + 1;
+
 /// The pins of an atomic queue: while events of a slot are unanswered, they all stand on one lane.
 #[derive(Debug, Drop)]
 pub struct Pins {
     holds: Vec<Hold>,
+    /// For each port's lane the slots that stand on it, and behind them those that stand on any flow lane.
+    held: [Places; CELLS],
+    /// The sets into which a slot was put so far.
+    used: Places,
+}
+
+/// The set of the lane's slots.
+fn cell_of(lane: usize) -> usize
+    ensures value { result ≡ cell_of lane }
+    ensures within { result < CELLS }
+{
+    if lane < MAX_PORTS { lane } else { MAX_PORTS }
 }
 
 impl Model for Pins {
     ghost use Rattle.std.specs.Prelude.{List, map};
     ghost use Rattle.order_parts.specs.Pins.{Pin, pin_of};
+    ghost use Rattle.order_parts.specs.Held.{AreHeld};
 
     ghost Value = { List Pin };
 
     ghost view = { λ a. map pin_of a.holds.items };
+
+    ghost invariant = { λ a. AreHeld (map pin_of a.holds.items) a.held a.used };
 }
 
 impl Pins {
     /// Pins for so many slots, all free.
     pub fn new(alloc: Global, slots: usize) -> Result<Pins, Memory>
+        requires { slots ≤ MAX_SLOTS }
         ensures { IfOk result (λ p. p ≡ replicate slots free) }
     {
         let holds = vec![in alloc; Hold { count: 0, lane: 0 }; slots]?;
-        Ok(Pins { holds })
+        Ok(Pins {
+            holds,
+            held: [Places::none(); CELLS],
+            used: Places::none(),
+        })
     }
 
     /// How many slots there are.
@@ -62,6 +88,11 @@ impl Pins {
         requires room { (pin_at self.old slot).count < MAX_DEPTH }
         ensures { self.new ≡ slice_set self.old slot (pinned (pin_at self.old slot) lane) }
     {
+        let cell = cell_of(lane);
+        let mut slots = self.held[cell];
+        slots.add(slot);
+        self.held[cell] = slots;
+        self.used.add(cell);
         let hold = &mut self.holds[slot];
         hold.count += 1;
         hold.lane = lane;
@@ -75,5 +106,27 @@ impl Pins {
     {
         let hold = &mut self.holds[slot];
         hold.count -= 1;
+        if hold.count == 0 {
+            let cell = cell_of(hold.lane);
+            let mut slots = self.held[cell];
+            slots.remove(slot);
+            self.held[cell] = slots;
+        }
+    }
+
+    /// The slots whose event may go to one of these lanes, which are ports' own: the slot is free, or one of them has it.
+    pub fn may_go(&self, lanes: Places) -> Places
+        requires { (l : ℕ) → Has lanes l → l < MAX_PORTS }
+        ensures { (s : ℕ) → s < length self.now → Has result s ↔ ((l : ℕ) × Has lanes l × IsTrue (may_pin (pin_at self.now s) l)) }
+    {
+        let Some(_lane) = lanes.first() else {
+            return Places::none();
+        };
+        let mut closed = self.used.except(lanes);
+        let mut allowed = Places::below(self.slots());
+        while let Some(cell) = closed.pop() {
+            allowed = allowed.except(self.held[cell]);
+        }
+        allowed
     }
 }

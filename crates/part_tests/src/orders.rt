@@ -1,16 +1,19 @@
 //! Worked calls. Each container is made again where memory was refused, and serves then as ever.
 
-ghost use Rattle.std.specs.Prelude.{◌≡◌, [], replicate, IfOk};
+ghost use Rattle.std.specs.Prelude.{◌≡◌, ℕ, ◌<◌, ◌≤◌, [], replicate, IfOk};
 ghost use Rattle.order_parts.specs.History.{entries_of};
 ghost use Rattle.order_parts.specs.Pins.{free};
 ghost use Rattle.order_parts.specs.Reorder.{empty};
+ghost use Rattle.place_set.specs.Places.{Has};
 
 use evt_types::{Event, EventFault, Op};
 use order_parts::{Entry, History, Memory, Pins, Reorder};
+use place_set::Places;
 use std::alloc::Global;
 use std::test::Fail;
 
 fn pins_of(alloc: Global, slots: usize) -> Result<Pins, Memory>
+    requires { slots ≤ 64 }
     ensures { IfOk result (λ p. p ≡ replicate slots free) }
 {
     match Pins::new(alloc, slots) {
@@ -51,6 +54,29 @@ fn a_slot_is_free_once_all_are_answered(rt: HostRuntime) -> Result<(), Fail> {
     assert!(rt; pins.may(0, 2));
     pins.unpin(0);
     assert!(rt; pins.may(0, 1));
+    Ok(())
+}
+
+/// The lane's set.
+fn lane(lane: usize) -> Places
+    requires { lane < 32 }
+    ensures { (l : ℕ) → Has result l → l < 32 }
+{
+    let mut lanes = Places::none();
+    lanes.add(lane);
+    lanes
+}
+
+#[test]
+fn a_held_slot_may_go_to_its_lane_alone(rt: HostRuntime) -> Result<(), Fail> {
+    let mut pins = pins_of(rt.alloc(), 3)?;
+    pins.pin(1, 2);
+    assert_eq!(rt; pins.may_go(lane(2)), Places::below(3));
+    let mut free = Places::below(3);
+    free.remove(1);
+    assert_eq!(rt; pins.may_go(lane(0)), free);
+    pins.unpin(1);
+    assert_eq!(rt; pins.may_go(lane(0)), Places::below(3));
     Ok(())
 }
 

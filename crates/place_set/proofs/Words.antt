@@ -1,7 +1,7 @@
 -- Bits of a word: of a set of them, of the first ones, of two words joined.
 use Rattle.std.proofs.Common.{◌≡◌, ◌≢◌, ℕ, ◌-◌, ◌*◌, ◌^◌, ◌%◌, ◌<◌, ◌≤◌, inl, inr, ⊎_elim, ◌∙◌, sym, arith, w64}
 use Rattle.std.proofs.lemmas.Bool.{cases_lt, cases_eq}
-use Rattle.std.proofs.lemmas.Nat.Bits.{bit_at_and, bit_at_or, bit_at-lt, bit_at-zero, bit_at-trailing_zeros, bit_at_clear_other, bit_at_above, bit_at_ones, bit_at_ones_above, same_from_bits}
+use Rattle.std.proofs.lemmas.Nat.Bits.{bit_at_and, bit_at_or, bit_at-lt, bit_at-zero, bit_at-trailing_zeros, bit_at_clear_other, bit_at_not, bit_at_above, bit_at_ones, bit_at_ones_above, same_from_bits}
 use Rattle.std.specs.Prelude.{bit_and, bit_or, ◌↔◌, ◌⊎◌}
 use Rattle.std.specs.Int.{bit_at, bit_not, trailing_zeros}
 
@@ -44,3 +44,21 @@ module _ (n k : ℕ) (within : k < 64) (fits : n < 2 ^ 64) where
       ⊎_elim (λ low. bit_at_clear_other w64 n k within i low apart)
       (λ high. let zero = bit_at_above n 64 i fits high in let both = bit_at_and n (bit_not w64 (1 * 2 ^ k % 2 ^ 64)) i in omega arith)
       (cases_lt i 64)
+
+-- of two words, the ones of the first alone
+pub in_first_alone : (a b i : ℕ) → a < 2 ^ 64 → b < 2 ^ 64 → (bit_at (bit_and a (bit_not w64 b)) i ≡ 1) ↔ ((bit_at a i ≡ 1) × (bit_at b i ≡ 1 → ⊥))
+in_first_alone a b i fits fits_too = ⊎_elim low high (cases_lt i 64)
+  where
+    low : i < 64 → (bit_at (bit_and a (bit_not w64 b)) i ≡ 1) ↔ ((bit_at a i ≡ 1) × (bit_at b i ≡ 1 → ⊥))
+    low lt =
+        let e = bit_at_and a (bit_not w64 b) i in
+        let f = bit_at_not w64 b i fits_too lt in
+        let x = bit_at-lt a i in
+        let y = bit_at-lt b i in
+        (λ h. (omega arith, λ one. omega arith), λ h. let l = h.0 in ⊎_elim (λ one. absurd (h.1 one)) (λ other. omega arith) (cases_eq (bit_at b i) 1))
+
+    high : 64 ≤ i → (bit_at (bit_and a (bit_not w64 b)) i ≡ 1) ↔ ((bit_at a i ≡ 1) × (bit_at b i ≡ 1 → ⊥))
+    high ge =
+        let e = bit_at_and a (bit_not w64 b) i in
+        let zero = bit_at_above a 64 i fits ge in
+        (λ h. absurd (omega arith), λ h. let l = h.0 in absurd (omega arith))

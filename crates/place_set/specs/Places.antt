@@ -1,5 +1,5 @@
 -- A set of places.
-use Rattle.std.specs.Prelude.{ℕ, ◌≡◌, ◌≢◌, ◌<◌, ◌≤◌, ◌↔◌}
+use Rattle.std.specs.Prelude.{ℕ, ◌≡◌, ◌≢◌, ◌<◌, ◌≤◌, ◌↔◌, List, slice_index_or}
 use Rattle.std.specs.Int.{bit_at}
 use Rattle.place_set.specs.declared.places.Places.{Places}
 
@@ -23,3 +23,12 @@ pub record IsFirst (s : Places) (k : ℕ) : Type 0 where
 -- a number that falls with each place that is taken out, for walks over a set
 abbrev pub weight : Places → ℕ
 weight s = s.bits
+
+-- ---- lists of sets
+
+abbrev pub no_places : Places
+no_places = record { bits = 0 }
+
+-- the set of a number; one that isn't there is empty
+abbrev pub set_at : List Places → ℕ → Places
+set_at sets k = slice_index_or sets k no_places

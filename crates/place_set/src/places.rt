@@ -86,6 +86,16 @@ impl Places {
         }
     }
 
+    /// The places of this set that are not in the other one.
+    pub fn except(self, other: Places) -> Places
+        ensures { (i : ℕ) → Has result i ↔ (Has self i × ¬ Has other i) }
+    {
+        let bits = self.bits;
+        Places {
+            bits: bits & !other.bits,
+        }
+    }
+
     /// The lowest place of the set.
     pub fn first(self) -> Option<usize>
         ensures first { IfSome result (IsFirst self) }

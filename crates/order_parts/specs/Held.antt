@@ -1,0 +1,19 @@
+-- The slots of each lane, as sets, beside the pins.
+use Rattle.std.specs.Prelude.{ℕ, ◌≡◌, ◌<◌, ◌≤◌, ◌↔◌, List, length}
+use Rattle.order_parts.specs.Pins.{Pin, cell_of, pin_at}
+use Rattle.place_set.specs.Places.{Has, set_at}
+use Rattle.place_set.specs.declared.places.Places.{Places}
+
+-- unanswered events of the slot stand on a lane that is noted under this number
+pub record IsHeldIn (ps : List Pin) (k s : ℕ) : Type 0 where
+  pub slot : s < length ps
+  pub some : 0 < (pin_at ps s).count
+  pub cell : cell_of (pin_at ps s).lane ≡ k
+
+-- each set has the slots that stand on its lanes, and only sets that are noted as used have any
+pub record AreHeld (ps : List Pin) (sets : List Places) (used : Places) : Type 0 where
+  pub few : length ps ≤ 64
+  pub cells : length sets ≡ 33
+  pub held : (k s : ℕ) → k < 33 → Has (set_at sets k) s ↔ IsHeldIn ps k s
+  pub noted : (k s : ℕ) → k < 33 → Has (set_at sets k) s → Has used k
+  pub within : (k : ℕ) → Has used k → k < 33

@@ -13,8 +13,11 @@ use std::marker::Model;
 /// Many lists of waiting events, with room for so many events in all.
 #[derive(Debug, Drop)]
 pub struct WaitingLists {
+    // The nodes of all chains. Memory for as many as there may be is reserved, so that a push asks for none.
     nodes: Slab<Node>,
+    // One for each list.
     chains: Vec<Chain>,
+    // The memory that is reserved may be for more.
     room: usize,
 }
 

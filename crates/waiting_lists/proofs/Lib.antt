@@ -1,0 +1,6 @@
+pub mod Changes
+pub mod Firsts
+pub mod Pairs
+pub mod Paths
+pub mod Stores
+pub mod Views

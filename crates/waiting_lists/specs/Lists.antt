@@ -1,0 +1,31 @@
+-- Many lists of waiting events, and how many events they may have in all.
+use Rattle.std.specs.Prelude.{ℕ, List, [], ◌∷◌, ◌++◌, length, drop, replicate, slice_set, slice_index_or, sum_by}
+use Rattle.evt_types.specs.declared.event.Numbered.{Numbered}
+
+-- the lists, each oldest first
+pub record Lists : Type 0 where
+  pub room : ℕ
+  pub lists : List (List Numbered)
+
+abbrev pub list_at : Lists → ℕ → List Numbered
+list_at v k = slice_index_or v.lists k []
+
+-- how many events are in all lists
+abbrev pub total_of : Lists → ℕ
+total_of v = sum_by length v.lists
+
+-- so many lists with no events
+abbrev pub all_empty : ℕ → ℕ → Lists
+all_empty n room = record { room = room; lists = replicate n [] }
+
+-- another list at one place; the others stay
+abbrev pub with_list : Lists → ℕ → List Numbered → Lists
+with_list v k xs = record v { lists = slice_set v.lists k xs }
+
+-- the event is the last one of the list
+abbrev pub with_last : Lists → ℕ → Numbered → Lists
+with_last v k w = with_list v k (list_at v k ++ w ∷ [])
+
+-- the oldest event of the list is gone; where the list is empty, nothing changes
+abbrev pub without_first : Lists → ℕ → Lists
+without_first v k = with_list v k (drop 1 (list_at v k))

@@ -1,0 +1,127 @@
+//! Many lists of waiting events.
+
+ghost use Rattle.std.specs.Prelude.{◌≡◌, ◌+◌, ◌<◌, ◌≤◌, ◌++◌, length, map, slice_get, vec_len, vec_capacity, IfOk};
+ghost use Rattle.evt_types.specs.declared.event.Numbered.{Numbered as NumberedValue};
+ghost use Rattle.waiting_lists.specs.Lists.{list_at, total_of, all_empty, with_last, without_first};
+
+use crate::chain::{Chain, Node, append};
+use evt_types::Numbered;
+use slab::Slab;
+use std::alloc::{AllocError, Global};
+use std::marker::Model;
+
+/// Many lists of waiting events, with room for so many events in all.
+#[derive(Debug, Drop)]
+pub struct WaitingLists {
+    // The nodes of all chains. Memory for as many as there may be is reserved, so that a push asks for none.
+    nodes: Slab<Node>,
+    // One for each list.
+    chains: Vec<Chain>,
+    // The memory that is reserved may be for more.
+    room: usize,
+}
+
+impl Model for WaitingLists {
+    ghost use Rattle.waiting_lists.specs.Lists.{Lists};
+    ghost use Rattle.waiting_lists.specs.Store.{lists_in, IsStore};
+
+    ghost Value = { Lists };
+
+    ghost view = { λ a. lists_in a.nodes a.chains.items a.room };
+
+    ghost invariant = { λ a. IsStore a.nodes a.chains.items a.room };
+}
+
+impl WaitingLists {
+    /// So many empty lists, with room for so many events in all.
+    pub fn new(alloc: Global, lists: usize, room: usize) -> Result<WaitingLists, AllocError>
+        ensures { IfOk result (λ s. s ≡ all_empty lists room) }
+    {
+        let none = Chain {
+            first: 0,
+            last: 0,
+            len: 0,
+        };
+        let nodes = Slab::with_capacity(alloc, room)?;
+        let chains = vec![in alloc; none; lists]?;
+        Ok(WaitingLists {
+            nodes,
+            chains,
+            room,
+        })
+    }
+
+    /// How many events are in all lists.
+    pub fn total(&self) -> usize
+        ensures value { result ≡ total_of self.now }
+        ensures within { total_of self.now ≤ self.now.room }
+    {
+        self.nodes.len()
+    }
+
+    /// How many events are in the list.
+    pub fn len(&self, list: usize) -> usize
+        requires { list < length self.now.lists }
+        ensures value { result ≡ length (list_at self.now list) }
+        ensures within { total_of self.now ≤ self.now.room }
+    {
+        self.chains[list].len
+    }
+
+    /// The oldest event of the list.
+    pub fn front(&self, list: usize) -> Option<Numbered>
+        requires { list < length self.now.lists }
+        ensures { result ≡ slice_get (list_at self.now list) 0 }
+    {
+        let chain = self.chains[list];
+        if chain.len == 0 {
+            return None;
+        }
+        Some(self.nodes[chain.first].item)
+    }
+
+    /// Puts the event at the list's end.
+    pub fn push(&mut self, list: usize, item: Numbered)
+        requires list { list < length self.old.lists }
+        requires room { total_of self.old < self.old.room }
+        ensures { self.new ≡ with_last self.old list item }
+    {
+        let key = self.nodes.insert_reserved(Node { item, next: 0 });
+        self.chains[list] = append(&mut self.nodes, self.chains[list], key);
+    }
+
+    /// Takes the oldest event of the list out.
+    pub fn pop(&mut self, list: usize) -> Option<Numbered>
+        requires { list < length self.old.lists }
+        ensures value { result ≡ slice_get (list_at self.old list) 0 }
+        ensures rest { self.new ≡ without_first self.old list }
+    {
+        let chain = self.chains[list];
+        if chain.len == 0 {
+            return None;
+        }
+        let node = self.nodes.remove(chain.first);
+        self.chains[list] = Chain {
+            first: node.next,
+            last: chain.last,
+            len: chain.len - 1,
+        };
+        Some(node.item)
+    }
+
+    /// Appends the queue's number with the number of each of the list's events, oldest first.
+    pub fn push_pairs(&self, list: usize, queue: usize, into: &mut Vec<(usize, u64)>)
+        requires list { list < length self.now.lists }
+        requires room { vec_len into.old + length (list_at self.now list) ≤ vec_capacity into.old }
+        ensures pairs { into.new.items ≡ into.old.items ++ map (λ (w : NumberedValue). (queue, w.number)) (list_at self.now list) }
+        ensures room { vec_capacity into.new ≡ vec_capacity into.old }
+    {
+        let chain = self.chains[list];
+        let mut cursor = chain.first;
+        for _ in 0..chain.len {
+            let node = self.nodes[cursor];
+            into.push_reserved((queue, node.item.number));
+            cursor = node.next;
+        }
+    }
+}

@@ -200,6 +200,7 @@ core_answers a i old new y f ps n m core h is oldest items capacity named few un
       queues = core.queues;
       lanes = length-set a.lanes.items i new ∙ core.lanes;
       sound = core.sound;
+      slots = core.slots;
       room = room_set a.shape a.lanes.items i old new h is capacity core.room;
       pins =
           subst (λ us. ArePins a.shape us ps) (sym (lanes_answered a i old new h is items))

@@ -19,12 +19,12 @@ use Rattle.evt_types.specs.declared.event.Event.{Event}
 use Rattle.evt_types.specs.declared.event.Numbered.{Numbered}
 use Rattle.order_parts.specs.Reorder.{Reordering, empty}
 use Rattle.sched_core.proofs.OrderMoves.{accepted_places}
-use Rattle.sched_core.specs.Inner.{IsQueueOf, HaveRoom, held_of}
+use Rattle.sched_core.specs.Inner.{IsQueueOf, HaveRoom, HaveSlots, held_of, slots_for}
 use Rattle.sched_core.specs.Ordered.{ArePlaces, kept_of, order_at, waits_at, places_in}
 use Rattle.sched_core.specs.View.{waiting_in, next_in, unanswered_in, entries_in, view_in, IsCore}
 use Rattle.order_parts.specs.declared.history.Entry.{Entry}
 use Rattle.order_parts.specs.History.{Entries}
-use Rattle.sched_core.specs.Waits.{Waits, AreWaits, at_level, no_waits, with_event}
+use Rattle.sched_core.specs.Waits.{Waits, AreWaits, no_waits, with_event}
 use Rattle.sched_core.specs.declared.state.Core.TheInside.{Inside}
 
 -- ---- a queue and a lane that change
@@ -103,6 +103,19 @@ room_set p ls i old new h is same room k d lt = by_case (cases_eq k i)
         (subst (λ n. depth_of p k ≤ n) (sym same) (subst (λ (l : Entries). depth_of p k ≤ l.capacity) (ap (λ n. get_or ls n old) e ∙ sym is) (room k old within)))
     by_case (inr differs) = subst (λ (l : Entries). depth_of p k ≤ l.capacity) (sym (get_or-set_other ls i k new d differs)) (room k d within)
 
+-- the slots of a queue that keeps them
+pub slots_set : (p : Plan) (qs : List Waits) (i : ℕ) (old new : Waits) → i < length qs → old ≡ get_or qs i old → new.slots ≡ old.slots → HaveSlots p qs → HaveSlots p (set qs i new)
+slots_set p qs i old new h is same slots k d lt = by_case (cases_eq k i)
+  where
+    within : k < length qs
+    within = subst (λ n. k < n) (length-set qs i new) lt
+
+    by_case : (k ≡ i) ⊎ (k ≢ i) → (get_or (set qs i new) k d).slots ≡ slots_for p k
+    by_case (inl e) =
+        ap (λ (q : Waits). q.slots) (ap (λ n. get_or (set qs i new) n d) e ∙ get_or-set_same qs i new d h)
+        ∙ (same ∙ (ap (λ (q : Waits). q.slots) is ∙ (ap (λ n. (get_or qs n old).slots) (sym e) ∙ slots k old within)))
+    by_case (inr differs) = ap (λ (q : Waits). q.slots) (get_or-set_other qs i k new d differs) ∙ slots k d within
+
 -- ---- an event is accepted
 
 pub fits_queue : (a : Inside) (i : ℕ) (old : Waits) → IsCore a → i < length a.queues.items → old ≡ get_or a.queues.items i old → inside_of (view_in a) < bound_of a.shape → length old.waiting < old.room
@@ -120,7 +133,7 @@ fits_number a i old h is =
 
 -- the queue is the one that the invariant of the places speaks of
 pub waits_here_is : (qs : List Waits) (i : ℕ) (old : Waits) → i < length qs → old ≡ get_or qs i old → waits_at qs i ≡ old
-waits_here_is qs i old h is = get_or_default qs i (no_waits 0) old h ∙ sym is
+waits_here_is qs i old h is = get_or_default qs i (no_waits 1 0) old h ∙ sym is
 
 pub core_accepts : (a : Inside) (i : ℕ) (old new : Waits) (e : Event) → IsCore a → inside_of (view_in a) < bound_of a.shape → entries_of (view_in a) < 2 ^ 63 → i < length a.queues.items → old ≡ get_or a.queues.items i old
     → new ≡ with_event old e → AreWaits new
@@ -139,6 +152,7 @@ core_accepts a i old new e core fits fewer h is value waits =
       queues = length-set a.queues.items i new ∙ core.queues;
       lanes = core.lanes;
       sound = All-set (IsQueueOf (bound_of a.shape)) a.queues.items i new (record { room = ap (λ (q : Waits). q.room) value ∙ (queue_here a i old core h is).room; waits = waits }) core.sound;
+      slots = slots_set a.shape a.queues.items i old new h is (ap (λ (q : Waits). q.slots) value) core.slots;
       room = core.room;
       pins = core.pins;
       inside = omega arith;
@@ -183,10 +197,7 @@ pub levels_here : (a : Inside) (i : ℕ) (old : Waits) → IsCore a → i < leng
 levels_here a i old core h is = subst (All (λ (w : Numbered). level_of w.event < 4)) (sym (waiting_here a i old h is)) (queue_here a i old core h is).waits.levels
 
 pub levels_there : (a : Inside) (i : ℕ) → IsCore a → i < length a.queues.items → All (λ (w : Numbered). level_of w.event < 4) (waiting_at (view_in a) i)
-levels_there a i core h = levels_here a i (get_or a.queues.items i (no_waits 0)) core h (get_or_default a.queues.items i (no_waits 0) (get_or a.queues.items i (no_waits 0)) h)
-
-pub level_here : (a : Inside) (i c : ℕ) (old : Waits) → i < length a.queues.items → old ≡ get_or a.queues.items i old → at_level c (waiting_at (view_in a) i) ≡ at_level c old.waiting
-level_here a i c old h is = ap (at_level c) (waiting_here a i old h is)
+levels_there a i core h = levels_here a i (get_or a.queues.items i (no_waits 1 0)) core h (get_or_default a.queues.items i (no_waits 1 0) (get_or a.queues.items i (no_waits 1 0)) h)
 
 -- what waits is of one of the four levels, and alone has its number
 pub level_below : (a : Inside) (i : ℕ) (old : Waits) (w : Numbered) → IsCore a → i < length a.queues.items → old ≡ get_or a.queues.items i old → Contains (waiting_at (view_in a) i) w → level_of w.event < 4
@@ -194,13 +205,13 @@ level_below a i old w core h is waits =
     let here : Contains old.waiting w = waits_here a i old w h is waits in
     subst (λ (u : Numbered). level_of u.event < 4) here.2 ((queue_here a i old core h is).waits.levels here.0 w here.1)
 
-pub only_level : (a : Inside) (i : ℕ) (old : Waits) (w : Numbered) → IsCore a → i < length a.queues.items → old ≡ get_or a.queues.items i old → Contains (waiting_at (view_in a) i) w → All (λ (u : Numbered). u.number ≡ w.number → level_of u.event ≡ level_of w.event) old.waiting
-only_level a i old w core h is waits k d lt same =
+pub only_event : (a : Inside) (i : ℕ) (old : Waits) (w : Numbered) → IsCore a → i < length a.queues.items → old ≡ get_or a.queues.items i old → Contains (waiting_at (view_in a) i) w → All (λ (u : Numbered). u.number ≡ w.number → u.event ≡ w.event) old.waiting
+only_event a i old w core h is waits k d lt same =
     let rises = (queue_here a i old core h is).waits.rising in
     let u : Numbered = get_or old.waiting k d in
     let mine : event_in old.waiting w.number ≡ Some w.event = event_in_some old.waiting w rises (waits_here a i old w h is waits) in
     let other : event_in old.waiting u.number ≡ Some u.event = event_in_at old.waiting k d rises lt in
-    ap level_of (same_Some u.event w.event (sym other ∙ (ap (event_in old.waiting) same ∙ mine)))
+    same_Some u.event w.event (sym other ∙ (ap (event_in old.waiting) same ∙ mine))
 
 -- no more events are kept than the ordered queues have places
 pub few_kept : (p : Plan) → IsWithinLimits p → sum_by kept_room p.queues ≤ MAX_QUEUES * MAX_ORDER

@@ -17,7 +17,7 @@ use Rattle.order_parts.specs.Pins.{Pin, may_pin, pinned}
 use Rattle.order_parts.specs.Reorder.{Reordering, empty, after_hand, next_number, open_place}
 use Rattle.order_parts.specs.declared.history.Entry.{Entry}
 use Rattle.sched_core.proofs.Answering.{entries_here, restoring_is}
-use Rattle.sched_core.proofs.Cores.{held_sum, in_view, kept_after, next_here, next_sum, places_here, queue_here, room_set, same_parts, unanswered_here, waiting_here, waiting_sum, waits_here_is}
+use Rattle.sched_core.proofs.Cores.{held_sum, in_view, kept_after, next_here, next_sum, places_here, queue_here, room_set, same_parts, slots_set, unanswered_here, waiting_here, waiting_sum, waits_here_is}
 use Rattle.sched_core.proofs.OrderMoves.{given_place, given_plain}
 use Rattle.sched_core.proofs.Pinned.{alone_may, pin_room, slot_within, pins_given}
 use Rattle.sched_core.specs.Inner.{IsQueueOf, held_of}
@@ -157,6 +157,7 @@ core_gives a i l old new holder held w y ps core offer h is k here waits value s
       queues = length-set a.queues.items i new ∙ core.queues;
       lanes = length-set a.lanes.items l held ∙ core.lanes;
       sound = All-set (IsQueueOf (bound_of a.shape)) a.queues.items i new (record { room = ap (λ (q : Waits). q.room) value ∙ sound.room; waits = sound_new }) core.sound;
+      slots = slots_set a.shape a.queues.items i old new h is (ap (λ (q : Waits). q.slots) value) core.slots;
       room = room_set a.shape a.lanes.items l holder held k here room core.room;
       pins =
           subst (λ us. ArePins a.shape us ps) (sym (lanes_given a l holder held y k here given))

@@ -48,6 +48,7 @@ core_leaves a q n m x core h e counted entered =
       queues = core.queues;
       lanes = core.lanes;
       sound = core.sound;
+      slots = core.slots;
       room = core.room;
       pins = core.pins;
       inside = omega arith;

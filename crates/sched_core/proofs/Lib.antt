@@ -1,10 +1,11 @@
 pub mod Answering
 pub mod Buffers
 pub mod Cores
+pub mod FirstOnes
 pub mod Giving
 pub mod KeptLists
+pub mod OpenLanes
 pub mod Leaving
-pub mod Merges
 pub mod News
 pub mod Offers
 pub mod OrderFacts
@@ -12,7 +13,6 @@ pub mod PlaceNumbers
 pub mod OrderMoves
 pub mod Ordered
 pub mod Pinned
-pub mod Queues
 pub mod Settling
 pub mod Sound
 pub mod Steps

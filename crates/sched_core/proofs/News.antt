@@ -1,5 +1,5 @@
 -- A core in which nothing has happened.
-use Rattle.std.proofs.Common.{◌≡◌, ℕ, ◌+◌, ◌<◌, ◌≤◌, ◌^◌, false, List, [], ◌∷◌, ◌++◌, length, map, All, get_or, Vec, Global, ◌⊎◌, inl, inr, refl, sym, ap, ◌∙◌, subst, arith}
+use Rattle.std.proofs.Common.{◌≡◌, ℕ, ◌+◌, ◌<◌, ◌≤◌, ◌^◌, false, true, Bool, cond, List, [], ◌∷◌, ◌++◌, length, map, All, get_or, Vec, Global, ◌⊎◌, ⊎_elim, inl, inr, refl, sym, ap, ◌∙◌, subst, arith}
 use Rattle.std.proofs.lemmas.Bool.{cases_lt}
 use Rattle.std.proofs.lemmas.List.{get_or-map, length-map, length_push, get_or_append_left, get_or_push}
 use Rattle.std.proofs.lemmas.List.Elements.{All-nil, All-push, All-map, All-weaker}
@@ -9,7 +9,7 @@ use Rattle.std.specs.List.{sum, sum_by}
 use Rattle.lists.proofs.Sums.{sum_of_map, sum_of_none}
 use Rattle.transcripts.proofs.WholeViews.{waiting_at_none, accepted_at_none, unanswered_at_none, places_at_none}
 use Rattle.evt_types.specs.Fault.{IsWithinLimits}
-use Rattle.evt_types.specs.Plan.{Plan, level_of, kept_room, lanes_of, depth_of, bound_of, queue_of}
+use Rattle.evt_types.specs.Plan.{Plan, level_of, kept_room, lanes_of, depth_of, bound_of, queue_of, is_atomic}
 use Rattle.evt_types.specs.Place.{Place}
 use Rattle.transcripts.specs.Standing.{view_of, places}
 use Rattle.transcripts.specs.Transcript.{Held, waiting, accepted, unanswered_slots}
@@ -19,7 +19,7 @@ use Rattle.order_parts.specs.Pins.{Pin}
 use Rattle.order_parts.specs.Reorder.{Reordering, empty}
 use Rattle.sched_core.proofs.OrderFacts.{new_places, order_small}
 use Rattle.sched_core.specs.Ordered.{kept_of, order_at, places_in}
-use Rattle.sched_core.specs.Inner.{IsQueueOf, IsEmptyQueue, AreEmptyQueues, IsBare, IsEmptyLane, AreEmptyLanes, held_of}
+use Rattle.sched_core.specs.Inner.{IsQueueOf, AreEmptyQueues, IsBare, IsEmptyLane, AreEmptyLanes, held_of, slots_for}
 use Rattle.sched_core.specs.Pinned.{AreFreePins}
 use Rattle.sched_core.specs.View.{waiting_in, next_in, unanswered_in, entries_in, view_in, IsCore}
 use Rattle.order_parts.specs.declared.history.Entry.{Entry}
@@ -30,14 +30,16 @@ use Rattle.sched_core.proofs.Pinned.{pins_new}
 
 -- ---- one empty queue or lane more
 
-pub queues_none : (capacity : ℕ) → AreEmptyQueues capacity 0 []
-queues_none capacity = record { count = refl; empty = All-nil (IsEmptyQueue capacity) }
+pub queues_none : (p : Plan) → AreEmptyQueues p 0 []
+queues_none p = record { count = refl; empty = λ k d lt. absurd (omega arith) }
 
-pub queues_more : (capacity n : ℕ) (qs : List Waits) (q : Waits) → AreEmptyQueues capacity n qs → IsEmptyQueue capacity q → AreEmptyQueues capacity (n + 1) (qs ++ q ∷ [])
-queues_more capacity n qs q all empty =
+pub queues_more : (p : Plan) (n : ℕ) (qs : List Waits) (q : Waits) → AreEmptyQueues p n qs → q ≡ no_waits (slots_for p n) (bound_of p) → AreEmptyQueues p (n + 1) (qs ++ q ∷ [])
+queues_more p n qs q all empty =
     record {
       count = length_push qs q ∙ ap (λ m. m + 1) all.count;
-      empty = All-push (IsEmptyQueue capacity) qs q all.empty empty;
+      empty = λ k d lt. ⊎_elim (λ below. get_or_append_left qs (q ∷ []) d k below ∙ all.empty k d below)
+          (λ from. let here : length qs ≡ k = omega (arith, lt, from, length_push qs q) in get_or_push qs q d k here ∙ (empty ∙ ap (λ m. no_waits (slots_for p m) (bound_of p)) (sym all.count ∙ here)))
+          (cases_lt k (length qs));
     }
 
 pub lanes_none : (p : Plan) → AreEmptyLanes p 0 []
@@ -60,23 +62,34 @@ lanes_more p n ls l all empty =
 
 -- ---- the core
 
-none_wait : (b : ℕ) → AreWaits (no_waits b)
-none_wait b =
+none_wait : (n b : ℕ) → 0 < n → n ≤ 64 → AreWaits (no_waits n b)
+none_wait n b some few =
     record {
       rising = λ i j d lt within. absurd (omega arith);
       below = All-nil (λ (w : Numbered). w.number < 0);
       levels = All-nil (λ (w : Numbered). level_of w.event < 4);
       fits = omega arith;
+      within = omega arith;
+      some = some;
+      few = few;
     }
 
-empty_is_queue : (b : ℕ) (q : Waits) → IsEmptyQueue b q → IsQueueOf b q
-empty_is_queue b q empty = subst (IsQueueOf b) (sym empty) (record { room = refl; waits = none_wait b })
+-- there is a slot of each queue, and no more than a set has places
+pub slots_range : (p : Plan) (q : ℕ) → IsWithinLimits p → q < length p.queues → (1 ≤ slots_for p q) × (slots_for p q ≤ 64)
+slots_range p q limits h = by_kind (is_atomic (queue_of p q).kind) refl
+  where
+    by_kind : (b : Bool) → is_atomic (queue_of p q).kind ≡ b → (1 ≤ cond b (queue_of p q).slots 1) × (cond b (queue_of p q).slots 1 ≤ 64)
+    by_kind true atomic = limits.slots q _ h atomic
+    by_kind false plain = (omega arith, omega arith)
 
-nothing_waits : (qs : List Waits) (b n : ℕ) → AreEmptyQueues b n qs → sum_by (λ (xs : List Numbered). length xs) (map waiting_in qs) ≡ 0
-nothing_waits qs b n empty = sum_of_map (λ (xs : List Numbered). length xs) waiting_in qs ∙ sum_of_none (λ x. length (waiting_in x)) qs (All-weaker (IsEmptyQueue b) (λ (q : Waits). length (waiting_in q) ≡ 0) (λ q e. ap (λ (x : Waits). length x.waiting) e) qs empty.empty)
+empty_is_queue : (p : Plan) (k : ℕ) (q : Waits) → IsWithinLimits p → k < length p.queues → q ≡ no_waits (slots_for p k) (bound_of p) → IsQueueOf (bound_of p) q
+empty_is_queue p k q limits h empty = let range = slots_range p k limits h in subst (IsQueueOf (bound_of p)) (sym empty) (record { room = refl; waits = none_wait (slots_for p k) (bound_of p) (omega (arith, range.0)) range.1 })
 
-nothing_numbered : (qs : List Waits) (b n : ℕ) → AreEmptyQueues b n qs → sum (map next_in qs) ≡ 0
-nothing_numbered qs b n empty = sum-map next_in qs ∙ sum_of_none next_in qs (All-weaker (IsEmptyQueue b) (λ (q : Waits). q.next ≡ 0) (λ q e. ap (λ (x : Waits). x.next) e) qs empty.empty)
+nothing_waits : (p : Plan) (qs : List Waits) (n : ℕ) → AreEmptyQueues p n qs → sum_by (λ (xs : List Numbered). length xs) (map waiting_in qs) ≡ 0
+nothing_waits p qs n empty = sum_of_map (λ (xs : List Numbered). length xs) waiting_in qs ∙ sum_of_none (λ x. length (waiting_in x)) qs (λ k d lt. ap (λ (x : Waits). length x.waiting) (empty.empty k d lt))
+
+nothing_numbered : (p : Plan) (qs : List Waits) (n : ℕ) → AreEmptyQueues p n qs → sum (map next_in qs) ≡ 0
+nothing_numbered p qs n empty = sum-map next_in qs ∙ sum_of_none next_in qs (λ k d lt. ap (λ (x : Waits). x.next) (empty.empty k d lt))
 
 -- the buffers of a device in which nothing has happened
 abbrev pub new_orders : Plan → List Reordering
@@ -94,11 +107,11 @@ fresh_order p q h = get_or-map (λ (d : QueueDraft). empty (kept_room d)) p.queu
 nothing_held : (ls : List Entries) (p : Plan) (n : ℕ) → AreEmptyLanes p n ls → sum_by (λ (xs : List Held). length xs) (map unanswered_in ls) ≡ 0
 nothing_held ls p n empty = sum_of_map (λ (xs : List Held). length xs) unanswered_in ls ∙ sum_of_none (λ x. length (unanswered_in x)) ls (All-weaker IsBare (λ (l : Entries). length (unanswered_in l) ≡ 0) (λ l e. ap (λ (ys : List Entry). length (map held_of ys)) e) ls empty.empty)
 
-pub core_new : (p : Plan) (qs : Vec Waits Global) (ls : Vec Entries Global) (ps : List (List Pin)) → IsWithinLimits p → bound_of p < 2 ^ 64 → AreEmptyQueues (bound_of p) (length p.queues) qs.items → AreEmptyLanes p (lanes_of p) ls.items → AreFreePins p (length p.queues) ps
+pub core_new : (p : Plan) (qs : Vec Waits Global) (ls : Vec Entries Global) (ps : List (List Pin)) → IsWithinLimits p → bound_of p < 2 ^ 64 → AreEmptyQueues p (length p.queues) qs.items → AreEmptyLanes p (lanes_of p) ls.items → AreFreePins p (length p.queues) ps
     → IsCore (record { shape = p; queues = qs; orders = new_orders p; lanes = ls; pins = ps; inside = 0; entries = 0; shut = false })
 core_new p qs ls ps limits small queues lanes pins =
-    let waits = nothing_waits qs.items (bound_of p) (length p.queues) queues in
-    let numbers = nothing_numbered qs.items (bound_of p) (length p.queues) queues in
+    let waits = nothing_waits p qs.items (length p.queues) queues in
+    let numbers = nothing_numbered p qs.items (length p.queues) queues in
     let kept = nothing_kept p in
     let held = nothing_held ls.items p (lanes_of p) lanes in
     record {
@@ -106,7 +119,8 @@ core_new p qs ls ps limits small queues lanes pins =
       small = small;
       queues = queues.count;
       lanes = lanes.count;
-      sound = All-weaker (IsEmptyQueue (bound_of p)) (IsQueueOf (bound_of p)) (empty_is_queue (bound_of p)) qs.items queues.empty;
+      sound = λ k d lt. empty_is_queue p k _ limits (omega (arith, lt, queues.count)) (queues.empty k d lt);
+      slots = λ k d lt. ap (λ (x : Waits). x.slots) (queues.empty k d lt);
       room = lanes.room;
       pins = pins_new p (map unanswered_in ls.items) ps pins (All-map (λ us. us ≡ []) unanswered_in ls.items (All-weaker IsBare (λ (l : Entries). unanswered_in l ≡ []) (λ l e. ap (map held_of) e) ls.items lanes.empty));
       inside = omega arith;
@@ -118,7 +132,7 @@ core_new p qs ls ps limits small queues lanes pins =
           (All-map (λ (ys : List Entry). ys ≡ []) entries_in ls.items lanes.empty);
     }
 
-pub view_new : (p : Plan) (qs : Vec Waits Global) (ls : Vec Entries Global) (ps : List (List Pin)) → AreEmptyQueues (bound_of p) (length p.queues) qs.items → AreEmptyLanes p (lanes_of p) ls.items → view_in (record { shape = p; queues = qs; orders = new_orders p; lanes = ls; pins = ps; inside = 0; entries = 0; shut = false }) ≡ view_of p []
+pub view_new : (p : Plan) (qs : Vec Waits Global) (ls : Vec Entries Global) (ps : List (List Pin)) → AreEmptyQueues p (length p.queues) qs.items → AreEmptyLanes p (lanes_of p) ls.items → view_in (record { shape = p; queues = qs; orders = new_orders p; lanes = ls; pins = ps; inside = 0; entries = 0; shut = false }) ≡ view_of p []
 unfolding view_of
 view_new p qs ls ps queues lanes =
     same_parts p _ _ _ _ _ _ _ _ false
@@ -132,12 +146,12 @@ view_new p qs ls ps queues lanes =
 
     get_or_empty : (k : ℕ) → k < length p.queues → get_or (map waiting_in qs.items) k [] ≡ []
     get_or_empty k h =
-        All-map (λ ws. ws ≡ []) waiting_in qs.items (All-weaker (IsEmptyQueue (bound_of p)) (λ (q : Waits). waiting_in q ≡ []) (λ q e. ap (λ (x : Waits). x.waiting) e) qs.items queues.empty)
+        All-map (λ ws. ws ≡ []) waiting_in qs.items (λ i d lt. ap (λ (x : Waits). x.waiting) (queues.empty i d lt))
         k [] (subst (λ n. k < n) (sym (length-map qs.items waiting_in ∙ queues.count)) h)
 
     get_or_zero : (k : ℕ) → k < length p.queues → get_or (map next_in qs.items) k 0 ≡ 0
     get_or_zero k h =
-        All-map (λ n. n ≡ 0) next_in qs.items (All-weaker (IsEmptyQueue (bound_of p)) (λ (q : Waits). next_in q ≡ 0) (λ q e. ap (λ (x : Waits). x.next) e) qs.items queues.empty)
+        All-map (λ n. n ≡ 0) next_in qs.items (λ i d lt. ap (λ (x : Waits). x.next) (queues.empty i d lt))
         k 0 (subst (λ n. k < n) (sym (length-map qs.items next_in ∙ queues.count)) h)
 
     none_held : (k : ℕ) → k < lanes_of p → get_or (map unanswered_in ls.items) k [] ≡ []

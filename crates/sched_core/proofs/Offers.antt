@@ -17,11 +17,9 @@ use Rattle.evt_types.specs.declared.event.Kind.TheVariants.{Ordered, Atomic, Par
 use Rattle.evt_types.specs.declared.event.Numbered.{Numbered}
 use Rattle.evt_types.specs.declared.step.Step.{Step}
 use Rattle.evt_types.specs.declared.step.Step.TheVariants.{Give}
-use Rattle.sched_core.specs.Offered.{numbered_in, FitsSlot, HasNoneAt, HasNoneIn, IsOfferAt, IsOfferIn, IsOfferOf, better_of, is_ahead, level_at}
-use Rattle.sched_core.specs.Waits.{IsRising}
-use Rattle.lists.proofs.Filters.{passes, was_there}
-use Rattle.sched_core.proofs.Queues.{level_rises}
-use Rattle.std.proofs.lemmas.Option.{get_or_from_slice_get}
+use Rattle.place_set.specs.declared.places.Places.{Places}
+use Rattle.sched_core.specs.Inner.{slots_for}
+use Rattle.sched_core.specs.Offered.{numbered_in, AreAllowed, FitsSlot, HasNoneAllowedIn, HasNoneIn, IsFirstIn, IsOfferIn, IsOfferOf, better_of, is_ahead, slot_at}
 use Rattle.sched_core.specs.declared.offer.Offer.{Offer}
 
 -- ---- a lane for an event of the slot
@@ -35,15 +33,15 @@ pub found_lane : (v : View) (s : Passed) (q slot n : ℕ) (o : Option ℕ) → I
 found_lane v s q slot n None found = tt
 found_lane v s q slot n (Some l) found = found.0.lane
 
-not_itself : (v : View) (l m : ℕ) → l ≡ m → ¬ IsBetterLane v m l
+pub not_itself : (v : View) (l m : ℕ) → l ≡ m → ¬ IsBetterLane v m l
 not_itself v l m same (inl fewer) = let e = ap (λ k. length (unanswered_at v k)) same in omega arith
 not_itself v l m same (inr lower) = let lt = lower.1 in omega arith
 
-not_better : (v : View) (b n : ℕ) → length (unanswered_at v b) ≤ length (unanswered_at v n) → b < n → ¬ IsBetterLane v n b
+pub not_better : (v : View) (b n : ℕ) → length (unanswered_at v b) ≤ length (unanswered_at v n) → b < n → ¬ IsBetterLane v n b
 not_better v b n le below (inl fewer) = omega arith
 not_better v b n le below (inr lower) = let lt = lower.1 in omega arith
 
-not_better_too : (v : View) (b n m : ℕ) → length (unanswered_at v n) < length (unanswered_at v b) → ¬ IsBetterLane v m b → ¬ IsBetterLane v m n
+pub not_better_too : (v : View) (b n m : ℕ) → length (unanswered_at v n) < length (unanswered_at v b) → ¬ IsBetterLane v m b → ¬ IsBetterLane v m n
 not_better_too v b n m gt worse (inl fewer) = worse (inl (omega arith))
 not_better_too v b n m gt worse (inr lower) = let e = lower.0 in worse (inl (omega arith))
 
@@ -82,74 +80,40 @@ found_none v s q slot n (Some l) h found = tt
 
 -- ---- the event of a level
 
--- no lane may take one of the first n events of the level
-abbrev pub HasNoneBelow : View → Passed → ℕ → ℕ → ℕ → Type 0
-HasNoneBelow v s q c n = (k : ℕ) → k < n → HasNoneAt v s q c k
-
 pub none_of : {X : Type 0} (o : Option X) (P : Type 0) → is_some o ≡ false → IfNone o P → P
 none_of None P h p = p
 none_of (Some x) P h p = absurd (false≢true (sym h))
 
--- what waits of the level
-in_level : (v : View) (q c : ℕ) (w : Numbered) → WaitsIn v q w → level_of w.event ≡ c → Contains (level_at v q c) w
-in_level v q c w waits level = Contains-filter (is_of_level c) (waiting_at v q) w waits (eq-eqb (level_of w.event) c level)
+-- a lane fits an event where it may take the event's slot
+pub slot_fits : (v : View) (s : Passed) (l q : ℕ) (w : Numbered) → FitsSlot v s q (slot_at v q w) l → Fits v s l q w
+slot_fits v s l q w fits = record { lane = fits.lane; ready = fits.ready; linked = fits.linked; room = fits.room; alone = fits.alone; places = fits.places }
 
-pub none_more : (v : View) (s : Passed) (q c i : ℕ) → HasNoneAt v s q c i → HasNoneBelow v s q c i → HasNoneBelow v s q c (i + 1)
-none_more v s q c i here none k lt = ⊎_elim (λ below. none k below) (λ le. let e : i ≡ k = omega arith in subst (HasNoneAt v s q c) e here) (cases_lt k i)
+pub fits_slot : (v : View) (s : Passed) (l q : ℕ) (w : Numbered) → Fits v s l q w → FitsSlot v s q (slot_at v q w) l
+fits_slot v s l q w fits = record { lane = fits.lane; ready = fits.ready; linked = fits.linked; room = fits.room; alone = fits.alone; places = fits.places }
 
-pub none_in : (v : View) (s : Passed) (q c n : ℕ) → length (level_at v q c) ≤ n → HasNoneBelow v s q c n → HasNoneIn v s q c
-none_in v s q c n h none w waits level m fits =
-    let here : Contains (level_at v q c) w = in_level v q c w waits level in
-    let lt = here.1 in
-    none here.0 (omega arith) w m (subst (Fits v s m q) (sym here.2) fits)
+-- where no event of the level has an allowed slot no lane may take one of them
+pub none_in : (v : View) (s : Passed) (q c : ℕ) (allowed : Places) → AreAllowed v s q allowed → ((w : Numbered) → slot_at v q w < slots_for v.shape q) → HasNoneAllowedIn v q c allowed → HasNoneIn v s q c
+none_in v s q c allowed are within none w waits level m fits = none w waits level ((are (slot_at v q w) (within w)).1 (m, fits_slot v s m q w fits))
 
--- what waits before the first event that a lane may take doesn't fit
-number_first : (v : View) (s : Passed) (q c i : ℕ) (w : Numbered) → IsRising (waiting_at v q) → i < length (level_at v q c) → ((d : Numbered) → w ≡ get_or (level_at v q c) i d) → HasNoneBelow v s q c i
-    → (u : Numbered) (m : ℕ) → WaitsIn v q u → level_of u.event ≡ c → Fits v s m q u → w.number ≤ u.number
-number_first v s q c i w rising h is none u m waits level fits =
-    let here : Contains (level_at v q c) u = in_level v q c u waits level in
-    let k : ℕ = here.0 in
-    let lt : k < length (level_at v q c) = here.1 in
-    let rises : IsRising (level_at v q c) = level_rises c (waiting_at v q) rising in
-    ⊎_elim
-    (λ below. absurd (none k below u m (subst (Fits v s m q) (sym here.2) fits)))
-    (λ from. ⊎_elim
-    (λ later. let more : (get_or (level_at v q c) i u).number < (get_or (level_at v q c) k u).number = rises i k u later lt in let e = ap (λ (x : Numbered). x.number) here.2 in let f = ap (λ (x : Numbered). x.number) (is u) in omega arith)
-    (λ upto. let e : i ≡ k = omega arith in let f = ap (λ (x : Numbered). x.number) (is u ∙ (ap (λ n. get_or (level_at v q c) n u) e ∙ here.2)) in omega arith)
-    (cases_lt i k))
-    (cases_lt k i)
-
--- the event at a place of the level waits in the queue, and is of that level
-placed_there : (v : View) (q c i : ℕ) (w : Numbered) → i < length (level_at v q c) → ((d : Numbered) → w ≡ get_or (level_at v q c) i d) → WaitsIn v q w × (level_of w.event ≡ c)
-placed_there v q c i w h is = (was_there (is_of_level c) (waiting_at v q) w here, eqb-true (level_of w.event) c (passes (is_of_level c) (waiting_at v q) w here))
-  where
-    here : Contains (level_at v q c) w
-    here = (i, h, sym (is w))
-
-pub offer_found : (v : View) (s : Passed) (q c i : ℕ) (o : Option Offer) → IsRising (waiting_at v q) → i < length (level_at v q c) → HasNoneBelow v s q c i → IfSome o (IsOfferAt v s q c i) → IfSome o (IsOfferIn v s q c)
-offer_found v s q c i None rising h none offer = tt
-offer_found v s q c i (Some x) rising h none offer =
-    let there = placed_there v q c i (numbered_in x.delivery) h offer.same in
+-- the first event of an allowed slot, for the best lane that may take it
+pub offer_in : (v : View) (s : Passed) (q c : ℕ) (allowed : Places) (w : Numbered) (o : Option Offer) → AreAllowed v s q allowed → ((u : Numbered) → slot_at v q u < slots_for v.shape q) → IsFirstIn v q c allowed w
+    → IfSome o (λ x. (numbered_in x.delivery ≡ w) × (x.delivery.queue ≡ q)) → IfSome o (λ x. Fits v s x.lane q w) → IfSome o (λ x. (m : ℕ) → Fits v s m q w → ¬ IsBetterLane v m x.lane) → IfSome o (IsOfferIn v s q c)
+offer_in v s q c allowed w None are within first same fits best = tt
+offer_in v s q c allowed w (Some x) are within first same fits best =
     record {
-      queue = offer.queue;
-      level = there.1;
-      waits = there.0;
-      fits = offer.fits;
-      best = offer.best;
-      first = number_first v s q c i (numbered_in x.delivery) rising h offer.same none;
+      queue = same.1;
+      level = subst (λ (u : Numbered). level_of u.event ≡ c) (sym same.0) first.level;
+      waits = subst (WaitsIn v q) (sym same.0) first.waits;
+      fits = subst (Fits v s x.lane q) (sym same.0) fits;
+      best = λ m fits_m. best m (subst (Fits v s m q) same.0 fits_m);
+      first = λ u m waits level fits_m. subst (λ n. n ≤ u.number) (sym (ap (λ (y : Numbered). y.number) same.0)) (first.first u waits level ((are (slot_at v q u) (within u)).1 (m, fits_slot v s m q u fits_m)));
     }
 
--- an offer for the event at a place
-pub offer_at : (v : View) (s : Passed) (q c i : ℕ) (w : Numbered) (o : Option Offer) → Some w ≡ slice_get (level_at v q c) i
-    → IfSome o (λ x. (numbered_in x.delivery ≡ w) × (x.delivery.queue ≡ q)) → IfSome o (λ x. Fits v s x.lane q w) → IfSome o (λ x. (m : ℕ) → Fits v s m q w → ¬ IsBetterLane v m x.lane) → IfSome o (IsOfferAt v s q c i)
-offer_at v s q c i w None is number fits best = tt
-offer_at v s q c i w (Some x) is number fits best =
-    record {
-      queue = number.1;
-      same = λ d. number.0 ∙ sym (get_or_from_slice_get (level_at v q c) i w d (sym is));
-      fits = subst (Fits v s x.lane q) (sym number.0) fits;
-      best = λ m fits_m. best m (subst (Fits v s m q) number.0 fits_m);
-    }
+-- it is there: the slot is allowed since some lane may take it
+pub offer_there : (v : View) (s : Passed) (q c : ℕ) (allowed : Places) (w : Numbered) (o : Option Offer) (P : Type 0) → AreAllowed v s q allowed → slot_at v q w < slots_for v.shape q → IsFirstIn v q c allowed w
+    → IfNone o ((m : ℕ) → ¬ Fits v s m q w) → IfNone o P
+offer_there v s q c allowed w None P are within first none = let may = (are (slot_at v q w) within).0 first.slot in absurd (none may.0 (slot_fits v s may.0 q w may.1))
+offer_there v s q c allowed w (Some x) P are within first none = tt
 
 -- ---- the levels of a queue
 

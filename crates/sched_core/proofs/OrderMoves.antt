@@ -27,13 +27,13 @@ each_set p ws rs q w r h k each new i lt = by_case (cases_eq i q)
     here : IsOrder p (kept_room (queue_of p q)) (waits_at (set ws q w) q) (order_at (set rs q r) q)
     here =
         subst (IsOrder p (kept_room (queue_of p q)) (waits_at (set ws q w) q)) (sym (get_or-set_same rs q r (empty 0) k))
-        (subst (λ x. IsOrder p (kept_room (queue_of p q)) x r) (sym (get_or-set_same ws q w (no_waits 0) h)) new)
+        (subst (λ x. IsOrder p (kept_room (queue_of p q)) x r) (sym (get_or-set_same ws q w (no_waits 1 0) h)) new)
 
     by_case : (i ≡ q) ⊎ (i ≢ q) → IsOrder p (kept_room (queue_of p i)) (waits_at (set ws q w) i) (order_at (set rs q r) i)
     by_case (inl same) = subst (λ n. IsOrder p (kept_room (queue_of p n)) (waits_at (set ws q w) n) (order_at (set rs q r) n)) (sym same) here
     by_case (inr other) =
         subst (IsOrder p (kept_room (queue_of p i)) (waits_at (set ws q w) i)) (sym (get_or-set_other rs q i r (empty 0) other))
-        (subst (λ x. IsOrder p (kept_room (queue_of p i)) x (order_at rs i)) (sym (get_or-set_other ws q i w (no_waits 0) other)) (each i lt))
+        (subst (λ x. IsOrder p (kept_room (queue_of p i)) x (order_at rs i)) (sym (get_or-set_other ws q i w (no_waits 1 0) other)) (each i lt))
 
 each_waits : (p : Plan) (ws : List Waits) (rs : List Reordering) (q : ℕ) (w : Waits) → q < length ws → q < length rs → Each p ws rs
     → IsOrder p (kept_room (queue_of p q)) w (order_at rs q) → Each p (set ws q w) rs
@@ -41,7 +41,7 @@ each_waits p ws rs q w h k each new = subst (Each p (set ws q w)) (set-get_or rs
 
 each_orders : (p : Plan) (ws : List Waits) (rs : List Reordering) (q : ℕ) (r : Reordering) → q < length ws → q < length rs → Each p ws rs
     → IsOrder p (kept_room (queue_of p q)) (waits_at ws q) r → Each p ws (set rs q r)
-each_orders p ws rs q r h k each new = subst (λ us. Each p us (set rs q r)) (set-get_or ws q (no_waits 0)) (each_set p ws rs q (waits_at ws q) r h k each new)
+each_orders p ws rs q r h k each new = subst (λ us. Each p us (set rs q r)) (set-get_or ws q (no_waits 1 0)) (each_set p ws rs q (waits_at ws q) r h k each new)
 
 -- the events that stand in it
 has_place_set : (p : Plan) (rs : List Reordering) (q : ℕ) (r : Reordering) (y : Entry) → q < length rs

@@ -1,6 +1,6 @@
 -- The parts of a core: what waits in a queue, what is unanswered on a lane, and what holds of each.
-use Rattle.std.specs.Prelude.{ℕ, ◌≡◌, ◌<◌, ◌≤◌, List, [], length, slice_index_or, All}
-use Rattle.evt_types.specs.Plan.{Plan, depth_of}
+use Rattle.std.specs.Prelude.{ℕ, ◌≡◌, ◌<◌, ◌≤◌, List, [], length, slice_index_or, All, if◌then◌else◌}
+use Rattle.evt_types.specs.Plan.{Plan, bound_of, depth_of, is_atomic, queue_of}
 use Rattle.transcripts.specs.Transcript.{Held}
 use Rattle.order_parts.specs.declared.history.Entry.{Entry}
 use Rattle.order_parts.specs.History.{Entries, entries_of}
@@ -11,12 +11,18 @@ pub record IsQueueOf (capacity : ℕ) (q : Waits) : Type 0 where
   pub room : q.room ≡ capacity
   pub waits : AreWaits q
 
-abbrev pub IsEmptyQueue : ℕ → Waits → Type 0
-IsEmptyQueue room q = q ≡ no_waits room
+-- how many slots the events of a queue fall into: those of an atomic queue, of another queue one
+abbrev pub slots_for : Plan → ℕ → ℕ
+slots_for p q = if is_atomic (queue_of p q).kind then (queue_of p q).slots else 1
 
-pub record AreEmptyQueues (room n : ℕ) (qs : List Waits) : Type 0 where
+-- each queue has its slots
+abbrev pub HaveSlots : Plan → List Waits → Type 0
+HaveSlots p qs = (k : ℕ) (d : Waits) → k < length qs → (slice_index_or qs k d).slots ≡ slots_for p k
+
+-- the first queues of a device, in which nothing waits
+pub record AreEmptyQueues (p : Plan) (n : ℕ) (qs : List Waits) : Type 0 where
   pub count : length qs ≡ n
-  pub empty : All (IsEmptyQueue room) qs
+  pub empty : (k : ℕ) (d : Waits) → k < length qs → slice_index_or qs k d ≡ no_waits (slots_for p k) (bound_of p)
 
 -- an unanswered event, without its place
 abbrev pub held_of : Entry → Held

@@ -1,6 +1,5 @@
 pub mod Answered
 pub mod Inner
-pub mod Merge
 pub mod Offered
 pub mod Ordered
 pub mod Orders

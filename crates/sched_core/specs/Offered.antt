@@ -1,9 +1,11 @@
 -- What is offered, and to whom.
-use Rattle.std.specs.Prelude.{ℕ, ◌≡◌, ◌<◌, ◌≤◌, Bool, false, true, length, nat_le, nat_lt, slice_index_or, List, Option, Some, None, if◌then◌else◌}
+use Rattle.std.specs.Prelude.{ℕ, ◌≡◌, ◌<◌, ◌≤◌, ◌↔◌, Bool, false, true, length, nat_le, nat_lt, slice_index_or, List, Option, Some, None, if◌then◌else◌}
 use Rattle.transcripts.specs.Choice.{Passed, Fits, HasNoOther, IsBetterLane, WaitsIn, has_bounced, is_earlier}
-use Rattle.evt_types.specs.Plan.{Plan, lanes_of, depth_of, queue_of, level_of, serves, is_atomic, is_ordered}
+use Rattle.evt_types.specs.Plan.{Plan, lanes_of, depth_of, queue_of, level_of, serves, slot_of, is_atomic, is_ordered}
 use Rattle.transcripts.specs.Standing.{View, waiting_at, places_at, unanswered_at}
-use Rattle.sched_core.specs.Waits.{at_level}
+use Rattle.place_set.specs.Places.{Has}
+use Rattle.place_set.specs.declared.places.Places.{Places}
+use Rattle.sched_core.specs.Inner.{slots_for}
 use Rattle.evt_types.specs.declared.event.Delivery.{Delivery}
 use Rattle.evt_types.specs.declared.event.Numbered.{Numbered}
 use Rattle.sched_core.specs.declared.offer.Offer.{Offer}
@@ -21,20 +23,44 @@ pub record FitsSlot (v : View) (s : Passed) (q slot l : ℕ) : Type 0 where
   pub alone : is_atomic (queue_of v.shape q).kind ≡ true → HasNoOther v l q slot
   pub places : is_ordered (queue_of v.shape q).kind ≡ true → length (places_at v q) < (queue_of v.shape q).order
 
--- the queue's waiting events of a level
-abbrev pub level_at : View → ℕ → ℕ → List Numbered
-level_at v q c = at_level c (waiting_at v q)
+-- the port's lane serves the queue, isn't passed over and has room, and the queue has a place for one event more
+pub record IsOpenLane (v : View) (s : Passed) (q l : ℕ) : Type 0 where
+  pub lane : l < length v.shape.ports
+  pub ready : has_bounced s l ≡ false
+  pub linked : serves v.shape l q 0 ≡ true
+  pub room : length (unanswered_at v l) < depth_of v.shape l
+  pub places : is_ordered (queue_of v.shape q).kind ≡ true → length (places_at v q) < (queue_of v.shape q).order
 
--- no lane may take the event at this place of the queue's level
-abbrev pub HasNoneAt : View → Passed → ℕ → ℕ → ℕ → Type 0
-HasNoneAt v s q c i = (d : Numbered) (m : ℕ) → ¬ Fits v s m q (slice_index_or (level_at v q c) i d)
+-- these are the ports' lanes that are open to the queue
+abbrev pub AreOpenLanes : View → Passed → ℕ → Places → Type 0
+AreOpenLanes v s q lanes = (l : ℕ) → Has lanes l ↔ IsOpenLane v s q l
 
--- the event at this place, for the best lane that may take it
-pub record IsOfferAt (v : View) (s : Passed) (q c i : ℕ) (o : Offer) : Type 0 where
-  pub queue : o.delivery.queue ≡ q
-  pub same : (d : Numbered) → numbered_in o.delivery ≡ slice_index_or (level_at v q c) i d
-  pub fits : Fits v s o.lane q (numbered_in o.delivery)
-  pub best : (m : ℕ) → Fits v s m q (numbered_in o.delivery) → ¬ IsBetterLane v m o.lane
+-- one of the lanes, which may hold the slot
+abbrev pub MayHold : View → Places → ℕ → ℕ → ℕ → Type 0
+MayHold v lanes q slot l = Has lanes l × (is_atomic (queue_of v.shape q).kind ≡ true → HasNoOther v l q slot)
+
+-- some lane may take an event of the slot
+abbrev pub IsAllowed : View → Passed → ℕ → ℕ → Type 0
+IsAllowed v s q slot = (l : ℕ) × FitsSlot v s q slot l
+
+-- of the queue's slots these are the ones whose events some lane may take
+abbrev pub AreAllowed : View → Passed → ℕ → Places → Type 0
+AreAllowed v s q slots = (slot : ℕ) → slot < slots_for v.shape q → Has slots slot ↔ IsAllowed v s q slot
+
+-- the slot of a waiting event of the queue
+abbrev pub slot_at : View → ℕ → Numbered → ℕ
+slot_at v q w = slot_of v.shape q w.event.flow
+
+-- of the queue's level the first event whose slot is allowed
+pub record IsFirstIn (v : View) (q c : ℕ) (allowed : Places) (w : Numbered) : Type 0 where
+  pub waits : WaitsIn v q w
+  pub level : level_of w.event ≡ c
+  pub slot : Has allowed (slot_at v q w)
+  pub first : (u : Numbered) → WaitsIn v q u → level_of u.event ≡ c → Has allowed (slot_at v q u) → w.number ≤ u.number
+
+-- no event of the queue's level has an allowed slot
+abbrev pub HasNoneAllowedIn : View → ℕ → ℕ → Places → Type 0
+HasNoneAllowedIn v q c allowed = (w : Numbered) → WaitsIn v q w → level_of w.event ≡ c → ¬ Has allowed (slot_at v q w)
 
 -- no lane may take an event of the queue's level
 abbrev pub HasNoneIn : View → Passed → ℕ → ℕ → Type 0

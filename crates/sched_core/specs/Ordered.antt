@@ -15,7 +15,7 @@ abbrev pub order_at : List Reordering → ℕ → Reordering
 order_at rs q = slice_index_or rs q (empty 0)
 
 abbrev pub waits_at : List Waits → ℕ → Waits
-waits_at ws q = slice_index_or ws q (no_waits 0)
+waits_at ws q = slice_index_or ws q (no_waits 1 0)
 
 -- what a view has of a buffer
 abbrev pub places_in : Reordering → List Place

@@ -6,7 +6,7 @@ use Rattle.transcripts.specs.Standing.{View, inside_of, entries_of}
 use Rattle.transcripts.specs.Transcript.{Held}
 use Rattle.evt_types.specs.declared.event.Numbered.{Numbered}
 use Rattle.order_parts.specs.declared.history.Entry.{Entry}
-use Rattle.sched_core.specs.Inner.{IsQueueOf, HaveRoom, held_of}
+use Rattle.sched_core.specs.Inner.{IsQueueOf, HaveRoom, HaveSlots, held_of}
 use Rattle.order_parts.specs.History.{Entries}
 use Rattle.sched_core.specs.Ordered.{ArePlaces, places_in}
 use Rattle.sched_core.specs.Pinned.{ArePins}
@@ -44,6 +44,7 @@ pub record IsCore (a : Inside) : Type 0 where
   pub queues : length a.queues.items ≡ length a.shape.queues
   pub lanes : length a.lanes.items ≡ lanes_of a.shape
   pub sound : All (IsQueueOf (bound_of a.shape)) a.queues.items
+  pub slots : HaveSlots a.shape a.queues.items
   pub room : HaveRoom a.shape a.lanes.items
   pub pins : ArePins a.shape (map unanswered_in a.lanes.items) a.pins
   pub inside : a.inside ≡ inside_of (view_in a)

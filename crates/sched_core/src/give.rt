@@ -36,7 +36,7 @@ impl Core {
         let slot = self.shape.slot_of(queue, event.flow);
         let place = self.orders.hand(queue, number);
         let left = &mut self.queues[queue];
-        left.remove(event.level(), number);
+        left.remove(event.level(), slot, number);
         self.pins.pin(queue, slot, lane);
         let holder = &mut self.lanes[lane];
         holder.push(Entry {

@@ -1,25 +1,43 @@
 //! A core in which nothing has happened.
 
-ghost use Rattle.std.specs.Prelude.{◌≡◌, [], IfOk, IfErr};
+ghost use Rattle.std.specs.Prelude.{◌≡◌, ◌<◌, ◌≤◌, [], length, IfOk, IfErr};
 ghost use Rattle.evt_types.specs.Plan.{lanes_of};
 ghost use Rattle.transcripts.specs.Standing.{Stands, view_of};
-ghost use Rattle.sched_core.specs.Inner.{AreEmptyQueues, AreEmptyLanes};
+ghost use Rattle.sched_core.specs.Inner.{AreEmptyQueues, AreEmptyLanes, slots_for};
 
 use crate::orders::AllOrders;
 use crate::pins::AllPins;
-use crate::queue::Queue;
+use crate::queue::ParkedQueue;
 use crate::state::{Core, Memory};
-use evt_types::Shape;
+use evt_types::{MAX_SLOTS, Shape};
 use order_parts::History;
 use std::alloc::{AllocError, Global};
 
-/// So many queues, each with room for so many events.
-fn empty_queues(alloc: Global, count: usize, capacity: usize) -> Result<Vec<Queue>, AllocError>
-    ensures { IfOk result (λ qs. AreEmptyQueues capacity count qs.items) }
+/// How many slots the events of a queue fall into.
+fn slots_for(shape: &Shape, queue: usize) -> usize
+    requires { queue < length shape.now.queues }
+    ensures value { result ≡ slots_for shape.now queue }
+    ensures range { (1 ≤ result) × (result ≤ MAX_SLOTS) }
 {
+    // To read a limit makes known that the limits hold.
+    let _ = shape.limit();
+    let draft = &shape.queues()[queue];
+    if draft.kind.is_atomic() {
+        draft.slots as usize
+    } else {
+        1
+    }
+}
+
+/// The queues of the configuration, each with room for as many events as may be inside.
+fn empty_queues(alloc: Global, shape: &Shape) -> Result<Vec<ParkedQueue>, AllocError>
+    ensures { IfOk result (λ qs. AreEmptyQueues shape.now (length shape.now.queues) qs.items) }
+{
+    let count = shape.queues().len();
+    let room = shape.bound();
     let mut queues = Vec::with_capacity(alloc, count)?;
-    for _ in 0..count {
-        queues.push(Queue::new(alloc, capacity)?)?;
+    for queue in 0..count {
+        queues.push(ParkedQueue::new(alloc, slots_for(shape, queue), room)?)?;
     }
     Ok(queues)
 }
@@ -44,9 +62,8 @@ impl Core {
         ensures shape { IfOk result (λ c. c.shape ≡ shape) }
         ensures back { IfErr result (λ e. e.1 ≡ shape) }
     {
-        let bound = shape.bound();
-        let count = shape.queues().len();
-        let queues = match empty_queues(alloc, count, bound) {
+        let _ = shape.bound();
+        let queues = match empty_queues(alloc, &shape) {
             Ok(queues) => queues,
             Err(memory) => return Err((memory, shape)),
         };

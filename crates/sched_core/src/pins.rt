@@ -1,12 +1,14 @@
 //! Which lane holds each slot of each queue.
 
-ghost use Rattle.std.specs.Prelude.{◌≡◌, ◌<◌, length, IfOk, IsTrue};
+ghost use Rattle.std.specs.Prelude.{◌≡◌, ℕ, ◌<◌, ◌↔◌, length, IfOk, IsTrue};
 ghost use Rattle.evt_types.specs.Plan.{atomic_slots};
 ghost use Rattle.order_parts.specs.Pins.{may_pin, pinned, unpinned};
-ghost use Rattle.sched_core.specs.Pinned.{AreFreePins, pins_at, pin_in, with_pin};
+ghost use Rattle.place_set.specs.Places.{Has};
+ghost use Rattle.sched_core.specs.Pinned.{AreFreePins, IsSlotOf, MayGo, pins_at, pin_in, with_pin};
 
-use evt_types::{MAX_DEPTH, QueueDraft, Shape};
+use evt_types::{MAX_DEPTH, MAX_PORTS, QueueDraft, Shape};
 use order_parts::Pins;
+use place_set::Places;
 use std::alloc::{AllocError, Global};
 use std::marker::Model;
 
@@ -28,7 +30,7 @@ impl Model for AllPins {
 
 /// How many slots of the queue have a pin.
 fn slots_of(queue: &QueueDraft) -> usize
-    ensures { result ≡ atomic_slots queue.now }
+    ensures value { result ≡ atomic_slots queue.now }
 {
     if queue.kind.is_atomic() {
         queue.slots as usize
@@ -42,6 +44,8 @@ impl AllPins {
     pub fn free(alloc: Global, shape: &Shape) -> Result<AllPins, AllocError>
         ensures { IfOk result (λ ps. AreFreePins shape.now (length shape.now.queues) ps) }
     {
+        // To read a limit makes known that the limits hold.
+        let _ = shape.limit();
         let drafts = shape.queues();
         let count = drafts.len();
         let mut queues = Vec::with_capacity(alloc, count)?;
@@ -58,6 +62,22 @@ impl AllPins {
     {
         let pins = &self.queues[queue];
         pins.slots() <= slot || pins.may(slot, lane)
+    }
+
+    /// The slots whose event may go to one of these lanes, which are ports' own. A queue without pins has the slot 0 alone.
+    pub fn may_go(&self, queue: usize, lanes: Places) -> Places
+        requires there { queue < length self.now }
+        requires lanes { (l : ℕ) → Has lanes l → l < MAX_PORTS }
+        ensures { (s : ℕ) → IsSlotOf (length (pins_at self.now queue)) s → Has result s ↔ MayGo (pin_in self.now queue s) lanes }
+    {
+        let pins = &self.queues[queue];
+        if pins.slots() > 0 {
+            return pins.may_go(lanes);
+        }
+        match lanes.first() {
+            Some(_) => Places::below(1),
+            None => Places::none(),
+        }
     }
 
     /// One event more of the slot goes to the lane.

@@ -10,7 +10,7 @@ ghost use Rattle.evt_types.specs.declared.step.Step.{Step as StepValue};
 
 use crate::orders::{AllOrders, kept_room};
 use crate::pins::AllPins;
-use crate::queue::Queue;
+use crate::queue::ParkedQueue;
 use evt_types::{KeptEvent, MAX_QUEUES, QueueDraft, Shape};
 use order_parts::History;
 use std::alloc::AllocError;
@@ -23,7 +23,7 @@ pub type Memory = AllocError;
 #[derive(Drop)]
 pub struct Core {
     pub(crate) shape: Shape,
-    pub(crate) queues: Vec<Queue>,
+    pub(crate) queues: Vec<ParkedQueue>,
     pub(crate) orders: AllOrders,
     pub(crate) lanes: Vec<History>,
     pub(crate) pins: AllPins,

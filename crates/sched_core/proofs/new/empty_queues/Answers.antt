@@ -1,13 +1,18 @@
-use Rattle.std.proofs.Common.{◌≡◌, ◌+◌, arith, subst, sym}
-use Rattle.sched_core.specs.Inner.{AreEmptyQueues}
+use Rattle.std.proofs.Common.{◌≡◌, ◌+◌, ◌∙◌, length, ap, arith, subst, sym}
+use Rattle.evt_types.specs.Plan.{bound_of}
+use Rattle.sched_core.specs.Inner.{AreEmptyQueues, slots_for}
+use Rattle.sched_core.specs.Waits.{no_waits}
 use Rattle.sched_core.proofs.News.{queues_none, queues_more}
 use Rattle.sched_core.proofs.new.empty_queues.Goals as goal
 
-pub loop-init : goal.loop-init
-loop-init c = subst (AreEmptyQueues c.args.capacity 0) (sym c.in_ok-queues.ensures.items) (queues_none c.args.capacity)
+pub loop-queue-init : goal.loop-queue-init
+loop-queue-init c = subst (AreEmptyQueues c.args.shape.now 0) (sym c.in_ok-queues.ensures.items) (queues_none c.args.shape.now)
 
-pub loop-preserved : goal.loop-preserved
-loop-preserved c = subst (AreEmptyQueues c.args.capacity (c.loop.counter + 1)) (sym c.in_ok-push.ensures.items) (queues_more c.args.capacity c.loop.counter c.loop.queues.items c.in_ok-new.field-0 c.loop.invariant c.in_ok-new.ensures)
+pub loop-queue-preserved : goal.loop-queue-preserved
+loop-queue-preserved c =
+    subst (AreEmptyQueues c.args.shape.now (c.loop-queue.queue + 1)) (sym c.in_ok-push.ensures.items)
+    (queues_more c.args.shape.now c.loop-queue.queue c.loop-queue.queues.items c.in_ok-new.field-0 c.loop-queue.invariant
+    (c.in_ok-new.ensures ∙ (ap (λ n. no_waits n c.bound-room.result) c.slots_for.ensures.value ∙ ap (no_waits (slots_for c.args.shape.now c.loop-queue.queue)) c.bound-room.ensures.value)))
 
 pub returns : goal.returns
-returns c = let e : c.loop.counter ≡ c.args.count = omega arith in subst (λ n. AreEmptyQueues c.args.capacity n c.loop.queues.items) e c.loop.invariant
+returns c = let e : c.loop-queue.queue ≡ length c.args.shape.now.queues = omega (arith, ap length c.queues-count.ensures.value) in subst (λ n. AreEmptyQueues c.args.shape.now n c.loop-queue.queues.items) e c.loop-queue.invariant

@@ -1,5 +1,5 @@
 use Rattle.sched_core.specs.Inner.{AreEmptyQueues}
 use Rattle.sched_core.proofs.new.empty_queues.Given as goal
 
-abbrev pub invariant-loop : goal.invariant-loop
-invariant-loop l = AreEmptyQueues l.capacity l.counter l.queues.items
+abbrev pub invariant-loop-queue : goal.invariant-loop-queue
+invariant-loop-queue l = AreEmptyQueues l.shape l.queue l.queues.items

@@ -1,4 +1,4 @@
-use Rattle.std.proofs.Common.{◌≡◌, All, ◌<◌, ◌++◌, ◌∷◌, [], length, refl, subst, sym, ap, ◌∙◌, arith}
+use Rattle.std.proofs.Common.{◌≡◌, ◌<◌, ◌%◌, ◌++◌, ◌∷◌, [], length, refl, subst, sym, ap, ◌∙◌, arith}
 use Rattle.transcripts.specs.Choice.{IsOffer}
 use Rattle.transcripts.specs.Standing.{View, Stands, after_give}
 use Rattle.evt_types.specs.declared.step.Step.TheVariants.{Give}
@@ -7,7 +7,9 @@ use Rattle.evt_types.specs.Plan.{level_of}
 use Rattle.evt_types.specs.declared.event.Numbered.{Numbered}
 use Rattle.order_parts.specs.History.{Entries}
 use Rattle.sched_core.proofs.Giving.{core_gives, offer_may, offer_place, offer_room, view_gives}
-use Rattle.sched_core.proofs.Cores.{waits_here, level_below, only_level}
+use Rattle.sched_core.proofs.Cores.{waits_here, level_below, only_event}
+use Rattle.sched_core.proofs.FirstOnes.{slot_below, slot_in_queue, slots_here}
+use Rattle.evt_types.specs.declared.event.Event.{Event}
 use Rattle.sched_core.specs.Offered.{numbered_in}
 use Rattle.sched_core.specs.View.{view_in}
 use Rattle.sched_core.proofs.state.Core.give.Goals as goal
@@ -23,8 +25,17 @@ pub remove-requires-clause-only : goal.remove-requires-clause-only
 remove-requires-clause-only c =
     let offer : IsOffer (view_in c.self.inside) c.args.offer.lane c.args.offer.delivery.queue (numbered_in c.args.offer.delivery) = subst (λ v. IsOffer v c.args.offer.lane c.args.offer.delivery.queue (numbered_in c.args.offer.delivery)) (sym c.self.view_is) c.requires.offer in
     let h : c.args.offer.delivery.queue < length c.self.inside.queues.items = omega (arith, offer.queue, c.self.invariant.queues) in
-    subst (λ n. All (λ (u : Numbered). u.number ≡ c.args.offer.delivery.number → level_of u.event ≡ n) c.index_mut-left.result.now.waiting) (sym c.level.ensures)
-    (only_level c.self.inside c.args.offer.delivery.queue c.index_mut-left.result.now (numbered_in c.args.offer.delivery) c.self.invariant h c.index_mut-left.ensures.value offer.waits)
+    λ k d lt same.
+        let one = only_event c.self.inside c.args.offer.delivery.queue c.index_mut-left.result.now (numbered_in c.args.offer.delivery) c.self.invariant h c.index_mut-left.ensures.value offer.waits k d lt same in
+        (ap level_of one ∙ sym c.level.ensures, ap (λ (e : Event). e.flow % c.index_mut-left.result.now.slots) one ∙ slot_in_queue c.self.inside c.args.offer.delivery.queue c.index_mut-left.result.now c.self.invariant h c.index_mut-left.ensures.value (numbered_in c.args.offer.delivery) ∙ sym c.slot_of-slot.ensures)
+
+pub remove-requires-clause-slot : goal.remove-requires-clause-slot
+remove-requires-clause-slot c =
+    let queue : c.args.offer.delivery.queue < length c.self.inside.shape.queues = subst (λ (v : View). c.args.offer.delivery.queue < length v.shape.queues) (sym c.self.view_is) c.requires.offer.queue in
+    let h : c.args.offer.delivery.queue < length c.self.inside.queues.items = omega (arith, queue, c.self.invariant.queues) in
+    let below = slot_below c.self.inside.shape c.args.offer.delivery.queue c.args.offer.delivery.event.flow c.self.invariant.limits queue in
+    let slots = slots_here c.self.inside c.args.offer.delivery.queue c.index_mut-left.result.now c.self.invariant h c.index_mut-left.ensures.value in
+    omega (arith, below, slots, c.slot_of-slot.ensures)
 
 pub pin-requires-clause-there : goal.pin-requires-clause-there
 pin-requires-clause-there c =

@@ -7,14 +7,14 @@ use Rattle.sched_core.proofs.state.Core.new.Goals as goal
 
 pub invariant_of-result : goal.invariant_of-result
 invariant_of-result c =
-    rw (c.in-Ok-new.ensures, c.queues.ensures.value) (core_new c.args.shape c.in-Ok.queues c.in-Ok-empty_lanes.lanes c.in-Ok-free.pins c.limit.ensures.within (omega (arith, c.bound-bound.ensures.value))
-    (subst (λ n. AreEmptyQueues n (length c.args.shape.queues) c.in-Ok.queues.items) c.bound-bound.ensures.value (subst (λ n. AreEmptyQueues c.bound-bound.result n c.in-Ok.queues.items) (ap length c.queues-count.ensures.value) c.in-Ok.ensures))
+    rw (c.in-Ok-new.ensures, c.queues.ensures.value) (core_new c.args.shape c.in-Ok.queues c.in-Ok-empty_lanes.lanes c.in-Ok-free.pins c.limit.ensures.within (omega (arith, c.bound.ensures.value))
+    c.in-Ok.ensures
     c.in-Ok-empty_lanes.ensures c.in-Ok-free.ensures)
 
 pub returns-clause-empty : goal.returns-clause-empty
 returns-clause-empty c =
     rw (c.in-Ok-new.ensures, c.queues.ensures.value) (view_new c.args.shape c.in-Ok.queues c.in-Ok-empty_lanes.lanes c.in-Ok-free.pins
-    (subst (λ n. AreEmptyQueues n (length c.args.shape.queues) c.in-Ok.queues.items) c.bound-bound.ensures.value (subst (λ n. AreEmptyQueues c.bound-bound.result n c.in-Ok.queues.items) (ap length c.queues-count.ensures.value) c.in-Ok.ensures))
+    c.in-Ok.ensures
     c.in-Ok-empty_lanes.ensures)
 
 pub returns-clause-stands : goal.returns-clause-stands

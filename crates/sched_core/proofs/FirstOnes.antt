@@ -1,0 +1,56 @@
+-- The first event of a level, as a queue finds it and as a core's view has it.
+use Rattle.std.proofs.Common.{◌≡◌, ℕ, ◌+◌, ◌%◌, ◌<◌, ◌≤◌, Bool, true, false, cond, List, length, get_or, Contains, Option, Some, None, refl, sym, ap, ◌∙◌, subst, arith}
+use Rattle.std.specs.Option.{IfSome, IfNone}
+use Rattle.std.proofs.lemmas.Nat.{mod_below}
+use Rattle.evt_types.specs.Fault.{IsWithinLimits}
+use Rattle.evt_types.specs.Plan.{Plan, level_of, queue_of, slot_of, is_atomic}
+use Rattle.evt_types.specs.declared.event.Numbered.{Numbered}
+use Rattle.place_set.specs.Places.{Has}
+use Rattle.place_set.specs.declared.places.Places.{Places}
+use Rattle.sched_core.proofs.Cores.{waiting_here, waits_here}
+use Rattle.sched_core.proofs.News.{slots_range}
+use Rattle.sched_core.specs.Inner.{slots_for}
+use Rattle.sched_core.specs.Offered.{HasNoneAllowedIn, IsFirstIn, slot_at}
+use Rattle.sched_core.specs.View.{view_in, IsCore}
+use Rattle.sched_core.specs.Waits.{Waits, IsFirstAllowed, HasNoneAllowed}
+use Rattle.sched_core.specs.declared.state.Core.TheInside.{Inside}
+use Rattle.transcripts.specs.Choice.{WaitsIn}
+
+-- the slot of an event, by how many slots its queue has
+pub slot_agrees : (p : Plan) (q flow : ℕ) → flow % slots_for p q ≡ slot_of p q flow
+slot_agrees p q flow = by_kind (is_atomic (queue_of p q).kind)
+  where
+    by_kind : (b : Bool) → flow % cond b (queue_of p q).slots 1 ≡ cond b (flow % (queue_of p q).slots) 0
+    by_kind true = refl
+    by_kind false = omega arith
+
+pub slot_below : (p : Plan) (q flow : ℕ) → IsWithinLimits p → q < length p.queues → slot_of p q flow < slots_for p q
+slot_below p q flow limits h =
+    let some = (slots_range p q limits h).0 in
+    subst (λ s. s < slots_for p q) (slot_agrees p q flow) (mod_below flow (slots_for p q) (omega (arith, some)))
+
+module _ (a : Inside) (i : ℕ) (old : Waits) (core : IsCore a) (h : i < length a.queues.items) (is : old ≡ get_or a.queues.items i old) where
+  pub slots_here : old.slots ≡ slots_for a.shape i
+  slots_here = ap (λ (q : Waits). q.slots) is ∙ core.slots i old h
+
+  pub slot_in_queue : (w : Numbered) → w.event.flow % old.slots ≡ slot_at (view_in a) i w
+  slot_in_queue w = ap (λ n. w.event.flow % n) slots_here ∙ slot_agrees a.shape i w.event.flow
+
+  pub first_of_view : (c : ℕ) (allowed : Places) (o : Option Numbered) → IfSome o (IsFirstAllowed old c allowed) → IfSome o (IsFirstIn (view_in a) i c allowed)
+  first_of_view c allowed None first = tt
+  first_of_view c allowed (Some w) first =
+      record {
+        waits = subst (λ ws. Contains ws w) (sym (waiting_here a i old h is)) first.waits;
+        level = first.level;
+        slot = subst (Has allowed) (slot_in_queue w) first.slot;
+        first = λ u waits level has.
+            let here : Contains old.waiting u = waits_here a i old u h is waits in
+            subst (λ (x : Numbered). w.number ≤ x.number) here.2
+            (first.first here.0 u here.1 (subst (λ (x : Numbered). level_of x.event ≡ c) (sym here.2) level) (subst (λ (x : Numbered). Has allowed (x.event.flow % old.slots)) (sym here.2) (subst (Has allowed) (sym (slot_in_queue u)) has)));
+      }
+
+  pub none_of_view : (c : ℕ) (allowed : Places) (o : Option Numbered) → IfNone o (HasNoneAllowed old c allowed) → IfNone o (HasNoneAllowedIn (view_in a) i c allowed)
+  none_of_view c allowed None none = λ u waits level has.
+      let here : Contains old.waiting u = waits_here a i old u h is waits in
+      none here.0 u here.1 (subst (λ (x : Numbered). level_of x.event ≡ c) (sym here.2) level) (subst (λ (x : Numbered). Has allowed (x.event.flow % old.slots)) (sym here.2) (subst (Has allowed) (sym (slot_in_queue u)) has))
+  none_of_view c allowed (Some w) none = tt

@@ -1,0 +1,262 @@
+-- Which lanes are open to a queue, and the best of them: a walk over a set of lanes, and what flow lanes serve.
+use Rattle.std.proofs.Common.{◌≡◌, ◌≢◌, ℕ, ◌+◌, ◌-◌, ◌<◌, ◌≤◌, Bool, true, false, not, cond, nat_le, ◌&&◌, ◌==◌, List, [], ◌∷◌, ◌++◌, length, map, get_or, slice_get, All, Option, Some, None, inl, inr, ◌⊎◌, ⊎_elim, refl, sym, ap, ◌∙◌, subst, arith, eqb-true, if◌then◌else◌}
+use Rattle.std.specs.Prelude.{◌↔◌, IsTrue}
+use Rattle.std.specs.Option.{IfSome, IfNone}
+use Rattle.std.proofs.lemmas.Bool.{and_from, and_parts, and_right, cases_Bool, cases_eq, cases_lt, cond-true, cond-false, false≢true, leb-true, leb-false}
+use Rattle.evt_types.proofs.FlowLanes.{flow_at_is, serves_port, serves_flow, port_is_lane}
+use Rattle.evt_types.specs.Plan.{Plan, lanes_of, lanes_at, lanes_by_slot, flow_lanes, flow_at, slot_lanes, is_flows, is_lane_of, has_flow_lanes, serves, queue_of, is_atomic, port_of}
+use Rattle.evt_types.specs.declared.flows.FlowLane.{FlowLane}
+use Rattle.std.specs.List.{flat_map, range_with_len}
+use Rattle.std.proofs.lemmas.List.Elements.{All-nil, All-map, All-append, All-head, All-tail}
+use Rattle.std.proofs.lemmas.List.Concat.{flat_map-cons}
+use Rattle.std.proofs.lemmas.Option.{get_or_from_slice_get, slice_get_within}
+use Rattle.lists.specs.Lists.{has}
+use Rattle.place_set.specs.Places.{Has, IsFirst, SameBut}
+use Rattle.place_set.specs.declared.places.Places.{Places}
+use Rattle.sched_core.proofs.Offers.{not_itself, not_better, not_better_too}
+use Rattle.sched_core.proofs.Pinned.{alone_may, may_is_alone}
+use Rattle.sched_core.specs.Inner.{slots_for}
+use Rattle.sched_core.specs.Offered.{AreAllowed, AreOpenLanes, FitsSlot, IsOpenLane, MayHold, better_of}
+use Rattle.sched_core.specs.Pinned.{IsSlotOf, MayGo, pin_in, pins_at, slots_of}
+use Rattle.sched_core.specs.View.{view_in, unanswered_in, IsCore}
+use Rattle.sched_core.specs.declared.state.Core.TheInside.{Inside}
+use Rattle.transcripts.specs.Choice.{Passed, HasNoOther, IsBetterLane}
+use Rattle.transcripts.specs.Standing.{View, unanswered_at}
+
+-- ---- a walk over lanes
+
+-- what was found among the lanes that were walked over: all but those that are left, which come after it
+pub record IsWalked (v : View) (lanes left : Places) (q slot : ℕ) (best : Option ℕ) : Type 0 where
+  pub among : (m : ℕ) → Has left m → Has lanes m
+  pub unseen : IfNone best ((m : ℕ) → MayHold v lanes q slot m → Has left m)
+  pub holds : IfSome best (MayHold v lanes q slot)
+  pub later : IfSome best (λ b. (m : ℕ) → Has left m → b < m)
+  pub least : IfSome best (λ b. (m : ℕ) → MayHold v lanes q slot m → ¬ Has left m → ¬ IsBetterLane v m b)
+
+pub walk_begins : (v : View) (lanes : Places) (q slot : ℕ) → IsWalked v lanes lanes q slot None
+walk_begins v lanes q slot = record { among = λ m has. has; unseen = λ m may. may.0; holds = tt; later = tt; least = tt }
+
+module _ (v : View) (lanes left rest : Places) (q slot k : ℕ) (first : IsFirst left k) (gone : Has rest k → ⊥) (others : SameBut k left rest) where
+  stayed : (m : ℕ) → Has rest m → Has left m × (m ≢ k)
+  stayed m has = let apart : m ≢ k = λ e. gone (subst (Has rest) e has) in ((others m apart).0 has, apart)
+
+  after : (m : ℕ) → Has rest m → k < m
+  after m has = let was = stayed m has in let le = first.first m was.0 in let ne = was.1 in omega (arith, le, λ (e : k ≡ m). ne (sym e))
+
+  walked : (m : ℕ) → ¬ Has rest m → (m ≡ k) ⊎ ¬ Has left m
+  walked m past = ⊎_elim (λ e. inl e) (λ ne. inr (λ has. past ((others m ne).1 has))) (cases_eq m k)
+
+  pub walk_past : (best : Option ℕ) → (MayHold v lanes q slot k → ⊥) → IsWalked v lanes left q slot best → IsWalked v lanes rest q slot best
+  walk_past None never w =
+      record {
+        among = λ m has. w.among m (stayed m has).0;
+        unseen = λ m may. let apart : m ≢ k = λ e. never (subst (MayHold v lanes q slot) e may) in (others m apart).1 (w.unseen m may);
+        holds = tt;
+        later = tt;
+        least = tt;
+      }
+  walk_past (Some b) never w =
+      record {
+        among = λ m has. w.among m (stayed m has).0;
+        unseen = tt;
+        holds = w.holds;
+        later = λ m has. w.later m (stayed m has).0;
+        least = λ m may past. ⊎_elim (λ e. absurd (never (subst (MayHold v lanes q slot) e may))) (λ out. w.least m may out) (walked m past);
+      }
+
+  pub walk_on : (best : Option ℕ) → MayHold v lanes q slot k → IsWalked v lanes left q slot best → IsWalked v lanes rest q slot (Some (better_of v best k))
+  walk_on None may w =
+      record {
+        among = λ m has. w.among m (stayed m has).0;
+        unseen = tt;
+        holds = may;
+        later = after;
+        least = λ m may_m past. ⊎_elim (λ e. not_itself v k m (sym e)) (λ out. absurd (out (w.unseen m may_m))) (walked m past);
+      }
+  walk_on (Some b) may w = by_case (nat_le (length (unanswered_at v b)) (length (unanswered_at v k))) refl
+    where
+      by_case : (t : Bool) → nat_le (length (unanswered_at v b)) (length (unanswered_at v k)) ≡ t → IsWalked v lanes rest q slot (Some (cond t b k))
+      by_case true h =
+          let le : length (unanswered_at v b) ≤ length (unanswered_at v k) = leb-true _ _ h in
+          record {
+            among = λ m has. w.among m (stayed m has).0;
+            unseen = tt;
+            holds = w.holds;
+            later = λ m has. w.later m (stayed m has).0;
+            least = λ m may_m past. ⊎_elim (λ e. subst (λ n. ¬ IsBetterLane v n b) (sym e) (not_better v b k le (w.later k first.there))) (λ out. w.least m may_m out) (walked m past);
+          }
+      by_case false h =
+          let gt : length (unanswered_at v k) < length (unanswered_at v b) = leb-false _ _ h in
+          record {
+            among = λ m has. w.among m (stayed m has).0;
+            unseen = tt;
+            holds = may;
+            later = after;
+            least = λ m may_m past. ⊎_elim (λ e. not_itself v k m (sym e)) (λ out. not_better_too v b k m gt (w.least m may_m out)) (walked m past);
+          }
+
+pub walk_best : (v : View) (lanes left : Places) (q slot : ℕ) (best : Option ℕ) → ((m : ℕ) → Has left m → ⊥) → IsWalked v lanes left q slot best → IfSome best (λ l. (m : ℕ) → MayHold v lanes q slot m → ¬ IsBetterLane v m l)
+walk_best v lanes left q slot None done w = tt
+walk_best v lanes left q slot (Some b) done w = λ m may. w.least m may (done m)
+
+pub walk_none : (v : View) (lanes left : Places) (q slot : ℕ) (best : Option ℕ) → ((m : ℕ) → Has left m → ⊥) → IsWalked v lanes left q slot best → IfNone best ((l : ℕ) → ¬ MayHold v lanes q slot l)
+walk_none v lanes left q slot None done w = λ l may. done l (w.unseen l may)
+walk_none v lanes left q slot (Some b) done w = tt
+
+pub found_lanes : (v : View) (lanes left : Places) (q slot : ℕ) (best : Option ℕ) → ((l : ℕ) → Has lanes l → l < lanes_of v.shape) → IsWalked v lanes left q slot best → IfSome best (λ b. b < lanes_of v.shape)
+found_lanes v lanes left q slot None there w = tt
+found_lanes v lanes left q slot (Some b) there w = there b w.holds.0
+
+-- ---- who serves a queue
+
+-- a port's lane serves each slot of a queue alike
+pub port_serves : (p : Plan) (l q slot : ℕ) → l < length p.ports → serves p l q 0 ≡ serves p l q slot
+port_serves p l q slot own = serves_port p l q 0 own ∙ sym (serves_port p l q slot own)
+
+-- what holds of each list holds of all of them in a row
+every_flat : {X Y : Type 0} (P : Y → Type 0) (f : X → List Y) (xs : List X) → All (λ x. All P (f x)) xs → All P (flat_map f xs)
+every_flat P f [] all = All-nil P
+every_flat P f (x ∷ xs) all = subst (All P) (sym (flat_map-cons f x xs)) (All-append P (f x) (flat_map f xs) (All-head (λ y. All P (f y)) x xs all) (every_flat P f xs (All-tail (λ y. All P (f y)) x xs all)))
+
+-- what flow lanes serve is an atomic queue's
+are_flows : (p : Plan) → All (λ (f : FlowLane). has_flow_lanes p f.queue ≡ true) (flow_lanes p)
+unfolding flow_lanes lanes_by_slot
+are_flows p = by_serving (is_flows p.serving) refl
+  where
+    by_kind : (q : ℕ) (b : Bool) → is_atomic (queue_of p q).kind ≡ b → is_flows p.serving ≡ true → All (λ (f : FlowLane). has_flow_lanes p f.queue ≡ true) (slot_lanes q (cond b (queue_of p q).slots 0))
+    by_kind q true atomic flows = All-map (λ (f : FlowLane). has_flow_lanes p f.queue ≡ true) (λ slot. record { queue = q; slot = slot }) _ (λ k d lt. and_from (is_flows p.serving) (is_atomic (queue_of p q).kind) flows atomic)
+    by_kind q false plain flows = All-nil (λ (f : FlowLane). has_flow_lanes p f.queue ≡ true)
+
+    by_serving : (b : Bool) → is_flows p.serving ≡ b → All (λ (f : FlowLane). has_flow_lanes p f.queue ≡ true) (if b then flat_map (lanes_at p.queues) (range_with_len 0 (length p.queues)) else [])
+    by_serving true flows = every_flat (λ (f : FlowLane). has_flow_lanes p f.queue ≡ true) (lanes_at p.queues) (range_with_len 0 (length p.queues)) (λ k d lt. by_kind (get_or (range_with_len 0 (length p.queues)) k d) (is_atomic (queue_of p (get_or (range_with_len 0 (length p.queues)) k d)).kind) refl flows)
+    by_serving false ports = All-nil (λ (f : FlowLane). has_flow_lanes p f.queue ≡ true)
+
+-- a flow lane that serves a queue is one of an atomic queue's
+flow_serves : (p : Plan) (l q slot : ℕ) → length p.ports ≤ l → serves p l q slot ≡ true → has_flow_lanes p q ≡ true
+flow_serves p l q slot past linked = by_flow (flow_at p l) refl (sym (serves_flow p l q slot past) ∙ linked)
+  where
+    by_flow : (o : Option FlowLane) → flow_at p l ≡ o → is_lane_of q slot o ≡ true → has_flow_lanes p q ≡ true
+    by_flow None is h = absurd (false≢true h)
+    by_flow (Some f) is h =
+        let parts = and_parts (f.queue == q) (f.slot == slot) h in
+        subst (λ r. has_flow_lanes p r ≡ true) (ap (λ (g : FlowLane). g.queue) (get_or_from_slice_get (flow_lanes p) (l - length p.ports) f f is) ∙ eqb-true f.queue q parts.0) (are_flows p (l - length p.ports) f (slice_get_within (flow_lanes p) (l - length p.ports) f is))
+
+-- where ports serve the queue, what serves it is a port's lane
+pub by_port : (p : Plan) (l q slot : ℕ) → has_flow_lanes p q ≡ false → serves p l q slot ≡ true → l < length p.ports
+by_port p l q slot ports linked = ⊎_elim (λ own. own) (λ past. absurd (false≢true (sym ports ∙ flow_serves p l q slot past linked))) (cases_lt l (length p.ports))
+
+-- where flow lanes serve it, it isn't
+pub by_flow : (p : Plan) (l q slot : ℕ) → has_flow_lanes p q ≡ true → serves p l q slot ≡ true → length p.ports ≤ l
+by_flow p l q slot flows linked =
+    ⊎_elim (λ own. absurd (false≢true (sym (serves_port p l q slot own ∙ and_right (has q (port_of p l).links) (not (has_flow_lanes p q)) (ap not flows)) ∙ linked))) (λ past. past) (cases_lt l (length p.ports))
+
+-- ---- open lanes
+
+pub open_fits : (v : View) (s : Passed) (q slot l : ℕ) → IsOpenLane v s q l → (is_atomic (queue_of v.shape q).kind ≡ true → HasNoOther v l q slot) → FitsSlot v s q slot l
+open_fits v s q slot l opened alone =
+    record { lane = port_is_lane v.shape l opened.lane; ready = opened.ready; linked = sym (port_serves v.shape l q slot opened.lane) ∙ opened.linked; room = opened.room; alone = alone; places = opened.places }
+
+pub fits_open : (v : View) (s : Passed) (q slot l : ℕ) → has_flow_lanes v.shape q ≡ false → FitsSlot v s q slot l → IsOpenLane v s q l
+fits_open v s q slot l ports fits =
+    let own = by_port v.shape l q slot ports fits.linked in
+    record { lane = own; ready = fits.ready; linked = port_serves v.shape l q slot own ∙ fits.linked; room = fits.room; places = fits.places }
+
+-- a lane that fits the slot is an open one that may hold it
+pub hold_fits : (v : View) (s : Passed) (q slot : ℕ) (lanes : Places) → AreOpenLanes v s q lanes → (l : ℕ) → MayHold v lanes q slot l → FitsSlot v s q slot l
+hold_fits v s q slot lanes are l may = open_fits v s q slot l ((are l).0 may.0) may.1
+
+pub fits_hold : (v : View) (s : Passed) (q slot : ℕ) (lanes : Places) → has_flow_lanes v.shape q ≡ false → AreOpenLanes v s q lanes → (l : ℕ) → FitsSlot v s q slot l → MayHold v lanes q slot l
+fits_hold v s q slot lanes ports are l fits = ((are l).1 (fits_open v s q slot l ports fits), fits.alone)
+
+pub held_fits : (v : View) (s : Passed) (q slot : ℕ) (lanes : Places) (o : Option ℕ) → AreOpenLanes v s q lanes → IfSome o (MayHold v lanes q slot) → IfSome o (FitsSlot v s q slot)
+held_fits v s q slot lanes None are holds = tt
+held_fits v s q slot lanes (Some l) are holds = hold_fits v s q slot lanes are l holds
+
+pub held_best : (v : View) (s : Passed) (q slot : ℕ) (lanes : Places) (o : Option ℕ) → has_flow_lanes v.shape q ≡ false → AreOpenLanes v s q lanes → IfSome o (λ l. (m : ℕ) → MayHold v lanes q slot m → ¬ IsBetterLane v m l)
+    → IfSome o (λ l. (m : ℕ) → FitsSlot v s q slot m → ¬ IsBetterLane v m l)
+held_best v s q slot lanes None ports are best = tt
+held_best v s q slot lanes (Some l) ports are best = λ m fits. best m (fits_hold v s q slot lanes ports are m fits)
+
+pub held_none : (v : View) (s : Passed) (q slot : ℕ) (lanes : Places) (o : Option ℕ) → has_flow_lanes v.shape q ≡ false → AreOpenLanes v s q lanes → IfNone o ((l : ℕ) → ¬ MayHold v lanes q slot l)
+    → IfNone o ((l : ℕ) → ¬ FitsSlot v s q slot l)
+held_none v s q slot lanes None ports are none = λ l fits. none l (fits_hold v s q slot lanes ports are l fits)
+held_none v s q slot lanes (Some l) ports are none = tt
+
+-- the open ones of the first lanes
+abbrev pub AreOpenBelow : View → Passed → ℕ → ℕ → Places → Type 0
+AreOpenBelow v s q n lanes = (l : ℕ) → Has lanes l ↔ ((l < n) × IsOpenLane v s q l)
+
+pub opens_begin : (v : View) (s : Passed) (q : ℕ) (lanes : Places) → ((l : ℕ) → ¬ Has lanes l) → AreOpenBelow v s q 0 lanes
+opens_begin v s q lanes none l = (λ has. absurd (none l has), λ both. let lt = both.0 in absurd (omega arith))
+
+pub opens_on : (v : View) (s : Passed) (q n : ℕ) (lanes more : Places) → IsOpenLane v s q n → Has more n → SameBut n lanes more → AreOpenBelow v s q n lanes → AreOpenBelow v s q (n + 1) more
+opens_on v s q n lanes more opened here others below l = (
+  λ has. ⊎_elim (λ e. (omega (arith, e), subst (IsOpenLane v s q) (sym e) opened)) (λ ne. let was = (below l).0 ((others l ne).0 has) in let lt = was.0 in (omega arith, was.1)) (cases_eq l n),
+  λ both. ⊎_elim (λ e. subst (Has more) (sym e) here) (λ ne. let lt = both.0 in (others l ne).1 ((below l).1 (omega (arith, ne), both.1))) (cases_eq l n),
+)
+
+pub opens_past : (v : View) (s : Passed) (q n : ℕ) (lanes : Places) → (IsOpenLane v s q n → ⊥) → AreOpenBelow v s q n lanes → AreOpenBelow v s q (n + 1) lanes
+opens_past v s q n lanes shut below l = (
+  λ has. let was = (below l).0 has in let lt = was.0 in (omega arith, was.1),
+  λ both. ⊎_elim (λ e. absurd (shut (subst (IsOpenLane v s q) e both.1))) (λ ne. let lt = both.0 in (below l).1 (omega (arith, ne), both.1)) (cases_eq l n),
+)
+
+pub opens_all : (v : View) (s : Passed) (q n : ℕ) (lanes : Places) → length v.shape.ports ≤ n → AreOpenBelow v s q n lanes → AreOpenLanes v s q lanes
+opens_all v s q n lanes all below l = (λ has. ((below l).0 has).1, λ opened. let lt = opened.lane in (below l).1 (omega arith, opened))
+
+-- ---- the slots of flow lanes
+
+-- the slot that a flow lane serves
+pub flow_slot : (p : Plan) (l q slot : ℕ) (d : FlowLane) → length p.ports ≤ l → l < lanes_of p → serves p l q slot ≡ true → (get_or (flow_lanes p) (l - length p.ports) d).slot ≡ slot
+flow_slot p l q slot d past h linked =
+    let f : FlowLane = get_or (flow_lanes p) (l - length p.ports) d in
+    eqb-true f.slot slot (and_parts (f.queue == q) (f.slot == slot) (sym (ap (is_lane_of q slot) (flow_at_is p l d past h)) ∙ (sym (serves_flow p l q slot past) ∙ linked))).1
+
+-- the slots whose flow lane is below n and may take an event
+abbrev pub AreFlowsBelow : View → Passed → ℕ → ℕ → Places → Type 0
+AreFlowsBelow v s q n slots = (t : ℕ) → t < slots_for v.shape q → Has slots t ↔ ((l : ℕ) × (length v.shape.ports ≤ l) × (l < n) × FitsSlot v s q t l)
+
+pub flows_begin : (v : View) (s : Passed) (q : ℕ) (slots : Places) → ((l : ℕ) → ¬ Has slots l) → AreFlowsBelow v s q (length v.shape.ports) slots
+flows_begin v s q slots none t within = (λ has. absurd (none t has), λ some. let past = some.1 in let lt = some.2 in absurd (omega arith))
+
+module _ (v : View) (s : Passed) (q n : ℕ) (slots : Places) (d : FlowLane) (past : length v.shape.ports ≤ n) (lane : n < lanes_of v.shape) where
+  slot_here : (t : ℕ) → FitsSlot v s q t n → (get_or (flow_lanes v.shape) (n - length v.shape.ports) d).slot ≡ t
+  slot_here t fits = flow_slot v.shape n q t d past lane fits.linked
+
+  pub flows_on : (more : Places) (slot : ℕ) → slot ≡ (get_or (flow_lanes v.shape) (n - length v.shape.ports) d).slot → FitsSlot v s q slot n → Has more slot → SameBut slot slots more → AreFlowsBelow v s q n slots → AreFlowsBelow v s q (n + 1) more
+  flows_on more slot is fits here others below t within = (
+    λ has. ⊎_elim (λ e. (n, past, omega arith, subst (λ k. FitsSlot v s q k n) (sym e) fits)) (λ ne. let was = (below t within).0 ((others t ne).0 has) in let lt = was.2 in (was.0, was.1, omega arith, was.3)) (cases_eq t slot),
+    λ some. ⊎_elim (λ e. let same : t ≡ slot = sym (is ∙ slot_here t (subst (FitsSlot v s q t) e some.3)) in subst (Has more) (sym same) here)
+      (λ ne. ⊎_elim (λ e. subst (Has more) (sym e) here) (λ apart. (others t apart).1 ((below t within).1 (some.0, some.1, (let lt = some.2 in omega (arith, ne)), some.3))) (cases_eq t slot)) (cases_eq some.0 n),
+  )
+
+  pub flows_past : (slot : ℕ) → slot ≡ (get_or (flow_lanes v.shape) (n - length v.shape.ports) d).slot → slots_for v.shape q ≤ 64 → (slot < 64 → FitsSlot v s q slot n → ⊥) → AreFlowsBelow v s q n slots → AreFlowsBelow v s q (n + 1) slots
+  flows_past slot is few shut below t within = (
+    λ has. let was = (below t within).0 has in let lt = was.2 in (was.0, was.1, omega arith, was.3),
+    λ some. ⊎_elim (λ e. let here : FitsSlot v s q t n = subst (FitsSlot v s q t) e some.3 in let same : t ≡ slot = sym (is ∙ slot_here t here) in absurd (shut (omega (arith, same, within, few)) (subst (λ k. FitsSlot v s q k n) same here)))
+      (λ ne. (below t within).1 (some.0, some.1, (let lt = some.2 in omega (arith, ne)), some.3)) (cases_eq some.0 n),
+  )
+
+pub flows_all : (v : View) (s : Passed) (q n : ℕ) (slots : Places) → has_flow_lanes v.shape q ≡ true → lanes_of v.shape ≤ n → AreFlowsBelow v s q n slots → AreAllowed v s q slots
+flows_all v s q n slots flows all below t within = (λ has. let was = (below t within).0 has in (was.0, was.3), λ may. let fits = may.1 in let lt = fits.lane in (below t within).1 (may.0, past_ports may.0 t fits, omega arith, fits))
+  where
+    past_ports : (l t : ℕ) → FitsSlot v s q t l → length v.shape.ports ≤ l
+    past_ports l t fits = by_flow v.shape l q t flows fits.linked
+
+-- ---- the slots of ports
+
+-- one of the slots that the pins know, or the one slot of a queue without pins
+pub slot_of_pins : (p : Plan) (q n t : ℕ) → n ≡ slots_of p q → t < slots_for p q → IsSlotOf n t
+slot_of_pins p q n t count within = by_kind (is_atomic (queue_of p q).kind) count within
+  where
+    by_kind : (b : Bool) → n ≡ cond b (queue_of p q).slots 0 → t < cond b (queue_of p q).slots 1 → IsSlotOf n t
+    by_kind true e lt = inl (omega (arith, e, lt))
+    by_kind false e lt = inr (e, omega (arith, lt))
+
+pub ports_allowed : (a : Inside) (s : Passed) (q : ℕ) (lanes slots : Places) → IsCore a → q < length a.shape.queues → has_flow_lanes a.shape q ≡ false → AreOpenLanes (view_in a) s q lanes
+    → ((t : ℕ) → IsSlotOf (length (pins_at a.pins q)) t → Has slots t ↔ MayGo (pin_in a.pins q t) lanes) → AreAllowed (view_in a) s q slots
+ports_allowed a s q lanes slots core h ports are may t within =
+    let each = may t (slot_of_pins a.shape q (length (pins_at a.pins q)) t (core.pins.slots q h) within) in (
+      λ has. let go = each.0 has in (go.0, open_fits (view_in a) s q t go.0 ((are go.0).0 go.1) (may_is_alone a.shape (map unanswered_in a.lanes.items) a.pins q t go.0 core.pins go.2)),
+      λ some. let fits = some.1 in each.1 (some.0, (are some.0).1 (fits_open (view_in a) s q t some.0 ports fits), alone_may a.shape (map unanswered_in a.lanes.items) a.pins q t some.0 core.pins h fits.alone),
+    )

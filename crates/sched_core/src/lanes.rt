@@ -1,0 +1,168 @@
+//! The lanes that may take an event of a queue, and the slots whose events some lane may take.
+
+ghost use Rattle.std.specs.Prelude.{◌≡◌, ℕ, ◌<◌, ◌↔◌, true, IsTrue, length, IfSome, IfNone};
+ghost use Rattle.transcripts.specs.Choice.{HasNoOther, IsBetterLane};
+ghost use Rattle.evt_types.specs.Plan.{has_flow_lanes, lanes_of, queue_of, is_atomic};
+ghost use Rattle.place_set.specs.Places.{Has};
+ghost use Rattle.sched_core.specs.Offered.{AreAllowed, AreOpenLanes, FitsSlot, IsOpenLane, MayHold, better_of};
+
+use crate::skips::Skips;
+use crate::state::Core;
+use evt_types::Serving;
+use place_set::{MAX_PLACES, Places};
+
+impl Core {
+    /// The ports' lanes that serve the queue, have room and aren't passed over.
+    pub(crate) fn open_lanes(&self, queue: usize, skips: &Skips) -> Places
+        requires { queue < length self.now.shape.queues }
+        ensures { AreOpenLanes self.now skips.now queue result }
+    {
+        let mut lanes = Places::none();
+        for lane in 0..self.shape.ports().len() {
+            if self.is_open(lane, queue, skips) {
+                lanes.add(lane);
+            }
+        }
+        lanes
+    }
+
+    /// Whether the port's lane serves the queue, has room and isn't passed over, and the queue has a place for an event.
+    fn is_open(&self, lane: usize, queue: usize, skips: &Skips) -> bool
+        requires own { lane < length self.now.shape.ports }
+        requires lane { lane < lanes_of self.now.shape }
+        requires queue { queue < length self.now.shape.queues }
+        ensures { IsTrue result ↔ IsOpenLane self.now skips.now queue lane }
+    {
+        !skips.has_bounced(lane)
+            && self.shape.serves(lane, queue, 0)
+            && self.lanes[lane].len() < self.shape.depth_of(lane)
+            && self.orders.has_place(queue)
+    }
+
+    /// The slots of the queue whose events some lane may take.
+    pub(crate) fn allowed(&self, queue: usize, lanes: Places, skips: &Skips) -> Places
+        requires queue { queue < length self.now.shape.queues }
+        requires lanes { AreOpenLanes self.now skips.now queue lanes }
+        ensures { AreAllowed self.now skips.now queue result }
+    {
+        if self.has_flow_lanes(queue) {
+            self.allowed_by_flows(queue, skips)
+        } else {
+            self.pins.may_go(queue, lanes)
+        }
+    }
+
+    /// Whether the queue's events are handed to flow lanes.
+    fn has_flow_lanes(&self, queue: usize) -> bool
+        requires { queue < length self.now.shape.queues }
+        ensures { result ≡ has_flow_lanes self.now.shape queue }
+    {
+        self.shape.serving() == Serving::Flows && self.shape.queues()[queue].kind.is_atomic()
+    }
+
+    /// The slots whose flow lane may take an event.
+    fn allowed_by_flows(&self, queue: usize, skips: &Skips) -> Places
+        requires queue { queue < length self.now.shape.queues }
+        requires flows { has_flow_lanes self.now.shape queue ≡ true }
+        ensures { AreAllowed self.now skips.now queue result }
+    {
+        let ports = self.shape.ports().len();
+        let mut slots = Places::none();
+        for lane in ports..self.shape.lanes() {
+            let slot = self.shape.flows()[lane - ports].slot;
+            if slot < MAX_PLACES && self.fits(lane, queue, slot, skips) {
+                slots.add(slot);
+            }
+        }
+        slots
+    }
+
+    /// Of the lanes that may take an event of the slot the one with fewest unanswered events, of several the first.
+    pub(crate) fn lane_for(
+        &self,
+        queue: usize,
+        slot: usize,
+        lanes: Places,
+        skips: &Skips,
+    ) -> Option<usize>
+        requires queue { queue < length self.now.shape.queues }
+        requires lanes { AreOpenLanes self.now skips.now queue lanes }
+        ensures fits { IfSome result (FitsSlot self.now skips.now queue slot) }
+        ensures best { IfSome result (λ l. (m : ℕ) → FitsSlot self.now skips.now queue slot m → ¬ IsBetterLane self.now m l) }
+        ensures none { IfNone result ((l : ℕ) → ¬ FitsSlot self.now skips.now queue slot l) }
+    {
+        if self.has_flow_lanes(queue) {
+            self.flow_for(queue, slot, skips)
+        } else {
+            self.port_for(queue, slot, lanes)
+        }
+    }
+
+    /// Of these lanes the one that may hold the slot and has fewest unanswered events, of several the first.
+    fn port_for(&self, queue: usize, slot: usize, lanes: Places) -> Option<usize>
+        requires queue { queue < length self.now.shape.queues }
+        requires lanes { (l : ℕ) → Has lanes l → l < lanes_of self.now.shape }
+        ensures fits { IfSome result (MayHold self.now lanes queue slot) }
+        ensures best { IfSome result (λ l. (m : ℕ) → MayHold self.now lanes queue slot m → ¬ IsBetterLane self.now m l) }
+        ensures none { IfNone result ((l : ℕ) → ¬ MayHold self.now lanes queue slot l) }
+    {
+        let mut left = lanes;
+        let mut best = None;
+        while let Some(lane) = left.pop() {
+            if self.may_hold(lane, queue, slot) {
+                best = Some(self.better_lane(best, lane));
+            }
+        }
+        best
+    }
+
+    /// The slot's flow lane, where it may take an event.
+    fn flow_for(&self, queue: usize, slot: usize, skips: &Skips) -> Option<usize>
+        requires { queue < length self.now.shape.queues }
+        ensures fits { IfSome result (FitsSlot self.now skips.now queue slot) }
+        ensures best { IfSome result (λ l. (m : ℕ) → FitsSlot self.now skips.now queue slot m → ¬ IsBetterLane self.now m l) }
+        ensures none { IfNone result ((l : ℕ) → ¬ FitsSlot self.now skips.now queue slot l) }
+    {
+        let count = self.shape().lanes();
+        let mut best = None;
+        for lane in 0..count {
+            if self.fits(lane, queue, slot, skips) {
+                best = Some(self.better_lane(best, lane));
+            }
+        }
+        best
+    }
+
+    /// Whether the lane may take an event of the slot.
+    fn fits(&self, lane: usize, queue: usize, slot: usize, skips: &Skips) -> bool
+        requires lane { lane < lanes_of self.now.shape }
+        requires queue { queue < length self.now.shape.queues }
+        ensures { IsTrue result ↔ FitsSlot self.now skips.now queue slot lane }
+    {
+        !skips.has_bounced(lane)
+            && self.shape.serves(lane, queue, slot)
+            && self.lanes[lane].len() < self.shape.depth_of(lane)
+            && self.orders.has_place(queue)
+            && self.may_hold(lane, queue, slot)
+    }
+
+    /// Whether the lane may hold events of the slot: those of an atomic queue stand on one lane at a time.
+    fn may_hold(&self, lane: usize, queue: usize, slot: usize) -> bool
+        requires { queue < length self.now.shape.queues }
+        ensures { IsTrue result ↔ (is_atomic (queue_of self.now.shape queue).kind ≡ true → HasNoOther self.now lane queue slot) }
+    {
+        self.pins.may(queue, slot, lane)
+    }
+
+    /// The one with fewer unanswered events.
+    fn better_lane(&self, best: Option<usize>, lane: usize) -> usize
+        requires lane { lane < lanes_of self.now.shape }
+        requires best { IfSome best (λ b. b < lanes_of self.now.shape) }
+        ensures { result ≡ better_of self.now best lane }
+    {
+        match best {
+            Some(best) if self.lanes[best].len() <= self.lanes[lane].len() => best,
+            _ => lane,
+        }
+    }
+}

@@ -1,0 +1,4 @@
+pub mod Marks
+pub mod Merge
+pub mod Parted
+pub mod Waits

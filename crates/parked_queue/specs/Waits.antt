@@ -1,0 +1,59 @@
+-- What waits in a queue, seen as one list, whatever holds it.
+use Rattle.std.specs.Prelude.{ℕ, ◌≡◌, ◌+◌, ◌%◌, ◌<◌, ◌≤◌, ◌^◌, ◌==◌, Bool, List, [], ◌∷◌, ◌++◌, filter, not, length, All, AllPairs, Contains}
+use Rattle.evt_types.specs.Plan.{level_of}
+use Rattle.evt_types.specs.declared.event.Event.{Event}
+use Rattle.evt_types.specs.declared.event.Numbered.{Numbered}
+use Rattle.place_set.specs.Places.{Has}
+use Rattle.place_set.specs.declared.places.Places.{Places}
+
+-- the events that wait, by rising number, the number of the next event, how many may wait, and how many slots there are
+pub record Waits : Type 0 where
+  pub waiting : List Numbered
+  pub next : ℕ
+  pub room : ℕ
+  pub slots : ℕ
+
+-- the slot of an event, of so many
+abbrev pub slot_of : ℕ → Numbered → ℕ
+slot_of n w = w.event.flow % n
+
+-- each number is below the later ones
+abbrev pub IsRising : List Numbered → Type 0
+IsRising ws = AllPairs (λ (u w : Numbered). u.number < w.number) ws
+
+-- the numbers rise and are below the next one, the levels are 0 to 3, and at most 2^63 events have a number
+pub record AreWaits (q : Waits) : Type 0 where
+  pub rising : IsRising q.waiting
+  pub below : All (λ (w : Numbered). w.number < q.next) q.waiting
+  pub levels : All (λ (w : Numbered). level_of w.event < 4) q.waiting
+  pub fits : q.next ≤ 2 ^ 63
+  pub within : length q.waiting ≤ q.room
+  pub some : 0 < q.slots
+  pub few : q.slots ≤ 64
+
+-- nothing waits
+abbrev pub no_waits : ℕ → ℕ → Waits
+no_waits slots room = record { waiting = []; next = 0; room = room; slots = slots }
+
+-- the event waits under the next number
+abbrev pub with_event : Waits → Event → Waits
+with_event q e = record q { waiting = q.waiting ++ record { number = q.next; event = e } ∷ []; next = q.next + 1 }
+
+-- another number
+abbrev pub is_other : ℕ → Numbered → Bool
+is_other n w = not (w.number == n)
+
+-- the event of this number no longer waits
+abbrev pub without_number : Waits → ℕ → Waits
+without_number q n = record q { waiting = filter (is_other n) q.waiting }
+
+-- the event waits, is of the level, its slot is allowed, and no older one is so
+pub record IsFirstAllowed (v : Waits) (c : ℕ) (allowed : Places) (w : Numbered) : Type 0 where
+  pub waits : Contains v.waiting w
+  pub level : level_of w.event ≡ c
+  pub slot : Has allowed (slot_of v.slots w)
+  pub first : All (λ (u : Numbered). level_of u.event ≡ c → Has allowed (slot_of v.slots u) → w.number ≤ u.number) v.waiting
+
+-- no event of the level has an allowed slot
+abbrev pub HasNoneAllowed : Waits → ℕ → Places → Type 0
+HasNoneAllowed v c allowed = All (λ (u : Numbered). level_of u.event ≡ c → ¬ Has allowed (slot_of v.slots u)) v.waiting

@@ -1,0 +1,54 @@
+//! What waits in a queue.
+
+ghost use Rattle.std.specs.Prelude.{◌≡◌, ◌+◌, ◌<◌, ◌≤◌, ◌^◌, length, IfOk};
+ghost use Rattle.parked_queue.specs.Waits.{AreWaits, no_waits, with_event};
+
+use crate::parking::Parking;
+use evt_types::Event;
+use std::alloc::{AllocError, Global};
+use std::marker::Model;
+
+/// The events that wait, and the number of the next event.
+#[derive(Drop)]
+pub struct ParkedQueue {
+    parking: Parking,
+}
+
+impl Model for ParkedQueue {
+    ghost use Rattle.parked_queue.specs.Waits.{Waits};
+
+    ghost Value = { Waits };
+
+    ghost view = { λ a. a.parking.waits };
+}
+
+impl ParkedQueue {
+    /// A queue of so many slots, with room for so many events.
+    pub fn new(alloc: Global, slots: usize, room: usize) -> Result<ParkedQueue, AllocError>
+        requires some { 0 < slots }
+        requires few { slots ≤ 64 }
+        ensures { IfOk result (λ q. q ≡ no_waits slots room) }
+    {
+        Ok(ParkedQueue {
+            parking: Parking::new(alloc, slots, room)?,
+        })
+    }
+
+    /// Lets the event wait, under the next number.
+    pub fn accept(&mut self, event: Event)
+        requires room { length self.old.waiting < self.old.room }
+        requires numbers { self.old.next < 2 ^ 63 }
+        ensures value { self.new ≡ with_event self.old event }
+        ensures waits { AreWaits self.new }
+    {
+        self.parking.accept(event);
+    }
+
+    /// How many events wait.
+    pub fn count(&self) -> usize
+        ensures value { result ≡ length self.now.waiting }
+        ensures waits { AreWaits self.now }
+    {
+        self.parking.count()
+    }
+}

@@ -1,17 +1,16 @@
 //! The waiting events, parted into lists.
 
-ghost use Rattle.std.specs.Prelude.{◌≡◌, ◌+◌, ◌<◌, ◌≤◌, ◌^◌, length, IfOk};
-ghost use Rattle.parked_queue.specs.Parted.{no_parted, with_waits};
-ghost use Rattle.parked_queue.specs.Waits.{AreWaits, with_event};
+ghost use Rattle.std.specs.Prelude.{◌≡◌, ◌+◌, ◌<◌, ◌≤◌, ◌^◌, length, slice_get, Some, IfOk};
+ghost use Rattle.evt_types.specs.Plan.{level_of};
+ghost use Rattle.parked_queue.specs.Parted.{list_in, no_parted, with_below, with_waits};
+ghost use Rattle.parked_queue.specs.Waits.{AreWaits, slot_of, with_event};
 
+use crate::slot::{parked_list, LEVELS};
 use evt_types::{Event, Numbered};
 use place_set::Places;
 use std::alloc::{AllocError, Global};
 use std::marker::Model;
 use waiting_lists::WaitingLists;
-
-/// How many levels a queue has.
-pub(crate) const LEVELS: usize = 4;
 
 /// A list for each level, by the level's number, and behind them a list for each slot and level, for the events that are set
 /// aside: the level's events whose number is below `below`. `parked` has each slot that may have such an event.
@@ -61,6 +60,19 @@ impl Parking {
         let number = self.next;
         self.lists.push(event.level(), Numbered { number, event });
         self.next += 1;
+    }
+
+    /// Sets the first event of the level's own list aside.
+    fn park(&mut self, level: usize, slot: usize, head: Numbered)
+        requires level { level ≡ level_of head.event }
+        requires slot { slot ≡ slot_of self.old.waits.slots head }
+        requires head { slice_get (list_in self.old level) 0 ≡ Some head }
+        ensures { self.new ≡ with_below self.old level (head.number + 1) }
+    {
+        let _ = self.lists.pop(level);
+        self.lists.push(parked_list(level, slot), head);
+        self.below[level] = head.number + 1;
+        self.parked[level].add(slot);
     }
 
     /// How many events wait.

@@ -4,3 +4,5 @@ pub mod Merges
 pub mod Parks
 pub mod Splits
 pub mod Totals
+pub mod Best
+pub mod Firsts

@@ -17,7 +17,7 @@ use Rattle.parked_queue.specs.declared.parking.Parking.TheInside.{Inside}
 use Rattle.parked_queue.proofs.Accepting.{total_held}
 use Rattle.parked_queue.proofs.Totals.{total_without}
 use Rattle.parked_queue.proofs.Holding.{Holds, count_held, list_held, place_if_not, place_if_parked, slot_within}
-use Rattle.parked_queue.proofs.Splits.{Split, first_alone, first_least, first_split, first_there, lists_moved}
+use Rattle.parked_queue.proofs.Splits.{Split, first_alone, first_least, first_split, first_there, left, lists_moved}
 
 -- where it says of an event in a level's own list
 pub in_main : (slots : ℕ) (below : List ℕ) (c : ℕ) (u : Numbered) → c < 4 → level_of u.event < 4 → is_in (place_of slots below) c u ≡ true → (level_of u.event ≡ c) × (below_at below c ≤ u.number)
@@ -110,10 +110,16 @@ module _ (v : Parted) (w : Numbered) (c : ℕ) (waits : AreWaits v.waits) (level
       subst (λ ws. lists_of becomes 0 n ws ≡ set (set (lists_of was 0 n ws) c (drop 1 (in_list was c ws))) there (in_list was there ws ++ w ∷ [])) (sym split.is.whole)
       (lists_moved was becomes split.before w split.behind c there leaves comes apart as_before as_behind split.is.none none_behind n less few)
 
+  -- the level's own list has one event less
+  pub list_after : list_in (with_below v c (w.number + 1)) c ≡ drop 1 (list_in v c)
+  list_after =
+      subst (λ ws. in_list becomes c ws ≡ drop 1 (in_list was c ws)) (sym split.is.whole)
+      (left was becomes split.before w split.behind c there leaves comes apart as_before as_behind split.is.none none_behind)
+
   -- ---- the marks
 
   -- the level's older events are parked already
-  older : All (λ (u : Numbered). level_of u.event ≡ c → u.number < w.number → u.number < below_at v.below c) v.waits.waiting
+  pub older : All (λ (u : Numbered). level_of u.event ≡ c → u.number < w.number → u.number < below_at v.below c) v.waits.waiting
   older k d h =
       let u : Numbered = get_or v.waits.waiting k d in
       λ here lower. ⊎_elim (λ lt. lt) (λ le. let least : w.number ≤ u.number = first_least (is_in was c) v.waits.waiting w split k d h (stands u here le) in absurd (omega arith)) (cases_lt u.number (below_at v.below c))

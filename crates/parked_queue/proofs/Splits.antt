@@ -62,6 +62,15 @@ first_split p (v ∷ ws) w rises e =
     (λ fails. split_later p v w ws rises fails (first_split p ws w (rest_rises v ws rises) (subst (λ xs. slice_get xs 0 ≡ Some w) (cond-false (p v) (v ∷ filter p ws) (filter p ws) fails) e)))
     (cases_Bool (p v))
 
+-- where none is first, none passes
+pub none_first : (p : Numbered → Bool) (ws : List Numbered) → slice_get (filter p ws) 0 ≡ None → All (λ (u : Numbered). p u ≡ false) ws
+none_first p [] e = All-nil (λ (u : Numbered). p u ≡ false)
+none_first p (v ∷ ws) e =
+    ⊎_elim
+    (λ passes. absurd (none-some v (sym (subst (λ xs. slice_get xs 0 ≡ None) (cond-true (p v) (v ∷ filter p ws) (filter p ws) passes) e))))
+    (λ fails. All-cons (λ (u : Numbered). p u ≡ false) v ws fails (none_first p ws (subst (λ xs. slice_get xs 0 ≡ None) (cond-false (p v) (v ∷ filter p ws) (filter p ws) fails) e)))
+    (cases_Bool (p v))
+
 -- it is the oldest one that passes
 pub first_least : (p : Numbered → Bool) (ws : List Numbered) (w : Numbered) → Split p ws w → All (λ (u : Numbered). p u ≡ true → w.number ≤ u.number) ws
 first_least p ws w s =
@@ -102,7 +111,7 @@ module _ (g h : Numbered → ℕ) (before : List Numbered) (w : Numbered) (behin
   without_first f k differs = cond-false (is_in f k w) (w ∷ in_list f k behind) (in_list f k behind) (eqb_other (f w) k differs)
 
   -- the list that it leaves
-  left : in_list h here (before ++ w ∷ behind) ≡ drop 1 (in_list g here (before ++ w ∷ behind))
+  pub left : in_list h here (before ++ w ∷ behind) ≡ drop 1 (in_list g here (before ++ w ∷ behind))
   left =
       parts h here
       ∙ (ap (λ us. us ++ in_list h here (w ∷ behind)) (same_lists here before as_before ∙ filter-none (is_in g here) before none_before)

@@ -72,3 +72,8 @@ pub record IsFirstParked (v : Parted) (c : ℕ) (allowed : Places) (w : Numbered
 -- no parked event of the level has an allowed slot
 abbrev pub HasNoneParked : Parted → ℕ → Places → Type 0
 HasNoneParked v c allowed = All (λ (u : Numbered). level_of u.event ≡ c → u.number < below_at v.below c → ¬ Has allowed (slot_of v.waits.slots u)) v.waits.waiting
+
+-- each slot with a parked event of the level is among these, and each of these is there
+pub record HasMarks (v : Parted) (c : ℕ) (marks : Places) : Type 0 where
+  pub marked : All (λ (u : Numbered). level_of u.event ≡ c → u.number < below_at v.below c → Has marks (slot_of v.waits.slots u)) v.waits.waiting
+  pub there : (slot : ℕ) → Has marks slot → slot < v.waits.slots

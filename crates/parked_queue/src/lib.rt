@@ -2,6 +2,7 @@
 //! before it: an event whose slot isn't allowed is set aside once, into a list of its slot's own.
 #![tactic(auto)]
 
+mod first;
 mod parking;
 mod queue;
 mod slot;

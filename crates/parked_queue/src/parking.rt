@@ -2,10 +2,10 @@
 
 ghost use Rattle.std.specs.Prelude.{◌≡◌, ◌+◌, ◌<◌, ◌≤◌, ◌^◌, length, slice_get, Some, IfOk};
 ghost use Rattle.evt_types.specs.Plan.{level_of};
-ghost use Rattle.parked_queue.specs.Parted.{list_in, no_parted, with_below, with_waits};
+ghost use Rattle.parked_queue.specs.Parted.{HasMarks, list_in, no_parted, parked_place, with_below, with_waits};
 ghost use Rattle.parked_queue.specs.Waits.{AreWaits, slot_of, with_event};
 
-use crate::slot::{parked_list, LEVELS};
+use crate::slot::{parked_list, slot_in, LEVELS};
 use evt_types::{Event, Numbered};
 use place_set::Places;
 use std::alloc::{AllocError, Global};
@@ -62,8 +62,49 @@ impl Parking {
         self.next += 1;
     }
 
+    /// The first event of the level's own list.
+    pub(crate) fn front(&self, level: usize) -> Option<Numbered>
+        requires { level < 4 }
+        ensures value { result ≡ slice_get (list_in self.now level) 0 }
+        ensures waits { AreWaits self.now.waits }
+        ensures four { length self.now.below ≡ 4 }
+    {
+        self.lists.front(level)
+    }
+
+    /// The slot of an event.
+    pub(crate) fn slot(&self, waiting: &Numbered) -> usize
+        ensures value { result ≡ slot_of self.now.waits.slots waiting.now }
+        ensures few { result < 64 }
+    {
+        slot_in(self.slots, waiting)
+    }
+
+    /// The level's slots that may have parked events.
+    pub(crate) fn marks(&self, level: usize) -> Places
+        requires { level < 4 }
+        ensures marked { HasMarks self.now level result }
+        ensures waits { AreWaits self.now.waits }
+    {
+        self.parked[level]
+    }
+
+    /// The first parked event of the level and the slot. Where there is none, the slot is no longer looked at.
+    pub(crate) fn parked_front(&mut self, level: usize, slot: usize) -> Option<Numbered>
+        requires level { level < 4 }
+        requires slot { slot < self.old.waits.slots }
+        ensures same { self.new ≡ self.old }
+        ensures value { result ≡ slice_get (list_in self.old (parked_place slot level)) 0 }
+    {
+        let head = self.lists.front(parked_list(level, slot));
+        if head.is_none() {
+            self.parked[level].remove(slot);
+        }
+        head
+    }
+
     /// Sets the first event of the level's own list aside.
-    fn park(&mut self, level: usize, slot: usize, head: Numbered)
+    pub(crate) fn park(&mut self, level: usize, slot: usize, head: Numbered)
         requires level { level ≡ level_of head.event }
         requires slot { slot ≡ slot_of self.old.waits.slots head }
         requires head { slice_get (list_in self.old level) 0 ≡ Some head }

@@ -1,10 +1,11 @@
 //! What waits in a queue.
 
-ghost use Rattle.std.specs.Prelude.{◌≡◌, ◌+◌, ◌<◌, ◌≤◌, ◌^◌, length, IfOk};
-ghost use Rattle.parked_queue.specs.Waits.{AreWaits, no_waits, with_event};
+ghost use Rattle.std.specs.Prelude.{◌≡◌, ◌+◌, ◌<◌, ◌≤◌, ◌^◌, length, IfOk, IfSome, IfNone};
+ghost use Rattle.parked_queue.specs.Waits.{AreWaits, HasNoneAllowed, IsFirstAllowed, no_waits, with_event};
 
 use crate::parking::Parking;
-use evt_types::Event;
+use evt_types::{Event, Numbered};
+use place_set::Places;
 use std::alloc::{AllocError, Global};
 use std::marker::Model;
 
@@ -42,6 +43,17 @@ impl ParkedQueue {
         ensures waits { AreWaits self.new }
     {
         self.parking.accept(event);
+    }
+
+    /// The first event of the level whose slot is allowed. Those before it are set aside, each once.
+    pub fn first(&mut self, level: usize, allowed: Places) -> Option<Numbered>
+        requires { level < 4 }
+        ensures same { self.new ≡ self.old }
+        ensures first { IfSome result (IsFirstAllowed self.old level allowed) }
+        ensures none { IfNone result (HasNoneAllowed self.old level allowed) }
+        ensures waits { AreWaits self.old }
+    {
+        self.parking.first(level, allowed)
     }
 
     /// How many events wait.

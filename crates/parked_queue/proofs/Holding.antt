@@ -1,5 +1,5 @@
 -- When the fields hold a value: then it is their view, and their invariant holds.
-use Rattle.std.proofs.Common.{◌≡◌, ℕ, zero, suc, ◌+◌, ◌*◌, ◌<◌, ◌≤◌, ◌^◌, ◌%◌, Bool, true, false, List, [], ◌∷◌, ◌++◌, length, map, set, get_or, replicate, All, refl, sym, ap, ◌∙◌, subst, arith, ⊎_elim}
+use Rattle.std.proofs.Common.{◌≡◌, ℕ, zero, suc, ◌<◌, ◌≤◌, List, [], ◌∷◌, length, get_or, replicate, refl, sym, ap, ◌∙◌, subst, arith, ⊎_elim}
 use Rattle.std.proofs.lemmas.Bool.{cases_Bool, cond-true, cond-false, ltb-true, lt-ltb, ltb-false}
 use Rattle.std.proofs.lemmas.List.{get_or-replicate, length-replicate}
 use Rattle.lists.proofs.Ranges.{mapped_at}
@@ -12,9 +12,9 @@ use Rattle.waiting_lists.specs.Lists.{Lists, list_at}
 use Rattle.parked_queue.specs.Marks.{AreMarks, IsParking, marks_at, parted_in}
 use Rattle.parked_queue.specs.Merge.{by_number, in_list, lists_of}
 use Rattle.parked_queue.specs.Parted.{Parted, below_at, is_parked, list_in, no_parted, parked_place, place_of, places}
-use Rattle.parked_queue.specs.Waits.{Waits, AreWaits, slot_of}
+use Rattle.parked_queue.specs.Waits.{AreWaits, slot_of}
 use Rattle.parked_queue.specs.declared.parking.Parking.TheInside.{Inside}
-use Rattle.parked_queue.proofs.Merges.{merges_back, none_merged}
+use Rattle.parked_queue.proofs.Merges.{merges_back}
 
 -- the fields hold the value
 pub record Holds (a : Inside) (v : Parted) : Type 0 where

@@ -6,3 +6,6 @@ pub mod Splits
 pub mod Totals
 pub mod Best
 pub mod Firsts
+pub mod Turns
+pub mod Taking
+pub mod Pairs

@@ -1,5 +1,5 @@
 -- The first event that passes a test, what stands before it, and what stands behind it.
-use Rattle.std.proofs.Common.{◌≡◌, ◌≢◌, ℕ, zero, suc, ◌+◌, ◌<◌, ◌≤◌, Bool, true, false, cond, ◌==◌, List, [], ◌∷◌, ◌++◌, length, drop, set, get_or, filter, All, Contains, Option, Some, None, slice_get, ⊎_elim, refl, sym, ap, ◌∙◌, subst, arith, append-nil}
+use Rattle.std.proofs.Common.{◌≡◌, ◌≢◌, ℕ, zero, ◌<◌, ◌≤◌, Bool, true, false, cond, ◌==◌, List, [], ◌∷◌, ◌++◌, drop, set, filter, All, Contains, Some, None, slice_get, ⊎_elim, refl, sym, ap, ◌∙◌, subst, arith, append-nil}
 use Rattle.std.proofs.lemmas.Bool.{cases_Bool, cases_eq, cond-true, cond-false}
 use Rattle.std.proofs.lemmas.List.Elements.{All-cons, All-head, All-nil, All-append, All-weaker, filter-append, Contains-append_right}
 use Rattle.std.proofs.lemmas.Option.{none-some, same_Some}
@@ -96,8 +96,8 @@ first_there p ws w s = subst (λ xs. Contains xs w) (sym s.is.whole) (Contains-a
 -- ---- the event goes from one list to the end of another
 
 module _ (g h : Numbered → ℕ) (before : List Numbered) (w : Numbered) (behind : List Numbered) (here there : ℕ) (was : g w ≡ here) (is : h w ≡ there) (apart : there ≢ here)
-  (as_before : All (λ (u : Numbered). h u ≡ g u) before) (as_behind : All (λ (u : Numbered). h u ≡ g u) behind)
-  (none_before : All (λ (u : Numbered). is_in g here u ≡ false) before) (none_behind : All (λ (u : Numbered). is_in g there u ≡ false) behind) where
+    (as_before : All (λ (u : Numbered). h u ≡ g u) before) (as_behind : All (λ (u : Numbered). h u ≡ g u) behind)
+    (none_before : All (λ (u : Numbered). is_in g here u ≡ false) before) (none_behind : All (λ (u : Numbered). is_in g there u ≡ false) behind) where
   same_lists : (k : ℕ) (us : List Numbered) → All (λ (u : Numbered). h u ≡ g u) us → in_list h k us ≡ in_list g k us
   same_lists k us all = filter_agree_all (is_in h k) (is_in g k) us (All-weaker (λ (u : Numbered). h u ≡ g u) (λ (u : Numbered). is_in h k u ≡ is_in g k u) (λ u e. ap (λ n. n == k) e) us all)
 

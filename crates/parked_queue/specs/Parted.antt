@@ -1,5 +1,5 @@
 -- How the waiting events are parted into lists.
-use Rattle.std.specs.Prelude.{ℕ, ◌≡◌, ◌+◌, ◌*◌, ◌<◌, ◌≤◌, Bool, List, [], ◌∷◌, nat_lt, slice_index_or, slice_set, slice_get, Option, Some, None, All, Contains, if◌then◌else◌}
+use Rattle.std.specs.Prelude.{ℕ, ◌≡◌, ◌+◌, ◌*◌, ◌<◌, ◌≤◌, Bool, List, [], ◌∷◌, nat_lt, slice_index_or, slice_set, Option, Some, None, All, Contains, if◌then◌else◌}
 use Rattle.evt_types.specs.Plan.{level_of}
 use Rattle.evt_types.specs.declared.event.Numbered.{Numbered}
 use Rattle.place_set.specs.Places.{Has}
@@ -77,3 +77,7 @@ HasNoneParked v c allowed = All (λ (u : Numbered). level_of u.event ≡ c → u
 pub record HasMarks (v : Parted) (c : ℕ) (marks : Places) : Type 0 where
   pub marked : All (λ (u : Numbered). level_of u.event ≡ c → u.number < below_at v.below c → Has marks (slot_of v.waits.slots u)) v.waits.waiting
   pub there : (slot : ℕ) → Has marks slot → slot < v.waits.slots
+
+-- the list of the event of a number, which is of the level and the slot
+abbrev pub place_for : List ℕ → ℕ → ℕ → ℕ → ℕ
+place_for below c slot n = if nat_lt n (below_at below c) then parked_place slot c else c

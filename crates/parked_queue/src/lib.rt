@@ -6,5 +6,6 @@ mod first;
 mod parking;
 mod queue;
 mod slot;
+mod turn;
 
 pub use queue::ParkedQueue;

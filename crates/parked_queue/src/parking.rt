@@ -1,11 +1,13 @@
 //! The waiting events, parted into lists.
 
-ghost use Rattle.std.specs.Prelude.{◌≡◌, ◌+◌, ◌<◌, ◌≤◌, ◌^◌, length, slice_get, Some, IfOk};
+ghost use Rattle.std.specs.Prelude.{◌≡◌, ◌+◌, ◌<◌, ◌≤◌, ◌^◌, ◌++◌, length, slice_get, vec_len, vec_capacity, Some, IfOk};
 ghost use Rattle.evt_types.specs.Plan.{level_of};
-ghost use Rattle.parked_queue.specs.Parted.{HasMarks, list_in, no_parted, parked_place, with_below, with_waits};
-ghost use Rattle.parked_queue.specs.Waits.{AreWaits, slot_of, with_event};
+ghost use Rattle.parked_queue.specs.Pairs.{all_parts, pairs_of};
+ghost use Rattle.parked_queue.specs.Parted.{HasMarks, list_in, no_parted, parked_place, place_for, with_below, with_waits};
+ghost use Rattle.parked_queue.specs.Waits.{AreWaits, IsOnlyOf, slot_of, with_event, without_number};
 
-use crate::slot::{parked_list, slot_in, LEVELS};
+use crate::slot::{LEVELS, parked_list, slot_in};
+use crate::turn::take_number;
 use evt_types::{Event, Numbered};
 use place_set::Places;
 use std::alloc::{AllocError, Global};
@@ -116,11 +118,48 @@ impl Parking {
         self.parked[level].add(slot);
     }
 
+    /// The list of the event of this number, which is of the level and the slot.
+    fn list_for(&self, level: usize, slot: usize, number: u64) -> usize
+        requires level { level < 4 }
+        requires slot { slot < self.now.waits.slots }
+        ensures { result ≡ place_for self.now.below level slot number }
+    {
+        if number < self.below[level] {
+            parked_list(level, slot)
+        } else {
+            level
+        }
+    }
+
+    /// Takes the event of this number out, which is of the level and the slot.
+    pub(crate) fn remove(&mut self, level: usize, slot: usize, number: u64)
+        requires level { level < 4 }
+        requires slot { slot < self.old.waits.slots }
+        requires only { IsOnlyOf self.old.waits level slot number }
+        ensures value { self.new ≡ with_waits self.old (without_number self.old.waits number) }
+        ensures waits { AreWaits self.new.waits }
+    {
+        let list = self.list_for(level, slot, number);
+        take_number(&mut self.lists, list, number);
+    }
+
     /// How many events wait.
     pub(crate) fn count(&self) -> usize
         ensures value { result ≡ length self.now.waits.waiting }
         ensures waits { AreWaits self.now.waits }
     {
         self.lists.total()
+    }
+
+    /// Appends the queue's number with that of each waiting event, one list after the other.
+    pub(crate) fn push_pairs(&self, queue: usize, into: &mut Vec<(usize, u64)>)
+        requires { vec_len into.old + length self.now.waits.waiting ≤ vec_capacity into.old }
+        ensures pairs { into.new.items ≡ into.old.items ++ pairs_of queue (all_parts self.now) }
+        ensures room { vec_capacity into.new ≡ vec_capacity into.old }
+        ensures waits { AreWaits self.now.waits }
+    {
+        for list in 0..LEVELS * (self.slots + 1) {
+            self.lists.push_pairs(list, queue, into);
+        }
     }
 }

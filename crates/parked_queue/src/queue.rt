@@ -1,7 +1,9 @@
 //! What waits in a queue.
 
-ghost use Rattle.std.specs.Prelude.{◌≡◌, ◌+◌, ◌<◌, ◌≤◌, ◌^◌, length, IfOk, IfSome, IfNone};
-ghost use Rattle.parked_queue.specs.Waits.{AreWaits, HasNoneAllowed, IsFirstAllowed, no_waits, with_event};
+ghost use Rattle.std.specs.Prelude.{◌≡◌, ◌+◌, ◌<◌, ◌≤◌, ◌^◌, ◌++◌, length, map, vec_len, vec_capacity, All, IfOk, IfSome, IfNone};
+ghost use Rattle.evt_types.specs.Plan.{level_of};
+ghost use Rattle.evt_types.specs.declared.event.Numbered.{Numbered as NumberedValue};
+ghost use Rattle.parked_queue.specs.Waits.{AreWaits, HasNoneAllowed, IsFirstAllowed, no_waits, slot_of, with_event, without_number};
 
 use crate::parking::Parking;
 use evt_types::{Event, Numbered};
@@ -56,11 +58,34 @@ impl ParkedQueue {
         self.parking.first(level, allowed)
     }
 
+    /// Takes the event of this number out, which is of the level and the slot. At the head of its list it goes at once; else its
+    /// list is turned once round.
+    pub fn remove(&mut self, level: usize, slot: usize, number: u64)
+        requires level { level < 4 }
+        requires slot { slot < self.old.slots }
+        requires only { All (λ (w : NumberedValue). w.number ≡ number → (level_of w.event ≡ level) × (slot_of self.old.slots w ≡ slot)) self.old.waiting }
+        ensures value { self.new ≡ without_number self.old number }
+        ensures waits { AreWaits self.new }
+    {
+        self.parking.remove(level, slot, number);
+    }
+
     /// How many events wait.
     pub fn count(&self) -> usize
         ensures value { result ≡ length self.now.waiting }
         ensures waits { AreWaits self.now }
     {
         self.parking.count()
+    }
+
+    /// Appends the queue's number with that of each waiting event, rising.
+    pub fn list_pairs(&self, queue: usize, into: &mut Vec<(usize, u64)>)
+        requires { vec_len into.old + length self.now.waiting ≤ vec_capacity into.old }
+        ensures pairs { into.new.items ≡ into.old.items ++ map (λ (w : NumberedValue). (queue, w.number)) self.now.waiting }
+        ensures room { vec_capacity into.new ≡ vec_capacity into.old }
+    {
+        let start = into.len();
+        self.parking.push_pairs(queue, into);
+        into[start..].sort_unstable_by_key(|pair| pair.1);
     }
 }

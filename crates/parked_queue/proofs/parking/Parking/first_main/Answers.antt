@@ -1,8 +1,8 @@
-use Rattle.std.proofs.Common.{◌<◌, ◌∙◌, length, subst, sym, ap, Some, slice_get, refl}
+use Rattle.std.proofs.Common.{◌<◌, ◌∙◌, length, subst, sym, ap, refl}
 use Rattle.std.proofs.lemmas.Bool.{false≢true}
 use Rattle.place_set.specs.Places.{Has}
-use Rattle.parked_queue.specs.Parted.{HasNoneParked, Parted, list_in, with_below}
-use Rattle.parked_queue.specs.Waits.{HasNoneAllowed, IsFirstAllowed, slot_of}
+use Rattle.parked_queue.specs.Parted.{HasNoneParked, Parted, list_in}
+use Rattle.parked_queue.specs.Waits.{HasNoneAllowed, IsFirstAllowed}
 use Rattle.parked_queue.proofs.Firsts.{fewer_left, level_of_head, main_first, none_left, still_none}
 use Rattle.parked_queue.proofs.parking.Parking.first_main.Goals as goal
 

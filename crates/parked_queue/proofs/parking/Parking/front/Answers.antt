@@ -1,5 +1,4 @@
-use Rattle.std.proofs.Common.{◌<◌, ◌∙◌, ap, arith, slice_get}
-use Rattle.parked_queue.specs.Parted.{places}
+use Rattle.std.proofs.Common.{◌∙◌, ap, arith, slice_get}
 use Rattle.parked_queue.proofs.Holding.{count_held, held, list_held}
 use Rattle.parked_queue.proofs.parking.Parking.front.Goals as goal
 

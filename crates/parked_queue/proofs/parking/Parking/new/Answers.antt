@@ -1,5 +1,4 @@
-use Rattle.std.proofs.Common.{arith, ap}
-use Rattle.std.specs.Int.{bit_at}
+use Rattle.std.proofs.Common.{arith}
 use Rattle.std.proofs.lemmas.Nat.Bits.{bit_at-zero}
 use Rattle.parked_queue.proofs.Holding.{nothing_held, view_held, holds_held}
 use Rattle.parked_queue.specs.Parted.{no_parted}

@@ -24,7 +24,7 @@ use Rattle.sched_core.specs.Ordered.{ArePlaces, kept_of, order_at, waits_at, pla
 use Rattle.sched_core.specs.View.{waiting_in, next_in, unanswered_in, entries_in, view_in, IsCore}
 use Rattle.order_parts.specs.declared.history.Entry.{Entry}
 use Rattle.order_parts.specs.History.{Entries}
-use Rattle.sched_core.specs.Waits.{Waits, AreWaits, no_waits, with_event}
+use Rattle.parked_queue.specs.Waits.{Waits, AreWaits, no_waits, with_event}
 use Rattle.sched_core.specs.declared.state.Core.TheInside.{Inside}
 
 -- ---- a queue and a lane that change

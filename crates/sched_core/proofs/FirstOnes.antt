@@ -12,7 +12,7 @@ use Rattle.sched_core.proofs.News.{slots_range}
 use Rattle.sched_core.specs.Inner.{slots_for}
 use Rattle.sched_core.specs.Offered.{HasNoneAllowedIn, IsFirstIn, slot_at}
 use Rattle.sched_core.specs.View.{view_in, IsCore}
-use Rattle.sched_core.specs.Waits.{Waits, IsFirstAllowed, HasNoneAllowed}
+use Rattle.parked_queue.specs.Waits.{Waits, IsFirstAllowed, HasNoneAllowed}
 use Rattle.sched_core.specs.declared.state.Core.TheInside.{Inside}
 use Rattle.transcripts.specs.Choice.{WaitsIn}
 

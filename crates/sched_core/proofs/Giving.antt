@@ -25,7 +25,7 @@ use Rattle.sched_core.specs.Ordered.{ArePlaces, entries_at, kept_of, order_at, w
 use Rattle.sched_core.specs.Orders.{has_place, handed, is_restoring}
 use Rattle.sched_core.specs.Pinned.{slots_of, pin_in, with_pin, ArePins}
 use Rattle.sched_core.specs.View.{waiting_in, next_in, unanswered_in, entries_in, view_in, IsCore}
-use Rattle.sched_core.specs.Waits.{Waits, AreWaits, without_number}
+use Rattle.parked_queue.specs.Waits.{Waits, AreWaits, without_number}
 use Rattle.sched_core.specs.declared.state.Core.TheInside.{Inside}
 
 -- ---- the lanes and the pins

@@ -24,7 +24,7 @@ use Rattle.sched_core.specs.Pinned.{AreFreePins}
 use Rattle.sched_core.specs.View.{waiting_in, next_in, unanswered_in, entries_in, view_in, IsCore}
 use Rattle.order_parts.specs.declared.history.Entry.{Entry}
 use Rattle.order_parts.specs.History.{Entries}
-use Rattle.sched_core.specs.Waits.{Waits, AreWaits, no_waits}
+use Rattle.parked_queue.specs.Waits.{Waits, AreWaits, no_waits}
 use Rattle.sched_core.proofs.Cores.{same_parts}
 use Rattle.sched_core.proofs.Pinned.{pins_new}
 

@@ -17,7 +17,7 @@ use Rattle.evt_types.specs.declared.event.Numbered.{Numbered}
 use Rattle.order_parts.specs.Reorder.{Reordering, next_number, open_place, place_at, is_open, index_of, resolved, after_hand, after_resolve, after_leave, after_leaving, oldest_answered}
 use Rattle.order_parts.specs.declared.history.Entry.{Entry}
 use Rattle.sched_core.specs.Ordered.{IsOrder, IsGivenOf, KeepsOne, StandsAt, StandsIn, outcome_of, kept_of}
-use Rattle.sched_core.specs.Waits.{Waits, with_event, without_number}
+use Rattle.parked_queue.specs.Waits.{Waits, with_event, without_number}
 use Rattle.sched_core.proofs.PlaceNumbers.{back_of, counted_on}
 use Rattle.lists.proofs.Writes.{slice_get-set_other, slice_get-drop_one, AllPairs-set_like}
 

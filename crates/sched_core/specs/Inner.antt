@@ -4,7 +4,7 @@ use Rattle.evt_types.specs.Plan.{Plan, bound_of, depth_of, is_atomic, queue_of}
 use Rattle.transcripts.specs.Transcript.{Held}
 use Rattle.order_parts.specs.declared.history.Entry.{Entry}
 use Rattle.order_parts.specs.History.{Entries, entries_of}
-use Rattle.sched_core.specs.Waits.{Waits, AreWaits, no_waits}
+use Rattle.parked_queue.specs.Waits.{Waits, AreWaits, no_waits}
 
 -- a queue of this room
 pub record IsQueueOf (capacity : ℕ) (q : Waits) : Type 0 where

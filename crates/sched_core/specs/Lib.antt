@@ -9,4 +9,3 @@ pub mod Shutting
 pub mod Skipped
 pub mod Taken
 pub mod View
-pub mod Waits

@@ -8,7 +8,7 @@ use Rattle.evt_types.specs.declared.step.Outcome.{Outcome}
 use Rattle.evt_types.specs.declared.step.Outcome.TheVariants.{Forwarded, Released}
 use Rattle.order_parts.specs.Reorder.{Reordering, empty, number_of, open_place}
 use Rattle.order_parts.specs.declared.history.Entry.{Entry}
-use Rattle.sched_core.specs.Waits.{Waits, no_waits}
+use Rattle.parked_queue.specs.Waits.{Waits, no_waits}
 
 -- the buffer of a queue, and what waits in it
 abbrev pub order_at : List Reordering → ℕ → Reordering

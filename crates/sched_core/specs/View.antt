@@ -10,7 +10,7 @@ use Rattle.sched_core.specs.Inner.{IsQueueOf, HaveRoom, HaveSlots, held_of}
 use Rattle.order_parts.specs.History.{Entries}
 use Rattle.sched_core.specs.Ordered.{ArePlaces, places_in}
 use Rattle.sched_core.specs.Pinned.{ArePins}
-use Rattle.sched_core.specs.Waits.{Waits}
+use Rattle.parked_queue.specs.Waits.{Waits}
 use Rattle.sched_core.specs.declared.state.Core.TheInside.{Inside}
 
 abbrev pub waiting_in : Waits → List Numbered

@@ -10,7 +10,6 @@ mod offer;
 mod orders;
 mod pins;
 mod propose;
-mod queue;
 mod shut;
 mod skips;
 mod state;

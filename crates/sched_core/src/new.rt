@@ -7,7 +7,7 @@ ghost use Rattle.sched_core.specs.Inner.{AreEmptyQueues, AreEmptyLanes, slots_fo
 
 use crate::orders::AllOrders;
 use crate::pins::AllPins;
-use crate::queue::ParkedQueue;
+use parked_queue::ParkedQueue;
 use crate::state::{Core, Memory};
 use evt_types::{MAX_SLOTS, Shape};
 use order_parts::History;

@@ -10,7 +10,7 @@ ghost use Rattle.evt_types.specs.declared.step.Step.{Step as StepValue};
 
 use crate::orders::{AllOrders, kept_room};
 use crate::pins::AllPins;
-use crate::queue::ParkedQueue;
+use parked_queue::ParkedQueue;
 use evt_types::{KeptEvent, MAX_QUEUES, QueueDraft, Shape};
 use order_parts::History;
 use std::alloc::AllocError;

@@ -57,3 +57,7 @@ pub record IsFirstAllowed (v : Waits) (c : ℕ) (allowed : Places) (w : Numbered
 -- no event of the level has an allowed slot
 abbrev pub HasNoneAllowed : Waits → ℕ → Places → Type 0
 HasNoneAllowed v c allowed = All (λ (u : Numbered). level_of u.event ≡ c → ¬ Has allowed (slot_of v.slots u)) v.waiting
+
+-- an event of the number is of the level and the slot
+abbrev pub IsOnlyOf : Waits → ℕ → ℕ → ℕ → Type 0
+IsOnlyOf v c slot n = All (λ (w : Numbered). w.number ≡ n → (level_of w.event ≡ c) × (slot_of v.slots w ≡ slot)) v.waiting

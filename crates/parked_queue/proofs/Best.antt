@@ -1,0 +1,171 @@
+-- The oldest parked event of a level whose slot is allowed.
+use Rattle.std.proofs.Common.{◌≡◌, ◌≢◌, ℕ, ◌<◌, ◌≤◌, Bool, true, false, List, length, set, get_or, All, Option, Some, None, IfSome, IfNone, slice_get, ◌⊎◌, ⊎_elim, inl, inr, refl, sym, ap, ◌∙◌, subst, arith, eq-eqb}
+use Rattle.std.specs.Prelude.{◌↔◌}
+use Rattle.std.proofs.lemmas.Bool.{cases_eq, cases_lt, false≢true}
+use Rattle.std.proofs.lemmas.List.{length-set, get_or-set_same, get_or-set_other}
+use Rattle.std.proofs.lemmas.List.Elements.{All-contains}
+use Rattle.lists.proofs.Lists.{eqb_is}
+use Rattle.evt_types.specs.Plan.{level_of}
+use Rattle.evt_types.specs.declared.event.Numbered.{Numbered}
+use Rattle.place_set.specs.Places.{Has, IsEmpty, SameBut}
+use Rattle.place_set.specs.declared.places.Places.{Places}
+use Rattle.parked_queue.specs.Marks.{marks_at}
+use Rattle.parked_queue.specs.Merge.{is_in}
+use Rattle.parked_queue.specs.Parted.{Parted, HasMarks, HasNoneParked, IsBest, IsFirstParked, IsNoLater, IsParkedAllowed, below_at, list_in, parked_place, place_of}
+use Rattle.parked_queue.specs.Waits.{AreWaits, slot_of}
+use Rattle.parked_queue.specs.declared.parking.Parking.TheInside.{Inside}
+use Rattle.std.specs.Option.{is_some}
+use Rattle.waiting_lists.specs.Lists.{list_at}
+use Rattle.parked_queue.proofs.Holding.{Holds, count_held, list_held, place_if_not, place_if_parked}
+use Rattle.parked_queue.proofs.Splits.{Split, first_least, first_split, first_there, none_first}
+
+-- what it says of an event to be in the list of a slot's parked events
+in_aside : (slots : ℕ) (below : List ℕ) (c s : ℕ) (u : Numbered) → c < 4 → level_of u.event < 4 → is_in (place_of slots below) (parked_place s c) u ≡ true → (level_of u.event ≡ c) × (slot_of slots u ≡ s) × (u.number < below_at below c)
+in_aside slots below c s u lt level e =
+    let same : place_of slots below u ≡ parked_place s c = eqb_is (place_of slots below u) (parked_place s c) e in
+    ⊎_elim
+    (λ parked. let p = place_if_parked slots below u parked in let here : level_of u.event ≡ c = omega arith in (here, omega arith, subst (λ k. u.number < below_at below k) here parked))
+    (λ main. let p = place_if_not slots below u main in absurd (omega arith))
+    (cases_lt u.number (below_at below (level_of u.event)))
+
+-- a parked event is in the list of its slot
+is_aside : (slots : ℕ) (below : List ℕ) (c s : ℕ) (u : Numbered) → level_of u.event ≡ c → slot_of slots u ≡ s → u.number < below_at below c → is_in (place_of slots below) (parked_place s c) u ≡ true
+is_aside slots below c s u here slot lower =
+    eq-eqb (place_of slots below u) (parked_place s c)
+    (place_if_parked slots below u (subst (λ k. u.number < below_at below k) (sym here) lower) ∙ (ap (λ k. parked_place k (level_of u.event)) slot ∙ ap (parked_place s) here))
+
+module _ (v : Parted) (c s : ℕ) (waits : AreWaits v.waits) (lt : c < 4) where
+  abbrev test : Numbered → Bool
+  test = is_in (place_of v.waits.slots v.below) (parked_place s c)
+
+  -- nothing is parked there
+  pub none_aside : slice_get (list_in v (parked_place s c)) 0 ≡ None → All (λ (u : Numbered). level_of u.event ≡ c → u.number < below_at v.below c → slot_of v.waits.slots u ≢ s) v.waits.waiting
+  none_aside e k d h =
+      let u : Numbered = get_or v.waits.waiting k d in
+      λ here lower slot. false≢true (sym (none_first test v.waits.waiting e k d h) ∙ is_aside v.waits.slots v.below c s u here slot lower)
+
+  module _ (w : Numbered) (head : slice_get (list_in v (parked_place s c)) 0 ≡ Some w) where
+    aside : Split test v.waits.waiting w
+    aside = first_split test v.waits.waiting w waits.rising head
+
+    of_head : (level_of w.event ≡ c) × (slot_of v.waits.slots w ≡ s) × (w.number < below_at v.below c)
+    of_head = in_aside v.waits.slots v.below c s w lt (All-contains (λ (u : Numbered). level_of u.event < 4) v.waits.waiting w waits.levels (first_there test v.waits.waiting w aside)) aside.is.here
+
+    pub head_there : (allowed : Places) → Has allowed s → IsParkedAllowed v c allowed w
+    head_there allowed has = record { waits = first_there test v.waits.waiting w aside; level = of_head.0; slot = subst (Has allowed) (sym of_head.1) has; parked = of_head.2 }
+
+    pub head_least : All (λ (u : Numbered). level_of u.event ≡ c → u.number < below_at v.below c → slot_of v.waits.slots u ≡ s → w.number ≤ u.number) v.waits.waiting
+    head_least k d h =
+        let u : Numbered = get_or v.waits.waiting k d in
+        λ here lower slot. first_least test v.waits.waiting w aside k d h (is_aside v.waits.slots v.below c s u here slot lower)
+
+-- ---- the walk over the slots
+
+module _ (v : Parted) (c : ℕ) (allowed : Places) where
+  -- nothing is looked at yet
+  pub best_none : (marks left : Places) → HasMarks v c marks → ((i : ℕ) → Has left i ↔ (Has marks i × Has allowed i)) → IsBest v c allowed left None
+  best_none marks left has both k d h =
+      let u : Numbered = get_or v.waits.waiting k d in
+      λ here lower may gone. absurd (gone ((both (slot_of v.waits.slots u)).1 (has.marked k d h here lower, may)))
+
+  -- the slot has no parked event
+  pub best_kept : (s : ℕ) (left less : Places) (best : Option Numbered) → AreWaits v.waits → c < 4 → slice_get (list_in v (parked_place s c)) 0 ≡ None → SameBut s left less → IsBest v c allowed left best → IsBest v c allowed less best
+  best_kept s left less best waits lt none but old k d h =
+      let u : Numbered = get_or v.waits.waiting k d in
+      λ here lower may gone. old k d h here lower may (λ has. gone ((but (slot_of v.waits.slots u) (none_aside v c s waits lt none k d h here lower)).1 has))
+
+  -- the older one of the best and the slot's first
+  pub best_older : (s : ℕ) (left less : Places) (best : Option Numbered) (w r : Numbered) → AreWaits v.waits → c < 4 → slice_get (list_in v (parked_place s c)) 0 ≡ Some w → SameBut s left less
+      → ((n : ℕ) → IsNoLater best n ⊎ (w.number ≤ n) → r.number ≤ n) → IsBest v c allowed left best → IsBest v c allowed less (Some r)
+  best_older s left less best w r waits lt head but older old k d h =
+      let u : Numbered = get_or v.waits.waiting k d in
+      λ here lower may gone. ⊎_elim
+      (λ this. older u.number (inr (head_least v c s waits lt w head k d h here lower this)))
+      (λ other. older u.number (inl (old k d h here lower may (λ has. gone ((but (slot_of v.waits.slots u) other).1 has)))))
+      (cases_eq (slot_of v.waits.slots u) s)
+
+  pub one_older : (s : ℕ) (best : Option Numbered) (w r : Numbered) → AreWaits v.waits → c < 4 → slice_get (list_in v (parked_place s c)) 0 ≡ Some w → Has allowed s → (best ≡ Some r) ⊎ (r ≡ w) → IfSome best (IsParkedAllowed v c allowed) → IsParkedAllowed v c allowed r
+  one_older s best w r waits lt head has one old = ⊎_elim (λ e. subst (λ o. IfSome o (IsParkedAllowed v c allowed)) e old) (λ e. subst (IsParkedAllowed v c allowed) (sym e) (head_there v c s waits lt w head allowed has)) one
+
+-- ---- a mark goes
+
+module _ (a : Inside) (v : Parted) (c s : ℕ) (p : Places) (h : Holds a v) (lt : c < 4) (none : slice_get (list_in v (parked_place s c)) 0 ≡ None) (but : SameBut s (marks_at a.parked c) p) (gone : ¬ Has p s) where
+  here_after : marks_at (set a.parked c p) c ≡ p
+  here_after = let four = h.levels in get_or-set_same a.parked c p (record { bits = 0 }) (omega arith)
+
+  other_after : (k : ℕ) → k ≢ c → marks_at (set a.parked c p) k ≡ marks_at a.parked k
+  other_after k differs = get_or-set_other a.parked c k p (record { bits = 0 }) differs
+
+  marked_after : (u : Numbered) → (level_of u.event ≡ c → u.number < below_at v.below c → slot_of v.waits.slots u ≢ s) → (u.number < below_at v.below (level_of u.event) → Has (marks_at a.parked (level_of u.event)) (slot_of v.waits.slots u))
+      → u.number < below_at v.below (level_of u.event) → Has (marks_at (set a.parked c p) (level_of u.event)) (slot_of v.waits.slots u)
+  marked_after u apart old parked =
+      ⊎_elim
+      (λ here. subst (λ q. Has q (slot_of v.waits.slots u)) (sym (ap (marks_at (set a.parked c p)) here ∙ here_after))
+      ((but (slot_of v.waits.slots u) (apart here (subst (λ k. u.number < below_at v.below k) here parked))).1 (subst (λ k. Has (marks_at a.parked k) (slot_of v.waits.slots u)) here (old parked))))
+      (λ elsewhere. subst (λ q. Has q (slot_of v.waits.slots u)) (sym (other_after (level_of u.event) elsewhere)) (old parked))
+      (cases_eq (level_of u.event) c)
+
+  there_after : (k slot : ℕ) → Has (marks_at (set a.parked c p) k) slot → slot < v.waits.slots
+  there_after k slot has =
+      ⊎_elim
+      (λ same.
+      let now : Has p slot = subst (λ q. Has q slot) (ap (marks_at (set a.parked c p)) same ∙ here_after) has in
+      h.marks.there c slot ((but slot (λ e. gone (subst (Has p) e now))).0 now))
+      (λ differs. h.marks.there k slot (subst (λ q. Has q slot) (other_after k differs) has))
+      (cases_eq k c)
+
+  pub unmarked_held : Holds (record a { parked = set a.parked c p }) v
+  unmarked_held =
+      record {
+        waits = h.waits;
+        lists = h.lists;
+        room = h.room;
+        slots = h.slots;
+        next = h.next;
+        below = h.below;
+        bounds = h.bounds;
+        four = h.four;
+        levels = length-set a.parked c p ∙ h.levels;
+        marks = record { marked = λ k d l. marked_after (get_or v.waits.waiting k d) (none_aside v c s h.waits lt none k d l) (h.marks.marked k d l); there = there_after };
+      }
+
+-- ---- what stands first in the list of a slot's parked events
+
+none_if : (o : Option Numbered) → is_some o ≡ false → o ≡ None
+none_if None e = refl
+none_if (Some w) e = cc
+
+module _ (a : Inside) (v : Parted) (c s k : ℕ) (h : Holds a v) (lt : c < 4) (less : s < v.waits.slots) (list : k ≡ parked_place s c) where
+  pub place_there : k < length a.lists.lists
+  place_there = let count = count_held a v h in omega arith
+
+  pub first_aside : (r : Option Numbered) → r ≡ slice_get (list_at a.lists k) 0 → r ≡ slice_get (list_in v (parked_place s c)) 0
+  first_aside r e = e ∙ (ap (λ n. slice_get (list_at a.lists n) 0) list ∙ ap (λ us. slice_get us 0) (list_held a v (parked_place s c) h (omega arith)))
+
+  pub mark_gone : (r : Option Numbered) (p : Places) → r ≡ slice_get (list_at a.lists k) 0 → is_some r ≡ false → SameBut s (marks_at a.parked c) p → ¬ Has p s → Holds (record a { parked = set a.parked c p }) v
+  mark_gone r p e none but gone = unmarked_held a v c s p h lt (sym (first_aside r e) ∙ none_if r none) but gone
+
+pub marks_held : (a : Inside) (v : Parted) (c : ℕ) → Holds a v → HasMarks v c (marks_at a.parked c)
+marks_held a v c h =
+    record {
+      marked =
+          λ k d l.
+          let u : Numbered = get_or v.waits.waiting k d in
+          λ here lower. subst (λ n. Has (marks_at a.parked n) (slot_of v.waits.slots u)) here (h.marks.marked k d l (subst (λ n. u.number < below_at v.below n) (sym here) lower));
+      there = h.marks.there c;
+    }
+
+-- ---- when each slot is looked at
+
+-- what holds of a place but the one that is taken out of a set
+pub still_there : (Q : ℕ → Type 0) (s : ℕ) (left less : Places) → SameBut s left less → ¬ Has less s → ((k : ℕ) → Has left k → Q k) → (k : ℕ) → Has less k → Q k
+still_there Q s left less but gone all k has = all k ((but k (λ e. gone (subst (Has less) e has))).0 has)
+
+module _ (v : Parted) (c : ℕ) (allowed left : Places) (empty : IsEmpty left) where
+  pub is_first : (best : Option Numbered) → IfSome best (IsParkedAllowed v c allowed) → IsBest v c allowed left best → IfSome best (IsFirstParked v c allowed)
+  is_first None one best = tt
+  is_first (Some w) one best = record { one = one; first = λ k d h. (λ here lower may. best k d h here lower may (empty (slot_of v.waits.slots (get_or v.waits.waiting k d)))) }
+
+  pub has_none : (best : Option Numbered) → IsBest v c allowed left best → IfNone best (HasNoneParked v c allowed)
+  has_none None best = λ k d h. (λ here lower may. best k d h here lower may (empty (slot_of v.waits.slots (get_or v.waits.waiting k d))))
+  has_none (Some w) best = tt

@@ -1,0 +1,85 @@
+-- The first event of a level whose slot is allowed.
+use Rattle.std.proofs.Common.{◌≡◌, ℕ, ◌+◌, ◌<◌, ◌≤◌, Bool, true, List, length, set, get_or, Some, None, slice_get, ⊎_elim, sym, ap, ◌∙◌, subst, arith, eq-eqb}
+use Rattle.std.proofs.lemmas.Bool.{cases_lt, false≢true}
+use Rattle.std.proofs.lemmas.List.{length-drop, get_or-set_same}
+use Rattle.std.proofs.lemmas.List.Elements.{All-contains}
+use Rattle.std.proofs.lemmas.Option.{slice_get_within}
+use Rattle.evt_types.specs.Plan.{level_of}
+use Rattle.evt_types.specs.declared.event.Numbered.{Numbered}
+use Rattle.place_set.specs.Places.{Has}
+use Rattle.place_set.specs.declared.places.Places.{Places}
+use Rattle.parked_queue.specs.Merge.{is_in}
+use Rattle.parked_queue.specs.Parted.{Parted, HasNoneParked, IsFirstParked, below_at, list_in, place_of, with_below}
+use Rattle.parked_queue.specs.Waits.{AreWaits, HasNoneAllowed, IsFirstAllowed, slot_of}
+use Rattle.parked_queue.proofs.Holding.{place_if_not}
+use Rattle.parked_queue.proofs.Parks.{in_main, list_after, older}
+use Rattle.parked_queue.proofs.Splits.{Split, first_alone, first_least, first_split, first_there, none_first}
+
+-- an event of the level that is not parked is in the level's own list
+is_main : (slots : ℕ) (below : List ℕ) (c : ℕ) (u : Numbered) → level_of u.event ≡ c → below_at below c ≤ u.number → is_in (place_of slots below) c u ≡ true
+is_main slots below c u here le = eq-eqb (place_of slots below u) c (place_if_not slots below u (subst (λ k. below_at below k ≤ u.number) (sym here) le) ∙ here)
+
+-- the first parked one is before each that is not parked
+pub parked_first : (v : Parted) (c : ℕ) (allowed : Places) (w : Numbered) → IsFirstParked v c allowed w → IsFirstAllowed v.waits c allowed w
+parked_first v c allowed w is =
+    record {
+      waits = is.one.waits;
+      level = is.one.level;
+      slot = is.one.slot;
+      first =
+          λ k d h. (λ here may. ⊎_elim
+          (λ lower. is.first k d h here lower may)
+          (λ le. let parked = is.one.parked in omega arith)
+          (cases_lt (get_or v.waits.waiting k d).number (below_at v.below c)));
+    }
+
+module _ (v : Parted) (c : ℕ) (allowed : Places) (waits : AreWaits v.waits) (lt : c < 4) (none : HasNoneParked v c allowed) where
+  abbrev test : Numbered → Bool
+  test = is_in (place_of v.waits.slots v.below) c
+
+  -- nothing is left in the level's own list
+  pub none_left : slice_get (list_in v c) 0 ≡ None → HasNoneAllowed v.waits c allowed
+  none_left e k d h =
+      let u : Numbered = get_or v.waits.waiting k d in
+      λ here may. ⊎_elim
+      (λ lower. none k d h here lower may)
+      (λ le. false≢true (sym (none_first test v.waits.waiting e k d h) ∙ is_main v.waits.slots v.below c u here le))
+      (cases_lt u.number (below_at v.below c))
+
+  module _ (w : Numbered) (head : slice_get (list_in v c) 0 ≡ Some w) where
+    main : Split test v.waits.waiting w
+    main = first_split test v.waits.waiting w waits.rising head
+
+    pub level_of_head : c ≡ level_of w.event
+    level_of_head = sym (in_main v.waits.slots v.below c w lt (All-contains (λ (u : Numbered). level_of u.event < 4) v.waits.waiting w waits.levels (first_there test v.waits.waiting w main)) main.is.here).0
+
+    -- the first one of the level's own list is allowed
+    pub main_first : Has allowed (slot_of v.waits.slots w) → IsFirstAllowed v.waits c allowed w
+    main_first may =
+        record {
+          waits = first_there test v.waits.waiting w main;
+          level = sym level_of_head;
+          slot = may;
+          first =
+              λ k d h. (λ here has. ⊎_elim
+              (λ lower. absurd (none k d h here lower has))
+              (λ le. first_least test v.waits.waiting w main k d h (is_main v.waits.slots v.below c (get_or v.waits.waiting k d) here le))
+              (cases_lt (get_or v.waits.waiting k d).number (below_at v.below c)));
+        }
+
+    -- it is not, and set aside
+    pub still_none : length v.below ≡ 4 → ¬ Has allowed (slot_of v.waits.slots w) → HasNoneParked (with_below v c (w.number + 1)) c allowed
+    still_none four bars k d h =
+        let u : Numbered = get_or v.waits.waiting k d in
+        let grown : below_at (set v.below c (w.number + 1)) c ≡ w.number + 1 = get_or-set_same v.below c (w.number + 1) 0 (omega arith) in
+        λ here lower may. ⊎_elim
+        (λ less. none k d h here (older v w c waits level_of_head lt four head k d h here less) may)
+        (λ le. let same : u.number ≡ w.number = omega arith in bars (subst (λ (x : Numbered). Has allowed (slot_of v.waits.slots x)) (first_alone test v.waits.waiting w main k d h same) may))
+        (cases_lt u.number w.number)
+
+    pub fewer_left : length v.below ≡ 4 → length (list_in (with_below v c (w.number + 1)) c) < length (list_in v c)
+    fewer_left four =
+        let less = ap length (list_after v w c waits level_of_head lt four head) in
+        let some = slice_get_within (list_in v c) 0 w head in
+        let count = length-drop 1 (list_in v c) in
+        omega arith

@@ -1,0 +1,11 @@
+pub mod Accepting
+pub mod Holding
+pub mod Merges
+pub mod Parks
+pub mod Splits
+pub mod Totals
+pub mod Best
+pub mod Firsts
+pub mod Turns
+pub mod Taking
+pub mod Pairs

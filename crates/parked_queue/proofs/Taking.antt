@@ -1,0 +1,80 @@
+-- One event less.
+use Rattle.std.proofs.Common.{◌≡◌, ℕ, ◌<◌, ◌≤◌, List, length, filter, set, get_or, nat_lt, All, sym, ap, ◌∙◌, subst, arith}
+use Rattle.std.proofs.lemmas.Bool.{cond_both}
+use Rattle.std.proofs.lemmas.List.Elements.{All-filter}
+use Rattle.std.proofs.lemmas.List.Kept.{AllPairs-filter}
+use Rattle.std.proofs.lemmas.List.Sums.{length-filter, count_by-le-length}
+use Rattle.evt_types.specs.Plan.{level_of}
+use Rattle.evt_types.specs.declared.event.Numbered.{Numbered}
+use Rattle.place_set.specs.Places.{Has}
+use Rattle.waiting_lists.specs.Lists.{Lists, list_at, with_list}
+use Rattle.parked_queue.specs.Marks.{marks_at}
+use Rattle.parked_queue.specs.Merge.{is_in, lists_of}
+use Rattle.parked_queue.specs.Parted.{Parted, below_at, list_in, parked_place, place_for, place_of, places, with_waits}
+use Rattle.parked_queue.specs.Waits.{Waits, AreWaits, IsOnlyOf, IsRising, is_other, slot_of, without_number}
+use Rattle.parked_queue.specs.declared.parking.Parking.TheInside.{Inside}
+use Rattle.parked_queue.proofs.Holding.{Holds, count_held, list_held}
+use Rattle.parked_queue.proofs.Merges.{lists_without}
+
+pub waits_without : (q : Waits) (n : ℕ) → AreWaits q → AreWaits (without_number q n)
+waits_without q n waits =
+    let fewer : length (filter (is_other n) q.waiting) ≤ length q.waiting = subst (λ m. m ≤ length q.waiting) (sym (length-filter (is_other n) q.waiting)) (count_by-le-length (is_other n) q.waiting) in
+    let room = waits.within in
+    record {
+      rising = AllPairs-filter (λ (u w : Numbered). u.number < w.number) (is_other n) q.waiting waits.rising;
+      below = All-filter (is_other n) (λ (w : Numbered). w.number < q.next) q.waiting waits.below;
+      levels = All-filter (is_other n) (λ (w : Numbered). level_of w.event < 4) q.waiting waits.levels;
+      fits = waits.fits;
+      within = omega arith;
+      some = waits.some;
+      few = waits.few;
+    }
+
+pub place_for_within : (below : List ℕ) (c slot n slots : ℕ) → c < 4 → slot < slots → place_for below c slot n < places slots
+place_for_within below c slot n slots lt less = cond_both (nat_lt n (below_at below c)) (parked_place slot c) c (λ k. k < places slots) (λ _. omega arith) (λ _. omega arith)
+
+-- where the event of the number is
+only_there : (v : Parted) (c slot n : ℕ) → IsOnlyOf v.waits c slot n → All (λ (w : Numbered). w.number ≡ n → place_of v.waits.slots v.below w ≡ place_for v.below c slot n) v.waits.waiting
+only_there v c slot n only k d h =
+    let w : Numbered = get_or v.waits.waiting k d in
+    λ same.
+    let of = only k d h same in
+    ap (λ m. place_for v.below (level_of w.event) (slot_of v.waits.slots w) m) same ∙ (ap (λ m. place_for v.below m (slot_of v.waits.slots w) n) of.0 ∙ ap (λ m. place_for v.below c m n) of.1)
+
+module _ (a : Inside) (v : Parted) (c slot n k : ℕ) (h : Holds a v) (lt : c < 4) (less : slot < v.waits.slots) (list : k ≡ place_for v.below c slot n) where
+  within : k < places v.waits.slots
+  within = subst (λ m. m < places v.waits.slots) (sym list) (place_for_within v.below c slot n v.waits.slots lt less)
+
+  pub list_there : k < length a.lists.lists
+  list_there = subst (λ m. k < m) (sym (count_held a v h)) within
+
+  pub list_rises : IsRising (list_at a.lists k)
+  list_rises = subst IsRising (sym (list_held a v k h within)) (AllPairs-filter (λ (u w : Numbered). u.number < w.number) (is_in (place_of v.waits.slots v.below) k) v.waits.waiting h.waits.rising)
+
+  module _ (only : IsOnlyOf v.waits c slot n) (l : Lists) (is : l ≡ with_list a.lists k (filter (is_other n) (list_at a.lists k))) where
+    lists_taken : l.lists ≡ lists_of (place_of v.waits.slots v.below) 0 (places v.waits.slots) (filter (is_other n) v.waits.waiting)
+    lists_taken =
+        ap (λ (x : Lists). x.lists) is
+        ∙ (ap (λ us. set a.lists.lists k (filter (is_other n) us)) (list_held a v k h within)
+        ∙ (ap (λ ls. set ls k (filter (is_other n) (list_in v k))) h.lists
+        ∙ sym (lists_without (place_of v.waits.slots v.below) (places v.waits.slots) v.waits.waiting n k within
+        (subst (λ m. All (λ (w : Numbered). w.number ≡ n → place_of v.waits.slots v.below w ≡ m) v.waits.waiting) (sym list) (only_there v c slot n only)))))
+
+    pub taken_held : Holds (record a { lists = l }) (with_waits v (without_number v.waits n))
+    taken_held =
+        record {
+          waits = waits_without v.waits n h.waits;
+          lists = lists_taken;
+          room = ap (λ (x : Lists). x.room) is ∙ h.room;
+          slots = h.slots;
+          next = h.next;
+          below = h.below;
+          bounds = h.bounds;
+          four = h.four;
+          levels = h.levels;
+          marks =
+              record {
+                marked = All-filter (is_other n) (λ (u : Numbered). u.number < below_at v.below (level_of u.event) → Has (marks_at a.parked (level_of u.event)) (slot_of v.waits.slots u)) v.waits.waiting h.marks.marked;
+                there = h.marks.there;
+              };
+        }

@@ -1,0 +1,16 @@
+use Rattle.std.proofs.Common.{◌≡◌, ℕ, ◌<◌, IfSome}
+use Rattle.place_set.specs.Places.{Has, weight}
+use Rattle.parked_queue.specs.Parted.{IsBest, IsParkedAllowed}
+use Rattle.parked_queue.proofs.parking.Parking.first_parked.Given as goal
+
+abbrev pub invariant-loop-slot : goal.invariant-loop-slot
+invariant-loop-slot l =
+    record {
+      same : l.self ≡ l.fn.self;
+      there : (k : ℕ) → Has l.left k → Has l.fn.allowed k × (k < l.fn.self.waits.slots);
+      one : IfSome l.best (IsParkedAllowed l.fn.self l.level l.fn.allowed);
+      best : IsBest l.fn.self l.level l.fn.allowed l.left l.best;
+    }
+
+abbrev pub decreases-loop-slot : goal.decreases-loop-slot
+decreases-loop-slot l = weight l.left

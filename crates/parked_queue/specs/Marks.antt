@@ -1,0 +1,31 @@
+-- How the parted events are held.
+use Rattle.std.specs.Prelude.{ℕ, ◌≡◌, ◌<◌, ◌≤◌, List, length, slice_index_or, All}
+use Rattle.evt_types.specs.Plan.{level_of}
+use Rattle.evt_types.specs.declared.event.Numbered.{Numbered}
+use Rattle.place_set.specs.Places.{Has}
+use Rattle.place_set.specs.declared.places.Places.{Places}
+use Rattle.parked_queue.specs.Merge.{by_number, lists_of}
+use Rattle.parked_queue.specs.Parted.{Parted, below_at, place_of, places}
+use Rattle.parked_queue.specs.Waits.{AreWaits, slot_of}
+use Rattle.parked_queue.specs.declared.parking.Parking.TheInside.{Inside}
+
+-- the slots of a level that may have parked events
+abbrev pub marks_at : List Places → ℕ → Places
+marks_at parked c = slice_index_or parked c (record { bits = 0 })
+
+-- each slot with a parked event is marked, and there is no mark of a slot that isn't there
+pub record AreMarks (v : Parted) (parked : List Places) : Type 0 where
+  pub marked : All (λ (u : Numbered). u.number < below_at v.below (level_of u.event) → Has (marks_at parked (level_of u.event)) (slot_of v.waits.slots u)) v.waits.waiting
+  pub there : (c slot : ℕ) → Has (marks_at parked c) slot → slot < v.waits.slots
+
+abbrev pub parted_in : Inside → Parted
+parted_in a = record { waits = record { waiting = by_number a.lists.lists; next = a.next; room = a.lists.room; slots = a.slots }; below = a.below }
+
+-- the lists are those of what waits, no number below which events are parked is past the next one, and the slots are marked
+pub record IsParking (a : Inside) : Type 0 where
+  pub waits : AreWaits (parted_in a).waits
+  pub lists : a.lists.lists ≡ lists_of (place_of a.slots a.below) 0 (places a.slots) (by_number a.lists.lists)
+  pub bounds : (c : ℕ) → below_at a.below c ≤ a.next
+  pub four : length a.below ≡ 4
+  pub levels : length a.parked ≡ 4
+  pub marks : AreMarks (parted_in a) a.parked

@@ -1,5 +1,5 @@
 -- The first event of a level, as a queue finds it and as a core's view has it.
-use Rattle.std.proofs.Common.{◌≡◌, ℕ, ◌+◌, ◌%◌, ◌<◌, ◌≤◌, Bool, true, false, cond, List, length, get_or, Contains, Option, Some, None, refl, sym, ap, ◌∙◌, subst, arith}
+use Rattle.std.proofs.Common.{◌≡◌, ℕ, ◌%◌, ◌<◌, ◌≤◌, Bool, true, false, cond, length, get_or, Contains, Option, Some, None, refl, sym, ap, ◌∙◌, subst, arith}
 use Rattle.std.specs.Option.{IfSome, IfNone}
 use Rattle.std.proofs.lemmas.Nat.{mod_below}
 use Rattle.evt_types.specs.Fault.{IsWithinLimits}
@@ -14,7 +14,7 @@ use Rattle.sched_core.specs.Offered.{HasNoneAllowedIn, IsFirstIn, slot_at}
 use Rattle.sched_core.specs.View.{view_in, IsCore}
 use Rattle.parked_queue.specs.Waits.{Waits, IsFirstAllowed, HasNoneAllowed}
 use Rattle.sched_core.specs.declared.state.Core.TheInside.{Inside}
-use Rattle.transcripts.specs.Choice.{WaitsIn}
+use Rattle.transcripts.specs.Standing.{View}
 
 -- the slot of an event, by how many slots its queue has
 pub slot_agrees : (p : Plan) (q flow : ℕ) → flow % slots_for p q ≡ slot_of p q flow
@@ -28,6 +28,9 @@ pub slot_below : (p : Plan) (q flow : ℕ) → IsWithinLimits p → q < length p
 slot_below p q flow limits h =
     let some = (slots_range p q limits h).0 in
     subst (λ s. s < slots_for p q) (slot_agrees p q flow) (mod_below flow (slots_for p q) (omega (arith, some)))
+
+pub slots_within : (v : View) (q : ℕ) → IsWithinLimits v.shape → q < length v.shape.queues → (w : Numbered) → slot_at v q w < slots_for v.shape q
+slots_within v q limits h w = slot_below v.shape q w.event.flow limits h
 
 module _ (a : Inside) (i : ℕ) (old : Waits) (core : IsCore a) (h : i < length a.queues.items) (is : old ≡ get_or a.queues.items i old) where
   pub slots_here : old.slots ≡ slots_for a.shape i

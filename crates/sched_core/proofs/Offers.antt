@@ -1,13 +1,12 @@
 -- How an offer is found: a lane that is free for the slot, a lane for the event, the event of the queue, the queue.
-use Rattle.std.proofs.Common.{◌≡◌, ℕ, ◌+◌, ◌<◌, ◌≤◌, ◌%◌, Bool, true, false, cond, nat_le, nat_lt, ◌&&◌, ◌==◌, List, length, get_or, slice_get, All, Contains, Option, Some, None, inl, inr, ⊎_elim, refl, sym, ap, ◌∙◌, subst, arith, eq-eqb, eqb-true}
+use Rattle.std.proofs.Common.{◌≡◌, ℕ, ◌+◌, ◌<◌, ◌≤◌, ◌%◌, Bool, true, false, cond, nat_le, nat_lt, ◌&&◌, ◌==◌, List, length, get_or, All, Option, Some, None, inl, inr, ⊎_elim, refl, sym, ap, ◌∙◌, subst, arith, eq-eqb, eqb-true}
 use Rattle.std.specs.Option.{IfSome, IfNone, is_some}
 use Rattle.std.proofs.lemmas.Bool.{and_from, and_parts, or_cases, or_right, cases_lt, false≢true, false_from_ne_true, leb-true, leb-false, ltb-true, ltb-false, lt-ltb}
 use Rattle.std.proofs.lemmas.List.{get_or_default}
-use Rattle.lists.proofs.Lists.{Contains-filter}
 use Rattle.transcripts.proofs.WholeStands.{offer_is_allowed, offer_is_accepted}
 use Rattle.transcripts.specs.Allowed.{Allowed}
 use Rattle.transcripts.specs.Choice.{Passed, Fits, HasNoOther, HasNone, HasNoChoice, HasQuota, IsBetterLane, IsChoice, IsOffer, IsServedBefore, WaitsIn, is_earlier}
-use Rattle.transcripts.specs.Lawful.{is_of_level, keeps_order}
+use Rattle.transcripts.specs.Lawful.{keeps_order}
 use Rattle.evt_types.specs.Plan.{Plan, queue_of, lanes_of, level_of, slot_of, serves, is_atomic, is_ordered}
 use Rattle.transcripts.specs.Standing.{View, Stands, waiting_at, unanswered_at}
 use Rattle.transcripts.specs.Transcript.{event_at}

@@ -1,8 +1,8 @@
 -- Which lanes are open to a queue, and the best of them: a walk over a set of lanes, and what flow lanes serve.
-use Rattle.std.proofs.Common.{◌≡◌, ◌≢◌, ℕ, ◌+◌, ◌-◌, ◌<◌, ◌≤◌, Bool, true, false, not, cond, nat_le, ◌&&◌, ◌==◌, List, [], ◌∷◌, ◌++◌, length, map, get_or, slice_get, All, Option, Some, None, inl, inr, ◌⊎◌, ⊎_elim, refl, sym, ap, ◌∙◌, subst, arith, eqb-true, if◌then◌else◌}
-use Rattle.std.specs.Prelude.{◌↔◌, IsTrue}
+use Rattle.std.proofs.Common.{◌≡◌, ◌≢◌, ℕ, ◌+◌, ◌-◌, ◌<◌, ◌≤◌, Bool, true, false, not, cond, nat_le, ◌==◌, List, [], ◌∷◌, length, map, get_or, All, Option, Some, None, inl, inr, ◌⊎◌, ⊎_elim, refl, sym, ap, ◌∙◌, subst, arith, eqb-true, if◌then◌else◌}
+use Rattle.std.specs.Prelude.{◌↔◌}
 use Rattle.std.specs.Option.{IfSome, IfNone}
-use Rattle.std.proofs.lemmas.Bool.{and_from, and_parts, and_right, cases_Bool, cases_eq, cases_lt, cond-true, cond-false, false≢true, leb-true, leb-false}
+use Rattle.std.proofs.lemmas.Bool.{and_from, and_parts, and_right, cases_eq, cases_lt, false≢true, leb-true, leb-false}
 use Rattle.evt_types.proofs.FlowLanes.{flow_at_is, serves_port, serves_flow, port_is_lane}
 use Rattle.evt_types.specs.Plan.{Plan, lanes_of, lanes_at, lanes_by_slot, flow_lanes, flow_at, slot_lanes, is_flows, is_lane_of, has_flow_lanes, serves, queue_of, is_atomic, port_of}
 use Rattle.evt_types.specs.declared.flows.FlowLane.{FlowLane}
@@ -227,14 +227,14 @@ module _ (v : View) (s : Passed) (q n : ℕ) (slots : Places) (d : FlowLane) (pa
   flows_on more slot is fits here others below t within = (
     λ has. ⊎_elim (λ e. (n, past, omega arith, subst (λ k. FitsSlot v s q k n) (sym e) fits)) (λ ne. let was = (below t within).0 ((others t ne).0 has) in let lt = was.2 in (was.0, was.1, omega arith, was.3)) (cases_eq t slot),
     λ some. ⊎_elim (λ e. let same : t ≡ slot = sym (is ∙ slot_here t (subst (FitsSlot v s q t) e some.3)) in subst (Has more) (sym same) here)
-      (λ ne. ⊎_elim (λ e. subst (Has more) (sym e) here) (λ apart. (others t apart).1 ((below t within).1 (some.0, some.1, (let lt = some.2 in omega (arith, ne)), some.3))) (cases_eq t slot)) (cases_eq some.0 n),
+        (λ ne. ⊎_elim (λ e. subst (Has more) (sym e) here) (λ apart. (others t apart).1 ((below t within).1 (some.0, some.1, (let lt = some.2 in omega (arith, ne)), some.3))) (cases_eq t slot)) (cases_eq some.0 n),
   )
 
   pub flows_past : (slot : ℕ) → slot ≡ (get_or (flow_lanes v.shape) (n - length v.shape.ports) d).slot → slots_for v.shape q ≤ 64 → (slot < 64 → FitsSlot v s q slot n → ⊥) → AreFlowsBelow v s q n slots → AreFlowsBelow v s q (n + 1) slots
   flows_past slot is few shut below t within = (
     λ has. let was = (below t within).0 has in let lt = was.2 in (was.0, was.1, omega arith, was.3),
     λ some. ⊎_elim (λ e. let here : FitsSlot v s q t n = subst (FitsSlot v s q t) e some.3 in let same : t ≡ slot = sym (is ∙ slot_here t here) in absurd (shut (omega (arith, same, within, few)) (subst (λ k. FitsSlot v s q k n) same here)))
-      (λ ne. (below t within).1 (some.0, some.1, (let lt = some.2 in omega (arith, ne)), some.3)) (cases_eq some.0 n),
+        (λ ne. (below t within).1 (some.0, some.1, (let lt = some.2 in omega (arith, ne)), some.3)) (cases_eq some.0 n),
   )
 
 pub flows_all : (v : View) (s : Passed) (q n : ℕ) (slots : Places) → has_flow_lanes v.shape q ≡ true → lanes_of v.shape ≤ n → AreFlowsBelow v s q n slots → AreAllowed v s q slots

@@ -1,15 +1,13 @@
 -- Each core holds what bounds the steps of a reply, and what may be kept, at whatever transcript it stands.
-use Rattle.std.proofs.Common.{◌≡◌, ◌<◌, ◌≤◌, length, map, slice_get, Some, subst, sym, ap, ◌∙◌, arith}
+use Rattle.std.proofs.Common.{◌<◌, ◌≤◌, length, map, subst, sym, ◌∙◌, arith}
 use Rattle.std.proofs.lemmas.List.{length-map}
 use Rattle.evt_types.specs.Place.{Place}
-use Rattle.evt_types.specs.Plan.{kept_room, lanes_of, queue_of}
-use Rattle.sched_core.specs.Ordered.{order_at, places_in, waits_at, IsOrder}
+use Rattle.evt_types.specs.Plan.{kept_room, queue_of}
+use Rattle.sched_core.specs.Ordered.{places_in}
 use Rattle.sched_core.specs.View.{IsCore, unanswered_in, view_in}
 use Rattle.sched_core.specs.declared.state.Core.TheInside.{Inside}
 use Rattle.sched_core.proofs.Cores.{in_view, places_here}
 use Rattle.sched_core.proofs.Pinned.{oldest_known as known_of}
-use Rattle.transcripts.specs.Standing.{View, places_at}
-use Rattle.transcripts.specs.Transcript.{Held}
 use Rattle.transcripts.proofs.Fewness.{AreSound}
 use Rattle.transcripts.proofs.PlaceFacts.{Differ}
 use Rattle.std.specs.List.{All, AllPairs}

@@ -1,8 +1,8 @@
 -- What is offered, and to whom.
-use Rattle.std.specs.Prelude.{ℕ, ◌≡◌, ◌<◌, ◌≤◌, ◌↔◌, Bool, false, true, length, nat_le, nat_lt, slice_index_or, List, Option, Some, None, if◌then◌else◌}
+use Rattle.std.specs.Prelude.{ℕ, ◌≡◌, ◌<◌, ◌≤◌, ◌↔◌, Bool, false, true, length, nat_le, nat_lt, Option, Some, None, if◌then◌else◌}
 use Rattle.transcripts.specs.Choice.{Passed, Fits, HasNoOther, IsBetterLane, WaitsIn, has_bounced, is_earlier}
 use Rattle.evt_types.specs.Plan.{Plan, lanes_of, depth_of, queue_of, level_of, serves, slot_of, is_atomic, is_ordered}
-use Rattle.transcripts.specs.Standing.{View, waiting_at, places_at, unanswered_at}
+use Rattle.transcripts.specs.Standing.{View, places_at, unanswered_at}
 use Rattle.place_set.specs.Places.{Has}
 use Rattle.place_set.specs.declared.places.Places.{Places}
 use Rattle.sched_core.specs.Inner.{slots_for}

@@ -70,11 +70,20 @@ impl Core {
         let mut slots = Places::none();
         for lane in ports..self.shape.lanes() {
             let slot = self.shape.flows()[lane - ports].slot;
-            if slot < MAX_PLACES && self.fits(lane, queue, slot, skips) {
+            if self.may_add(lane, queue, slot, skips) {
                 slots.add(slot);
             }
         }
         slots
+    }
+
+    /// Whether the slot is one that a set has a place for, and the lane may take an event of it.
+    fn may_add(&self, lane: usize, queue: usize, slot: usize, skips: &Skips) -> bool
+        requires lane { lane < lanes_of self.now.shape }
+        requires queue { queue < length self.now.shape.queues }
+        ensures { IsTrue result ↔ ((slot < 64) × FitsSlot self.now skips.now queue slot lane) }
+    {
+        slot < MAX_PLACES && self.fits(lane, queue, slot, skips)
     }
 
     /// Of the lanes that may take an event of the slot the one with fewest unanswered events, of several the first.

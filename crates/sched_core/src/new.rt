@@ -7,10 +7,10 @@ ghost use Rattle.sched_core.specs.Inner.{AreEmptyQueues, AreEmptyLanes, slots_fo
 
 use crate::orders::AllOrders;
 use crate::pins::AllPins;
-use parked_queue::ParkedQueue;
 use crate::state::{Core, Memory};
 use evt_types::{MAX_SLOTS, Shape};
 use order_parts::History;
+use parked_queue::ParkedQueue;
 use std::alloc::{AllocError, Global};
 
 /// How many slots the events of a queue fall into.

@@ -63,6 +63,8 @@ impl Core {
         ensures offer { IfSome result (IsOfferOf self.old skips.now queue) }
         ensures none { IfNone result (HasNone self.old skips.now queue) }
     {
+        // The use of a field makes known what holds of each core.
+        let _ = &self.shape;
         let lanes = self.open_lanes(queue, skips);
         let allowed = self.allowed(queue, lanes, skips);
         for level in 0..LEVELS {

@@ -10,9 +10,9 @@ ghost use Rattle.evt_types.specs.declared.step.Step.{Step as StepValue};
 
 use crate::orders::{AllOrders, kept_room};
 use crate::pins::AllPins;
-use parked_queue::ParkedQueue;
 use evt_types::{KeptEvent, MAX_QUEUES, QueueDraft, Shape};
 use order_parts::History;
+use parked_queue::ParkedQueue;
 use std::alloc::AllocError;
 use std::marker::Model;
 

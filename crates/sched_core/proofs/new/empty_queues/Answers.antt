@@ -1,5 +1,4 @@
 use Rattle.std.proofs.Common.{◌≡◌, ◌+◌, ◌∙◌, length, ap, arith, subst, sym}
-use Rattle.evt_types.specs.Plan.{bound_of}
 use Rattle.sched_core.specs.Inner.{AreEmptyQueues, slots_for}
 use Rattle.parked_queue.specs.Waits.{no_waits}
 use Rattle.sched_core.proofs.News.{queues_none, queues_more}

@@ -1,4 +1,4 @@
-use Rattle.std.proofs.Common.{◌≡◌, ◌<◌, ◌∙◌, false, length, sym, ap, subst, arith}
+use Rattle.std.proofs.Common.{◌≡◌, ◌<◌, ◌∙◌, false, length, sym, subst}
 use Rattle.evt_types.specs.Plan.{has_flow_lanes}
 use Rattle.transcripts.specs.Standing.{View}
 use Rattle.sched_core.proofs.OpenLanes.{ports_allowed}

@@ -1,4 +1,4 @@
-use Rattle.std.proofs.Common.{◌≡◌, ◌<◌, length, ap, subst, arith}
+use Rattle.std.proofs.Common.{◌<◌, length, ap, subst, arith}
 use Rattle.std.specs.Option.{IfSome, IfNone}
 use Rattle.transcripts.specs.Standing.{View}
 use Rattle.sched_core.proofs.FirstOnes.{first_of_view, none_of_view}

@@ -1,10 +1,9 @@
-use Rattle.std.proofs.Common.{◌≡◌, ◌<◌, ◌%◌, ◌++◌, ◌∷◌, [], length, refl, subst, sym, ap, ◌∙◌, arith}
+use Rattle.std.proofs.Common.{◌<◌, ◌%◌, ◌++◌, ◌∷◌, [], length, refl, subst, sym, ap, ◌∙◌, arith}
 use Rattle.transcripts.specs.Choice.{IsOffer}
 use Rattle.transcripts.specs.Standing.{View, Stands, after_give}
 use Rattle.evt_types.specs.declared.step.Step.TheVariants.{Give}
 use Rattle.transcripts.proofs.WholeStands.{stands_give, offer_is_accepted}
 use Rattle.evt_types.specs.Plan.{level_of}
-use Rattle.evt_types.specs.declared.event.Numbered.{Numbered}
 use Rattle.order_parts.specs.History.{Entries}
 use Rattle.sched_core.proofs.Giving.{core_gives, offer_may, offer_place, offer_room, view_gives}
 use Rattle.sched_core.proofs.Cores.{waits_here, level_below, only_event}
@@ -26,8 +25,8 @@ remove-requires-clause-only c =
     let offer : IsOffer (view_in c.self.inside) c.args.offer.lane c.args.offer.delivery.queue (numbered_in c.args.offer.delivery) = subst (λ v. IsOffer v c.args.offer.lane c.args.offer.delivery.queue (numbered_in c.args.offer.delivery)) (sym c.self.view_is) c.requires.offer in
     let h : c.args.offer.delivery.queue < length c.self.inside.queues.items = omega (arith, offer.queue, c.self.invariant.queues) in
     λ k d lt same.
-        let one = only_event c.self.inside c.args.offer.delivery.queue c.index_mut-left.result.now (numbered_in c.args.offer.delivery) c.self.invariant h c.index_mut-left.ensures.value offer.waits k d lt same in
-        (ap level_of one ∙ sym c.level.ensures, ap (λ (e : Event). e.flow % c.index_mut-left.result.now.slots) one ∙ slot_in_queue c.self.inside c.args.offer.delivery.queue c.index_mut-left.result.now c.self.invariant h c.index_mut-left.ensures.value (numbered_in c.args.offer.delivery) ∙ sym c.slot_of-slot.ensures)
+    let one = only_event c.self.inside c.args.offer.delivery.queue c.index_mut-left.result.now (numbered_in c.args.offer.delivery) c.self.invariant h c.index_mut-left.ensures.value offer.waits k d lt same in
+    (ap level_of one ∙ sym c.level.ensures, ap (λ (e : Event). e.flow % c.index_mut-left.result.now.slots) one ∙ slot_in_queue c.self.inside c.args.offer.delivery.queue c.index_mut-left.result.now c.self.invariant h c.index_mut-left.ensures.value (numbered_in c.args.offer.delivery) ∙ sym c.slot_of-slot.ensures)
 
 pub remove-requires-clause-slot : goal.remove-requires-clause-slot
 remove-requires-clause-slot c =

@@ -1,4 +1,4 @@
-use Rattle.std.proofs.Common.{◌≡◌, ◌<◌, ◌++◌, length, subst, sym, ap, ◌∙◌, arith}
+use Rattle.std.proofs.Common.{◌<◌, ◌++◌, length, subst, sym, ap, ◌∙◌, arith}
 use Rattle.transcripts.specs.Standing.{View, waiting_at}
 use Rattle.transcripts.specs.Transcript.{pairs_of}
 use Rattle.transcripts.proofs.WholeStands.{waiting_is}

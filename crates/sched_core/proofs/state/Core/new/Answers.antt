@@ -1,7 +1,6 @@
-use Rattle.std.proofs.Common.{arith, length, [], ap, subst, sym}
+use Rattle.std.proofs.Common.{arith, [], subst, sym}
 use Rattle.transcripts.specs.Standing.{Stands}
 use Rattle.transcripts.proofs.WholeStands.{stands_none}
-use Rattle.sched_core.specs.Inner.{AreEmptyQueues}
 use Rattle.sched_core.proofs.News.{core_new, view_new}
 use Rattle.sched_core.proofs.state.Core.new.Goals as goal
 

@@ -1,4 +1,4 @@
-use Rattle.std.proofs.Common.{◌≡◌, ◌∙◌, Some, sym, subst}
+use Rattle.std.proofs.Common.{◌∙◌, Some, sym, subst}
 use Rattle.std.proofs.lemmas.Bool.{false≢true}
 use Rattle.sched_core.proofs.OpenLanes.{IsWalked, found_lanes, walk_begins, walk_best, walk_none, walk_on, walk_past}
 use Rattle.sched_core.proofs.state.Core.port_for.Goals as goal

@@ -5,7 +5,6 @@
 #[cfg(test)]
 mod events;
 #[cfg(test)]
-mod levels;
 #[cfg(test)]
 mod orders;
 #[cfg(test)]

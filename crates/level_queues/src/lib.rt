@@ -1,7 +1,0 @@
-//! The waiting events of a queue, in four lists, one for each level.
-#![tactic(auto)]
-
-mod levels;
-mod list;
-
-pub use levels::{Levels, Memory};

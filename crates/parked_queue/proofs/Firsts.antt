@@ -9,7 +9,7 @@ use Rattle.evt_types.specs.declared.event.Numbered.{Numbered}
 use Rattle.place_set.specs.Places.{Has}
 use Rattle.place_set.specs.declared.places.Places.{Places}
 use Rattle.parked_queue.specs.Merge.{is_in}
-use Rattle.parked_queue.specs.Parted.{Parted, HasNoneParked, IsFirstParked, below_at, list_in, place_of, with_below}
+use Rattle.parked_queue.specs.Parted.{Parted, HasNoneParked, below_at, list_in, place_of, with_below}
 use Rattle.parked_queue.specs.Waits.{AreWaits, HasNoneAllowed, IsFirstAllowed, slot_of}
 use Rattle.parked_queue.proofs.Holding.{place_if_not}
 use Rattle.parked_queue.proofs.Parks.{in_main, list_after, older}
@@ -18,20 +18,6 @@ use Rattle.parked_queue.proofs.Splits.{Split, first_alone, first_least, first_sp
 -- an event of the level that is not parked is in the level's own list
 is_main : (slots : ℕ) (below : List ℕ) (c : ℕ) (u : Numbered) → level_of u.event ≡ c → below_at below c ≤ u.number → is_in (place_of slots below) c u ≡ true
 is_main slots below c u here le = eq-eqb (place_of slots below u) c (place_if_not slots below u (subst (λ k. below_at below k ≤ u.number) (sym here) le) ∙ here)
-
--- the first parked one is before each that is not parked
-pub parked_first : (v : Parted) (c : ℕ) (allowed : Places) (w : Numbered) → IsFirstParked v c allowed w → IsFirstAllowed v.waits c allowed w
-parked_first v c allowed w is =
-    record {
-      waits = is.one.waits;
-      level = is.one.level;
-      slot = is.one.slot;
-      first =
-          λ k d h. (λ here may. ⊎_elim
-          (λ lower. is.first k d h here lower may)
-          (λ le. let parked = is.one.parked in omega arith)
-          (cases_lt (get_or v.waits.waiting k d).number (below_at v.below c)));
-    }
 
 module _ (v : Parted) (c : ℕ) (allowed : Places) (waits : AreWaits v.waits) (lt : c < 4) (none : HasNoneParked v c allowed) where
   abbrev test : Numbered → Bool

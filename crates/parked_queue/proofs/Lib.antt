@@ -9,3 +9,4 @@ pub mod Firsts
 pub mod Turns
 pub mod Taking
 pub mod Pairs
+pub mod Masks

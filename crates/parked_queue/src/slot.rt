@@ -9,12 +9,19 @@ use evt_types::Numbered;
 /// How many levels a queue has.
 pub(crate) const LEVELS: usize = 4;
 
-/// The event's slot, of so many.
+/// The event's slot, of so many. A power of two needs no division.
 pub(crate) fn slot_in(slots: usize, waiting: &Numbered) -> usize
-    requires { 0 < slots }
+    requires some { 0 < slots }
+    requires few { slots ≤ 64 }
     ensures { result ≡ slot_of slots waiting.now }
 {
-    waiting.event.flow as usize % slots
+    let flow = waiting.event.flow as usize;
+    let mask = slots - 1;
+    if slots & mask == 0 {
+        flow & mask
+    } else {
+        flow % slots
+    }
 }
 
 /// The list of the slot's parked events of the level.

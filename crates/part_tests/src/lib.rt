@@ -5,7 +5,8 @@
 #[cfg(test)]
 mod events;
 #[cfg(test)]
-#[cfg(test)]
 mod orders;
+#[cfg(test)]
+mod queues;
 #[cfg(test)]
 mod shapes;

@@ -1,0 +1,119 @@
+//! Worked calls of a queue's waiting events, and of what holds them. Each is made again where memory was refused, and serves then
+//! as ever.
+
+ghost use Rattle.std.specs.Prelude.{◌≡◌, ◌<◌, ◌≤◌, IfOk};
+ghost use Rattle.parked_queue.specs.Waits.{no_waits};
+ghost use Rattle.waiting_lists.specs.Lists.{all_empty};
+
+use evt_types::{Event, EventFault, Numbered, Op};
+use parked_queue::ParkedQueue;
+use place_set::Places;
+use std::alloc::{AllocError, Global};
+use std::test::Fail;
+use waiting_lists::WaitingLists;
+
+fn queue_of(alloc: Global, slots: usize, room: usize) -> Result<ParkedQueue, AllocError>
+    requires some { 0 < slots }
+    requires few { slots ≤ 64 }
+    ensures { IfOk result (λ q. q ≡ no_waits slots room) }
+{
+    match ParkedQueue::new(alloc, slots, room) {
+        Ok(queue) => Ok(queue),
+        Err(_) => ParkedQueue::new(alloc, slots, room),
+    }
+}
+
+fn lists_of(alloc: Global, lists: usize, room: usize) -> Result<WaitingLists, AllocError>
+    ensures { IfOk result (λ l. l ≡ all_empty lists room) }
+{
+    match WaitingLists::new(alloc, lists, room) {
+        Ok(lists) => Ok(lists),
+        Err(_) => WaitingLists::new(alloc, lists, room),
+    }
+}
+
+/// An event of the flow.
+fn event(flow: u32, payload: u64) -> Result<Event, EventFault> {
+    Event::new(flow, 0, 0, Op::New, 0, 128, payload)
+}
+
+/// The slot alone.
+fn slot(slot: usize) -> Places
+    requires { slot < 64 }
+{
+    let mut slots = Places::none();
+    slots.add(slot);
+    slots
+}
+
+#[test]
+fn a_blocked_event_is_passed(rt: HostRuntime) -> Result<(), Fail> {
+    let mut queue = queue_of(rt.alloc(), 4, 3)?;
+    queue.accept(event(1, 10)?);
+    queue.accept(event(6, 11)?);
+    let passed = queue.first(2, slot(2)).map(|waiting| waiting.number);
+    assert_eq!(rt; passed, Some(1));
+    let oldest = queue
+        .first(2, Places::below(4))
+        .map(|waiting| waiting.number);
+    assert_eq!(rt; oldest, Some(0));
+    assert!(rt; queue.first(2, slot(3)).is_none());
+    assert!(rt; queue.first(1, Places::below(4)).is_none());
+    assert_eq!(rt; queue.count(), 2);
+    Ok(())
+}
+
+#[test]
+fn the_pairs_of_what_waits_rise(rt: HostRuntime) -> Result<(), Fail> {
+    let mut queue = queue_of(rt.alloc(), 2, 3)?;
+    queue.accept(event(0, 10)?);
+    queue.accept(event(1, 11)?);
+    assert!(rt; queue.first(2, slot(1)).is_some());
+    let mut pairs = Vec::with_capacity(rt.alloc(), 2)?;
+    queue.list_pairs(5, &mut pairs);
+    assert_eq!(rt; pairs.as_slice(), [(5, 0), (5, 1)].as_slice());
+    Ok(())
+}
+
+#[test]
+fn lists_share_their_room(rt: HostRuntime) -> Result<(), Fail> {
+    let mut lists = lists_of(rt.alloc(), 2, 2)?;
+    let (first, second) = (
+        Numbered {
+            number: 0,
+            event: event(1, 10)?,
+        },
+        Numbered {
+            number: 1,
+            event: event(2, 11)?,
+        },
+    );
+    lists.push(1, first);
+    lists.push(0, second);
+    assert_eq!(rt; (lists.total(), lists.len(0), lists.len(1)), (2, 1, 1));
+    assert_eq!(rt;
+        (lists.front(0), lists.front(1)),
+        (Some(second), Some(first))
+    );
+    assert_eq!(rt; lists.pop(1), Some(first));
+    assert_eq!(rt; lists.pop(1), None);
+    lists.push(0, first);
+    assert_eq!(rt; lists.pop(0), Some(second));
+    Ok(())
+}
+
+#[test]
+fn a_set_has_what_was_put_into_it(rt: HostRuntime) -> Result<(), Fail> {
+    let mut set = slot(63);
+    set.add(0);
+    assert!(rt; set.has(0) && set.has(63) && !set.has(62));
+    assert_eq!(rt; set.first(), Some(0));
+    assert_eq!(rt; set.both(slot(63)), slot(63));
+    assert_eq!(rt; slot(0).either(slot(63)), set);
+    assert_eq!(rt; set.except(slot(63)), slot(0));
+    set.remove(63);
+    assert_eq!(rt; set.pop(), Some(0));
+    assert!(rt; set.is_empty());
+    assert_eq!(rt; set.pop(), None);
+    Ok(())
+}

@@ -1,5 +1,5 @@
 -- What a call on one flow lane makes of what a port has of all of them.
-use Rattle.std.proofs.Common.{◌≡◌, ◌≢◌, ℕ, suc, ◌<◌, Bool, true, false, List, [], ◌∷◌, ◌++◌, length, drop, set, Option, Some, None, All, MatchOption, refl, sym, ap, ◌∙◌, subst, arith, append-nil, append_assoc}
+use Rattle.std.proofs.Common.{◌≡◌, ◌≢◌, ℕ, suc, ◌<◌, Bool, true, false, List, [], ◌∷◌, ◌++◌, length, drop, set, Option, Some, None, Result, Ok, Err, All, MatchOption, MatchResult, refl, sym, ap, ◌∙◌, subst, arith, append-nil, append_assoc}
 use Rattle.std.proofs.lemmas.List.{length-set, get_or-set_other}
 use Rattle.std.proofs.lemmas.Option.{none-some}
 use Rattle.std.proofs.lemmas.List.Elements.{All-push}
@@ -240,6 +240,15 @@ module _ (claims : Claims) (links : List ℕ) where
         → MatchOption result (Same (hands (seating seat) ss) (hands (seating seat) (set ss lane (Some new)))) (λ d. Gets lane d (hands (seating seat) ss) (hands (seating seat) (set ss lane (Some new))))
     received_lists None is held received answered = turn_same (received (seating seat) is) (answered (seating seat)) held
     received_lists (Some d) is held received answered = turn_gets d (received (seating seat) is) (answered (seating seat)) held
+
+    -- an answer: `Stint::answer` in its own words
+    pub answered_lists : {E : Type 0} (reply : Reply) (result : Result (Unit {0}) E) → IsOpen (seating seat) stint
+        → MatchResult result (λ _. unanswered new.far ≡ drop (answers_among (reply ∷ [])) (unanswered stint.far)) (λ _. unanswered new.far ≡ unanswered stint.far)
+        → ((v : Seating) → IsOpen v stint → MatchResult result (λ _. answered_so_far v new ≡ answered_so_far v stint ++ reply ∷ []) (λ _. answered_so_far v new ≡ answered_so_far v stint))
+        → ((v : Seating) → received_so_far v new ≡ received_so_far v stint)
+        → MatchResult result (λ _. Says lane reply (hands (seating seat) ss) (hands (seating seat) (set ss lane (Some new)))) (λ _. Same (hands (seating seat) ss) (hands (seating seat) (set ss lane (Some new))))
+    answered_lists reply (Ok _) is held answered received = turn_says reply (received (seating seat)) (answered (seating seat) is) held
+    answered_lists reply (Err _) is held answered received = turn_same (received (seating seat)) (answered (seating seat) is) held
 
 leaves_more : (h k m : Hands) → LeavesFree h k → LeavesFree k m → LeavesFree h m
 leaves_more h k m a b j none = ((b j (a j none).0).0, (b j (a j none).0).1 ∙ (a j none).1)

@@ -5,6 +5,7 @@ use Rattle.evt_types.specs.Operation.{is_answer}
 use Rattle.evt_types.specs.declared.event.Delivery.{Delivery}
 use Rattle.evt_types.specs.declared.event.Reply.{Reply}
 use Rattle.evt_types.specs.Event.{pair_of}
+use Rattle.lane_rings.specs.Intakes.{handed, ahead}
 use Rattle.lane_rings.specs.declared.far.Far.{Far}
 use Rattle.lane_rings.specs.declared.near.Near.{Near}
 
@@ -26,11 +27,11 @@ next_reply near = slice_get (seen_replies near) 0
 
 -- every delivery that the holder received
 abbrev pub received_by : Far → List Delivery
-received_by far = received far.deliveries
+received_by far = handed far.deliveries
 
--- the deliveries that the holder has seen in the ring and not received
+-- the deliveries that the holder has seen, in its pocket and in the ring, and not received
 abbrev pub seen_deliveries : Far → List Delivery
-seen_deliveries far = known_items far.deliveries
+seen_deliveries far = ahead far.deliveries
 
 -- the first of these
 abbrev pub next_delivery : Far → Option Delivery

@@ -34,8 +34,8 @@ near_id near =
 abbrev pub far_id : Far → LaneId
 far_id far =
     record {
-      deliveries = record { words = far.deliveries.end.words; slots = far.deliveries.end.slots; names = far.deliveries.end.names; heap = far.deliveries.end.heap };
+      deliveries = record { words = far.deliveries.ring.end.words; slots = far.deliveries.ring.end.slots; names = far.deliveries.ring.end.names; heap = far.deliveries.ring.end.heap };
       replies = record { words = far.replies.end.words; slots = far.replies.end.slots; names = far.replies.end.names; heap = far.replies.end.heap };
-      depth = far.deliveries.capacity;
+      depth = far.deliveries.ring.capacity;
       room = far.replies.capacity;
     }

@@ -3,11 +3,12 @@ use Rattle.std.specs.Prelude.{ℕ, List}
 use Rattle.rtrb.specs.Ring.{known_items}
 use Rattle.evt_types.specs.declared.event.Delivery.{Delivery}
 use Rattle.evt_types.specs.declared.event.Reply.{Reply}
+use Rattle.lane_rings.specs.Intakes.{ahead}
 use Rattle.lane_rings.specs.declared.rests.Beside.{Beside}
 
 -- offered, and not received
 abbrev pub undelivered : Beside → List Delivery
-undelivered rests = known_items rests.deliveries
+undelivered rests = ahead rests.deliveries
 
 -- answered, and not taken
 abbrev pub untaken : Beside → List Reply

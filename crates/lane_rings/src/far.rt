@@ -2,12 +2,14 @@
 
 ghost use Rattle.std.specs.Prelude.{◌≡◌, ◌≤◌, length, count_by, map, drop};
 ghost use Rattle.evt_types.specs.Operation.{is_answer};
-ghost use Rattle.rtrb.specs.Ring.{sent, received, consumer_capacity};
+ghost use Rattle.rtrb.specs.Ring.{sent, consumer_capacity};
 ghost use Rattle.evt_types.specs.Event.{pair_of};
+ghost use Rattle.lane_rings.specs.Intakes.{handed};
 
+use crate::intake::Intake;
 use circular_buffer::HeapCircularBuffer;
 use evt_types::{Delivery, Op, Reply};
-use rtrb::{Consumer, Producer, PushError};
+use rtrb::{Producer, PushError};
 
 /// Why a reply is refused; of two causes the first.
 #[derive(Clone, Copy, Debug, PartialEq, Eq)]
@@ -21,16 +23,16 @@ pub enum AnswerFault {
 /// The holder's end of a lane: it receives deliveries and answers. It knows which deliveries it has not answered.
 #[derive(Drop)]
 pub struct Far {
-    pub(crate) deliveries: Consumer<Delivery>,
+    pub(crate) deliveries: Intake<Delivery>,
     pub(crate) replies: Producer<Reply>,
     pub(crate) history: HeapCircularBuffer<(usize, u64)>,
-    pub ghost fewer: { count_by is_answer (sent replies) ≤ length (received deliveries) },
-    ghost history_is: { history.items ≡ map pair_of (drop (count_by is_answer (sent replies)) (received deliveries)) },
-    ghost room: { history.capacity ≡ consumer_capacity deliveries },
+    pub ghost fewer: { count_by is_answer (sent replies) ≤ length (handed deliveries) },
+    ghost history_is: { history.items ≡ map pair_of (drop (count_by is_answer (sent replies)) (handed deliveries)) },
+    ghost room: { history.capacity ≡ consumer_capacity deliveries.ring },
 }
 
 /// Whether the reply ends the handling of a delivered event.
-fn is_answering(reply: &Reply) -> bool
+pub(crate) fn is_answering(reply: &Reply) -> bool
     ensures { result ≡ is_answer reply.now }
 {
     match reply.event.op {
@@ -62,9 +64,7 @@ impl Far {
         ensures next { (d : Delivery) → next_delivery self.old ≡ Some d → result ≡ Some d }
         ensures none { IfNone result ((seen_deliveries self.old ≡ []) × (seen_deliveries self.new ≡ [])) }
     {
-        let Ok(delivery) = self.deliveries.pop() else {
-            return None;
-        };
+        let delivery = self.deliveries.next()?;
         self.history.push_back((delivery.queue, delivery.number));
         Some(delivery)
     }

@@ -3,8 +3,10 @@
 #![tactic(auto)]
 
 mod far;
+mod intake;
 mod near;
 mod pair;
+mod pocket;
 mod rests;
 
 pub use far::{AnswerFault, Far};

@@ -1,5 +1,10 @@
 //! The scheduler's end of a lane.
 
+ghost use Rattle.std.specs.Prelude.{◌+◌, ◌≤◌, length, count_by};
+ghost use Rattle.evt_types.specs.Operation.{is_answer};
+ghost use Rattle.rtrb.specs.Ring.{sent, received, producer_capacity};
+
+use crate::far::is_answering;
 use evt_types::{Delivery, Reply};
 use rtrb::{Consumer, Producer, PushError};
 
@@ -8,6 +13,11 @@ use rtrb::{Consumer, Producer, PushError};
 pub struct Near {
     pub(crate) deliveries: Producer<Delivery>,
     pub(crate) replies: Consumer<Reply>,
+    /// How many deliveries were offered and not answered by what was taken. The ring's slots don't tell: what the holder took
+    /// out of the ring isn't received yet.
+    pub(crate) out: usize,
+    ghost counted: { length (sent deliveries) ≤ out + count_by is_answer (received replies) },
+    ghost most: { (out ≤ length (sent deliveries)) × (out ≤ producer_capacity deliveries) },
 }
 
 impl Near {
@@ -15,8 +25,8 @@ impl Near {
     ghost use Rattle.lane_rings.specs.Ends.{offered, taken, seen_replies, next_reply};
     ghost use Rattle.lane_rings.specs.Identity.{near_id};
 
-    /// Puts a delivery into the ring, or hands it back where the ring is full: never before as many were offered as the
-    /// lane's depth. A refused offer changes nothing that is seen.
+    /// Puts a delivery into the ring, or hands it back where as many as the lane's depth are out, or the ring is full: never
+    /// before as many were offered as the lane's depth. A refused offer changes nothing that is seen.
     pub fn offer(&mut self, delivery: Delivery) -> Result<(), Delivery>
         ensures lane { near_id self.new ≡ near_id self.old }
         ensures replies { (taken self.new ≡ taken self.old) × (seen_replies self.new ≡ seen_replies self.old) }
@@ -24,10 +34,14 @@ impl Near {
         ensures refused { IfErr result (λ back. (back ≡ delivery) × (offered self.new ≡ offered self.old)) }
         ensures full { OnErr result ((near_id self.old).depth ≤ length (offered self.old)) }
     {
-        match self.deliveries.push(delivery) {
-            Ok(()) => Ok(()),
-            Err(PushError::Full(back)) => Err(back),
+        if self.out >= self.deliveries.capacity() {
+            return Err(delivery);
         }
+        if let Err(PushError::Full(back)) = self.deliveries.push(delivery) {
+            return Err(back);
+        }
+        self.out += 1;
+        Ok(())
     }
 
     /// The oldest reply that wasn't taken, which stays in the ring: the next `take` gives the same one. `None` where no reply
@@ -54,6 +68,12 @@ impl Near {
         ensures next { (r : Reply) → next_reply self.old ≡ Some r → result ≡ Some r }
         ensures none { IfNone result ((seen_replies self.old ≡ []) × (seen_replies self.new ≡ [])) }
     {
-        self.replies.pop().ok()
+        let Ok(reply) = self.replies.pop() else {
+            return None;
+        };
+        if is_answering(&reply) {
+            self.out = self.out.saturating_sub(1);
+        }
+        Some(reply)
     }
 }

@@ -1,5 +1,6 @@
 //! What is left in a lane at rest.
 
+use crate::intake::Intake;
 use circular_buffer::HeapCircularBuffer;
 use evt_types::{Delivery, Reply};
 use rtrb::Consumer;
@@ -7,7 +8,7 @@ use rtrb::Consumer;
 /// A lane whose ends are both at hand: the deliveries not received, the replies not taken, and what is held.
 #[derive(Drop)]
 pub struct Beside {
-    pub(crate) deliveries: Consumer<Delivery>,
+    pub(crate) deliveries: Intake<Delivery>,
     pub(crate) replies: Consumer<Reply>,
     pub(crate) held: HeapCircularBuffer<(usize, u64)>,
 }
@@ -23,10 +24,7 @@ impl Beside {
             (λ d. undelivered self.old ≡ d ∷ undelivered self.new) }
         ensures others { (untaken self.new ≡ untaken self.old) × (still_held self.new ≡ still_held self.old) }
     {
-        if self.deliveries.cached_slots() == 0 {
-            return None;
-        }
-        Some(self.deliveries.pop_known())
+        self.deliveries.next_seen()
     }
 
     /// The oldest reply that was given and not taken, which leaves; `None` only where none is left.

@@ -20,12 +20,15 @@ fn ends_come_back_in_order(rt: HostRuntime) -> Result<(), Fail> {
     let mut ends = Vec::with_capacity(rt.alloc(), 3)?;
     let (mut near, far) = lane(rt.alloc(), 1, 1)?;
     assert_eq!(rt; near.offer(delivery(10)), Ok(()));
+    near.flush();
     ends.push_reserved(far);
     let (mut near, far) = lane(rt.alloc(), 1, 1)?;
     assert_eq!(rt; near.offer(delivery(11)), Ok(()));
+    near.flush();
     ends.push_reserved(far);
     let (mut near, far) = lane(rt.alloc(), 1, 1)?;
     assert_eq!(rt; near.offer(delivery(12)), Ok(()));
+    near.flush();
     ends.push_reserved(far);
     let mut ends = match Claims::new(rt.alloc(), ends) {
         Ok((claims, seat)) => {

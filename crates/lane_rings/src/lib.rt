@@ -5,6 +5,7 @@
 mod far;
 mod intake;
 mod near;
+mod outlet;
 mod pair;
 mod pocket;
 mod rests;

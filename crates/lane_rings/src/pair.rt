@@ -8,6 +8,8 @@ ghost use Rattle.lane_rings.specs.Rest.{undelivered, untaken, still_held};
 use crate::far::Far;
 use crate::intake::Intake;
 use crate::near::Near;
+use crate::outlet::Outlet;
+use crate::pocket::Pocket;
 use crate::rests::Beside;
 use circular_buffer::HeapCircularBuffer;
 use evt_types::{Delivery, Event};
@@ -34,9 +36,11 @@ pub fn lane(alloc: Global, depth: usize, replies: usize) -> Result<(Near, Far), 
     ensures near { IfOk result (λ r. (offered r.0 ≡ []) × (taken r.0 ≡ []) × (seen_replies r.0 ≡ [])) }
     ensures far { IfOk result (λ r. (received_by r.1 ≡ []) × (seen_deliveries r.1 ≡ []) × (answered r.1 ≡ [])) }
 {
-    let (offers, ring) = RingBuffer::new(alloc, depth)?;
-    let receipts = Intake::new(alloc, ring, filler())?;
+    let (offers, receipts) = RingBuffer::new(alloc, depth)?;
+    let offers = Outlet::new(alloc, offers)?;
+    let receipts = Intake::new(alloc, receipts, filler())?;
     let (answers, takings) = RingBuffer::new(alloc, replies)?;
+    let answers = Outlet::new(alloc, answers)?;
     let history = HeapCircularBuffer::with_capacity(alloc, depth)?;
     let near = Near {
         deliveries: offers,
@@ -71,13 +75,15 @@ pub fn beside(near: Near, far: Far) -> Beside
         history,
     } = far;
     // First each producer, which then knows how many slots are free, and so how many items are left.
-    offers.slots_beside(&mut receipts.ring);
-    answers.slots_beside(&mut takings);
-    receipts.ring.slots_beside(&mut offers);
-    takings.slots_beside(&mut answers);
+    offers.ring.slots_beside(&mut receipts.ring);
+    answers.ring.slots_beside(&mut takings);
+    receipts.ring.slots_beside(&mut offers.ring);
+    takings.slots_beside(&mut answers.ring);
     Beside {
         deliveries: receipts,
+        offered: Pocket::of(offers.pocket),
         replies: takings,
+        answered: Pocket::of(answers.pocket),
         held: history,
     }
 }

@@ -33,6 +33,18 @@ impl<T: Copy> Pocket<T> {
         })
     }
 
+    /// A pocket with these items.
+    pub(crate) fn of(items: Vec<T>) -> Pocket<T>
+        ensures { inside result ≡ items.items }
+    {
+        let end = items.len();
+        Pocket {
+            places: items,
+            at: 0,
+            end,
+        }
+    }
+
     /// The first item, which leaves.
     pub(crate) fn next(&mut self) -> Option<T>
         ensures inside { MatchOption result

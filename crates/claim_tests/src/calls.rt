@@ -40,6 +40,7 @@ fn a_surrendered_lane_stays_away(rt: HostRuntime) -> Result<(), Fail> {
     let (_first, far) = lane(rt.alloc(), 1, 1)?;
     let (mut near, other) = lane(rt.alloc(), 1, 1)?;
     assert_eq!(rt; near.offer(delivery(5)), Ok(()));
+    near.flush();
     let mut ends = Vec::with_capacity(rt.alloc(), 2)?;
     ends.push_reserved(far);
     ends.push_reserved(other);

@@ -1,8 +1,12 @@
 //! Refused memory: the ends come back in their order, from `new` as from `close`.
 
+ghost use Rattle.std.specs.Prelude.{IfOk};
+ghost use Rattle.flow_claims.specs.Laws.{IsUnused};
+
 use crate::made::delivery;
 use flow_claims::Claims;
-use lane_rings::{Far, lane};
+use lane_rings::{Far, Memory, lane};
+use std::alloc::Global;
 use std::test::Fail;
 
 /// The number of the delivery that waits at an end.
@@ -14,19 +18,23 @@ fn waiting_at(end: Option<Far>) -> Option<u64> {
     Some(far.receive()?.number)
 }
 
+/// The holder's end of a lane in which a delivery of this number waits.
+fn waiting(alloc: Global, number: u64) -> Result<Far, Memory>
+    ensures { IfOk result IsUnused }
+{
+    let (mut near, far) = lane(alloc, 1, 1)?;
+    let _ = near.offer(delivery(number));
+    near.flush();
+    Ok(far)
+}
+
 #[test]
 fn ends_come_back_in_order(rt: HostRuntime) -> Result<(), Fail> {
     let mut out = Vec::with_capacity(rt.alloc(), 3)?;
     let mut ends = Vec::with_capacity(rt.alloc(), 3)?;
-    let (mut near, far) = lane(rt.alloc(), 1, 1)?;
-    assert_eq!(rt; near.offer(delivery(10)), Ok(()));
-    ends.push_reserved(far);
-    let (mut near, far) = lane(rt.alloc(), 1, 1)?;
-    assert_eq!(rt; near.offer(delivery(11)), Ok(()));
-    ends.push_reserved(far);
-    let (mut near, far) = lane(rt.alloc(), 1, 1)?;
-    assert_eq!(rt; near.offer(delivery(12)), Ok(()));
-    ends.push_reserved(far);
+    ends.push_reserved(waiting(rt.alloc(), 10)?);
+    ends.push_reserved(waiting(rt.alloc(), 11)?);
+    ends.push_reserved(waiting(rt.alloc(), 12)?);
     let mut ends = match Claims::new(rt.alloc(), ends) {
         Ok((claims, seat)) => {
             claims.close(seat, &mut out);

@@ -39,7 +39,11 @@ impl Port {
         ensures seat { IsSeatOf claims.now result }
         ensures port { port_of result ≡ port_of self.seat }
     {
-        let Port { mut seat, stint } = self;
+        let Port {
+            mut seat,
+            mut stint,
+        } = self;
+        stint.flush();
         if stint.far.held() == 0 {
             claims.give_back(&mut seat, stint);
         } else {
@@ -53,6 +57,7 @@ impl Port {
 fn a_port_keeps_its_stint(rt: HostRuntime) -> Result<(), Fail> {
     let (mut near, far) = lane(rt.alloc(), 1, 1)?;
     assert_eq!(rt; near.offer(delivery(5)), Ok(()));
+    near.flush();
     let mut ends = Vec::with_capacity(rt.alloc(), 1)?;
     ends.push_reserved(far);
     let Ok((claims, seat)) = claims_of(rt.alloc(), ends) else {
@@ -66,6 +71,7 @@ fn a_port_keeps_its_stint(rt: HostRuntime) -> Result<(), Fail> {
     assert_eq!(rt; port.receive(), Some(delivery(5)));
     assert_eq!(rt; port.answer(release()), Ok(()));
     let mut seat = port.leave(&claims);
+    assert_eq!(rt; near.take(), Some(release()));
     let Claim::Held(stint) = claims.claim(&mut seat, 0) else {
         panic!(rt; "the lane was given back")
     };

@@ -1,5 +1,5 @@
 -- What several calls on flow lanes, one after the other, make of what a port has of them.
-use Rattle.std.proofs.Common.{◌≡◌, ◌≢◌, ℕ, true, false, [], ◌∷◌, ◌++◌, length, sym, ap, ◌∙◌, subst, arith, count_by}
+use Rattle.std.proofs.Common.{◌≡◌, ◌≢◌, ℕ, true, false, [], ◌∷◌, ◌++◌, length, drop, Result, Ok, Err, MatchResult, refl, sym, ap, ◌∙◌, subst, arith, count_by}
 use Rattle.std.specs.Option.{is_some}
 use Rattle.std.proofs.lemmas.List.{length-append}
 use mathlib.Core.Logic.{dite}
@@ -10,7 +10,8 @@ use Rattle.evt_types.specs.declared.event.Op.TheVariants as ops
 use Rattle.evt_types.specs.declared.event.Reply.{Reply}
 use Rattle.evt_types.specs.Operation.{is_answer, is_answer_op, is_new_op, is_new_reply}
 use Rattle.seat_sums.specs.Sums.{count}
-use Rattle.event_ports.specs.Holds.{Hands, stint_in, answered_on, held_on, Same, Gets, Says, HaveNoNew, GaveBack, NoneSurrendered}
+use Rattle.lane_rings.specs.Ends.{answers_among}
+use Rattle.event_ports.specs.Holds.{Hands, stint_in, answered_on, held_on, Flushed, Same, Gets, Says, HaveNoNew, GaveBack, NoneSurrendered}
 use Rattle.event_ports.proofs.Counts.{count_more}
 
 -- no lane is held of which nothing is unanswered
@@ -52,6 +53,25 @@ idle_refused h k lane same elsewhere free idle j none =
 
 pub same_more : (h k m : Hands) → Same h k → Same k m → Same h m
 same_more h k m a b = record { received = λ j. b.received j ∙ a.received j; answered_is = λ j. b.answered_is j ∙ a.answered_is j; held = λ j. b.held j ∙ a.held j; given_back = λ j. b.given_back j ∙ a.given_back j }
+
+-- nothing was to be flushed
+pub flushed_none : (h : Hands) → Flushed h h
+flushed_none h = record { same = record { received = λ j. refl; answered_is = λ j. refl; held = λ j. refl; given_back = λ j. refl }; places = λ j. refl; filled = λ j filled. filled }
+
+pub says_after : (h k m : Hands) (lane : ℕ) (r : Reply) → Same h k → Says lane r k m → Says lane r h m
+says_after h k m lane r same says = record {
+  others = record { received = λ j ne. says.others.received j ne ∙ same.received j; answered_is = λ j ne. says.others.answered_is j ne ∙ same.answered_is j; held = λ j ne. says.others.held j ne ∙ same.held j };
+  received = says.received ∙ same.received lane;
+  answered_is = says.answered_is ∙ ap (λ xs. xs ++ r ∷ []) (same.answered_is lane);
+  held = says.held ∙ ap (drop (answers_among (r ∷ []))) (same.held lane);
+  given_back = λ j. says.given_back j ∙ same.given_back j;
+}
+
+-- an answer after a flush
+pub answered_after : {E : Type 0} (h k m : Hands) (lane : ℕ) (r : Reply) (result : Result (Unit {0}) E) → Same h k
+    → MatchResult result (λ _. Says lane r k m) (λ _. Same k m) → MatchResult result (λ _. Says lane r h m) (λ _. Same h m)
+answered_after h k m lane r (Ok _) same says = says_after h k m lane r same says
+answered_after h k m lane r (Err _) same says = same_more h k m same says
 
 pub gets_after : (h k m : Hands) (lane : ℕ) (d : Delivery) → Same h k → Gets lane d k m → Gets lane d h m
 gets_after h k m lane d same gets = record {

@@ -16,3 +16,4 @@ pub mod Stops
 pub mod AtStop
 pub mod Parted
 pub mod Joining
+pub mod Flushes

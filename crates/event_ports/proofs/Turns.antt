@@ -1,6 +1,6 @@
 -- What a call on one flow lane makes of what a port has of all of them.
-use Rattle.std.proofs.Common.{◌≡◌, ◌≢◌, ℕ, suc, ◌<◌, Bool, true, false, List, [], ◌∷◌, ◌++◌, length, drop, set, Option, Some, None, All, MatchOption, refl, sym, ap, ◌∙◌, subst, arith, append-nil, append_assoc}
-use Rattle.std.proofs.lemmas.List.{length-set, get_or-set_other}
+use Rattle.std.proofs.Common.{◌≡◌, ◌≢◌, ℕ, suc, ◌<◌, Bool, true, false, List, [], ◌∷◌, ◌++◌, length, drop, set, Option, Some, None, Result, Ok, Err, All, MatchOption, MatchResult, refl, sym, ap, ◌∙◌, subst, arith, append-nil, append_assoc}
+use Rattle.std.proofs.lemmas.List.{length-set, get_or-set_other, get_or-set_same}
 use Rattle.std.proofs.lemmas.Option.{none-some}
 use Rattle.std.proofs.lemmas.List.Elements.{All-push}
 use mathlib.Core.Logic.{dite}
@@ -8,7 +8,9 @@ use native.Mathlib.Decide.{ℕ_discrete, dec_le}
 use Rattle.lists.specs.Lists.{has}
 use Rattle.evt_types.specs.declared.event.Delivery.{Delivery}
 use Rattle.evt_types.specs.declared.event.Reply.{Reply}
-use Rattle.lane_rings.specs.Ends.{answers_among, unanswered}
+use Rattle.std.specs.Option.{is_some}
+use Rattle.lane_rings.specs.Ends.{answered, answers_among, unanswered}
+use Rattle.lane_rings.specs.Identity.{LaneId, far_id}
 use Rattle.flow_claims.specs.declared.claim.Stint.{Stint}
 use Rattle.flow_claims.specs.declared.claims.Claims.{Claims}
 use Rattle.flow_claims.specs.declared.claims.ClaimSeat.{ClaimSeat}
@@ -20,7 +22,7 @@ use Rattle.flow_claims.specs.Open.{IsOpen, received_so_far, answered_so_far}
 use Rattle.flow_claims.specs.Seats.{stint_at, find_lane, IsPorts}
 use Rattle.flow_claims.specs.Stints.{left_in, received_in, answered_in}
 use Rattle.flow_claims.proofs.Held.{nothing_held}
-use Rattle.event_ports.specs.Holds.{place_at, IsHeldAt, AreFlows, stints_at, received_past, answered_past, left_past, surrendered_past, left_on, LeavesFree, received_now, answered_now, held_now, Hands, received_on, answered_on, Kept, Ends, Same, SameBut, Gets, Says}
+use Rattle.event_ports.specs.Holds.{place_at, IsHeldAt, AreFlows, stints_at, received_past, answered_past, left_past, surrendered_past, left_on, LeavesFree, received_now, answered_now, held_now, Hands, received_on, answered_on, IsFilledBy, Flushed, Kept, Ends, Same, SameBut, Gets, Says}
 use Rattle.event_ports.proofs.Unanswered.{left_here, left_other, surrendered, none_surrendered, others_surrendered}
 use Rattle.event_ports.proofs.Places.{Stints, hands, each_place, moved, free_place, held_place, past_places, past_more, other_stints, same_now, same_but, received_here, answered_here, held_here, all_same}
 
@@ -232,6 +234,34 @@ module _ (claims : Claims) (links : List ℕ) where
       given_back = λ j. refl;
     }
 
+    filled_still : far_id new.far ≡ far_id stint.far → answered new.far ≡ answered stint.far → IsFilledBy (Some stint) → IsFilledBy (Some new)
+    filled_still id a filled = omega (arith, ap (λ (l : LaneId). l.room) id, ap length a, filled)
+
+    turn_filled : far_id new.far ≡ far_id stint.far → answered new.far ≡ answered stint.far → (j : ℕ) → IsFilledBy (place_at ss j) → IsFilledBy (place_at (set ss lane (Some new)) j)
+    turn_filled id a j filled =
+        let Here : ℕ → Type 0 = λ i. IsFilledBy (place_at (set ss lane (Some new)) i) in
+        let Was : ℕ → Type 0 = λ i. IsFilledBy (place_at ss i) in
+        dite (ℕ_discrete j lane)
+        (λ e. subst Here (sym e) (subst IsFilledBy (sym (get_or-set_same ss lane (Some new) None inside)) (filled_still id a (subst IsFilledBy at (subst Was e filled)))))
+        (λ ne. subst IsFilledBy (sym (get_or-set_other ss lane j (Some new) None ne)) filled)
+
+    turn_places : (j : ℕ) → is_some (place_at (set ss lane (Some new)) j) ≡ is_some (place_at ss j)
+    turn_places j =
+        let Here : ℕ → Type 0 = λ i. is_some (place_at (set ss lane (Some new)) i) ≡ is_some (place_at ss i) in
+        dite (ℕ_discrete j lane)
+        (λ e. subst Here (sym e) (ap is_some (get_or-set_same ss lane (Some new) None inside) ∙ sym (ap is_some at)))
+        (λ ne. ap is_some (get_or-set_other ss lane j (Some new) None ne))
+
+    -- a flush: `Stint::flush` in its own words
+    pub turn_flushed : (far_id new.far ≡ far_id stint.far) × (answered new.far ≡ answered stint.far) × (unanswered new.far ≡ unanswered stint.far)
+        → ((v : Seating) → (received_so_far v new ≡ received_so_far v stint) × (answered_so_far v new ≡ answered_so_far v stint))
+        → Flushed (hands (seating seat) ss) (hands (seating seat) (set ss lane (Some new)))
+    turn_flushed far so_far = record {
+      same = turn_same (so_far (seating seat)).0 (so_far (seating seat)).1 far.2;
+      places = turn_places;
+      filled = turn_filled far.0 far.1;
+    }
+
     -- a receipt: `Stint::receive` in its own words
     pub received_lists : (result : Option Delivery) → IsOpen (seating seat) stint
         → MatchOption result (unanswered new.far ≡ unanswered stint.far) (λ d. unanswered new.far ≡ unanswered stint.far ++ d ∷ [])
@@ -240,6 +270,15 @@ module _ (claims : Claims) (links : List ℕ) where
         → MatchOption result (Same (hands (seating seat) ss) (hands (seating seat) (set ss lane (Some new)))) (λ d. Gets lane d (hands (seating seat) ss) (hands (seating seat) (set ss lane (Some new))))
     received_lists None is held received answered = turn_same (received (seating seat) is) (answered (seating seat)) held
     received_lists (Some d) is held received answered = turn_gets d (received (seating seat) is) (answered (seating seat)) held
+
+    -- an answer: `Stint::answer` in its own words
+    pub answered_lists : {E : Type 0} (reply : Reply) (result : Result (Unit {0}) E) → IsOpen (seating seat) stint
+        → MatchResult result (λ _. unanswered new.far ≡ drop (answers_among (reply ∷ [])) (unanswered stint.far)) (λ _. unanswered new.far ≡ unanswered stint.far)
+        → ((v : Seating) → IsOpen v stint → MatchResult result (λ _. answered_so_far v new ≡ answered_so_far v stint ++ reply ∷ []) (λ _. answered_so_far v new ≡ answered_so_far v stint))
+        → ((v : Seating) → received_so_far v new ≡ received_so_far v stint)
+        → MatchResult result (λ _. Says lane reply (hands (seating seat) ss) (hands (seating seat) (set ss lane (Some new)))) (λ _. Same (hands (seating seat) ss) (hands (seating seat) (set ss lane (Some new))))
+    answered_lists reply (Ok _) is held answered received = turn_says reply (received (seating seat)) (answered (seating seat) is) held
+    answered_lists reply (Err _) is held answered received = turn_same (received (seating seat)) (answered (seating seat) is) held
 
 leaves_more : (h k m : Hands) → LeavesFree h k → LeavesFree k m → LeavesFree h m
 leaves_more h k m a b j none = ((b j (a j none).0).0, (b j (a j none).0).1 ∙ (a j none).1)

@@ -122,12 +122,23 @@ LeavesFree h k = (lane : ℕ) → stint_in h lane ≡ None → (stint_in k lane 
 abbrev pub HaveNoNew : Hands → Type 0
 HaveNoNew h = (lane : ℕ) → count_by is_new_reply (answered_on h lane) ≡ 0
 
+-- as many replies were given to the lane of the stint as its reply ring has room for, by all ports that held it
+abbrev pub IsFilledBy : Option Stint → Type 0
+IsFilledBy None = ⊥
+IsFilledBy (Some stint) = (far_id stint.far).room ≤ length (answered stint.far)
+
 -- the lists of each lane stay
 pub record Same (h k : Hands) : Type 0 where
   pub received : (lane : ℕ) → received_on k lane ≡ received_on h lane
   pub answered_is : (lane : ℕ) → answered_on k lane ≡ answered_on h lane
   pub held : (lane : ℕ) → held_on k lane ≡ held_on h lane
   pub given_back : NoneSurrendered h k
+
+-- What was answered was made visible, and no more.
+pub record Flushed (h k : Hands) : Type 0 where
+  pub same : Same h k
+  pub places : (lane : ℕ) → is_some (stint_in k lane) ≡ is_some (stint_in h lane)
+  pub filled : (lane : ℕ) → IsFilledBy (stint_in h lane) → IsFilledBy (stint_in k lane)
 
 -- But for what is held: a lane may be surrendered, and what is unanswered of it is left.
 pub record Kept (h k : Hands) : Type 0 where
@@ -171,8 +182,3 @@ pub record AreEmpty (h : Hands) : Type 0 where
   pub answered_is : (lane : ℕ) → answered_on h lane ≡ []
   pub held : (lane : ℕ) → is_some (stint_in h lane) ≡ false
   pub given_back : GaveBack h
-
--- as many replies were given to the lane of the stint as its reply ring has room for, by all ports that held it
-abbrev pub IsFilledBy : Option Stint → Type 0
-IsFilledBy None = ⊥
-IsFilledBy (Some stint) = (far_id stint.far).room ≤ length (answered stint.far)

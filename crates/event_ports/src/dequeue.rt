@@ -41,8 +41,22 @@ impl Port {
         ensures submitted { SubmitsAll (take result.0 events.now) (hand self.old) (hand self.new) }
         ensures refused { IfSome result.1 (λ e. StopsAt self.old events.now result.0 e self.new) }
     {
+        let answer = self.submit_burst(events);
+        self.flush();
+        answer
+    }
+
+    // Enqueues the events, which the scheduler sees after the next `flush`.
+    fn submit_burst(&mut self, events: &[Event]) -> (usize, Option<Refused>)
+        ensures place { place_of self.new ≡ place_of self.old }
+        ensures credit { Stays (account_of self.old) (account_of self.new) }
+        ensures count { result.0 ≤ length events.now }
+        ensures all { IsNone result.1 ↔ (result.0 ≡ length events.now) }
+        ensures submitted { SubmitsAll (take result.0 events.now) (hand self.old) (hand self.new) }
+        ensures refused { IfSome result.1 (λ e. StopsAt self.old events.now result.0 e self.new) }
+    {
         for (taken, event) in events.iter().enumerate() {
-            if let Err(refused) = self.enqueue(*event) {
+            if let Err(refused) = self.submit(*event) {
                 return (taken, Some(refused));
             }
         }
@@ -81,8 +95,19 @@ impl Port {
         self.lanes.receive_all(max)
     }
 
-    // Releases all that is held, oldest first, or as much as the reply rings take.
+    // Releases all that is held, oldest first, or as much as the reply rings take. The scheduler sees it.
     fn release_all(&mut self) -> Result<(), Behind>
+        ensures place { place_of self.new ≡ place_of self.old }
+        ensures credit { account_of self.new ≡ account_of self.old }
+        ensures ok { OnOk result (Releases (length (hand self.old).holding) (hand self.old) (hand self.new) × (pocket_of self.new ≡ (pocket_of self.old + length (hand self.old).holding) % 2 ^ 64)) }
+        ensures behind { IfErr result (λ b. (b.released < length (hand self.old).holding) × Releases b.released (hand self.old) (hand self.new) × was_filled self.new ops.Release × (pocket_of self.new ≡ (pocket_of self.old + b.released) % 2 ^ 64)) }
+    {
+        let answer = self.release_each();
+        self.flush();
+        answer
+    }
+
+    fn release_each(&mut self) -> Result<(), Behind>
         ensures place { place_of self.new ≡ place_of self.old }
         ensures credit { account_of self.new ≡ account_of self.old }
         ensures ok { OnOk result (Releases (length (hand self.old).holding) (hand self.old) (hand self.new) × (pocket_of self.new ≡ (pocket_of self.old + length (hand self.old).holding) % 2 ^ 64)) }

@@ -16,6 +16,8 @@ pub(crate) struct FlowLanes {
     seat: ClaimSeat,
     stints: Vec<Option<Stint>>,
     links: Vec<usize>,
+    /// The lane that was answered last, where what was answered wasn't flushed.
+    touched: Option<usize>,
     ghost are: { AreFlows (arc_value claims) seat stints.items links.items },
 }
 
@@ -26,7 +28,7 @@ impl FlowLanes {
     ghost use Rattle.evt_types.specs.Operation.{is_answer};
     ghost use Rattle.flow_claims.specs.Claims.{seating, port_of, lanes_of, IsSeatOf};
     ghost use Rattle.flow_claims.specs.Seats.{HoldsNone};
-    ghost use Rattle.event_ports.specs.Holds.{IsFilledBy, AreLinked, Same, Kept, Gets, Says, Ends, AreEmpty, stint_in, held_on, received_on, answered_on, received_past, answered_past};
+    ghost use Rattle.event_ports.specs.Holds.{IsFilledBy, AreLinked, Flushed, Same, Kept, Gets, Says, Ends, AreEmpty, stint_in, held_on, received_on, answered_on, received_past, answered_past};
     ghost use Rattle.event_ports.specs.Flows.{hands_of, flow_place};
 
     /// The flow lanes of a port whose seat has no stint, with a place for each.
@@ -48,6 +50,7 @@ impl FlowLanes {
             seat,
             stints,
             links,
+            touched: None,
         }
     }
 
@@ -103,8 +106,56 @@ impl FlowLanes {
         stint.receive()
     }
 
-    /// Answers the oldest delivery that is held of the lane.
+    /// Answers the oldest delivery that is held of the lane. The scheduler sees it after the next `flush`.
     pub(crate) fn answer(&mut self, lane: usize, reply: Reply) -> Result<(), AnswerFault>
+        requires exists { lane < length (lanes_of (flow_place self.old).claims) }
+        requires answer { is_answer reply ≡ true }
+        requires held { held_on (hands_of self.old) lane ≢ [] }
+        ensures place { flow_place self.new ≡ flow_place self.old }
+        ensures lists { MatchResult result (λ _. Says lane reply (hands_of self.old) (hands_of self.new)) (λ _. Same (hands_of self.old) (hands_of self.new)) }
+        ensures places { (j : ℕ) → is_some (stint_in (hands_of self.new) j) ≡ is_some (stint_in (hands_of self.old) j) }
+        ensures refused { IfErr result (λ e. (e ≡ AnswerFault.Full reply) × IsFilledBy (stint_in (hands_of self.new) lane)) }
+    {
+        self.turn_to(lane);
+        self.answer_at(lane, reply)
+    }
+
+    // What was answered to another lane is flushed, so that there is one at most to be flushed.
+    fn turn_to(&mut self, lane: usize)
+        ensures place { flow_place self.new ≡ flow_place self.old }
+        ensures flushed { Flushed (hands_of self.old) (hands_of self.new) }
+    {
+        if self.touched != Some(lane) {
+            self.flush();
+            self.touched = Some(lane);
+        }
+    }
+
+    /// Makes all that was answered visible to the scheduler.
+    pub(crate) fn flush(&mut self)
+        ensures place { flow_place self.new ≡ flow_place self.old }
+        ensures flushed { Flushed (hands_of self.old) (hands_of self.new) }
+    {
+        if let Some(lane) = self.touched.take() {
+            self.flush_lane(lane);
+        }
+    }
+
+    // Makes what was answered to the lane visible, where it is held.
+    fn flush_lane(&mut self, lane: usize)
+        ensures place { flow_place self.new ≡ flow_place self.old }
+        ensures flushed { Flushed (hands_of self.old) (hands_of self.new) }
+    {
+        if lane >= self.stints.len() {
+            return;
+        }
+        let Some(stint) = &mut self.stints[lane] else {
+            return;
+        };
+        stint.flush();
+    }
+
+    fn answer_at(&mut self, lane: usize, reply: Reply) -> Result<(), AnswerFault>
         requires exists { lane < length (lanes_of (flow_place self.old).claims) }
         requires answer { is_answer reply ≡ true }
         requires held { held_on (hands_of self.old) lane ≢ [] }
@@ -121,6 +172,33 @@ impl FlowLanes {
 
     /// Gives the lane back where nothing of it is unanswered.
     pub(crate) fn leave(&mut self, lane: usize)
+        requires { lane < length (lanes_of (flow_place self.old).claims) }
+        ensures place { flow_place self.new ≡ flow_place self.old }
+        ensures same { Same (hands_of self.old) (hands_of self.new) }
+        ensures left { held_on (hands_of self.old) lane ≡ [] → is_some (stint_in (hands_of self.new) lane) ≡ false }
+        ensures elsewhere { (j : ℕ) → j ≢ lane → is_some (stint_in (hands_of self.new) j) ≡ is_some (stint_in (hands_of self.old) j) }
+    {
+        // The next port to hold it may have nothing to flush.
+        self.flush_done(lane);
+        self.give_back(lane);
+    }
+
+    // Flushes the lane where nothing of it is unanswered.
+    fn flush_done(&mut self, lane: usize)
+        requires { lane < length (lanes_of (flow_place self.old).claims) }
+        ensures place { flow_place self.new ≡ flow_place self.old }
+        ensures flushed { Flushed (hands_of self.old) (hands_of self.new) }
+    {
+        let is_left = match &self.stints[lane] {
+            Some(stint) => is_done(stint),
+            None => false,
+        };
+        if is_left {
+            self.flush_lane(lane);
+        }
+    }
+
+    fn give_back(&mut self, lane: usize)
         requires { lane < length (lanes_of (flow_place self.old).claims) }
         ensures place { flow_place self.new ≡ flow_place self.old }
         ensures same { Same (hands_of self.old) (hands_of self.new) }

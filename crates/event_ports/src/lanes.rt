@@ -32,9 +32,10 @@ pub(crate) struct Lanes {
 impl Lanes {
     ghost use Rattle.std.specs.Prelude.{◌≡◌, ◌≢◌, ℕ, ◌+◌, ◌<◌, ◌≤◌, [], ◌∷◌, true, false, length, map, count_by, Some, IfOk, IfErr, IfSome, IfNone, MatchOption, MatchResult};
     ghost use Rattle.evt_types.specs.Operation.{is_answer, is_new_reply};
-    ghost use Rattle.event_ports.specs.Lanes.{Rests, Submits, SubmitsTo, Takes, Arrives, ArrivesFrom, HasRoomFor, IsEmptyHand, IsEndOf, AreOf, first_lane, held_of, pair_in};
+    ghost use Rattle.event_ports.specs.Lanes.{Rests, Submits, SubmitsTo, Takes, Arrives, ArrivesFrom, HasRoomFor, IsEmptyHand, IsEndOf, AreOf, first_lane, lane_for, held_of, pair_in};
     ghost use Rattle.event_ports.specs.Handed.{IsReadable, lanes_place, flow_count, links_of, seen_own, hand_of, news_of, releases_of, CountsOne, CountsNone, IsFilled, RefusesOldest};
     ghost use Rattle.lane_rings.specs.Ends.{received_by, answered, held_list};
+    ghost use Rattle.evt_types.specs.declared.event.Op.{Op};
     ghost use Rattle.flow_claims.specs.Claims.{seating, port_of, IsSeatOf};
     ghost use Rattle.flow_claims.specs.Laws.{IsUnused};
     ghost use Rattle.flow_claims.specs.Seats.{HoldsNone};
@@ -62,7 +63,7 @@ impl Lanes {
         self.order.len()
     }
 
-    /// Submits a NEW to the port's own lane.
+    /// Submits a NEW to the port's own lane. The scheduler sees it after the next `flush`.
     pub(crate) fn submit(&mut self, reply: Reply) -> Result<(), AnswerFault>
         requires { is_new_reply reply ≡ true }
         ensures place { lanes_place self.new ≡ lanes_place self.old }
@@ -73,7 +74,7 @@ impl Lanes {
         self.own.answer(reply)
     }
 
-    /// Answers the oldest delivery that is held, to the lane from which it came.
+    /// Answers the oldest delivery that is held, to the lane from which it came. The scheduler sees it after the next `flush`.
     pub(crate) fn answer(&mut self, reply: Reply) -> Result<(), AnswerFault>
         requires { is_answer reply ≡ true }
         ensures place { lanes_place self.new ≡ lanes_place self.old }
@@ -178,6 +179,16 @@ impl Lanes {
             self.receive_some(lane, most, &mut deliveries);
         }
         deliveries
+    }
+
+    /// Makes all that was submitted and answered visible to the scheduler.
+    pub(crate) fn flush(&mut self)
+        ensures place { lanes_place self.new ≡ lanes_place self.old }
+        ensures hand { hand_of self.new ≡ hand_of self.old }
+        ensures filled { (o : Op) → IsFilled self.old (lane_for o (hand_of self.old).holding) → IsFilled self.new (lane_for o (hand_of self.new).holding) }
+    {
+        self.own.flush();
+        self.flows.flush();
     }
 
     /// The own end, the port's claim seat once all its flow lanes were surrendered, and what is held.

@@ -37,6 +37,7 @@ pub struct Port {
 
 impl Port {
     ghost use Rattle.std.specs.Prelude.{◌≡◌, ◌≢◌, ◌+◌, ◌%◌, ◌^◌, ◌<◌, ◌≤◌, ◌↔◌, [], length, IsTrue, IsFalse, IfOk, IfErr, OnOk, MatchResult};
+    ghost use Rattle.evt_types.specs.declared.event.Op.{Op as Operation};
     ghost use Rattle.evt_types.specs.declared.event.Op.TheVariants as ops;
     ghost use Rattle.credit_pool.specs.Accounts.{IsOpen, Stays};
     ghost use Rattle.event_answers.specs.declared.answer.Refused.TheVariants as refusals;
@@ -82,11 +83,35 @@ impl Port {
         ensures refused { IfErr result (λ e. Refuses self.old event e self.new) }
         ensures stopped { IsTrue (account_of self.old).saw_shut → event.op ≡ ops.New → result ≡ Err refusals.Stopped }
     {
+        let answer = self.submit(event);
+        self.flush();
+        answer
+    }
+
+    // Enqueues an event, which the scheduler sees after the next `flush`.
+    pub(crate) fn submit(&mut self, event: Event) -> Result<(), Refused>
+        ensures place { place_of self.new ≡ place_of self.old }
+        ensures credit { Stays (account_of self.old) (account_of self.new) }
+        ensures submitted { MatchResult result (λ _. SubmitsTo (lane_for event.op (hand self.old).holding) (reply_of event) (hand self.old) (hand self.new)) (λ _. Rests (hand self.old) (hand self.new)) }
+        ensures pays { OnOk result (Pays event.op self.old self.new) }
+        ensures refused { IfErr result (λ e. Refuses self.old event e self.new) }
+        ensures stopped { IsTrue (account_of self.old).saw_shut → event.op ≡ ops.New → result ≡ Err refusals.Stopped }
+    {
         match event.op {
             Op::New => self.enqueue_new(event),
             Op::Forward => self.enqueue_forward(event),
             Op::Release => self.enqueue_release(event),
         }
+    }
+
+    // Makes all that was enqueued visible to the scheduler.
+    pub(crate) fn flush(&mut self)
+        ensures place { place_of self.new ≡ place_of self.old }
+        ensures credit { (account_of self.new ≡ account_of self.old) × (pocket_of self.new ≡ pocket_of self.old) }
+        ensures hand { hand self.new ≡ hand self.old }
+        ensures filled { (o : Operation) → was_filled self.old o → was_filled self.new o }
+    {
+        self.lanes.flush();
     }
 
     fn enqueue_new(&mut self, event: Event) -> Result<(), Refused>

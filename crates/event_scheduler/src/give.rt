@@ -32,7 +32,16 @@ impl Scheduler {
         }
     }
 
-    /// Gives what is chosen, one event after the other, until no choice is left.
+    // Makes what was offered to the lanes visible to their holders.
+    fn flush_all(&mut self)
+        ensures { sight_of self.new ≡ sight_of self.old }
+    {
+        for lane in 0..self.lanes.len() {
+            self.lanes[lane].flush();
+        }
+    }
+
+    /// Gives what is chosen, one event after the other, until no choice is left. Only then the holders see it.
     pub(crate) fn give_all(&mut self, log: &mut Vec<Step>) -> (usize, usize)
         requires room { vec_len log.old + (self.old.core.shape.sweep * length self.old.core.shape.queues + lanes_of self.old.core.shape) ≤ vec_capacity log.old }
         ensures { GivesAll result.0 result.1 (sight_of self.old) log.old.items (sight_of self.new) log.new.items }
@@ -50,6 +59,7 @@ impl Scheduler {
                 bounced += 1;
             }
         }
+        self.flush_all();
         (given, bounced)
     }
 }

@@ -1,5 +1,5 @@
 -- What the steps of a call make of a seat, put together.
-use Rattle.std.proofs.Common.{◌≡◌, ◌≢◌, ℕ, zero, suc, ◌+◌, ◌-◌, ◌*◌, ◌/◌, ◌%◌, ◌<◌, Bool, eqb, List, [], ◌∷◌, ◌++◌, map, length, drop, take, reverse, get_or, slice_get, Option, Some, None, All, refl, sym, ap, ◌∙◌, subst, arith, append-nil, append_assoc}
+use Rattle.std.proofs.Common.{◌≡◌, ◌≢◌, ℕ, zero, suc, ◌+◌, ◌-◌, ◌*◌, ◌/◌, ◌%◌, ◌<◌, ◌≤◌, Bool, eqb, List, [], ◌∷◌, ◌++◌, map, length, drop, take, reverse, get_or, slice_get, Option, Some, None, All, refl, sym, ap, ◌∙◌, subst, arith, append-nil, append_assoc}
 use Rattle.std.proofs.lemmas.List.{drop_all, length-map, length-append, length-take, map_push, take_more, reverse-append}
 use Rattle.std.proofs.lemmas.Option.{none-some, same_Some, slice_get_within, get_or_from_slice_get}
 use Rattle.std.proofs.lemmas.List.Elements.{All-append, All-push}
@@ -190,6 +190,12 @@ one_more lanes ends lane far e of =
 -- as many ends are out as there are lanes
 pub all_out : (lanes ends : List Far) (lane : ℕ) → map far_id ends ≡ take lane (map far_id lanes) → lane ≡ length lanes → length ends ≡ length lanes
 all_out lanes ends lane order all = omega (arith, length-map ends far_id, ap length order, length-take lane (map far_id lanes), length-map lanes far_id, all)
+
+-- before the last lane there is room for one end more
+pub still_room : (lanes ends : List Far) (lane room : ℕ) → map far_id ends ≡ take lane (map far_id lanes) → lane < length lanes → length lanes ≤ room
+    → length ends < room
+still_room lanes ends lane room order more fits =
+    omega (arith, length-map ends far_id, ap length order, length-take lane (map far_id lanes), length-map lanes far_id, more, fits)
 
 each_push : (P : ℕ → Far → Type 0) (xs : List Far) (x : Far) → ((i : ℕ) (y : Far) → slice_get xs i ≡ Some y → P i y) → P (length xs) x
     → (i : ℕ) (y : Far) → slice_get (xs ++ x ∷ []) i ≡ Some y → P i y

@@ -1,16 +1,22 @@
 -- The lists of a lane, as its two ends see them: offered and taken at the scheduler's end, received and answered at the holder's.
 use Rattle.std.specs.Prelude.{ℕ, List, Option, count_by, map, drop, slice_get}
-use Rattle.rtrb.specs.Ring.{sent, received, known_items}
+use Rattle.rtrb.specs.Ring.{received, known_items}
 use Rattle.evt_types.specs.Operation.{is_answer}
 use Rattle.evt_types.specs.declared.event.Delivery.{Delivery}
 use Rattle.evt_types.specs.declared.event.Reply.{Reply}
 use Rattle.evt_types.specs.Event.{pair_of}
+use Rattle.lane_rings.specs.Intakes.{handed, ahead}
+use Rattle.lane_rings.specs.Outlets.{put_in, kept_back}
 use Rattle.lane_rings.specs.declared.far.Far.{Far}
 use Rattle.lane_rings.specs.declared.near.Near.{Near}
 
 -- every delivery that the scheduler offered, in order
 abbrev pub offered : Near → List Delivery
-offered near = sent near.deliveries
+offered near = put_in near.deliveries
+
+-- the last of these, which the holder can't see before the next flush
+abbrev pub unflushed_offers : Near → List Delivery
+unflushed_offers near = kept_back near.deliveries
 
 -- every reply that the scheduler took
 abbrev pub taken : Near → List Reply
@@ -26,11 +32,11 @@ next_reply near = slice_get (seen_replies near) 0
 
 -- every delivery that the holder received
 abbrev pub received_by : Far → List Delivery
-received_by far = received far.deliveries
+received_by far = handed far.deliveries
 
--- the deliveries that the holder has seen in the ring and not received
+-- the deliveries that the holder has seen, in its pocket and in the ring, and not received
 abbrev pub seen_deliveries : Far → List Delivery
-seen_deliveries far = known_items far.deliveries
+seen_deliveries far = ahead far.deliveries
 
 -- the first of these
 abbrev pub next_delivery : Far → Option Delivery
@@ -38,7 +44,11 @@ next_delivery far = slice_get (seen_deliveries far) 0
 
 -- every reply that the holder gave
 abbrev pub answered : Far → List Reply
-answered far = sent far.replies
+answered far = put_in far.replies
+
+-- the last of these, which the scheduler can't see before the next flush
+abbrev pub unflushed_answers : Far → List Reply
+unflushed_answers far = kept_back far.replies
 
 -- how many replies end the handling of a delivered event
 abbrev pub answers_among : List Reply → ℕ

@@ -24,9 +24,9 @@ pub record LaneId : Type 0 where
 abbrev pub near_id : Near → LaneId
 near_id near =
     record {
-      deliveries = record { words = near.deliveries.end.words; slots = near.deliveries.end.slots; names = near.deliveries.end.names; heap = near.deliveries.end.heap };
+      deliveries = record { words = near.deliveries.ring.end.words; slots = near.deliveries.ring.end.slots; names = near.deliveries.ring.end.names; heap = near.deliveries.ring.end.heap };
       replies = record { words = near.replies.end.words; slots = near.replies.end.slots; names = near.replies.end.names; heap = near.replies.end.heap };
-      depth = near.deliveries.capacity;
+      depth = near.deliveries.ring.capacity;
       room = near.replies.capacity;
     }
 
@@ -34,8 +34,8 @@ near_id near =
 abbrev pub far_id : Far → LaneId
 far_id far =
     record {
-      deliveries = record { words = far.deliveries.end.words; slots = far.deliveries.end.slots; names = far.deliveries.end.names; heap = far.deliveries.end.heap };
-      replies = record { words = far.replies.end.words; slots = far.replies.end.slots; names = far.replies.end.names; heap = far.replies.end.heap };
-      depth = far.deliveries.capacity;
-      room = far.replies.capacity;
+      deliveries = record { words = far.deliveries.ring.end.words; slots = far.deliveries.ring.end.slots; names = far.deliveries.ring.end.names; heap = far.deliveries.ring.end.heap };
+      replies = record { words = far.replies.ring.end.words; slots = far.replies.ring.end.slots; names = far.replies.ring.end.names; heap = far.replies.ring.end.heap };
+      depth = far.deliveries.ring.capacity;
+      room = far.replies.ring.capacity;
     }

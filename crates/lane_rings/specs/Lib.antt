@@ -1,4 +1,7 @@
 pub mod Ends
 pub mod Identity
+pub mod Intakes
+pub mod Outlets
+pub mod Pockets
 pub mod Refusal
 pub mod Rest

@@ -2,12 +2,15 @@
 
 ghost use Rattle.std.specs.Prelude.{◌≡◌, ◌≤◌, length, count_by, map, drop};
 ghost use Rattle.evt_types.specs.Operation.{is_answer};
-ghost use Rattle.rtrb.specs.Ring.{sent, received, consumer_capacity};
+ghost use Rattle.rtrb.specs.Ring.{consumer_capacity};
 ghost use Rattle.evt_types.specs.Event.{pair_of};
+ghost use Rattle.lane_rings.specs.Intakes.{handed};
+ghost use Rattle.lane_rings.specs.Outlets.{put_in};
 
+use crate::intake::Intake;
+use crate::outlet::Outlet;
 use circular_buffer::HeapCircularBuffer;
 use evt_types::{Delivery, Op, Reply};
-use rtrb::{Consumer, Producer, PushError};
 
 /// Why a reply is refused; of two causes the first.
 #[derive(Clone, Copy, Debug, PartialEq, Eq)]
@@ -21,16 +24,16 @@ pub enum AnswerFault {
 /// The holder's end of a lane: it receives deliveries and answers. It knows which deliveries it has not answered.
 #[derive(Drop)]
 pub struct Far {
-    pub(crate) deliveries: Consumer<Delivery>,
-    pub(crate) replies: Producer<Reply>,
+    pub(crate) deliveries: Intake<Delivery>,
+    pub(crate) replies: Outlet<Reply>,
     pub(crate) history: HeapCircularBuffer<(usize, u64)>,
-    pub ghost fewer: { count_by is_answer (sent replies) ≤ length (received deliveries) },
-    ghost history_is: { history.items ≡ map pair_of (drop (count_by is_answer (sent replies)) (received deliveries)) },
-    ghost room: { history.capacity ≡ consumer_capacity deliveries },
+    pub ghost fewer: { count_by is_answer (put_in replies) ≤ length (handed deliveries) },
+    ghost history_is: { history.items ≡ map pair_of (drop (count_by is_answer (put_in replies)) (handed deliveries)) },
+    ghost room: { history.capacity ≡ consumer_capacity deliveries.ring },
 }
 
 /// Whether the reply ends the handling of a delivered event.
-fn is_answering(reply: &Reply) -> bool
+pub(crate) fn is_answering(reply: &Reply) -> bool
     ensures { result ≡ is_answer reply.now }
 {
     match reply.event.op {
@@ -42,7 +45,7 @@ fn is_answering(reply: &Reply) -> bool
 impl Far {
     ghost use Rattle.std.specs.Prelude.{◌≡◌, ◌≢◌, ◌<◌, ◌≤◌, ◌↔◌, true, false, [], ◌∷◌, ◌++◌, length, drop, slice_get, IsTrue, OnOk, IfErr, IfNone, MatchOption, MatchResult};
     ghost use Rattle.evt_types.specs.Operation.{is_answer};
-    ghost use Rattle.lane_rings.specs.Ends.{received_by, seen_deliveries, next_delivery, answered, answers_among, unanswered, held_list};
+    ghost use Rattle.lane_rings.specs.Ends.{received_by, seen_deliveries, next_delivery, answered, unflushed_answers, answers_among, unanswered, held_list};
     ghost use Rattle.lane_rings.specs.Identity.{far_id};
     ghost use Rattle.lane_rings.specs.Refusal.{RefusesAnswer};
 
@@ -62,14 +65,12 @@ impl Far {
         ensures next { (d : Delivery) → next_delivery self.old ≡ Some d → result ≡ Some d }
         ensures none { IfNone result ((seen_deliveries self.old ≡ []) × (seen_deliveries self.new ≡ [])) }
     {
-        let Ok(delivery) = self.deliveries.pop() else {
-            return None;
-        };
+        let delivery = self.deliveries.next()?;
         self.history.push_back((delivery.queue, delivery.number));
         Some(delivery)
     }
 
-    /// Puts a reply into the ring. A FORWARD or RELEASE answers the oldest delivery that is held. `Full` never comes before as
+    /// Gives a reply, which the scheduler sees after the next `flush`. A FORWARD or RELEASE answers the oldest delivery that is held. `Full` never comes before as
     /// many replies were given as the ring has room for. A refused answer changes nothing.
     #[tactic(auto, using(crate::proofs::Histories::of_held))]
     pub fn answer(&mut self, reply: Reply) -> Result<(), AnswerFault>
@@ -88,13 +89,22 @@ impl Far {
         if ends && self.history.is_empty() {
             return Err(AnswerFault::NothingHeld);
         }
-        if let Err(PushError::Full(back)) = self.replies.push(reply) {
+        if let Err(back) = self.replies.put(reply) {
             return Err(AnswerFault::Full(back));
         }
         if ends {
             self.history.pop_front();
         }
         Ok(())
+    }
+
+    /// Makes what was answered visible to the scheduler. Nothing that is seen at this end changes.
+    pub fn flush(&mut self)
+        ensures lane { far_id self.new ≡ far_id self.old }
+        ensures lists { (received_by self.new ≡ received_by self.old) × (seen_deliveries self.new ≡ seen_deliveries self.old) × (answered self.new ≡ answered self.old) }
+        ensures all { unflushed_answers self.new ≡ [] }
+    {
+        self.replies.flush();
     }
 
     /// How many deliveries were received and not answered, from 0 to the lane's depth.

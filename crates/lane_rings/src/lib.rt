@@ -3,8 +3,11 @@
 #![tactic(auto)]
 
 mod far;
+mod intake;
 mod near;
+mod outlet;
 mod pair;
+mod pocket;
 mod rests;
 
 pub use far::{AnswerFault, Far};

@@ -1,22 +1,35 @@
 //! The scheduler's end of a lane.
 
+ghost use Rattle.std.specs.Prelude.{◌+◌, ◌≤◌, length, count_by};
+ghost use Rattle.evt_types.specs.Operation.{is_answer};
+ghost use Rattle.rtrb.specs.Ring.{received, producer_capacity};
+ghost use Rattle.lane_rings.specs.Outlets.{put_in};
+
+use crate::far::is_answering;
+use crate::outlet::Outlet;
 use evt_types::{Delivery, Reply};
-use rtrb::{Consumer, Producer, PushError};
+use rtrb::Consumer;
 
 /// The scheduler's end of a lane: it offers deliveries and takes replies.
 #[derive(Drop)]
 pub struct Near {
-    pub(crate) deliveries: Producer<Delivery>,
+    pub(crate) deliveries: Outlet<Delivery>,
     pub(crate) replies: Consumer<Reply>,
+    /// How many deliveries were offered and not answered by what was taken. The ring's slots don't tell: what the holder took
+    /// out of the ring isn't received yet.
+    pub(crate) out: usize,
+    ghost counted: { length (put_in deliveries) ≤ out + count_by is_answer (received replies) },
+    ghost most: { (out ≤ length (put_in deliveries)) × (out ≤ producer_capacity deliveries.ring) },
 }
 
 impl Near {
     ghost use Rattle.std.specs.Prelude.{◌≡◌, ◌≤◌, [], ◌∷◌, ◌++◌, length, OnOk, OnErr, IfErr, IfNone, MatchOption};
-    ghost use Rattle.lane_rings.specs.Ends.{offered, taken, seen_replies, next_reply};
+    ghost use Rattle.lane_rings.specs.Ends.{offered, unflushed_offers, taken, seen_replies, next_reply};
     ghost use Rattle.lane_rings.specs.Identity.{near_id};
 
-    /// Puts a delivery into the ring, or hands it back where the ring is full: never before as many were offered as the
-    /// lane's depth. A refused offer changes nothing that is seen.
+    /// Offers a delivery, which the holder sees after the next `flush`; or hands it back where as many as the lane's depth are
+    /// out, or the ring is full: never before as many were offered as the lane's depth. A refused offer changes nothing that is
+    /// seen.
     pub fn offer(&mut self, delivery: Delivery) -> Result<(), Delivery>
         ensures lane { near_id self.new ≡ near_id self.old }
         ensures replies { (taken self.new ≡ taken self.old) × (seen_replies self.new ≡ seen_replies self.old) }
@@ -24,10 +37,21 @@ impl Near {
         ensures refused { IfErr result (λ back. (back ≡ delivery) × (offered self.new ≡ offered self.old)) }
         ensures full { OnErr result ((near_id self.old).depth ≤ length (offered self.old)) }
     {
-        match self.deliveries.push(delivery) {
-            Ok(()) => Ok(()),
-            Err(PushError::Full(back)) => Err(back),
+        if self.out >= self.deliveries.ring.capacity() {
+            return Err(delivery);
         }
+        self.deliveries.put(delivery)?;
+        self.out += 1;
+        Ok(())
+    }
+
+    /// Makes what was offered visible to the holder. Nothing that is seen at this end changes.
+    pub fn flush(&mut self)
+        ensures lane { near_id self.new ≡ near_id self.old }
+        ensures lists { (offered self.new ≡ offered self.old) × (taken self.new ≡ taken self.old) × (seen_replies self.new ≡ seen_replies self.old) }
+        ensures all { unflushed_offers self.new ≡ [] }
+    {
+        self.deliveries.flush();
     }
 
     /// The oldest reply that wasn't taken, which stays in the ring: the next `take` gives the same one. `None` where no reply
@@ -54,6 +78,12 @@ impl Near {
         ensures next { (r : Reply) → next_reply self.old ≡ Some r → result ≡ Some r }
         ensures none { IfNone result ((seen_replies self.old ≡ []) × (seen_replies self.new ≡ [])) }
     {
-        self.replies.pop().ok()
+        let Ok(reply) = self.replies.pop() else {
+            return None;
+        };
+        if is_answering(&reply) {
+            self.out = self.out.saturating_sub(1);
+        }
+        Some(reply)
     }
 }

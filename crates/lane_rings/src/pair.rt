@@ -6,14 +6,27 @@ ghost use Rattle.lane_rings.specs.Identity.{near_id, far_id};
 ghost use Rattle.lane_rings.specs.Rest.{undelivered, untaken, still_held};
 
 use crate::far::Far;
+use crate::intake::Intake;
 use crate::near::Near;
+use crate::outlet::Outlet;
+use crate::pocket::Pocket;
 use crate::rests::Beside;
 use circular_buffer::HeapCircularBuffer;
+use evt_types::{Delivery, Event};
 use rtrb::RingBuffer;
 use std::alloc::{AllocError, Global};
 
 /// Want of memory.
 pub type Memory = AllocError;
+
+/// What stands in the places of a pocket that nothing is in.
+fn filler() -> Delivery {
+    Delivery {
+        event: Event::release(),
+        queue: 0,
+        number: 0,
+    }
+}
 
 /// Makes a lane, whose lists are empty. `depth` is how many deliveries the ring has room for, and how many the holder may
 /// hold unanswered; `replies` is how many replies the other ring has room for. Any numbers will do for which memory is there.
@@ -24,11 +37,15 @@ pub fn lane(alloc: Global, depth: usize, replies: usize) -> Result<(Near, Far), 
     ensures far { IfOk result (λ r. (received_by r.1 ≡ []) × (seen_deliveries r.1 ≡ []) × (answered r.1 ≡ [])) }
 {
     let (offers, receipts) = RingBuffer::new(alloc, depth)?;
+    let offers = Outlet::new(alloc, offers)?;
+    let receipts = Intake::new(alloc, receipts, filler())?;
     let (answers, takings) = RingBuffer::new(alloc, replies)?;
+    let answers = Outlet::new(alloc, answers)?;
     let history = HeapCircularBuffer::with_capacity(alloc, depth)?;
     let near = Near {
         deliveries: offers,
         replies: takings,
+        out: 0,
     };
     let far = Far {
         deliveries: receipts,
@@ -50,6 +67,7 @@ pub fn beside(near: Near, far: Far) -> Beside
     let Near {
         deliveries: mut offers,
         replies: mut takings,
+        out: _,
     } = near;
     let Far {
         deliveries: mut receipts,
@@ -57,13 +75,15 @@ pub fn beside(near: Near, far: Far) -> Beside
         history,
     } = far;
     // First each producer, which then knows how many slots are free, and so how many items are left.
-    offers.slots_beside(&mut receipts);
-    answers.slots_beside(&mut takings);
-    receipts.slots_beside(&mut offers);
-    takings.slots_beside(&mut answers);
+    offers.ring.slots_beside(&mut receipts.ring);
+    answers.ring.slots_beside(&mut takings);
+    receipts.ring.slots_beside(&mut offers.ring);
+    takings.slots_beside(&mut answers.ring);
     Beside {
         deliveries: receipts,
+        offered: Pocket::of(offers.pocket),
         replies: takings,
+        answered: Pocket::of(answers.pocket),
         held: history,
     }
 }

@@ -1,5 +1,7 @@
 //! What is left in a lane at rest.
 
+use crate::intake::Intake;
+use crate::pocket::Pocket;
 use circular_buffer::HeapCircularBuffer;
 use evt_types::{Delivery, Reply};
 use rtrb::Consumer;
@@ -7,8 +9,10 @@ use rtrb::Consumer;
 /// A lane whose ends are both at hand: the deliveries not received, the replies not taken, and what is held.
 #[derive(Drop)]
 pub struct Beside {
-    pub(crate) deliveries: Consumer<Delivery>,
+    pub(crate) deliveries: Intake<Delivery>,
+    pub(crate) offered: Pocket<Delivery>,
     pub(crate) replies: Consumer<Reply>,
+    pub(crate) answered: Pocket<Reply>,
     pub(crate) held: HeapCircularBuffer<(usize, u64)>,
 }
 
@@ -23,10 +27,11 @@ impl Beside {
             (λ d. undelivered self.old ≡ d ∷ undelivered self.new) }
         ensures others { (untaken self.new ≡ untaken self.old) × (still_held self.new ≡ still_held self.old) }
     {
-        if self.deliveries.cached_slots() == 0 {
-            return None;
+        let seen = self.deliveries.next_seen();
+        if seen.is_some() {
+            return seen;
         }
-        Some(self.deliveries.pop_known())
+        self.offered.next()
     }
 
     /// The oldest reply that was given and not taken, which leaves; `None` only where none is left.
@@ -37,7 +42,7 @@ impl Beside {
         ensures others { (undelivered self.new ≡ undelivered self.old) × (still_held self.new ≡ still_held self.old) }
     {
         if self.replies.cached_slots() == 0 {
-            return None;
+            return self.answered.next();
         }
         Some(self.replies.pop_known())
     }

@@ -47,6 +47,9 @@ fn lane_calls(rt: HostRuntime) -> Result<(), Fail> {
     let (mut near, mut far) = lane(rt.alloc(), 1, 1)?;
     assert_eq!(rt; near.offer(delivery(0)), Ok(()));
     assert_eq!(rt; near.offer(delivery(1)), Err(delivery(1)));
+    assert_eq!(rt; far.receive(), None);
+    near.flush();
+    assert!(rt; !far.is_full());
     assert_eq!(rt; far.receive(), Some(delivery(0)));
     assert_eq!(rt; far.answer(reply(Op::Release, 4)), Ok(()));
     assert_eq!(rt;
@@ -72,6 +75,7 @@ fn pass(near: &mut Near, far: &mut Far, count: u64) -> bool
 {
     for number in 0..count {
         let offered = near.offer(delivery(number));
+        near.flush();
         if offered.is_err() || far.is_full() || far.receive() != Some(delivery(number)) {
             return false;
         }
@@ -96,6 +100,8 @@ fn what_is_left(rt: HostRuntime) -> Result<(), Fail> {
     assert!(rt; pass(&mut near, &mut far, 3));
     assert_eq!(rt; near.offer(delivery(9)), Ok(()));
     assert_eq!(rt; far.answer(reply(Op::New, 8)), Ok(()));
+    assert_eq!(rt; near.peek(), None);
+    far.flush();
     assert_eq!(rt; far.answer(reply(Op::Forward, 9)), Ok(()));
     assert_eq!(rt; near.peek(), Some(reply(Op::New, 8)));
     assert_eq!(rt; near.take(), Some(reply(Op::New, 8)));
@@ -141,6 +147,7 @@ fn refused_answers(rt: HostRuntime) -> Result<(), Fail> {
     );
     assert_eq!(rt; (far.held(), far.oldest()), (2, Some((3, 0))));
     assert!(rt; far.is_full());
+    far.flush();
     assert_eq!(rt; near.take(), Some(reply(Op::New, 1)));
     assert_eq!(rt; far.answer(reply(Op::Forward, 5)), Ok(()));
     assert!(rt;
@@ -177,6 +184,7 @@ fn schedule(near: Near) -> (Near, bool)
             offered += 1;
             idle = 0;
         }
+        near.flush();
         match near.take() {
             Some(back) => {
                 in_order = in_order && back == reply(Op::Forward, taken);
@@ -217,6 +225,7 @@ fn hold(far: Far) -> (Far, bool)
                 idle = 0;
             }
         }
+        far.flush();
     }
     (far, in_order && answered == PASSES)
 }

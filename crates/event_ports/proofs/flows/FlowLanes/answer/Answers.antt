@@ -1,13 +1,19 @@
--- What an answer makes of the port's flow lanes.
-use Rattle.std.proofs.Common.{◌≡◌, Some, length, ◌<◌, arith}
-use Rattle.event_ports.specs.Holds.{place_at}
-use Rattle.event_ports.proofs.Places.{place_read}
-use Rattle.event_ports.proofs.Turns.{turned}
+-- A flush, and then the answer.
+use Rattle.flow_claims.specs.Claims.{lanes_of}
+use Rattle.std.proofs.Common.{◌∙◌, ap, arith, length, sym}
+use Rattle.event_ports.specs.Flows.{FlowPlace, hands_of}
+use Rattle.event_ports.proofs.Calls.{answered_after}
 use Rattle.event_ports.proofs.flows.FlowLanes.answer.Goals as goal
 
-pub invariant_of-self-2 : goal.invariant_of-self-2
-invariant_of-self-2 c =
-    let are = c.args.self.now.are in
-    let within : c.args.lane < length c.args.self.now.stints.items = omega (arith, are.places, c.requires.exists) in
-    let at : place_at c.args.self.now.stints.items c.args.lane ≡ Some c.in-Some.stint = place_read _ _ _ _ c.index_mut.ensures.value c.in-Some.is within in
-    record { are = turned _ _ c.args.self.now.seat _ _ c.in-Some.stint _ are at c.requires.exists c.answer.ensures.lane.0 (c.answer.ensures.open _) }
+pub answer_at-requires-clause-held : goal.answer_at-requires-clause-held
+answer_at-requires-clause-held c none = c.requires.held (sym (c.turn_to.ensures.flushed.same.held c.args.lane) ∙ none)
+
+pub answer_at-requires-clause-exists : goal.answer_at-requires-clause-exists
+answer_at-requires-clause-exists c = omega (arith, c.requires.exists, ap (λ (p : FlowPlace). length (lanes_of p.claims)) c.turn_to.ensures.place)
+
+pub returns-clause-lists : goal.returns-clause-lists
+returns-clause-lists c =
+    answered_after (hands_of c.args.self.now) (hands_of c.turn_to.new.self) (hands_of c.answer_at.new.self) c.args.lane c.args.reply c.answer_at.result c.turn_to.ensures.flushed.same c.answer_at.ensures.lists
+
+pub returns-clause-places : goal.returns-clause-places
+returns-clause-places c j = c.answer_at.ensures.places j ∙ c.turn_to.ensures.flushed.places j

@@ -1,27 +1,15 @@
--- One event more was taken, or refused.
-use Rattle.std.proofs.Common.{rules, ◌∙◌}
+-- What was submitted is submitted once it is visible.
+use Rattle.std.proofs.Common.{take, sym, subst}
+use Rattle.event_ports.specs.Lanes.{Hand, SubmitsAll}
 use Rattle.event_ports.specs.Ports.{hand}
-use Rattle.event_ports.proofs.Bursts.{taken_more, read_next}
+use Rattle.event_ports.proofs.Flushes.{still_stops}
 use Rattle.event_ports.proofs.port.Port.enqueue_burst.Goals as goal
 
-pub returns-in-Err-clause-refused : goal.returns-in-Err-clause-refused
-returns-in-Err-clause-refused c =
-    let was = c.loop-taken.invariant in
-    record {
-      event = c.index-events-taken.result;
-      between = c.loop-taken.self;
-      is_next = read_next c.args.events.now c.loop-taken.taken c.index-events-taken.result c.loop-taken-test.true c.index-events-taken.is;
-      place = was.0;
-      credit = was.1;
-      submitted = was.2;
-      refused = c.in-Err.ensures.refused;
-    }
+pub returns-clause-submitted : goal.returns-clause-submitted
+returns-clause-submitted c =
+    subst (λ (k : Hand). SubmitsAll (take c.submit_burst-answer.result.0 c.args.events.now) (hand c.args.self.now) k) (sym c.flush.ensures.hand) c.submit_burst-answer.ensures.submitted
 
-pub loop-taken-preserved : goal.loop-taken-preserved
-loop-taken-preserved c =
-    let was = c.loop-taken.invariant in (
-      c.enqueue.ensures.place ∙ was.0,
-      (search rules),
-      taken_more c.args.events.now c.loop-taken.taken c.index-events-taken.result (hand c.args.self.now) (hand c.loop-taken.self) (hand c.enqueue.new.self)
-          (read_next c.args.events.now c.loop-taken.taken c.index-events-taken.result c.loop-taken-test.true c.index-events-taken.is) was.2 c.in_default.ensures.submitted,
-    )
+pub returns-clause-refused : goal.returns-clause-refused
+returns-clause-refused c =
+    still_stops c.submit_burst-answer.new.self c.flush.new.self c.flush.ensures.credit.0 c.flush.ensures.credit.1 c.flush.ensures.filled c.args.self.now c.args.events.now
+    c.submit_burst-answer.result.0 c.submit_burst-answer.result.1 c.submit_burst-answer.ensures.refused

@@ -1,20 +1,20 @@
--- Something is held until all was released.
-use Rattle.std.proofs.Common.{rules, ◌∙◌, arith}
+-- What was released is released once it is visible.
+use Rattle.std.proofs.Common.{◌≡◌, ℕ, ◌+◌, ◌%◌, ◌^◌, OnOk, length, sym, subst}
+use Rattle.event_ports.specs.Lanes.{Hand, Releases}
 use Rattle.event_ports.specs.Ports.{hand, pocket_of}
-use Rattle.event_ports.proofs.Released.{some_left, releases_more, one_more_credit}
+use Rattle.event_ports.proofs.Flushes.{still_behind}
 use Rattle.event_ports.proofs.port.Port.release_all.Goals as goal
 
-pub release_oldest-requires : goal.release_oldest-requires
-release_oldest-requires c =
-    some_left c.loop-released.released (hand c.args.self.now) (hand c.loop-released.self) c.loop-released.invariant.2 (omega (arith, c.loop-released-test.true, c.loop-released.invariant.4))
+pub returns-clause-ok : goal.returns-clause-ok
+returns-clause-ok c =
+    let was : Hand = hand c.args.self.now in
+    let all : ℕ = length was.holding in
+    let come : ℕ = (pocket_of c.args.self.now + all) % 2 ^ 64 in
+    let After = λ (k : Hand) (n : ℕ). OnOk c.release_each-answer.result (Releases all was k × (n ≡ come)) in
+    subst (λ (k : Hand). After k (pocket_of c.flush.new.self)) (sym c.flush.ensures.hand)
+    (subst (λ (n : ℕ). After (hand c.release_each-answer.new.self) n) (sym c.flush.ensures.credit.1) c.release_each-answer.ensures.ok)
 
-pub loop-released-preserved : goal.loop-released-preserved
-loop-released-preserved c =
-    let was = c.loop-released.invariant in
-    let got = c.release_oldest.ensures.released (search rules) in (
-      c.release_oldest.ensures.place ∙ was.0,
-      c.release_oldest.ensures.credit ∙ was.1,
-      releases_more c.loop-released.released (hand c.args.self.now) (hand c.loop-released.self) (hand c.release_oldest.new.self) was.2 got.0,
-      one_more_credit (pocket_of c.args.self.now) c.loop-released.released (pocket_of c.loop-released.self) (pocket_of c.release_oldest.new.self) was.3 got.1,
-      was.4,
-    )
+pub returns-clause-behind : goal.returns-clause-behind
+returns-clause-behind c =
+    still_behind c.release_each-answer.new.self c.flush.new.self c.flush.ensures.credit.0 c.flush.ensures.credit.1 c.flush.ensures.filled (length (hand c.args.self.now).holding)
+    (hand c.args.self.now) (λ (n : ℕ). (pocket_of c.args.self.now + n) % 2 ^ 64) c.release_each-answer.result c.flush.ensures.hand c.release_each-answer.ensures.behind

@@ -1,5 +1,5 @@
 -- One lane more is closed, and at the end all stints weigh what all ends weigh.
-use Rattle.std.proofs.Common.{rules, ◌∙◌, ◌<◌, List, All, length, map, ap, subst, sum_by}
+use Rattle.std.proofs.Common.{rules, ◌∙◌, ◌<◌, ◌≤◌, List, All, arith, length, map, ap, subst, sym, sum_by, vec_capacity}
 use Rattle.lane_rings.specs.Ends.{received_by, answered}
 use Rattle.lane_rings.specs.Identity.{far_id}
 use Rattle.lane_rings.specs.declared.far.Far.{Far}
@@ -8,7 +8,7 @@ use Rattle.flow_claims.specs.Ends.{IsEnd}
 use Rattle.flow_claims.specs.Stints.{received_in, answered_in}
 use Rattle.flow_claims.specs.Claims.{seating, lanes_of}
 use Rattle.flow_claims.proofs.ByLane.{ends_weigh}
-use Rattle.flow_claims.proofs.Calls.{one_more, each_more, all_out}
+use Rattle.flow_claims.proofs.Calls.{one_more, each_more, all_out, still_room}
 use Rattle.flow_claims.proofs.claims.Claims.close.Goals as goal
 
 pub loop-lane-preserved : goal.loop-lane-preserved
@@ -29,6 +29,15 @@ loop-lane-preserved c =
           c.push_reserved.ensures.items was.6 was.7 is.of_lane is,
       c.push_reserved.ensures.capacity ∙ was.8,
     )
+
+pub push_reserved-requires : goal.push_reserved-requires
+push_reserved-requires c =
+    let was = c.loop-lane.invariant in
+    let lanes : List Far = lanes_of c.args.self.now in
+    let fits : length lanes ≤ vec_capacity c.loop-lane.into = subst (λ n. length lanes ≤ n) (sym was.8) c.requires.room.1 in
+    let less : length c.loop-lane.into.items < vec_capacity c.loop-lane.into =
+    still_room lanes c.loop-lane.into.items c.loop-lane.lane (vec_capacity c.loop-lane.into) was.6 (search rules) fits
+    in omega (arith, less)
 
 pub returns-clause-received : goal.returns-clause-received
 returns-clause-received c f =

@@ -2,7 +2,7 @@ use Rattle.std.proofs.Common.{◌≡◌, take}
 use Rattle.credit_pool.specs.Accounts.{Stays}
 use Rattle.event_ports.specs.Lanes.{SubmitsAll}
 use Rattle.event_ports.specs.Ports.{place_of, account_of, hand}
-use Rattle.event_ports.proofs.port.Port.enqueue_burst.Given as goal
+use Rattle.event_ports.proofs.port.Port.submit_burst.Given as goal
 
 abbrev pub invariant-loop-taken : goal.invariant-loop-taken
 invariant-loop-taken l =

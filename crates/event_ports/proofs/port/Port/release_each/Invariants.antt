@@ -1,7 +1,7 @@
 use Rattle.std.proofs.Common.{◌≡◌, ◌+◌, ◌%◌, ◌^◌, length}
 use Rattle.event_ports.specs.Lanes.{Releases}
 use Rattle.event_ports.specs.Ports.{place_of, account_of, pocket_of, hand}
-use Rattle.event_ports.proofs.port.Port.release_all.Given as goal
+use Rattle.event_ports.proofs.port.Port.release_each.Given as goal
 
 abbrev pub invariant-loop-released : goal.invariant-loop-released
 invariant-loop-released l =

@@ -1,0 +1,42 @@
+-- What a pocket is made of, and what is handed out as its first item leaves.
+use Rattle.std.proofs.Common.{◌≡◌, ℕ, ◌-◌, ◌≤◌, List, [], ◌∷◌, ◌++◌, length, take, drop, arith, ap, None, Some, refl, subst, sym, ◌∙◌, length-append}
+use Rattle.std.specs.Prelude.{Option, MatchOption, slice_get}
+use Rattle.std.proofs.Math.Seq.{take-append_seam}
+use Rattle.std.proofs.lemmas.Grind.{common_steps}
+
+module _ {T : Type 0} where
+  -- a row between two places is empty where they are one
+  pub row-empty : (at end : ℕ) (xs : List T) → at ≡ end → drop at (take end xs) ≡ []
+  row-empty at end xs e = grind (arith, common_steps, e)
+
+  -- and nowhere else
+  pub row-filled : (at end : ℕ) (xs : List T) → at ≤ end → end ≤ length xs → drop at (take end xs) ≡ [] → at ≡ end
+  row-filled at end xs a b e = grind (arith, common_steps, ap length e)
+
+  -- the first leaves: it is handed out
+  pub one-handed : (rs hs vs : List T) (x : T) → rs ≡ hs ++ x ∷ vs → take (length rs - length vs) rs ≡ hs ++ x ∷ []
+  one-handed rs hs vs x e =
+      let whole : rs ≡ (hs ++ x ∷ []) ++ vs = grind (arith, common_steps, e) in
+      let long : length rs - length vs ≡ length (hs ++ x ∷ []) = omega (arith, ap length whole, length-append (hs ++ x ∷ []) vs) in
+      ap (λ (n : ℕ). take n rs) long ∙ (ap (take (length (hs ++ x ∷ []))) whole ∙ take-append_seam (hs ++ x ∷ []) vs)
+
+  -- what is left is the last of what came out of the ring
+  pub still-last :
+      (rs ws vs : List T) (r : Option T) → rs ≡ take (length rs - length ws) rs ++ ws
+      → MatchOption r ((ws ≡ []) × (vs ≡ [])) (λ x. ws ≡ x ∷ vs) → rs ≡ take (length rs - length vs) rs ++ vs
+  still-last rs ws vs None e m =
+      let same : ws ≡ vs = m.0 ∙ sym m.1 in
+      subst (λ (zs : List T). rs ≡ take (length rs - length zs) rs ++ zs) same e
+  still-last rs ws vs (Some x) e m =
+      let from : rs ≡ take (length rs - length ws) rs ++ x ∷ vs = e ∙ ap (λ (zs : List T). take (length rs - length ws) rs ++ zs) m in
+      let gone : take (length rs - length vs) rs ≡ take (length rs - length ws) rs ++ x ∷ [] = one-handed rs _ vs x from in
+      grind (arith, common_steps, from, gone)
+
+  -- the first of what is there and what follows
+  pub front-first : (ws ks : List T) → (ws ≡ [] → ws ++ ks ≡ []) → slice_get ws 0 ≡ slice_get (ws ++ ks) 0
+  front-first [] ks at_end = ap (λ (xs : List T). slice_get xs 0) (sym (at_end refl))
+  front-first (w ∷ ws) ks at_end = refl
+
+pub ruleset of_rows = (row-empty, row-filled)
+
+pub ruleset of_handing = (one-handed, front-first)

@@ -1,0 +1,87 @@
+//! The reading side of a ring: one look takes all that is there, and what was taken is handed out one by one.
+
+ghost use Rattle.std.specs.Prelude.{◌≡◌, ◌-◌, ◌<◌, ◌++◌, length, take};
+ghost use Rattle.rtrb.specs.Ring.{received};
+ghost use Rattle.lane_rings.specs.Pockets.{inside, places_of};
+
+use crate::pocket::Pocket;
+use rtrb::Consumer;
+use std::alloc::{AllocError, Global};
+
+/// A ring's consumer, and what it has popped and not handed out.
+#[derive(Drop)]
+pub(crate) struct Intake<T> {
+    pub(crate) ring: Consumer<T>,
+    pub(crate) pocket: Pocket<T>,
+    ghost room: { 0 < places_of pocket },
+    ghost last: { received ring ≡ take (length (received ring) - length (inside pocket)) (received ring) ++ inside pocket },
+}
+
+impl<T: Copy> Intake<T> {
+    ghost use Rattle.std.specs.Prelude.{◌≡◌, [], ◌∷◌, ◌++◌, slice_get, IfOk, IfNone, MatchOption};
+    ghost use mathlib.Core.List.{IsPrefix};
+    ghost use Rattle.rtrb.specs.Ring.{received, known_items, consumer_capacity, SameConsumer};
+    ghost use Rattle.lane_rings.specs.Intakes.{handed, ahead};
+
+    /// Nothing is handed out of a new ring.
+    pub(crate) fn new(alloc: Global, ring: Consumer<T>, filler: T) -> Result<Intake<T>, AllocError>
+        requires { received ring ≡ [] }
+        ensures ring { IfOk result (λ i. i.ring ≡ ring) }
+        ensures lists { IfOk result (λ i. (handed i ≡ []) × (ahead i ≡ known_items ring)) }
+    {
+        // One place at least, so that an empty pocket tells that nothing was there.
+        let pocket = Pocket::empty(alloc, filler, ring.capacity().max(1))?;
+        Ok(Intake { ring, pocket })
+    }
+
+    /// Looks into the ring where nothing is in the pocket.
+    fn look(&mut self)
+        ensures ring { SameConsumer self.old.ring self.new.ring }
+        ensures handed { handed self.new ≡ handed self.old }
+        ensures ahead { IsPrefix (ahead self.old) (ahead self.new) }
+        ensures none { inside self.new.pocket ≡ [] → ahead self.new ≡ [] }
+    {
+        if self.pocket.is_empty() {
+            self.pocket.fill(&mut self.ring);
+        }
+    }
+
+    /// The oldest item, which leaves.
+    #[tactic(auto, using(crate::proofs::Handing::of_handing))]
+    pub(crate) fn next(&mut self) -> Option<T>
+        ensures ring { SameConsumer self.old.ring self.new.ring }
+        ensures handed { MatchOption result (handed self.new ≡ handed self.old) (λ x. handed self.new ≡ handed self.old ++ x ∷ []) }
+        ensures ahead { MatchOption result
+            ((ahead self.old ≡ []) × (ahead self.new ≡ []))
+            (λ x. IsPrefix (ahead self.old) (x ∷ ahead self.new)) }
+    {
+        self.look();
+        self.pocket.next()
+    }
+
+    /// The oldest item, which stays.
+    #[tactic(auto, using(crate::proofs::Handing::of_handing))]
+    pub(crate) fn peek(&mut self) -> Option<T>
+        ensures ring { SameConsumer self.old.ring self.new.ring }
+        ensures handed { handed self.new ≡ handed self.old }
+        ensures ahead { IsPrefix (ahead self.old) (ahead self.new) }
+        ensures first { result ≡ slice_get (ahead self.new) 0 }
+    {
+        self.look();
+        self.pocket.first()
+    }
+
+    /// The oldest item that was seen, which leaves.
+    #[tactic(auto, using(crate::proofs::Handing::of_handing))]
+    pub(crate) fn next_seen(&mut self) -> Option<T>
+        ensures ahead { MatchOption result
+            ((ahead self.old ≡ []) × (ahead self.new ≡ []))
+            (λ x. ahead self.old ≡ x ∷ ahead self.new) }
+    {
+        let first = self.pocket.next();
+        if first.is_some() || self.ring.cached_slots() == 0 {
+            return first;
+        }
+        Some(self.ring.pop_known())
+    }
+}

@@ -1,0 +1,93 @@
+//! A row of items that leave one by one from the front.
+
+ghost use Rattle.std.specs.Prelude.{◌≤◌, length};
+
+use rtrb::Consumer;
+use std::alloc::{AllocError, Global};
+
+/// What was taken out of a ring at once. What lies before `at` has left, and from `end` on there are fillers.
+#[derive(Drop)]
+pub(crate) struct Pocket<T> {
+    places: Vec<T>,
+    at: usize,
+    end: usize,
+    ghost within: { (at ≤ end) × (end ≤ length places.items) },
+}
+
+impl<T: Copy> Pocket<T> {
+    ghost use Rattle.std.specs.Prelude.{◌≡◌, ◌<◌, ◌↔◌, [], ◌∷◌, ◌++◌, slice_get, IsTrue, IfOk, MatchOption};
+    ghost use mathlib.Core.List.{IsPrefix};
+    ghost use Rattle.rtrb.specs.Ring.{received, known_items, SameConsumer};
+    ghost use Rattle.lane_rings.specs.Pockets.{inside, places_of};
+
+    /// A pocket with nothing in it, and this many places.
+    pub(crate) fn empty(alloc: Global, filler: T, places: usize) -> Result<Pocket<T>, AllocError>
+        ensures inside { IfOk result (λ p. inside p ≡ []) }
+        ensures places { IfOk result (λ p. places_of p ≡ places) }
+    {
+        let places = vec![in alloc; filler; places]?;
+        Ok(Pocket {
+            places,
+            at: 0,
+            end: 0,
+        })
+    }
+
+    /// A pocket with these items.
+    pub(crate) fn of(items: Vec<T>) -> Pocket<T>
+        ensures { inside result ≡ items.items }
+    {
+        let end = items.len();
+        Pocket {
+            places: items,
+            at: 0,
+            end,
+        }
+    }
+
+    /// The first item, which leaves.
+    pub(crate) fn next(&mut self) -> Option<T>
+        ensures inside { MatchOption result
+            ((inside self.old ≡ []) × (inside self.new ≡ []))
+            (λ x. inside self.old ≡ x ∷ inside self.new) }
+        ensures places { places_of self.new ≡ places_of self.old }
+    {
+        if self.at == self.end {
+            return None;
+        }
+        let first = self.places[self.at];
+        self.at += 1;
+        Some(first)
+    }
+
+    /// The first item, which stays.
+    pub(crate) fn first(&self) -> Option<T>
+        ensures { result ≡ slice_get (inside self.now) 0 }
+    {
+        if self.at == self.end {
+            return None;
+        }
+        Some(self.places[self.at])
+    }
+
+    /// Whether nothing is in it.
+    #[tactic(auto, using(crate::proofs::Handing::of_rows))]
+    pub(crate) fn is_empty(&self) -> bool
+        ensures { IsTrue result ↔ (inside self.now ≡ []) }
+    {
+        self.at == self.end
+    }
+
+    /// Takes out of the ring as many items as there are places for. Wants nothing to be in the pocket.
+    pub(crate) fn fill(&mut self, ring: &mut Consumer<T>)
+        requires { inside self.old ≡ [] }
+        ensures ring { SameConsumer ring.old ring.new }
+        ensures received { received ring.new ≡ received ring.old ++ inside self.new }
+        ensures known { IsPrefix (known_items ring.old) (inside self.new ++ known_items ring.new) }
+        ensures none { 0 < places_of self.old → inside self.new ≡ [] → known_items ring.new ≡ [] }
+        ensures places { places_of self.new ≡ places_of self.old }
+    {
+        self.at = 0;
+        self.end = ring.pop_partial_slice(&mut self.places);
+    }
+}

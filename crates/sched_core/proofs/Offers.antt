@@ -1,7 +1,7 @@
 -- How an offer is found: a lane that is free for the slot, a lane for the event, the event of the queue, the queue.
 use Rattle.std.proofs.Common.{◌≡◌, ℕ, ◌+◌, ◌<◌, ◌≤◌, ◌%◌, Bool, true, false, cond, nat_le, nat_lt, ◌&&◌, ◌==◌, List, length, get_or, All, Option, Some, None, inl, inr, ⊎_elim, refl, sym, ap, ◌∙◌, subst, arith, eq-eqb, eqb-true}
 use Rattle.std.specs.Option.{IfSome, IfNone, is_some}
-use Rattle.std.proofs.lemmas.Bool.{and_from, and_parts, or_cases, or_right, cases_lt, false≢true, false_from_ne_true, leb-true, leb-false, ltb-true, ltb-false, lt-ltb}
+use Rattle.std.proofs.lemmas.Bool.{and_from, and_parts, or_cases, or_right, cases_eq, cases_lt, false≢true, false_from_ne_true, leb-true, leb-false, ltb-true, ltb-false, lt-ltb}
 use Rattle.std.proofs.lemmas.List.{get_or_default}
 use Rattle.transcripts.proofs.WholeStands.{offer_is_allowed, offer_is_accepted}
 use Rattle.transcripts.specs.Allowed.{Allowed}
@@ -16,9 +16,10 @@ use Rattle.evt_types.specs.declared.event.Kind.TheVariants.{Ordered, Atomic, Par
 use Rattle.evt_types.specs.declared.event.Numbered.{Numbered}
 use Rattle.evt_types.specs.declared.step.Step.{Step}
 use Rattle.evt_types.specs.declared.step.Step.TheVariants.{Give}
+use Rattle.place_set.specs.Places.{SameBut}
 use Rattle.place_set.specs.declared.places.Places.{Places}
 use Rattle.sched_core.specs.Inner.{slots_for}
-use Rattle.sched_core.specs.Offered.{numbered_in, AreAllowed, FitsSlot, HasNoneAllowedIn, HasNoneIn, IsFirstIn, IsOfferIn, IsOfferOf, better_of, is_ahead, slot_at}
+use Rattle.sched_core.specs.Offered.{numbered_in, FitsSlot, HasAllowed, HasNoneAllowedIn, HasNoneIn, IsFirstIn, IsOfferIn, IsOfferOf, better_of, is_ahead, slot_at}
 use Rattle.sched_core.specs.declared.offer.Offer.{Offer}
 
 -- ---- a lane for an event of the slot
@@ -91,28 +92,27 @@ pub fits_slot : (v : View) (s : Passed) (l q : ℕ) (w : Numbered) → Fits v s 
 fits_slot v s l q w fits = record { lane = fits.lane; ready = fits.ready; linked = fits.linked; room = fits.room; alone = fits.alone; places = fits.places }
 
 -- where no event of the level has an allowed slot no lane may take one of them
-pub none_in : (v : View) (s : Passed) (q c : ℕ) (allowed : Places) → AreAllowed v s q allowed → ((w : Numbered) → slot_at v q w < slots_for v.shape q) → HasNoneAllowedIn v q c allowed → HasNoneIn v s q c
-none_in v s q c allowed are within none w waits level m fits = none w waits level ((are (slot_at v q w) (within w)).1 (m, fits_slot v s m q w fits))
+pub none_in : (v : View) (s : Passed) (q c : ℕ) (allowed : Places) → HasAllowed v s q allowed → ((w : Numbered) → slot_at v q w < slots_for v.shape q) → HasNoneAllowedIn v q c allowed → HasNoneIn v s q c
+none_in v s q c allowed has within none w waits level m fits = none w waits level (has (slot_at v q w) (within w) (m, fits_slot v s m q w fits))
 
 -- the first event of an allowed slot, for the best lane that may take it
-pub offer_in : (v : View) (s : Passed) (q c : ℕ) (allowed : Places) (w : Numbered) (o : Option Offer) → AreAllowed v s q allowed → ((u : Numbered) → slot_at v q u < slots_for v.shape q) → IsFirstIn v q c allowed w
+pub offer_in : (v : View) (s : Passed) (q c : ℕ) (allowed : Places) (w : Numbered) (o : Option Offer) → HasAllowed v s q allowed → ((u : Numbered) → slot_at v q u < slots_for v.shape q) → IsFirstIn v q c allowed w
     → IfSome o (λ x. (numbered_in x.delivery ≡ w) × (x.delivery.queue ≡ q)) → IfSome o (λ x. Fits v s x.lane q w) → IfSome o (λ x. (m : ℕ) → Fits v s m q w → ¬ IsBetterLane v m x.lane) → IfSome o (IsOfferIn v s q c)
-offer_in v s q c allowed w None are within first same fits best = tt
-offer_in v s q c allowed w (Some x) are within first same fits best =
+offer_in v s q c allowed w None has within first same fits best = tt
+offer_in v s q c allowed w (Some x) has within first same fits best =
     record {
       queue = same.1;
       level = subst (λ (u : Numbered). level_of u.event ≡ c) (sym same.0) first.level;
       waits = subst (WaitsIn v q) (sym same.0) first.waits;
       fits = subst (Fits v s x.lane q) (sym same.0) fits;
       best = λ m fits_m. best m (subst (Fits v s m q) same.0 fits_m);
-      first = λ u m waits level fits_m. subst (λ n. n ≤ u.number) (sym (ap (λ (y : Numbered). y.number) same.0)) (first.first u waits level ((are (slot_at v q u) (within u)).1 (m, fits_slot v s m q u fits_m)));
+      first = λ u m waits level fits_m. subst (λ n. n ≤ u.number) (sym (ap (λ (y : Numbered). y.number) same.0)) (first.first u waits level (has (slot_at v q u) (within u) (m, fits_slot v s m q u fits_m)));
     }
 
--- it is there: the slot is allowed since some lane may take it
-pub offer_there : (v : View) (s : Passed) (q c : ℕ) (allowed : Places) (w : Numbered) (o : Option Offer) (P : Type 0) → AreAllowed v s q allowed → slot_at v q w < slots_for v.shape q → IsFirstIn v q c allowed w
-    → IfNone o ((m : ℕ) → ¬ Fits v s m q w) → IfNone o P
-offer_there v s q c allowed w None P are within first none = let may = (are (slot_at v q w) within).0 first.slot in absurd (none may.0 (slot_fits v s may.0 q w may.1))
-offer_there v s q c allowed w (Some x) P are within first none = tt
+-- the slot of an event that no lane may take need not be asked again
+pub allowed_rest : (v : View) (s : Passed) (q slot : ℕ) (allowed rest : Places) (w : Numbered) → slot ≡ slot_at v q w → ((m : ℕ) → ¬ Fits v s m q w) → SameBut slot allowed rest → HasAllowed v s q allowed → HasAllowed v s q rest
+allowed_rest v s q slot allowed rest w is none others has t within some =
+    ⊎_elim (λ e. absurd (none some.0 (slot_fits v s some.0 q w (subst (λ k. FitsSlot v s q k some.0) (e ∙ is) some.1)))) (λ ne. (others t ne).1 (has t within some)) (cases_eq t slot)
 
 -- ---- the levels of a queue
 

@@ -3,7 +3,7 @@ use Rattle.std.proofs.Common.{◌≡◌, ◌≢◌, ℕ, ◌+◌, ◌-◌, ◌<�
 use Rattle.std.specs.Prelude.{◌↔◌}
 use Rattle.std.specs.Option.{IfSome, IfNone}
 use Rattle.std.proofs.lemmas.Bool.{and_from, and_parts, and_right, cases_eq, cases_lt, false≢true, leb-true, leb-false}
-use Rattle.evt_types.proofs.FlowLanes.{flow_at_is, serves_port, serves_flow, port_is_lane}
+use Rattle.evt_types.proofs.FlowLanes.{serves_port, serves_flow, port_is_lane}
 use Rattle.evt_types.specs.Plan.{Plan, lanes_of, lanes_at, lanes_by_slot, flow_lanes, flow_at, slot_lanes, is_flows, is_lane_of, has_flow_lanes, serves, queue_of, is_atomic, port_of}
 use Rattle.evt_types.specs.declared.flows.FlowLane.{FlowLane}
 use Rattle.std.specs.List.{flat_map, range_with_len}
@@ -14,9 +14,9 @@ use Rattle.lists.specs.Lists.{has}
 use Rattle.place_set.specs.Places.{Has, IsFirst, SameBut}
 use Rattle.place_set.specs.declared.places.Places.{Places}
 use Rattle.sched_core.proofs.Offers.{not_itself, not_better, not_better_too}
-use Rattle.sched_core.proofs.Pinned.{alone_may, may_is_alone}
+use Rattle.sched_core.proofs.Pinned.{alone_may}
 use Rattle.sched_core.specs.Inner.{slots_for}
-use Rattle.sched_core.specs.Offered.{AreAllowed, AreOpenLanes, FitsSlot, IsOpenLane, MayHold, better_of}
+use Rattle.sched_core.specs.Offered.{AreOpenLanes, FitsSlot, HasAllowed, IsOpenLane, MayHold, better_of}
 use Rattle.sched_core.specs.Pinned.{IsSlotOf, MayGo, pin_in, pins_at, slots_of}
 use Rattle.sched_core.specs.View.{view_in, unanswered_in, IsCore}
 use Rattle.sched_core.specs.declared.state.Core.TheInside.{Inside}
@@ -204,45 +204,6 @@ opens_past v s q n lanes shut below l = (
 pub opens_all : (v : View) (s : Passed) (q n : ℕ) (lanes : Places) → length v.shape.ports ≤ n → AreOpenBelow v s q n lanes → AreOpenLanes v s q lanes
 opens_all v s q n lanes all below l = (λ has. ((below l).0 has).1, λ opened. let lt = opened.lane in (below l).1 (omega arith, opened))
 
--- ---- the slots of flow lanes
-
--- the slot that a flow lane serves
-pub flow_slot : (p : Plan) (l q slot : ℕ) (d : FlowLane) → length p.ports ≤ l → l < lanes_of p → serves p l q slot ≡ true → (get_or (flow_lanes p) (l - length p.ports) d).slot ≡ slot
-flow_slot p l q slot d past h linked =
-    let f : FlowLane = get_or (flow_lanes p) (l - length p.ports) d in
-    eqb-true f.slot slot (and_parts (f.queue == q) (f.slot == slot) (sym (ap (is_lane_of q slot) (flow_at_is p l d past h)) ∙ (sym (serves_flow p l q slot past) ∙ linked))).1
-
--- the slots whose flow lane is below n and may take an event
-abbrev pub AreFlowsBelow : View → Passed → ℕ → ℕ → Places → Type 0
-AreFlowsBelow v s q n slots = (t : ℕ) → t < slots_for v.shape q → Has slots t ↔ ((l : ℕ) × (length v.shape.ports ≤ l) × (l < n) × FitsSlot v s q t l)
-
-pub flows_begin : (v : View) (s : Passed) (q : ℕ) (slots : Places) → ((l : ℕ) → ¬ Has slots l) → AreFlowsBelow v s q (length v.shape.ports) slots
-flows_begin v s q slots none t within = (λ has. absurd (none t has), λ some. let past = some.1 in let lt = some.2 in absurd (omega arith))
-
-module _ (v : View) (s : Passed) (q n : ℕ) (slots : Places) (d : FlowLane) (past : length v.shape.ports ≤ n) (lane : n < lanes_of v.shape) where
-  slot_here : (t : ℕ) → FitsSlot v s q t n → (get_or (flow_lanes v.shape) (n - length v.shape.ports) d).slot ≡ t
-  slot_here t fits = flow_slot v.shape n q t d past lane fits.linked
-
-  pub flows_on : (more : Places) (slot : ℕ) → slot ≡ (get_or (flow_lanes v.shape) (n - length v.shape.ports) d).slot → FitsSlot v s q slot n → Has more slot → SameBut slot slots more → AreFlowsBelow v s q n slots → AreFlowsBelow v s q (n + 1) more
-  flows_on more slot is fits here others below t within = (
-    λ has. ⊎_elim (λ e. (n, past, omega arith, subst (λ k. FitsSlot v s q k n) (sym e) fits)) (λ ne. let was = (below t within).0 ((others t ne).0 has) in let lt = was.2 in (was.0, was.1, omega arith, was.3)) (cases_eq t slot),
-    λ some. ⊎_elim (λ e. let same : t ≡ slot = sym (is ∙ slot_here t (subst (FitsSlot v s q t) e some.3)) in subst (Has more) (sym same) here)
-        (λ ne. ⊎_elim (λ e. subst (Has more) (sym e) here) (λ apart. (others t apart).1 ((below t within).1 (some.0, some.1, (let lt = some.2 in omega (arith, ne)), some.3))) (cases_eq t slot)) (cases_eq some.0 n),
-  )
-
-  pub flows_past : (slot : ℕ) → slot ≡ (get_or (flow_lanes v.shape) (n - length v.shape.ports) d).slot → slots_for v.shape q ≤ 64 → (slot < 64 → FitsSlot v s q slot n → ⊥) → AreFlowsBelow v s q n slots → AreFlowsBelow v s q (n + 1) slots
-  flows_past slot is few shut below t within = (
-    λ has. let was = (below t within).0 has in let lt = was.2 in (was.0, was.1, omega arith, was.3),
-    λ some. ⊎_elim (λ e. let here : FitsSlot v s q t n = subst (FitsSlot v s q t) e some.3 in let same : t ≡ slot = sym (is ∙ slot_here t here) in absurd (shut (omega (arith, same, within, few)) (subst (λ k. FitsSlot v s q k n) same here)))
-        (λ ne. (below t within).1 (some.0, some.1, (let lt = some.2 in omega (arith, ne)), some.3)) (cases_eq some.0 n),
-  )
-
-pub flows_all : (v : View) (s : Passed) (q n : ℕ) (slots : Places) → has_flow_lanes v.shape q ≡ true → lanes_of v.shape ≤ n → AreFlowsBelow v s q n slots → AreAllowed v s q slots
-flows_all v s q n slots flows all below t within = (λ has. let was = (below t within).0 has in (was.0, was.3), λ may. let fits = may.1 in let lt = fits.lane in (below t within).1 (may.0, past_ports may.0 t fits, omega arith, fits))
-  where
-    past_ports : (l t : ℕ) → FitsSlot v s q t l → length v.shape.ports ≤ l
-    past_ports l t fits = by_flow v.shape l q t flows fits.linked
-
 -- ---- the slots of ports
 
 -- one of the slots that the pins know, or the one slot of a queue without pins
@@ -254,9 +215,8 @@ slot_of_pins p q n t count within = by_kind (is_atomic (queue_of p q).kind) coun
     by_kind false e lt = inr (e, omega (arith, lt))
 
 pub ports_allowed : (a : Inside) (s : Passed) (q : ℕ) (lanes slots : Places) → IsCore a → q < length a.shape.queues → has_flow_lanes a.shape q ≡ false → AreOpenLanes (view_in a) s q lanes
-    → ((t : ℕ) → IsSlotOf (length (pins_at a.pins q)) t → Has slots t ↔ MayGo (pin_in a.pins q t) lanes) → AreAllowed (view_in a) s q slots
-ports_allowed a s q lanes slots core h ports are may t within =
-    let each = may t (slot_of_pins a.shape q (length (pins_at a.pins q)) t (core.pins.slots q h) within) in (
-      λ has. let go = each.0 has in (go.0, open_fits (view_in a) s q t go.0 ((are go.0).0 go.1) (may_is_alone a.shape (map unanswered_in a.lanes.items) a.pins q t go.0 core.pins go.2)),
-      λ some. let fits = some.1 in each.1 (some.0, (are some.0).1 (fits_open (view_in a) s q t some.0 ports fits), alone_may a.shape (map unanswered_in a.lanes.items) a.pins q t some.0 core.pins h fits.alone),
-    )
+    → ((t : ℕ) → IsSlotOf (length (pins_at a.pins q)) t → Has slots t ↔ MayGo (pin_in a.pins q t) lanes) → HasAllowed (view_in a) s q slots
+ports_allowed a s q lanes slots core h ports are may t within some =
+    let each = may t (slot_of_pins a.shape q (length (pins_at a.pins q)) t (core.pins.slots q h) within) in
+    let fits = some.1 in
+    each.1 (some.0, (are some.0).1 (fits_open (view_in a) s q t some.0 ports fits), alone_may a.shape (map unanswered_in a.lanes.items) a.pins q t some.0 core.pins h fits.alone)

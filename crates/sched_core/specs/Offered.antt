@@ -43,9 +43,9 @@ MayHold v lanes q slot l = Has lanes l × (is_atomic (queue_of v.shape q).kind �
 abbrev pub IsAllowed : View → Passed → ℕ → ℕ → Type 0
 IsAllowed v s q slot = (l : ℕ) × FitsSlot v s q slot l
 
--- of the queue's slots these are the ones whose events some lane may take
-abbrev pub AreAllowed : View → Passed → ℕ → Places → Type 0
-AreAllowed v s q slots = (slot : ℕ) → slot < slots_for v.shape q → Has slots slot ↔ IsAllowed v s q slot
+-- none of the queue's slots is missing whose events some lane may take
+abbrev pub HasAllowed : View → Passed → ℕ → Places → Type 0
+HasAllowed v s q slots = (slot : ℕ) → slot < slots_for v.shape q → IsAllowed v s q slot → Has slots slot
 
 -- the slot of a waiting event of the queue
 abbrev pub slot_at : View → ℕ → Numbered → ℕ

@@ -4,7 +4,7 @@ ghost use Rattle.std.specs.Prelude.{◌≡◌, ℕ, ◌<◌, ◌↔◌, true, Is
 ghost use Rattle.transcripts.specs.Choice.{HasNoOther, IsBetterLane};
 ghost use Rattle.evt_types.specs.Plan.{has_flow_lanes, lanes_of, queue_of, is_atomic};
 ghost use Rattle.place_set.specs.Places.{Has};
-ghost use Rattle.sched_core.specs.Offered.{AreAllowed, AreOpenLanes, FitsSlot, IsOpenLane, MayHold, better_of};
+ghost use Rattle.sched_core.specs.Offered.{AreOpenLanes, FitsSlot, HasAllowed, IsOpenLane, MayHold, better_of};
 
 use crate::skips::Skips;
 use crate::state::Core;
@@ -39,14 +39,14 @@ impl Core {
             && self.orders.has_place(queue)
     }
 
-    /// The slots of the queue whose events some lane may take.
+    /// The slots of the queue whose events some lane may take, and perhaps others: where flow lanes serve the queue, all of its slots.
     pub(crate) fn allowed(&self, queue: usize, lanes: Places, skips: &Skips) -> Places
         requires queue { queue < length self.now.shape.queues }
         requires lanes { AreOpenLanes self.now skips.now queue lanes }
-        ensures { AreAllowed self.now skips.now queue result }
+        ensures { HasAllowed self.now skips.now queue result }
     {
         if self.has_flow_lanes(queue) {
-            self.allowed_by_flows(queue, skips)
+            Places::below(MAX_PLACES)
         } else {
             self.pins.may_go(queue, lanes)
         }
@@ -58,32 +58,6 @@ impl Core {
         ensures { result ≡ has_flow_lanes self.now.shape queue }
     {
         self.shape.serving() == Serving::Flows && self.shape.queues()[queue].kind.is_atomic()
-    }
-
-    /// The slots whose flow lane may take an event.
-    fn allowed_by_flows(&self, queue: usize, skips: &Skips) -> Places
-        requires queue { queue < length self.now.shape.queues }
-        requires flows { has_flow_lanes self.now.shape queue ≡ true }
-        ensures { AreAllowed self.now skips.now queue result }
-    {
-        let ports = self.shape.ports().len();
-        let mut slots = Places::none();
-        for lane in ports..self.shape.lanes() {
-            let slot = self.shape.flows()[lane - ports].slot;
-            if self.may_add(lane, queue, slot, skips) {
-                slots.add(slot);
-            }
-        }
-        slots
-    }
-
-    /// Whether the slot is one that a set has a place for, and the lane may take an event of it.
-    fn may_add(&self, lane: usize, queue: usize, slot: usize, skips: &Skips) -> bool
-        requires lane { lane < lanes_of self.now.shape }
-        requires queue { queue < length self.now.shape.queues }
-        ensures { IsTrue result ↔ ((slot < 64) × FitsSlot self.now skips.now queue slot lane) }
-    {
-        slot < MAX_PLACES && self.fits(lane, queue, slot, skips)
     }
 
     /// Of the lanes that may take an event of the slot the one with fewest unanswered events, of several the first.

@@ -7,7 +7,7 @@ ghost use Rattle.transcripts.specs.Standing.{Stands};
 ghost use Rattle.transcripts.specs.Transcript.{event_at};
 ghost use Rattle.evt_types.specs.declared.step.Step.{Step as StepValue};
 ghost use Rattle.evt_types.specs.declared.step.Step.TheVariants as steps;
-ghost use Rattle.sched_core.specs.Offered.{numbered_in, FitsSlot, AreAllowed, AreOpenLanes, IsFirstIn, HasNoneAllowedIn, IsOfferOf, is_ahead};
+ghost use Rattle.sched_core.specs.Offered.{numbered_in, AreOpenLanes, HasAllowed, IsFirstIn, HasNoneAllowedIn, HasNoneIn, IsOfferIn, IsOfferOf, is_ahead};
 
 use crate::offer::Offer;
 use crate::skips::Skips;
@@ -68,9 +68,41 @@ impl Core {
         let lanes = self.open_lanes(queue, skips);
         let allowed = self.allowed(queue, lanes, skips);
         for level in 0..LEVELS {
-            if let Some(waiting) = self.first_in(queue, level, allowed) {
-                return self.offer_for(queue, &waiting, lanes, skips);
+            let offer = self.offer_in(queue, level, lanes, allowed, skips);
+            if offer.is_some() {
+                return offer;
             }
+        }
+        None
+    }
+
+    /// The first event of the queue's level that some lane may take. A slot whose event no lane may take is asked once.
+    fn offer_in(
+        &mut self,
+        queue: usize,
+        level: usize,
+        lanes: Places,
+        allowed: Places,
+        skips: &Skips,
+    ) -> Option<Offer>
+        requires queue { queue < length self.old.shape.queues }
+        requires level { level < 4 }
+        requires lanes { AreOpenLanes self.old skips.now queue lanes }
+        requires allowed { HasAllowed self.old skips.now queue allowed }
+        ensures same { self.new ≡ self.old }
+        ensures offer { IfSome result (IsOfferIn self.old skips.now queue level) }
+        ensures none { IfNone result (HasNoneIn self.old skips.now queue level) }
+    {
+        // The use of a field makes known what holds of each core.
+        let _ = &self.shape;
+        let mut left = allowed;
+        while let Some(waiting) = self.first_in(queue, level, left) {
+            let offer = self.offer_for(queue, &waiting, lanes, skips);
+            if offer.is_some() {
+                return offer;
+            }
+            let slot = self.shape().slot_of(queue, waiting.event.flow);
+            left.remove(slot);
         }
         None
     }

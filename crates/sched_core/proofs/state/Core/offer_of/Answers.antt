@@ -1,14 +1,11 @@
-use Rattle.std.proofs.Common.{◌≡◌, ℕ, ◌<◌, ◌∙◌, length, All, subst, ap, arith}
+use Rattle.std.proofs.Common.{◌≡◌, ◌<◌, ◌∙◌, length, All, subst, sym, ap, arith}
 use Rattle.std.specs.Option.{IfSome, IfNone}
-use Rattle.evt_types.specs.Fault.{IsWithinLimits}
 use Rattle.evt_types.specs.Plan.{level_of}
-use Rattle.transcripts.specs.Choice.{Fits, IsBetterLane}
 use Rattle.transcripts.specs.Standing.{View, waiting_at}
 use Rattle.evt_types.specs.declared.event.Numbered.{Numbered}
 use Rattle.sched_core.proofs.Cores.{levels_there}
-use Rattle.sched_core.proofs.FirstOnes.{slots_within}
-use Rattle.sched_core.proofs.Offers.{level_more, none_in, none_under, offer_first, offer_in, offer_there}
-use Rattle.sched_core.specs.Offered.{HasNoneAllowedIn, IsFirstIn}
+use Rattle.sched_core.proofs.Offers.{none_of, level_more, none_under, offer_first}
+use Rattle.sched_core.specs.Offered.{HasNoneIn, IsOfferIn}
 use Rattle.sched_core.proofs.state.Core.offer_of.Goals as goal
 
 pub loop-level-init : goal.loop-level-init
@@ -17,35 +14,19 @@ loop-level-init c = ((λ i. c.args.self.now), λ k h. absurd (omega arith))
 pub loop-level-preserved : goal.loop-level-preserved
 loop-level-preserved c =
     let v : View = c.args.self.now in
-    let limits : IsWithinLimits v.shape = subst (λ (u : View). IsWithinLimits u.shape) c.self.view_is c.self.invariant.limits in
-    let same = c.loop-level.invariant.0 in
-    let none : HasNoneAllowedIn v c.args.queue c.loop-level.level c.allowed-allowed.result = subst (λ u. HasNoneAllowedIn u c.args.queue c.loop-level.level c.allowed-allowed.result) same c.in_default.ensures.none in (
-      c.in_default.ensures.same ∙ same,
+    let same = c.loop-level.invariant.0 in (
+      c.offer_in-offer.ensures.same ∙ same,
       level_more v c.args.skips.now c.args.queue c.loop-level.level
-          (none_in v c.args.skips.now c.args.queue c.loop-level.level c.allowed-allowed.result c.allowed-allowed.ensures (slots_within v c.args.queue limits c.requires) none) c.loop-level.invariant.1,
+          (none_of c.offer_in-offer.result (HasNoneIn v c.args.skips.now c.args.queue c.loop-level.level) (sym c.is_some.ensures ∙ c.if-is_some.false)
+          (subst (λ u. IfNone c.offer_in-offer.result (HasNoneIn u c.args.skips.now c.args.queue c.loop-level.level)) same c.offer_in-offer.ensures.none))
+          c.loop-level.invariant.1,
     )
 
-pub returns-in-Some-clause-offer : goal.returns-in-Some-clause-offer
-returns-in-Some-clause-offer c =
+pub returns-then-is_some-clause-offer : goal.returns-then-is_some-clause-offer
+returns-then-is_some-clause-offer c =
     let v : View = c.args.self.now in
-    let limits : IsWithinLimits v.shape = subst (λ (u : View). IsWithinLimits u.shape) c.self.view_is c.self.invariant.limits in
-    let same = c.loop-level.invariant.0 in
-    let now : c.first_in.new.self ≡ v = c.in-Some.ensures.same ∙ same in
-    let first : IsFirstIn v c.args.queue c.loop-level.level c.allowed-allowed.result c.in-Some.waiting = subst (λ u. IsFirstIn u c.args.queue c.loop-level.level c.allowed-allowed.result c.in-Some.waiting) same c.in-Some.ensures.first in
-    offer_first v c.args.skips.now c.args.queue c.loop-level.level c.offer_for.result c.loop-level.invariant.1
-    (offer_in v c.args.skips.now c.args.queue c.loop-level.level c.allowed-allowed.result c.in-Some.waiting c.offer_for.result c.allowed-allowed.ensures (slots_within v c.args.queue limits c.requires) first c.offer_for.ensures.same
-    (subst (λ u. IfSome c.offer_for.result (λ o. Fits u c.args.skips.now o.lane c.args.queue c.in-Some.waiting)) now c.offer_for.ensures.fits)
-    (subst (λ u. IfSome c.offer_for.result (λ o. (m : ℕ) → Fits u c.args.skips.now m c.args.queue c.in-Some.waiting → ¬ IsBetterLane u m o.lane)) now c.offer_for.ensures.best))
-
-pub returns-in-Some-clause-none : goal.returns-in-Some-clause-none
-returns-in-Some-clause-none c =
-    let v : View = c.args.self.now in
-    let limits : IsWithinLimits v.shape = subst (λ (u : View). IsWithinLimits u.shape) c.self.view_is c.self.invariant.limits in
-    let same = c.loop-level.invariant.0 in
-    let now : c.first_in.new.self ≡ v = c.in-Some.ensures.same ∙ same in
-    let first : IsFirstIn v c.args.queue c.loop-level.level c.allowed-allowed.result c.in-Some.waiting = subst (λ u. IsFirstIn u c.args.queue c.loop-level.level c.allowed-allowed.result c.in-Some.waiting) same c.in-Some.ensures.first in
-    offer_there v c.args.skips.now c.args.queue c.loop-level.level c.allowed-allowed.result c.in-Some.waiting c.offer_for.result _ c.allowed-allowed.ensures (slots_within v c.args.queue limits c.requires c.in-Some.waiting) first
-    (subst (λ u. IfNone c.offer_for.result ((m : ℕ) → ¬ Fits u c.args.skips.now m c.args.queue c.in-Some.waiting)) now c.offer_for.ensures.none)
+    offer_first v c.args.skips.now c.args.queue c.loop-level.level c.offer_in-offer.result c.loop-level.invariant.1
+    (subst (λ u. IfSome c.offer_in-offer.result (IsOfferIn u c.args.skips.now c.args.queue c.loop-level.level)) c.loop-level.invariant.0 c.offer_in-offer.ensures.offer)
 
 pub returns-clause-none : goal.returns-clause-none
 returns-clause-none c =

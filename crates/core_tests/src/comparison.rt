@@ -64,12 +64,18 @@ impl Seen {
 }
 
 /// The run of a seed.
-fn compare(alloc: Global, device: &Device<'_>, seed: u64, seen: &mut Seen) -> Result<(), Fail> {
+fn compare(
+    alloc: Global,
+    device: &Device<'_>,
+    flows: u32,
+    seed: u64,
+    seen: &mut Seen,
+) -> Result<(), Fail> {
     let mut pair = Pair::new(alloc, device)?;
     let ports = u32::try_from(device.ports.len())?;
     let lanes = u32::try_from(pair.lanes())?;
     let queues = u32::try_from(device.queues.len())?;
-    let mut drawing = Drawing::new(seed, ports, lanes, queues);
+    let mut drawing = Drawing::new(seed, ports, lanes, queues, flows);
     for turn in 0..TURNS {
         if drawing.below(10) == 0 {
             let _ = pair.make(Move::NextSweep)?;
@@ -85,13 +91,18 @@ fn compare(alloc: Global, device: &Device<'_>, seed: u64, seen: &mut Seen) -> Re
     }
 }
 
-/// The runs of several seeds, and what came of their turns.
-fn compare_all(alloc: Global, device: &Device<'_>) -> Result<Seen, Fail> {
+/// The runs of several seeds with events of so many flows, and what came of their turns.
+fn compare_flows(alloc: Global, device: &Device<'_>, flows: u32) -> Result<Seen, Fail> {
     let mut seen = Seen::default();
     for seed in 0..20 {
-        compare(alloc, device, seed, &mut seen)?;
+        compare(alloc, device, flows, seed, &mut seen)?;
     }
     Ok(seen)
+}
+
+/// The same with events of few flows.
+fn compare_all(alloc: Global, device: &Device<'_>) -> Result<Seen, Fail> {
+    compare_flows(alloc, device, 6)
 }
 
 #[test]
@@ -196,5 +207,22 @@ fn flow_lanes_beside_an_ordered_and_a_parallel_queue(rt: HostRuntime) -> Result<
     let seen = compare_all(rt.alloc(), &device)?;
     assert!(rt; seen.is_varied(), "{seen:?}");
     assert!(rt; seen.kept >= OFTEN, "{seen:?}");
+    Ok(())
+}
+
+/// Most workers are full most of the time, so that many events wait whose slot stands on a full one.
+#[test]
+fn many_blocked_flows(rt: HostRuntime) -> Result<(), Fail> {
+    let queues = [queue_of(Kind::Atomic, 128, 64)];
+    let ports: [(u32, &[u32]); 5] = [(4, &[]), (1, &[0]), (1, &[0]), (2, &[0]), (8, &[0])];
+    let device = Device {
+        limit: 200,
+        sweep: 16,
+        serving: Serving::Ports,
+        queues: &queues,
+        ports: &ports,
+    };
+    let seen = compare_flows(rt.alloc(), &device, 40)?;
+    assert!(rt; seen.is_varied(), "{seen:?}");
     Ok(())
 }

@@ -6,24 +6,26 @@ use evt_types::{Event, Op};
 use rand_core::utils::NextWord;
 use rand_pcg::Pcg32;
 
-/// What the moves for a device with so many ports, lanes and queues are drawn from.
+/// What the moves for a device with so many ports, lanes and queues, and events of so many flows, are drawn from.
 #[derive(Drop)]
 pub(crate) struct Drawing {
     random: Pcg32,
     ports: u32,
     lanes: u32,
     queues: u32,
+    flows: u32,
 }
 
 impl Drawing {
     /// Moves from a seed.
-    pub(crate) fn new(seed: u64, ports: u32, lanes: u32, queues: u32) -> Drawing {
+    pub(crate) fn new(seed: u64, ports: u32, lanes: u32, queues: u32, flows: u32) -> Drawing {
         let random = Pcg32::new(seed, 54);
         Drawing {
             random,
             ports,
             lanes,
             queues,
+            flows,
         }
     }
 
@@ -38,7 +40,7 @@ impl Drawing {
         (self.below(count) & 0xff) as u8
     }
 
-    /// An event of few flows, of any priority, mostly for a queue that is there.
+    /// An event of one of the flows, of any priority, mostly for a queue that is there.
     fn event(&mut self, op: Op) -> Event {
         let is_there = self.below(20) != 0;
         let queue = if is_there {
@@ -46,7 +48,7 @@ impl Drawing {
         } else {
             255
         };
-        let flow = self.byte_below(6);
+        let flow = self.byte_below(self.flows);
         let priority = self.byte_below(256);
         let payload = u64::from(self.below(1000));
         event_of(op, queue, flow, priority, payload)

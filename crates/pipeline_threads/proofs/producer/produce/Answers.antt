@@ -21,6 +21,6 @@ returns g c =
 
 pub loop-entry-preserved : goal.loop-entry-preserved
 loop-entry-preserved g c = (
-    c.submit.ensures.site ∙ c.loop-entry.invariant.0,
-    brought_more c.args.trace.now c.loop-entry.entry-index c.entry-item.result c.new_event.result c.loop-entry.port c.submit.new.port c.loop-entry-test.true c.entry-item.is c.new_event.ensures c.loop-entry.invariant.1 (c.submit.ensures.taken c.if-not-submit.false),
-  )
+  c.submit.ensures.site ∙ c.loop-entry.invariant.0,
+  brought_more c.args.trace.now c.loop-entry.entry-index c.entry-item.result c.new_event.result c.loop-entry.port c.submit.new.port c.loop-entry-test.true c.entry-item.is c.new_event.ensures c.loop-entry.invariant.1 (c.submit.ensures.taken c.if-not-submit.false),
+)

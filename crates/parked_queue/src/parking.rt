@@ -77,6 +77,7 @@ impl Parking {
     /// The slot of an event.
     pub(crate) fn slot(&self, waiting: &Numbered) -> usize
         ensures value { result ≡ slot_of self.now.waits.slots waiting.now }
+        ensures within { result < self.now.waits.slots }
         ensures few { result < 64 }
     {
         slot_in(self.slots, waiting)

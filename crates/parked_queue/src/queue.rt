@@ -47,6 +47,14 @@ impl ParkedQueue {
         self.parking.accept(event);
     }
 
+    /// The slot of an event.
+    pub fn slot_of(&self, waiting: &Numbered) -> usize
+        ensures value { result ≡ slot_of self.now.slots waiting.now }
+        ensures within { result < self.now.slots }
+    {
+        self.parking.slot(waiting)
+    }
+
     /// The first event of the level whose slot is allowed. Those before it are set aside, each once.
     pub fn first(&mut self, level: usize, allowed: Places) -> Option<Numbered>
         requires { level < 4 }

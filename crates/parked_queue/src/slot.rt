@@ -13,7 +13,8 @@ pub(crate) const LEVELS: usize = 4;
 pub(crate) fn slot_in(slots: usize, waiting: &Numbered) -> usize
     requires some { 0 < slots }
     requires few { slots ≤ 64 }
-    ensures { result ≡ slot_of slots waiting.now }
+    ensures value { result ≡ slot_of slots waiting.now }
+    ensures within { result < slots }
 {
     let flow = waiting.event.flow as usize;
     let mask = slots - 1;

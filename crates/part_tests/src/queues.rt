@@ -60,6 +60,11 @@ fn a_blocked_event_is_passed(rt: HostRuntime) -> Result<(), Fail> {
     assert!(rt; queue.first(2, slot(3)).is_none());
     assert!(rt; queue.first(1, Places::below(4)).is_none());
     assert_eq!(rt; queue.count(), 2);
+    let second = Numbered {
+        number: 1,
+        event: event(6, 11)?,
+    };
+    assert_eq!(rt; queue.slot_of(&second), 2);
     Ok(())
 }
 

@@ -95,13 +95,13 @@ first_at [] y d e = absurd cc
 first_at (x ∷ ys) y d e = (omega arith, cc)
 
 -- its queue is there
-pub oldest_known : (a : Inside) (i : ℕ) (old : Entries) (y : Entry) → IsCore a → i < length a.lanes.items → old ≡ get_or a.lanes.items i old → slice_get old.entries 0 ≡ Some y → y.queue < length a.shape.queues
-oldest_known a i old y core h is oldest = known_of a.shape (map unanswered_in a.lanes.items) a.pins i (held_of y) core.pins (in_view a i h) (first_here a i old y h is oldest)
+pub oldest_known : (a : Inside) (i : ℕ) (old : Entries) (y : Entry) → IsCore a → i < length a.lanes → old ≡ get_or a.lanes i old → slice_get old.entries 0 ≡ Some y → y.queue < length a.shape.queues
+oldest_known a i old y core h is oldest = known_of a.shape (map unanswered_in a.lanes) a.pins i (held_of y) core.pins (in_view a i h) (first_here a i old y h is oldest)
 
 -- its pin is there, and counts it
-pub oldest_pinned : (a : Inside) (i : ℕ) (old : Entries) (y : Entry) → IsCore a → i < length a.lanes.items → old ≡ get_or a.lanes.items i old → slice_get old.entries 0 ≡ Some y
+pub oldest_pinned : (a : Inside) (i : ℕ) (old : Entries) (y : Entry) → IsCore a → i < length a.lanes → old ≡ get_or a.lanes i old → slice_get old.entries 0 ≡ Some y
     → y.slot < length (pins_at a.pins y.queue) → 0 < (pin_in a.pins y.queue y.slot).count
-oldest_pinned a i old y core h is oldest there = pinned_of a.shape (map unanswered_in a.lanes.items) a.pins i (held_of y) core.pins (in_view a i h) (first_here a i old y h is oldest) there
+oldest_pinned a i old y core h is oldest there = pinned_of a.shape (map unanswered_in a.lanes) a.pins i (held_of y) core.pins (in_view a i h) (first_here a i old y h is oldest) there
 
 -- ---- the oldest event of a lane is answered
 
@@ -111,11 +111,11 @@ answered_length old new y oldest items =
     ap (λ (ys : List Entry). length (map held_of ys) + 1) items ∙ (ap (λ n. n + 1) (length-map (drop 1 old.entries) held_of ∙ length-drop 1 old.entries) ∙ (omega arith ∙ sym (length-map old.entries held_of)))
 
 -- what the lanes have after it
-lanes_answered : (a : Inside) (i : ℕ) (old new : Entries) → i < length a.lanes.items → old ≡ get_or a.lanes.items i old → new.entries ≡ drop 1 old.entries
-    → map unanswered_in (set a.lanes.items i new) ≡ set (map unanswered_in a.lanes.items) i (drop 1 (unanswered_at (view_in a) i))
+lanes_answered : (a : Inside) (i : ℕ) (old new : Entries) → i < length a.lanes → old ≡ get_or a.lanes i old → new.entries ≡ drop 1 old.entries
+    → map unanswered_in (set a.lanes i new) ≡ set (map unanswered_in a.lanes) i (drop 1 (unanswered_at (view_in a) i))
 lanes_answered a i old new h is items =
-    map-set unanswered_in a.lanes.items i new
-    ∙ ap (set (map unanswered_in a.lanes.items) i) (ap (map held_of) items ∙ (sym (drop-map held_of 1 old.entries) ∙ sym (ap (drop 1) (unanswered_here a i old h is))))
+    map-set unanswered_in a.lanes i new
+    ∙ ap (set (map unanswered_in a.lanes) i) (ap (map held_of) items ∙ (sym (drop-map held_of 1 old.entries) ∙ sym (ap (drop 1) (unanswered_here a i old h is))))
 
 popped_here : (ls : List Entries) (i : ℕ) (old new : Entries) → i < length ls → old ≡ get_or ls i old → new.entries ≡ drop 1 old.entries
     → map entries_in (set ls i new) ≡ set (map entries_in ls) i (drop 1 (entries_at (map entries_in ls) i))
@@ -127,22 +127,22 @@ resolved_orders rs y f = set rs y.queue (resolved_in (order_at rs y.queue) y.pla
 
 record IsResolved (a : Inside) (i : ℕ) (y : Entry) (f : Option Event) (b : Bool) : Type 0 where
   restoring : is_restoring (order_at a.orders y.queue) ≡ b
-  places : ArePlaces a.shape a.queues.items (resolved_orders a.orders y f) (set (map entries_in a.lanes.items) i (drop 1 (entries_at (map entries_in a.lanes.items) i)))
+  places : ArePlaces a.shape a.queues.items (resolved_orders a.orders y f) (set (map entries_in a.lanes) i (drop 1 (entries_at (map entries_in a.lanes) i)))
   kept : kept_of (resolved_in (order_at a.orders y.queue) y.place f).places ≡ kept_of (order_at a.orders y.queue).places + kept_more b f
   shown : (resolved_in (order_at a.orders y.queue) y.place f).places ≡ cond b (map (answer_place y.number (outcome_of f)) (order_at a.orders y.queue).places) (order_at a.orders y.queue).places
 
-resolved_by : (a : Inside) (i : ℕ) (y : Entry) (f : Option Event) → IsCore a → i < length a.lanes.items → entry_at (map entries_in a.lanes.items) i 0 ≡ Some y → y.queue < length a.shape.queues
+resolved_by : (a : Inside) (i : ℕ) (y : Entry) (f : Option Event) → IsCore a → i < length a.lanes → entry_at (map entries_in a.lanes) i 0 ≡ Some y → y.queue < length a.shape.queues
     → ((e : Event) → f ≡ Some e → e.queue < length a.shape.queues) → IsResolved a i y f (is_ordered (queue_of a.shape y.queue).kind)
 resolved_by a i y f core h oldest there named = by_kind (is_ordered (queue_of a.shape y.queue).kind) refl
   where
     us : List (List Entry)
-    us = map entries_in a.lanes.items
+    us = map entries_in a.lanes
 
     r : Reordering
     r = order_at a.orders y.queue
 
     lane : i < length us
-    lane = subst (λ n. i < n) (sym (length-map a.lanes.items entries_in)) h
+    lane = subst (λ n. i < n) (sym (length-map a.lanes entries_in)) h
 
     depth : r.depth ≡ kept_room (queue_of a.shape y.queue)
     depth = (core.places.each y.queue there).room
@@ -172,61 +172,62 @@ resolved_by a i y f core h oldest there named = by_kind (is_ordered (queue_of a.
           shown = ap (λ (s : Reordering). s.places) now;
         }
 
-pub core_answers : (a : Inside) (i : ℕ) (old new : Entries) (y : Entry) (f : Option Event) (ps : List (List Pin)) (n m : ℕ) → IsCore a → i < length a.lanes.items → old ≡ get_or a.lanes.items i old
+pub core_answers : (a : Inside) (i : ℕ) (old new : Entries) (y : Entry) (f : Option Event) (ps : List (List Pin)) (n m : ℕ) → IsCore a → i < length a.lanes → old ≡ get_or a.lanes i old
     → slice_get old.entries 0 ≡ Some y → new.entries ≡ drop 1 old.entries → new.capacity ≡ old.capacity
     → ((e : Event) → f ≡ Some e → e.queue < length a.shape.queues) → entries_of (view_in a) + length (option_to_list f) ≤ 2 ^ 63
     → ps ≡ with_pin a.pins y.queue y.slot (unpinned (pin_in a.pins y.queue y.slot))
     → n + 1 ≡ a.inside + kept_more (is_restoring (order_at a.orders y.queue)) f → m ≡ a.entries + kept_more (is_restoring (order_at a.orders y.queue)) f
-    → IsCore (record { shape = a.shape; queues = a.queues; orders = resolved_orders a.orders y f; lanes = with_item a.lanes i new; pins = ps; inside = n; entries = m; shut = a.shut })
+    → IsCore (record { shape = a.shape; queues = a.queues; orders = resolved_orders a.orders y f; lanes = set a.lanes i new; pins = ps; links = a.links; inside = n; entries = m; shut = a.shut })
 core_answers a i old new y f ps n m core h is oldest items capacity named few unpins counted entered =
     let r : Reordering = order_at a.orders y.queue in
     let there : y.queue < length a.shape.queues = oldest_known a i old y core h is oldest in
-    let done = resolved_by a i y f core h (oldest_entry a.lanes.items i old y h is oldest) there named in
+    let done = resolved_by a i y f core h (oldest_entry a.lanes i old y h is oldest) there named in
     let b : Bool = is_ordered (queue_of a.shape y.queue).kind in
     let same : kept_more (is_restoring r) f ≡ kept_more b f = ap (λ k. kept_more k f) done.restoring in
     let least : kept_more b f ≤ length (option_to_list f) = more_least b f in
     let once : kept_more b f ≤ 1 = more_once b f in
     let less : length (unanswered_in new) + 1 ≡ length (unanswered_in old) = answered_length old new y oldest items in
-    let held = held_sum a.lanes.items i old new h is in
+    let held = held_sum a.lanes i old new h is in
     let count = core.places.count in
-    let keeps = kept_after a (record { shape = a.shape; queues = a.queues; orders = resolved_orders a.orders y f; lanes = with_item a.lanes i new; pins = ps; inside = n; entries = m; shut = a.shut }) y.queue (resolved_in r y.place f) refl (omega arith) in
+    let keeps = kept_after a (record { shape = a.shape; queues = a.queues; orders = resolved_orders a.orders y f; lanes = set a.lanes i new; pins = ps; links = a.links; inside = n; entries = m; shut = a.shut }) y.queue (resolved_in r y.place f) refl (omega arith) in
     let more = done.kept in
     let inside = core.inside in
     let within = core.within in
     let entries = core.entries in
-    let popped = popped_here a.lanes.items i old new h is items in
+    let popped = popped_here a.lanes i old new h is items in
     record {
       limits = core.limits;
       queues = core.queues;
-      lanes = length-set a.lanes.items i new ∙ core.lanes;
+      lanes = length-set a.lanes i new ∙ core.lanes;
       sound = core.sound;
       slots = core.slots;
-      room = room_set a.shape a.lanes.items i old new h is capacity core.room;
+      room = room_set a.shape a.lanes i old new h is capacity core.room;
       pins =
           subst (λ us. ArePins a.shape us ps) (sym (lanes_answered a i old new h is items))
-          (subst (ArePins a.shape (set (map unanswered_in a.lanes.items) i (drop 1 (unanswered_at (view_in a) i)))) (sym unpins)
-          (pins_answered a.shape (map unanswered_in a.lanes.items) a.pins i (held_of y) core.pins (in_view a i h) (first_here a i old y h is oldest)));
+          (subst (ArePins a.shape (set (map unanswered_in a.lanes) i (drop 1 (unanswered_at (view_in a) i)))) (sym unpins)
+          (pins_answered a.shape (map unanswered_in a.lanes) a.pins i (held_of y) core.pins (in_view a i h) (first_here a i old y h is oldest)));
       inside = omega arith;
       within = omega arith;
       small = core.small;
       entries = omega arith;
       few = omega arith;
+      links = core.links;
       places = subst (ArePlaces a.shape a.queues.items (resolved_orders a.orders y f)) (sym popped) done.places;
     }
 
 -- it may be resolved
-pub resolve_is_open : (a : Inside) (i : ℕ) (old : Entries) (y : Entry) → IsCore a → i < length a.lanes.items → old ≡ get_or a.lanes.items i old → slice_get old.entries 0 ≡ Some y
+pub resolve_is_open : (a : Inside) (i : ℕ) (old : Entries) (y : Entry) → IsCore a → i < length a.lanes → old ≡ get_or a.lanes i old → slice_get old.entries 0 ≡ Some y
     → is_restoring (order_at a.orders y.queue) ≡ true → IsTrue (is_open (place_at (order_at a.orders y.queue) y.place))
 resolve_is_open a i old y core h is oldest restoring =
     let there : y.queue < length a.shape.queues = oldest_known a i old y core h is oldest in
-    answer_is_open a.shape a.queues.items a.orders (map entries_in a.lanes.items) i 0 y core.places (oldest_entry a.lanes.items i old y h is oldest)
+    answer_is_open a.shape a.queues.items a.orders (map entries_in a.lanes) i 0 y core.places (oldest_entry a.lanes i old y h is oldest)
     (sym (restoring_is a.shape (order_at a.orders y.queue) y.queue core.limits there (core.places.each y.queue there).room) ∙ restoring)
 
 -- something is inside
-pub some_inside : (a : Inside) (i : ℕ) (old : Entries) (y : Entry) → IsCore a → i < length a.lanes.items → old ≡ get_or a.lanes.items i old → slice_get old.entries 0 ≡ Some y → 1 ≤ a.inside
+pub some_inside : (a : Inside) (i : ℕ) (old : Entries) (y : Entry) → IsCore a → i < length a.lanes → old ≡ get_or a.lanes i old → slice_get old.entries 0 ≡ Some y → 1 ≤ a.inside
 some_inside a i old y core h is oldest =
-    let le : length (unanswered_in old) ≤ sum_by (λ x. length (unanswered_in x)) a.lanes.items = subst (λ (l : Entries). length (unanswered_in l) ≤ sum_by (λ x. length (unanswered_in x)) a.lanes.items) (sym is) (get_or-le-sum_by (λ x. length (unanswered_in x)) a.lanes.items i old h) in
-    let e : sum_by (λ (xs : List Held). length xs) (map unanswered_in a.lanes.items) ≡ sum_by (λ x. length (unanswered_in x)) a.lanes.items = sum_of_map (λ (xs : List Held). length xs) unanswered_in a.lanes.items in
+    let le : length (unanswered_in old) ≤ sum_by (λ x. length (unanswered_in x)) a.lanes = subst (λ (l : Entries). length (unanswered_in l) ≤ sum_by (λ x. length (unanswered_in x)) a.lanes) (sym is) (get_or-le-sum_by (λ x. length (unanswered_in x)) a.lanes i old h) in
+    let e : sum_by (λ (xs : List Held). length xs) (map unanswered_in a.lanes) ≡ sum_by (λ x. length (unanswered_in x)) a.lanes = sum_of_map (λ (xs : List Held). length xs) unanswered_in a.lanes in
     let some : 0 < length old.entries = (first_at old.entries y y oldest).0 in
     let same : length (unanswered_in old) ≡ length old.entries = length-map old.entries held_of in
     let inside = core.inside in
@@ -234,9 +235,9 @@ some_inside a i old y core h is oldest =
 
 -- ---- its view
 
-pub view_answers : (a : Inside) (i : ℕ) (old new : Entries) (y : Entry) (f : Option Event) (o : Outcome) (ps : List (List Pin)) (n m : ℕ) → IsCore a → i < length a.lanes.items → old ≡ get_or a.lanes.items i old
+pub view_answers : (a : Inside) (i : ℕ) (old new : Entries) (y : Entry) (f : Option Event) (o : Outcome) (ps : List (List Pin)) (n m : ℕ) → IsCore a → i < length a.lanes → old ≡ get_or a.lanes i old
     → slice_get old.entries 0 ≡ Some y → new.entries ≡ drop 1 old.entries → ((e : Event) → f ≡ Some e → e.queue < length a.shape.queues) → outcome_of f ≡ o
-    → view_in (record { shape = a.shape; queues = a.queues; orders = resolved_orders a.orders y f; lanes = with_item a.lanes i new; pins = ps; inside = n; entries = m; shut = a.shut }) ≡ after_answer (view_in a) i o
+    → view_in (record { shape = a.shape; queues = a.queues; orders = resolved_orders a.orders y f; lanes = set a.lanes i new; pins = ps; links = a.links; inside = n; entries = m; shut = a.shut }) ≡ after_answer (view_in a) i o
 view_answers a i old new y f o ps n m core h is oldest items named same =
     same_parts a.shape (map waiting_in a.queues.items) _ (map next_in a.queues.items) _ _ _ _ _ a.shut refl refl
     (map-set places_in a.orders y.queue (resolved_in r y.place f) ∙ (by_kind (is_ordered (queue_of a.shape y.queue).kind) refl done.shown ∙ sym (ap (λ x. places_answered (view_in a) x o) (first_here a i old y h is oldest))))
@@ -249,7 +250,7 @@ view_answers a i old new y f o ps n m core h is oldest items named same =
     there = oldest_known a i old y core h is oldest
 
     done : IsResolved a i y f (is_ordered (queue_of a.shape y.queue).kind)
-    done = resolved_by a i y f core h (oldest_entry a.lanes.items i old y h is oldest) there named
+    done = resolved_by a i y f core h (oldest_entry a.lanes i old y h is oldest) there named
 
     here : places_at (view_in a) y.queue ≡ r.places
     here = places_here a y.queue core there
@@ -265,14 +266,14 @@ view_answers a i old new y f o ps n m core h is oldest items named same =
         ∙ sym (cond-false (is_ordered (queue_of a.shape y.queue).kind) _ (map places_in a.orders) plain))
 
 -- where no order is restored, one is inside less
-pub answer_leaves_room : (a : Inside) (i : ℕ) (old : Entries) (y : Entry) (o : Outcome) → IsCore a → i < length a.lanes.items → old ≡ get_or a.lanes.items i old → slice_get old.entries 0 ≡ Some y
+pub answer_leaves_room : (a : Inside) (i : ℕ) (old : Entries) (y : Entry) (o : Outcome) → IsCore a → i < length a.lanes → old ≡ get_or a.lanes i old → slice_get old.entries 0 ≡ Some y
     → is_ordered (queue_of a.shape y.queue).kind ≡ false → inside_of (after_answer (view_in a) i o) < bound_of a.shape
 answer_leaves_room a i old y o core h is oldest plain =
     let v : View = view_in a in
     let same : places_answered v (oldest_at v i) o ≡ v.places = ap (λ x. places_answered v x o) (first_here a i old y h is oldest) ∙ cond-false (is_ordered (queue_of a.shape y.queue).kind) _ v.places plain in
     let keeps : kept_in (after_answer v i o) ≡ kept_in v = ap (sum_by kept_of) same in
     let held : sum_by (λ (xs : List Held). length xs) (set v.unanswered i (drop 1 (unanswered_at v i))) + length (unanswered_at v i) ≡ sum_by (λ (xs : List Held). length xs) v.unanswered + length (drop 1 (unanswered_at v i)) =
-    sum_by-set (λ (xs : List Held). length xs) v.unanswered i (drop 1 (unanswered_at v i)) [] (subst (λ n. i < n) (sym (length-map a.lanes.items unanswered_in)) h) in
+    sum_by-set (λ (xs : List Held). length xs) v.unanswered i (drop 1 (unanswered_at v i)) [] (subst (λ n. i < n) (sym (length-map a.lanes unanswered_in)) h) in
     let some : 0 < length (unanswered_at v i) = omega (arith, (first_at old.entries y y oldest).0, ap length (unanswered_here a i old h is), length-map old.entries held_of) in
     let fewer : length (drop 1 (unanswered_at v i)) ≡ length (unanswered_at v i) - 1 = length-drop 1 (unanswered_at v i) in
     let within = core.within in

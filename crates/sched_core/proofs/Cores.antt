@@ -73,14 +73,14 @@ waiting_here a i old h is = get_or-map waiting_in a.queues.items i old [] h ∙ 
 pub next_here : (a : Inside) (i : ℕ) (old : Waits) → i < length a.queues.items → old ≡ get_or a.queues.items i old → next_at (view_in a) i ≡ old.next
 next_here a i old h is = get_or-map next_in a.queues.items i old 0 h ∙ ap next_in (sym is)
 
-pub unanswered_here : (a : Inside) (i : ℕ) (old : Entries) → i < length a.lanes.items → old ≡ get_or a.lanes.items i old → unanswered_at (view_in a) i ≡ unanswered_in old
-unanswered_here a i old h is = get_or-map unanswered_in a.lanes.items i old [] h ∙ ap unanswered_in (sym is)
+pub unanswered_here : (a : Inside) (i : ℕ) (old : Entries) → i < length a.lanes → old ≡ get_or a.lanes i old → unanswered_at (view_in a) i ≡ unanswered_in old
+unanswered_here a i old h is = get_or-map unanswered_in a.lanes i old [] h ∙ ap unanswered_in (sym is)
 
-pub in_view : (a : Inside) (i : ℕ) → i < length a.lanes.items → i < length (map unanswered_in a.lanes.items)
-in_view a i h = subst (λ n. i < n) (sym (length-map a.lanes.items unanswered_in)) h
+pub in_view : (a : Inside) (i : ℕ) → i < length a.lanes → i < length (map unanswered_in a.lanes)
+in_view a i h = subst (λ n. i < n) (sym (length-map a.lanes unanswered_in)) h
 
 -- the oldest event of the lane is the view's
-pub first_here : (a : Inside) (i : ℕ) (old : Entries) (y : Entry) → i < length a.lanes.items → old ≡ get_or a.lanes.items i old → slice_get old.entries 0 ≡ Some y → slice_get (unanswered_at (view_in a) i) 0 ≡ Some (held_of y)
+pub first_here : (a : Inside) (i : ℕ) (old : Entries) (y : Entry) → i < length a.lanes → old ≡ get_or a.lanes i old → slice_get old.entries 0 ≡ Some y → slice_get (unanswered_at (view_in a) i) 0 ≡ Some (held_of y)
 first_here a i old y h is oldest = ap (λ us. slice_get us 0) (unanswered_here a i old h is) ∙ first_of old.entries oldest
   where
     first_of : (ys : List Entry) → slice_get ys 0 ≡ Some y → slice_get (map held_of ys) 0 ≡ Some (held_of y)
@@ -97,11 +97,11 @@ room_set p ls i old new h is same room k d lt = by_case (cases_eq k i)
     within : k < length ls
     within = subst (λ n. k < n) (length-set ls i new) lt
 
-    by_case : (k ≡ i) ⊎ (k ≢ i) → depth_of p k ≤ (get_or (set ls i new) k d).capacity
+    by_case : (k ≡ i) ⊎ (k ≢ i) → (get_or (set ls i new) k d).capacity ≡ depth_of p k
     by_case (inl e) =
-        subst (λ (l : Entries). depth_of p k ≤ l.capacity) (sym (ap (λ n. get_or (set ls i new) n d) e ∙ get_or-set_same ls i new d h))
-        (subst (λ n. depth_of p k ≤ n) (sym same) (subst (λ (l : Entries). depth_of p k ≤ l.capacity) (ap (λ n. get_or ls n old) e ∙ sym is) (room k old within)))
-    by_case (inr differs) = subst (λ (l : Entries). depth_of p k ≤ l.capacity) (sym (get_or-set_other ls i k new d differs)) (room k d within)
+        ap (λ (l : Entries). l.capacity) (ap (λ n. get_or (set ls i new) n d) e ∙ get_or-set_same ls i new d h)
+        ∙ (same ∙ (ap (λ (l : Entries). l.capacity) is ∙ (ap (λ n. (get_or ls n old).capacity) (sym e) ∙ room k old within)))
+    by_case (inr differs) = ap (λ (l : Entries). l.capacity) (get_or-set_other ls i k new d differs) ∙ room k d within
 
 -- the slots of a queue that keeps them
 pub slots_set : (p : Plan) (qs : List Waits) (i : ℕ) (old new : Waits) → i < length qs → old ≡ get_or qs i old → new.slots ≡ old.slots → HaveSlots p qs → HaveSlots p (set qs i new)
@@ -137,7 +137,7 @@ waits_here_is qs i old h is = get_or_default qs i (no_waits 1 0) old h ∙ sym i
 
 pub core_accepts : (a : Inside) (i : ℕ) (old new : Waits) (e : Event) → IsCore a → inside_of (view_in a) < bound_of a.shape → entries_of (view_in a) < 2 ^ 63 → i < length a.queues.items → old ≡ get_or a.queues.items i old
     → new ≡ with_event old e → AreWaits new
-    → IsCore (record { shape = a.shape; queues = with_item a.queues i new; orders = a.orders; lanes = a.lanes; pins = a.pins; inside = a.inside + 1; entries = a.entries + 1; shut = a.shut })
+    → IsCore (record { shape = a.shape; queues = with_item a.queues i new; orders = a.orders; lanes = a.lanes; pins = a.pins; links = a.links; inside = a.inside + 1; entries = a.entries + 1; shut = a.shut })
 core_accepts a i old new e core fits fewer h is value waits =
     let more : length new.waiting ≡ length old.waiting + 1 = ap (λ (q : Waits). length q.waiting) value ∙ length_push old.waiting (record { number = old.next; event = e }) in
     let next : new.next ≡ old.next + 1 = ap (λ (q : Waits). q.next) value in
@@ -160,8 +160,9 @@ core_accepts a i old new e core fits fewer h is value waits =
       small = core.small;
       entries = omega arith;
       few = omega arith;
-      places = subst (λ q. ArePlaces a.shape (set a.queues.items i q) a.orders (map entries_in a.lanes.items)) (ap (λ q. with_event q e) (waits_here_is a.queues.items i old h is) ∙ sym value)
-          (accepted_places a.shape a.queues.items a.orders (map entries_in a.lanes.items) i e core.places (omega arith));
+      links = core.links;
+      places = subst (λ q. ArePlaces a.shape (set a.queues.items i q) a.orders (map entries_in a.lanes)) (ap (λ q. with_event q e) (waits_here_is a.queues.items i old h is) ∙ sym value)
+          (accepted_places a.shape a.queues.items a.orders (map entries_in a.lanes) i e core.places (omega arith));
     }
 
 -- two views of one shape with the same parts
@@ -175,9 +176,9 @@ pub same_view : (p : Plan) (w w' : List (List Numbered)) (n n' : List ℕ) (r : 
 same_view p w w' n n' r u u' b e f g = cc
 
 pub view_accepts : (a : Inside) (i : ℕ) (old new : Waits) (e : Event) → i < length a.queues.items → old ≡ get_or a.queues.items i old → new ≡ with_event old e
-    → view_in (record { shape = a.shape; queues = with_item a.queues i new; orders = a.orders; lanes = a.lanes; pins = a.pins; inside = a.inside + 1; entries = a.entries + 1; shut = a.shut }) ≡ after_accept (view_in a) i e
+    → view_in (record { shape = a.shape; queues = with_item a.queues i new; orders = a.orders; lanes = a.lanes; pins = a.pins; links = a.links; inside = a.inside + 1; entries = a.entries + 1; shut = a.shut }) ≡ after_accept (view_in a) i e
 view_accepts a i old new e h is value =
-    same_view a.shape _ _ _ _ (map places_in a.orders) (map unanswered_in a.lanes.items) _ a.shut
+    same_view a.shape _ _ _ _ (map places_in a.orders) (map unanswered_in a.lanes) _ a.shut
     (map-set waiting_in a.queues.items i new ∙ ap (set (map waiting_in a.queues.items) i)
     (ap (λ (q : Waits). q.waiting) value ∙ sym (ap (λ ws. ws ++ record { number = next_at (view_in a) i; event = e } ∷ []) (waiting_here a i old h is) ∙ ap (λ n. old.waiting ++ record { number = n; event = e } ∷ []) (next_here a i old h is))))
     (map-set next_in a.queues.items i new ∙ ap (set (map next_in a.queues.items) i) (ap (λ (q : Waits). q.next) value ∙ sym (ap (λ n. n + 1) (next_here a i old h is))))

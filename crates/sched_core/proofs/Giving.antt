@@ -30,22 +30,22 @@ use Rattle.sched_core.specs.declared.state.Core.TheInside.{Inside}
 
 -- ---- the lanes and the pins
 
-lanes_given : (a : Inside) (l : ℕ) (holder held : Entries) (y : Entry) → l < length a.lanes.items → holder ≡ get_or a.lanes.items l holder → held.entries ≡ holder.entries ++ y ∷ []
-    → map unanswered_in (set a.lanes.items l held) ≡ set (map unanswered_in a.lanes.items) l (unanswered_at (view_in a) l ++ held_of y ∷ [])
+lanes_given : (a : Inside) (l : ℕ) (holder held : Entries) (y : Entry) → l < length a.lanes → holder ≡ get_or a.lanes l holder → held.entries ≡ holder.entries ++ y ∷ []
+    → map unanswered_in (set a.lanes l held) ≡ set (map unanswered_in a.lanes) l (unanswered_at (view_in a) l ++ held_of y ∷ [])
 lanes_given a l holder held y k here given =
-    map-set unanswered_in a.lanes.items l held
-    ∙ ap (set (map unanswered_in a.lanes.items) l) (ap (map held_of) given ∙ (map_push held_of holder.entries y ∙ sym (ap (λ us. us ++ held_of y ∷ []) (unanswered_here a l holder k here))))
+    map-set unanswered_in a.lanes l held
+    ∙ ap (set (map unanswered_in a.lanes) l) (ap (map held_of) given ∙ (map_push held_of holder.entries y ∙ sym (ap (λ us. us ++ held_of y ∷ []) (unanswered_here a l holder k here))))
 
 -- the lane of an offer may have one event more of the slot, and its pin can count it
 pub offer_may : (a : Inside) (v : View) (l i s : ℕ) (w : Numbered) → IsCore a → view_in a ≡ v → IsOffer v l i w → s ≡ slot_of a.shape i w.event.flow → may_pin (pin_in a.pins i s) l ≡ true
 offer_may a v l i s w core same offered slot =
     let offer : IsOffer (view_in a) l i w = subst (λ u. IsOffer u l i w) (sym same) offered in
-    alone_may a.shape (map unanswered_in a.lanes.items) a.pins i s l core.pins offer.queue (λ atomic. subst (HasNoOther (view_in a) l i) (sym slot) (offer.alone atomic))
+    alone_may a.shape (map unanswered_in a.lanes) a.pins i s l core.pins offer.queue (λ atomic. subst (HasNoOther (view_in a) l i) (sym slot) (offer.alone atomic))
 
 pub offer_room : (a : Inside) (v : View) (l i s : ℕ) (w : Numbered) → IsCore a → view_in a ≡ v → IsOffer v l i w → s ≡ slot_of a.shape i w.event.flow → (pin_in a.pins i s).count < 64
 offer_room a v l i s w core same offered slot =
     let offer : IsOffer (view_in a) l i w = subst (λ u. IsOffer u l i w) (sym same) offered in
-    pin_room a.shape (map unanswered_in a.lanes.items) a.pins i s l core.pins core.limits offer.queue offer.lane offer.room (offer_may a v l i s w core same offered slot)
+    pin_room a.shape (map unanswered_in a.lanes) a.pins i s l core.pins core.limits offer.queue offer.lane offer.room (offer_may a v l i s w core same offered slot)
 
 -- ---- the buffers
 
@@ -74,22 +74,22 @@ offer_place a v l i w core same offered = by_kind (cases_Bool (is_ordered (queue
         ap (λ n. (n == 0) || nat_lt (length r.places) n) none
 
 record IsHanded (a : Inside) (l i : ℕ) (w : Numbered) (y : Entry) (b : Bool) : Type 0 where
-  places : ArePlaces a.shape (set a.queues.items i (without_number (waits_at a.queues.items i) w.number)) (handed_orders a.orders i w.number) (set (map entries_in a.lanes.items) l (entries_at (map entries_in a.lanes.items) l ++ y ∷ []))
+  places : ArePlaces a.shape (set a.queues.items i (without_number (waits_at a.queues.items i) w.number)) (handed_orders a.orders i w.number) (set (map entries_in a.lanes) l (entries_at (map entries_in a.lanes) l ++ y ∷ []))
   kept : kept_of (handed (order_at a.orders i) w.number).places ≡ kept_of (order_at a.orders i).places
   shown : (handed (order_at a.orders i) w.number).places ≡ cond b ((order_at a.orders i).places ++ open_place w.number ∷ []) (order_at a.orders i).places
 
-handed_by : (a : Inside) (l i : ℕ) (w : Numbered) (y : Entry) → IsCore a → IsOffer (view_in a) l i w → Contains (waits_at a.queues.items i).waiting w → w.number < (waits_at a.queues.items i).next → l < length a.lanes.items
+handed_by : (a : Inside) (l i : ℕ) (w : Numbered) (y : Entry) → IsCore a → IsOffer (view_in a) l i w → Contains (waits_at a.queues.items i).waiting w → w.number < (waits_at a.queues.items i).next → l < length a.lanes
     → y.queue ≡ i → y.number ≡ w.number → (is_restoring (order_at a.orders i) ≡ true → y.place ≡ next_number (order_at a.orders i)) → IsHanded a l i w y (is_ordered (queue_of a.shape i).kind)
 handed_by a l i w y core offer waits below k queue number place = by_kind (is_ordered (queue_of a.shape i).kind) refl
   where
     us : List (List Entry)
-    us = map entries_in a.lanes.items
+    us = map entries_in a.lanes
 
     r : Reordering
     r = order_at a.orders i
 
     lane : l < length us
-    lane = subst (λ n. l < n) (sym (length-map a.lanes.items entries_in)) k
+    lane = subst (λ n. l < n) (sym (length-map a.lanes entries_in)) k
 
     depth : r.depth ≡ kept_room (queue_of a.shape i)
     depth = (core.places.each i offer.queue).room
@@ -128,11 +128,11 @@ handed_by a l i w y core offer waits below k queue number place = by_kind (is_or
 -- ---- the core
 
 pub core_gives : (a : Inside) (i l : ℕ) (old new : Waits) (holder held : Entries) (w : Numbered) (y : Entry) (ps : List (List Pin)) → IsCore a → IsOffer (view_in a) l i w
-    → i < length a.queues.items → old ≡ get_or a.queues.items i old → l < length a.lanes.items → holder ≡ get_or a.lanes.items l holder → Contains old.waiting w
+    → i < length a.queues.items → old ≡ get_or a.queues.items i old → l < length a.lanes → holder ≡ get_or a.lanes l holder → Contains old.waiting w
     → new ≡ without_number old w.number → AreWaits new → held.entries ≡ holder.entries ++ y ∷ [] → held.capacity ≡ holder.capacity
     → y.queue ≡ i → y.number ≡ w.number → y.slot ≡ slot_of a.shape i w.event.flow → (is_restoring (order_at a.orders i) ≡ true → y.place ≡ next_number (order_at a.orders i))
     → ps ≡ with_pin a.pins i y.slot (pinned (pin_in a.pins i y.slot) l)
-    → IsCore (record { shape = a.shape; queues = with_item a.queues i new; orders = handed_orders a.orders i w.number; lanes = with_item a.lanes l held; pins = ps; inside = a.inside; entries = a.entries; shut = a.shut })
+    → IsCore (record { shape = a.shape; queues = with_item a.queues i new; orders = handed_orders a.orders i w.number; lanes = set a.lanes l held; pins = ps; links = a.links; inside = a.inside; entries = a.entries; shut = a.shut })
 core_gives a i l old new holder held w y ps core offer h is k here waits value sound_new given room queue number slot place pins =
     let sound = queue_here a i old core h is in
     let same : waits_at a.queues.items i ≡ old = waits_here_is a.queues.items i old h is in
@@ -143,11 +143,11 @@ core_gives a i l old new holder held w y ps core offer h is k here waits value s
     let done = handed_by a l i w y core offer (subst (λ (q : Waits). Contains q.waiting w) (sym same) waits) (subst (λ (q : Waits). w.number < q.next) (sym same) below) k queue number place in
     let count = core.places.count in
     let there = offer.queue in
-    let keeps = kept_after a (record { shape = a.shape; queues = with_item a.queues i new; orders = handed_orders a.orders i w.number; lanes = with_item a.lanes l held; pins = ps; inside = a.inside; entries = a.entries; shut = a.shut }) i (handed (order_at a.orders i) w.number) refl (omega arith) in
+    let keeps = kept_after a (record { shape = a.shape; queues = with_item a.queues i new; orders = handed_orders a.orders i w.number; lanes = set a.lanes l held; pins = ps; links = a.links; inside = a.inside; entries = a.entries; shut = a.shut }) i (handed (order_at a.orders i) w.number) refl (omega arith) in
     let still = done.kept in
     let in_queues = waiting_sum a.queues.items i old new h is in
     let numbers = next_sum a.queues.items i old new h is in
-    let in_lanes = held_sum a.lanes.items l holder held k here in
+    let in_lanes = held_sum a.lanes l holder held k here in
     let inside = core.inside in
     let within = core.within in
     let entries = core.entries in
@@ -155,23 +155,24 @@ core_gives a i l old new holder held w y ps core offer h is k here waits value s
     record {
       limits = core.limits;
       queues = length-set a.queues.items i new ∙ core.queues;
-      lanes = length-set a.lanes.items l held ∙ core.lanes;
+      lanes = length-set a.lanes l held ∙ core.lanes;
       sound = All-set (IsQueueOf (bound_of a.shape)) a.queues.items i new (record { room = ap (λ (q : Waits). q.room) value ∙ sound.room; waits = sound_new }) core.sound;
       slots = slots_set a.shape a.queues.items i old new h is (ap (λ (q : Waits). q.slots) value) core.slots;
-      room = room_set a.shape a.lanes.items l holder held k here room core.room;
+      room = room_set a.shape a.lanes l holder held k here room core.room;
       pins =
           subst (λ us. ArePins a.shape us ps) (sym (lanes_given a l holder held y k here given))
-          (subst (ArePins a.shape (set (map unanswered_in a.lanes.items) l (unanswered_at (view_in a) l ++ held_of y ∷ []))) (sym (pins ∙ ap (λ q. with_pin a.pins q y.slot (pinned (pin_in a.pins q y.slot) l)) (sym queue)))
-          (pins_given a.shape (map unanswered_in a.lanes.items) a.pins l (held_of y) core.pins (in_view a l k) known within_slots may));
+          (subst (ArePins a.shape (set (map unanswered_in a.lanes) l (unanswered_at (view_in a) l ++ held_of y ∷ []))) (sym (pins ∙ ap (λ q. with_pin a.pins q y.slot (pinned (pin_in a.pins q y.slot) l)) (sym queue)))
+          (pins_given a.shape (map unanswered_in a.lanes) a.pins l (held_of y) core.pins (in_view a l k) known within_slots may));
       inside = omega arith;
       within = omega arith;
       small = core.small;
       entries = omega arith;
       few = omega arith;
+      links = core.links;
       places =
-          subst (λ q. ArePlaces a.shape (set a.queues.items i q) (handed_orders a.orders i w.number) (map entries_in (set a.lanes.items l held))) (ap (λ q. without_number q w.number) same ∙ sym value)
+          subst (λ q. ArePlaces a.shape (set a.queues.items i q) (handed_orders a.orders i w.number) (map entries_in (set a.lanes l held))) (ap (λ q. without_number q w.number) same ∙ sym value)
           (subst (ArePlaces a.shape (set a.queues.items i (without_number (waits_at a.queues.items i) w.number)) (handed_orders a.orders i w.number))
-          (sym (map-set entries_in a.lanes.items l held ∙ ap (set (map entries_in a.lanes.items) l) (given ∙ sym (ap (λ ys. ys ++ y ∷ []) (entries_here a.lanes.items l holder k here))))) done.places);
+          (sym (map-set entries_in a.lanes l held ∙ ap (set (map entries_in a.lanes) l) (given ∙ sym (ap (λ ys. ys ++ y ∷ []) (entries_here a.lanes l holder k here))))) done.places);
     }
   where
     known : y.queue < length a.shape.queues
@@ -186,10 +187,10 @@ core_gives a i l old new holder held w y ps core offer h is k here waits value s
     may = subst (λ q. may_pin (pin_in a.pins q y.slot) l ≡ true) (sym queue) (offer_may a (view_in a) l i y.slot w core refl offer slot)
 
 pub view_gives : (a : Inside) (i l : ℕ) (old new : Waits) (holder held : Entries) (w : Numbered) (y : Entry) (ps : List (List Pin)) → IsCore a → IsOffer (view_in a) l i w
-    → i < length a.queues.items → old ≡ get_or a.queues.items i old → l < length a.lanes.items → holder ≡ get_or a.lanes.items l holder → Contains old.waiting w
+    → i < length a.queues.items → old ≡ get_or a.queues.items i old → l < length a.lanes → holder ≡ get_or a.lanes l holder → Contains old.waiting w
     → new ≡ without_number old w.number → held.entries ≡ holder.entries ++ y ∷ [] → held_of y ≡ record { queue = i; number = w.number; slot = slot_of a.shape i w.event.flow }
     → (is_restoring (order_at a.orders i) ≡ true → y.place ≡ next_number (order_at a.orders i))
-    → view_in (record { shape = a.shape; queues = with_item a.queues i new; orders = handed_orders a.orders i w.number; lanes = with_item a.lanes l held; pins = ps; inside = a.inside; entries = a.entries; shut = a.shut }) ≡ after_give (view_in a) l i w.number
+    → view_in (record { shape = a.shape; queues = with_item a.queues i new; orders = handed_orders a.orders i w.number; lanes = set a.lanes l held; pins = ps; links = a.links; inside = a.inside; entries = a.entries; shut = a.shut }) ≡ after_give (view_in a) l i w.number
 view_gives a i l old new holder held w y ps core offer h is k here waits value given entry place =
     let n : ℕ = w.number in
     let v : View = view_in a in
@@ -199,7 +200,7 @@ view_gives a i l old new holder held w y ps core offer h is k here waits value g
     (map-set next_in a.queues.items i new ∙ (ap (set (map next_in a.queues.items) i) (ap (λ (q : Waits). q.next) value ∙ sym (next_here a i old h is)) ∙ set-get_or (map next_in a.queues.items) i 0))
     (map-set places_in a.orders i (handed r n) ∙ by_kind (is_ordered (queue_of a.shape i).kind) refl done.shown)
     (lanes_given a l holder held y k here given
-    ∙ ap (λ x. set (map unanswered_in a.lanes.items) l (unanswered_at v l ++ x ∷ [])) (entry ∙ ap (λ s. record { queue = i; number = n; slot = s }) (sym (ap (slot_in v i) found))))
+    ∙ ap (λ x. set (map unanswered_in a.lanes) l (unanswered_at v l ++ x ∷ [])) (entry ∙ ap (λ s. record { queue = i; number = n; slot = s }) (sym (ap (slot_in v i) found))))
   where
     r : Reordering
     r = order_at a.orders i

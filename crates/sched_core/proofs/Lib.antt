@@ -3,9 +3,11 @@ pub mod Buffers
 pub mod Cores
 pub mod FirstOnes
 pub mod Giving
+pub mod Roomy
 pub mod KeptLists
 pub mod OpenLanes
 pub mod Leaving
+pub mod Links
 pub mod News
 pub mod Offers
 pub mod OrderFacts

@@ -20,7 +20,9 @@ use Rattle.order_parts.specs.Reorder.{Reordering, empty}
 use Rattle.sched_core.proofs.OrderFacts.{new_places, order_small}
 use Rattle.sched_core.specs.Ordered.{kept_of, order_at, places_in}
 use Rattle.sched_core.specs.Inner.{IsQueueOf, AreEmptyQueues, IsBare, IsEmptyLane, AreEmptyLanes, held_of, slots_for}
+use Rattle.sched_core.specs.Links.{AreLinks}
 use Rattle.sched_core.specs.Pinned.{AreFreePins}
+use Rattle.place_set.specs.declared.places.Places.{Places}
 use Rattle.sched_core.specs.View.{waiting_in, next_in, unanswered_in, entries_in, view_in, IsCore}
 use Rattle.order_parts.specs.declared.history.Entry.{Entry}
 use Rattle.order_parts.specs.History.{Entries}
@@ -53,12 +55,11 @@ lanes_more p n ls l all empty =
       empty = All-push IsBare ls l all.empty (ap (λ (x : Entries). x.entries) empty);
     }
   where
-    by_case : (k : ℕ) (d : Entries) → k < length ls + 1 → (k < length ls) ⊎ (length ls ≤ k) → depth_of p k ≤ (get_or (ls ++ l ∷ []) k d).capacity
-    by_case k d h (inl lt) = subst (λ (x : Entries). depth_of p k ≤ x.capacity) (sym (get_or_append_left ls (l ∷ []) d k lt)) (all.room k d lt)
+    by_case : (k : ℕ) (d : Entries) → k < length ls + 1 → (k < length ls) ⊎ (length ls ≤ k) → (get_or (ls ++ l ∷ []) k d).capacity ≡ depth_of p k
+    by_case k d h (inl lt) = ap (λ (x : Entries). x.capacity) (get_or_append_left ls (l ∷ []) d k lt) ∙ all.room k d lt
     by_case k d h (inr le) =
         let here : length ls ≡ k = omega arith in
-        let room : depth_of p n ≤ l.capacity = subst (λ (x : Entries). depth_of p n ≤ x.capacity) (sym empty) (omega arith) in
-        subst (λ (x : Entries). depth_of p k ≤ x.capacity) (sym (get_or_push ls l d k here)) (subst (λ m. depth_of p m ≤ l.capacity) (sym all.count ∙ here) room)
+        ap (λ (x : Entries). x.capacity) (get_or_push ls l d k here ∙ empty) ∙ ap (depth_of p) (sym all.count ∙ here)
 
 -- ---- the core
 
@@ -107,13 +108,13 @@ fresh_order p q h = get_or-map (λ (d : QueueDraft). empty (kept_room d)) p.queu
 nothing_held : (ls : List Entries) (p : Plan) (n : ℕ) → AreEmptyLanes p n ls → sum_by (λ (xs : List Held). length xs) (map unanswered_in ls) ≡ 0
 nothing_held ls p n empty = sum_of_map (λ (xs : List Held). length xs) unanswered_in ls ∙ sum_of_none (λ x. length (unanswered_in x)) ls (All-weaker IsBare (λ (l : Entries). length (unanswered_in l) ≡ 0) (λ l e. ap (λ (ys : List Entry). length (map held_of ys)) e) ls empty.empty)
 
-pub core_new : (p : Plan) (qs : Vec Waits Global) (ls : Vec Entries Global) (ps : List (List Pin)) → IsWithinLimits p → bound_of p < 2 ^ 64 → AreEmptyQueues p (length p.queues) qs.items → AreEmptyLanes p (lanes_of p) ls.items → AreFreePins p (length p.queues) ps
-    → IsCore (record { shape = p; queues = qs; orders = new_orders p; lanes = ls; pins = ps; inside = 0; entries = 0; shut = false })
-core_new p qs ls ps limits small queues lanes pins =
+pub core_new : (p : Plan) (qs : Vec Waits Global) (ls : List Entries) (ps : List (List Pin)) (ks : Vec Places Global) → IsWithinLimits p → bound_of p < 2 ^ 64 → AreEmptyQueues p (length p.queues) qs.items → AreEmptyLanes p (lanes_of p) ls → AreFreePins p (length p.queues) ps → AreLinks p (length p.queues) ks.items
+    → IsCore (record { shape = p; queues = qs; orders = new_orders p; lanes = ls; pins = ps; links = ks; inside = 0; entries = 0; shut = false })
+core_new p qs ls ps ks limits small queues lanes pins links =
     let waits = nothing_waits p qs.items (length p.queues) queues in
     let numbers = nothing_numbered p qs.items (length p.queues) queues in
     let kept = nothing_kept p in
-    let held = nothing_held ls.items p (lanes_of p) lanes in
+    let held = nothing_held ls p (lanes_of p) lanes in
     record {
       limits = limits;
       small = small;
@@ -122,24 +123,25 @@ core_new p qs ls ps limits small queues lanes pins =
       sound = λ k d lt. empty_is_queue p k _ limits (omega (arith, lt, queues.count)) (queues.empty k d lt);
       slots = λ k d lt. ap (λ (x : Waits). x.slots) (queues.empty k d lt);
       room = lanes.room;
-      pins = pins_new p (map unanswered_in ls.items) ps pins (All-map (λ us. us ≡ []) unanswered_in ls.items (All-weaker IsBare (λ (l : Entries). unanswered_in l ≡ []) (λ l e. ap (map held_of) e) ls.items lanes.empty));
+      pins = pins_new p (map unanswered_in ls) ps pins (All-map (λ us. us ≡ []) unanswered_in ls (All-weaker IsBare (λ (l : Entries). unanswered_in l ≡ []) (λ l e. ap (map held_of) e) ls lanes.empty));
       inside = omega arith;
       within = omega arith;
       entries = omega arith;
       few = omega arith;
+      links = links;
       places =
-          new_places p qs.items (new_orders p) (map entries_in ls.items) queues.count (length-map p.queues (λ (q : QueueDraft). empty (kept_room q))) (fresh_order p) (λ q h. order_small p q limits.orders h)
-          (All-map (λ (ys : List Entry). ys ≡ []) entries_in ls.items lanes.empty);
+          new_places p qs.items (new_orders p) (map entries_in ls) queues.count (length-map p.queues (λ (q : QueueDraft). empty (kept_room q))) (fresh_order p) (λ q h. order_small p q limits.orders h)
+          (All-map (λ (ys : List Entry). ys ≡ []) entries_in ls lanes.empty);
     }
 
-pub view_new : (p : Plan) (qs : Vec Waits Global) (ls : Vec Entries Global) (ps : List (List Pin)) → AreEmptyQueues p (length p.queues) qs.items → AreEmptyLanes p (lanes_of p) ls.items → view_in (record { shape = p; queues = qs; orders = new_orders p; lanes = ls; pins = ps; inside = 0; entries = 0; shut = false }) ≡ view_of p []
+pub view_new : (p : Plan) (qs : Vec Waits Global) (ls : List Entries) (ps : List (List Pin)) (ks : Vec Places Global) → AreEmptyQueues p (length p.queues) qs.items → AreEmptyLanes p (lanes_of p) ls → view_in (record { shape = p; queues = qs; orders = new_orders p; lanes = ls; pins = ps; links = ks; inside = 0; entries = 0; shut = false }) ≡ view_of p []
 unfolding view_of
-view_new p qs ls ps queues lanes =
+view_new p qs ls ps ks queues lanes =
     same_parts p _ _ _ _ _ _ _ _ false
     (fill_by_all (waiting []) (map waiting_in qs.items) (length p.queues) [] (length-map qs.items waiting_in ∙ queues.count) (λ k h. get_or_empty k h ∙ sym (waiting_at_none k)))
     (fill_by_all (λ q. length (accepted [] q)) (map next_in qs.items) (length p.queues) 0 (length-map qs.items next_in ∙ queues.count) (λ k h. get_or_zero k h ∙ sym (ap length (accepted_at_none k))))
     (fill_by_all (places p []) (map places_in (new_orders p)) (length p.queues) [] (long places_in) (λ k h. no_places p k [] (subst (λ n. k < n) (sym (long places_in)) h) ∙ sym (places_at_none p k)))
-    (fill_by_all (unanswered_slots p []) (map unanswered_in ls.items) (lanes_of p) [] (length-map ls.items unanswered_in ∙ lanes.count) (λ k h. none_held k h ∙ sym (unanswered_at_none p k)))
+    (fill_by_all (unanswered_slots p []) (map unanswered_in ls) (lanes_of p) [] (length-map ls unanswered_in ∙ lanes.count) (λ k h. none_held k h ∙ sym (unanswered_at_none p k)))
   where
     long : (f : Reordering → List Place) → length (map f (new_orders p)) ≡ length p.queues
     long f = length-map (new_orders p) f ∙ length-map p.queues (λ (q : QueueDraft). empty (kept_room q))
@@ -154,7 +156,7 @@ view_new p qs ls ps queues lanes =
         All-map (λ n. n ≡ 0) next_in qs.items (λ i d lt. ap (λ (x : Waits). x.next) (queues.empty i d lt))
         k 0 (subst (λ n. k < n) (sym (length-map qs.items next_in ∙ queues.count)) h)
 
-    none_held : (k : ℕ) → k < lanes_of p → get_or (map unanswered_in ls.items) k [] ≡ []
+    none_held : (k : ℕ) → k < lanes_of p → get_or (map unanswered_in ls) k [] ≡ []
     none_held k h =
-        All-map (λ us. us ≡ []) unanswered_in ls.items (All-weaker IsBare (λ (l : Entries). unanswered_in l ≡ []) (λ l e. ap (map held_of) e) ls.items lanes.empty)
-        k [] (subst (λ n. k < n) (sym (length-map ls.items unanswered_in ∙ lanes.count)) h)
+        All-map (λ us. us ≡ []) unanswered_in ls (All-weaker IsBare (λ (l : Entries). unanswered_in l ≡ []) (λ l e. ap (map held_of) e) ls lanes.empty)
+        k [] (subst (λ n. k < n) (sym (length-map ls unanswered_in ∙ lanes.count)) h)

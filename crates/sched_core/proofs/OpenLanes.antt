@@ -2,25 +2,31 @@
 use Rattle.std.proofs.Common.{◌≡◌, ◌≢◌, ℕ, ◌+◌, ◌-◌, ◌<◌, ◌≤◌, Bool, true, false, not, cond, nat_le, ◌==◌, List, [], ◌∷◌, length, map, get_or, All, Option, Some, None, inl, inr, ◌⊎◌, ⊎_elim, refl, sym, ap, ◌∙◌, subst, arith, eqb-true, if◌then◌else◌}
 use Rattle.std.specs.Prelude.{◌↔◌}
 use Rattle.std.specs.Option.{IfSome, IfNone}
-use Rattle.std.proofs.lemmas.Bool.{and_from, and_parts, and_right, cases_eq, cases_lt, false≢true, leb-true, leb-false}
+use Rattle.std.proofs.lemmas.Bool.{and_from, and_parts, and_right, cases_eq, cases_lt, false≢true, false_from_ne_true, leb-true, leb-false}
 use Rattle.evt_types.proofs.FlowLanes.{serves_port, serves_flow, port_is_lane}
-use Rattle.evt_types.specs.Plan.{Plan, lanes_of, lanes_at, lanes_by_slot, flow_lanes, flow_at, slot_lanes, is_flows, is_lane_of, has_flow_lanes, serves, queue_of, is_atomic, port_of}
+use Rattle.evt_types.specs.Plan.{Plan, depth_of, lanes_of, lanes_at, lanes_by_slot, flow_lanes, flow_at, slot_lanes, is_flows, is_lane_of, has_flow_lanes, serves, queue_of, is_atomic, port_of}
 use Rattle.evt_types.specs.declared.flows.FlowLane.{FlowLane}
 use Rattle.std.specs.List.{flat_map, range_with_len}
 use Rattle.std.proofs.lemmas.List.Elements.{All-nil, All-map, All-append, All-head, All-tail}
 use Rattle.std.proofs.lemmas.List.Concat.{flat_map-cons}
+use Rattle.std.proofs.lemmas.List.{length-map}
 use Rattle.std.proofs.lemmas.Option.{get_or_from_slice_get, slice_get_within}
 use Rattle.lists.specs.Lists.{has}
-use Rattle.place_set.specs.Places.{Has, IsFirst, SameBut}
+use Rattle.place_set.specs.Places.{Has, IsEmpty, IsFirst, SameBut}
 use Rattle.place_set.specs.declared.places.Places.{Places}
 use Rattle.sched_core.proofs.Offers.{not_itself, not_better, not_better_too}
 use Rattle.sched_core.proofs.Pinned.{alone_may}
-use Rattle.sched_core.specs.Inner.{slots_for}
-use Rattle.sched_core.specs.Offered.{AreOpenLanes, FitsSlot, HasAllowed, IsOpenLane, MayHold, better_of}
+use Rattle.order_parts.specs.History.{entries_of}
+use Rattle.sched_core.proofs.Cores.{unanswered_here}
+use Rattle.sched_core.proofs.Roomy.{lane_is}
+use Rattle.sched_core.specs.Histories.{AreRoomy, HasRoom, lane_in}
+use Rattle.sched_core.specs.Inner.{held_of, slots_for}
+use Rattle.sched_core.specs.Links.{AreLinksOf}
+use Rattle.sched_core.specs.Offered.{AreOpenLanes, FitsSlot, HasAllowed, HasPlace, IsOpenLane, MayHold, better_of}
 use Rattle.sched_core.specs.Pinned.{IsSlotOf, MayGo, pin_in, pins_at, slots_of}
 use Rattle.sched_core.specs.View.{view_in, unanswered_in, IsCore}
 use Rattle.sched_core.specs.declared.state.Core.TheInside.{Inside}
-use Rattle.transcripts.specs.Choice.{Passed, HasNoOther, IsBetterLane}
+use Rattle.transcripts.specs.Choice.{Passed, HasNoOther, IsBetterLane, has_bounced}
 use Rattle.transcripts.specs.Standing.{View, unanswered_at}
 
 -- ---- a walk over lanes
@@ -182,27 +188,49 @@ pub held_none : (v : View) (s : Passed) (q slot : ℕ) (lanes : Places) (o : Opt
 held_none v s q slot lanes None ports are none = λ l fits. none l (fits_hold v s q slot lanes ports are l fits)
 held_none v s q slot lanes (Some l) ports are none = tt
 
--- the open ones of the first lanes
-abbrev pub AreOpenBelow : View → Passed → ℕ → ℕ → Places → Type 0
-AreOpenBelow v s q n lanes = (l : ℕ) → Has lanes l ↔ ((l < n) × IsOpenLane v s q l)
+-- where a queue has no place for an event more, no lane is open to it
+pub shut_open : (v : View) (s : Passed) (q : ℕ) (lanes : Places) → IsEmpty lanes → ¬ HasPlace v q → AreOpenLanes v s q lanes
+shut_open v s q lanes none full l = (λ has. absurd (none l has), λ opened. absurd (full opened.places))
 
-pub opens_begin : (v : View) (s : Passed) (q : ℕ) (lanes : Places) → ((l : ℕ) → ¬ Has lanes l) → AreOpenBelow v s q 0 lanes
-opens_begin v s q lanes none l = (λ has. absurd (none l has), λ both. let lt = both.0 in absurd (omega arith))
+-- how many events of a lane are unanswered
+pub held_here : (a : Inside) (l : ℕ) → l < length a.lanes → length (unanswered_at (view_in a) l) ≡ length (lane_in a.lanes l).entries
+held_here a l h = ap length (unanswered_here a l (lane_in a.lanes l) h (lane_is a.lanes l h)) ∙ length-map (lane_in a.lanes l).entries held_of
 
-pub opens_on : (v : View) (s : Passed) (q n : ℕ) (lanes more : Places) → IsOpenLane v s q n → Has more n → SameBut n lanes more → AreOpenBelow v s q n lanes → AreOpenBelow v s q (n + 1) more
-opens_on v s q n lanes more opened here others below l = (
-  λ has. ⊎_elim (λ e. (omega (arith, e), subst (IsOpenLane v s q) (sym e) opened)) (λ ne. let was = (below l).0 ((others l ne).0 has) in let lt = was.0 in (omega arith, was.1)) (cases_eq l n),
-  λ both. ⊎_elim (λ e. subst (Has more) (sym e) here) (λ ne. let lt = both.0 in (others l ne).1 ((below l).1 (omega (arith, ne), both.1))) (cases_eq l n),
+-- the room of a lane, by its history
+pub room_here : (a : Inside) (l : ℕ) → IsCore a → l < length a.lanes → HasRoom a.lanes l ↔ (length (unanswered_at (view_in a) l) < depth_of a.shape l)
+room_here a l core h =
+    let held = held_here a l h in
+    let room : (lane_in a.lanes l).capacity ≡ depth_of a.shape l = core.room l (entries_of [] 0) h in
+    (λ less. omega (arith, less, held, room), λ less. omega (arith, less, held, room))
+
+-- the open ones are those that serve the queue and have room, without those that are passed over
+pub words_open : (a : Inside) (s : Passed) (q : ℕ) (links roomy both closed lanes : Places) → IsCore a → HasPlace (view_in a) q → AreLinksOf a.shape q links → AreRoomy a.lanes roomy
+    → ((l : ℕ) → l < 64 → Has closed l ↔ (has_bounced s l ≡ true)) → ((l : ℕ) → Has both l ↔ (Has links l × Has roomy l)) → ((l : ℕ) → Has lanes l ↔ (Has both l × ¬ Has closed l)) → AreOpenLanes (view_in a) s q lanes
+words_open a s q links roomy both closed lanes core place are_links are_roomy are_closed are_both are_lanes l = (
+  λ has.
+      let kept = (are_lanes l).0 has in
+      let two = (are_both l).0 kept.0 in
+      let linked = (are_links l).0 two.0 in
+      record {
+        lane = linked.0;
+        ready = false_from_ne_true (has_bounced s l) (λ bounced. kept.1 ((are_closed l (few linked.0)).1 bounced));
+        linked = linked.1;
+        room = (room_here a l core (within linked.0)).0 ((are_roomy l (within linked.0) (few linked.0)).0 two.1);
+        places = place;
+      },
+  λ opened.
+      let h = opened.lane in
+      (are_lanes l).1 (
+        (are_both l).1 ((are_links l).1 (h, opened.linked), (are_roomy l (within h) (few h)).1 ((room_here a l core (within h)).1 opened.room)),
+        λ shut. false≢true (sym opened.ready ∙ (are_closed l (few h)).0 shut),
+      ),
 )
+  where
+    few : l < length a.shape.ports → l < 64
+    few h = let count = core.limits.port_count.1 in omega (arith, h, count)
 
-pub opens_past : (v : View) (s : Passed) (q n : ℕ) (lanes : Places) → (IsOpenLane v s q n → ⊥) → AreOpenBelow v s q n lanes → AreOpenBelow v s q (n + 1) lanes
-opens_past v s q n lanes shut below l = (
-  λ has. let was = (below l).0 has in let lt = was.0 in (omega arith, was.1),
-  λ both. ⊎_elim (λ e. absurd (shut (subst (IsOpenLane v s q) e both.1))) (λ ne. let lt = both.0 in (below l).1 (omega (arith, ne), both.1)) (cases_eq l n),
-)
-
-pub opens_all : (v : View) (s : Passed) (q n : ℕ) (lanes : Places) → length v.shape.ports ≤ n → AreOpenBelow v s q n lanes → AreOpenLanes v s q lanes
-opens_all v s q n lanes all below l = (λ has. ((below l).0 has).1, λ opened. let lt = opened.lane in (below l).1 (omega arith, opened))
+    within : l < length a.shape.ports → l < length a.lanes
+    within h = omega (arith, port_is_lane a.shape l h, core.lanes)
 
 -- ---- the slots of ports
 
@@ -219,4 +247,4 @@ pub ports_allowed : (a : Inside) (s : Passed) (q : ℕ) (lanes slots : Places) �
 ports_allowed a s q lanes slots core h ports are may t within some =
     let each = may t (slot_of_pins a.shape q (length (pins_at a.pins q)) t (core.pins.slots q h) within) in
     let fits = some.1 in
-    each.1 (some.0, (are some.0).1 (fits_open (view_in a) s q t some.0 ports fits), alone_may a.shape (map unanswered_in a.lanes.items) a.pins q t some.0 core.pins h fits.alone)
+    each.1 (some.0, (are some.0).1 (fits_open (view_in a) s q t some.0 ports fits), alone_may a.shape (map unanswered_in a.lanes) a.pins q t some.0 core.pins h fits.alone)

@@ -22,6 +22,6 @@ core_sound a core =
           let room = core.places.each q h in
           subst (λ xs. length xs ≤ kept_room (queue_of a.shape q)) (sym (places_here a q core h)) (omega (arith, room.room, room.within));
       there = λ l h lane ordered is.
-          let within : l < length a.lanes.items = omega (arith, core.lanes, lane) in
-          known_of a.shape (map unanswered_in a.lanes.items) a.pins l h core.pins (in_view a l within) is;
+          let within : l < length a.lanes = omega (arith, core.lanes, lane) in
+          known_of a.shape (map unanswered_in a.lanes) a.pins l h core.pins (in_view a l within) is;
     }

@@ -31,9 +31,9 @@ held_of y = record { queue = y.queue; number = y.number; slot = y.slot }
 abbrev pub IsEmptyLane : ℕ → Entries → Type 0
 IsEmptyLane depth l = l ≡ entries_of [] depth
 
--- each lane has room for what its holder may hold
+-- each lane has room for just what its holder may hold
 abbrev pub HaveRoom : Plan → List Entries → Type 0
-HaveRoom p ls = (k : ℕ) (d : Entries) → k < length ls → depth_of p k ≤ (slice_index_or ls k d).capacity
+HaveRoom p ls = (k : ℕ) (d : Entries) → k < length ls → (slice_index_or ls k d).capacity ≡ depth_of p k
 
 abbrev pub IsBare : Entries → Type 0
 IsBare l = l.entries ≡ []

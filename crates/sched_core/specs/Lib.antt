@@ -1,5 +1,7 @@
 pub mod Answered
+pub mod Histories
 pub mod Inner
+pub mod Links
 pub mod Offered
 pub mod Ordered
 pub mod Orders

@@ -23,6 +23,10 @@ pub record FitsSlot (v : View) (s : Passed) (q slot l : ℕ) : Type 0 where
   pub alone : is_atomic (queue_of v.shape q).kind ≡ true → HasNoOther v l q slot
   pub places : is_ordered (queue_of v.shape q).kind ≡ true → length (places_at v q) < (queue_of v.shape q).order
 
+-- an ordered queue has a place for one event more
+abbrev pub HasPlace : View → ℕ → Type 0
+HasPlace v q = is_ordered (queue_of v.shape q).kind ≡ true → length (places_at v q) < (queue_of v.shape q).order
+
 -- the port's lane serves the queue, isn't passed over and has room, and the queue has a place for one event more
 pub record IsOpenLane (v : View) (s : Passed) (q l : ℕ) : Type 0 where
   pub lane : l < length v.shape.ports

@@ -8,6 +8,7 @@ use Rattle.evt_types.specs.declared.event.Numbered.{Numbered}
 use Rattle.order_parts.specs.declared.history.Entry.{Entry}
 use Rattle.sched_core.specs.Inner.{IsQueueOf, HaveRoom, HaveSlots, held_of}
 use Rattle.order_parts.specs.History.{Entries}
+use Rattle.sched_core.specs.Links.{AreLinks}
 use Rattle.sched_core.specs.Ordered.{ArePlaces, places_in}
 use Rattle.sched_core.specs.Pinned.{ArePins}
 use Rattle.parked_queue.specs.Waits.{Waits}
@@ -33,7 +34,7 @@ view_in a =
       waiting = map waiting_in a.queues.items;
       next = map next_in a.queues.items;
       places = map places_in a.orders;
-      unanswered = map unanswered_in a.lanes.items;
+      unanswered = map unanswered_in a.lanes;
       shut = a.shut;
     }
 
@@ -42,14 +43,15 @@ view_in a =
 pub record IsCore (a : Inside) : Type 0 where
   pub limits : IsWithinLimits a.shape
   pub queues : length a.queues.items ≡ length a.shape.queues
-  pub lanes : length a.lanes.items ≡ lanes_of a.shape
+  pub lanes : length a.lanes ≡ lanes_of a.shape
   pub sound : All (IsQueueOf (bound_of a.shape)) a.queues.items
   pub slots : HaveSlots a.shape a.queues.items
-  pub room : HaveRoom a.shape a.lanes.items
-  pub pins : ArePins a.shape (map unanswered_in a.lanes.items) a.pins
+  pub room : HaveRoom a.shape a.lanes
+  pub pins : ArePins a.shape (map unanswered_in a.lanes) a.pins
   pub inside : a.inside ≡ inside_of (view_in a)
   pub within : inside_of (view_in a) ≤ bound_of a.shape
   pub small : bound_of a.shape < 2 ^ 64
   pub entries : a.entries ≡ entries_of (view_in a)
   pub few : entries_of (view_in a) ≤ 2 ^ 63
-  pub places : ArePlaces a.shape a.queues.items a.orders (map entries_in a.lanes.items)
+  pub links : AreLinks a.shape (length a.shape.queues) a.links.items
+  pub places : ArePlaces a.shape a.queues.items a.orders (map entries_in a.lanes)

@@ -75,8 +75,7 @@ impl Core {
         ensures fewer { is_ordered (queue_of self.old.shape result.queue).kind ≡ false → inside_of self.new < bound_of self.old.shape }
         ensures room { vec_capacity log.new ≡ vec_capacity log.old }
     {
-        let answering = &mut self.lanes[lane];
-        let entry = answering.pop().unwrap();
+        let entry = self.lanes.pop(lane);
         self.pins.unpin(entry.queue, entry.slot);
         let kept = self
             .orders

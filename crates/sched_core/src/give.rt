@@ -10,7 +10,7 @@ ghost use Rattle.sched_core.specs.Offered.{numbered_in};
 
 use crate::offer::Offer;
 use crate::state::Core;
-use evt_types::{Delivery, Step};
+use evt_types::{Delivery, Numbered, Step};
 use order_parts::Entry;
 
 impl Core {
@@ -33,18 +33,20 @@ impl Core {
                 number,
             },
         } = offer;
-        let slot = self.shape.slot_of(queue, event.flow);
         let place = self.orders.hand(queue, number);
         let left = &mut self.queues[queue];
+        let slot = left.slot_of(&Numbered { number, event });
         left.remove(event.level(), slot, number);
         self.pins.pin(queue, slot, lane);
-        let holder = &mut self.lanes[lane];
-        holder.push(Entry {
-            queue,
-            number,
-            slot,
-            place,
-        });
+        self.lanes.push(
+            lane,
+            Entry {
+                queue,
+                number,
+                slot,
+                place,
+            },
+        );
         log.push_reserved(Step::Give {
             lane,
             queue,

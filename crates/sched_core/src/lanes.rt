@@ -4,7 +4,7 @@ ghost use Rattle.std.specs.Prelude.{◌≡◌, ℕ, ◌<◌, ◌↔◌, true, Is
 ghost use Rattle.transcripts.specs.Choice.{HasNoOther, IsBetterLane};
 ghost use Rattle.evt_types.specs.Plan.{has_flow_lanes, lanes_of, queue_of, is_atomic};
 ghost use Rattle.place_set.specs.Places.{Has};
-ghost use Rattle.sched_core.specs.Offered.{AreOpenLanes, FitsSlot, HasAllowed, IsOpenLane, MayHold, better_of};
+ghost use Rattle.sched_core.specs.Offered.{AreOpenLanes, FitsSlot, HasAllowed, HasPlace, MayHold, better_of};
 
 use crate::skips::Skips;
 use crate::state::Core;
@@ -17,26 +17,19 @@ impl Core {
         requires { queue < length self.now.shape.queues }
         ensures { AreOpenLanes self.now skips.now queue result }
     {
-        let mut lanes = Places::none();
-        for lane in 0..self.shape.ports().len() {
-            if self.is_open(lane, queue, skips) {
-                lanes.add(lane);
-            }
+        if !self.has_place(queue) {
+            return Places::none();
         }
-        lanes
+        let links = self.links[queue];
+        links.both(self.lanes.roomy()).except(skips.closed())
     }
 
-    /// Whether the port's lane serves the queue, has room and isn't passed over, and the queue has a place for an event.
-    fn is_open(&self, lane: usize, queue: usize, skips: &Skips) -> bool
-        requires own { lane < length self.now.shape.ports }
-        requires lane { lane < lanes_of self.now.shape }
-        requires queue { queue < length self.now.shape.queues }
-        ensures { IsTrue result ↔ IsOpenLane self.now skips.now queue lane }
+    /// Whether one event more of the queue may be handed out: an ordered queue has a place for it.
+    fn has_place(&self, queue: usize) -> bool
+        requires { queue < length self.now.shape.queues }
+        ensures { IsTrue result ↔ HasPlace self.now queue }
     {
-        !skips.has_bounced(lane)
-            && self.shape.serves(lane, queue, 0)
-            && self.lanes[lane].len() < self.shape.depth_of(lane)
-            && self.orders.has_place(queue)
+        self.orders.has_place(queue)
     }
 
     /// The slots of the queue whose events some lane may take, and perhaps others: where flow lanes serve the queue, all of its slots.
@@ -124,7 +117,7 @@ impl Core {
     {
         !skips.has_bounced(lane)
             && self.shape.serves(lane, queue, slot)
-            && self.lanes[lane].len() < self.shape.depth_of(lane)
+            && self.lanes.len(lane) < self.shape.depth_of(lane)
             && self.orders.has_place(queue)
             && self.may_hold(lane, queue, slot)
     }
@@ -144,7 +137,7 @@ impl Core {
         ensures { result ≡ better_of self.now best lane }
     {
         match best {
-            Some(best) if self.lanes[best].len() <= self.lanes[lane].len() => best,
+            Some(best) if self.lanes.len(best) <= self.lanes.len(lane) => best,
             _ => lane,
         }
     }

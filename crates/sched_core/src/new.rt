@@ -1,16 +1,17 @@
 //! A core in which nothing has happened.
 
 ghost use Rattle.std.specs.Prelude.{◌≡◌, ◌<◌, ◌≤◌, [], length, IfOk, IfErr};
-ghost use Rattle.evt_types.specs.Plan.{lanes_of};
 ghost use Rattle.transcripts.specs.Standing.{Stands, view_of};
-ghost use Rattle.sched_core.specs.Inner.{AreEmptyQueues, AreEmptyLanes, slots_for};
+ghost use Rattle.sched_core.specs.Inner.{AreEmptyQueues, slots_for};
+ghost use Rattle.sched_core.specs.Links.{AreLinks, AreLinksOf};
 
+use crate::histories::Histories;
 use crate::orders::AllOrders;
 use crate::pins::AllPins;
 use crate::state::{Core, Memory};
 use evt_types::{MAX_SLOTS, Shape};
-use order_parts::History;
 use parked_queue::ParkedQueue;
+use place_set::Places;
 use std::alloc::{AllocError, Global};
 
 /// How many slots the events of a queue fall into.
@@ -42,16 +43,32 @@ fn empty_queues(alloc: Global, shape: &Shape) -> Result<Vec<ParkedQueue>, AllocE
     Ok(queues)
 }
 
-/// The unanswered events of each lane, none, with room for what the port may hold.
-fn empty_lanes(alloc: Global, shape: &Shape) -> Result<Vec<History>, AllocError>
-    ensures { IfOk result (λ ls. AreEmptyLanes shape.now (lanes_of shape.now) ls.items) }
+/// The ports' lanes that serve the queue.
+fn links_of(shape: &Shape, queue: usize) -> Places
+    requires { queue < length shape.now.queues }
+    ensures { AreLinksOf shape.now queue result }
 {
-    let count = shape.lanes();
-    let mut lanes = Vec::with_capacity(alloc, count)?;
-    for lane in 0..count {
-        lanes.push(History::new(alloc, shape.depth_of(lane))?)?;
+    // To read a limit makes known that the limits hold.
+    let _ = shape.limit();
+    let mut lanes = Places::none();
+    for lane in 0..shape.ports().len() {
+        if shape.serves(lane, queue, 0) {
+            lanes.add(lane);
+        }
     }
-    Ok(lanes)
+    lanes
+}
+
+/// The ports' lanes that serve each queue.
+fn all_links(alloc: Global, shape: &Shape) -> Result<Vec<Places>, AllocError>
+    ensures { IfOk result (λ ls. AreLinks shape.now (length shape.now.queues) ls.items) }
+{
+    let count = shape.queues().len();
+    let mut links = Vec::with_capacity(alloc, count)?;
+    for queue in 0..count {
+        links.push(links_of(shape, queue))?;
+    }
+    Ok(links)
 }
 
 impl Core {
@@ -67,7 +84,7 @@ impl Core {
             Ok(queues) => queues,
             Err(memory) => return Err((memory, shape)),
         };
-        let lanes = match empty_lanes(alloc, &shape) {
+        let lanes = match Histories::new(alloc, &shape) {
             Ok(lanes) => lanes,
             Err(memory) => return Err((memory, shape)),
         };
@@ -79,6 +96,10 @@ impl Core {
             Ok(pins) => pins,
             Err(memory) => return Err((memory, shape)),
         };
+        let links = match all_links(alloc, &shape) {
+            Ok(links) => links,
+            Err(memory) => return Err((memory, shape)),
+        };
         // To read a limit makes known that the limits hold.
         let _ = shape.limit();
         Ok(Core {
@@ -87,6 +108,7 @@ impl Core {
             orders,
             lanes,
             pins,
+            links,
             inside: 0,
             entries: 0,
             shut: false,

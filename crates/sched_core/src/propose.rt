@@ -7,7 +7,7 @@ ghost use Rattle.transcripts.specs.Standing.{Stands};
 ghost use Rattle.transcripts.specs.Transcript.{event_at};
 ghost use Rattle.evt_types.specs.declared.step.Step.{Step as StepValue};
 ghost use Rattle.evt_types.specs.declared.step.Step.TheVariants as steps;
-ghost use Rattle.sched_core.specs.Offered.{numbered_in, AreOpenLanes, HasAllowed, IsFirstIn, HasNoneAllowedIn, HasNoneIn, IsOfferIn, IsOfferOf, is_ahead};
+ghost use Rattle.sched_core.specs.Offered.{numbered_in, AreOpenLanes, HasAllowed, IsFirstIn, HasNoneAllowedIn, HasNoneIn, IsOfferIn, IsOfferOf, is_ahead, slot_at};
 
 use crate::offer::Offer;
 use crate::skips::Skips;
@@ -65,6 +65,9 @@ impl Core {
     {
         // The use of a field makes known what holds of each core.
         let _ = &self.shape;
+        if self.waiting_len(queue) == 0 {
+            return None;
+        }
         let lanes = self.open_lanes(queue, skips);
         let allowed = self.allowed(queue, lanes, skips);
         for level in 0..LEVELS {
@@ -97,11 +100,11 @@ impl Core {
         let _ = &self.shape;
         let mut left = allowed;
         while let Some(waiting) = self.first_in(queue, level, left) {
-            let offer = self.offer_for(queue, &waiting, lanes, skips);
+            let slot = self.slot_of(queue, &waiting);
+            let offer = self.offer_for(queue, &waiting, slot, lanes, skips);
             if offer.is_some() {
                 return offer;
             }
-            let slot = self.shape().slot_of(queue, waiting.event.flow);
             left.remove(slot);
         }
         None
@@ -119,15 +122,26 @@ impl Core {
         waiting.first(level, allowed)
     }
 
+    /// The slot of an event of the queue.
+    fn slot_of(&self, queue: usize, waiting: &Numbered) -> usize
+        requires { queue < length self.now.shape.queues }
+        ensures value { result ≡ slot_at self.now queue waiting.now }
+        ensures few { result < 64 }
+    {
+        self.queues[queue].slot_of(waiting)
+    }
+
     /// The event for the best lane that may take it.
     fn offer_for(
         &self,
         queue: usize,
         waiting: &Numbered,
+        slot: usize,
         lanes: Places,
         skips: &Skips,
     ) -> Option<Offer>
         requires queue { queue < length self.now.shape.queues }
+        requires slot { slot ≡ slot_at self.now queue waiting.now }
         requires lanes { AreOpenLanes self.now skips.now queue lanes }
         ensures same { IfSome result (λ o. (numbered_in o.delivery ≡ waiting.now) × (o.delivery.queue ≡ queue)) }
         ensures fits { IfSome result (λ o. Fits self.now skips.now o.lane queue waiting.now) }
@@ -135,7 +149,6 @@ impl Core {
         ensures none { IfNone result ((m : ℕ) → ¬ Fits self.now skips.now m queue waiting.now) }
     {
         let Numbered { number, event } = *waiting;
-        let slot = self.shape().slot_of(queue, event.flow);
         match self.lane_for(queue, slot, lanes, skips) {
             Some(lane) => Some(Offer {
                 lane,

@@ -1,10 +1,12 @@
 //! What a sweep passes over.
 
-ghost use Rattle.std.specs.Prelude.{◌≡◌, ◌+◌, ◌<◌, true, slice_set, slice_index, nat_lt};
+ghost use Rattle.std.specs.Prelude.{◌≡◌, ℕ, ◌+◌, ◌<◌, ◌↔◌, true, slice_set, slice_index, nat_lt};
 ghost use Rattle.transcripts.specs.Choice.{has_bounced};
+ghost use Rattle.place_set.specs.Places.{Has};
 ghost use Rattle.sched_core.specs.Skipped.{nothing_passed};
 
 use evt_types::{MAX_LANES, MAX_QUEUES, MAX_SWEEP};
+use place_set::{MAX_PLACES, Places};
 use std::marker::Model;
 
 /// The lanes whose ring refused a delivery in this sweep, and how many events of each queue were given in it.
@@ -12,6 +14,8 @@ use std::marker::Model;
 pub struct Skips {
     bounced: [bool; MAX_LANES],
     given: [u32; MAX_QUEUES],
+    /// Of the first lanes those whose ring refused a delivery. The ports' lanes are among them.
+    closed: Places,
 }
 
 impl Model for Skips {
@@ -20,6 +24,10 @@ impl Model for Skips {
     ghost Value = { Passed };
 
     ghost view = { λ a. record { bounced = a.bounced; given = a.given } };
+
+    ghost use Rattle.sched_core.specs.Skipped.{AreClosed};
+
+    ghost invariant = { λ a. AreClosed a.bounced a.closed };
 }
 
 impl Skips {
@@ -30,6 +38,7 @@ impl Skips {
         Skips {
             bounced: [false; MAX_LANES],
             given: [0; MAX_QUEUES],
+            closed: Places::none(),
         }
     }
 
@@ -39,6 +48,9 @@ impl Skips {
         ensures { self.new ≡ record self.old { bounced = slice_set self.old.bounced lane true } }
     {
         self.bounced[lane] = true;
+        if lane < MAX_PLACES {
+            self.closed.add(lane);
+        }
     }
 
     /// An event of the queue was given.
@@ -48,6 +60,13 @@ impl Skips {
         ensures { self.new ≡ record self.old { given = slice_set self.old.given queue (slice_index self.old.given queue + 1) } }
     {
         self.given[queue] += 1;
+    }
+
+    /// Of the first lanes, as many as a set has places, those that are passed over.
+    pub fn closed(&self) -> Places
+        ensures { (l : ℕ) → l < MAX_PLACES → Has result l ↔ (has_bounced self.now l ≡ true) }
+    {
+        self.closed
     }
 
     /// Whether the lane is passed over.

@@ -8,11 +8,12 @@ ghost use Rattle.transcripts.specs.Transcript.{kept_events, pairs_of};
 ghost use Rattle.evt_types.specs.Plan as plans;
 ghost use Rattle.evt_types.specs.declared.step.Step.{Step as StepValue};
 
+use crate::histories::Histories;
 use crate::orders::{AllOrders, kept_room};
 use crate::pins::AllPins;
 use evt_types::{KeptEvent, MAX_QUEUES, QueueDraft, Shape};
-use order_parts::History;
 use parked_queue::ParkedQueue;
+use place_set::Places;
 use std::alloc::AllocError;
 use std::marker::Model;
 
@@ -25,8 +26,10 @@ pub struct Core {
     pub(crate) shape: Shape,
     pub(crate) queues: Vec<ParkedQueue>,
     pub(crate) orders: AllOrders,
-    pub(crate) lanes: Vec<History>,
+    pub(crate) lanes: Histories,
     pub(crate) pins: AllPins,
+    /// For each queue the ports' lanes that serve it.
+    pub(crate) links: Vec<Places>,
     /// How many events wait, are kept or are unanswered.
     pub(crate) inside: usize,
     /// How many events were accepted or are kept.

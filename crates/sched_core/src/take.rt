@@ -73,7 +73,7 @@ impl Core {
         requires { lane < lanes_of self.now.shape }
         ensures { result ≡ may_answer self.now lane }
     {
-        !self.lanes[lane].is_empty()
+        !self.lanes.is_empty(lane)
     }
 
     /// Whether the queue restores the order of its hand-out.

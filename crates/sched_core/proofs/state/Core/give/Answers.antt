@@ -4,10 +4,13 @@ use Rattle.transcripts.specs.Standing.{View, Stands, after_give}
 use Rattle.evt_types.specs.declared.step.Step.TheVariants.{Give}
 use Rattle.transcripts.proofs.WholeStands.{stands_give, offer_is_accepted}
 use Rattle.evt_types.specs.Plan.{level_of}
-use Rattle.order_parts.specs.History.{Entries}
+use Rattle.order_parts.specs.History.{entries_of}
+use Rattle.sched_core.proofs.Roomy.{lane_is}
+use Rattle.sched_core.proofs.OpenLanes.{room_here}
+use Rattle.sched_core.specs.Histories.{lane_in}
 use Rattle.sched_core.proofs.Giving.{core_gives, offer_may, offer_place, offer_room, view_gives}
 use Rattle.sched_core.proofs.Cores.{waits_here, level_below, only_event}
-use Rattle.sched_core.proofs.FirstOnes.{slot_below, slot_in_queue, slots_here}
+use Rattle.sched_core.proofs.FirstOnes.{slot_in_queue}
 use Rattle.evt_types.specs.declared.event.Event.{Event}
 use Rattle.sched_core.specs.Offered.{numbered_in}
 use Rattle.sched_core.specs.View.{view_in}
@@ -26,15 +29,7 @@ remove-requires-clause-only c =
     let h : c.args.offer.delivery.queue < length c.self.inside.queues.items = omega (arith, offer.queue, c.self.invariant.queues) in
     λ k d lt same.
     let one = only_event c.self.inside c.args.offer.delivery.queue c.index_mut-left.result.now (numbered_in c.args.offer.delivery) c.self.invariant h c.index_mut-left.ensures.value offer.waits k d lt same in
-    (ap level_of one ∙ sym c.level.ensures, ap (λ (e : Event). e.flow % c.index_mut-left.result.now.slots) one ∙ slot_in_queue c.self.inside c.args.offer.delivery.queue c.index_mut-left.result.now c.self.invariant h c.index_mut-left.ensures.value (numbered_in c.args.offer.delivery) ∙ sym c.slot_of-slot.ensures)
-
-pub remove-requires-clause-slot : goal.remove-requires-clause-slot
-remove-requires-clause-slot c =
-    let queue : c.args.offer.delivery.queue < length c.self.inside.shape.queues = subst (λ (v : View). c.args.offer.delivery.queue < length v.shape.queues) (sym c.self.view_is) c.requires.offer.queue in
-    let h : c.args.offer.delivery.queue < length c.self.inside.queues.items = omega (arith, queue, c.self.invariant.queues) in
-    let below = slot_below c.self.inside.shape c.args.offer.delivery.queue c.args.offer.delivery.event.flow c.self.invariant.limits queue in
-    let slots = slots_here c.self.inside c.args.offer.delivery.queue c.index_mut-left.result.now c.self.invariant h c.index_mut-left.ensures.value in
-    omega (arith, below, slots, c.slot_of-slot.ensures)
+    (ap level_of one ∙ sym c.level.ensures, ap (λ (e : Event). e.flow % c.index_mut-left.result.now.slots) one ∙ sym c.slot_of-slot.ensures.value)
 
 pub pin-requires-clause-there : goal.pin-requires-clause-there
 pin-requires-clause-there c =
@@ -42,10 +37,16 @@ pin-requires-clause-there c =
     omega (arith, queue, c.self.invariant.pins.count)
 
 pub pin-requires-clause-may : goal.pin-requires-clause-may
-pin-requires-clause-may c = offer_may c.self.inside c.args.self.now c.args.offer.lane c.args.offer.delivery.queue c.slot_of-slot.result (numbered_in c.args.offer.delivery) c.self.invariant c.self.view_is c.requires.offer c.slot_of-slot.ensures
+pin-requires-clause-may c =
+    let queue : c.args.offer.delivery.queue < length c.self.inside.shape.queues = subst (λ (v : View). c.args.offer.delivery.queue < length v.shape.queues) (sym c.self.view_is) c.requires.offer.queue in
+    let h : c.args.offer.delivery.queue < length c.self.inside.queues.items = omega (arith, queue, c.self.invariant.queues) in
+    offer_may c.self.inside c.args.self.now c.args.offer.lane c.args.offer.delivery.queue c.slot_of-slot.result (numbered_in c.args.offer.delivery) c.self.invariant c.self.view_is c.requires.offer (c.slot_of-slot.ensures.value ∙ slot_in_queue c.self.inside c.args.offer.delivery.queue c.index_mut-left.result.now c.self.invariant h c.index_mut-left.ensures.value (numbered_in c.args.offer.delivery))
 
 pub pin-requires-clause-room : goal.pin-requires-clause-room
-pin-requires-clause-room c = offer_room c.self.inside c.args.self.now c.args.offer.lane c.args.offer.delivery.queue c.slot_of-slot.result (numbered_in c.args.offer.delivery) c.self.invariant c.self.view_is c.requires.offer c.slot_of-slot.ensures
+pin-requires-clause-room c =
+    let queue : c.args.offer.delivery.queue < length c.self.inside.shape.queues = subst (λ (v : View). c.args.offer.delivery.queue < length v.shape.queues) (sym c.self.view_is) c.requires.offer.queue in
+    let h : c.args.offer.delivery.queue < length c.self.inside.queues.items = omega (arith, queue, c.self.invariant.queues) in
+    offer_room c.self.inside c.args.self.now c.args.offer.lane c.args.offer.delivery.queue c.slot_of-slot.result (numbered_in c.args.offer.delivery) c.self.invariant c.self.view_is c.requires.offer (c.slot_of-slot.ensures.value ∙ slot_in_queue c.self.inside c.args.offer.delivery.queue c.index_mut-left.result.now c.self.invariant h c.index_mut-left.ensures.value (numbered_in c.args.offer.delivery))
 
 pub hand-place-requires-clause-there : goal.hand-place-requires-clause-there
 hand-place-requires-clause-there c =
@@ -59,21 +60,21 @@ pub invariant_of-self : goal.invariant_of-self
 invariant_of-self c =
     let offer : IsOffer (view_in c.self.inside) c.args.offer.lane c.args.offer.delivery.queue (numbered_in c.args.offer.delivery) = subst (λ v. IsOffer v c.args.offer.lane c.args.offer.delivery.queue (numbered_in c.args.offer.delivery)) (sym c.self.view_is) c.requires.offer in
     let h : c.args.offer.delivery.queue < length c.self.inside.queues.items = omega (arith, offer.queue, c.self.invariant.queues) in
-    let k : c.args.offer.lane < length c.self.inside.lanes.items = omega (arith, offer.lane, c.self.invariant.lanes) in
-    rw c.hand-place.ensures.handed
-    (core_gives c.self.inside c.args.offer.delivery.queue c.args.offer.lane c.index_mut-left.result.now c.remove.new.self c.index_mut-holder.result.now c.push.new.self (numbered_in c.args.offer.delivery) _ c.pin.new.self c.self.invariant offer
-    h c.index_mut-left.ensures.value k c.index_mut-holder.ensures.value (waits_here c.self.inside c.args.offer.delivery.queue c.index_mut-left.result.now (numbered_in c.args.offer.delivery) h c.index_mut-left.ensures.value offer.waits)
-    c.remove.ensures.value c.remove.ensures.waits (ap (λ (x : Entries). x.entries) c.push.ensures) (ap (λ (x : Entries). x.capacity) c.push.ensures) refl refl c.slot_of-slot.ensures c.hand-place.ensures.place c.pin.ensures)
+    let k : c.args.offer.lane < length c.self.inside.lanes = omega (arith, offer.lane, c.self.invariant.lanes) in
+    rw c.push.ensures (rw c.hand-place.ensures.handed
+    (core_gives c.self.inside c.args.offer.delivery.queue c.args.offer.lane c.index_mut-left.result.now c.remove.new.self (lane_in c.self.inside.lanes c.args.offer.lane) (entries_of ((lane_in c.self.inside.lanes c.args.offer.lane).entries ++ record { queue = c.args.offer.delivery.queue; number = c.args.offer.delivery.number; slot = c.slot_of-slot.result; place = c.hand-place.result } ∷ []) (lane_in c.self.inside.lanes c.args.offer.lane).capacity) (numbered_in c.args.offer.delivery) (record { queue = c.args.offer.delivery.queue; number = c.args.offer.delivery.number; slot = c.slot_of-slot.result; place = c.hand-place.result }) c.pin.new.self c.self.invariant offer
+    h c.index_mut-left.ensures.value k (lane_is c.self.inside.lanes c.args.offer.lane k) (waits_here c.self.inside c.args.offer.delivery.queue c.index_mut-left.result.now (numbered_in c.args.offer.delivery) h c.index_mut-left.ensures.value offer.waits)
+    c.remove.ensures.value c.remove.ensures.waits refl refl refl refl (c.slot_of-slot.ensures.value ∙ slot_in_queue c.self.inside c.args.offer.delivery.queue c.index_mut-left.result.now c.self.invariant h c.index_mut-left.ensures.value (numbered_in c.args.offer.delivery)) c.hand-place.ensures.place c.pin.ensures))
 
 pub returns-clause-view : goal.returns-clause-view
 returns-clause-view c =
     let offer : IsOffer (view_in c.self.inside) c.args.offer.lane c.args.offer.delivery.queue (numbered_in c.args.offer.delivery) = subst (λ v. IsOffer v c.args.offer.lane c.args.offer.delivery.queue (numbered_in c.args.offer.delivery)) (sym c.self.view_is) c.requires.offer in
     let h : c.args.offer.delivery.queue < length c.self.inside.queues.items = omega (arith, offer.queue, c.self.invariant.queues) in
-    let k : c.args.offer.lane < length c.self.inside.lanes.items = omega (arith, offer.lane, c.self.invariant.lanes) in
-    rw c.hand-place.ensures.handed
-    (view_gives c.self.inside c.args.offer.delivery.queue c.args.offer.lane c.index_mut-left.result.now c.remove.new.self c.index_mut-holder.result.now c.push.new.self (numbered_in c.args.offer.delivery) _ c.pin.new.self c.self.invariant offer
-    h c.index_mut-left.ensures.value k c.index_mut-holder.ensures.value (waits_here c.self.inside c.args.offer.delivery.queue c.index_mut-left.result.now (numbered_in c.args.offer.delivery) h c.index_mut-left.ensures.value offer.waits)
-    c.remove.ensures.value (ap (λ (x : Entries). x.entries) c.push.ensures) (ap (λ s. record { queue = c.args.offer.delivery.queue; number = c.args.offer.delivery.number; slot = s }) c.slot_of-slot.ensures) c.hand-place.ensures.place)
+    let k : c.args.offer.lane < length c.self.inside.lanes = omega (arith, offer.lane, c.self.invariant.lanes) in
+    rw c.push.ensures (rw c.hand-place.ensures.handed
+    (view_gives c.self.inside c.args.offer.delivery.queue c.args.offer.lane c.index_mut-left.result.now c.remove.new.self (lane_in c.self.inside.lanes c.args.offer.lane) (entries_of ((lane_in c.self.inside.lanes c.args.offer.lane).entries ++ record { queue = c.args.offer.delivery.queue; number = c.args.offer.delivery.number; slot = c.slot_of-slot.result; place = c.hand-place.result } ∷ []) (lane_in c.self.inside.lanes c.args.offer.lane).capacity) (numbered_in c.args.offer.delivery) (record { queue = c.args.offer.delivery.queue; number = c.args.offer.delivery.number; slot = c.slot_of-slot.result; place = c.hand-place.result }) c.pin.new.self c.self.invariant offer
+    h c.index_mut-left.ensures.value k (lane_is c.self.inside.lanes c.args.offer.lane k) (waits_here c.self.inside c.args.offer.delivery.queue c.index_mut-left.result.now (numbered_in c.args.offer.delivery) h c.index_mut-left.ensures.value offer.waits)
+    c.remove.ensures.value refl (ap (λ s. record { queue = c.args.offer.delivery.queue; number = c.args.offer.delivery.number; slot = s }) (c.slot_of-slot.ensures.value ∙ slot_in_queue c.self.inside c.args.offer.delivery.queue c.index_mut-left.result.now c.self.invariant h c.index_mut-left.ensures.value (numbered_in c.args.offer.delivery))) c.hand-place.ensures.place))
     ∙ ap (λ v. after_give v c.args.offer.lane c.args.offer.delivery.queue c.args.offer.delivery.number) c.self.view_is
 
 pub returns-clause-stands : goal.returns-clause-stands
@@ -83,3 +84,13 @@ returns-clause-stands c T stands =
 
 pub returns-clause-event : goal.returns-clause-event
 returns-clause-event c T stands = offer_is_accepted c.args.self.now T c.args.offer.lane c.args.offer.delivery.queue (numbered_in c.args.offer.delivery) stands c.requires.offer
+
+pub push-requires-clause-there : goal.push-requires-clause-there
+push-requires-clause-there c =
+    let offer : IsOffer (view_in c.self.inside) c.args.offer.lane c.args.offer.delivery.queue (numbered_in c.args.offer.delivery) = subst (λ v. IsOffer v c.args.offer.lane c.args.offer.delivery.queue (numbered_in c.args.offer.delivery)) (sym c.self.view_is) c.requires.offer in
+    omega (arith, offer.lane, c.self.invariant.lanes)
+
+pub push-requires-clause-room : goal.push-requires-clause-room
+push-requires-clause-room c =
+    let offer : IsOffer (view_in c.self.inside) c.args.offer.lane c.args.offer.delivery.queue (numbered_in c.args.offer.delivery) = subst (λ v. IsOffer v c.args.offer.lane c.args.offer.delivery.queue (numbered_in c.args.offer.delivery)) (sym c.self.view_is) c.requires.offer in
+    (room_here c.self.inside c.args.offer.lane c.self.invariant (omega (arith, offer.lane, c.self.invariant.lanes))).1 offer.room

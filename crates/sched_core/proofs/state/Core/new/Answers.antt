@@ -6,15 +6,15 @@ use Rattle.sched_core.proofs.state.Core.new.Goals as goal
 
 pub invariant_of-result : goal.invariant_of-result
 invariant_of-result c =
-    rw (c.in-Ok-new.ensures, c.queues.ensures.value) (core_new c.args.shape c.in-Ok.queues c.in-Ok-empty_lanes.lanes c.in-Ok-free.pins c.limit.ensures.within (omega (arith, c.bound.ensures.value))
+    rw (c.in-Ok-new-2.ensures, c.queues.ensures.value) (core_new c.args.shape c.in-Ok.queues c.in-Ok-new.lanes c.in-Ok-free.pins c.in-Ok-all_links.links c.limit.ensures.within (omega (arith, c.bound.ensures.value))
     c.in-Ok.ensures
-    c.in-Ok-empty_lanes.ensures c.in-Ok-free.ensures)
+    c.in-Ok-new.ensures c.in-Ok-free.ensures c.in-Ok-all_links.ensures)
 
 pub returns-clause-empty : goal.returns-clause-empty
 returns-clause-empty c =
-    rw (c.in-Ok-new.ensures, c.queues.ensures.value) (view_new c.args.shape c.in-Ok.queues c.in-Ok-empty_lanes.lanes c.in-Ok-free.pins
+    rw (c.in-Ok-new-2.ensures, c.queues.ensures.value) (view_new c.args.shape c.in-Ok.queues c.in-Ok-new.lanes c.in-Ok-free.pins c.in-Ok-all_links.links
     c.in-Ok.ensures
-    c.in-Ok-empty_lanes.ensures)
+    c.in-Ok-new.ensures)
 
 pub returns-clause-stands : goal.returns-clause-stands
 returns-clause-stands c = subst (Stands []) (sym (returns-clause-empty c)) (stands_none c.args.shape)

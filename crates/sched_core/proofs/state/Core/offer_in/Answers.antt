@@ -1,7 +1,6 @@
 use Rattle.std.proofs.Common.{◌≡◌, ℕ, ◌∙◌, sym, ap, subst}
 use Rattle.std.specs.Option.{IfSome}
 use Rattle.evt_types.specs.Fault.{IsWithinLimits}
-use Rattle.evt_types.specs.Plan.{slot_of}
 use Rattle.transcripts.specs.Choice.{Fits, IsBetterLane}
 use Rattle.transcripts.specs.Standing.{View}
 use Rattle.sched_core.proofs.FirstOnes.{slots_within}
@@ -25,7 +24,7 @@ loop-waiting-preserved c =
     let v : View = c.args.self.now in
     let same = c.loop-waiting.invariant.0 in
     let now : c.first_in.new.self ≡ v = c.in-Some.ensures.same ∙ same in
-    let slot : c.slot_of-slot.result ≡ slot_at v c.args.queue c.in-Some.waiting = c.slot_of-slot.ensures ∙ (ap (λ p. slot_of p c.args.queue c.in-Some.waiting.event.flow) c.shape.ensures ∙ ap (λ (u : View). slot_at u c.args.queue c.in-Some.waiting) now) in
+    let slot : c.slot_of-slot.result ≡ slot_at v c.args.queue c.in-Some.waiting = c.slot_of-slot.ensures.value ∙ ap (λ (u : View). slot_at u c.args.queue c.in-Some.waiting) now in
     let none : (m : ℕ) → ¬ Fits v c.args.skips.now m c.args.queue c.in-Some.waiting =
     subst (λ u. (m : ℕ) → ¬ Fits u c.args.skips.now m c.args.queue c.in-Some.waiting) now (none_of c.offer_for-offer.result _ (sym c.is_some.ensures ∙ c.if-is_some.false) c.offer_for-offer.ensures.none) in
     (now, allowed_rest v c.args.skips.now c.args.queue c.slot_of-slot.result c.loop-waiting.left c.remove.new.self c.in-Some.waiting slot none c.remove.ensures.others c.loop-waiting.invariant.1)

@@ -2,7 +2,7 @@ use Rattle.std.proofs.Common.{◌≡◌, ◌+◌, arith, subst, sym}
 use Rattle.evt_types.specs.Plan.{lanes_of}
 use Rattle.sched_core.specs.Inner.{IsEmptyLane, AreEmptyLanes}
 use Rattle.sched_core.proofs.News.{lanes_none, lanes_more}
-use Rattle.sched_core.proofs.new.empty_lanes.Goals as goal
+use Rattle.sched_core.proofs.histories.empty_lanes.Goals as goal
 
 pub loop-lane-init : goal.loop-lane-init
 loop-lane-init c = subst (AreEmptyLanes c.args.shape.now 0) (sym c.in_ok-lanes.ensures.items) (lanes_none c.args.shape.now)

@@ -1,5 +1,5 @@
 -- A core in which nothing has happened.
-use Rattle.std.proofs.Common.{◌≡◌, ℕ, ◌+◌, ◌<◌, ◌≤◌, ◌^◌, false, true, Bool, cond, List, [], ◌∷◌, ◌++◌, length, map, All, get_or, Vec, Global, ◌⊎◌, ⊎_elim, inl, inr, refl, sym, ap, ◌∙◌, subst, arith}
+use Rattle.std.proofs.Common.{◌≡◌, ℕ, ◌+◌, ◌<◌, ◌≤◌, ◌^◌, false, true, Bool, cond, List, [], ◌∷◌, ◌++◌, length, map, All, get_or, Option, Vec, Global, ◌⊎◌, ⊎_elim, inl, inr, refl, sym, ap, ◌∙◌, subst, arith}
 use Rattle.std.proofs.lemmas.Bool.{cases_lt}
 use Rattle.std.proofs.lemmas.List.{get_or-map, length-map, length_push, get_or_append_left, get_or_push}
 use Rattle.std.proofs.lemmas.List.Elements.{All-nil, All-push, All-map, All-weaker}
@@ -22,6 +22,7 @@ use Rattle.sched_core.specs.Ordered.{kept_of, order_at, places_in}
 use Rattle.sched_core.specs.Inner.{IsQueueOf, AreEmptyQueues, IsBare, IsEmptyLane, AreEmptyLanes, held_of, slots_for}
 use Rattle.sched_core.specs.Links.{AreLinks}
 use Rattle.sched_core.specs.Pinned.{AreFreePins}
+use Rattle.sched_core.specs.SlotLanes.{AreSlotLanes, slot_lane_count}
 use Rattle.place_set.specs.declared.places.Places.{Places}
 use Rattle.sched_core.specs.View.{waiting_in, next_in, unanswered_in, entries_in, view_in, IsCore}
 use Rattle.order_parts.specs.declared.history.Entry.{Entry}
@@ -108,9 +109,9 @@ fresh_order p q h = get_or-map (λ (d : QueueDraft). empty (kept_room d)) p.queu
 nothing_held : (ls : List Entries) (p : Plan) (n : ℕ) → AreEmptyLanes p n ls → sum_by (λ (xs : List Held). length xs) (map unanswered_in ls) ≡ 0
 nothing_held ls p n empty = sum_of_map (λ (xs : List Held). length xs) unanswered_in ls ∙ sum_of_none (λ x. length (unanswered_in x)) ls (All-weaker IsBare (λ (l : Entries). length (unanswered_in l) ≡ 0) (λ l e. ap (λ (ys : List Entry). length (map held_of ys)) e) ls empty.empty)
 
-pub core_new : (p : Plan) (qs : Vec Waits Global) (ls : List Entries) (ps : List (List Pin)) (ks : Vec Places Global) → IsWithinLimits p → bound_of p < 2 ^ 64 → AreEmptyQueues p (length p.queues) qs.items → AreEmptyLanes p (lanes_of p) ls → AreFreePins p (length p.queues) ps → AreLinks p (length p.queues) ks.items
-    → IsCore (record { shape = p; queues = qs; orders = new_orders p; lanes = ls; pins = ps; links = ks; inside = 0; entries = 0; shut = false })
-core_new p qs ls ps ks limits small queues lanes pins links =
+pub core_new : (p : Plan) (qs : Vec Waits Global) (ls : List Entries) (ps : List (List Pin)) (ks : Vec Places Global) (os : Vec (Option ℕ) Global) → IsWithinLimits p → bound_of p < 2 ^ 64 → AreEmptyQueues p (length p.queues) qs.items → AreEmptyLanes p (lanes_of p) ls → AreFreePins p (length p.queues) ps → AreLinks p (length p.queues) ks.items → AreSlotLanes p (slot_lane_count p) os.items
+    → IsCore (record { shape = p; queues = qs; orders = new_orders p; lanes = ls; pins = ps; links = ks; slot_lanes = os; inside = 0; entries = 0; shut = false })
+core_new p qs ls ps ks os limits small queues lanes pins links slot_lanes =
     let waits = nothing_waits p qs.items (length p.queues) queues in
     let numbers = nothing_numbered p qs.items (length p.queues) queues in
     let kept = nothing_kept p in
@@ -129,14 +130,15 @@ core_new p qs ls ps ks limits small queues lanes pins links =
       entries = omega arith;
       few = omega arith;
       links = links;
+      slot_lanes = slot_lanes;
       places =
           new_places p qs.items (new_orders p) (map entries_in ls) queues.count (length-map p.queues (λ (q : QueueDraft). empty (kept_room q))) (fresh_order p) (λ q h. order_small p q limits.orders h)
           (All-map (λ (ys : List Entry). ys ≡ []) entries_in ls lanes.empty);
     }
 
-pub view_new : (p : Plan) (qs : Vec Waits Global) (ls : List Entries) (ps : List (List Pin)) (ks : Vec Places Global) → AreEmptyQueues p (length p.queues) qs.items → AreEmptyLanes p (lanes_of p) ls → view_in (record { shape = p; queues = qs; orders = new_orders p; lanes = ls; pins = ps; links = ks; inside = 0; entries = 0; shut = false }) ≡ view_of p []
+pub view_new : (p : Plan) (qs : Vec Waits Global) (ls : List Entries) (ps : List (List Pin)) (ks : Vec Places Global) (os : Vec (Option ℕ) Global) → AreEmptyQueues p (length p.queues) qs.items → AreEmptyLanes p (lanes_of p) ls → view_in (record { shape = p; queues = qs; orders = new_orders p; lanes = ls; pins = ps; links = ks; slot_lanes = os; inside = 0; entries = 0; shut = false }) ≡ view_of p []
 unfolding view_of
-view_new p qs ls ps ks queues lanes =
+view_new p qs ls ps ks os queues lanes =
     same_parts p _ _ _ _ _ _ _ _ false
     (fill_by_all (waiting []) (map waiting_in qs.items) (length p.queues) [] (length-map qs.items waiting_in ∙ queues.count) (λ k h. get_or_empty k h ∙ sym (waiting_at_none k)))
     (fill_by_all (λ q. length (accepted [] q)) (map next_in qs.items) (length p.queues) 0 (length-map qs.items next_in ∙ queues.count) (λ k h. get_or_zero k h ∙ sym (ap length (accepted_at_none k))))

@@ -1,13 +1,13 @@
 -- How an offer is found: a lane that is free for the slot, a lane for the event, the event of the queue, the queue.
-use Rattle.std.proofs.Common.{◌≡◌, ℕ, ◌+◌, ◌<◌, ◌≤◌, ◌%◌, Bool, true, false, cond, nat_le, nat_lt, ◌&&◌, ◌==◌, List, length, get_or, All, Option, Some, None, inl, inr, ⊎_elim, refl, sym, ap, ◌∙◌, subst, arith, eq-eqb, eqb-true}
+use Rattle.std.proofs.Common.{◌≡◌, ℕ, ◌+◌, ◌<◌, ◌≤◌, ◌%◌, Bool, true, false, cond, nat_lt, ◌&&◌, ◌==◌, List, length, get_or, All, Option, Some, None, inl, inr, ⊎_elim, refl, sym, ap, ◌∙◌, subst, arith, eq-eqb, eqb-true}
 use Rattle.std.specs.Option.{IfSome, IfNone, is_some}
-use Rattle.std.proofs.lemmas.Bool.{and_from, and_parts, or_cases, or_right, cases_eq, cases_lt, false≢true, false_from_ne_true, leb-true, leb-false, ltb-true, ltb-false, lt-ltb}
+use Rattle.std.proofs.lemmas.Bool.{and_from, and_parts, or_cases, or_right, cases_eq, cases_lt, false≢true, false_from_ne_true, ltb-true, ltb-false, lt-ltb}
 use Rattle.std.proofs.lemmas.List.{get_or_default}
 use Rattle.transcripts.proofs.WholeStands.{offer_is_allowed, offer_is_accepted}
 use Rattle.transcripts.specs.Allowed.{Allowed}
 use Rattle.transcripts.specs.Choice.{Passed, Fits, HasNoOther, HasNone, HasNoChoice, HasQuota, IsBetterLane, IsChoice, IsOffer, IsServedBefore, WaitsIn, is_earlier}
 use Rattle.transcripts.specs.Lawful.{keeps_order}
-use Rattle.evt_types.specs.Plan.{Plan, queue_of, lanes_of, level_of, slot_of, serves, is_atomic, is_ordered}
+use Rattle.evt_types.specs.Plan.{Plan, queue_of, level_of, slot_of, serves, is_atomic, is_ordered}
 use Rattle.transcripts.specs.Standing.{View, Stands, waiting_at, unanswered_at}
 use Rattle.transcripts.specs.Transcript.{event_at}
 use Rattle.evt_types.specs.declared.event.Event.{Event}
@@ -19,19 +19,10 @@ use Rattle.evt_types.specs.declared.step.Step.TheVariants.{Give}
 use Rattle.place_set.specs.Places.{SameBut}
 use Rattle.place_set.specs.declared.places.Places.{Places}
 use Rattle.sched_core.specs.Inner.{slots_for}
-use Rattle.sched_core.specs.Offered.{numbered_in, FitsSlot, HasAllowed, HasNoneAllowedIn, HasNoneIn, IsFirstIn, IsOfferIn, IsOfferOf, better_of, is_ahead, slot_at}
+use Rattle.sched_core.specs.Offered.{numbered_in, FitsSlot, HasAllowed, HasNoneAllowedIn, HasNoneIn, IsFirstIn, IsOfferIn, IsOfferOf, is_ahead, slot_at}
 use Rattle.sched_core.specs.declared.offer.Offer.{Offer}
 
--- ---- a lane for an event of the slot
-
--- what was found among the lanes below n
-abbrev pub IsFoundBelow : View → Passed → ℕ → ℕ → ℕ → Option ℕ → Type 0
-IsFoundBelow v s q slot n None = (m : ℕ) → m < n → ¬ FitsSlot v s q slot m
-IsFoundBelow v s q slot n (Some l) = FitsSlot v s q slot l × (l < n) × ((m : ℕ) → m < n → FitsSlot v s q slot m → ¬ IsBetterLane v m l)
-
-pub found_lane : (v : View) (s : Passed) (q slot n : ℕ) (o : Option ℕ) → IsFoundBelow v s q slot n o → IfSome o (λ l. l < lanes_of v.shape)
-found_lane v s q slot n None found = tt
-found_lane v s q slot n (Some l) found = found.0.lane
+-- ---- the better one of two lanes
 
 pub not_itself : (v : View) (l m : ℕ) → l ≡ m → ¬ IsBetterLane v m l
 not_itself v l m same (inl fewer) = let e = ap (λ k. length (unanswered_at v k)) same in omega arith
@@ -44,39 +35,6 @@ not_better v b n le below (inr lower) = let lt = lower.1 in omega arith
 pub not_better_too : (v : View) (b n m : ℕ) → length (unanswered_at v n) < length (unanswered_at v b) → ¬ IsBetterLane v m b → ¬ IsBetterLane v m n
 not_better_too v b n m gt worse (inl fewer) = worse (inl (omega arith))
 not_better_too v b n m gt worse (inr lower) = let e = lower.0 in worse (inl (omega arith))
-
--- among the lanes as far as n, where n itself fits
-pub found_more : (v : View) (s : Passed) (q slot n : ℕ) (o : Option ℕ) → IsFoundBelow v s q slot n o → FitsSlot v s q slot n → IsFoundBelow v s q slot (n + 1) (Some (better_of v o n))
-found_more v s q slot n None found fits =
-    (fits, omega arith, λ m h fits_m. ⊎_elim (λ lt. absurd (found m lt fits_m)) (λ le. let e : n ≡ m = omega arith in not_itself v n m e) (cases_lt m n))
-found_more v s q slot n (Some b) found fits = by_case (nat_le (length (unanswered_at v b)) (length (unanswered_at v n))) refl
-  where
-    by_case : (t : Bool) → nat_le (length (unanswered_at v b)) (length (unanswered_at v n)) ≡ t → IsFoundBelow v s q slot (n + 1) (Some (cond t b n))
-    by_case true h =
-        let le : length (unanswered_at v b) ≤ length (unanswered_at v n) = leb-true _ _ h in
-        let below : b < n = found.1 in
-        (found.0, omega arith, λ m lt fits_m. ⊎_elim (λ less. found.2 m less fits_m) (λ ge. let e : n ≡ m = omega arith in subst (λ k. ¬ IsBetterLane v k b) e (not_better v b n le below)) (cases_lt m n))
-    by_case false h =
-        let gt : length (unanswered_at v n) < length (unanswered_at v b) = leb-false _ _ h in
-        (fits, omega arith, λ m lt fits_m. ⊎_elim (λ less. not_better_too v b n m gt (found.2 m less fits_m)) (λ ge. let e : n ≡ m = omega arith in not_itself v n m e) (cases_lt m n))
-
-pub found_same : (v : View) (s : Passed) (q slot n : ℕ) (o : Option ℕ) → ¬ FitsSlot v s q slot n → IsFoundBelow v s q slot n o → IsFoundBelow v s q slot (n + 1) o
-found_same v s q slot n None no_fit found = λ m h. ⊎_elim (found m) (λ le. let e : n ≡ m = omega arith in subst (λ k. ¬ FitsSlot v s q slot k) e no_fit) (cases_lt m n)
-found_same v s q slot n (Some l) no_fit found =
-    let below : l < n = found.1 in
-    (found.0, omega arith, λ m h fits. ⊎_elim (λ lt. found.2 m lt fits) (λ le. let e : m ≡ n = omega arith in absurd (no_fit (subst (FitsSlot v s q slot) e fits))) (cases_lt m n))
-
-pub found_some : (v : View) (s : Passed) (q slot n : ℕ) (o : Option ℕ) → IsFoundBelow v s q slot n o → IfSome o (FitsSlot v s q slot)
-found_some v s q slot n None found = tt
-found_some v s q slot n (Some l) found = found.0
-
-pub found_best : (v : View) (s : Passed) (q slot n : ℕ) (o : Option ℕ) → lanes_of v.shape ≤ n → IsFoundBelow v s q slot n o → IfSome o (λ l. (m : ℕ) → FitsSlot v s q slot m → ¬ IsBetterLane v m l)
-found_best v s q slot n None h found = tt
-found_best v s q slot n (Some l) h found = λ m fits. let lt = fits.lane in found.2 m (omega arith) fits
-
-pub found_none : (v : View) (s : Passed) (q slot n : ℕ) (o : Option ℕ) → lanes_of v.shape ≤ n → IsFoundBelow v s q slot n o → IfNone o ((l : ℕ) → ¬ FitsSlot v s q slot l)
-found_none v s q slot n None h found = λ l fits. let lt = fits.lane in found l (omega arith) fits
-found_none v s q slot n (Some l) h found = tt
 
 -- ---- the event of a level
 

@@ -1,8 +1,8 @@
 -- Which lanes are open to a queue, and the best of them: a walk over a set of lanes, and what flow lanes serve.
-use Rattle.std.proofs.Common.{◌≡◌, ◌≢◌, ℕ, ◌+◌, ◌-◌, ◌<◌, ◌≤◌, Bool, true, false, not, cond, nat_le, ◌==◌, List, [], ◌∷◌, length, map, get_or, All, Option, Some, None, inl, inr, ◌⊎◌, ⊎_elim, refl, sym, ap, ◌∙◌, subst, arith, eqb-true, if◌then◌else◌}
+use Rattle.std.proofs.Common.{◌≡◌, ◌≢◌, ℕ, ◌+◌, ◌*◌, ◌-◌, ◌/◌, ◌%◌, ◌<◌, ◌≤◌, Bool, true, false, not, cond, nat_le, ◌==◌, List, [], ◌∷◌, length, map, get_or, All, Option, Some, None, inl, inr, ◌⊎◌, ⊎_elim, refl, sym, ap, ◌∙◌, subst, arith, eqb-true, if◌then◌else◌}
 use Rattle.std.specs.Prelude.{◌↔◌}
 use Rattle.std.specs.Option.{IfSome, IfNone}
-use Rattle.std.proofs.lemmas.Bool.{and_from, and_parts, and_right, cases_eq, cases_lt, false≢true, false_from_ne_true, leb-true, leb-false}
+use Rattle.std.proofs.lemmas.Bool.{and_from, and_parts, and_right, cond-true, cases_eq, cases_lt, false≢true, false_from_ne_true, leb-true, leb-false}
 use Rattle.evt_types.proofs.FlowLanes.{serves_port, serves_flow, port_is_lane}
 use Rattle.evt_types.specs.Plan.{Plan, depth_of, lanes_of, lanes_at, lanes_by_slot, flow_lanes, flow_at, slot_lanes, is_flows, is_lane_of, has_flow_lanes, serves, queue_of, is_atomic, port_of}
 use Rattle.evt_types.specs.declared.flows.FlowLane.{FlowLane}
@@ -10,6 +10,7 @@ use Rattle.std.specs.List.{flat_map, range_with_len}
 use Rattle.std.proofs.lemmas.List.Elements.{All-nil, All-map, All-append, All-head, All-tail}
 use Rattle.std.proofs.lemmas.List.Concat.{flat_map-cons}
 use Rattle.std.proofs.lemmas.List.{length-map}
+use Rattle.std.proofs.lemmas.Nat.{div-mul-add, mod-mul-add}
 use Rattle.std.proofs.lemmas.Option.{get_or_from_slice_get, slice_get_within}
 use Rattle.lists.specs.Lists.{has}
 use Rattle.place_set.specs.Places.{Has, IsEmpty, IsFirst, SameBut}
@@ -26,6 +27,8 @@ use Rattle.sched_core.specs.Offered.{AreOpenLanes, FitsSlot, HasAllowed, HasPlac
 use Rattle.sched_core.specs.Pinned.{IsSlotOf, MayGo, pin_in, pins_at, slots_of}
 use Rattle.sched_core.specs.View.{view_in, unanswered_in, IsCore}
 use Rattle.sched_core.specs.declared.state.Core.TheInside.{Inside}
+use Rattle.sched_core.specs.SlotLanes.{IsSlotLane, slot_lane_count}
+use Rattle.transcripts.proofs.FlowAlone.{one_lane}
 use Rattle.transcripts.specs.Choice.{Passed, HasNoOther, IsBetterLane, has_bounced}
 use Rattle.transcripts.specs.Standing.{View, unanswered_at}
 
@@ -248,3 +251,26 @@ ports_allowed a s q lanes slots core h ports are may t within some =
     let each = may t (slot_of_pins a.shape q (length (pins_at a.pins q)) t (core.pins.slots q h) within) in
     let fits = some.1 in
     each.1 (some.0, (are some.0).1 (fits_open (view_in a) s q t some.0 ports fits), alone_may a.shape (map unanswered_in a.lanes) a.pins q t some.0 core.pins h fits.alone)
+
+-- ---- the slot's flow lane
+
+-- what is looked up for a slot
+pub slot_lane_here : (a : Inside) (q slot : ℕ) (o : Option ℕ) → IsCore a → has_flow_lanes a.shape q ≡ true → q < length a.shape.queues → slot < 64 → o ≡ get_or a.slot_lanes.items (q * 64 + slot) o → IsSlotLane a.shape q slot o
+slot_lane_here a q slot o core flows h few is =
+    let k : ℕ = q * 64 + slot in
+    let quotient : k / 64 ≡ q = div-mul-add q 64 slot few in
+    let slot_is : k % 64 ≡ slot = mod-mul-add q 64 slot few in
+    let serving : is_flows a.shape.serving ≡ true = (and_parts (is_flows a.shape.serving) (is_atomic (queue_of a.shape q).kind) flows).0 in
+    let all : slot_lane_count a.shape ≡ length a.shape.queues * 64 = cond-true (is_flows a.shape.serving) _ _ serving in
+    let there : k < length a.slot_lanes.items = omega (arith, h, few, all, core.slot_lanes.count) in
+    subst (IsSlotLane a.shape q slot) (sym is)
+    (subst (λ s. IsSlotLane a.shape q s (get_or a.slot_lanes.items k o)) slot_is
+    (subst (λ n. IsSlotLane a.shape n (k % 64) (get_or a.slot_lanes.items k o)) quotient (core.slot_lanes.each k o there)))
+
+-- where no flow lane serves the slot, no lane may take an event of it
+pub slot_lane_none : (v : View) (s : Passed) (q slot : ℕ) → has_flow_lanes v.shape q ≡ true → IsSlotLane v.shape q slot None → (l : ℕ) → ¬ FitsSlot v s q slot l
+slot_lane_none v s q slot flows none l fits = none l fits.lane (by_flow v.shape l q slot flows fits.linked) fits.linked
+
+-- no other lane may
+pub slot_lane_alone : (v : View) (s : Passed) (q slot l m : ℕ) → has_flow_lanes v.shape q ≡ true → IsSlotLane v.shape q slot (Some l) → FitsSlot v s q slot m → m ≡ l
+slot_lane_alone v s q slot l m flows one fits = one_lane v.shape m l q slot flows fits.linked one.1

@@ -1,5 +1,5 @@
 -- The parts of a core: what waits in a queue, what is unanswered on a lane, and what holds of each.
-use Rattle.std.specs.Prelude.{ℕ, ◌≡◌, ◌<◌, ◌≤◌, List, [], length, slice_index_or, All, if◌then◌else◌}
+use Rattle.std.specs.Prelude.{ℕ, ◌≡◌, ◌<◌, List, [], length, slice_index_or, All, if◌then◌else◌}
 use Rattle.evt_types.specs.Plan.{Plan, bound_of, depth_of, is_atomic, queue_of}
 use Rattle.transcripts.specs.Transcript.{Held}
 use Rattle.order_parts.specs.declared.history.Entry.{Entry}

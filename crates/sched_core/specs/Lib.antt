@@ -9,5 +9,6 @@ pub mod Pinned
 pub mod Settling
 pub mod Shutting
 pub mod Skipped
+pub mod SlotLanes
 pub mod Taken
 pub mod View

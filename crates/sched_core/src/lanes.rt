@@ -7,6 +7,7 @@ ghost use Rattle.place_set.specs.Places.{Has};
 ghost use Rattle.sched_core.specs.Offered.{AreOpenLanes, FitsSlot, HasAllowed, HasPlace, MayHold, better_of};
 
 use crate::skips::Skips;
+use crate::slot_lanes::SLOTS;
 use crate::state::Core;
 use evt_types::Serving;
 use place_set::{MAX_PLACES, Places};
@@ -62,6 +63,7 @@ impl Core {
         skips: &Skips,
     ) -> Option<usize>
         requires queue { queue < length self.now.shape.queues }
+        requires slot { slot < SLOTS }
         requires lanes { AreOpenLanes self.now skips.now queue lanes }
         ensures fits { IfSome result (FitsSlot self.now skips.now queue slot) }
         ensures best { IfSome result (λ l. (m : ℕ) → FitsSlot self.now skips.now queue slot m → ¬ IsBetterLane self.now m l) }
@@ -94,19 +96,19 @@ impl Core {
 
     /// The slot's flow lane, where it may take an event.
     fn flow_for(&self, queue: usize, slot: usize, skips: &Skips) -> Option<usize>
-        requires { queue < length self.now.shape.queues }
+        requires queue { queue < length self.now.shape.queues }
+        requires slot { slot < SLOTS }
+        requires flows { has_flow_lanes self.now.shape queue ≡ true }
         ensures fits { IfSome result (FitsSlot self.now skips.now queue slot) }
         ensures best { IfSome result (λ l. (m : ℕ) → FitsSlot self.now skips.now queue slot m → ¬ IsBetterLane self.now m l) }
         ensures none { IfNone result ((l : ℕ) → ¬ FitsSlot self.now skips.now queue slot l) }
     {
-        let count = self.shape().lanes();
-        let mut best = None;
-        for lane in 0..count {
-            if self.fits(lane, queue, slot, skips) {
-                best = Some(self.better_lane(best, lane));
-            }
+        let lane = self.slot_lanes[queue * SLOTS + slot]?;
+        if self.fits(lane, queue, slot, skips) {
+            Some(lane)
+        } else {
+            None
         }
-        best
     }
 
     /// Whether the lane may take an event of the slot.

@@ -13,6 +13,7 @@ mod pins;
 mod propose;
 mod shut;
 mod skips;
+mod slot_lanes;
 mod state;
 mod take;
 

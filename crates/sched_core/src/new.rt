@@ -8,6 +8,7 @@ ghost use Rattle.sched_core.specs.Links.{AreLinks, AreLinksOf};
 use crate::histories::Histories;
 use crate::orders::AllOrders;
 use crate::pins::AllPins;
+use crate::slot_lanes::slot_lanes;
 use crate::state::{Core, Memory};
 use evt_types::{MAX_SLOTS, Shape};
 use parked_queue::ParkedQueue;
@@ -100,6 +101,10 @@ impl Core {
             Ok(links) => links,
             Err(memory) => return Err((memory, shape)),
         };
+        let slot_lanes = match slot_lanes(alloc, &shape) {
+            Ok(slot_lanes) => slot_lanes,
+            Err(memory) => return Err((memory, shape)),
+        };
         // To read a limit makes known that the limits hold.
         let _ = shape.limit();
         Ok(Core {
@@ -109,6 +114,7 @@ impl Core {
             lanes,
             pins,
             links,
+            slot_lanes,
             inside: 0,
             entries: 0,
             shut: false,

@@ -11,6 +11,7 @@ ghost use Rattle.sched_core.specs.Offered.{numbered_in, AreOpenLanes, HasAllowed
 
 use crate::offer::Offer;
 use crate::skips::Skips;
+use crate::slot_lanes::SLOTS;
 use crate::state::Core;
 use evt_types::{Delivery, Numbered};
 use place_set::Places;
@@ -126,7 +127,7 @@ impl Core {
     fn slot_of(&self, queue: usize, waiting: &Numbered) -> usize
         requires { queue < length self.now.shape.queues }
         ensures value { result ≡ slot_at self.now queue waiting.now }
-        ensures few { result < 64 }
+        ensures few { result < SLOTS }
     {
         self.queues[queue].slot_of(waiting)
     }
@@ -142,6 +143,7 @@ impl Core {
     ) -> Option<Offer>
         requires queue { queue < length self.now.shape.queues }
         requires slot { slot ≡ slot_at self.now queue waiting.now }
+        requires few { slot < SLOTS }
         requires lanes { AreOpenLanes self.now skips.now queue lanes }
         ensures same { IfSome result (λ o. (numbered_in o.delivery ≡ waiting.now) × (o.delivery.queue ≡ queue)) }
         ensures fits { IfSome result (λ o. Fits self.now skips.now o.lane queue waiting.now) }

@@ -30,6 +30,8 @@ pub struct Core {
     pub(crate) pins: AllPins,
     /// For each queue the ports' lanes that serve it.
     pub(crate) links: Vec<Places>,
+    /// The flow lane of each slot, by queue and slot.
+    pub(crate) slot_lanes: Vec<Option<usize>>,
     /// How many events wait, are kept or are unanswered.
     pub(crate) inside: usize,
     /// How many events were accepted or are kept.

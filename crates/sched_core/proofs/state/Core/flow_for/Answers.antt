@@ -1,39 +1,36 @@
-use Rattle.std.proofs.Common.{◌≡◌, ◌≤◌, ◌+◌, Some, sym, ap, ◌∙◌, subst, arith}
+use Rattle.std.proofs.Common.{◌≡◌, ℕ, ◌<◌, None, Some, true, Option, length, sym, ◌∙◌, subst}
 use Rattle.std.proofs.lemmas.Bool.{false≢true}
-use Rattle.evt_types.specs.Plan.{lanes_of}
-use Rattle.sched_core.proofs.Offers.{IsFoundBelow, found_lane, found_more, found_same, found_some, found_best, found_none}
+use Rattle.std.specs.Option.{IfNone}
+use Rattle.evt_types.specs.Plan.{has_flow_lanes}
+use Rattle.transcripts.specs.Standing.{View}
+use Rattle.sched_core.proofs.Offers.{not_itself}
+use Rattle.sched_core.proofs.OpenLanes.{slot_lane_here, slot_lane_none, slot_lane_alone}
+use Rattle.sched_core.specs.Offered.{FitsSlot}
+use Rattle.sched_core.specs.SlotLanes.{IsSlotLane}
 use Rattle.sched_core.proofs.state.Core.flow_for.Goals as goal
-use Rattle.sched_core.proofs.state.Core.flow_for.Goals.{then-fits, else-fits}
 
-pub loop-lane-init : goal.loop-lane-init
-loop-lane-init c = λ m h. absurd (omega arith)
+pub returns-in_err-lane-clause-none : goal.returns-in_err-lane-clause-none
+returns-in_err-lane-clause-none c =
+    let flows : has_flow_lanes c.self.inside.shape c.args.queue ≡ true = subst (λ (v : View). has_flow_lanes v.shape c.args.queue ≡ true) (sym c.self.view_is) c.requires.flows in
+    let queue : c.args.queue < length c.self.inside.shape.queues = subst (λ (v : View). c.args.queue < length v.shape.queues) (sym c.self.view_is) c.requires.queue in
+    let here : IsSlotLane c.self.inside.shape c.args.queue c.args.slot c.index.result.now = slot_lane_here c.self.inside c.args.queue c.args.slot c.index.result.now c.self.invariant flows queue c.requires.slot c.index.ensures in
+    let none : IsSlotLane c.args.self.now.shape c.args.queue c.args.slot None = subst (λ (v : View). IsSlotLane v.shape c.args.queue c.args.slot None) c.self.view_is (subst (IsSlotLane c.self.inside.shape c.args.queue c.args.slot) c.in_err-lane.was here) in
+    subst (λ (o : Option ℕ). IfNone o ((l : ℕ) → ¬ FitsSlot c.args.self.now c.args.skips.now c.args.queue c.args.slot l)) (sym c.from_residual.ensures)
+    (slot_lane_none c.args.self.now c.args.skips.now c.args.queue c.args.slot c.requires.flows none)
 
-pub better_lane-requires-clause-best : goal.better_lane-requires-clause-best
-better_lane-requires-clause-best c = found_lane c.args.self.now c.args.skips.now c.args.queue c.args.slot c.loop-lane.lane c.loop-lane.best c.loop-lane.invariant
+pub returns-then-fits-clause-best : goal.returns-then-fits-clause-best
+returns-then-fits-clause-best c m fits =
+    let flows : has_flow_lanes c.self.inside.shape c.args.queue ≡ true = subst (λ (v : View). has_flow_lanes v.shape c.args.queue ≡ true) (sym c.self.view_is) c.requires.flows in
+    let queue : c.args.queue < length c.self.inside.shape.queues = subst (λ (v : View). c.args.queue < length v.shape.queues) (sym c.self.view_is) c.requires.queue in
+    let here : IsSlotLane c.self.inside.shape c.args.queue c.args.slot c.index.result.now = slot_lane_here c.self.inside c.args.queue c.args.slot c.index.result.now c.self.invariant flows queue c.requires.slot c.index.ensures in
+    let one : IsSlotLane c.args.self.now.shape c.args.queue c.args.slot (Some c.in_ok-lane.lane) = subst (λ (v : View). IsSlotLane v.shape c.args.queue c.args.slot (Some c.in_ok-lane.lane)) c.self.view_is (subst (IsSlotLane c.self.inside.shape c.args.queue c.args.slot) c.in_ok-lane.was here) in
+    not_itself c.args.self.now c.in_ok-lane.lane m (sym (slot_lane_alone c.args.self.now c.args.skips.now c.args.queue c.args.slot c.in_ok-lane.lane m c.requires.flows one fits))
 
-pub loop-lane-preserved : goal.loop-lane-preserved
-loop-lane-preserved c =
-    elim c.if-fits.branch [
-      | then-fits w ↦
-          subst (IsFoundBelow c.args.self.now c.args.skips.now c.args.queue c.args.slot (c.loop-lane.lane + 1)) (sym w.best-is)
-          (subst (λ l. IsFoundBelow c.args.self.now c.args.skips.now c.args.queue c.args.slot (c.loop-lane.lane + 1) (Some l)) (sym w.better_lane.ensures)
-          (found_more c.args.self.now c.args.skips.now c.args.queue c.args.slot c.loop-lane.lane c.loop-lane.best c.loop-lane.invariant (c.fits.ensures.0 w.if-fits.true)))
-      | else-fits w ↦
-          subst (IsFoundBelow c.args.self.now c.args.skips.now c.args.queue c.args.slot (c.loop-lane.lane + 1)) (sym w.best-is)
-          (found_same c.args.self.now c.args.skips.now c.args.queue c.args.slot c.loop-lane.lane c.loop-lane.best (λ fits. false≢true (sym w.if-fits.false ∙ c.fits.ensures.1 fits)) c.loop-lane.invariant)
-    ]
-
-pub returns-clause-fits : goal.returns-clause-fits
-returns-clause-fits c = found_some c.args.self.now c.args.skips.now c.args.queue c.args.slot c.loop-lane.lane c.loop-lane.best c.loop-lane.invariant
-
-pub returns-clause-none : goal.returns-clause-none
-returns-clause-none c =
-    let count : c.lanes-count.result ≡ lanes_of c.args.self.now.shape = c.lanes-count.ensures.value ∙ ap lanes_of c.shape.ensures in
-    let h : lanes_of c.args.self.now.shape ≤ c.loop-lane.lane = omega arith in
-    found_none c.args.self.now c.args.skips.now c.args.queue c.args.slot c.loop-lane.lane c.loop-lane.best h c.loop-lane.invariant
-
-pub returns-clause-best : goal.returns-clause-best
-returns-clause-best c =
-    let count : c.lanes-count.result ≡ lanes_of c.args.self.now.shape = c.lanes-count.ensures.value ∙ ap lanes_of c.shape.ensures in
-    let h : lanes_of c.args.self.now.shape ≤ c.loop-lane.lane = omega arith in
-    found_best c.args.self.now c.args.skips.now c.args.queue c.args.slot c.loop-lane.lane c.loop-lane.best h c.loop-lane.invariant
+pub returns-else-fits-clause-none : goal.returns-else-fits-clause-none
+returns-else-fits-clause-none c m fits =
+    let flows : has_flow_lanes c.self.inside.shape c.args.queue ≡ true = subst (λ (v : View). has_flow_lanes v.shape c.args.queue ≡ true) (sym c.self.view_is) c.requires.flows in
+    let queue : c.args.queue < length c.self.inside.shape.queues = subst (λ (v : View). c.args.queue < length v.shape.queues) (sym c.self.view_is) c.requires.queue in
+    let here : IsSlotLane c.self.inside.shape c.args.queue c.args.slot c.index.result.now = slot_lane_here c.self.inside c.args.queue c.args.slot c.index.result.now c.self.invariant flows queue c.requires.slot c.index.ensures in
+    let one : IsSlotLane c.args.self.now.shape c.args.queue c.args.slot (Some c.in_ok-lane.lane) = subst (λ (v : View). IsSlotLane v.shape c.args.queue c.args.slot (Some c.in_ok-lane.lane)) c.self.view_is (subst (IsSlotLane c.self.inside.shape c.args.queue c.args.slot) c.in_ok-lane.was here) in
+    let same = slot_lane_alone c.args.self.now c.args.skips.now c.args.queue c.args.slot c.in_ok-lane.lane m c.requires.flows one fits in
+    false≢true (sym c.if-fits.false ∙ c.fits.ensures.1 (subst (FitsSlot c.args.self.now c.args.skips.now c.args.queue c.args.slot) same fits))

@@ -1,6 +1,6 @@
 use Rattle.std.proofs.Common.{rules}
 use Rattle.event_scheduler.proofs.Giving.{gave, refused}
-use Rattle.event_scheduler.proofs.scheduler.Scheduler.give_one.Goals as goal
+use Rattle.event_scheduler.proofs.scheduler.Scheduler.offer_one.Goals as goal
 
 pub returns-in-Ok-clause-hands : goal.returns-in-Ok-clause-hands
 returns-in-Ok-clause-hands c =

@@ -1,6 +1,6 @@
 //! Dequeues, and enqueues of several events.
 
-ghost use Rattle.std.specs.Prelude.{◌≡◌, ◌≢◌, ◌+◌, ◌%◌, ◌^◌, ◌<◌, ◌≤◌, [], length, IsTrue, IsFalse, ◌↔◌, take, IsNone, IfSome, IfOk, IfErr, OnOk, MatchResult};
+ghost use Rattle.std.specs.Prelude.{◌≡◌, ◌≢◌, ◌+◌, ◌%◌, ◌^◌, ◌<◌, ◌≤◌, [], length, IsTrue, IsFalse, ◌↔◌, take, IsErr, IsNone, IfSome, IfOk, IfErr, OnOk, MatchResult};
 ghost use Rattle.evt_types.specs.declared.event.Op.TheVariants as ops;
 ghost use Rattle.credit_pool.specs.Accounts.{Stays};
 ghost use Rattle.event_ports.specs.Lanes.{Rests, Releases, Dequeues, Arrives, SubmitsTo, SubmitsAll, first_lane, release_reply};
@@ -27,9 +27,39 @@ impl Port {
             (λ _. Settles (place_of self.old).quantum ((pocket_of self.old + released_first self.old) % 2 ^ 64) (account_of self.old) (pocket_of self.new) (account_of self.new))
             (λ b. Settles (place_of self.old).quantum ((pocket_of self.old + b.released) % 2 ^ 64) (account_of self.old) (pocket_of self.new) (account_of self.new)) }
     {
-        let answer = self.exchange(max);
+        let mut deliveries = ArrayVec::new();
+        match self.dequeue_burst(max, &mut deliveries) {
+            Ok(_) => Ok(deliveries),
+            Err(behind) => Err(behind),
+        }
+    }
+
+    /// Dequeues into an array of the caller's, which is emptied first, and so spares the copies of a whole array: how many came.
+    /// After `Behind` the array is empty.
+    pub fn dequeue_burst(
+        &mut self,
+        max: usize,
+        into: &mut ArrayVec<Delivery, 64>,
+    ) -> Result<usize, Behind>
+        ensures place { place_of self.new ≡ place_of self.old }
+        ensures credit { Stays (account_of self.old) (account_of self.new) }
+        ensures ok { OnOk result (Dequeues (links self.old) (released_first self.old) (hand self.old) (hand self.new) into.new.items) }
+        ensures few { OnOk result ((length into.new.items ≤ max) × (length (hand self.new).holding ≤ (place_of self.old).lanes.depth)) }
+        ensures drained { OnOk result (length into.new.items < max → length (hand self.new).holding < (place_of self.old).lanes.depth → seen_by self.new ≡ []) }
+        ensures count { IfOk result (λ n. n ≡ length into.new.items) }
+        ensures none { IsErr result → into.new.items ≡ [] }
+        ensures behind { IfErr result (λ b. IsTrue (place_of self.old).implicit × (b.released < length (hand self.old).holding) × Releases b.released (hand self.old) (hand self.new) × was_filled self.new ops.Release) }
+        ensures settled { MatchResult result
+            (λ _. Settles (place_of self.old).quantum ((pocket_of self.old + released_first self.old) % 2 ^ 64) (account_of self.old) (pocket_of self.new) (account_of self.new))
+            (λ b. Settles (place_of self.old).quantum ((pocket_of self.old + b.released) % 2 ^ 64) (account_of self.old) (pocket_of self.new) (account_of self.new)) }
+    {
+        into.clear();
+        let answer = self.exchange(max, into);
         self.settle();
-        answer
+        match answer {
+            Ok(()) => Ok(into.len()),
+            Err(behind) => Err(behind),
+        }
     }
 
     /// Enqueues the events one after the other, up to the first that is refused: how many were taken, and why the next one wasn't.
@@ -64,35 +94,46 @@ impl Port {
     }
 
     // What a dequeue does before the return rule.
-    fn exchange(&mut self, max: usize) -> Result<ArrayVec<Delivery, 64>, Behind>
+    fn exchange(
+        &mut self,
+        max: usize,
+        into: &mut ArrayVec<Delivery, 64>,
+    ) -> Result<(), Behind>
+        requires { into.old.items ≡ [] }
         ensures place { place_of self.new ≡ place_of self.old }
         ensures credit { account_of self.new ≡ account_of self.old }
-        ensures ok { IfOk result (λ v. Dequeues (links self.old) (released_first self.old) (hand self.old) (hand self.new) v.items) }
-        ensures few { IfOk result (λ v. (length v.items ≤ max) × (length (hand self.new).holding ≤ (place_of self.old).lanes.depth)) }
-        ensures drained { IfOk result (λ v. length v.items < max → length (hand self.new).holding < (place_of self.old).lanes.depth → seen_by self.new ≡ []) }
+        ensures ok { OnOk result (Dequeues (links self.old) (released_first self.old) (hand self.old) (hand self.new) into.new.items) }
+        ensures few { OnOk result ((length into.new.items ≤ max) × (length (hand self.new).holding ≤ (place_of self.old).lanes.depth)) }
+        ensures drained { OnOk result (length into.new.items < max → length (hand self.new).holding < (place_of self.old).lanes.depth → seen_by self.new ≡ []) }
+        ensures none { IsErr result → into.new.items ≡ [] }
         ensures behind { IfErr result (λ b. IsTrue (place_of self.old).implicit × (b.released < length (hand self.old).holding) × Releases b.released (hand self.old) (hand self.new) × was_filled self.new ops.Release) }
         ensures pocket { MatchResult result
             (λ _. pocket_of self.new ≡ (pocket_of self.old + released_first self.old) % 2 ^ 64)
             (λ b. pocket_of self.new ≡ (pocket_of self.old + b.released) % 2 ^ 64) }
     {
         if !self.implicit {
-            return Ok(self.receive(max));
+            self.receive(max, into);
+            return Ok(());
         }
         match self.release_all() {
-            Ok(()) => Ok(self.receive(max)),
+            Ok(()) => {
+                self.receive(max, into);
+                Ok(())
+            }
             Err(behind) => Err(behind),
         }
     }
 
-    fn receive(&mut self, max: usize) -> ArrayVec<Delivery, 64>
+    fn receive(&mut self, max: usize, into: &mut ArrayVec<Delivery, 64>)
+        requires { into.old.items ≡ [] }
         ensures place { place_of self.new ≡ place_of self.old }
         ensures credit { (account_of self.new ≡ account_of self.old) × (pocket_of self.new ≡ pocket_of self.old) × (pocket_of self.old < 2 ^ 64) }
-        ensures arrived { Arrives (links self.old) (hand self.old) (hand self.new) [] result.items }
-        ensures few { (length result.items ≤ max) × (length (hand self.new).holding ≤ (place_of self.old).lanes.depth) }
-        ensures drained { length result.items < max → length (hand self.new).holding < (place_of self.old).lanes.depth → seen_by self.new ≡ [] }
+        ensures arrived { Arrives (links self.old) (hand self.old) (hand self.new) [] into.new.items }
+        ensures few { (length into.new.items ≤ max) × (length (hand self.new).holding ≤ (place_of self.old).lanes.depth) }
+        ensures drained { length into.new.items < max → length (hand self.new).holding < (place_of self.old).lanes.depth → seen_by self.new ≡ [] }
     {
         let _pocket = self.pocket;
-        self.lanes.receive_all(max)
+        self.lanes.receive_all(max, into);
     }
 
     // Releases all that is held, oldest first, or as much as the reply rings take. The scheduler sees it.

@@ -164,21 +164,20 @@ impl Lanes {
 
     /// Receives at most `max` deliveries, and no more than may be held: from the own lane first, then from the linked flow lanes
     /// in their order, of which each that isn't held is claimed by one try.
-    pub(crate) fn receive_all(&mut self, max: usize) -> ArrayVec<Delivery, 64>
+    pub(crate) fn receive_all(&mut self, max: usize, into: &mut ArrayVec<Delivery, 64>)
+        requires { into.old.items ≡ [] }
         ensures place { lanes_place self.new ≡ lanes_place self.old }
         ensures counts { CountsNone self.old self.new }
-        ensures arrived { Arrives (links_of self.old) (hand_of self.old) (hand_of self.new) [] result.items }
-        ensures few { (length result.items ≤ max) × (length (hand_of self.new).holding ≤ (lanes_place self.new).depth) }
-        ensures drained { length result.items < max → length (hand_of self.new).holding < (lanes_place self.new).depth → seen_own self.new ≡ [] }
+        ensures arrived { Arrives (links_of self.old) (hand_of self.old) (hand_of self.new) [] into.new.items }
+        ensures few { (length into.new.items ≤ max) × (length (hand_of self.new).holding ≤ (lanes_place self.new).depth) }
+        ensures drained { length into.new.items < max → length (hand_of self.new).holding < (lanes_place self.new).depth → seen_own self.new ≡ [] }
     {
         let most = max.min(self.order.capacity() - self.order.len());
-        let mut deliveries = ArrayVec::new();
-        self.receive_some(Lane::Own, most, &mut deliveries);
+        self.receive_some(Lane::Own, most, into);
         for place in 0..self.flows.link_count() {
             let lane = Lane::Flow(self.flows.link(place));
-            self.receive_some(lane, most, &mut deliveries);
+            self.receive_some(lane, most, into);
         }
-        deliveries
     }
 
     /// Makes all that was submitted and answered visible to the scheduler.

@@ -31,8 +31,8 @@ returns-clause-arrived c =
     let was = c.loop-place.invariant in
     let links : List ℕ = links_of c.args.self.now in
     let end : length links ≤ c.loop-place.place = omega (arith, was.4, c.loop-place-test.false) in
-    let All : List ℕ → Type 0 = λ ls. ArrivesFrom (lanes_read ls) (hand_of c.args.self.now) (hand_of c.loop-place.self) [] c.loop-place.deliveries.items in
-    arrives links (hand_of c.args.self.now) (hand_of c.loop-place.self) [] c.loop-place.deliveries.items (subst All (take_all c.loop-place.place links end) was.2)
+    let All : List ℕ → Type 0 = λ ls. ArrivesFrom (lanes_read ls) (hand_of c.args.self.now) (hand_of c.loop-place.self) [] c.loop-place.into.items in
+    arrives links (hand_of c.args.self.now) (hand_of c.loop-place.self) [] c.loop-place.into.items (subst All (take_all c.loop-place.place links end) was.2)
 
 pub returns-clause-drained : goal.returns-clause-drained
 returns-clause-drained c few room =

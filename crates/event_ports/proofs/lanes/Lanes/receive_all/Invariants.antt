@@ -6,6 +6,6 @@ use Rattle.event_ports.proofs.lanes.Lanes.receive_all.Given as goal
 abbrev pub invariant-loop-place : goal.invariant-loop-place
 invariant-loop-place l =
     (lanes_place l.self ≡ lanes_place l.fn.self) × CountsNone l.fn.self l.self
-    × ArrivesFrom (lanes_read (take l.place (links_of l.fn.self))) (hand_of l.fn.self) (hand_of l.self) [] l.deliveries.items
-    × HasRoomFor l.most (lanes_place l.self).depth (hand_of l.self).holding l.deliveries.items
-    × (l.place-end ≡ length (links_of l.fn.self)) × (length l.deliveries.items < l.most → seen_own l.self ≡ [])
+    × ArrivesFrom (lanes_read (take l.place (links_of l.fn.self))) (hand_of l.fn.self) (hand_of l.self) [] l.into.items
+    × HasRoomFor l.most (lanes_place l.self).depth (hand_of l.self).holding l.into.items
+    × (l.place-end ≡ length (links_of l.fn.self)) × (length l.into.items < l.most → seen_own l.self ≡ [])

@@ -7,12 +7,12 @@ use Rattle.event_ports.proofs.port.Port.exchange.Goals as goal
 
 pub returns-then-not-self-clause-ok : goal.returns-then-not-self-clause-ok
 returns-then-not-self-clause-ok c =
-    dequeues_where c.args.self.now.implicit (links c.args.self.now) (length (hand c.args.self.now).holding) (hand c.args.self.now) (hand c.receive.new.self) c.receive.result.items
+    dequeues_where c.args.self.now.implicit (links c.args.self.now) (length (hand c.args.self.now).holding) (hand c.args.self.now) (hand c.receive.new.self) c.receive.new.into.items
     (search rules) c.receive.ensures.arrived
 
 pub returns-in-Ok-clause-ok : goal.returns-in-Ok-clause-ok
 returns-in-Ok-clause-ok c =
     let released = c.in-Ok.ensures.ok in
-    let From = λ (p : Place). Arrives p.lanes.flows.links (hand c.release_all.new.self) (hand c.receive-in-Ok.new.self) [] c.receive-in-Ok.result.items in
+    let From = λ (p : Place). Arrives p.lanes.flows.links (hand c.release_all.new.self) (hand c.receive-in-Ok.new.self) [] c.receive-in-Ok.new.into.items in
     dequeues_released c.args.self.now.implicit (links c.args.self.now) (length (hand c.args.self.now).holding) (hand c.args.self.now) (hand c.release_all.new.self) (hand c.receive-in-Ok.new.self)
-    c.receive-in-Ok.result.items (search rules) released.0 (subst From c.release_all.ensures.place c.receive-in-Ok.ensures.arrived)
+    c.receive-in-Ok.new.into.items (search rules) released.0 (subst From c.release_all.ensures.place c.receive-in-Ok.ensures.arrived)

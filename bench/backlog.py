@@ -8,7 +8,7 @@ The program is `core_bench`; where none is named it is built. The backlog's ring
 """
 import sys
 
-from core_rounds import compare, named
+from core_rounds import Case, compare, named
 
 BACKLOGS, MOST = (4_000, 8_000), 1.3
 
@@ -16,7 +16,7 @@ BACKLOGS, MOST = (4_000, 8_000), 1.3
 def main():
     if len(sys.argv) > 2:
         sys.exit(__doc__)
-    cases = {f"{waiting:,} waiting": (1, 1, waiting) for waiting in BACKLOGS}
+    cases = {f"{waiting:,} waiting": Case(held=1, flows=1, waiting=waiting) for waiting in BACKLOGS}
     sys.exit(0 if compare(named(), cases, MOST) else 1)
 
 

@@ -1,5 +1,6 @@
-"""Runs of `core_bench`: in each round the lane's oldest event is released, a new one is taken, and the core gives the next, one
-event that is taken, given and answered."""
+"""Runs of `core_bench`: in each round a burst of the oldest events is released, as many new ones are taken, and the core gives as many,
+each an event that is taken, given and answered."""
+import dataclasses
 import pathlib
 import resource
 import statistics
@@ -7,7 +8,22 @@ import subprocess
 import sys
 
 TURNS, SECONDS = 40, 0.1
+# So many events the busy port of each run holds.
+BUSY = 64
 CRATE = pathlib.Path(__file__).resolve().parent.parent / "crates" / "core_bench"
+
+
+@dataclasses.dataclass(frozen=True)
+class Case:
+    """What `core_bench` is asked for beside the rounds, in the order of its words."""
+
+    held: int
+    flows: int = 63
+    waiting: int = 0
+    blocked: int = 0
+    queues: int = 1
+    ports: int = 1
+    burst: int = 1
 
 
 def built():
@@ -24,6 +40,17 @@ def named():
     return pathlib.Path(sys.argv[1]).resolve() if len(sys.argv) == 2 else built()
 
 
+def ran(words, case, rounds):
+    """What a run writes to standard error, once its line is checked. The words are the program, and before it what runs it."""
+    numbers = {**dataclasses.asdict(case), "rounds": rounds}
+    run = subprocess.run([*words, *map(str, numbers.values())], capture_output=True, check=False)
+    numbers["inside"] = case.held + case.waiting + BUSY + case.blocked
+    line = " ".join(f"{name}={number}" for name, number in numbers.items()) + "\n"
+    if run.returncode != 0 or run.stdout.decode() != line:
+        sys.exit(f"{words[-1]} ended with {run.returncode}: {run.stdout.decode()}{run.stderr.decode()}")
+    return run.stderr.decode()
+
+
 def processor_time():
     """What the programs that have ended took."""
     used = resource.getrusage(resource.RUSAGE_CHILDREN)
@@ -31,13 +58,9 @@ def processor_time():
 
 
 def seconds(program, case, rounds):
-    """The processor time of one run, whose line is checked. The case is (unanswered, flows, waiting)."""
-    held, flows, waiting = case
+    """The processor time of one run."""
     start = processor_time()
-    run = subprocess.run([program, str(held), str(flows), str(waiting), str(rounds)], capture_output=True, check=False)
-    line = f"held={held} flows={flows} waiting={waiting} rounds={rounds} inside={held + waiting}\n"
-    if run.returncode != 0 or run.stdout.decode() != line:
-        sys.exit(f"{program} ended with {run.returncode}: {run.stdout.decode()}{run.stderr.decode()}")
+    ran([program], case, rounds)
     return processor_time() - start
 
 
@@ -49,19 +72,24 @@ def enough_rounds(program, case, idle):
     return rounds
 
 
-def compare(program, cases, most):
-    """Prints the time per event in each case, and whether none takes more than `most` times that of the first.
+def times(program, cases):
+    """The nanoseconds per event in each case, and their ratio to those of the first.
 
     Runs go through the cases in turn, many times. The time of a case is its least one, less that of a run without rounds. Its ratio
     is the median of those to the run of the first case in the same turn, so that a machine which is slower for a while changes both.
-    `cases` has each case under the words that name it.
+    `cases` has each case under the words that name it. All have bursts of one length.
     """
     idle = {name: min(seconds(program, case, 0) for _ in range(5)) for name, case in cases.items()}
     first = next(iter(cases))
     rounds = enough_rounds(program, cases[first], idle[first])
     turns = [{name: seconds(program, case, rounds) - idle[name] for name, case in cases.items()} for _ in range(TURNS)]
-    ratios = {name: statistics.median(turn[name] / turn[first] for turn in turns) for name in cases}
-    for name in cases:
-        least = min(turn[name] for turn in turns) / rounds * 1e9
-        print(f"{name}: {least:.1f} ns per event, ratio {ratios[name]:.2f}")
-    return max(ratios.values()) <= most
+    least = {name: min(turn[name] for turn in turns) / (rounds * case.burst) * 1e9 for name, case in cases.items()}
+    return {name: (least[name], statistics.median(turn[name] / turn[first] for turn in turns)) for name in cases}
+
+
+def compare(program, cases, most):
+    """Prints the time per event in each case, and whether none takes more than `most` times that of the first."""
+    costs = times(program, cases)
+    for name, (least, ratio) in costs.items():
+        print(f"{name}: {least:.1f} ns per event, ratio {ratio:.2f}")
+    return max(ratio for _, ratio in costs.values()) <= most

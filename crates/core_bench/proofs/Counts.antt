@@ -111,5 +111,5 @@ inside_given v w T l q n stands after_stands = omega (arith, inside_moves v w T 
 -- ---- how many steps these are
 
 -- they fit into a log with room for a sweep
-pub steps_fit_log : (v : View) (T : List Step) (l : ℕ) (e : Event) → Stands T v → l < lanes_of v.shape → lanes_of v.shape ≡ 2 → length (steps_of v l e) ≤ sweep_room v.shape
-steps_fit_log v T l e stands lane two = omega (arith, steps_fit v T l e stands lane, kept_fit v T stands, two)
+pub steps_fit_log : (v : View) (T : List Step) (l : ℕ) (e : Event) → Stands T v → l < lanes_of v.shape → length (steps_of v l e) ≤ sweep_room v.shape
+steps_fit_log v T l e stands lane = omega (arith, steps_fit v T l e stands lane, kept_fit v T stands, lane)

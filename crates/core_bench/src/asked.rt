@@ -4,22 +4,35 @@ ghost use Rattle.std.specs.Prelude.{◌≡◌, ◌≤◌, true, IfOk, IfErr, IfS
 ghost use Rattle.core_bench.specs.Fault.{is_of_words};
 
 use crate::fault::BenchFault;
+use evt_types::MAX_QUEUES;
 
-/// The most unanswered events of a lane.
+/// The most unanswered events of the workers.
 pub const MAX_HELD: u64 = 64;
-/// The most flows.
-pub const MAX_FLOWS: u64 = 64;
+/// The most flows: one slot of the queue is left to the blocked events.
+pub const MAX_FLOWS: u64 = 63;
+/// The most worker ports: a device has the source and the busy port beside them.
+pub const MAX_WORKERS: u64 = 30;
+/// The most events of a burst.
+pub const MAX_BURST: u64 = 32;
 
 /// What a run is asked for.
 #[derive(Clone, Copy, Debug, PartialEq, Eq)]
 pub struct Asked {
-    /// How many unanswered events the lane holds.
+    /// How many unanswered events the workers hold.
     pub held: u64,
     /// Of how many flows the events are.
     pub flows: u64,
     /// How many events wait.
     pub waiting: u64,
-    /// How often an event is released and another one handed out.
+    /// How many events wait in front of all these and can't be given.
+    pub blocked: u64,
+    /// How many queues there are. The events are in one of them.
+    pub queues: u32,
+    /// How many worker ports there are.
+    pub ports: u64,
+    /// How many events are released, and as many handed out, in a round.
+    pub burst: u64,
+    /// How many rounds there are.
     pub rounds: u64,
 }
 
@@ -33,27 +46,43 @@ fn within(most: u64, word: &str) -> Option<u64>
     }
 }
 
+/// A number.
+fn number(word: &str) -> Option<u64> {
+    word.parse::<u64>().ok()
+}
+
 /// What the words ask for.
 pub fn read_words(words: &[String]) -> Result<Asked, BenchFault>
     ensures held { IfOk result (λ a. (1 ≤ a.held) × (a.held ≤ MAX_HELD)) }
     ensures flows { IfOk result (λ a. (1 ≤ a.flows) × (a.flows ≤ MAX_FLOWS)) }
+    ensures queues { IfOk result (λ a. (1 ≤ a.queues) × (a.queues ≤ MAX_QUEUES)) }
+    ensures ports { IfOk result (λ a. (1 ≤ a.ports) × (a.ports ≤ MAX_WORKERS)) }
+    ensures burst { IfOk result (λ a. (1 ≤ a.burst) × (a.burst ≤ MAX_BURST)) }
+    ensures enough { IfOk result (λ a. a.burst ≤ a.held) }
     ensures fault { IfErr result (λ e. is_of_words e ≡ true) }
 {
-    let [held, flows, waiting, rounds] = words else {
+    let [held, flows, waiting, blocked, queues, ports, burst, rounds] = words else {
         return Err(BenchFault::WordCount);
     };
     let held = within(MAX_HELD, held).ok_or(BenchFault::Held)?;
     let flows = within(MAX_FLOWS, flows).ok_or(BenchFault::Flows)?;
-    let Ok(waiting) = waiting.parse::<u64>() else {
-        return Err(BenchFault::Waiting);
-    };
-    let Ok(rounds) = rounds.parse::<u64>() else {
-        return Err(BenchFault::Rounds);
-    };
+    let waiting = number(waiting).ok_or(BenchFault::Waiting)?;
+    let blocked = number(blocked).ok_or(BenchFault::Blocked)?;
+    let queues = within(MAX_QUEUES as u64, queues).ok_or(BenchFault::Queues)?;
+    let ports = within(MAX_WORKERS, ports).ok_or(BenchFault::Ports)?;
+    let burst = within(MAX_BURST, burst).ok_or(BenchFault::Burst)?;
+    let rounds = number(rounds).ok_or(BenchFault::Rounds)?;
+    if held < burst {
+        return Err(BenchFault::FewHeld);
+    }
     Ok(Asked {
         held,
         flows,
         waiting,
+        blocked,
+        queues: queues as u32,
+        ports,
+        burst,
         rounds,
     })
 }

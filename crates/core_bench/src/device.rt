@@ -1,18 +1,39 @@
-//! The device of a run: one atomic queue, a port that brings events in and a port that handles them.
+//! The device of a run: an atomic queue that takes all events, queues that stay empty, a port that brings events in, one that is kept
+//! busy, and worker ports.
 
-ghost use Rattle.std.specs.Prelude.{◌≡◌, IfOk};
+ghost use Rattle.std.specs.Prelude.{◌≡◌, ◌+◌, vec_len, IfOk};
 ghost use Rattle.evt_types.specs.Plan.{lanes_of};
 
 use crate::fault::BenchFault;
 use evt_types::{
-    Draft, Kind, MAX_DEPTH, MAX_LIMIT, MAX_SLOTS, PortDraft, QueueDraft, Serving, Shape,
+    Draft, Kind, MAX_DEPTH, MAX_LIMIT, MAX_SLOTS, MAX_SWEEP, PortDraft, QueueDraft, Serving, Shape,
 };
 use std::alloc::{AllocError, Global};
 
 /// The lane of the port that brings events in.
 pub const SOURCE: usize = 0;
-/// The lane of the port that handles them.
-pub const WORKER: usize = 1;
+/// The lane of the busy port. The first event of a run goes to it, since it is the first lane that serves the queue.
+pub const BUSY: usize = 1;
+
+/// A queue of this kind, with so many slots.
+fn queue(kind: Kind, slots: u32) -> QueueDraft {
+    QueueDraft {
+        kind,
+        priority: 128,
+        slots,
+        order: 0,
+        single: false,
+    }
+}
+
+/// The atomic queue, and parallel ones up to the count: the slots of all atomic queues together are few.
+fn all_queues(alloc: Global, count: u32) -> Result<Vec<QueueDraft>, AllocError> {
+    let mut queues = Vec::from_array(alloc, [queue(Kind::Atomic, MAX_SLOTS)])?;
+    for _ in 1..count {
+        queues.push(queue(Kind::Parallel, 0))?;
+    }
+    Ok(queues)
+}
 
 /// A port that is linked to these queues.
 fn port(alloc: Global, links: &[u32]) -> Result<PortDraft, AllocError> {
@@ -25,24 +46,29 @@ fn port(alloc: Global, links: &[u32]) -> Result<PortDraft, AllocError> {
     })
 }
 
-/// The device's configuration.
-pub fn bench_shape(alloc: Global) -> Result<Shape, BenchFault>
-    ensures { IfOk result (λ s. lanes_of s ≡ 2) }
+/// The source, the busy port and so many workers. All but the source are linked to these queues.
+fn all_ports(alloc: Global, workers: u64, links: &[u32]) -> Result<Vec<PortDraft>, AllocError>
+    ensures { IfOk result (λ ports. vec_len ports ≡ workers + 2) }
 {
-    let queue = QueueDraft {
-        kind: Kind::Atomic,
-        priority: 128,
-        slots: MAX_SLOTS,
-        order: 0,
-        single: false,
-    };
+    let mut ports = Vec::from_array(alloc, [port(alloc, &[])?, port(alloc, links)?])?;
+    for _ in 0..workers {
+        ports.push(port(alloc, links)?)?;
+    }
+    Ok(ports)
+}
+
+/// The device's configuration.
+pub fn bench_shape(alloc: Global, queues: u32, workers: u64) -> Result<Shape, BenchFault>
+    ensures { IfOk result (λ s. lanes_of s ≡ workers + 2) }
+{
+    let links: Vec<u32> = (0..queues).collect(alloc)?;
     let draft = Draft {
         limit: MAX_LIMIT,
         quantum: 1,
-        sweep: 1,
+        sweep: MAX_SWEEP,
         serving: Serving::Ports,
-        queues: Vec::from_array(alloc, [queue])?,
-        ports: Vec::from_array(alloc, [port(alloc, &[])?, port(alloc, &[0])?])?,
+        queues: all_queues(alloc, queues)?,
+        ports: all_ports(alloc, workers, &links)?,
     };
     match Shape::build(alloc, &draft) {
         Ok(shape) => Ok(shape),

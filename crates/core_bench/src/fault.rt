@@ -8,23 +8,33 @@ use std::alloc::{AllocError, AllocFailed};
 /// Why a run stops before its end.
 #[derive(Clone, Copy, Debug, PartialEq, Eq)]
 pub enum BenchFault {
-    /// The command line has not four words.
+    /// The command line has not eight words.
     WordCount,
     /// The first word is no number of 1 to 64.
     Held,
-    /// The second word is no number of 1 to 64.
+    /// The second word is no number of 1 to 63.
     Flows,
     /// The third word is no number of events.
     Waiting,
-    /// The fourth word is no number of rounds.
+    /// The fourth word is no number of events.
+    Blocked,
+    /// The fifth word is no number of 1 to 32.
+    Queues,
+    /// The sixth word is no number of 1 to 30.
+    Ports,
+    /// The seventh word is no number of 1 to 32.
+    Burst,
+    /// The eighth word is no number of rounds.
     Rounds,
+    /// The first word is less than the seventh: a burst couldn't be released.
+    FewHeld,
     /// The line couldn't be written.
     Write,
     /// An allocation was refused.
     Memory,
     /// The device was refused.
     Device,
-    /// The core didn't take a reply, or had nothing to give.
+    /// The core didn't take a reply, or had nothing to give, or didn't give an event to the busy port.
     Stuck,
 }
 
@@ -33,12 +43,17 @@ impl BenchFault {
     pub fn text(self) -> &'static str {
         match self {
             BenchFault::WordCount => {
-                "four words are wanted: the unanswered events, the flows, the waiting events and the rounds"
+                "eight words are wanted: the unanswered events, the flows, the waiting events, the blocked events, the queues, the worker ports, the burst and the rounds"
             },
             BenchFault::Held => "the unanswered events must be a number of 1 to 64",
-            BenchFault::Flows => "the flows must be a number of 1 to 64",
+            BenchFault::Flows => "the flows must be a number of 1 to 63",
             BenchFault::Waiting => "the waiting events must be a number",
+            BenchFault::Blocked => "the blocked events must be a number",
+            BenchFault::Queues => "the queues must be a number of 1 to 32",
+            BenchFault::Ports => "the worker ports must be a number of 1 to 30",
+            BenchFault::Burst => "the burst must be a number of 1 to 32",
             BenchFault::Rounds => "the rounds must be a number",
+            BenchFault::FewHeld => "the unanswered events must be as many as a burst at least",
             BenchFault::Write => "the line can't be written",
             BenchFault::Memory => "memory is lacking",
             BenchFault::Device => "the device is refused",
@@ -55,7 +70,12 @@ impl BenchFault {
             | BenchFault::Held
             | BenchFault::Flows
             | BenchFault::Waiting
-            | BenchFault::Rounds => 2,
+            | BenchFault::Blocked
+            | BenchFault::Queues
+            | BenchFault::Ports
+            | BenchFault::Burst
+            | BenchFault::Rounds
+            | BenchFault::FewHeld => 2,
             BenchFault::Write | BenchFault::Memory | BenchFault::Device | BenchFault::Stuck => 1,
         }
     }

@@ -1,8 +1,9 @@
-//! The program `core_bench`: the scheduling core hands out and takes back events while a lane holds so many unanswered ones and
-//! so many wait.
+//! The program `core_bench`: the scheduling core hands out and takes back bursts of events while its workers hold so many unanswered
+//! ones, so many wait, and so many are blocked.
 #![tactic(auto)]
 
 mod asked;
+mod busy;
 mod device;
 mod fault;
 mod rounds;
@@ -35,10 +36,14 @@ fn print_rounds<R: AllocGlobal + Env + Print>(rt: &R) -> Result<(), BenchFault> 
         held,
         flows,
         waiting,
+        blocked,
+        queues,
+        ports,
+        burst,
         rounds,
     } = asked;
     match println!(rt;
-        "held={held} flows={flows} waiting={waiting} rounds={rounds} inside={inside}"
+        "held={held} flows={flows} waiting={waiting} blocked={blocked} queues={queues} ports={ports} burst={burst} rounds={rounds} inside={inside}"
     ) {
         Ok(()) => Ok(()),
         Err(_) => Err(BenchFault::Write),

@@ -1,4 +1,4 @@
-//! Events are handed out until the lane holds so many, others wait, and then each round answers one and hands out another.
+//! Events are handed out until the workers hold so many, others wait, and then each round answers a burst and hands out another.
 
 ghost use Rattle.std.specs.Prelude.{◌≡◌, ◌+◌, ◌≤◌, IfOk, OnOk};
 ghost use Rattle.transcripts.specs.Standing.{inside_of};
@@ -7,66 +7,96 @@ ghost use Rattle.core_bench.specs.Run.{IsRun};
 use crate::asked::{Asked, MAX_FLOWS};
 use crate::fault::BenchFault;
 use crate::run::Run;
+use evt_types::MAX_DEPTH;
+use sched_core::Skips;
 use std::alloc::Global;
 
 impl Run {
-    /// So many new events are handed out.
-    fn fill(&mut self, held: u64) -> Result<(), BenchFault>
-        requires { IsRun self.old }
-        ensures run { OnOk result (IsRun self.new) }
-        ensures inside { OnOk result (inside_of self.new.core ≡ inside_of self.old.core + held) }
-    {
-        for number in 0..held {
-            self.enter(number)?;
-            self.give()?;
-        }
-        Ok(())
-    }
-
     /// So many new events wait.
     fn queue_up(&mut self, waiting: u64) -> Result<(), BenchFault>
         requires { IsRun self.old }
         ensures run { OnOk result (IsRun self.new) }
         ensures inside { OnOk result (inside_of self.new.core ≡ inside_of self.old.core + waiting) }
     {
-        for number in 0..waiting {
-            self.enter(number)?;
+        for _ in 0..waiting {
+            self.enter()?;
         }
         Ok(())
     }
 
-    /// The oldest unanswered event is released, and a new one handed out.
-    fn round(&mut self, number: u64) -> Result<(), BenchFault>
+    /// So many events are handed to the workers, as by a sweep: at its end the core is asked for one more.
+    fn hand_out(&mut self, count: u64) -> Result<(), BenchFault>
         requires { IsRun self.old }
         ensures run { OnOk result (IsRun self.new) }
         ensures inside { OnOk result (inside_of self.new.core ≡ inside_of self.old.core) }
     {
-        self.release()?;
-        self.enter(number)?;
-        self.give()
+        let mut skips = Skips::none();
+        for _ in 0..count {
+            let lane = self.give(&mut skips)?;
+            self.lanes.push_back(lane)?;
+        }
+        // Where events wait it proposes one, which isn't given.
+        let _ = self.core.propose(&skips);
+        Ok(())
+    }
+
+    /// So many new events are handed out.
+    fn fill(&mut self, held: u64) -> Result<(), BenchFault>
+        requires { IsRun self.old }
+        ensures run { OnOk result (IsRun self.new) }
+        ensures inside { OnOk result (inside_of self.new.core ≡ inside_of self.old.core + held) }
+    {
+        self.queue_up(held)?;
+        self.hand_out(held)
+    }
+
+    /// So many of the oldest unanswered events are released.
+    fn release_oldest(&mut self, count: u64) -> Result<(), BenchFault>
+        requires { IsRun self.old }
+        ensures run { OnOk result (IsRun self.new) }
+        ensures inside { OnOk result (inside_of self.new.core + count ≡ inside_of self.old.core) }
+    {
+        for _ in 0..count {
+            self.release()?;
+        }
+        Ok(())
+    }
+
+    /// A burst of the oldest unanswered events is released, and as many new ones are taken and handed out.
+    fn round(&mut self, burst: u64) -> Result<(), BenchFault>
+        requires { IsRun self.old }
+        ensures run { OnOk result (IsRun self.new) }
+        ensures inside { OnOk result (inside_of self.new.core ≡ inside_of self.old.core) }
+    {
+        self.release_oldest(burst)?;
+        self.queue_up(burst)?;
+        self.hand_out(burst)
     }
 
     /// So many rounds.
-    fn rounds(&mut self, count: u64) -> Result<(), BenchFault>
+    fn rounds(&mut self, count: u64, burst: u64) -> Result<(), BenchFault>
         requires { IsRun self.old }
         ensures run { OnOk result (IsRun self.new) }
         ensures inside { OnOk result (inside_of self.new.core ≡ inside_of self.old.core) }
     {
-        for number in 0..count {
-            self.round(number)?;
+        for _ in 0..count {
+            self.round(burst)?;
         }
         Ok(())
     }
 }
 
-/// How many events are inside after the rounds that are asked for: as many as the lane was to hold, and as were to wait.
+/// How many events are inside after the rounds that are asked for: as many as the workers were to hold, as were to wait and to be
+/// blocked, and as the busy port holds.
 pub fn inside_after(alloc: Global, asked: Asked) -> Result<usize, BenchFault>
     requires { (1 ≤ asked.flows) × (asked.flows ≤ MAX_FLOWS) }
-    ensures { IfOk result (λ n. n ≡ asked.held + asked.waiting) }
+    ensures { IfOk result (λ n. n ≡ asked.held + asked.waiting + MAX_DEPTH + asked.blocked) }
 {
-    let mut run = Run::new(alloc, asked.flows)?;
+    let mut run = Run::new(alloc, asked)?;
+    run.fill_busy()?;
+    run.block(asked.blocked)?;
     run.fill(asked.held)?;
     run.queue_up(asked.waiting)?;
-    run.rounds(asked.rounds)?;
+    run.rounds(asked.rounds, asked.burst)?;
     Ok(run.core.inside())
 }

@@ -52,6 +52,15 @@ fn add(count: u64, came: usize, wanted: u64) -> Result<u64, BenchFault>
     count.checked_add(wanted).ok_or(BenchFault::Stuck)
 }
 
+/// Appends what each delivery is forwarded to the second queue as.
+fn push_forwards(deliveries: &[Delivery], events: &mut Vec<Event>) -> Result<(), BenchFault> {
+    for delivery in deliveries {
+        let event = delivery.event;
+        events.push(event.forwarded(SECOND, event.payload))?;
+    }
+    Ok(())
+}
+
 impl Bench {
     /// A device of the case, in which nothing has happened.
     pub fn new(alloc: Global, case: Case, burst: usize) -> Result<Bench, BenchFault>
@@ -123,10 +132,7 @@ impl Bench {
     {
         self.receive();
         self.events.clear();
-        for delivery in &self.deliveries {
-            let event = delivery.event;
-            self.events.push(event.forwarded(SECOND, event.payload))?;
-        }
+        push_forwards(&self.deliveries, &mut self.events)?;
         let (taken, _) = self.worker.enqueue_burst(&self.events);
         add(0, taken, self.burst.portion)?;
         Ok(())

@@ -2,6 +2,7 @@
 
 use crate::plans::{SOURCE, WORKER, one_queue, queue};
 use crate::steps::{delivery, entered, given, new_event, released};
+use arrayvec::ArrayVec;
 use event_device::{Port, Scheduler, Swept, device};
 use evt_types::{Event, Kind, Serving, Step};
 use std::alloc::Global;
@@ -82,9 +83,11 @@ fn a_burst_may_release(rt: HostRuntime) -> Result<(), Fail> {
     let (mut parts, is_good) = two_given(rt.alloc())?;
     assert!(rt; is_good);
     let wanted = [delivery(0, new_event(7, 1)), delivery(1, new_event(7, 2))];
-    let Ok(came) = parts.worker.dequeue(4) else {
+    let mut came = ArrayVec::new();
+    let Ok(count) = parts.worker.dequeue_burst(4, &mut came) else {
         panic!(rt; "nothing has to be released")
     };
+    assert_eq!(rt; count, 2);
     assert_eq!(rt; came.as_slice(), wanted.as_slice());
     assert_eq!(rt; parts.worker.held(), 2);
     let releases = [Event::release(), Event::release()];

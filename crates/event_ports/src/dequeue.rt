@@ -94,11 +94,7 @@ impl Port {
     }
 
     // What a dequeue does before the return rule.
-    fn exchange(
-        &mut self,
-        max: usize,
-        into: &mut ArrayVec<Delivery, 64>,
-    ) -> Result<(), Behind>
+    fn exchange(&mut self, max: usize, into: &mut ArrayVec<Delivery, 64>) -> Result<(), Behind>
         requires { into.old.items ≡ [] }
         ensures place { place_of self.new ≡ place_of self.old }
         ensures credit { account_of self.new ≡ account_of self.old }

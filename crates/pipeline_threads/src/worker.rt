@@ -12,6 +12,7 @@ ghost use Rattle.transcripts.specs.Replies.{said};
 
 use crate::gate::Gate;
 use crate::submit::submit;
+use arrayvec::ArrayVec;
 use event_device::Port;
 use evt_types::{Delivery, Event, Outcome};
 use pipeline_laws::{Action, answer};
@@ -24,8 +25,9 @@ fn receive(port: &mut Port) -> Option<Delivery>
     ensures site { site_of port.new ≡ site_of port.old }
     ensures received { MatchOption result (ReceivesNone port.old port.new) (λ d. Receives d port.old port.new) }
 {
-    match port.dequeue(1) {
-        Ok(deliveries) => deliveries.first().copied(),
+    let mut deliveries = ArrayVec::<Delivery, 64>::new();
+    match port.dequeue_burst(1, &mut deliveries) {
+        Ok(_) => deliveries.first().copied(),
         Err(_) => None,
     }
 }

@@ -110,7 +110,7 @@ nothing_held : (ls : List Entries) (p : Plan) (n : ℕ) → AreEmptyLanes p n ls
 nothing_held ls p n empty = sum_of_map (λ (xs : List Held). length xs) unanswered_in ls ∙ sum_of_none (λ x. length (unanswered_in x)) ls (All-weaker IsBare (λ (l : Entries). length (unanswered_in l) ≡ 0) (λ l e. ap (λ (ys : List Entry). length (map held_of ys)) e) ls empty.empty)
 
 pub core_new : (p : Plan) (qs : Vec Waits Global) (ls : List Entries) (ps : List (List Pin)) (ks : Vec Places Global) (os : Vec (Option ℕ) Global) → IsWithinLimits p → bound_of p < 2 ^ 64 → AreEmptyQueues p (length p.queues) qs.items → AreEmptyLanes p (lanes_of p) ls → AreFreePins p (length p.queues) ps → AreLinks p (length p.queues) ks.items → AreSlotLanes p (slot_lane_count p) os.items
-    → IsCore (record { shape = p; queues = qs; orders = new_orders p; lanes = ls; pins = ps; links = ks; slot_lanes = os; inside = 0; entries = 0; shut = false })
+    → IsCore (record { shape = p; queues = qs; orders = new_orders p; lanes = ls; pins = ps; links = ks; slot_lanes = os; bound = bound_of p; inside = 0; entries = 0; shut = false })
 core_new p qs ls ps ks os limits small queues lanes pins links slot_lanes =
     let waits = nothing_waits p qs.items (length p.queues) queues in
     let numbers = nothing_numbered p qs.items (length p.queues) queues in
@@ -118,6 +118,7 @@ core_new p qs ls ps ks os limits small queues lanes pins links slot_lanes =
     let held = nothing_held ls p (lanes_of p) lanes in
     record {
       limits = limits;
+      bound = refl;
       small = small;
       queues = queues.count;
       lanes = lanes.count;
@@ -136,7 +137,7 @@ core_new p qs ls ps ks os limits small queues lanes pins links slot_lanes =
           (All-map (λ (ys : List Entry). ys ≡ []) entries_in ls lanes.empty);
     }
 
-pub view_new : (p : Plan) (qs : Vec Waits Global) (ls : List Entries) (ps : List (List Pin)) (ks : Vec Places Global) (os : Vec (Option ℕ) Global) → AreEmptyQueues p (length p.queues) qs.items → AreEmptyLanes p (lanes_of p) ls → view_in (record { shape = p; queues = qs; orders = new_orders p; lanes = ls; pins = ps; links = ks; slot_lanes = os; inside = 0; entries = 0; shut = false }) ≡ view_of p []
+pub view_new : (p : Plan) (qs : Vec Waits Global) (ls : List Entries) (ps : List (List Pin)) (ks : Vec Places Global) (os : Vec (Option ℕ) Global) → AreEmptyQueues p (length p.queues) qs.items → AreEmptyLanes p (lanes_of p) ls → view_in (record { shape = p; queues = qs; orders = new_orders p; lanes = ls; pins = ps; links = ks; slot_lanes = os; bound = bound_of p; inside = 0; entries = 0; shut = false }) ≡ view_of p []
 unfolding view_of
 view_new p qs ls ps ks os queues lanes =
     same_parts p _ _ _ _ _ _ _ _ false

@@ -51,6 +51,7 @@ pub record IsCore (a : Inside) : Type 0 where
   pub pins : ArePins a.shape (map unanswered_in a.lanes) a.pins
   pub inside : a.inside ≡ inside_of (view_in a)
   pub within : inside_of (view_in a) ≤ bound_of a.shape
+  pub bound : a.bound ≡ bound_of a.shape
   pub small : bound_of a.shape < 2 ^ 64
   pub entries : a.entries ≡ entries_of (view_in a)
   pub few : entries_of (view_in a) ≤ 2 ^ 63

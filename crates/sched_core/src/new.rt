@@ -80,7 +80,7 @@ impl Core {
         ensures shape { IfOk result (λ c. c.shape ≡ shape) }
         ensures back { IfErr result (λ e. e.1 ≡ shape) }
     {
-        let _ = shape.bound();
+        let bound = shape.bound();
         let queues = match empty_queues(alloc, &shape) {
             Ok(queues) => queues,
             Err(memory) => return Err((memory, shape)),
@@ -115,6 +115,7 @@ impl Core {
             pins,
             links,
             slot_lanes,
+            bound,
             inside: 0,
             entries: 0,
             shut: false,

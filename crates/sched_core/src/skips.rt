@@ -49,7 +49,8 @@ impl Skips {
     {
         self.bounced[lane] = true;
         if lane < MAX_PLACES {
-            self.closed.add(lane);
+            let closed = &mut self.closed;
+            closed.add(lane);
         }
     }
 

@@ -32,6 +32,8 @@ pub struct Core {
     pub(crate) links: Vec<Places>,
     /// The flow lane of each slot, by queue and slot.
     pub(crate) slot_lanes: Vec<Option<usize>>,
+    /// How many events may be inside for a NEW to be taken.
+    pub(crate) bound: usize,
     /// How many events wait, are kept or are unanswered.
     pub(crate) inside: usize,
     /// How many events were accepted or are kept.

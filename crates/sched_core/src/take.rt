@@ -56,7 +56,7 @@ impl Core {
     fn may_enter(&self, queue: usize) -> bool
         ensures { result ≡ may_enter self.now queue }
     {
-        let has_room = self.inside < self.shape.bound() && self.entries < MAX_ENTRIES;
+        let has_room = self.inside < self.bound && self.entries < MAX_ENTRIES;
         queue < self.queues.len() && (self.shut || has_room)
     }
 

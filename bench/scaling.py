@@ -1,0 +1,61 @@
+#!/usr/bin/env python3
+"""Measures what the scheduling core's take, give and release of an event cost in bursts of 1 and of 32: beside no blocked events and
+4,000, with 1 queue and with 16, of which 15 are empty, and with 2 worker ports and 15. It fails where the larger number costs more than
+1.3 times as much as the smaller one, of the worker ports more than 1.5 times as much.
+
+    scaling.py [PROGRAM]
+
+The program is `core_bench`; where none is named it is built. Where valgrind is installed the instructions of an event are counted, which
+are the same on each machine of one kind; else it is timed.
+"""
+import dataclasses
+import re
+import shutil
+import sys
+
+from core_rounds import Case, named, ran, times
+
+BURSTS, HELD, ROUNDS = (1, 32), 32, 1_000
+SCALES = (("blocked", (0, 4_000), 1.3), ("queues", (1, 16), 1.3), ("ports", (2, 15), 1.5))
+VALGRIND = ("valgrind", "--tool=callgrind", "--callgrind-out-file=/dev/null")
+
+
+def instructions(program, case, rounds):
+    """How many instructions a run takes."""
+    said = ran([*VALGRIND, program], case, rounds)
+    refs = re.search(r"refs:\s+([\d,]+)", said)
+    if refs is None:
+        sys.exit(f"valgrind names no count: {said}")
+    return int(refs[1].replace(",", ""))
+
+
+def counts(program, cases):
+    """The instructions per event in each case, and their ratio to those of the first. A run's start falls out of the difference of two."""
+    each = {}
+    for name, case in cases.items():
+        more = instructions(program, case, 2 * ROUNDS) - instructions(program, case, ROUNDS)
+        each[name] = more / (ROUNDS * case.burst)
+    first = next(iter(each.values()))
+    return {name: (cost, cost / first) for name, cost in each.items()}
+
+
+def is_flat(program, measure, burst, scale):
+    """Prints what an event costs at both numbers of the scale, and whether the larger one costs no more than it may."""
+    word, numbers, most = scale
+    plain = Case(HELD, burst=burst)
+    (few, _), (many, ratio) = measure(program, {number: dataclasses.replace(plain, **{word: number}) for number in numbers}).values()
+    print(f"{'{:,} / {:,} {}'.format(*numbers, word):24} {burst:5} {few:8.1f} {many:8.1f} {ratio:6.2f} {most:8.2f}", flush=True)
+    return ratio <= most
+
+
+def main():
+    if len(sys.argv) > 2:
+        sys.exit(__doc__)
+    program = named()
+    unit, measure = ("instructions", counts) if shutil.which(VALGRIND[0]) else ("nanoseconds", times)
+    print(f"{unit + ' per event':24} {'burst':>5} {'fewer':>8} {'more':>8} {'ratio':>6} {'at most':>8}")
+    flat = [is_flat(program, measure, burst, scale) for burst in BURSTS for scale in SCALES]
+    sys.exit(0 if all(flat) else 1)
+
+
+main()

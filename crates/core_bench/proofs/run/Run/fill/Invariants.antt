@@ -1,7 +1,0 @@
-use Rattle.std.proofs.Common.{◌≡◌, ◌+◌}
-use Rattle.transcripts.specs.Standing.{inside_of}
-use Rattle.core_bench.specs.Run.{IsRun}
-use Rattle.core_bench.proofs.run.Run.fill.Given as goal
-
-abbrev pub invariant-loop-number : goal.invariant-loop-number
-invariant-loop-number l = IsRun l.self × (inside_of l.self.core ≡ inside_of l.initial.self.core + l.number)

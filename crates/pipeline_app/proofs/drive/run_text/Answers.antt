@@ -24,6 +24,9 @@ text_same qs rs m n given said report e f g =
 pub returns-in_err-rig-clause-fault : goal.returns-in_err-rig-clause-fault
 returns-in_err-rig-clause-fault c known = err_same (IsEarlyFault known) c.from_residual-in_err-rig.result _ c.from_residual-in_err-rig.ensures.1 (c.in_err-rig.ensures.fault known)
 
+pub returns-in_err-answers-clause-fault : goal.returns-in_err-answers-clause-fault
+returns-in_err-answers-clause-fault c known = err_same (IsEarlyFault known) c.from_residual-in_err-answers.result _ c.from_residual-in_err-answers.ensures.1 tt
+
 pub obey_all-requires : goal.obey_all-requires
 obey_all-requires c =
     let made = c.in_ok-rig.ensures.made in

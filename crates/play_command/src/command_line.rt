@@ -29,11 +29,26 @@ const MAX_WORKERS: u32 = 8;
 /// How many a run has where the words don't say.
 const DEFAULT_WORKERS: &str = "2";
 
+/// The program's name and version.
+const NAME: &str = "evsched";
+
+const VERSION: &str = "0.1.0";
+
+/// The ends of the helps: where the document is described, and an example.
+const AFTER_HELP: &str = "The documents are described in docs/FORMATS.md; examples/ has some to try:
+  evsched play < examples/first-event.toml";
+
+const AFTER_PLAY_HELP: &str = "The document is described in docs/FORMATS.md, \"The document of `play`\". An example:
+  evsched play < examples/first-event.toml";
+
+const AFTER_RUN_HELP: &str = "The document is described in docs/FORMATS.md, \"The document of `run`\". An example:
+  evsched run --workers 4 < examples/three-stages.toml";
+
 /// The subcommand that plays a script.
 fn play_command<'a>(alloc: Global) -> Command<'a> {
-    Command::new(alloc, "play").about(
-        "Plays the script of a document, read from standard input, and prints what happened",
-    )
+    Command::new(alloc, "play")
+        .about("Plays the script of a document, read from standard input, and prints what happened")
+        .after_help(AFTER_PLAY_HELP)
 }
 
 /// The subcommand that runs a pipeline.
@@ -49,14 +64,18 @@ fn run_command<'a>(alloc: Global) -> Result<Command<'a>, AllocError> {
         .about(
             "Runs the trace of a document, read from standard input, through its stages by worker threads, and prints what each stage accepted",
         )
+        .after_help(AFTER_RUN_HELP)
         .arg(workers)
 }
 
 /// The program's command line.
 fn command<'a>(alloc: Global) -> Result<Command<'a>, AllocError> {
-    Command::new(alloc, "evsched")
+    Command::new(alloc, NAME)
+        .version(VERSION)
         .about("An event device with a software scheduler")
+        .after_help(AFTER_HELP)
         .no_binary_name(true)
+        .bin_name(NAME)?
         .subcommand_required(true)
         .subcommand(play_command(alloc))?
         .subcommand(run_command(alloc)?)

@@ -3,10 +3,17 @@
 use play_command::{Choice, choice};
 
 /// The words after the program's name, what they ask for or the status to end with, and a part of what is printed.
-static LINES: [(&[&str], Result<Choice, u8>, &str); 12] = [
+static LINES: [(&[&str], Result<Choice, u8>, &str); 15] = [
     (&["play"], Ok(Choice::Play), ""),
-    (&["--help"], Err(0), "play"),
-    (&["help"], Err(0), "play"),
+    (&["--help"], Err(0), "Usage: evsched <COMMAND>"),
+    (&["help"], Err(0), "docs/FORMATS.md"),
+    (&["--version"], Err(0), "evsched 0.1.0\n"),
+    (&["play", "--help"], Err(0), "Usage: evsched play"),
+    (
+        &["help", "play"],
+        Err(0),
+        "evsched play < examples/first-event.toml",
+    ),
     (&[], Err(2), "play"),
     (&["stop"], Err(2), "stop"),
     (&["play", "now"], Err(2), "now"),
@@ -23,7 +30,7 @@ static LINES: [(&[&str], Result<Choice, u8>, &str); 12] = [
     ),
     (&["run", "--workers", "0"], Err(2), "0"),
     (&["run", "--workers", "9"], Err(2), "9"),
-    (&["run", "--help"], Err(0), "--workers"),
+    (&["run", "--help"], Err(0), "Usage: evsched run [OPTIONS]"),
 ];
 
 #[test]

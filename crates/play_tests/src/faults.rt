@@ -73,20 +73,24 @@ fn with(alloc: Global, text: &str, old: &str, new: &str) -> Result<String, Fail>
     Ok(format!(in alloc; "{front}{new}{rest}")?)
 }
 
-/// Plays a document, which ends with its fault of this name and writes nothing, or is good where there is no name.
-fn is_named(rt: &impl Abort, alloc: Global, bytes: &[u8], name: &str) -> Result<(), Fail> {
+/// Plays a document, which ends with its fault of this name and writes nothing, or is good where there is no name. Gives what is
+/// written.
+pub fn is_named(
+    rt: &impl Abort,
+    alloc: Global,
+    bytes: &[u8],
+    name: &str,
+) -> Result<Vec<u8>, Fail> {
     let mut reader = bytes;
     let mut written = Vec::new(alloc);
     match play(alloc, &mut reader, &mut written) {
-        Ok(()) => {
-            assert_eq!(rt; "", name);
-            Ok(())
-        }
+        Ok(()) => assert_eq!(rt; "", name),
         Err(fault) => {
             assert!(rt; written.is_empty());
-            has_name(rt, alloc, fault, name)
+            has_name(rt, alloc, fault, name)?;
         }
     }
+    Ok(written)
 }
 
 #[test]
@@ -163,7 +167,8 @@ fn names_the_bad_line_between_returns(rt: HostRuntime) -> Result<(), Fail> {
     let text = document(alloc, "\n\nsweep\n\nrel 2\nno\n")?;
     // A carriage return may stand before each line feed of the document.
     let returns = text.replace(alloc, "\n", "\r\n")?;
-    is_named(&rt, alloc, returns.as_bytes(), "BadCommand 5")
+    is_named(&rt, alloc, returns.as_bytes(), "BadCommand 5")?;
+    Ok(())
 }
 
 #[test]

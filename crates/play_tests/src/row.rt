@@ -102,6 +102,7 @@ pub const BY_PORTS: &str = "";
 pub const BY_FLOWS: &str = "serving = \"flows\"\n";
 
 /// A device, the script that is played on it, and all that is written.
+#[derive(Clone, Copy)]
 pub struct Row {
     pub name: &'static str,
     pub limit: u32,
@@ -115,7 +116,7 @@ pub struct Row {
 
 impl Row {
     /// The document of the row, for a device that is served like this.
-    fn document(&self, alloc: Global, serving: &str) -> Result<String, Fail> {
+    pub fn document(&self, alloc: Global, serving: &str) -> Result<String, Fail> {
         let (limit, quantum, sweep) = (self.limit, self.quantum, self.sweep);
         let (queues, script) = (self.queues, self.script);
         let mut text = String::new(alloc);

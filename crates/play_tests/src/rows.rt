@@ -6,17 +6,16 @@ use crate::row::{
 };
 use std::test::Fail;
 
-static ROWS: [Row; 13] = [
-    // An event is accepted, given, dequeued and released.
-    Row {
-        name: "first_event",
-        limit: 4,
-        quantum: 2,
-        sweep: 8,
-        queues: ATOMIC,
-        ports: &[SOURCE, WORKER],
-        script: "new 0 0 7 128 5\nsweep\ndeq 1 4\nrel 1\nsweep\n",
-        text: r#"new 0: ok
+/// An event is accepted, given, dequeued and released.
+pub const FIRST_EVENT: Row = Row {
+    name: "first_event",
+    limit: 4,
+    quantum: 2,
+    sweep: 8,
+    queues: ATOMIC,
+    ports: &[SOURCE, WORKER],
+    script: "new 0 0 7 128 5\nsweep\ndeq 1 4\nrel 1\nsweep\n",
+    text: r#"new 0: ok
 sweep: taken=1 given=1 bounced=0
 deq 1: 1
 - q0 #0 0080004000000007 5
@@ -32,7 +31,10 @@ pockets 1 1
 own 0
 limit 4
 "#,
-    },
+};
+
+static ROWS: [Row; 13] = [
+    FIRST_EVENT,
     // A device in which nothing happens.
     Row {
         name: "empty_script",

@@ -1,8 +1,13 @@
 //! Readers and writers that give and take little, and fail.
 
+use crate::row::BY_PORTS;
+use crate::rows::FIRST_EVENT;
+use pipeline_app::play;
 use play_command::{AppFault, read_all, write_text};
 use play_documents::DocFault;
+use std::alloc::Global;
 use std::io::{Error, ErrorKind, Read, Result as IoResult, Write};
+use std::process::Abort;
 use std::test::Fail;
 
 /// Gives one byte a read, and fails after some reads.
@@ -122,4 +127,59 @@ fn writes_byte_by_byte(rt: HostRuntime) {
     };
     assert_eq!(rt; write_text(&mut full, b"abc"), Err(AppFault::Write));
     assert!(rt; full.taken.is_empty());
+}
+
+#[test]
+fn plays_after_failing_reads(rt: HostRuntime) -> Result<(), Fail> {
+    let alloc = rt.alloc();
+    let document = FIRST_EVENT.document(alloc, BY_PORTS)?;
+    // A read for each of the 274 bytes, and one that finds the end.
+    for reads in 0..276 {
+        let mut reader = SlowReader {
+            rest: document.as_bytes(),
+            reads,
+        };
+        let mut written = Vec::new(alloc);
+        let outcome = play(alloc, &mut reader, &mut written);
+        let (wanted, text) = if reads < 275 {
+            (Err(AppFault::Read), "")
+        } else {
+            (Ok(()), FIRST_EVENT.text)
+        };
+        assert_eq!(rt; outcome, wanted);
+        assert!(rt; written.as_slice() == text.as_bytes());
+    }
+    Ok(())
+}
+
+/// Plays the first event into a writer that takes so many bytes a write and fails after some writes, and compares what it took.
+fn plays_into(
+    rt: &impl Abort,
+    alloc: Global,
+    step: usize,
+    writes: usize,
+    wanted: Result<(), AppFault>,
+    taken: &[u8],
+) -> Result<(), Fail> {
+    let document = FIRST_EVENT.document(alloc, BY_PORTS)?;
+    let mut reader = document.as_bytes();
+    let mut writer = SlowWriter {
+        taken: Vec::new(alloc),
+        step,
+        writes,
+    };
+    assert_eq!(rt; play(alloc, &mut reader, &mut writer), wanted);
+    assert!(rt; writer.taken.as_slice() == taken);
+    Ok(())
+}
+
+#[test]
+fn plays_into_failing_writes(rt: HostRuntime) -> Result<(), Fail> {
+    let alloc = rt.alloc();
+    let text = FIRST_EVENT.text.as_bytes();
+    for writes in 0..text.len() {
+        plays_into(&rt, alloc, 1, writes, Err(AppFault::Write), &text[..writes])?;
+    }
+    plays_into(&rt, alloc, 1, text.len(), Ok(()), text)?;
+    plays_into(&rt, alloc, 0, 1, Err(AppFault::Write), b"")
 }

@@ -55,36 +55,49 @@ impl Write for SlowWriter {
 }
 
 #[test]
-fn stops_at_a_failing_read(rt: HostRuntime) -> Result<(), Fail> {
+fn runs_after_failing_reads(rt: HostRuntime) -> Result<(), Fail> {
     let alloc = rt.alloc();
     let document = PIPELINE.document(alloc, BY_PORTS)?;
-    for reads in [0, 1, 40] {
+    // A read for each of the 243 bytes, and one that finds the end.
+    for reads in 0..245 {
         let mut reader = SlowReader {
             rest: document.as_bytes(),
             reads,
         };
         let mut written = Vec::new(alloc);
         let outcome = run_trace(&rt, alloc, &mut reader, 2, &OpenGate, &mut written);
-        assert_eq!(rt; outcome, Err(AppFault::Read));
-        assert!(rt; written.is_empty());
+        let (wanted, text) = if reads < 244 {
+            (Err(AppFault::Read), "")
+        } else {
+            (Ok(()), TEXT)
+        };
+        assert_eq!(rt; outcome, wanted);
+        assert!(rt; written.as_slice() == text.as_bytes());
     }
     Ok(())
 }
 
 #[test]
-fn stops_at_a_failing_write(rt: HostRuntime) -> Result<(), Fail> {
+fn runs_into_failing_writes(rt: HostRuntime) -> Result<(), Fail> {
     let alloc = rt.alloc();
     let document = PIPELINE.document(alloc, BY_PORTS)?;
-    for writes in [0, 1, 40] {
+    let text = TEXT.as_bytes();
+    // A write for each of the 242 bytes.
+    for writes in 0..243 {
         let mut reader = document.as_bytes();
         let mut writer = SlowWriter {
             taken: Vec::new(alloc),
             writes,
         };
         let outcome = run_trace(&rt, alloc, &mut reader, 2, &OpenGate, &mut writer);
-        assert_eq!(rt; outcome, Err(AppFault::Write));
+        let wanted = if writes < 242 {
+            Err(AppFault::Write)
+        } else {
+            Ok(())
+        };
+        assert_eq!(rt; outcome, wanted);
         assert_eq!(rt; writer.taken.len(), writes);
-        assert!(rt; TEXT.as_bytes().starts_with(&writer.taken));
+        assert!(rt; text.starts_with(&writer.taken));
     }
     Ok(())
 }

@@ -1,4 +1,5 @@
--- The event word: an event and its scheduling type in 64 bits (Event Device Library, "Event struct"; the layout is own).
+-- The event word: an event and its scheduling type in 64 bits, laid out as the first 64 bits of rte_event on a little-endian machine
+-- (rte_eventdev, struct rte_event).
 use Rattle.std.specs.Prelude.{ℕ, ◌+◌, ◌*◌, ◌^◌, ◌<◌}
 use Rattle.evt_types.specs.declared.event.Event.{Event}
 use Rattle.evt_types.specs.declared.event.Kind.{Kind}

@@ -1,4 +1,4 @@
--- «Plain pipeline»: what a pipeline makes of its trace, as one thread would compute it.
+-- The plain pipeline: what a pipeline makes of its trace, as one thread would compute it.
 use Rattle.std.specs.Prelude.{ℕ, ◌+◌, ◌/◌, ◌%◌, ◌^◌, ◌<◌, Bool, ◌&&◌, ◌==◌, List, [], ◌∷◌, map, filter, filter_map, take, Option, Some, None, if◌then◌else◌}
 use Rattle.pipeline_laws.specs.declared.stage.Action.{Action}
 use Rattle.pipeline_laws.specs.declared.stage.Action.TheVariants.{Pass, Add, DropMultiples}

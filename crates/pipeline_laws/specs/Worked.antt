@@ -76,7 +76,7 @@ new_in Shut = None
 unfoldable pub newcomers : List Step → List Event
 newcomers T = filter_map new_in T
 
--- «worked»: the answers are due, and what came in is the front of the trace
+-- a pipeline has worked: the answers are due, and what came in is the front of the trace
 pub record IsWorked (actions : List Action) (trace : List Entry) (T : List Step) : Type 0 where
   pub answers : AnswersAreDue actions T
   pub newcomers : IsPrefix (newcomers T) (map new_event trace)

@@ -38,10 +38,12 @@ const VERSION: &str = "0.1.0";
 const AFTER_HELP: &str = "The documents are described in docs/FORMATS.md; examples/ has some to try:
   evsched play < examples/first-event.toml";
 
-const AFTER_PLAY_HELP: &str = "The document is described in docs/FORMATS.md, \"The document of `play`\". An example:
+const AFTER_PLAY_HELP: &str =
+    "The document is described in docs/FORMATS.md, \"The document of `play`\". An example:
   evsched play < examples/first-event.toml";
 
-const AFTER_RUN_HELP: &str = "The document is described in docs/FORMATS.md, \"The document of `run`\". An example:
+const AFTER_RUN_HELP: &str =
+    "The document is described in docs/FORMATS.md, \"The document of `run`\". An example:
   evsched run --workers 4 < examples/three-stages.toml";
 
 /// The subcommand that plays a script.

@@ -71,7 +71,11 @@ fn names_the_fault_of_each_front(rt: HostRuntime) -> Result<(), Fail> {
     for count in 0..bytes.len() {
         let name = name_of(count);
         let written = is_named(&rt, alloc, &bytes[..count], name)?;
-        let text = if name.is_empty() { FIRST_EVENT.text } else { "" };
+        let text = if name.is_empty() {
+            FIRST_EVENT.text
+        } else {
+            ""
+        };
         assert!(rt; written.as_slice() == text.as_bytes());
     }
     Ok(())

@@ -75,12 +75,7 @@ fn with(alloc: Global, text: &str, old: &str, new: &str) -> Result<String, Fail>
 
 /// Plays a document, which ends with its fault of this name and writes nothing, or is good where there is no name. Gives what is
 /// written.
-pub fn is_named(
-    rt: &impl Abort,
-    alloc: Global,
-    bytes: &[u8],
-    name: &str,
-) -> Result<Vec<u8>, Fail> {
+pub fn is_named(rt: &impl Abort, alloc: Global, bytes: &[u8], name: &str) -> Result<Vec<u8>, Fail> {
     let mut reader = bytes;
     let mut written = Vec::new(alloc);
     match play(alloc, &mut reader, &mut written) {

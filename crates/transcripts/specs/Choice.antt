@@ -1,4 +1,4 @@
--- «Choice»: which waiting event is given next, and to which lane (own; Software Eventdev, "Event Priorities", "Scheduling Quanta").
+-- Choice: which waiting event is given next, and to which lane (own; Software Eventdev, "Event Priorities", "Scheduling Quanta").
 use Rattle.std.specs.Prelude.{ℕ, ◌≡◌, ◌≢◌, ◌<◌, Bool, true, false, ◌&&◌, ◌||◌, List, ◌==◌, nat_lt, length, All, Contains, slice_index, slice_index_or, ◌⊎◌}
 use Rattle.evt_types.specs.Plan.{Plan, lanes_of, depth_of, queue_of, level_of, slot_of, serves, is_atomic, is_ordered}
 use Rattle.transcripts.specs.Lawful.{keeps_order}

@@ -1,4 +1,4 @@
--- «Lawful»: what holds of every prefix of a transcript, clause by clause, as facts about its lists. (The promises of atomic,
+-- Lawful: what holds of every prefix of a transcript, clause by clause, as facts about its lists. (The promises of atomic,
 -- ordered and single-link queues: Event Device Library, "Queues"; rte_eventdev, RTE_SCHED_TYPE_*; Software Eventdev, "Queues".)
 use Rattle.std.specs.Prelude.{ℕ, ◌≡◌, ◌≢◌, ◌<◌, ◌≤◌, Bool, true, false, ◌&&◌, List, [], ◌∷◌, ◌++◌, ◌==◌, length, take, filter, All, AllPairs, Contains, slice_index_or, if◌then◌else◌, Option, Some, None}
 use Rattle.evt_types.specs.Plan.{Plan, lanes_of, depth_of, bound_of, queue_of, level_of, serves, is_atomic, is_ordered}

@@ -1,4 +1,4 @@
--- «Standing»: what a scheduling core holds of a transcript, which replies it may take, and the steps that it takes them by.
+-- Standing: what a scheduling core holds of a transcript, which replies it may take, and the steps that it takes them by.
 use Rattle.std.specs.Prelude.{ℕ, ◌≡◌, ◌+◌, ◌^◌, Bool, true, false, not, ◌&&◌, ◌||◌, List, [], ◌∷◌, ◌++◌, ◌==◌, nat_lt, length, map, drop, filter, fold, sum, sum_by, take_while, flat_map, slice_get, slice_set, slice_index, slice_index_or, Option, Some, None, if◌then◌else◌, All}
 use Rattle.evt_types.specs.Place.{Place}
 use Rattle.evt_types.specs.Plan.{Plan, queues, lanes, bound_of, queue_of, slot_of, is_ordered}
@@ -143,7 +143,7 @@ AreStepsBy ops.New T l e steps = steps ≡ (if has_shut T then Turned l e ∷ []
 AreStepsBy ops.Forward T l e steps = AreAnswer l (Forwarded e) steps
 AreStepsBy ops.Release T l e steps = AreAnswer l Released steps
 
--- «Standing»'s steps of a reply at a transcript: of this form, and such that the whole is lawful
+-- the steps of a reply at a transcript: of this form, and such that the whole is lawful
 pub record AreStepsOf (p : Plan) (T : List Step) (l : ℕ) (e : Event) (steps : List Step) : Type 0 where
   pub form : AreStepsBy e.op T l e steps
   pub lawful : Lawful p (T ++ steps)

@@ -13,7 +13,7 @@ use Rattle.evt_types.specs.declared.step.Source.TheVariants.{New, Of}
 use Rattle.evt_types.specs.declared.step.Step.{Step}
 use Rattle.evt_types.specs.declared.step.Step.TheVariants.{Accept, Give, Done, Turned, Bounced, Shut}
 
--- ---- «Accepted» (Event Device Library, "Queues", "Ingress of New Events", "Forwarding of Events")
+-- ---- What was accepted (Event Device Library, "Queues", "Ingress of New Events", "Forwarding of Events")
 
 abbrev pub accepted_in : ℕ → Step → Option Event
 accepted_in q (Accept r e s) = if r == q then Some e else None
@@ -48,7 +48,7 @@ slot_if p q (Some e) = slot_of p q e.flow
 abbrev pub slot_at : Plan → List Step → ℕ → ℕ → ℕ
 slot_at p T q n = slot_if p q (event_at T q n)
 
--- ---- «Given and answered» (Event Device Library, "Egress of Events"; that answers go by age is own)
+-- ---- What was given and answered (Event Device Library, "Egress of Events"; that answers go by age is own)
 
 abbrev pub given_to : ℕ → Step → Option (ℕ × ℕ)
 given_to l (Give m q n) = if m == l then Some (q, n) else None
@@ -136,7 +136,7 @@ sent_for q n x = if is_pair q n x.0 then Some x.1 else None
 unfoldable pub forwards : List Step → ℕ → ℕ → List Event
 forwards T q n = filter_map (sent_for q n) (sent T)
 
--- ---- «Waiting and inside» (Event Device Library, "Queues")
+-- ---- What waits and what is inside (Event Device Library, "Queues")
 
 abbrev pub given_of : ℕ → Step → Option ℕ
 given_of q (Give l r n) = if r == q then Some n else None
@@ -146,7 +146,7 @@ given_of q (Turned l e) = None
 given_of q (Bounced l) = None
 given_of q Shut = None
 
--- «Hand-out»: the queue's numbers in the order of their Gives (rte_eventdev, RTE_SCHED_TYPE_ORDERED)
+-- the hand-out: the queue's numbers in the order of their Gives (rte_eventdev, RTE_SCHED_TYPE_ORDERED)
 unfoldable pub hand : List Step → ℕ → List ℕ
 hand T q = filter_map (given_of q) T
 
@@ -169,7 +169,7 @@ named_at T q n = named n (event_at T q n)
 abbrev pub given : List Step → ℕ → List Numbered
 given T q = filter_map (named_at T q) (hand T q)
 
--- ---- «Hand-out» (Event Device Library, "Queues"; rte_eventdev, RTE_SCHED_TYPE_ORDERED)
+-- ---- The hand-out (Event Device Library, "Queues"; rte_eventdev, RTE_SCHED_TYPE_ORDERED)
 
 -- the events that were accepted from this number
 abbrev pub taken_in : ℕ → ℕ → Step → Option Event
@@ -213,7 +213,7 @@ kept_events T q = map (λ (x : ℕ × Event). record { queue = q; number = x.0; 
 unfoldable pub open_of : List Step → ℕ → List ℕ
 open_of T q = from_first (is_answered T q) (hand T q)
 
--- «Waiting and inside»: how many events are waiting, kept or unanswered
+-- how many events are waiting, kept or unanswered
 unfoldable pub inside : Plan → List Step → ℕ
 inside p T =
     sum_by (λ q. length (waiting T q)) (queues p) + sum_by (λ q. length (kept T q)) (queues p) + sum_by (λ l. length (unanswered T l)) (lanes p)

@@ -1,4 +1,4 @@
--- «World»: what the scheduler did, and of each lane what was received and said. Its moves are what threads do: a reply is pushed, and
+-- The running world: what the scheduler did, and of each lane what was received and said. Its moves are what threads do: a reply is pushed, and
 -- popped by the scheduler; a delivery is pushed by the scheduler, and popped. Whatever the threads do is one list of moves.
 use Rattle.std.specs.Prelude.{ℕ, ◌≡◌, ◌+◌, ◌<◌, ◌≤◌, Bool, true, false, List, [], ◌∷◌, ◌++◌, ◌==◌, length, map, take, drop, fold, count_by, Option, Some, None, slice_get, if◌then◌else◌}
 use Rattle.std.specs.List.{cons_option}

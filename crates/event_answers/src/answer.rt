@@ -1,24 +1,33 @@
 //! What the calls of ports and of the scheduler answer.
 
+use thiserror::Error;
+
 /// Why an event isn't taken; of several causes the first.
-#[derive(Clone, Copy, Debug, PartialEq, Eq)]
+#[derive(Clone, Copy, Debug, PartialEq, Eq, Error)]
 pub enum Refused {
     /// The device is shut, and takes no NEW any more.
+    #[error("the device is shut and takes no new event")]
     Stopped,
     /// There is no queue of the event's number.
+    #[error("there is no queue of the event's number")]
     BadQueue,
     /// Nothing is held that could be answered.
+    #[error("the port holds no event that could be forwarded or released")]
     NothingHeld,
     /// So many credits were free; with a quantum more, more than the port's threshold would be in use.
+    #[error("too few credits are free for a new event: {free}")]
     Backpressure { free: u64 },
     /// Other ports changed the credits between the reads, the last two of which found these words.
+    #[error("other ports changed the credits meanwhile")]
     Raced { first: u64, second: u64 },
     /// The reply ring of the lane had no room.
+    #[error("the port's reply ring is full")]
     Full,
 }
 
 /// A reply ring had no room for all releases that a dequeue makes first; nothing was received.
-#[derive(Clone, Copy, Debug, PartialEq, Eq)]
+#[derive(Clone, Copy, Debug, PartialEq, Eq, Error)]
+#[error("the port's reply ring is full: {released} events were released, and others are still held")]
 pub struct Behind {
     /// How many were released.
     pub released: usize,
@@ -33,10 +42,12 @@ pub struct Swept {
 }
 
 /// Why a device isn't stopped.
-#[derive(Clone, Copy, Debug, PartialEq, Eq)]
+#[derive(Clone, Copy, Debug, PartialEq, Eq, Error)]
 pub enum StopFault {
     /// The port of this number isn't there; those below it are.
+    #[error("port {port} is missing")]
     Missing { port: usize },
     /// Memory ran out.
+    #[error("memory ran out")]
     Memory,
 }

@@ -5,13 +5,16 @@ ghost use Rattle.event_device.specs.Fault.{shape_in};
 
 use event_recorder::Memory;
 use evt_types::Shape;
+use thiserror::Error;
 
 /// Why a device isn't made. The configuration comes back.
-#[derive(Debug, Drop)]
+#[derive(Debug, Drop, Error)]
 pub enum DeviceFault {
     /// Memory ran out.
+    #[error("memory ran out")]
     Memory(Shape),
     /// A seat of the credits or of the flow lanes' claims couldn't be had.
+    #[error("the device could not be shared out to its ports")]
     NoSeat(Shape),
 }
 

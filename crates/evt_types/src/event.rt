@@ -3,6 +3,7 @@
 ghost use Rattle.std.specs.Prelude.{◌≡◌, ℕ, ◌<◌, ◌^◌};
 
 use crate::code::{kind_code, op_code};
+use thiserror::Error;
 
 /// How many flows there are.
 pub const MAX_FLOWS: u32 = 1 << 20;
@@ -222,10 +223,12 @@ pub struct KeptEvent {
 }
 
 /// Why no event was made.
-#[derive(Clone, Copy, Debug, PartialEq, Eq)]
+#[derive(Clone, Copy, Debug, PartialEq, Eq, Error)]
 pub enum EventFault {
     /// The flow is 2^20 or more.
+    #[error("the flow has more than 20 bits")]
     FlowTooLarge,
     /// The event type is 16 or more.
+    #[error("the event type has more than 4 bits")]
     EventTypeTooLarge,
 }

@@ -10,6 +10,7 @@ use crate::draft::{Draft, PortDraft, QueueDraft, Serving};
 use crate::flows::{FLOW_DEPTH, FlowLane, all_flow_links, all_flows};
 use std::alloc::{AllocError, Global};
 use std::marker::Model;
+use thiserror::Error;
 
 /// The most queues of a device.
 pub const MAX_QUEUES: usize = 32;
@@ -63,21 +64,35 @@ impl Model for Shape {
 }
 
 /// Why a configuration is refused; of several causes the first in this order.
-#[derive(Clone, Copy, Debug, PartialEq, Eq)]
+#[derive(Clone, Copy, Debug, PartialEq, Eq, Error)]
 pub enum ShapeFault {
+    #[error("the number of queues is not 1 to {}", MAX_QUEUES)]
     QueueCount,
+    #[error("the number of ports is not 1 to {}", MAX_PORTS)]
     PortCount,
+    #[error("the limit of events is not 1 to {}", MAX_LIMIT)]
     LimitRange,
+    #[error("the credit quantum is not 1 to the limit")]
     QuantumRange,
+    #[error("a port's new-event threshold is not between the credit quantum and the limit")]
     ThresholdRange,
+    #[error("a port's dequeue or enqueue depth is not 1 to {}", MAX_DEPTH)]
     DepthRange,
+    #[error("an atomic queue's flow slots are not 1 to {}, or there are more than {} in all", MAX_SLOTS, MAX_ALL_SLOTS)]
     FlowSlots,
+    #[error("an ordered queue's order depth is not 1 to {}", MAX_ORDER)]
     OrderDepth,
+    #[error("the sweep quantum is not 1 to {}", MAX_SWEEP)]
     SweepRange,
+    #[error("a port is linked to a queue that is not there")]
     LinkUnknown,
+    #[error("a port is linked to a queue twice")]
     LinkTwice,
+    #[error("a queue is linked to no port")]
     QueueUnlinked,
+    #[error("a single-link queue is linked to several ports")]
     SingleLinkCount,
+    #[error("memory ran out")]
     Memory,
 }
 

@@ -4,15 +4,19 @@ ghost use Rattle.std.specs.Prelude.{◌≡◌, ◌<◌, ◌≤◌, ◌/◌, ◌%
 ghost use Rattle.evt_types.specs.Word as words;
 
 use crate::event::{Event, Kind, Op};
+use thiserror::Error;
 
 /// Why a word is no event's.
-#[derive(Clone, Copy, Debug, PartialEq, Eq)]
+#[derive(Clone, Copy, Debug, PartialEq, Eq, Error)]
 pub enum WordFault {
     /// A reserved bit is set.
+    #[error("a reserved bit of the event word is set")]
     ReservedBits,
     /// No operation has the code.
+    #[error("the event word's operation is unknown")]
     UnknownOp,
     /// No scheduling type has the code.
+    #[error("the event word's scheduling type is unknown")]
     UnknownKind,
 }
 

@@ -11,13 +11,16 @@ use crate::intake::Intake;
 use crate::outlet::Outlet;
 use circular_buffer::HeapCircularBuffer;
 use evt_types::{Delivery, Op, Reply};
+use thiserror::Error;
 
 /// Why a reply is refused; of two causes the first.
-#[derive(Clone, Copy, Debug, PartialEq, Eq)]
+#[derive(Clone, Copy, Debug, PartialEq, Eq, Error)]
 pub enum AnswerFault {
     /// A FORWARD or RELEASE where nothing that was received is unanswered.
+    #[error("no received event is unanswered")]
     NothingHeld,
     /// The ring had no room. The reply comes back as it was.
+    #[error("the reply ring is full")]
     Full(Reply),
 }
 

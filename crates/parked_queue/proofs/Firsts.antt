@@ -1,16 +1,18 @@
 -- The first event of a level whose slot is allowed.
-use Rattle.std.proofs.Common.{◌≡◌, ℕ, ◌+◌, ◌<◌, ◌≤◌, Bool, true, List, length, set, get_or, Some, None, slice_get, ⊎_elim, sym, ap, ◌∙◌, subst, arith, eq-eqb}
-use Rattle.std.proofs.lemmas.Bool.{cases_lt, false≢true}
+use Rattle.std.proofs.Common.{◌≡◌, ◌≢◌, ℕ, ◌+◌, ◌<◌, ◌≤◌, Bool, true, false, List, All, length, set, get_or, Option, Some, None, slice_get, ⊎_elim, sym, ap, ◌∙◌, subst, arith, eq-eqb}
+use Rattle.std.proofs.lemmas.Bool.{cases_eq, cases_lt, false≢true}
 use Rattle.std.proofs.lemmas.List.{length-drop, get_or-set_same}
-use Rattle.std.proofs.lemmas.List.Elements.{All-contains}
+use Rattle.std.proofs.lemmas.List.Elements.{All-contains, All-filter, All-push}
+use Rattle.std.specs.Option.{is_some}
 use Rattle.std.proofs.lemmas.Option.{slice_get_within}
 use Rattle.evt_types.specs.Plan.{level_of}
+use Rattle.evt_types.specs.declared.event.Event.{Event}
 use Rattle.evt_types.specs.declared.event.Numbered.{Numbered}
-use Rattle.place_set.specs.Places.{Has}
+use Rattle.place_set.specs.Places.{Has, IsEmpty, SameBut}
 use Rattle.place_set.specs.declared.places.Places.{Places}
 use Rattle.parked_queue.specs.Merge.{is_in}
-use Rattle.parked_queue.specs.Parted.{Parted, HasNoneParked, below_at, list_in, place_of, with_below}
-use Rattle.parked_queue.specs.Waits.{AreWaits, HasNoneAllowed, IsFirstAllowed, slot_of}
+use Rattle.parked_queue.specs.Parted.{Parted, HasMarks, HasNoneParked, below_at, list_in, place_of, with_below}
+use Rattle.parked_queue.specs.Waits.{Waits, AreLevels, AreWaits, HasNoneAllowed, HasNoneOf, IsFirstAllowed, is_other, slot_of, with_event, without_number}
 use Rattle.parked_queue.proofs.Holding.{place_if_not}
 use Rattle.parked_queue.proofs.Parks.{in_main, list_after, older}
 use Rattle.parked_queue.proofs.Splits.{Split, first_alone, first_least, first_split, first_there, none_first}
@@ -69,3 +71,44 @@ module _ (v : Parted) (c : ℕ) (allowed : Places) (waits : AreWaits v.waits) (l
         let some = slice_get_within (list_in v c) 0 w head in
         let count = length-drop 1 (list_in v c) in
         omega arith
+
+-- ---- levels of which nothing waits
+
+pub none_is : (o : Option Numbered) → is_some o ≡ false → o ≡ None
+none_is None e = λ i. None
+none_is (Some w) e = absurd (false≢true (sym e))
+
+-- the level's own list is empty, and none of its slots is marked
+pub none_of_level : (v : Parted) (c : ℕ) (marks : Places) → HasMarks v c marks → IsEmpty marks → slice_get (list_in v c) 0 ≡ None → HasNoneOf v.waits c
+none_of_level v c marks has empty e k d h =
+    let u : Numbered = get_or v.waits.waiting k d in
+    λ here. ⊎_elim
+    (λ lower. empty (slot_of v.waits.slots u) (has.marked k d h here lower))
+    (λ le. false≢true (sym (none_first (is_in (place_of v.waits.slots v.below) c) v.waits.waiting e k d h) ∙ is_main v.waits.slots v.below c u here le))
+    (cases_lt u.number (below_at v.below c))
+
+-- nothing waits, of no level
+pub no_levels : (v : Waits) (levels : Places) → ((c : ℕ) → HasNoneOf v c) → IsEmpty levels → AreLevels v levels
+no_levels v levels none empty = record { there = λ c has. absurd (empty c has); rest = λ c _. none c }
+
+-- a level of which nothing waits leaves
+pub level_gone : (v : Waits) (c : ℕ) (was now : Places) → HasNoneOf v c → SameBut c was now → (¬ Has now c) → AreLevels v was → AreLevels v now
+level_gone v c was now none others gone levels =
+    record {
+      there = λ k has. ⊎_elim (λ e. absurd (gone (subst (Has now) e has))) (λ ne. levels.there k ((others k ne).0 has)) (cases_eq k c);
+      rest = λ k never. ⊎_elim (λ e. subst (HasNoneOf v) (sym e) none) (λ ne. levels.rest k (λ has. never ((others k ne).1 has))) (cases_eq k c);
+    }
+
+-- the level of an event that comes is added
+pub levels_with : (v : Waits) (e : Event) (was now : Places) → level_of e < 4 → Has now (level_of e) → SameBut (level_of e) was now → AreLevels v was → AreLevels (with_event v e) now
+levels_with v e was now lt here others levels =
+    record {
+      there = λ k has. ⊎_elim (λ same. subst (λ n. n < 4) (sym same) lt) (λ ne. levels.there k ((others k ne).0 has)) (cases_eq k (level_of e));
+      rest = λ k never.
+          let ne : k ≢ level_of e = λ same. never (subst (Has now) (sym same) here) in
+          All-push (λ (u : Numbered). level_of u.event ≢ k) v.waiting (record { number = v.next; event = e }) (levels.rest k (λ has. never ((others k ne).1 has))) (λ same. ne (sym same));
+    }
+
+-- an event that goes leaves no other level
+pub levels_without : (v : Waits) (n : ℕ) (levels : Places) → AreLevels v levels → AreLevels (without_number v n) levels
+levels_without v n levels are = record { there = are.there; rest = λ k never. All-filter (is_other n) (λ (u : Numbered). level_of u.event ≢ k) v.waiting (are.rest k never) }

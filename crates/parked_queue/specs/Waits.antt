@@ -1,5 +1,5 @@
 -- What waits in a queue, seen as one list, whatever holds it.
-use Rattle.std.specs.Prelude.{ℕ, ◌≡◌, ◌+◌, ◌%◌, ◌<◌, ◌≤◌, ◌^◌, ◌==◌, Bool, List, [], ◌∷◌, ◌++◌, filter, not, length, All, AllPairs, Contains}
+use Rattle.std.specs.Prelude.{ℕ, ◌≡◌, ◌≢◌, ◌+◌, ◌%◌, ◌<◌, ◌≤◌, ◌^◌, ◌==◌, Bool, List, [], ◌∷◌, ◌++◌, filter, not, length, All, AllPairs, Contains}
 use Rattle.evt_types.specs.Plan.{level_of}
 use Rattle.evt_types.specs.declared.event.Event.{Event}
 use Rattle.evt_types.specs.declared.event.Numbered.{Numbered}
@@ -61,3 +61,12 @@ HasNoneAllowed v c allowed = All (λ (u : Numbered). level_of u.event ≡ c → 
 -- an event of the number is of the level and the slot
 abbrev pub IsOnlyOf : Waits → ℕ → ℕ → ℕ → Type 0
 IsOnlyOf v c slot n = All (λ (w : Numbered). w.number ≡ n → (level_of w.event ≡ c) × (slot_of v.slots w ≡ slot)) v.waiting
+
+-- no event of the level waits
+abbrev pub HasNoneOf : Waits → ℕ → Type 0
+HasNoneOf v c = All (λ (u : Numbered). level_of u.event ≢ c) v.waiting
+
+-- these are levels, and each level of which an event waits is among them
+pub record AreLevels (v : Waits) (levels : Places) : Type 0 where
+  pub there : (c : ℕ) → Has levels c → c < 4
+  pub rest : (c : ℕ) → ¬ Has levels c → HasNoneOf v c

@@ -1,9 +1,9 @@
 //! The first event of a level whose slot is allowed.
 
-ghost use Rattle.std.specs.Prelude.{◌≡◌, ℕ, ◌<◌, ◌≤◌, ◌⊎◌, Some, IfSome, IfNone};
+ghost use Rattle.std.specs.Prelude.{◌≡◌, ℕ, ◌<◌, ◌≤◌, ◌⊎◌, Some, IsTrue, IfSome, IfNone};
 ghost use Rattle.evt_types.specs.declared.event.Numbered.{Numbered as NumberedValue};
 ghost use Rattle.parked_queue.specs.Parted.{IsFirstParked, HasNoneParked, IsNoLater};
-ghost use Rattle.parked_queue.specs.Waits.{AreWaits, IsFirstAllowed, HasNoneAllowed};
+ghost use Rattle.parked_queue.specs.Waits.{AreWaits, IsFirstAllowed, HasNoneAllowed, HasNoneOf};
 
 use crate::parking::Parking;
 use evt_types::Numbered;
@@ -69,5 +69,13 @@ impl Parking {
             Some(parked) => Some(parked),
             None => self.first_main(level, allowed),
         }
+    }
+
+    /// Whether no event of the level waits. It may say no where none does, until the marks of its slots are gone.
+    pub(crate) fn is_level_empty(&self, level: usize) -> bool
+        requires { level < 4 }
+        ensures { IsTrue result → HasNoneOf self.now.waits level }
+    {
+        self.front(level).is_none() && self.marks(level).is_empty()
     }
 }

@@ -3,7 +3,7 @@
 ghost use Rattle.std.specs.Prelude.{◌≡◌, ◌+◌, ◌<◌, ◌≤◌, ◌^◌, ◌++◌, length, map, vec_len, vec_capacity, All, IfOk, IfSome, IfNone};
 ghost use Rattle.evt_types.specs.Plan.{level_of};
 ghost use Rattle.evt_types.specs.declared.event.Numbered.{Numbered as NumberedValue};
-ghost use Rattle.parked_queue.specs.Waits.{AreWaits, HasNoneAllowed, IsFirstAllowed, no_waits, slot_of, with_event, without_number};
+ghost use Rattle.parked_queue.specs.Waits.{AreLevels, AreWaits, HasNoneAllowed, IsFirstAllowed, no_waits, slot_of, with_event, without_number};
 
 use crate::parking::Parking;
 use evt_types::{Event, Numbered};
@@ -11,10 +11,13 @@ use place_set::Places;
 use std::alloc::{AllocError, Global};
 use std::marker::Model;
 
-/// The events that wait, and the number of the next event.
+/// The events that wait, the number of the next event, and a word of the levels of which an event waits, so that an empty level
+/// is looked at once.
 #[derive(Drop)]
 pub struct ParkedQueue {
     parking: Parking,
+    /// The levels of which an event waits. One that has become empty leaves when it is next looked at.
+    levels: Places,
 }
 
 impl Model for ParkedQueue {
@@ -22,7 +25,11 @@ impl Model for ParkedQueue {
 
     ghost Value = { Waits };
 
+    ghost use Rattle.parked_queue.specs.Waits.{AreLevels};
+
     ghost view = { λ a. a.parking.waits };
+
+    ghost invariant = { λ a. AreLevels a.parking.waits a.levels };
 }
 
 impl ParkedQueue {
@@ -34,6 +41,7 @@ impl ParkedQueue {
     {
         Ok(ParkedQueue {
             parking: Parking::new(alloc, slots, room)?,
+            levels: Places::none(),
         })
     }
 
@@ -44,7 +52,15 @@ impl ParkedQueue {
         ensures value { self.new ≡ with_event self.old event }
         ensures waits { AreWaits self.new }
     {
+        self.levels.add(event.level());
         self.parking.accept(event);
+    }
+
+    /// The levels of which an event waits, and perhaps some that have become empty.
+    pub fn levels(&self) -> Places
+        ensures { AreLevels self.now result }
+    {
+        self.levels
     }
 
     /// The slot of an event.
@@ -63,7 +79,11 @@ impl ParkedQueue {
         ensures none { IfNone result (HasNoneAllowed self.old level allowed) }
         ensures waits { AreWaits self.old }
     {
-        self.parking.first(level, allowed)
+        let first = self.parking.first(level, allowed);
+        if first.is_none() && self.parking.is_level_empty(level) {
+            self.levels.remove(level);
+        }
+        first
     }
 
     /// Takes the event of this number out, which is of the level and the slot. At the head of its list it goes at once; else its

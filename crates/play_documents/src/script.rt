@@ -9,6 +9,7 @@ use crate::command::Command;
 use crate::words::{lines, number, port_number, without_carriage_return, words};
 use evt_types::{Event, MAX_FLOWS, Op};
 use std::alloc::{AllocError, AllocFailed, Global};
+use thiserror::Error;
 
 /// The most events that a dequeue may ask for.
 const MAX_DEQUEUE: u64 = 64;
@@ -16,11 +17,13 @@ const MAX_DEQUEUE: u64 = 64;
 const MAX_BYTE: u64 = 255;
 
 /// Why a script is refused.
-#[derive(Clone, Copy, Debug, PartialEq, Eq)]
+#[derive(Clone, Copy, Debug, PartialEq, Eq, Error)]
 pub enum ScriptFault {
     /// An allocation was refused.
+    #[error("memory ran out")]
     Memory,
     /// The line of this number, counted from 1, is no command.
+    #[error("line {0} is no command")]
     BadLine(u32),
 }
 

@@ -126,7 +126,7 @@ resolved_orders rs y f = set rs y.queue (resolved_in (order_at rs y.queue) y.pla
 
 record IsResolved (a : Inside) (i : ℕ) (y : Entry) (f : Option Event) (b : Bool) : Type 0 where
   restoring : is_restoring (order_at a.orders y.queue) ≡ b
-  places : ArePlaces a.shape a.queues.items (resolved_orders a.orders y f) (set (map entries_in a.lanes) i (drop 1 (entries_at (map entries_in a.lanes) i)))
+  places : ArePlaces a.shape a.queues (resolved_orders a.orders y f) (set (map entries_in a.lanes) i (drop 1 (entries_at (map entries_in a.lanes) i)))
   kept : kept_of (resolved_in (order_at a.orders y.queue) y.place f).places ≡ kept_of (order_at a.orders y.queue).places + kept_more b f
   shown : (resolved_in (order_at a.orders y.queue) y.place f).places ≡ cond b (map (answer_place y.number (outcome_of f)) (order_at a.orders y.queue).places) (order_at a.orders y.queue).places
 
@@ -150,14 +150,14 @@ resolved_by a i y f core h oldest there named = by_kind (is_ordered (queue_of a.
     by_kind true ordered =
         let restoring : is_restoring r ≡ true = restoring_is a.shape r y.queue core.limits there depth ∙ ordered in
         let now : resolved_in r y.place f ≡ after_resolve r y.place f = cond-true (is_restoring r) (after_resolve r y.place f) r restoring in
-        let order : IsOrder a.shape (kept_room (queue_of a.shape y.queue)) (waits_at a.queues.items y.queue) r = core.places.each y.queue there in
+        let order : IsOrder a.shape (kept_room (queue_of a.shape y.queue)) (waits_at a.queues y.queue) r = core.places.each y.queue there in
         let stands : StandsIn r y = core.places.held i 0 y oldest ordered in
         record {
           restoring = restoring;
-          places = subst (λ s. ArePlaces a.shape a.queues.items (set a.orders y.queue s) (set us i (drop 1 (entries_at us i)))) (sym now)
-              (answered_place a.shape a.queues.items a.orders us i y f core.places lane oldest ordered named);
-          kept = ap (λ (s : Reordering). kept_of s.places) now ∙ (resolve_keeps a.shape (kept_room (queue_of a.shape y.queue)) (waits_at a.queues.items y.queue) r y f order stands ∙ ap (λ n. kept_of r.places + n) (more_kept f));
-          shown = ap (λ (s : Reordering). s.places) now ∙ resolve_answers a.shape (kept_room (queue_of a.shape y.queue)) (waits_at a.queues.items y.queue) r y f order stands;
+          places = subst (λ s. ArePlaces a.shape a.queues (set a.orders y.queue s) (set us i (drop 1 (entries_at us i)))) (sym now)
+              (answered_place a.shape a.queues a.orders us i y f core.places lane oldest ordered named);
+          kept = ap (λ (s : Reordering). kept_of s.places) now ∙ (resolve_keeps a.shape (kept_room (queue_of a.shape y.queue)) (waits_at a.queues y.queue) r y f order stands ∙ ap (λ n. kept_of r.places + n) (more_kept f));
+          shown = ap (λ (s : Reordering). s.places) now ∙ resolve_answers a.shape (kept_room (queue_of a.shape y.queue)) (waits_at a.queues y.queue) r y f order stands;
         }
     by_kind false plain =
         let restoring : is_restoring r ≡ false = restoring_is a.shape r y.queue core.limits there depth ∙ plain in
@@ -165,8 +165,8 @@ resolved_by a i y f core h oldest there named = by_kind (is_ordered (queue_of a.
         let count = core.places.count in
         record {
           restoring = restoring;
-          places = subst (λ rs. ArePlaces a.shape a.queues.items rs (set us i (drop 1 (entries_at us i)))) (sym (ap (set a.orders y.queue) now ∙ set-get_or a.orders y.queue (empty 0)))
-              (answered_plain a.shape a.queues.items a.orders us i core.places lane);
+          places = subst (λ rs. ArePlaces a.shape a.queues rs (set us i (drop 1 (entries_at us i)))) (sym (ap (set a.orders y.queue) now ∙ set-get_or a.orders y.queue (empty 0)))
+              (answered_plain a.shape a.queues a.orders us i core.places lane);
           kept = ap (λ (s : Reordering). kept_of s.places) now ∙ omega arith;
           shown = ap (λ (s : Reordering). s.places) now;
         }
@@ -213,7 +213,7 @@ core_answers a i old new y f ps n m core h is oldest items capacity named few un
       few = omega arith;
       links = core.links;
       slot_lanes = core.slot_lanes;
-      places = subst (ArePlaces a.shape a.queues.items (resolved_orders a.orders y f)) (sym popped) done.places;
+      places = subst (ArePlaces a.shape a.queues (resolved_orders a.orders y f)) (sym popped) done.places;
     }
 
 -- it may be resolved
@@ -221,7 +221,7 @@ pub resolve_is_open : (a : Inside) (i : ℕ) (old : Entries) (y : Entry) → IsC
     → is_restoring (order_at a.orders y.queue) ≡ true → IsTrue (is_open (place_at (order_at a.orders y.queue) y.place))
 resolve_is_open a i old y core h is oldest restoring =
     let there : y.queue < length a.shape.queues = oldest_known a i old y core h is oldest in
-    answer_is_open a.shape a.queues.items a.orders (map entries_in a.lanes) i 0 y core.places (oldest_entry a.lanes i old y h is oldest)
+    answer_is_open a.shape a.queues a.orders (map entries_in a.lanes) i 0 y core.places (oldest_entry a.lanes i old y h is oldest)
     (sym (restoring_is a.shape (order_at a.orders y.queue) y.queue core.limits there (core.places.each y.queue there).room) ∙ restoring)
 
 -- something is inside
@@ -240,7 +240,7 @@ pub view_answers : (a : Inside) (i : ℕ) (old new : Entries) (y : Entry) (f : O
     → slice_get old.entries 0 ≡ Some y → new.entries ≡ drop 1 old.entries → ((e : Event) → f ≡ Some e → e.queue < length a.shape.queues) → outcome_of f ≡ o
     → view_in (record { shape = a.shape; queues = a.queues; orders = resolved_orders a.orders y f; lanes = set a.lanes i new; pins = ps; links = a.links; slot_lanes = a.slot_lanes; bound = a.bound; inside = n; entries = m; shut = a.shut }) ≡ after_answer (view_in a) i o
 view_answers a i old new y f o ps n m core h is oldest items named same =
-    same_parts a.shape (map waiting_in a.queues.items) _ (map next_in a.queues.items) _ _ _ _ _ a.shut refl refl
+    same_parts a.shape (map waiting_in a.queues) _ (map next_in a.queues) _ _ _ _ _ a.shut refl refl
     (map-set places_in a.orders y.queue (resolved_in r y.place f) ∙ (by_kind (is_ordered (queue_of a.shape y.queue).kind) refl done.shown ∙ sym (ap (λ x. places_answered (view_in a) x o) (first_here a i old y h is oldest))))
     (lanes_answered a i old new h is items)
   where

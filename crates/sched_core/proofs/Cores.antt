@@ -1,6 +1,5 @@
 -- A core after a call: its view, and that what holds of each core holds of it.
 use Rattle.std.proofs.Common.{◌≡◌, ◌≢◌, ℕ, ◌+◌, ◌*◌, ◌<◌, ◌≤◌, Bool, true, false, ◌^◌, List, [], ◌∷◌, ◌++◌, length, map, set, get_or, All, AllPairs, Contains, Some, sum, sum_by, slice_get, ◌⊎◌, inl, inr, refl, sym, ap, ◌∙◌, subst, arith}
-use Rattle.std.specs.Vec.{with_item}
 use Rattle.std.proofs.lemmas.Bool.{cases_Bool, cases_eq, cond-true, cond-false}
 use Rattle.std.proofs.lemmas.List.{length-set, length-map, length_push, map-set, get_or-map, get_or-set_same, get_or-set_other, get_or_default}
 use Rattle.std.proofs.lemmas.List.Elements.{All-set}
@@ -67,11 +66,11 @@ kept_after a b q new is h = ap (λ rs. sum_by kept_of (map places_in rs) + kept_
 pub places_here : (a : Inside) (q : ℕ) → IsCore a → q < length a.shape.queues → places_at (view_in a) q ≡ (order_at a.orders q).places
 places_here a q core h = let count = core.places.count in get_or-map places_in a.orders q (empty 0) [] (omega arith)
 
-pub waiting_here : (a : Inside) (i : ℕ) (old : Waits) → i < length a.queues.items → old ≡ get_or a.queues.items i old → waiting_at (view_in a) i ≡ old.waiting
-waiting_here a i old h is = get_or-map waiting_in a.queues.items i old [] h ∙ ap waiting_in (sym is)
+pub waiting_here : (a : Inside) (i : ℕ) (old : Waits) → i < length a.queues → old ≡ get_or a.queues i old → waiting_at (view_in a) i ≡ old.waiting
+waiting_here a i old h is = get_or-map waiting_in a.queues i old [] h ∙ ap waiting_in (sym is)
 
-pub next_here : (a : Inside) (i : ℕ) (old : Waits) → i < length a.queues.items → old ≡ get_or a.queues.items i old → next_at (view_in a) i ≡ old.next
-next_here a i old h is = get_or-map next_in a.queues.items i old 0 h ∙ ap next_in (sym is)
+pub next_here : (a : Inside) (i : ℕ) (old : Waits) → i < length a.queues → old ≡ get_or a.queues i old → next_at (view_in a) i ≡ old.next
+next_here a i old h is = get_or-map next_in a.queues i old 0 h ∙ ap next_in (sym is)
 
 pub unanswered_here : (a : Inside) (i : ℕ) (old : Entries) → i < length a.lanes → old ≡ get_or a.lanes i old → unanswered_at (view_in a) i ≡ unanswered_in old
 unanswered_here a i old h is = get_or-map unanswered_in a.lanes i old [] h ∙ ap unanswered_in (sym is)
@@ -87,7 +86,7 @@ first_here a i old y h is oldest = ap (λ us. slice_get us 0) (unanswered_here a
     first_of [] is_first = absurd cc
     first_of (x ∷ ys) is_first = let e : x ≡ y = cc in ap (λ z. Some (held_of z)) e
 
-pub queue_here : (a : Inside) (i : ℕ) (old : Waits) → IsCore a → i < length a.queues.items → old ≡ get_or a.queues.items i old → IsQueueOf (bound_of a.shape) old
+pub queue_here : (a : Inside) (i : ℕ) (old : Waits) → IsCore a → i < length a.queues → old ≡ get_or a.queues i old → IsQueueOf (bound_of a.shape) old
 queue_here a i old core h is = subst (IsQueueOf (bound_of a.shape)) (sym is) (core.sound i old h)
 
 -- the room of a lane whose capacity stays
@@ -118,41 +117,41 @@ slots_set p qs i old new h is same slots k d lt = by_case (cases_eq k i)
 
 -- ---- an event is accepted
 
-pub fits_queue : (a : Inside) (i : ℕ) (old : Waits) → IsCore a → i < length a.queues.items → old ≡ get_or a.queues.items i old → inside_of (view_in a) < bound_of a.shape → length old.waiting < old.room
+pub fits_queue : (a : Inside) (i : ℕ) (old : Waits) → IsCore a → i < length a.queues → old ≡ get_or a.queues i old → inside_of (view_in a) < bound_of a.shape → length old.waiting < old.room
 fits_queue a i old core h is room =
-    let le : length old.waiting ≤ sum_by (λ x. length (waiting_in x)) a.queues.items = subst (λ (q : Waits). length q.waiting ≤ sum_by (λ x. length (waiting_in x)) a.queues.items) (sym is) (get_or-le-sum_by (λ x. length (waiting_in x)) a.queues.items i old h) in
-    let e : sum_by (λ (xs : List Numbered). length xs) (map waiting_in a.queues.items) ≡ sum_by (λ x. length (waiting_in x)) a.queues.items = sum_of_map (λ (xs : List Numbered). length xs) waiting_in a.queues.items in
+    let le : length old.waiting ≤ sum_by (λ x. length (waiting_in x)) a.queues = subst (λ (q : Waits). length q.waiting ≤ sum_by (λ x. length (waiting_in x)) a.queues) (sym is) (get_or-le-sum_by (λ x. length (waiting_in x)) a.queues i old h) in
+    let e : sum_by (λ (xs : List Numbered). length xs) (map waiting_in a.queues) ≡ sum_by (λ x. length (waiting_in x)) a.queues = sum_of_map (λ (xs : List Numbered). length xs) waiting_in a.queues in
     let cap : old.room ≡ bound_of a.shape = (queue_here a i old core h is).room in
     omega arith
 
-pub fits_number : (a : Inside) (i : ℕ) (old : Waits) → i < length a.queues.items → old ≡ get_or a.queues.items i old → old.next ≤ entries_of (view_in a)
+pub fits_number : (a : Inside) (i : ℕ) (old : Waits) → i < length a.queues → old ≡ get_or a.queues i old → old.next ≤ entries_of (view_in a)
 fits_number a i old h is =
-    let le : old.next ≤ sum_by next_in a.queues.items = subst (λ (q : Waits). q.next ≤ sum_by next_in a.queues.items) (sym is) (get_or-le-sum_by next_in a.queues.items i old h) in
-    let e : sum (map next_in a.queues.items) ≡ sum_by next_in a.queues.items = sum-map next_in a.queues.items in
+    let le : old.next ≤ sum_by next_in a.queues = subst (λ (q : Waits). q.next ≤ sum_by next_in a.queues) (sym is) (get_or-le-sum_by next_in a.queues i old h) in
+    let e : sum (map next_in a.queues) ≡ sum_by next_in a.queues = sum-map next_in a.queues in
     omega arith
 
 -- the queue is the one that the invariant of the places speaks of
 pub waits_here_is : (qs : List Waits) (i : ℕ) (old : Waits) → i < length qs → old ≡ get_or qs i old → waits_at qs i ≡ old
 waits_here_is qs i old h is = get_or_default qs i (no_waits 1 0) old h ∙ sym is
 
-pub core_accepts : (a : Inside) (i : ℕ) (old new : Waits) (e : Event) → IsCore a → inside_of (view_in a) < bound_of a.shape → entries_of (view_in a) < 2 ^ 63 → i < length a.queues.items → old ≡ get_or a.queues.items i old
+pub core_accepts : (a : Inside) (i : ℕ) (old new : Waits) (e : Event) → IsCore a → inside_of (view_in a) < bound_of a.shape → entries_of (view_in a) < 2 ^ 63 → i < length a.queues → old ≡ get_or a.queues i old
     → new ≡ with_event old e → AreWaits new
-    → IsCore (record { shape = a.shape; queues = with_item a.queues i new; orders = a.orders; lanes = a.lanes; pins = a.pins; links = a.links; slot_lanes = a.slot_lanes; bound = a.bound; inside = a.inside + 1; entries = a.entries + 1; shut = a.shut })
+    → IsCore (record { shape = a.shape; queues = set a.queues i new; orders = a.orders; lanes = a.lanes; pins = a.pins; links = a.links; slot_lanes = a.slot_lanes; bound = a.bound; inside = a.inside + 1; entries = a.entries + 1; shut = a.shut })
 core_accepts a i old new e core fits fewer h is value waits =
     let more : length new.waiting ≡ length old.waiting + 1 = ap (λ (q : Waits). length q.waiting) value ∙ length_push old.waiting (record { number = old.next; event = e }) in
     let next : new.next ≡ old.next + 1 = ap (λ (q : Waits). q.next) value in
-    let more_wait = waiting_sum a.queues.items i old new h is in
-    let numbers = next_sum a.queues.items i old new h is in
+    let more_wait = waiting_sum a.queues i old new h is in
+    let numbers = next_sum a.queues i old new h is in
     let inside = core.inside in
     let within = core.within in
     let entries = core.entries in
     let queues = core.queues in
     record {
       limits = core.limits;
-      queues = length-set a.queues.items i new ∙ core.queues;
+      queues = length-set a.queues i new ∙ core.queues;
       lanes = core.lanes;
-      sound = All-set (IsQueueOf (bound_of a.shape)) a.queues.items i new (record { room = ap (λ (q : Waits). q.room) value ∙ (queue_here a i old core h is).room; waits = waits }) core.sound;
-      slots = slots_set a.shape a.queues.items i old new h is (ap (λ (q : Waits). q.slots) value) core.slots;
+      sound = All-set (IsQueueOf (bound_of a.shape)) a.queues i new (record { room = ap (λ (q : Waits). q.room) value ∙ (queue_here a i old core h is).room; waits = waits }) core.sound;
+      slots = slots_set a.shape a.queues i old new h is (ap (λ (q : Waits). q.slots) value) core.slots;
       room = core.room;
       pins = core.pins;
       inside = omega arith;
@@ -163,8 +162,8 @@ core_accepts a i old new e core fits fewer h is value waits =
       few = omega arith;
       links = core.links;
       slot_lanes = core.slot_lanes;
-      places = subst (λ q. ArePlaces a.shape (set a.queues.items i q) a.orders (map entries_in a.lanes)) (ap (λ q. with_event q e) (waits_here_is a.queues.items i old h is) ∙ sym value)
-          (accepted_places a.shape a.queues.items a.orders (map entries_in a.lanes) i e core.places (omega arith));
+      places = subst (λ q. ArePlaces a.shape (set a.queues i q) a.orders (map entries_in a.lanes)) (ap (λ q. with_event q e) (waits_here_is a.queues i old h is) ∙ sym value)
+          (accepted_places a.shape a.queues a.orders (map entries_in a.lanes) i e core.places (omega arith));
     }
 
 -- two views of one shape with the same parts
@@ -177,38 +176,35 @@ pub same_view : (p : Plan) (w w' : List (List Numbered)) (n n' : List ℕ) (r : 
     → ◌≡◌ {A = View} (record { shape = p; waiting = w; next = n; places = r; unanswered = u; shut = b }) (record { shape = p; waiting = w'; next = n'; places = r; unanswered = u'; shut = b })
 same_view p w w' n n' r u u' b e f g = cc
 
-pub view_accepts : (a : Inside) (i : ℕ) (old new : Waits) (e : Event) → i < length a.queues.items → old ≡ get_or a.queues.items i old → new ≡ with_event old e
-    → view_in (record { shape = a.shape; queues = with_item a.queues i new; orders = a.orders; lanes = a.lanes; pins = a.pins; links = a.links; slot_lanes = a.slot_lanes; bound = a.bound; inside = a.inside + 1; entries = a.entries + 1; shut = a.shut }) ≡ after_accept (view_in a) i e
+pub view_accepts : (a : Inside) (i : ℕ) (old new : Waits) (e : Event) → i < length a.queues → old ≡ get_or a.queues i old → new ≡ with_event old e
+    → view_in (record { shape = a.shape; queues = set a.queues i new; orders = a.orders; lanes = a.lanes; pins = a.pins; links = a.links; slot_lanes = a.slot_lanes; bound = a.bound; inside = a.inside + 1; entries = a.entries + 1; shut = a.shut }) ≡ after_accept (view_in a) i e
 view_accepts a i old new e h is value =
     same_view a.shape _ _ _ _ (map places_in a.orders) (map unanswered_in a.lanes) _ a.shut
-    (map-set waiting_in a.queues.items i new ∙ ap (set (map waiting_in a.queues.items) i)
+    (map-set waiting_in a.queues i new ∙ ap (set (map waiting_in a.queues) i)
     (ap (λ (q : Waits). q.waiting) value ∙ sym (ap (λ ws. ws ++ record { number = next_at (view_in a) i; event = e } ∷ []) (waiting_here a i old h is) ∙ ap (λ n. old.waiting ++ record { number = n; event = e } ∷ []) (next_here a i old h is))))
-    (map-set next_in a.queues.items i new ∙ ap (set (map next_in a.queues.items) i) (ap (λ (q : Waits). q.next) value ∙ sym (ap (λ n. n + 1) (next_here a i old h is))))
+    (map-set next_in a.queues i new ∙ ap (set (map next_in a.queues) i) (ap (λ (q : Waits). q.next) value ∙ sym (ap (λ n. n + 1) (next_here a i old h is))))
     refl
 
 -- ---- what the conditions say
 
 -- what waits in the view waits in the queue
-pub waits_here : (a : Inside) (i : ℕ) (old : Waits) (w : Numbered) → i < length a.queues.items → old ≡ get_or a.queues.items i old → Contains (waiting_at (view_in a) i) w → Contains old.waiting w
+pub waits_here : (a : Inside) (i : ℕ) (old : Waits) (w : Numbered) → i < length a.queues → old ≡ get_or a.queues i old → Contains (waiting_at (view_in a) i) w → Contains old.waiting w
 waits_here a i old w h is waits = subst (λ ws. Contains ws w) (waiting_here a i old h is) waits
 
 -- the numbers that wait rise, and the level of a queue is the view's
-pub rises_here : (a : Inside) (i : ℕ) (old : Waits) → IsCore a → i < length a.queues.items → old ≡ get_or a.queues.items i old → AllPairs (λ (u w : Numbered). u.number < w.number) (waiting_at (view_in a) i)
+pub rises_here : (a : Inside) (i : ℕ) (old : Waits) → IsCore a → i < length a.queues → old ≡ get_or a.queues i old → AllPairs (λ (u w : Numbered). u.number < w.number) (waiting_at (view_in a) i)
 rises_here a i old core h is = subst (AllPairs (λ (u w : Numbered). u.number < w.number)) (sym (waiting_here a i old h is)) (queue_here a i old core h is).waits.rising
 
-pub levels_here : (a : Inside) (i : ℕ) (old : Waits) → IsCore a → i < length a.queues.items → old ≡ get_or a.queues.items i old → All (λ (w : Numbered). level_of w.event < 4) (waiting_at (view_in a) i)
+pub levels_here : (a : Inside) (i : ℕ) (old : Waits) → IsCore a → i < length a.queues → old ≡ get_or a.queues i old → All (λ (w : Numbered). level_of w.event < 4) (waiting_at (view_in a) i)
 levels_here a i old core h is = subst (All (λ (w : Numbered). level_of w.event < 4)) (sym (waiting_here a i old h is)) (queue_here a i old core h is).waits.levels
 
-pub levels_there : (a : Inside) (i : ℕ) → IsCore a → i < length a.queues.items → All (λ (w : Numbered). level_of w.event < 4) (waiting_at (view_in a) i)
-levels_there a i core h = levels_here a i (get_or a.queues.items i (no_waits 1 0)) core h (get_or_default a.queues.items i (no_waits 1 0) (get_or a.queues.items i (no_waits 1 0)) h)
-
 -- what waits is of one of the four levels, and alone has its number
-pub level_below : (a : Inside) (i : ℕ) (old : Waits) (w : Numbered) → IsCore a → i < length a.queues.items → old ≡ get_or a.queues.items i old → Contains (waiting_at (view_in a) i) w → level_of w.event < 4
+pub level_below : (a : Inside) (i : ℕ) (old : Waits) (w : Numbered) → IsCore a → i < length a.queues → old ≡ get_or a.queues i old → Contains (waiting_at (view_in a) i) w → level_of w.event < 4
 level_below a i old w core h is waits =
     let here : Contains old.waiting w = waits_here a i old w h is waits in
     subst (λ (u : Numbered). level_of u.event < 4) here.2 ((queue_here a i old core h is).waits.levels here.0 w here.1)
 
-pub only_event : (a : Inside) (i : ℕ) (old : Waits) (w : Numbered) → IsCore a → i < length a.queues.items → old ≡ get_or a.queues.items i old → Contains (waiting_at (view_in a) i) w → All (λ (u : Numbered). u.number ≡ w.number → u.event ≡ w.event) old.waiting
+pub only_event : (a : Inside) (i : ℕ) (old : Waits) (w : Numbered) → IsCore a → i < length a.queues → old ≡ get_or a.queues i old → Contains (waiting_at (view_in a) i) w → All (λ (u : Numbered). u.number ≡ w.number → u.event ≡ w.event) old.waiting
 only_event a i old w core h is waits k d lt same =
     let rises = (queue_here a i old core h is).waits.rising in
     let u : Numbered = get_or old.waiting k d in

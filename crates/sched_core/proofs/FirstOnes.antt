@@ -32,7 +32,7 @@ slot_below p q flow limits h =
 pub slots_within : (v : View) (q : ℕ) → IsWithinLimits v.shape → q < length v.shape.queues → (w : Numbered) → slot_at v q w < slots_for v.shape q
 slots_within v q limits h w = slot_below v.shape q w.event.flow limits h
 
-module _ (a : Inside) (i : ℕ) (old : Waits) (core : IsCore a) (h : i < length a.queues.items) (is : old ≡ get_or a.queues.items i old) where
+module _ (a : Inside) (i : ℕ) (old : Waits) (core : IsCore a) (h : i < length a.queues) (is : old ≡ get_or a.queues i old) where
   pub slots_here : old.slots ≡ slots_for a.shape i
   slots_here = ap (λ (q : Waits). q.slots) is ∙ core.slots i old h
 

@@ -59,12 +59,12 @@ core_leaves a q n m x core h e counted entered =
       few = omega arith;
       links = core.links;
       slot_lanes = core.slot_lanes;
-      places = left_places a.shape a.queues.items a.orders (map entries_in a.lanes) q core.places h;
+      places = left_places a.shape a.queues a.orders (map entries_in a.lanes) q core.places h;
     }
 
 pub view_left : (a : Inside) (q n m : ℕ) → IsCore a → q < length a.shape.queues → view_in (with_orders a (left_orders a.orders q) n m) ≡ view_leaves (view_in a) q
 view_left a q n m core h =
-    same_parts a.shape (map waiting_in a.queues.items) _ (map next_in a.queues.items) _ _ _ (map unanswered_in a.lanes) _ a.shut refl refl
+    same_parts a.shape (map waiting_in a.queues) _ (map next_in a.queues) _ _ _ (map unanswered_in a.lanes) _ a.shut refl refl
     (map-set places_in a.orders q (after_leave r) ∙ ap (set (map places_in a.orders) q) (by_oldest (oldest_answered r.places) ∙ sym (ap (λ xs. rest_behind xs (oldest_answered xs)) (places_here a q core h)))) refl
   where
     r : Reordering
@@ -77,7 +77,7 @@ view_left a q n m core h =
 -- what leaves
 pub leaving_one : (a : Inside) (q : ℕ) (x : Place) → IsCore a → q < length a.shape.queues → oldest_answered (order_at a.orders q).places ≡ Some x → (e : Event) → x.forwards ≡ e ∷ [] → e.queue < length a.shape.queues
 leaving_one a q x core h oldest e is =
-    All-head (λ (d : Event). d.queue < length a.shape.queues) e [] (subst (All (λ (d : Event). d.queue < length a.shape.queues)) is (leaving_keeps a.shape a.queues.items a.orders (map entries_in a.lanes) q x core.places h oldest).1)
+    All-head (λ (d : Event). d.queue < length a.shape.queues) e [] (subst (All (λ (d : Event). d.queue < length a.shape.queues)) is (leaving_keeps a.shape a.queues a.orders (map entries_in a.lanes) q x core.places h oldest).1)
 
 -- what leaves was counted
 pub left_counts : (a : Inside) (q : ℕ) (x : Place) → IsCore a → q < length a.shape.queues → oldest_answered (order_at a.orders q).places ≡ Some x → (length x.forwards ≤ a.inside) × (length x.forwards ≤ a.entries)

@@ -15,6 +15,7 @@ pub mod PlaceNumbers
 pub mod OrderMoves
 pub mod Ordered
 pub mod Pinned
+pub mod Busy
 pub mod Settling
 pub mod Sound
 pub mod Steps

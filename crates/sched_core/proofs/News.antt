@@ -109,11 +109,11 @@ fresh_order p q h = get_or-map (λ (d : QueueDraft). empty (kept_room d)) p.queu
 nothing_held : (ls : List Entries) (p : Plan) (n : ℕ) → AreEmptyLanes p n ls → sum_by (λ (xs : List Held). length xs) (map unanswered_in ls) ≡ 0
 nothing_held ls p n empty = sum_of_map (λ (xs : List Held). length xs) unanswered_in ls ∙ sum_of_none (λ x. length (unanswered_in x)) ls (All-weaker IsBare (λ (l : Entries). length (unanswered_in l) ≡ 0) (λ l e. ap (λ (ys : List Entry). length (map held_of ys)) e) ls empty.empty)
 
-pub core_new : (p : Plan) (qs : Vec Waits Global) (ls : List Entries) (ps : List (List Pin)) (ks : Vec Places Global) (os : Vec (Option ℕ) Global) → IsWithinLimits p → bound_of p < 2 ^ 64 → AreEmptyQueues p (length p.queues) qs.items → AreEmptyLanes p (lanes_of p) ls → AreFreePins p (length p.queues) ps → AreLinks p (length p.queues) ks.items → AreSlotLanes p (slot_lane_count p) os.items
+pub core_new : (p : Plan) (qs : List Waits) (ls : List Entries) (ps : List (List Pin)) (ks : Vec Places Global) (os : Vec (Option ℕ) Global) → IsWithinLimits p → bound_of p < 2 ^ 64 → AreEmptyQueues p (length p.queues) qs → AreEmptyLanes p (lanes_of p) ls → AreFreePins p (length p.queues) ps → AreLinks p (length p.queues) ks.items → AreSlotLanes p (slot_lane_count p) os.items
     → IsCore (record { shape = p; queues = qs; orders = new_orders p; lanes = ls; pins = ps; links = ks; slot_lanes = os; bound = bound_of p; inside = 0; entries = 0; shut = false })
 core_new p qs ls ps ks os limits small queues lanes pins links slot_lanes =
-    let waits = nothing_waits p qs.items (length p.queues) queues in
-    let numbers = nothing_numbered p qs.items (length p.queues) queues in
+    let waits = nothing_waits p qs (length p.queues) queues in
+    let numbers = nothing_numbered p qs (length p.queues) queues in
     let kept = nothing_kept p in
     let held = nothing_held ls p (lanes_of p) lanes in
     record {
@@ -133,31 +133,31 @@ core_new p qs ls ps ks os limits small queues lanes pins links slot_lanes =
       links = links;
       slot_lanes = slot_lanes;
       places =
-          new_places p qs.items (new_orders p) (map entries_in ls) queues.count (length-map p.queues (λ (q : QueueDraft). empty (kept_room q))) (fresh_order p) (λ q h. order_small p q limits.orders h)
+          new_places p qs (new_orders p) (map entries_in ls) queues.count (length-map p.queues (λ (q : QueueDraft). empty (kept_room q))) (fresh_order p) (λ q h. order_small p q limits.orders h)
           (All-map (λ (ys : List Entry). ys ≡ []) entries_in ls lanes.empty);
     }
 
-pub view_new : (p : Plan) (qs : Vec Waits Global) (ls : List Entries) (ps : List (List Pin)) (ks : Vec Places Global) (os : Vec (Option ℕ) Global) → AreEmptyQueues p (length p.queues) qs.items → AreEmptyLanes p (lanes_of p) ls → view_in (record { shape = p; queues = qs; orders = new_orders p; lanes = ls; pins = ps; links = ks; slot_lanes = os; bound = bound_of p; inside = 0; entries = 0; shut = false }) ≡ view_of p []
+pub view_new : (p : Plan) (qs : List Waits) (ls : List Entries) (ps : List (List Pin)) (ks : Vec Places Global) (os : Vec (Option ℕ) Global) → AreEmptyQueues p (length p.queues) qs → AreEmptyLanes p (lanes_of p) ls → view_in (record { shape = p; queues = qs; orders = new_orders p; lanes = ls; pins = ps; links = ks; slot_lanes = os; bound = bound_of p; inside = 0; entries = 0; shut = false }) ≡ view_of p []
 unfolding view_of
 view_new p qs ls ps ks os queues lanes =
     same_parts p _ _ _ _ _ _ _ _ false
-    (fill_by_all (waiting []) (map waiting_in qs.items) (length p.queues) [] (length-map qs.items waiting_in ∙ queues.count) (λ k h. get_or_empty k h ∙ sym (waiting_at_none k)))
-    (fill_by_all (λ q. length (accepted [] q)) (map next_in qs.items) (length p.queues) 0 (length-map qs.items next_in ∙ queues.count) (λ k h. get_or_zero k h ∙ sym (ap length (accepted_at_none k))))
+    (fill_by_all (waiting []) (map waiting_in qs) (length p.queues) [] (length-map qs waiting_in ∙ queues.count) (λ k h. get_or_empty k h ∙ sym (waiting_at_none k)))
+    (fill_by_all (λ q. length (accepted [] q)) (map next_in qs) (length p.queues) 0 (length-map qs next_in ∙ queues.count) (λ k h. get_or_zero k h ∙ sym (ap length (accepted_at_none k))))
     (fill_by_all (places p []) (map places_in (new_orders p)) (length p.queues) [] (long places_in) (λ k h. no_places p k [] (subst (λ n. k < n) (sym (long places_in)) h) ∙ sym (places_at_none p k)))
     (fill_by_all (unanswered_slots p []) (map unanswered_in ls) (lanes_of p) [] (length-map ls unanswered_in ∙ lanes.count) (λ k h. none_held k h ∙ sym (unanswered_at_none p k)))
   where
     long : (f : Reordering → List Place) → length (map f (new_orders p)) ≡ length p.queues
     long f = length-map (new_orders p) f ∙ length-map p.queues (λ (q : QueueDraft). empty (kept_room q))
 
-    get_or_empty : (k : ℕ) → k < length p.queues → get_or (map waiting_in qs.items) k [] ≡ []
+    get_or_empty : (k : ℕ) → k < length p.queues → get_or (map waiting_in qs) k [] ≡ []
     get_or_empty k h =
-        All-map (λ ws. ws ≡ []) waiting_in qs.items (λ i d lt. ap (λ (x : Waits). x.waiting) (queues.empty i d lt))
-        k [] (subst (λ n. k < n) (sym (length-map qs.items waiting_in ∙ queues.count)) h)
+        All-map (λ ws. ws ≡ []) waiting_in qs (λ i d lt. ap (λ (x : Waits). x.waiting) (queues.empty i d lt))
+        k [] (subst (λ n. k < n) (sym (length-map qs waiting_in ∙ queues.count)) h)
 
-    get_or_zero : (k : ℕ) → k < length p.queues → get_or (map next_in qs.items) k 0 ≡ 0
+    get_or_zero : (k : ℕ) → k < length p.queues → get_or (map next_in qs) k 0 ≡ 0
     get_or_zero k h =
-        All-map (λ n. n ≡ 0) next_in qs.items (λ i d lt. ap (λ (x : Waits). x.next) (queues.empty i d lt))
-        k 0 (subst (λ n. k < n) (sym (length-map qs.items next_in ∙ queues.count)) h)
+        All-map (λ n. n ≡ 0) next_in qs (λ i d lt. ap (λ (x : Waits). x.next) (queues.empty i d lt))
+        k 0 (subst (λ n. k < n) (sym (length-map qs next_in ∙ queues.count)) h)
 
     none_held : (k : ℕ) → k < lanes_of p → get_or (map unanswered_in ls) k [] ≡ []
     none_held k h =

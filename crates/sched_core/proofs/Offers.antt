@@ -1,5 +1,5 @@
 -- How an offer is found: a lane that is free for the slot, a lane for the event, the event of the queue, the queue.
-use Rattle.std.proofs.Common.{◌≡◌, ℕ, ◌+◌, ◌<◌, ◌≤◌, ◌%◌, Bool, true, false, cond, nat_lt, ◌&&◌, ◌==◌, List, length, get_or, All, Option, Some, None, inl, inr, ⊎_elim, refl, sym, ap, ◌∙◌, subst, arith, eq-eqb, eqb-true}
+use Rattle.std.proofs.Common.{◌≡◌, ◌≢◌, ℕ, ◌+◌, ◌<◌, ◌≤◌, ◌%◌, Bool, true, false, cond, nat_lt, ◌&&◌, ◌==◌, List, [], ◌⊎◌, length, get_or, All, Option, Some, None, inl, inr, ⊎_elim, refl, sym, ap, ◌∙◌, subst, arith, eq-eqb, eqb-true}
 use Rattle.std.specs.Option.{IfSome, IfNone, is_some}
 use Rattle.std.proofs.lemmas.Bool.{and_from, and_parts, or_cases, or_right, cases_eq, cases_lt, false≢true, false_from_ne_true, ltb-true, ltb-false, lt-ltb}
 use Rattle.std.proofs.lemmas.List.{get_or_default}
@@ -16,7 +16,7 @@ use Rattle.evt_types.specs.declared.event.Kind.TheVariants.{Ordered, Atomic, Par
 use Rattle.evt_types.specs.declared.event.Numbered.{Numbered}
 use Rattle.evt_types.specs.declared.step.Step.{Step}
 use Rattle.evt_types.specs.declared.step.Step.TheVariants.{Give}
-use Rattle.place_set.specs.Places.{SameBut}
+use Rattle.place_set.specs.Places.{Has, IsEmpty, IsFirst, SameBut}
 use Rattle.place_set.specs.declared.places.Places.{Places}
 use Rattle.sched_core.specs.Inner.{slots_for}
 use Rattle.sched_core.specs.Offered.{numbered_in, FitsSlot, HasAllowed, HasNoneAllowedIn, HasNoneIn, IsFirstIn, IsOfferIn, IsOfferOf, is_ahead, slot_at}
@@ -72,22 +72,32 @@ pub allowed_rest : (v : View) (s : Passed) (q slot : ℕ) (allowed rest : Places
 allowed_rest v s q slot allowed rest w is none others has t within some =
     ⊎_elim (λ e. absurd (none some.0 (slot_fits v s some.0 q w (subst (λ k. FitsSlot v s q k some.0) (e ∙ is) some.1)))) (λ ne. (others t ne).1 (has t within some)) (cases_eq t slot)
 
+-- ---- a walk over places
+
+-- where the lowest place is taken out, what is beside the rest is that place or was beside before
+beside : (n r : ℕ) (left rest : Places) → SameBut n left rest → ¬ Has rest r → (r ≡ n) ⊎ (¬ Has left r)
+beside n r left rest others never = ⊎_elim (λ e. inl e) (λ ne. inr (λ has. never ((others r ne).1 has))) (cases_eq r n)
+
 -- ---- the levels of a queue
 
--- nothing can be given of the levels below n
-abbrev pub HasNoneUnder : View → Passed → ℕ → ℕ → Type 0
-HasNoneUnder v s q n = (c : ℕ) → c < n → HasNoneIn v s q c
+-- nothing can be given of the levels that aren't left to look at
+abbrev pub HasNoneBeside : View → Passed → ℕ → Places → Type 0
+HasNoneBeside v s q left = (c : ℕ) → (¬ Has left c) → HasNoneIn v s q c
 
-pub level_more : (v : View) (s : Passed) (q n : ℕ) → HasNoneIn v s q n → HasNoneUnder v s q n → HasNoneUnder v s q (n + 1)
-level_more v s q n here under c h = ⊎_elim (λ lt. under c lt) (λ le. let e : c ≡ n = omega arith in subst (HasNoneIn v s q) (sym e) here) (cases_lt c n)
+-- nothing waits of the levels that aren't looked at
+pub levels_beside : (v : View) (s : Passed) (q : ℕ) (left : Places) → ((c : ℕ) → (¬ Has left c) → All (λ (w : Numbered). level_of w.event ≢ c) (waiting_at v q)) → HasNoneBeside v s q left
+levels_beside v s q left rest c never w waits here m fits = subst (λ (x : Numbered). level_of x.event ≢ c) waits.2 (rest c never waits.0 w waits.1) here
 
-pub none_under : (v : View) (s : Passed) (q n : ℕ) → All (λ (w : Numbered). level_of w.event < n) (waiting_at v q) → HasNoneUnder v s q n → HasNone v s q
-none_under v s q n levels under w waits m fits = under (level_of w.event) (subst (λ (x : Numbered). level_of x.event < n) waits.2 (levels waits.0 w waits.1)) w waits refl m fits
+pub level_more : (v : View) (s : Passed) (q c : ℕ) (left next : Places) → SameBut c left next → HasNoneIn v s q c → HasNoneBeside v s q left → HasNoneBeside v s q next
+level_more v s q c left next others here none k never = ⊎_elim (λ e. subst (HasNoneIn v s q) (sym e) here) (λ was. none k was) (beside c k left next others never)
 
-not_earlier : (v : View) (s : Passed) (q c : ℕ) (o : Offer) → HasNoneUnder v s q c → IsOfferIn v s q c o → (u : Numbered) (m : ℕ) → WaitsIn v q u → Fits v s m q u → is_earlier u (numbered_in o.delivery) ≡ false
-not_earlier v s q c o under offer u m waits fits =
+pub none_beside : (v : View) (s : Passed) (q : ℕ) (left : Places) → IsEmpty left → HasNoneBeside v s q left → HasNone v s q
+none_beside v s q left empty none w waits m fits = none (level_of w.event) (empty (level_of w.event)) w waits refl m fits
+
+not_earlier : (v : View) (s : Passed) (q c : ℕ) (left : Places) (o : Offer) → IsFirst left c → HasNoneBeside v s q left → IsOfferIn v s q c o → (u : Numbered) (m : ℕ) → WaitsIn v q u → Fits v s m q u → is_earlier u (numbered_in o.delivery) ≡ false
+not_earlier v s q c left o least none offer u m waits fits =
     false_from_ne_true (is_earlier u (numbered_in o.delivery)) (λ earlier. ⊎_elim
-    (λ lower. under (level_of u.event) (subst (λ n. level_of u.event < n) offer.level (ltb-true _ _ lower)) u waits refl m fits)
+    (λ lower. let under : level_of u.event < c = subst (λ n. level_of u.event < n) offer.level (ltb-true _ _ lower) in none (level_of u.event) (λ has. let le = least.first (level_of u.event) has in omega arith) u waits refl m fits)
     (λ same.
     let parts = and_parts (level_of u.event == level_of o.delivery.event) (nat_lt u.number o.delivery.number) same in
     let less : u.number < o.delivery.number = ltb-true _ _ parts.1 in
@@ -95,87 +105,112 @@ not_earlier v s q c o under offer u m waits fits =
     omega arith)
     (or_cases (nat_lt (level_of u.event) (level_of o.delivery.event)) ((level_of u.event == level_of o.delivery.event) && nat_lt u.number o.delivery.number) earlier))
 
-pub offer_first : (v : View) (s : Passed) (q c : ℕ) (o : Option Offer) → HasNoneUnder v s q c → IfSome o (IsOfferIn v s q c) → IfSome o (IsOfferOf v s q)
-offer_first v s q c None under offer = tt
-offer_first v s q c (Some x) under offer = record { queue = offer.queue; waits = offer.waits; fits = offer.fits; best = offer.best; first = not_earlier v s q c x under offer }
+pub offer_first : (v : View) (s : Passed) (q c : ℕ) (left : Places) (o : Option Offer) → IsFirst left c → HasNoneBeside v s q left → IfSome o (IsOfferIn v s q c) → IfSome o (IsOfferOf v s q)
+offer_first v s q c left None least none offer = tt
+offer_first v s q c left (Some x) least none offer = record { queue = offer.queue; waits = offer.waits; fits = offer.fits; best = offer.best; first = not_earlier v s q c left x least none offer }
 
 -- ---- the queue
 
--- the best offer of the queues below n
-abbrev pub IsBestBelow : View → Passed → ℕ → Option Offer → Type 0
-IsBestBelow v s n None = (q : ℕ) → q < n → HasQuota v s q → HasNone v s q
-IsBestBelow v s n (Some o) =
-    (o.delivery.queue < n) × HasQuota v s o.delivery.queue × IsOfferOf v s o.delivery.queue o × ((r : ℕ) → r < n → HasQuota v s r → IsServedBefore v.shape r o.delivery.queue → HasNone v s r)
+-- the best offer of the queues that aren't left to look at
+abbrev pub IsBestBeside : View → Passed → Places → Option Offer → Type 0
+IsBestBeside v s left None = (q : ℕ) → (¬ Has left q) → HasQuota v s q → HasNone v s q
+IsBestBeside v s left (Some o) =
+    (o.delivery.queue < length v.shape.queues) × HasQuota v s o.delivery.queue × IsOfferOf v s o.delivery.queue o
+    × ((r : ℕ) → (¬ Has left r) → HasQuota v s r → IsServedBefore v.shape r o.delivery.queue → HasNone v s r) × ((r : ℕ) → Has left r → o.delivery.queue < r)
 
-pub best_queue : (v : View) (s : Passed) (n : ℕ) (o : Option Offer) → n ≤ length v.shape.queues → IsBestBelow v s n o → IfSome o (λ x. x.delivery.queue < length v.shape.queues)
-best_queue v s n None h best = tt
-best_queue v s n (Some x) h best = let lt = best.0 in omega arith
+pub best_queue : (v : View) (s : Passed) (left : Places) (o : Option Offer) → IsBestBeside v s left o → IfSome o (λ x. x.delivery.queue < length v.shape.queues)
+best_queue v s left None best = tt
+best_queue v s left (Some x) best = best.0
 
--- a queue whose events no lane may take
-pub best_none : (v : View) (s : Passed) (n : ℕ) (o : Option Offer) → (HasQuota v s n → HasNone v s n) → IsBestBelow v s n o → IsBestBelow v s (n + 1) o
-best_none v s n None none best = λ q h quota. ⊎_elim (λ lt. best q lt quota) (λ le. let e : q ≡ n = omega arith in subst (HasNone v s) (sym e) (none (subst (HasQuota v s) e quota))) (cases_lt q n)
-best_none v s n (Some x) none best =
-    let lt = best.0 in
-    (omega arith, best.1, best.2, λ r h quota before. ⊎_elim (λ less. best.3 r less quota before) (λ le. let e : r ≡ n = omega arith in subst (HasNone v s) (sym e) (none (subst (HasQuota v s) e quota))) (cases_lt r n))
+above : (n r : ℕ) (left rest : Places) → IsFirst left n → (¬ Has rest n) → SameBut n left rest → Has rest r → (n < r) × Has left r
+above n r left rest first gone others has =
+    ⊎_elim (λ e. absurd (gone (subst (Has rest) e has))) (λ ne. let there = (others r ne).0 has in let le = first.first r there in (omega (arith, ne), there)) (cases_eq r n)
 
--- a queue that is served after the offer's
-pub best_later : (v : View) (s : Passed) (n : ℕ) (o : Option Offer) → is_ahead v.shape n o ≡ false → IsBestBelow v s n o → IsBestBelow v s (n + 1) o
-best_later v s n None behind best = absurd (false≢true (sym behind))
-best_later v s n (Some x) behind best =
-    let lt : x.delivery.queue < n = best.0 in
-    let le : (queue_of v.shape x.delivery.queue).priority ≤ (queue_of v.shape n).priority = ltb-false _ _ behind in
-    (omega arith, best.1, best.2, λ r h quota before. ⊎_elim (λ less. best.3 r less quota before) (λ ge. let e : r ≡ n = omega arith in absurd (not_before lt le (subst (λ k. IsServedBefore v.shape k x.delivery.queue) e before))) (cases_lt r n))
-  where
-    not_before : x.delivery.queue < n → (queue_of v.shape x.delivery.queue).priority ≤ (queue_of v.shape n).priority → ¬ IsServedBefore v.shape n x.delivery.queue
-    not_before lt le (inl lower) = omega arith
-    not_before lt le (inr same) = let less = same.1 in omega arith
+-- what is left without a place was left before
+pub still : (n r : ℕ) (left rest : Places) → (¬ Has rest n) → SameBut n left rest → Has rest r → Has left r
+still n r left rest gone others has = ⊎_elim (λ e. absurd (gone (subst (Has rest) e has))) (λ ne. (others r ne).0 has) (cases_eq r n)
 
--- what stands before a queue ahead of the offer stands before the offer
-served_ahead : (v : View) (s : Passed) (n : ℕ) (o : Option Offer) → is_ahead v.shape n o ≡ true → IsBestBelow v s n o → (r : ℕ) → r < n → HasQuota v s r → IsServedBefore v.shape r n → HasNone v s r
-served_ahead v s n None ahead best r h quota before = best r h quota
-served_ahead v s n (Some x) ahead best r h quota before = best.3 r h quota (inl (lower before))
-  where
-    lt : (queue_of v.shape n).priority < (queue_of v.shape x.delivery.queue).priority
-    lt = ltb-true _ _ ahead
+-- the queues whose offers are looked at next, one taken out
+module _ (v : View) (s : Passed) (n : ℕ) (left rest : Places) (first : IsFirst left n) (gone : ¬ Has rest n) (others : SameBut n left rest) where
+  -- a queue whose events no lane may take
+  pub best_none : (o : Option Offer) → (HasQuota v s n → HasNone v s n) → IsBestBeside v s left o → IsBestBeside v s rest o
+  best_none None none best = λ q never quota. ⊎_elim (λ e. subst (HasNone v s) (sym e) (none (subst (HasQuota v s) e quota))) (λ before. best q before quota) (beside n q left rest others never)
+  best_none (Some x) none best = (
+    best.0,
+    best.1,
+    best.2,
+    λ r never quota before. ⊎_elim (λ e. subst (HasNone v s) (sym e) (none (subst (HasQuota v s) e quota))) (λ was. best.3 r was quota before) (beside n r left rest others never),
+    λ r has. best.4 r (above n r left rest first gone others has).1,
+  )
 
-    lower : IsServedBefore v.shape r n → (queue_of v.shape r).priority < (queue_of v.shape x.delivery.queue).priority
-    lower (inl less) = let l = lt in omega arith
-    lower (inr same) = let l = lt in let e = same.0 in omega arith
+  -- a queue that is served after the offer's
+  pub best_later : (o : Option Offer) → is_ahead v.shape n o ≡ false → IsBestBeside v s left o → IsBestBeside v s rest o
+  best_later None behind best = absurd (false≢true (sym behind))
+  best_later (Some x) behind best =
+      let lt : x.delivery.queue < n = best.4 n first.there in
+      let le : (queue_of v.shape x.delivery.queue).priority ≤ (queue_of v.shape n).priority = ltb-false _ _ behind in (
+        best.0,
+        best.1,
+        best.2,
+        λ r never quota before. ⊎_elim (λ e. absurd (not_before lt le (subst (λ k. IsServedBefore v.shape k x.delivery.queue) e before))) (λ was. best.3 r was quota before) (beside n r left rest others never),
+        λ r has. best.4 r (above n r left rest first gone others has).1,
+      )
+    where
+      not_before : x.delivery.queue < n → (queue_of v.shape x.delivery.queue).priority ≤ (queue_of v.shape n).priority → ¬ IsServedBefore v.shape n x.delivery.queue
+      not_before lt le (inl lower) = omega arith
+      not_before lt le (inr same) = let less = same.1 in omega arith
 
--- a queue ahead of the offer, with an offer of its own
-pub best_more : (v : View) (s : Passed) (n : ℕ) (o next : Option Offer) → HasQuota v s n → is_ahead v.shape n o ≡ true → is_some next ≡ true → IfSome next (IsOfferOf v s n) → IsBestBelow v s n o → IsBestBelow v s (n + 1) next
-best_more v s n o None quota ahead some offer best = absurd (false≢true some)
-best_more v s n o (Some x) quota ahead some offer best =
-    let e : x.delivery.queue ≡ n = offer.queue in (
-      omega arith,
-      subst (HasQuota v s) (sym e) quota,
-      subst (λ q. IsOfferOf v s q x) (sym e) offer,
-      λ r h quota_r before.
-          let before_n : IsServedBefore v.shape r n = subst (IsServedBefore v.shape r) e before in
-          ⊎_elim (λ less. served_ahead v s n o ahead best r less quota_r before_n) (λ ge. let same : r ≡ n = omega arith in absurd (not_itself_before v.shape n (subst (λ k. IsServedBefore v.shape k n) same before_n))) (cases_lt r n),
-    )
-  where
-    not_itself_before : (p : Plan) (k : ℕ) → ¬ IsServedBefore p k k
-    not_itself_before p k (inl less) = omega arith
-    not_itself_before p k (inr same) = let less = same.1 in omega arith
+  -- what stands before a queue ahead of the offer stands before the offer
+  served_ahead : (o : Option Offer) → is_ahead v.shape n o ≡ true → IsBestBeside v s left o → (r : ℕ) → (¬ Has left r) → HasQuota v s r → IsServedBefore v.shape r n → HasNone v s r
+  served_ahead None ahead best r never quota before = best r never quota
+  served_ahead (Some x) ahead best r never quota before = best.3 r never quota (inl (lower before))
+    where
+      lt : (queue_of v.shape n).priority < (queue_of v.shape x.delivery.queue).priority
+      lt = ltb-true _ _ ahead
+
+      lower : IsServedBefore v.shape r n → (queue_of v.shape r).priority < (queue_of v.shape x.delivery.queue).priority
+      lower (inl less) = let l = lt in omega arith
+      lower (inr same) = let l = lt in let e = same.0 in omega arith
+
+  -- a queue ahead of the offer, with an offer of its own
+  pub best_more : (o next : Option Offer) → n < length v.shape.queues → HasQuota v s n → is_ahead v.shape n o ≡ true → is_some next ≡ true → IfSome next (IsOfferOf v s n) → IsBestBeside v s left o → IsBestBeside v s rest next
+  best_more o None within quota ahead some offer best = absurd (false≢true some)
+  best_more o (Some x) within quota ahead some offer best =
+      let e : x.delivery.queue ≡ n = offer.queue in (
+        omega arith,
+        subst (HasQuota v s) (sym e) quota,
+        subst (λ q. IsOfferOf v s q x) (sym e) offer,
+        λ r never quota_r before.
+            let before_n : IsServedBefore v.shape r n = subst (IsServedBefore v.shape r) e before in
+            ⊎_elim (λ same. absurd (not_itself_before v.shape n (subst (λ k. IsServedBefore v.shape k n) same before_n))) (λ was. served_ahead o ahead best r was quota_r before_n) (beside n r left rest others never),
+        λ r has. let lt = (above n r left rest first gone others has).0 in omega arith,
+      )
+    where
+      not_itself_before : (p : Plan) (k : ℕ) → ¬ IsServedBefore p k k
+      not_itself_before p k (inl less) = omega arith
+      not_itself_before p k (inr same) = let less = same.1 in omega arith
 
 -- the offer of all queues is the choice
-pub best_choice : (v : View) (s : Passed) (n : ℕ) (o : Option Offer) → n ≡ length v.shape.queues → IsBestBelow v s n o → IfSome o (λ x. IsChoice v s x.lane x.delivery.queue (numbered_in x.delivery))
-best_choice v s n None h best = tt
-best_choice v s n (Some x) h best =
+pub best_choice : (v : View) (s : Passed) (left : Places) (o : Option Offer) → IsEmpty left → IsBestBeside v s left o → IfSome o (λ x. IsChoice v s x.lane x.delivery.queue (numbered_in x.delivery))
+best_choice v s left None none best = tt
+best_choice v s left (Some x) none best =
     record {
-      there = subst (λ k. x.delivery.queue < k) h best.0;
+      there = best.0;
       quota = best.1;
       waits = best.2.waits;
       fits = best.2.fits;
       lane = best.2.best;
       event = best.2.first;
-      queue = λ r lt quota before. best.3 r (subst (λ k. r < k) (sym h) lt) quota before;
+      queue = λ r _ quota before. best.3 r (none r) quota before;
     }
 
-pub best_of_none : (v : View) (s : Passed) (n : ℕ) (o : Option Offer) → n ≡ length v.shape.queues → IsBestBelow v s n o → IfNone o (HasNoChoice v s)
-best_of_none v s n None h best = λ q lt quota. best q (subst (λ k. q < k) (sym h) lt) quota
-best_of_none v s n (Some x) h best = tt
+pub best_of_none : (v : View) (s : Passed) (left : Places) (o : Option Offer) → IsEmpty left → IsBestBeside v s left o → IfNone o (HasNoChoice v s)
+best_of_none v s left None none best = λ q _ quota. best q (none q) quota
+best_of_none v s left (Some x) none best = tt
+
+-- where nothing waits nothing is offered
+pub none_waits : (v : View) (s : Passed) (q : ℕ) → waiting_at v q ≡ [] → HasNone v s q
+none_waits v s q nothing w waits m fits = let e = ap length nothing in let lt = waits.1 in omega arith
 
 -- ---- a choice is an offer: what waits before it of its flow and level would fit the same lane
 

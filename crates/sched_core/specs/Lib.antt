@@ -6,6 +6,7 @@ pub mod Offered
 pub mod Ordered
 pub mod Orders
 pub mod Pinned
+pub mod Busy
 pub mod Settling
 pub mod Shutting
 pub mod Skipped

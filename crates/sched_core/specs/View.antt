@@ -32,8 +32,8 @@ abbrev pub view_in : Inside → View
 view_in a =
     record {
       shape = a.shape;
-      waiting = map waiting_in a.queues.items;
-      next = map next_in a.queues.items;
+      waiting = map waiting_in a.queues;
+      next = map next_in a.queues;
       places = map places_in a.orders;
       unanswered = map unanswered_in a.lanes;
       shut = a.shut;
@@ -43,10 +43,10 @@ view_in a =
 -- right.
 pub record IsCore (a : Inside) : Type 0 where
   pub limits : IsWithinLimits a.shape
-  pub queues : length a.queues.items ≡ length a.shape.queues
+  pub queues : length a.queues ≡ length a.shape.queues
   pub lanes : length a.lanes ≡ lanes_of a.shape
-  pub sound : All (IsQueueOf (bound_of a.shape)) a.queues.items
-  pub slots : HaveSlots a.shape a.queues.items
+  pub sound : All (IsQueueOf (bound_of a.shape)) a.queues
+  pub slots : HaveSlots a.shape a.queues
   pub room : HaveRoom a.shape a.lanes
   pub pins : ArePins a.shape (map unanswered_in a.lanes) a.pins
   pub inside : a.inside ≡ inside_of (view_in a)
@@ -57,4 +57,4 @@ pub record IsCore (a : Inside) : Type 0 where
   pub few : entries_of (view_in a) ≤ 2 ^ 63
   pub links : AreLinks a.shape (length a.shape.queues) a.links.items
   pub slot_lanes : AreSlotLanes a.shape (slot_lane_count a.shape) a.slot_lanes.items
-  pub places : ArePlaces a.shape a.queues.items a.orders (map entries_in a.lanes)
+  pub places : ArePlaces a.shape a.queues a.orders (map entries_in a.lanes)

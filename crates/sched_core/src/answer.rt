@@ -39,6 +39,7 @@ fn count_of(forward: Option<Event>) -> usize
 
 impl Core {
     /// The event waits in its queue, under the next number.
+    #[inline(always)]
     pub(crate) fn accept(&mut self, event: Event, source: Source, log: &mut Vec<Step>)
         requires queue { event.queue < length self.old.shape.queues }
         requires inside { inside_of self.old < bound_of self.old.shape }
@@ -49,8 +50,7 @@ impl Core {
         ensures room { vec_capacity log.new ≡ vec_capacity log.old }
     {
         let queue = usize::from(event.queue);
-        let entered = &mut self.queues[queue];
-        entered.accept(event);
+        self.queues.accept(queue, event);
         self.inside += 1;
         self.entries += 1;
         log.push_reserved(Step::Accept {
@@ -61,6 +61,7 @@ impl Core {
     }
 
     /// The lane's oldest unanswered event is answered so. What an ordered queue's event is forwarded as is kept at first.
+    #[inline(always)]
     pub(crate) fn answer(&mut self, lane: usize, outcome: Outcome, log: &mut Vec<Step>) -> Entry
         requires lane { lane < lanes_of self.old.shape }
         requires some { may_answer self.old lane ≡ true }

@@ -34,9 +34,8 @@ impl Core {
             },
         } = offer;
         let place = self.orders.hand(queue, number);
-        let left = &mut self.queues[queue];
-        let slot = left.slot_of(&Numbered { number, event });
-        left.remove(event.level(), slot, number);
+        let slot = self.queues.slot_of(queue, &Numbered { number, event });
+        self.queues.remove(queue, event.level(), slot, number);
         self.pins.pin(queue, slot, lane);
         self.lanes.push(
             lane,

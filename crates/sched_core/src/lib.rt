@@ -11,6 +11,7 @@ mod offer;
 mod orders;
 mod pins;
 mod propose;
+mod queues;
 mod shut;
 mod skips;
 mod slot_lanes;

@@ -2,47 +2,17 @@
 
 ghost use Rattle.std.specs.Prelude.{◌≡◌, ◌<◌, ◌≤◌, [], length, IfOk, IfErr};
 ghost use Rattle.transcripts.specs.Standing.{Stands, view_of};
-ghost use Rattle.sched_core.specs.Inner.{AreEmptyQueues, slots_for};
 ghost use Rattle.sched_core.specs.Links.{AreLinks, AreLinksOf};
 
 use crate::histories::Histories;
 use crate::orders::AllOrders;
 use crate::pins::AllPins;
+use crate::queues::AllQueues;
 use crate::slot_lanes::slot_lanes;
 use crate::state::{Core, Memory};
-use evt_types::{MAX_SLOTS, Shape};
-use parked_queue::ParkedQueue;
+use evt_types::Shape;
 use place_set::Places;
 use std::alloc::{AllocError, Global};
-
-/// How many slots the events of a queue fall into.
-fn slots_for(shape: &Shape, queue: usize) -> usize
-    requires { queue < length shape.now.queues }
-    ensures value { result ≡ slots_for shape.now queue }
-    ensures range { (1 ≤ result) × (result ≤ MAX_SLOTS) }
-{
-    // To read a limit makes known that the limits hold.
-    let _ = shape.limit();
-    let draft = &shape.queues()[queue];
-    if draft.kind.is_atomic() {
-        draft.slots as usize
-    } else {
-        1
-    }
-}
-
-/// The queues of the configuration, each with room for as many events as may be inside.
-fn empty_queues(alloc: Global, shape: &Shape) -> Result<Vec<ParkedQueue>, AllocError>
-    ensures { IfOk result (λ qs. AreEmptyQueues shape.now (length shape.now.queues) qs.items) }
-{
-    let count = shape.queues().len();
-    let room = shape.bound();
-    let mut queues = Vec::with_capacity(alloc, count)?;
-    for queue in 0..count {
-        queues.push(ParkedQueue::new(alloc, slots_for(shape, queue), room)?)?;
-    }
-    Ok(queues)
-}
 
 /// The ports' lanes that serve the queue.
 fn links_of(shape: &Shape, queue: usize) -> Places
@@ -81,7 +51,7 @@ impl Core {
         ensures back { IfErr result (λ e. e.1 ≡ shape) }
     {
         let bound = shape.bound();
-        let queues = match empty_queues(alloc, &shape) {
+        let queues = match AllQueues::new(alloc, &shape) {
             Ok(queues) => queues,
             Err(memory) => return Err((memory, shape)),
         };

@@ -16,13 +16,11 @@ use crate::state::Core;
 use evt_types::{Delivery, Numbered};
 use place_set::Places;
 
-/// How many levels a queue has.
-const LEVELS: usize = 4;
-
 impl Core {
     /// What is given next: of the first queue, by priority and then number, that has an event which some lane may take,
     /// its first such event, by level and then number, to the lane with fewest unanswered events, of several the first.
     /// Nothing that is seen of the core changes; a queue may set blocked events aside.
+    #[inline(always)]
     pub fn propose(&mut self, skips: &Skips) -> Option<Offer>
         ensures same { self.new ≡ self.old }
         ensures choice { IfSome result (λ o. IsChoice self.old skips.now o.lane o.delivery.queue (numbered_in o.delivery)) }
@@ -30,10 +28,10 @@ impl Core {
         ensures offer { IfSome result (λ o. IsOffer self.old o.lane o.delivery.queue (numbered_in o.delivery)) }
         ensures keeps { (T : List StepValue) → Stands T self.old → IfSome result (λ o. Allowed self.old.shape T (steps.Give o.lane o.delivery.queue o.delivery.number) × (event_at T o.delivery.queue o.delivery.number ≡ Some o.delivery.event)) }
     {
-        let count = self.shape.queues().len();
         let sweep = self.shape.sweep();
+        let mut left = self.queues.busy();
         let mut best = None;
-        for queue in 0..count {
+        while let Some(queue) = left.pop() {
             if skips.has_quota(queue, sweep) && self.is_ahead(queue, best) {
                 let offer = self.offer_of(queue, skips);
                 if offer.is_some() {
@@ -58,6 +56,7 @@ impl Core {
     }
 
     /// The queue's first event that some lane may take, by level and then number.
+    #[inline(always)]
     fn offer_of(&mut self, queue: usize, skips: &Skips) -> Option<Offer>
         requires { queue < length self.old.shape.queues }
         ensures same { self.new ≡ self.old }
@@ -66,12 +65,10 @@ impl Core {
     {
         // The use of a field makes known what holds of each core.
         let _ = &self.shape;
-        if self.waiting_len(queue) == 0 {
-            return None;
-        }
         let lanes = self.open_lanes(queue, skips);
         let allowed = self.allowed(queue, lanes, skips);
-        for level in 0..LEVELS {
+        let mut left = self.queues.levels(queue);
+        while let Some(level) = left.pop() {
             let offer = self.offer_in(queue, level, lanes, allowed, skips);
             if offer.is_some() {
                 return offer;
@@ -119,8 +116,7 @@ impl Core {
         ensures first { IfSome result (IsFirstIn self.old queue level allowed) }
         ensures none { IfNone result (HasNoneAllowedIn self.old queue level allowed) }
     {
-        let waiting = &mut self.queues[queue];
-        waiting.first(level, allowed)
+        self.queues.first(queue, level, allowed)
     }
 
     /// The slot of an event of the queue.
@@ -129,7 +125,7 @@ impl Core {
         ensures value { result ≡ slot_at self.now queue waiting.now }
         ensures few { result < SLOTS }
     {
-        self.queues[queue].slot_of(waiting)
+        self.queues.slot_of(queue, waiting)
     }
 
     /// The event for the best lane that may take it.

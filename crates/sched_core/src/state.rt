@@ -11,8 +11,8 @@ ghost use Rattle.evt_types.specs.declared.step.Step.{Step as StepValue};
 use crate::histories::Histories;
 use crate::orders::{AllOrders, kept_room};
 use crate::pins::AllPins;
+use crate::queues::AllQueues;
 use evt_types::{KeptEvent, MAX_QUEUES, QueueDraft, Shape};
-use parked_queue::ParkedQueue;
 use place_set::Places;
 use std::alloc::AllocError;
 use std::marker::Model;
@@ -24,7 +24,7 @@ pub type Memory = AllocError;
 #[derive(Drop)]
 pub struct Core {
     pub(crate) shape: Shape,
-    pub(crate) queues: Vec<ParkedQueue>,
+    pub(crate) queues: AllQueues,
     pub(crate) orders: AllOrders,
     pub(crate) lanes: Histories,
     pub(crate) pins: AllPins,
@@ -97,7 +97,7 @@ impl Core {
         requires { queue < length self.now.shape.queues }
         ensures { result ≡ length (waiting_at self.now queue) }
     {
-        self.queues[queue].count()
+        self.queues.count(queue)
     }
 
     /// Appends the queue and the number of each of the queue's waiting events, by rising number.
@@ -108,7 +108,7 @@ impl Core {
         ensures model { (T : List StepValue) → Stands T self.now → into.new.items ≡ into.old.items ++ pairs_of queue (transcripts.waiting T queue) }
         ensures room { vec_capacity into.new ≡ vec_capacity into.old }
     {
-        self.queues[queue].list_pairs(queue, into);
+        self.queues.list_pairs(queue, into);
     }
 
     /// How many places of an ordered queue's hand-out haven't left; of another queue there are none.

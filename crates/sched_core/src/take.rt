@@ -85,6 +85,7 @@ impl Core {
     }
 
     /// Takes the lane's reply, and appends its steps to the log.
+    #[inline(always)]
     pub fn take(&mut self, lane: usize, reply: Reply, log: &mut Vec<Step>) -> Took
         requires lane { lane < lanes_of self.old.shape }
         requires takes { may_take self.old lane reply.event ≡ true }
@@ -104,6 +105,7 @@ impl Core {
     }
 
     /// A new event waits in its queue; once the core is shut it is turned away.
+    #[inline(always)]
     fn take_new(&mut self, lane: usize, event: Event, log: &mut Vec<Step>) -> Took
         requires takes { may_enter self.old event.queue ≡ true }
         requires room { vec_len log.old + length (steps_by Op.New self.old lane event) ≤ vec_capacity log.old }
@@ -123,6 +125,7 @@ impl Core {
 
     /// The lane's oldest unanswered event is done with, and what it is forwarded as waits in its queue. An ordered queue
     /// keeps it until all that it handed out before is answered.
+    #[inline(always)]
     fn take_forward(&mut self, lane: usize, event: Event, log: &mut Vec<Step>) -> Took
         requires op { event.op ≡ Op.Forward }
         requires lane { lane < lanes_of self.old.shape }
@@ -143,6 +146,7 @@ impl Core {
     }
 
     /// The lane's oldest unanswered event is done with.
+    #[inline(always)]
     fn take_release(&mut self, lane: usize, log: &mut Vec<Step>) -> Took
         requires lane { lane < lanes_of self.old.shape }
         requires takes { may_answer self.old lane ≡ true }

@@ -1,24 +1,27 @@
-use Rattle.std.proofs.Common.{◌<◌, ◌^◌, length, subst, sym, ap, ◌∙◌, arith}
+use Rattle.std.proofs.Common.{◌<◌, ◌^◌, length, refl, subst, sym, ap, ◌∙◌, arith}
 use Rattle.evt_types.specs.Plan.{bound_of}
 use Rattle.transcripts.specs.Standing.{View, inside_of, entries_of, after_accept}
 use Rattle.sched_core.proofs.Cores.{fits_queue, fits_number, core_accepts, view_accepts}
 use Rattle.sched_core.specs.View.{view_in}
+use Rattle.parked_queue.specs.Waits.{with_event}
+use Rattle.sched_core.proofs.Busy.{waits_is}
+use Rattle.sched_core.specs.Ordered.{waits_at}
 use Rattle.sched_core.proofs.state.Core.accept.Goals as goal
 
 pub accept-requires-clause-room : goal.accept-requires-clause-room
 accept-requires-clause-room c =
     let queue : c.args.event.queue < length c.self.inside.shape.queues = subst (λ (v : View). c.args.event.queue < length v.shape.queues) (sym c.self.view_is) c.requires.queue in
     let is = c.from-queue.ensures in
-    let h : c.from-queue.result < length c.self.inside.queues.items = omega (arith, queue, c.self.invariant.queues) in
+    let h : c.from-queue.result < length c.self.inside.queues = omega (arith, queue, c.self.invariant.queues) in
     let room : inside_of (view_in c.self.inside) < bound_of c.self.inside.shape = subst (λ (v : View). inside_of v < bound_of v.shape) (sym c.self.view_is) c.requires.inside in
-    fits_queue c.self.inside c.from-queue.result c.index_mut-entered.result.now c.self.invariant h c.index_mut-entered.ensures.value room
+    fits_queue c.self.inside c.from-queue.result (waits_at c.self.inside.queues c.from-queue.result) c.self.invariant h (waits_is c.self.inside.queues c.from-queue.result h) room
 
 pub accept-requires-clause-numbers : goal.accept-requires-clause-numbers
 accept-requires-clause-numbers c =
     let queue : c.args.event.queue < length c.self.inside.shape.queues = subst (λ (v : View). c.args.event.queue < length v.shape.queues) (sym c.self.view_is) c.requires.queue in
     let is = c.from-queue.ensures in
-    let h : c.from-queue.result < length c.self.inside.queues.items = omega (arith, queue, c.self.invariant.queues) in
-    let le = fits_number c.self.inside c.from-queue.result c.index_mut-entered.result.now h c.index_mut-entered.ensures.value in
+    let h : c.from-queue.result < length c.self.inside.queues = omega (arith, queue, c.self.invariant.queues) in
+    let le = fits_number c.self.inside c.from-queue.result (waits_at c.self.inside.queues c.from-queue.result) h (waits_is c.self.inside.queues c.from-queue.result h) in
     let few = ap entries_of c.self.view_is in
     omega (arith, le, few, c.requires.entries)
 
@@ -26,17 +29,17 @@ pub invariant_of-self : goal.invariant_of-self
 invariant_of-self c =
     let queue : c.args.event.queue < length c.self.inside.shape.queues = subst (λ (v : View). c.args.event.queue < length v.shape.queues) (sym c.self.view_is) c.requires.queue in
     let is = c.from-queue.ensures in
-    let h : c.from-queue.result < length c.self.inside.queues.items = omega (arith, queue, c.self.invariant.queues) in
+    let h : c.from-queue.result < length c.self.inside.queues = omega (arith, queue, c.self.invariant.queues) in
     let room : inside_of (view_in c.self.inside) < bound_of c.self.inside.shape = subst (λ (v : View). inside_of v < bound_of v.shape) (sym c.self.view_is) c.requires.inside in
     let fewer : entries_of (view_in c.self.inside) < 2 ^ 63 = subst (λ (v : View). entries_of v < 2 ^ 63) (sym c.self.view_is) c.requires.entries in
-    core_accepts c.self.inside c.from-queue.result c.index_mut-entered.result.now c.accept.new.self c.args.event c.self.invariant room fewer h c.index_mut-entered.ensures.value c.accept.ensures.value c.accept.ensures.waits
+    rw c.accept.ensures.value (core_accepts c.self.inside c.from-queue.result (waits_at c.self.inside.queues c.from-queue.result) (with_event (waits_at c.self.inside.queues c.from-queue.result) c.args.event) c.args.event c.self.invariant room fewer h (waits_is c.self.inside.queues c.from-queue.result h) refl c.accept.ensures.waits)
 
 pub returns-clause-view : goal.returns-clause-view
 returns-clause-view c =
     let queue : c.args.event.queue < length c.self.inside.shape.queues = subst (λ (v : View). c.args.event.queue < length v.shape.queues) (sym c.self.view_is) c.requires.queue in
     let is = c.from-queue.ensures in
-    let h : c.from-queue.result < length c.self.inside.queues.items = omega (arith, queue, c.self.invariant.queues) in
-    view_accepts c.self.inside c.from-queue.result c.index_mut-entered.result.now c.accept.new.self c.args.event h c.index_mut-entered.ensures.value c.accept.ensures.value
+    let h : c.from-queue.result < length c.self.inside.queues = omega (arith, queue, c.self.invariant.queues) in
+    rw c.accept.ensures.value (view_accepts c.self.inside c.from-queue.result (waits_at c.self.inside.queues c.from-queue.result) (with_event (waits_at c.self.inside.queues c.from-queue.result) c.args.event) c.args.event h (waits_is c.self.inside.queues c.from-queue.result h) refl)
     ∙ (ap (λ q. after_accept (view_in c.self.inside) q c.args.event) is ∙ ap (λ v. after_accept v c.args.event.queue c.args.event) c.self.view_is)
 
 pub overflow_add-self : goal.overflow_add-self

@@ -3,15 +3,17 @@ use Rattle.transcripts.specs.Standing.{View, waiting_at}
 use Rattle.transcripts.specs.Transcript.{pairs_of}
 use Rattle.transcripts.proofs.WholeStands.{waiting_is}
 use Rattle.sched_core.proofs.Cores.{waiting_here}
+use Rattle.sched_core.proofs.Busy.{waits_is}
+use Rattle.sched_core.specs.Ordered.{waits_at}
 use Rattle.sched_core.proofs.state.Core.list_waiting.Goals as goal
 
 pub returns-clause-pairs : goal.returns-clause-pairs
 returns-clause-pairs c =
     let there = subst (λ (v : View). c.args.queue < length v.shape.queues) (sym c.self.view_is) c.requires.queue in
-    let within : c.args.queue < length c.self.inside.queues.items = omega (arith, c.self.invariant.queues) in
+    let within : c.args.queue < length c.self.inside.queues = omega (arith, c.self.invariant.queues) in
     c.list_pairs.ensures.pairs
     ∙ ap (λ ws. c.args.into.now.items ++ pairs_of c.args.queue ws)
-    (sym (waiting_here c.self.inside c.args.queue c.index.result.now within c.index.ensures) ∙ ap (λ (v : View). waiting_at v c.args.queue) c.self.view_is)
+    (sym (waiting_here c.self.inside c.args.queue (waits_at c.self.inside.queues c.args.queue) within (waits_is c.self.inside.queues c.args.queue within)) ∙ ap (λ (v : View). waiting_at v c.args.queue) c.self.view_is)
 
 pub returns-clause-model : goal.returns-clause-model
 returns-clause-model c T stands =

@@ -2,7 +2,7 @@ use Rattle.std.proofs.Common.{◌≡◌, ◌+◌, ◌∙◌, length, ap, arith, 
 use Rattle.sched_core.specs.Inner.{AreEmptyQueues, slots_for}
 use Rattle.parked_queue.specs.Waits.{no_waits}
 use Rattle.sched_core.proofs.News.{queues_none, queues_more}
-use Rattle.sched_core.proofs.new.empty_queues.Goals as goal
+use Rattle.sched_core.proofs.queues.empty_queues.Goals as goal
 
 pub loop-queue-init : goal.loop-queue-init
 loop-queue-init c = subst (AreEmptyQueues c.args.shape.now 0) (sym c.in_ok-queues.ensures.items) (queues_none c.args.shape.now)

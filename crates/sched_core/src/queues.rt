@@ -1,0 +1,171 @@
+//! What waits in all queues.
+
+ghost use Rattle.std.specs.Prelude.{◌≡◌, ◌+◌, ◌<◌, ◌≤◌, ◌^◌, ◌++◌, length, slice_set, vec_len, vec_capacity, IfOk, IfSome, IfNone};
+ghost use Rattle.parked_queue.specs.Waits.{AreLevels, AreWaits, HasNoneAllowed, IsFirstAllowed, IsOnlyOf, slot_of, with_event, without_number};
+ghost use Rattle.sched_core.specs.Inner.{AreEmptyQueues, slots_for};
+ghost use Rattle.sched_core.specs.Ordered.{waits_at};
+ghost use Rattle.sched_core.specs.Busy.{AreBusy};
+ghost use Rattle.transcripts.specs.Transcript.{pairs_of};
+
+use evt_types::{Event, MAX_SLOTS, Numbered, Shape};
+use parked_queue::ParkedQueue;
+use place_set::Places;
+use std::alloc::{AllocError, Global};
+use std::marker::Model;
+
+/// The queues, and a word of those in which something waits, so that an empty queue is never asked.
+#[derive(Drop)]
+pub struct AllQueues {
+    queues: Vec<ParkedQueue>,
+    /// The queues in which something waits.
+    busy: Places,
+}
+
+impl Model for AllQueues {
+    ghost use Rattle.std.specs.Prelude.{List};
+    ghost use Rattle.parked_queue.specs.Waits.{Waits};
+
+    ghost Value = { List Waits };
+
+    ghost use Rattle.sched_core.specs.Busy.{AreBusy};
+
+    ghost view = { λ a. a.queues.items };
+
+    ghost invariant = { λ a. AreBusy a.queues.items a.busy };
+}
+
+/// How many slots the events of a queue fall into.
+fn slots_for(shape: &Shape, queue: usize) -> usize
+    requires { queue < length shape.now.queues }
+    ensures value { result ≡ slots_for shape.now queue }
+    ensures range { (1 ≤ result) × (result ≤ MAX_SLOTS) }
+{
+    // To read a limit makes known that the limits hold.
+    let _ = shape.limit();
+    let draft = &shape.queues()[queue];
+    if draft.kind.is_atomic() {
+        draft.slots as usize
+    } else {
+        1
+    }
+}
+
+/// The queues of the configuration, each with room for as many events as may be inside.
+fn empty_queues(alloc: Global, shape: &Shape) -> Result<Vec<ParkedQueue>, AllocError>
+    ensures { IfOk result (λ qs. AreEmptyQueues shape.now (length shape.now.queues) qs.items) }
+{
+    let count = shape.queues().len();
+    let room = shape.bound();
+    let mut queues = Vec::with_capacity(alloc, count)?;
+    for queue in 0..count {
+        queues.push(ParkedQueue::new(alloc, slots_for(shape, queue), room)?)?;
+    }
+    Ok(queues)
+}
+
+impl AllQueues {
+    /// The queues of the configuration, in which nothing waits.
+    pub fn new(alloc: Global, shape: &Shape) -> Result<AllQueues, AllocError>
+        ensures { IfOk result (λ qs. AreEmptyQueues shape.now (length shape.now.queues) qs) }
+    {
+        // To read a limit makes known that the limits hold: there are fewer queues than a set has places.
+        let _ = shape.limit();
+        Ok(AllQueues {
+            queues: empty_queues(alloc, shape)?,
+            busy: Places::none(),
+        })
+    }
+
+    /// How many queues there are.
+    pub fn len(&self) -> usize
+        ensures { result ≡ length self.now }
+    {
+        self.queues.len()
+    }
+
+    /// The queues in which something waits.
+    pub fn busy(&self) -> Places
+        ensures { AreBusy self.now result }
+    {
+        self.busy
+    }
+
+    /// The levels of the queue of which an event waits, and perhaps some that have become empty.
+    pub fn levels(&self, queue: usize) -> Places
+        requires { queue < length self.now }
+        ensures { AreLevels (waits_at self.now queue) result }
+    {
+        self.queues[queue].levels()
+    }
+
+    /// Lets the event wait in the queue, under the queue's next number.
+    #[inline(always)]
+    pub fn accept(&mut self, queue: usize, event: Event)
+        requires there { queue < length self.old }
+        requires room { length (waits_at self.old queue).waiting < (waits_at self.old queue).room }
+        requires numbers { (waits_at self.old queue).next < 2 ^ 63 }
+        ensures value { self.new ≡ slice_set self.old queue (with_event (waits_at self.old queue) event) }
+        ensures waits { AreWaits (with_event (waits_at self.old queue) event) }
+    {
+        let entered = &mut self.queues[queue];
+        entered.accept(event);
+        self.busy.add(queue);
+    }
+
+    /// The slot of an event of the queue.
+    pub fn slot_of(&self, queue: usize, waiting: &Numbered) -> usize
+        requires { queue < length self.now }
+        ensures value { result ≡ slot_of (waits_at self.now queue).slots waiting.now }
+        ensures within { result < (waits_at self.now queue).slots }
+    {
+        self.queues[queue].slot_of(waiting)
+    }
+
+    /// The first event of the queue's level whose slot is allowed.
+    pub fn first(&mut self, queue: usize, level: usize, allowed: Places) -> Option<Numbered>
+        requires there { queue < length self.old }
+        requires level { level < 4 }
+        ensures same { self.new ≡ self.old }
+        ensures first { IfSome result (IsFirstAllowed (waits_at self.old queue) level allowed) }
+        ensures none { IfNone result (HasNoneAllowed (waits_at self.old queue) level allowed) }
+        ensures waits { AreWaits (waits_at self.old queue) }
+    {
+        let waiting = &mut self.queues[queue];
+        waiting.first(level, allowed)
+    }
+
+    /// Takes the event of this number out of the queue, which is of the level and the slot.
+    pub fn remove(&mut self, queue: usize, level: usize, slot: usize, number: u64)
+        requires there { queue < length self.old }
+        requires level { level < 4 }
+        requires slot { slot < (waits_at self.old queue).slots }
+        requires only { IsOnlyOf (waits_at self.old queue) level slot number }
+        ensures value { self.new ≡ slice_set self.old queue (without_number (waits_at self.old queue) number) }
+        ensures waits { AreWaits (without_number (waits_at self.old queue) number) }
+    {
+        let left = &mut self.queues[queue];
+        left.remove(level, slot, number);
+        if left.count() == 0 {
+            self.busy.remove(queue);
+        }
+    }
+
+    /// How many events of the queue wait.
+    pub fn count(&self, queue: usize) -> usize
+        requires { queue < length self.now }
+        ensures value { result ≡ length (waits_at self.now queue).waiting }
+        ensures waits { AreWaits (waits_at self.now queue) }
+    {
+        self.queues[queue].count()
+    }
+
+    /// Appends the queue's number with that of each of its waiting events, rising.
+    pub fn list_pairs(&self, queue: usize, into: &mut Vec<(usize, u64)>)
+        requires there { queue < length self.now }
+        requires room { vec_len into.old + length (waits_at self.now queue).waiting ≤ vec_capacity into.old }
+        ensures pairs { into.new.items ≡ into.old.items ++ pairs_of queue (waits_at self.now queue).waiting }
+        ensures room { vec_capacity into.new ≡ vec_capacity into.old }
+    {
+        self.queues[queue].list_pairs(queue, into);
+    }
+}

@@ -1,8 +1,8 @@
 //! The calls that no recorder makes: sweeps with a log of the caller's own, and bursts.
 
-use crate::plans::{SOURCE, WORKER, one_queue, queue};
 use crate::steps::{delivery, entered, given, new_event, released};
 use arrayvec::ArrayVec;
+use device_rigs::{SOURCE, WORKER, one_queue, queue};
 use event_device::{Port, Scheduler, Swept, device};
 use evt_types::{Event, Kind, Serving, Step};
 use std::alloc::Global;

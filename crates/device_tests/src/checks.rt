@@ -1,9 +1,7 @@
 //! The checker finds what is wrong in a log, and nothing in a good one.
 
-use crate::checker::Checker;
-use crate::logged_queue::Fault;
-use crate::plans::queue;
 use crate::steps::{entered, event, forwarded, given, new_event, passed_on, released};
+use device_rigs::{Checker, Fault, queue};
 use evt_types::{Event, Kind, Op, Step};
 use std::alloc::Global;
 use std::test::Fail;

@@ -1,9 +1,8 @@
 //! Known rows of a device in which each slot of the atomic queue has a lane of its own, which the ports claim.
 
 use crate::left::{Left, no_events};
-use crate::plans::{SOURCE, WORKER, one_queue, queue};
-use crate::rig::{Rig, dequeued, release, swept, taken};
 use crate::steps::{delivery, entered, given, new_event, released};
+use device_rigs::{Rig, SOURCE, WORKER, dequeued, one_queue, queue, release, swept, taken};
 use event_device::Held;
 use evt_types::{Kind, Serving};
 use std::alloc::Global;
@@ -13,7 +12,8 @@ use std::test::Fail;
 fn flow_rig(alloc: Global) -> Result<Rig, Fail> {
     let queues = [queue(Kind::Atomic, 4)];
     let ports = [SOURCE, WORKER, WORKER];
-    Rig::new(alloc, &one_queue(Serving::Flows, &queues, &ports))
+    let rig = Rig::new(alloc, &one_queue(Serving::Flows, &queues, &ports))?;
+    Ok(rig)
 }
 
 /// An event that port 2 holds.

@@ -3,11 +3,7 @@
 #![tactic(auto)]
 
 #[cfg(test)]
-mod accounts;
-#[cfg(test)]
 mod calls;
-#[cfg(test)]
-mod checker;
 #[cfg(test)]
 mod checks;
 #[cfg(test)]
@@ -17,15 +13,7 @@ mod flow_threads;
 #[cfg(test)]
 mod left;
 #[cfg(test)]
-mod logged_queue;
-#[cfg(test)]
-mod plans;
-#[cfg(test)]
-mod rig;
-#[cfg(test)]
 mod rows;
-#[cfg(test)]
-mod runs;
 #[cfg(test)]
 mod steps;
 #[cfg(test)]

@@ -1,9 +1,11 @@
 //! Known rows of a device that hands all events to its ports' own lanes, through the calls.
 
 use crate::left::{Left, no_events};
-use crate::plans::{Plan, PortPlan, SOURCE, WORKER, one_queue, queue};
-use crate::rig::{Call, Rig, dequeued, refused, release, swept, taken};
 use crate::steps::{delivery, entered, event, given, new_event, released};
+use device_rigs::{
+    Call, Plan, PortPlan, Rig, SOURCE, WORKER, dequeued, one_queue, queue, refused, release, swept,
+    taken,
+};
 use event_device::{Behind, Held, Refused};
 use evt_types::{Kind, Op, Serving, Step};
 use std::alloc::Global;
@@ -12,7 +14,8 @@ use std::test::Fail;
 /// A device with these ports, of which all but the first handle the events of its one atomic queue.
 fn rig_of(alloc: Global, ports: &[PortPlan]) -> Result<Rig, Fail> {
     let queues = [queue(Kind::Atomic, 4)];
-    Rig::new(alloc, &one_queue(Serving::Ports, &queues, ports))
+    let rig = Rig::new(alloc, &one_queue(Serving::Ports, &queues, ports))?;
+    Ok(rig)
 }
 
 /// An event was brought in and handed out, and port 1 holds it.
@@ -72,7 +75,8 @@ fn backpressure_ends_a_burst(rt: HostRuntime) -> Result<(), Fail> {
         events: &[new_event(7, 1), new_event(7, 1), new_event(7, 1)],
         answer: (2, Some(Refused::Backpressure { free: 2 })),
     };
-    rig.play(&[burst])
+    rig.play(&[burst])?;
+    Ok(())
 }
 
 #[test]
@@ -83,14 +87,16 @@ fn misuse_is_refused(rt: HostRuntime) -> Result<(), Fail> {
         refused(1, event(Op::Forward, 9, 7, 5), Refused::BadQueue),
         refused(0, event(Op::New, 9, 7, 5), Refused::BadQueue),
         refused(1, event(Op::Release, 0, 0, 0), Refused::NothingHeld),
-    ])
+    ])?;
+    Ok(())
 }
 
 /// Of a RELEASE nothing but its operation counts.
 #[test]
 fn a_release_may_name_any_queue(rt: HostRuntime) -> Result<(), Fail> {
     let mut rig = one_held(rt.alloc())?;
-    rig.play(&[taken(1, event(Op::Release, 200, 0, 0)), swept(1, 0)])
+    rig.play(&[taken(1, event(Op::Release, 200, 0, 0)), swept(1, 0)])?;
+    Ok(())
 }
 
 /// Two NEWs were made before the device was shut, and one after it.

@@ -8,8 +8,7 @@ ghost use Rattle.std.specs.Prelude.{[], ◌∷◌, IfOk};
 ghost use Rattle.event_recorder.specs.Stop.{AreOf};
 
 use crate::left::no_events;
-use crate::plans::{SOURCE, WORKER, one_queue, queue};
-use crate::rig::Rig;
+use device_rigs::{Rig, SOURCE, WORKER, one_queue, queue};
 use event_device::{Control, Port, Recorder, StopFault};
 use evt_types::{Kind, Serving};
 use std::alloc::Global;

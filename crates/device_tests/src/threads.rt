@@ -1,34 +1,47 @@
 //! A producer, three workers and the scheduler pass many events over three queues.
 
-use crate::accounts::{credits, entry_count};
-use crate::checker::Checker;
-use crate::plans::queue;
-use crate::rig::{Call, Rig, refused};
-use crate::runs::{EVENTS, End, LIMIT, Task, event, plan, port, run};
+use device_rigs::{
+    Call, Checker, End, Plan, PortPlan, Rig, Task, brought_in, credits, entry_count, event, queue,
+    refused, run,
+};
 use event_device::{Refused, Report};
-use evt_types::{Kind, MAX_LANES, QueueDraft, Serving, Source, Step};
+use evt_types::{Kind, MAX_LANES, QueueDraft, Serving};
 use std::alloc::Global;
 use std::process::Abort;
 use std::test::Fail;
 use std::thread::Threads;
 
-/// Whether what was accepted as new is what the producer brought in, in its order.
-fn is_brought_in(log: &[Step]) -> bool {
-    let mut payload = 0;
-    for step in log {
-        if let Step::Accept {
-            event: accepted,
-            source: Source::New { .. },
-            ..
-        } = step
-        {
-            if payload >= EVENTS || *accepted != event(payload) {
-                return false;
-            }
-            payload += 1;
-        }
+/// How many events the producer brings in.
+pub(crate) const EVENTS: u32 = 100_000;
+
+/// How many of them may be inside the device.
+pub(crate) const LIMIT: u32 = 64;
+
+/// A device whose credits are short, so that the threads wait for them at times.
+pub(crate) fn plan<'a>(
+    serving: Serving,
+    queues: &'a [QueueDraft],
+    ports: &'a [PortPlan<'a>],
+) -> Plan<'a> {
+    Plan {
+        limit: LIMIT,
+        quantum: 4,
+        sweep: 16,
+        serving,
+        queues,
+        ports,
     }
-    payload == EVENTS
+}
+
+/// A port with rings of this length.
+pub(crate) fn port<'a>(depth: u32, links: &'a [u32]) -> PortPlan<'a> {
+    PortPlan {
+        threshold: LIMIT,
+        depth,
+        replies: depth,
+        implicit: false,
+        links,
+    }
 }
 
 /// All events went through all queues, by a log in which nothing is wrong, and nothing is left.
@@ -43,7 +56,7 @@ pub(crate) fn check<R: Abort>(
     assert!(rt; checker.is_done() && checker.is_shut());
     assert_eq!(rt; checker.entered(), u64::from(EVENTS));
     assert!(rt; checker.each_queue_has(EVENTS as usize));
-    assert!(rt; is_brought_in(&report.log));
+    assert_eq!(rt; brought_in(&report.log), Some(EVENTS));
     assert!(rt; entry_count(report) == 0 && credits(report) == u64::from(LIMIT));
     Ok(())
 }
@@ -64,7 +77,8 @@ pub(crate) fn is_shut(rig: &mut Rig) -> Result<(), Fail> {
             port: 3,
             answer: true,
         },
-    ])
+    ])?;
+    Ok(())
 }
 
 /// Passes all events over an atomic, an ordered and a parallel queue, with rings of this length.
@@ -82,6 +96,7 @@ fn pass<R: Threads + Abort + Sync>(
     let worker = port(depth, &[0, 1, 2]);
     let ports = [port(depth, &[]), worker, worker, worker];
     let task = Task {
+        events: EVENTS,
         last: 2,
         end: End::Through,
     };

@@ -2,6 +2,8 @@
 #![tactic(auto)]
 
 #[cfg(test)]
+mod causes;
+#[cfg(test)]
 mod parts;
 #[cfg(test)]
 mod pipelines;

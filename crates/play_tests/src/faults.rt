@@ -179,6 +179,18 @@ fn names_a_long_document(rt: HostRuntime) -> Result<(), Fail> {
 }
 
 #[test]
+fn plays_the_longest_document(rt: HostRuntime) -> Result<(), Fail> {
+    let alloc = rt.alloc();
+    let good = document(alloc, "")?;
+    let spaces = " ".repeat(alloc, 1_048_575usize.saturating_sub(good.len()))?;
+    let long = format!(in alloc; "{good}#{spaces}")?;
+    let plain = is_named(&rt, alloc, good.as_bytes(), "")?;
+    let written = is_named(&rt, alloc, long.as_bytes(), "")?;
+    assert!(rt; long.len() == 1_048_576 && written == plain);
+    Ok(())
+}
+
+#[test]
 fn names_many_bytes_that_are_no_text(rt: HostRuntime) -> Result<(), Fail> {
     let alloc = rt.alloc();
     for (len, name) in [(1_048_576, "NotToml"), (1_048_577, "TooLong")] {

@@ -12,6 +12,8 @@ mod flow_rows;
 #[cfg(test)]
 mod level_rows;
 #[cfg(test)]
+mod misuse;
+#[cfg(test)]
 mod ordered_rows;
 #[cfg(test)]
 mod parts;

@@ -6,3 +6,5 @@
 mod credits;
 #[cfg(test)]
 mod lanes;
+#[cfg(test)]
+mod refusals;

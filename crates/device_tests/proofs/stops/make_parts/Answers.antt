@@ -1,5 +1,5 @@
 use Rattle.std.proofs.Common.{arith}
-use Rattle.device_tests.proofs.Whole.{both_are_of, popped_whole, second_is_of}
+use Rattle.device_rigs.proofs.Whole.{both_are_of, popped_whole, second_is_of}
 use Rattle.device_tests.proofs.stops.make_parts.Goals as goal
 
 pub returns-clause-last : goal.returns-clause-last

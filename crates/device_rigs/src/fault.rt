@@ -1,0 +1,53 @@
+//! Why a device of a plan isn't made, called as wanted or stopped.
+
+use event_device::{DeviceFault, StopFault};
+use evt_types::ShapeFault;
+use std::alloc::AllocError;
+use thiserror::Error;
+
+/// Why a device of a plan isn't made, called as wanted or stopped.
+#[derive(Clone, Copy, Debug, PartialEq, Eq, Error)]
+pub enum RigFault {
+    /// The configuration is refused.
+    #[error("the configuration is refused: {0}")]
+    Shape(ShapeFault),
+    /// A seat of the credits or of the flow lanes' claims couldn't be had.
+    #[error("the device could not be shared out to its ports")]
+    NoSeat,
+    /// The call at this place had another answer.
+    #[error("call {place} had another answer")]
+    Unexpected { place: usize },
+    /// The device isn't stopped.
+    #[error("the device is not stopped: {0}")]
+    Stop(StopFault),
+    /// Memory ran out, or a thread couldn't be started.
+    #[error("memory ran out, or a thread could not be started")]
+    Memory,
+}
+
+impl From<AllocError> for RigFault {
+    fn from(_: AllocError) -> RigFault {
+        RigFault::Memory
+    }
+}
+
+impl From<ShapeFault> for RigFault {
+    fn from(fault: ShapeFault) -> RigFault {
+        RigFault::Shape(fault)
+    }
+}
+
+impl From<DeviceFault> for RigFault {
+    fn from(fault: DeviceFault) -> RigFault {
+        match fault {
+            DeviceFault::Memory(_) => RigFault::Memory,
+            DeviceFault::NoSeat(_) => RigFault::NoSeat,
+        }
+    }
+}
+
+impl From<StopFault> for RigFault {
+    fn from(fault: StopFault) -> RigFault {
+        RigFault::Stop(fault)
+    }
+}

@@ -1,0 +1,317 @@
+//! The lane: a refused reply leaves both rings and what is held as they were.
+
+ghost use Rattle.std.specs.Prelude.{◌≡◌};
+ghost use Rattle.lane_rings.specs.Identity.{near_id, far_id};
+
+use evt_types::{Delivery, Event, Op, Reply};
+use lane_rings::{AnswerFault, Beside, Far, Near, beside, lane};
+use std::test::Fail;
+
+/// A lane when a reply is refused. Its deliveries are known by their numbers; number 9 is offered and not received.
+#[derive(Clone, Copy)]
+struct Row {
+    name: &'static str,
+    received: &'static [u64],
+    given: &'static [Op],
+    held: &'static [u64],
+    refused: Op,
+    /// Whether the ring is full; else nothing is held.
+    is_full: bool,
+    /// What is held once number 9 was received and the refused reply was accepted.
+    left: &'static [u64],
+}
+
+/// How many deliveries may be held, and how many replies the ring has room for.
+const DEPTH: usize = 3;
+
+const ROOM: usize = 2;
+
+static ROWS: [Row; 13] = [
+    Row {
+        name: "forward, nothing received",
+        received: &[],
+        given: &[],
+        held: &[],
+        refused: Op::Forward,
+        is_full: false,
+        left: &[],
+    },
+    Row {
+        name: "release, nothing received",
+        received: &[],
+        given: &[],
+        held: &[],
+        refused: Op::Release,
+        is_full: false,
+        left: &[],
+    },
+    Row {
+        name: "forward, all answered",
+        received: &[0],
+        given: &[Op::Forward],
+        held: &[],
+        refused: Op::Forward,
+        is_full: false,
+        left: &[],
+    },
+    Row {
+        name: "release, all answered",
+        received: &[0],
+        given: &[Op::Release],
+        held: &[],
+        refused: Op::Release,
+        is_full: false,
+        left: &[],
+    },
+    // Where the ring is full too, that nothing is held is the first cause.
+    Row {
+        name: "forward, nothing received and no room",
+        received: &[],
+        given: &[Op::New, Op::New],
+        held: &[],
+        refused: Op::Forward,
+        is_full: false,
+        left: &[],
+    },
+    Row {
+        name: "release, all answered and no room",
+        received: &[0, 1],
+        given: &[Op::Forward, Op::Release],
+        held: &[],
+        refused: Op::Release,
+        is_full: false,
+        left: &[],
+    },
+    Row {
+        name: "new, nothing received and no room",
+        received: &[],
+        given: &[Op::New, Op::New],
+        held: &[],
+        refused: Op::New,
+        is_full: true,
+        left: &[9],
+    },
+    Row {
+        name: "new, all answered and no room",
+        received: &[0, 1],
+        given: &[Op::Release, Op::Forward],
+        held: &[],
+        refused: Op::New,
+        is_full: true,
+        left: &[9],
+    },
+    Row {
+        name: "new, one held and no room",
+        received: &[0, 1],
+        given: &[Op::Forward, Op::New],
+        held: &[1],
+        refused: Op::New,
+        is_full: true,
+        left: &[1, 9],
+    },
+    Row {
+        name: "forward, two held and no room",
+        received: &[0, 1],
+        given: &[Op::New, Op::New],
+        held: &[0, 1],
+        refused: Op::Forward,
+        is_full: true,
+        left: &[1, 9],
+    },
+    Row {
+        name: "forward, one held and no room",
+        received: &[0, 1],
+        given: &[Op::New, Op::Release],
+        held: &[1],
+        refused: Op::Forward,
+        is_full: true,
+        left: &[9],
+    },
+    Row {
+        name: "release, two held and no room",
+        received: &[0, 1],
+        given: &[Op::New, Op::New],
+        held: &[0, 1],
+        refused: Op::Release,
+        is_full: true,
+        left: &[1, 9],
+    },
+    Row {
+        name: "release, one held and no room",
+        received: &[0, 1],
+        given: &[Op::Forward, Op::New],
+        held: &[1],
+        refused: Op::Release,
+        is_full: true,
+        left: &[9],
+    },
+];
+
+fn delivery(number: u64) -> Delivery {
+    Delivery {
+        event: event(Op::New, number),
+        queue: 3,
+        number,
+    }
+}
+
+/// A reply, which is known by its place among those that are given, from 0; the refused one is the seventh.
+fn reply(op: Op, place: usize) -> Reply {
+    Reply {
+        event: event(op, place as u64),
+    }
+}
+
+fn event(op: Op, payload: u64) -> Event {
+    Event {
+        flow: 7,
+        sub_type: 0,
+        event_type: 0,
+        op,
+        queue: 0,
+        priority: 128,
+        impl_opaque: 0,
+        payload,
+    }
+}
+
+/// Offers a delivery for each number, and receives it; whether all came.
+fn deliver(near: &mut Near, far: &mut Far, numbers: &[u64]) -> bool
+    ensures near { near_id near.new ≡ near_id near.old }
+    ensures far { far_id far.new ≡ far_id far.old }
+{
+    for number in numbers {
+        let offered = near.offer(delivery(*number));
+        near.flush();
+        if offered.is_err() || far.is_full() || far.receive() != Some(delivery(*number)) {
+            return false;
+        }
+    }
+    true
+}
+
+/// Gives a reply of each kind; whether all were accepted.
+fn give(far: &mut Far, ops: &[Op]) -> bool
+    ensures { far_id far.new ≡ far_id far.old }
+{
+    for (place, op) in ops.iter().enumerate() {
+        if far.answer(reply(*op, place)) != Ok(()) {
+            return false;
+        }
+    }
+    true
+}
+
+/// Takes a reply of each kind, in order; whether they came, and no other.
+fn take(near: &mut Near, ops: &[Op]) -> bool
+    ensures { near_id near.new ≡ near_id near.old }
+{
+    for (place, op) in ops.iter().enumerate() {
+        if near.take() != Some(reply(*op, place)) {
+            return false;
+        }
+    }
+    near.take() == None
+}
+
+/// Lets so many deliveries pass and be released, so that both rings are used from a later place on; whether all passed.
+fn turn(near: &mut Near, far: &mut Far, count: u64) -> bool
+    ensures near { near_id near.new ≡ near_id near.old }
+    ensures far { far_id far.new ≡ far_id far.old }
+{
+    for _ in 0..count {
+        if !deliver(near, far, &[8]) || !give(far, &[Op::Release]) {
+            return false;
+        }
+        far.flush();
+        if !take(near, &[Op::Release]) {
+            return false;
+        }
+    }
+    true
+}
+
+/// The queue and the number of the first of the numbers.
+fn first(numbers: &[u64]) -> Option<(usize, u64)> {
+    let number = numbers.first()?;
+    Some((3, *number))
+}
+
+/// Whether this is held, and what is next in the ring of deliveries is not received.
+fn holds(far: &Far, numbers: &[u64]) -> bool {
+    far.held() == numbers.len() && far.oldest() == first(numbers) && !far.is_full()
+}
+
+/// Whether the row's reply is refused for its cause, and what is held is the same before and after.
+fn refuses(far: &mut Far, row: &Row) -> bool
+    ensures { far_id far.new ≡ far_id far.old }
+{
+    let refused = reply(row.refused, 7);
+    let cause = if row.is_full {
+        AnswerFault::Full(refused)
+    } else {
+        AnswerFault::NothingHeld
+    };
+    holds(far, row.held) && far.answer(refused) == Err(cause) && holds(far, row.held)
+}
+
+/// Whether number 9 is received now, and the reply that was refused is accepted and is all that is taken.
+fn goes_on(near: &mut Near, far: &mut Far, row: &Row) -> bool
+    ensures near { near_id near.new ≡ near_id near.old }
+    ensures far { far_id far.new ≡ far_id far.old }
+{
+    if far.is_full() || far.receive() != Some(delivery(9)) {
+        return false;
+    }
+    let answered = far.answer(reply(row.refused, 7));
+    far.flush();
+    answered == Ok(()) && near.take() == Some(reply(row.refused, 7)) && near.take() == None
+}
+
+/// Whether nothing is in the rings, and this is held.
+fn leaves(rests: &mut Beside, numbers: &[u64]) -> bool {
+    for number in numbers {
+        if rests.next_held() != Some((3, *number)) {
+            return false;
+        }
+    }
+    rests.next_held() == None && rests.next_undelivered() == None && rests.next_untaken() == None
+}
+
+/// Brings a lane to where the row's reply is refused, has it refused, and goes on; whether all is as the row says.
+fn plays(near: Near, far: Far, row: &Row, turns: u64, flushes: bool) -> bool
+    requires { near_id near ≡ far_id far }
+{
+    let (mut near, mut far) = (near, far);
+    let is_there = turn(&mut near, &mut far, turns)
+        && deliver(&mut near, &mut far, row.received)
+        && give(&mut far, row.given)
+        && near.offer(delivery(9)) == Ok(());
+    near.flush();
+    if flushes {
+        far.flush();
+    }
+    let is_refused = refuses(&mut far, row);
+    far.flush();
+    let is_same = take(&mut near, row.given) && goes_on(&mut near, &mut far, row);
+    let mut rests = beside(near, far);
+    is_there && is_refused && is_same && leaves(&mut rests, row.left)
+}
+
+/// The rows, over the places at which a ring begins, and with what was given seen by the scheduler or not.
+#[test]
+fn a_refused_reply_changes_nothing(rt: HostRuntime) -> Result<(), Fail> {
+    for row in &ROWS {
+        for turns in 0..4 {
+            for flushes in [false, true] {
+                let (near, far) = lane(rt.alloc(), DEPTH, ROOM)?;
+                let name = row.name;
+                assert!(rt;
+                    plays(near, far, row, turns, flushes),
+                    "{name}, {turns} turns, {flushes}"
+                );
+            }
+        }
+    }
+    Ok(())
+}

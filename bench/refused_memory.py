@@ -1,12 +1,13 @@
 #!/usr/bin/env python3
 """Refuses each allocation of `evsched play`, `evsched run` and `evsched --help` in turn, the first, then the second, until a run meets
 no refusal. Each run must end by itself, with status 5, the line for want of memory and nothing on standard output, or, where it can do
-without what was refused, as it ends with ample memory.
+without what was refused, as it ends with ample memory. Then it does the same with tests that make again whatever was refused: each must
+pass all the same.
 
     refused_memory.py [PROGRAM]
 
-The program is `evsched`; where none is named it is that of the build. A C compiler makes the library that refuses, which stands before
-the C library's allocator (LD_PRELOAD).
+The program is `evsched`; where none is named it is that of the build. The tests are those that `rt test` builds in their crates. A C
+compiler makes the library that refuses, which stands before the C library's allocator (LD_PRELOAD).
 """
 import os
 import pathlib
@@ -17,6 +18,7 @@ import tempfile
 TOP = pathlib.Path(__file__).resolve().parent.parent
 BUILT = TOP / "crates/evsched/out/evsched"
 NO_MEMORY, LINE = 5, b"evsched: out of memory or seats\n"
+PASSED = b"\ntest result: ok\n"
 SECONDS = 20
 REFUSING = r"""
 #include <errno.h>
@@ -49,12 +51,77 @@ int posix_memalign(void **into, size_t align, size_t size) {
     return *into ? 0 : ENOMEM;
 }
 """
+# Of two events of an ordered queue the second is forwarded first.
+SECOND_FORWARDED_FIRST = """
+limit = 4
+quantum = 2
+sweep = 8
+script = '''
+new 0 0 7 128 1
+new 0 0 8 128 2
+sweep
+deq 1 1
+deq 2 1
+fwd 2 1 8 128 20
+sweep
+fwd 1 1 7 128 10
+sweep
+'''
+queue = [{ kind = "ordered", order = 8 }, { kind = "parallel" }]
+port = [
+    { threshold = 4, depth = 4, replies = 4, implicit = false, links = [] },
+    { threshold = 4, depth = 4, replies = 4, implicit = false, links = [0] },
+    { threshold = 4, depth = 4, replies = 4, implicit = false, links = [0, 1] },
+]
+"""
+ITS_END = """give l2 q1 #1
+report
+undelivered l2 q1 #0
+undelivered l2 q1 #1
+free 2
+pockets 0 0 0
+own 0
+limit 4
+"""
+
+
+def example(name, before=""):
+    """A document under examples/, with this before it, and what is written of it."""
+    document = before + (TOP / f"examples/{name}.toml").read_text()
+    return document, (TOP / f"examples/{name}.out").read_text()
+
+
+RUN = ["run", "--workers", "2"]
+# What a run is of, its arguments, its document, and how what it writes must end.
 RUNS = (
-    (["play"], "first-event"),
-    (["play"], "ordered-release"),
-    (["run", "--workers", "2"], "three-stages"),
-    (["run", "--workers", "2"], "dropping-stages"),
-    (["--help"], None),
+    ("play of first-event", ["play"], *example("first-event")),
+    ("play of a second event forwarded first", ["play"], SECOND_FORWARDED_FIRST, ITS_END),
+    ("play of ordered-release", ["play"], *example("ordered-release")),
+    ("run of three-stages by ports", RUN, *example("three-stages")),
+    ("run of three-stages by flow lanes", RUN, *example("three-stages", 'serving = "flows"\n')),
+    ("run of dropping-stages by flow lanes", RUN, *example("dropping-stages")),
+    ("--help", ["--help"], "", ""),
+)
+# The call whose refusals a test meets, the crate of the test, and the test.
+TESTS = (
+    ("Shape::build", "part_tests", "shapes::parts_of_a_shape"),
+    ("Shape::build", "part_tests", "shapes::flow_lanes_of_a_shape"),
+    ("Pins::new", "part_tests", "orders::a_held_slot_may_go_to_its_lane_alone"),
+    ("Reorder::new", "part_tests", "orders::the_oldest_place_leaves_first"),
+    ("History::new", "part_tests", "orders::the_oldest_entry_is_popped"),
+    ("WaitingLists::new", "part_tests", "queues::lists_share_their_room"),
+    ("ParkedQueue::new", "part_tests", "queues::a_blocked_event_is_passed"),
+    ("Credits::new", "ring_tests", "credits::credit_calls"),
+    ("lane", "ring_tests", "lanes::lane_calls"),
+    ("Claims::new", "claim_tests", "calls::two_claimers"),
+    ("Claims::new", "claim_tests", "memory::ends_come_back_in_order"),
+    ("Core::new", "core_tests", "known_runs::two_flows_of_one_slot"),
+    ("Core::new", "core_tests", "flow_runs::flow_lanes_are_given_the_events_of_their_slots"),
+    ("Scheduler::sweep", "device_tests", "again::a_scheduler_sweeps_again"),
+    ("device, Recorder::sweep, stop", "device_tests", "again::second_forwarded_first_by_ports"),
+    ("device, Recorder::sweep, stop", "device_tests", "again::second_forwarded_first_by_flows"),
+    ("device, Recorder::sweep, stop", "device_tests", "again::event_in_each_place_by_ports"),
+    ("device, Recorder::sweep, stop", "device_tests", "again::event_in_each_place_by_flows"),
 )
 
 
@@ -68,22 +135,39 @@ def ran(program, words, document, library, number):
         return (end.returncode, end.stdout, end.stderr), it.read() != b""
 
 
-def refusals(program, words, name, library):
-    """Refuses each allocation of a run: how many were, and how many runs could do without."""
-    document = (TOP / f"examples/{name}.toml").read_bytes() if name else b""
-    ample, _ = ran(program, words, document, library, 0)
-    if ample[0] != 0 or (name and ample[1] != (TOP / f"examples/{name}.out").read_bytes()):
-        sys.exit(f"{words} {name}: with ample memory it ended with {ample}")
-    without = 0
+def refusals(program, words, document, library, ends):
+    """Refuses each allocation of a run, which must come to one of these ends: how many were, and how many came to the first end."""
+    first = 0
     for number in range(1, 100_000):
         end, is_refused = ran(program, words, document, library, number)
         if not is_refused:
-            return number - 1, without
-        if end == ample:
-            without += 1
-        elif end != (NO_MEMORY, b"", LINE):
-            sys.exit(f"{words} {name}: with allocation {number} refused it ended with {end}")
-    sys.exit(f"{words} {name}: there is no last allocation")
+            return number - 1, first
+        if end not in ends:
+            sys.exit(f"{program} {words}: with allocation {number} refused it ended with {end}")
+        first += end == ends[0]
+    sys.exit(f"{program} {words}: there is no last allocation")
+
+
+def try_program(program, what, words, document, wanted, library):
+    document = document.encode()
+    ample, _ = ran(program, words, document, library, 0)
+    if ample[0] != 0 or not ample[1].decode().endswith(wanted):
+        sys.exit(f"{what}: with ample memory it ended with {ample}")
+    count, without = refusals(program, words, document, library, (ample, (NO_MEMORY, b"", LINE)))
+    print(f"{what}: {count} refused, {count - without} ended with status {NO_MEMORY}, {without} as with ample memory")
+
+
+def try_test(call, crate, test, library):
+    program = TOP / f"crates/{crate}/out/{crate}_tests"
+    if not program.exists():
+        sys.exit(f"{program} isn't there: run `rt test` in crates/{crate}")
+    ample, _ = ran(program, [test], b"", library, 0)
+    if ample != (0, PASSED, b""):
+        sys.exit(f"{test}: with ample memory it ended with {ample}")
+    count, _ = refusals(program, [test], b"", library, (ample,))
+    if count == 0:
+        sys.exit(f"{test}: nothing was refused")
+    print(f"{call}: {crate} {test}: {count} refused, and it passed each time")
 
 
 def main():
@@ -91,9 +175,10 @@ def main():
     with tempfile.TemporaryDirectory() as room:
         library = f"{room}/refusing.so"
         subprocess.run(["cc", "-shared", "-fPIC", "-O2", "-x", "c", "-", "-o", library], input=REFUSING.encode(), check=True)
-        for words, name in RUNS:
-            count, without = refusals(program, words, name, library)
-            print(f"{' '.join(words)} {name or ''}: {count} refused, {count - without} ended with status {NO_MEMORY}, {without} as with ample memory")
+        for run in RUNS:
+            try_program(program, *run, library)
+        for test in TESTS:
+            try_test(*test, library)
 
 
 main()

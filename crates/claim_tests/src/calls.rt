@@ -1,14 +1,13 @@
 //! Known values of the calls in one thread.
 
-use crate::made::{claims_of, delivery};
+use crate::made::{claims_of, delivery, ends_for, lane_again};
 use flow_claims::Claim;
-use lane_rings::lane;
 use std::test::Fail;
 
 #[test]
 fn two_claimers(rt: HostRuntime) -> Result<(), Fail> {
-    let (_near, far) = lane(rt.alloc(), 1, 1)?;
-    let mut ends = Vec::with_capacity(rt.alloc(), 1)?;
+    let (_near, far) = lane_again(rt.alloc(), 1, 1)?;
+    let mut ends = ends_for(rt.alloc(), 1)?;
     ends.push_reserved(far);
     let Ok((claims, seat)) = claims_of(rt.alloc(), ends) else {
         panic!(rt; "memory was refused twice")
@@ -37,14 +36,14 @@ fn two_claimers(rt: HostRuntime) -> Result<(), Fail> {
 
 #[test]
 fn a_surrendered_lane_stays_away(rt: HostRuntime) -> Result<(), Fail> {
-    let (_first, far) = lane(rt.alloc(), 1, 1)?;
-    let (mut near, other) = lane(rt.alloc(), 1, 1)?;
+    let (_first, far) = lane_again(rt.alloc(), 1, 1)?;
+    let (mut near, other) = lane_again(rt.alloc(), 1, 1)?;
     assert_eq!(rt; near.offer(delivery(5)), Ok(()));
     near.flush();
-    let mut ends = Vec::with_capacity(rt.alloc(), 2)?;
+    let mut ends = ends_for(rt.alloc(), 2)?;
     ends.push_reserved(far);
     ends.push_reserved(other);
-    let mut out = Vec::with_capacity(rt.alloc(), 2)?;
+    let mut out = ends_for(rt.alloc(), 2)?;
     let Ok((claims, seat)) = claims_of(rt.alloc(), ends) else {
         panic!(rt; "memory was refused twice")
     };

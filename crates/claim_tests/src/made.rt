@@ -1,12 +1,13 @@
-//! Deliveries and claims for the tests.
-ghost use Rattle.std.specs.Prelude.{◌≡◌, [], All, IfOk};
-ghost use Rattle.lane_rings.specs.Ends.{received_by, answered};
+//! Deliveries, lanes and claims for the tests. Lanes, lists and claims are made again where memory was refused, and serve then as ever.
+ghost use Rattle.std.specs.Prelude.{◌≡◌, [], vec_len, vec_capacity, All, IfOk};
+ghost use Rattle.lane_rings.specs.Ends.{offered, taken, seen_replies, received_by, seen_deliveries, answered};
+ghost use Rattle.lane_rings.specs.Identity.{near_id, far_id};
 ghost use Rattle.flow_claims.specs.Seats.{first_seating};
 ghost use Rattle.flow_claims.specs.Claims.{seating, lanes_of, IsSeatOf};
 
 use evt_types::{Delivery, Event, Op, Reply};
 use flow_claims::{ClaimSeat, Claims, Memory};
-use lane_rings::Far;
+use lane_rings::{Far, Near, lane};
 use std::alloc::Global;
 
 fn event(op: Op, payload: u64) -> Event {
@@ -33,6 +34,29 @@ pub(crate) fn delivery(number: u64) -> Delivery {
 pub(crate) fn release() -> Reply {
     Reply {
         event: event(Op::Release, 0),
+    }
+}
+
+/// A lane whose rings have this room.
+pub(crate) fn lane_again(alloc: Global, depth: usize, replies: usize) -> Result<(Near, Far), Memory>
+    ensures pair { IfOk result (λ r. near_id r.0 ≡ far_id r.1) }
+    ensures room { IfOk result (λ r. ((far_id r.1).depth ≡ depth) × ((far_id r.1).room ≡ replies)) }
+    ensures near { IfOk result (λ r. (offered r.0 ≡ []) × (taken r.0 ≡ []) × (seen_replies r.0 ≡ [])) }
+    ensures far { IfOk result (λ r. (received_by r.1 ≡ []) × (seen_deliveries r.1 ≡ []) × (answered r.1 ≡ [])) }
+{
+    match lane(alloc, depth, replies) {
+        Ok(ends) => Ok(ends),
+        Err(_) => lane(alloc, depth, replies),
+    }
+}
+
+/// A list in which the ends of so many lanes fit.
+pub(crate) fn ends_for(alloc: Global, lanes: usize) -> Result<Vec<Far>, Memory>
+    ensures { IfOk result (λ v. (v.items ≡ []) × (vec_len v ≡ 0) × (vec_capacity v ≡ lanes)) }
+{
+    match Vec::with_capacity(alloc, lanes) {
+        Ok(ends) => Ok(ends),
+        Err(_) => Vec::with_capacity(alloc, lanes),
     }
 }
 

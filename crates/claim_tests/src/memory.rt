@@ -3,9 +3,9 @@
 ghost use Rattle.std.specs.Prelude.{IfOk};
 ghost use Rattle.flow_claims.specs.Laws.{IsUnused};
 
-use crate::made::delivery;
+use crate::made::{delivery, ends_for, lane_again};
 use flow_claims::Claims;
-use lane_rings::{Far, Memory, lane};
+use lane_rings::{Far, Memory};
 use std::alloc::Global;
 use std::test::Fail;
 
@@ -22,7 +22,7 @@ fn waiting_at(end: Option<Far>) -> Option<u64> {
 fn waiting(alloc: Global, number: u64) -> Result<Far, Memory>
     ensures { IfOk result IsUnused }
 {
-    let (mut near, far) = lane(alloc, 1, 1)?;
+    let (mut near, far) = lane_again(alloc, 1, 1)?;
     let _ = near.offer(delivery(number));
     near.flush();
     Ok(far)
@@ -30,8 +30,8 @@ fn waiting(alloc: Global, number: u64) -> Result<Far, Memory>
 
 #[test]
 fn ends_come_back_in_order(rt: HostRuntime) -> Result<(), Fail> {
-    let mut out = Vec::with_capacity(rt.alloc(), 3)?;
-    let mut ends = Vec::with_capacity(rt.alloc(), 3)?;
+    let mut out = ends_for(rt.alloc(), 3)?;
+    let mut ends = ends_for(rt.alloc(), 3)?;
     ends.push_reserved(waiting(rt.alloc(), 10)?);
     ends.push_reserved(waiting(rt.alloc(), 11)?);
     ends.push_reserved(waiting(rt.alloc(), 12)?);

@@ -3,10 +3,10 @@ ghost use Rattle.std.specs.Prelude.{◌≡◌};
 ghost use Rattle.flow_claims.specs.Claims.{seating, port_of, IsSeatOf};
 ghost use Rattle.flow_claims.specs.Open.{IsOpen};
 
-use crate::made::{claims_of, delivery, release};
+use crate::made::{claims_of, delivery, ends_for, lane_again, release};
 use evt_types::{Delivery, Reply};
 use flow_claims::{Claim, ClaimSeat, Claims, Stint};
-use lane_rings::{AnswerFault, lane};
+use lane_rings::AnswerFault;
 use std::test::Fail;
 
 /// A port with one open stint.
@@ -55,10 +55,10 @@ impl Port {
 
 #[test]
 fn a_port_keeps_its_stint(rt: HostRuntime) -> Result<(), Fail> {
-    let (mut near, far) = lane(rt.alloc(), 1, 1)?;
+    let (mut near, far) = lane_again(rt.alloc(), 1, 1)?;
     assert_eq!(rt; near.offer(delivery(5)), Ok(()));
     near.flush();
-    let mut ends = Vec::with_capacity(rt.alloc(), 1)?;
+    let mut ends = ends_for(rt.alloc(), 1)?;
     ends.push_reserved(far);
     let Ok((claims, seat)) = claims_of(rt.alloc(), ends) else {
         panic!(rt; "memory was refused twice")

@@ -1,9 +1,12 @@
 //! The core with the log of its steps.
 
+ghost use Rattle.std.specs.Prelude.{◌≡◌, ◌+◌, ◌≤◌, [], vec_len, vec_capacity, IfOk, OnOk};
+ghost use Rattle.transcripts.specs.Standing.{Stands};
+
 use crate::moves::{Made, Move};
 use evt_types::{Delivery, Event, MAX_LANES, MAX_QUEUES, MAX_SWEEP, Reply, Shape, Step};
-use sched_core::{Core, Offer, Skips, Took};
-use std::alloc::Global;
+use sched_core::{Core, Memory, Offer, Skips, Took};
+use std::alloc::{AllocError, Global};
 use std::marker::Model;
 use std::test::Fail;
 
@@ -13,6 +16,29 @@ struct Unexpected {
     step: Move,
     made: Made,
     wanted: Made,
+}
+
+/// A core in which nothing has happened, made again of the configuration that came back where memory was refused.
+fn core_again(alloc: Global, shape: Shape) -> Result<Core, (Memory, Shape)>
+    ensures stands { IfOk result (λ c. Stands [] c) }
+    ensures shape { IfOk result (λ c. c.shape ≡ shape) }
+{
+    match Core::new(alloc, shape) {
+        Ok(core) => Ok(core),
+        Err((_, shape)) => Core::new(alloc, shape),
+    }
+}
+
+/// Makes room in the log for so many steps more, by a second try where memory was refused.
+fn make_room(log: &mut Vec<Step>, steps: usize) -> Result<(), AllocError>
+    ensures items { log.new.items ≡ log.old.items }
+    ensures len { vec_len log.new ≡ vec_len log.old }
+    ensures ok { OnOk result (vec_len log.new + steps ≤ vec_capacity log.new) }
+{
+    match log.reserve(steps) {
+        Ok(()) => Ok(()),
+        Err(_) => log.reserve(steps),
+    }
 }
 
 /// A core, what its sweep passes over, and the log of all steps that it has made.
@@ -38,7 +64,7 @@ impl Run {
     pub(crate) fn new(alloc: Global, shape: Shape) -> Result<Run, Fail> {
         let log = Vec::new(alloc);
         let skips = Skips::none();
-        match Core::new(alloc, shape) {
+        match core_again(alloc, shape) {
             Ok(core) => Ok(Run { core, skips, log }),
             Err((memory, _)) => Err(Fail::from(memory)),
         }
@@ -75,7 +101,7 @@ impl Run {
             Move::Give => Ok(Made::Proposed(self.give()?)),
             Move::Bounce => Ok(Made::Proposed(self.bounce()?)),
             Move::Shut => {
-                self.log.reserve(1)?;
+                make_room(&mut self.log, 1)?;
                 self.core.shut(&mut self.log);
                 Ok(Made::Nothing)
             }
@@ -96,7 +122,7 @@ impl Run {
             return Ok(None);
         }
         let room = self.core.log_room();
-        self.log.reserve(room)?;
+        make_room(&mut self.log, room)?;
         Ok(Some(self.core.take(lane, reply, &mut self.log)))
     }
 
@@ -105,7 +131,7 @@ impl Run {
         let Some(offer) = self.core.propose(&self.skips) else {
             return Ok(None);
         };
-        self.log.reserve(1)?;
+        make_room(&mut self.log, 1)?;
         self.core.give(offer, &mut self.log);
         let Delivery { queue, .. } = offer.delivery;
         if queue < MAX_QUEUES && self.skips.has_quota(queue, MAX_SWEEP) {
@@ -119,7 +145,7 @@ impl Run {
         let Some(offer) = self.core.propose(&self.skips) else {
             return Ok(None);
         };
-        self.log.reserve(1)?;
+        make_room(&mut self.log, 1)?;
         self.core.bounce(offer.lane, &mut self.log);
         if offer.lane < MAX_LANES {
             self.skips.bounced(offer.lane);

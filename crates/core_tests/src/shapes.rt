@@ -1,6 +1,6 @@
-//! The devices and events of the tests.
+//! The devices and events of the tests. A list and a shape are made again where memory was refused, and serve then as ever.
 
-use evt_types::{Draft, Event, Kind, Op, PortDraft, QueueDraft, Serving, Shape};
+use evt_types::{Draft, Event, Kind, Op, PortDraft, QueueDraft, Serving, Shape, ShapeFault};
 use std::alloc::{AllocError, Global};
 use std::test::Fail;
 
@@ -18,6 +18,30 @@ pub(crate) fn queue_of(kind: Kind, priority: u8, count: u32) -> QueueDraft {
 /// A queue of a middle priority, with four slots or open events.
 pub(crate) fn queue(kind: Kind) -> QueueDraft {
     queue_of(kind, 128, 4)
+}
+
+/// A list of these items.
+fn list_of<T: Copy>(alloc: Global, items: &[T]) -> Result<Vec<T>, AllocError> {
+    match Vec::from_slice(alloc, items) {
+        Ok(list) => Ok(list),
+        Err(_) => Vec::from_slice(alloc, items),
+    }
+}
+
+/// A list in which so many ports fit.
+fn ports_of(alloc: Global, count: usize) -> Result<Vec<PortDraft>, AllocError> {
+    match Vec::with_capacity(alloc, count) {
+        Ok(ports) => Ok(ports),
+        Err(_) => Vec::with_capacity(alloc, count),
+    }
+}
+
+/// The checked configuration.
+fn shape_of(alloc: Global, draft: &Draft) -> Result<Shape, ShapeFault> {
+    match Shape::build(alloc, draft) {
+        Err(ShapeFault::Memory) => Shape::build(alloc, draft),
+        built => built,
+    }
 }
 
 /// A device, and the depth and the links of each of its ports.
@@ -38,22 +62,22 @@ impl Device<'_> {
             quantum: 2,
             sweep: self.sweep,
             serving: self.serving,
-            queues: Vec::from_slice(alloc, self.queues)?,
+            queues: list_of(alloc, self.queues)?,
             ports: self.port_drafts(alloc)?,
         };
-        let shape = Shape::build(alloc, &draft)?;
+        let shape = shape_of(alloc, &draft)?;
         Ok(shape)
     }
 
     fn port_drafts(&self, alloc: Global) -> Result<Vec<PortDraft>, AllocError> {
-        let mut drafts = Vec::with_capacity(alloc, self.ports.len())?;
+        let mut drafts = ports_of(alloc, self.ports.len())?;
         for (depth, links) in self.ports {
             drafts.push(PortDraft {
                 threshold: 2,
                 depth: *depth,
                 replies: 4,
                 implicit: false,
-                links: Vec::from_slice(alloc, links)?,
+                links: list_of(alloc, links)?,
             })?;
         }
         Ok(drafts)

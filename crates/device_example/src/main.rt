@@ -54,10 +54,13 @@ fn main(rt: HostRuntime) -> Result<()> {
     let promise = SamePort::of(&worker);
     let thread = thread::spawn_with(&rt, promise, move || work(&rt, worker))?;
 
-    bring_in(&mut source)?;
-    sweep_all(&mut recorder)?;
+    // Whatever comes of these, the shut ends the loop of the worker.
+    let brought = bring_in(&mut source);
+    let swept = sweep_all(&mut recorder);
     control.shut();
     let (worker, sum) = thread.join(&rt);
+    brought?;
+    swept?;
 
     // All of these are proved to belong to one device, and so the report to account for each event and each credit.
     let ports = Vec::from_array(alloc, [source, worker])?;

@@ -3,9 +3,11 @@ use Rattle.std.proofs.Common.{◌≡◌, ◌≢◌, ℕ, zero, suc, ◌<◌, Lis
 use Rattle.std.specs.Prelude.{All, AllPairs, slice_get}
 use Rattle.std.specs.List.{range_with_len}
 use Rattle.std.proofs.Math.Seq.{map-set_same}
-use Rattle.std.proofs.lemmas.List.{get_or-map, length-map}
+use Rattle.std.proofs.Math.ListN.{get_or-append}
+use Rattle.std.proofs.lemmas.List.{get_or-map, length-append, length-map}
 use Rattle.std.proofs.lemmas.List.FromFn.{get_or-map-range_with_len, length-map-range_with_len}
 use Rattle.std.proofs.lemmas.Option.{get_or_from_slice_get}
+use Rattle.lists.proofs.Lists.{All-front}
 use Rattle.credit_pool.specs.Accounts.{Stays}
 use Rattle.evt_types.specs.Plan.{Plan}
 use Rattle.event_ports.specs.Ports.{Place, account_of, place_of}
@@ -103,6 +105,29 @@ whole_are_of r c ports whole =
       ports_are = are_ports d ports (length d.plan.ports) whole.ports_are refl;
       once = ports_differ d ports (length d.plan.ports) whole.ports_are;
     }
+
+-- those but the last are of that device too
+module _ (r : Recorded) (c : Control) (ports front : List Port) (last : Port) (whole : IsWhole (scheduler_of r.sight) (control_of c) (map site_of ports)) (ends : ports ≡ front ++ last ∷ []) where
+  all_are : AreOf r c (front ++ last ∷ [])
+  all_are = subst (AreOf r c) ends (whole_are_of r c ports whole)
+
+  front_differ : DifferInNumber front
+  front_differ i j d low there =
+      let at_i : get_or (front ++ last ∷ []) i d ≡ get_or front i d = get_or-append front (last ∷ []) d i (omega (arith, low, there)) in
+      let at_j : get_or (front ++ last ∷ []) j d ≡ get_or front j d = get_or-append front (last ∷ []) d j there in
+      let longer : length front < length (front ++ last ∷ []) = omega (arith, length-append front (last ∷ [])) in
+      λ e. all_are.once i j d low (omega (arith, there, longer)) (ap number_of at_i ∙ (e ∙ ap number_of (sym at_j)))
+
+  pub front_are_of : AreOf r c front
+  front_are_of =
+      record {
+        device = all_are.device;
+        fits = all_are.fits;
+        scheduler_is = all_are.scheduler_is;
+        control_is = all_are.control_is;
+        ports_are = All-front (IsPortOf all_are.device) front (last ∷ []) all_are.ports_are;
+        once = front_differ;
+      }
 
 -- ---- calls on a whole device
 

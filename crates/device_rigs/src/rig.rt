@@ -7,8 +7,11 @@ ghost use Rattle.device_rigs.specs.Whole.{IsWhole};
 
 use crate::fault::RigFault;
 use crate::plans::Plan;
-use event_device::{Behind, Control, Port, Recorder, Refused, Report, Swept, device};
-use evt_types::{Delivery, Event};
+use arrayvec::ArrayVec;
+use event_device::{
+    Behind, Control, DeviceFault, Port, Recorder, Refused, Report, StopFault, Swept, device,
+};
+use evt_types::{Delivery, Event, Shape};
 use std::alloc::Global;
 
 /// A call, with the answer that must come.
@@ -57,7 +60,12 @@ pub struct Rig {
 impl Rig {
     /// A device in which nothing has happened.
     pub fn new(alloc: Global, plan: &Plan) -> Result<Rig, RigFault> {
-        let shape = plan.shape(alloc)?;
+        let rig = Rig::of(alloc, plan.shape(alloc)?)?;
+        Ok(rig)
+    }
+
+    /// The same, of a configuration that was checked before.
+    pub fn of(alloc: Global, shape: Shape) -> Result<Rig, DeviceFault> {
         let (scheduler, ports, control) = device(alloc, shape)?;
         Ok(Rig {
             recorder: Recorder::begin(alloc, scheduler),
@@ -83,14 +91,14 @@ impl Rig {
                 port,
                 event,
                 answer,
-            } => Ok(self.enqueue(port, event, answer)),
+            } => Ok(self.enqueue(port, event) == Some(answer)),
             Call::Burst {
                 port,
                 events,
                 answer,
-            } => Ok(self.burst(port, events, answer)),
-            Call::Dequeue { port, max, answer } => Ok(self.dequeue(port, max, answer)),
-            Call::Look { port, answer } => Ok(self.look(port, answer)),
+            } => Ok(self.enqueue_burst(port, events) == Some(answer)),
+            Call::Dequeue { port, max, answer } => Ok(self.is_dequeued(port, max, answer)),
+            Call::Look { port, answer } => Ok(self.shut_seen(port) == Some(answer)),
             Call::Sweep { answer } => Ok(self.recorder.sweep()? == answer),
             Call::Shut => {
                 self.control.shut();
@@ -99,44 +107,79 @@ impl Rig {
         }
     }
 
-    fn enqueue(&mut self, port: usize, event: Event, answer: Result<(), Refused>) -> bool {
-        if port >= self.ports.len() {
-            return false;
-        }
-        let port = &mut self.ports[port];
-        port.enqueue(event) == answer
-    }
-
-    fn burst(&mut self, port: usize, events: &[Event], answer: (usize, Option<Refused>)) -> bool {
-        if port >= self.ports.len() {
-            return false;
-        }
-        let port = &mut self.ports[port];
-        port.enqueue_burst(events) == answer
-    }
-
-    fn dequeue(&mut self, port: usize, max: usize, answer: Result<&[Delivery], Behind>) -> bool {
-        if port >= self.ports.len() {
-            return false;
-        }
-        let port = &mut self.ports[port];
-        match (port.dequeue(max), answer) {
-            (Ok(came), Ok(wanted)) => came.as_slice() == wanted,
-            (Err(came), Err(wanted)) => came == wanted,
+    fn is_dequeued(
+        &mut self,
+        port: usize,
+        max: usize,
+        answer: Result<&[Delivery], Behind>,
+    ) -> bool {
+        match (self.dequeue(port, max), answer) {
+            (Some(Ok(came)), Ok(wanted)) => came.as_slice() == wanted,
+            (Some(Err(came)), Err(wanted)) => came == wanted,
             _ => false,
         }
     }
 
-    fn look(&mut self, port: usize, answer: bool) -> bool {
+    /// The port enqueues the event; `None` where there is no such port, as below.
+    pub fn enqueue(&mut self, port: usize, event: Event) -> Option<Result<(), Refused>> {
         if port >= self.ports.len() {
-            return false;
+            return None;
         }
         let port = &mut self.ports[port];
-        port.shut_seen() == answer
+        Some(port.enqueue(event))
     }
 
-    /// Stops the device.
-    pub fn stop(self, alloc: Global) -> Result<Report, RigFault> {
+    /// The port enqueues the events.
+    pub fn enqueue_burst(
+        &mut self,
+        port: usize,
+        events: &[Event],
+    ) -> Option<(usize, Option<Refused>)> {
+        if port >= self.ports.len() {
+            return None;
+        }
+        let port = &mut self.ports[port];
+        Some(port.enqueue_burst(events))
+    }
+
+    /// The port dequeues at most `max` events.
+    pub fn dequeue(
+        &mut self,
+        port: usize,
+        max: usize,
+    ) -> Option<Result<ArrayVec<Delivery, 64>, Behind>> {
+        if port >= self.ports.len() {
+            return None;
+        }
+        let port = &mut self.ports[port];
+        Some(port.dequeue(max))
+    }
+
+    /// The port dequeues at most `max` events into this array.
+    pub fn dequeue_burst(
+        &mut self,
+        port: usize,
+        max: usize,
+        into: &mut ArrayVec<Delivery, 64>,
+    ) -> Option<Result<usize, Behind>> {
+        if port >= self.ports.len() {
+            return None;
+        }
+        let port = &mut self.ports[port];
+        Some(port.dequeue_burst(max, into))
+    }
+
+    /// The port looks whether the device is shut.
+    pub fn shut_seen(&mut self, port: usize) -> Option<bool> {
+        if port >= self.ports.len() {
+            return None;
+        }
+        let port = &mut self.ports[port];
+        Some(port.shut_seen())
+    }
+
+    /// Stops the device. Where it is refused, all comes back.
+    pub fn try_stop(self, alloc: Global) -> Result<Report, (StopFault, Rig)> {
         let Rig {
             recorder,
             ports,
@@ -144,7 +187,51 @@ impl Rig {
         } = self;
         match recorder.stop(alloc, control, ports) {
             Ok(report) => Ok(report),
-            Err((fault, ..)) => Err(RigFault::Stop(fault)),
+            Err((fault, recorder, control, ports)) => Err((
+                fault,
+                Rig {
+                    recorder,
+                    ports,
+                    control,
+                },
+            )),
+        }
+    }
+
+    /// Stops the device.
+    pub fn stop(self, alloc: Global) -> Result<Report, RigFault> {
+        match self.try_stop(alloc) {
+            Ok(report) => Ok(report),
+            Err((fault, _)) => Err(RigFault::Stop(fault)),
+        }
+    }
+
+    /// Tries to stop the device without its last port, which is refused, and puts that port back.
+    pub fn miss_last_port(self, alloc: Global) -> Result<Rig, RigFault> {
+        let Rig {
+            recorder,
+            mut ports,
+            control,
+        } = self;
+        let Some(last) = ports.pop() else {
+            return Err(RigFault::Unexpected { place: 0 });
+        };
+        let missing = StopFault::Missing { port: ports.len() };
+        match recorder.stop(alloc, control, ports) {
+            Ok(_report) => Err(RigFault::Unexpected { place: 0 }),
+            Err((fault, recorder, control, mut ports)) => {
+                if fault != missing {
+                    return Err(RigFault::Stop(fault));
+                }
+                if ports.push(last).is_err() {
+                    return Err(RigFault::Memory);
+                }
+                Ok(Rig {
+                    recorder,
+                    ports,
+                    control,
+                })
+            }
         }
     }
 }

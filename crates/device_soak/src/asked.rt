@@ -6,7 +6,7 @@ use crate::fault::SoakFault;
 const SEED: u64 = 1;
 
 /// How many seconds devices are run where no number is named.
-const SECONDS: u64 = 5;
+const SECONDS: u64 = 30;
 
 /// What a soak is asked for.
 #[derive(Clone, Copy, Debug)]

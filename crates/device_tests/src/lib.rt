@@ -3,15 +3,21 @@
 #![tactic(auto)]
 
 #[cfg(test)]
+mod again;
+#[cfg(test)]
 mod calls;
 #[cfg(test)]
 mod checks;
+#[cfg(test)]
+mod every_call;
 #[cfg(test)]
 mod flow_rows;
 #[cfg(test)]
 mod flow_threads;
 #[cfg(test)]
 mod left;
+#[cfg(test)]
+mod refusals;
 #[cfg(test)]
 mod rows;
 #[cfg(test)]

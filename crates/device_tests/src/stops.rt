@@ -1,8 +1,7 @@
 //! What a stop hands back, and ports that are handed in in another order.
 //!
 //! A configuration with a fault, as one without queues, is refused by `Shape::build`, so that `device` never sees it. `device` refuses
-//! for want of memory alone, and hands the configuration back: no test has it, but `rt try --test --fail-alloc N` refuses the
-//! allocations one after the other.
+//! for want of memory alone (`again`).
 
 ghost use Rattle.std.specs.Prelude.{[], ◌∷◌, IfOk};
 ghost use Rattle.event_recorder.specs.Stop.{AreOf};

@@ -1,7 +1,7 @@
 //! Worked calls of a queue's waiting events, and of what holds them. Each is made again where memory was refused, and serves then
 //! as ever.
 
-ghost use Rattle.std.specs.Prelude.{◌≡◌, ◌<◌, ◌≤◌, IfOk};
+ghost use Rattle.std.specs.Prelude.{◌≡◌, ◌<◌, ◌≤◌, [], vec_len, vec_capacity, IfOk};
 ghost use Rattle.parked_queue.specs.Waits.{no_waits};
 ghost use Rattle.waiting_lists.specs.Lists.{all_empty};
 
@@ -29,6 +29,16 @@ fn lists_of(alloc: Global, lists: usize, room: usize) -> Result<WaitingLists, Al
     match WaitingLists::new(alloc, lists, room) {
         Ok(lists) => Ok(lists),
         Err(_) => WaitingLists::new(alloc, lists, room),
+    }
+}
+
+/// A list in which so many pairs fit.
+fn pairs_of(alloc: Global, count: usize) -> Result<Vec<(usize, u64)>, AllocError>
+    ensures { IfOk result (λ v. (v.items ≡ []) × (vec_len v ≡ 0) × (vec_capacity v ≡ count)) }
+{
+    match Vec::with_capacity(alloc, count) {
+        Ok(pairs) => Ok(pairs),
+        Err(_) => Vec::with_capacity(alloc, count),
     }
 }
 
@@ -74,7 +84,7 @@ fn the_pairs_of_what_waits_rise(rt: HostRuntime) -> Result<(), Fail> {
     queue.accept(event(0, 10)?);
     queue.accept(event(1, 11)?);
     assert!(rt; queue.first(2, slot(1)).is_some());
-    let mut pairs = Vec::with_capacity(rt.alloc(), 2)?;
+    let mut pairs = pairs_of(rt.alloc(), 2)?;
     queue.list_pairs(5, &mut pairs);
     assert_eq!(rt; pairs.as_slice(), [(5, 0), (5, 1)].as_slice());
     Ok(())

@@ -1,4 +1,5 @@
-//! Configurations, with both kinds of serving: known refusals, and each call once.
+//! Configurations, with both kinds of serving: known refusals, and each call once. A list and a shape are made again where memory was
+//! refused, and serve then as ever.
 
 use evt_types::{Draft, FlowLane, Kind, PortDraft, QueueDraft, Serving, Shape, ShapeFault};
 use std::alloc::{AllocError, Global};
@@ -24,6 +25,30 @@ fn parallel_queue() -> QueueDraft {
     }
 }
 
+/// A list of these items.
+fn list_of<T: Copy>(alloc: Global, items: &[T]) -> Result<Vec<T>, AllocError> {
+    match Vec::from_slice(alloc, items) {
+        Ok(list) => Ok(list),
+        Err(_) => Vec::from_slice(alloc, items),
+    }
+}
+
+/// A list in which so many ports fit.
+fn ports_of(alloc: Global, count: usize) -> Result<Vec<PortDraft>, AllocError> {
+    match Vec::with_capacity(alloc, count) {
+        Ok(ports) => Ok(ports),
+        Err(_) => Vec::with_capacity(alloc, count),
+    }
+}
+
+/// The checked configuration, or why it is refused.
+fn shape_of(alloc: Global, draft: &Draft) -> Result<Shape, ShapeFault> {
+    match Shape::build(alloc, draft) {
+        Err(ShapeFault::Memory) => Shape::build(alloc, draft),
+        built => built,
+    }
+}
+
 /// A draft with a port for each list of links.
 fn draft_of(
     alloc: Global,
@@ -32,14 +57,14 @@ fn draft_of(
     queues: &[QueueDraft],
     links: &[&[u32]],
 ) -> Result<Draft, AllocError> {
-    let mut ports = Vec::new(alloc);
+    let mut ports = ports_of(alloc, links.len())?;
     for list in links {
         ports.push(PortDraft {
             threshold: limit,
             depth: 4,
             replies: 4,
             implicit: false,
-            links: Vec::from_slice(alloc, list)?,
+            links: list_of(alloc, list)?,
         })?;
     }
     Ok(Draft {
@@ -47,7 +72,7 @@ fn draft_of(
         quantum: 2,
         sweep: 8,
         serving,
-        queues: Vec::from_slice(alloc, queues)?,
+        queues: list_of(alloc, queues)?,
         ports,
     })
 }
@@ -62,8 +87,8 @@ fn refusals(
     let by_ports = draft_of(alloc, Serving::Ports, limit, queues, links)?;
     let by_flows = draft_of(alloc, Serving::Flows, limit, queues, links)?;
     Ok([
-        Shape::build(alloc, &by_ports).err(),
-        Shape::build(alloc, &by_flows).err(),
+        shape_of(alloc, &by_ports).err(),
+        shape_of(alloc, &by_flows).err(),
     ])
 }
 
@@ -120,7 +145,7 @@ fn refused_links(rt: HostRuntime) -> Result<(), Fail> {
 fn small_shape(alloc: Global) -> Result<Shape, Fail> {
     let links: [&[u32]; 2] = [&[], &[0]];
     let draft = draft_of(alloc, Serving::Ports, 4, &[atomic_queue(4)], &links)?;
-    let shape = Shape::build(alloc, &draft)?;
+    let shape = shape_of(alloc, &draft)?;
     Ok(shape)
 }
 
@@ -152,13 +177,14 @@ fn flow_shape(alloc: Global) -> Result<Shape, Fail> {
     let queues = [atomic_queue(2), parallel_queue(), atomic_queue(3)];
     let links: [&[u32]; 3] = [&[], &[1, 0], &[2, 1, 0]];
     let draft = draft_of(alloc, Serving::Flows, 4, &queues, &links)?;
-    let shape = Shape::build(alloc, &draft)?;
+    let shape = shape_of(alloc, &draft)?;
     Ok(shape)
 }
 
 #[test]
 fn flow_lanes_of_a_shape(rt: HostRuntime) -> Result<(), Fail> {
     let shape = flow_shape(rt.alloc())?;
+    assert_eq!(rt; (shape.limit(), shape.quantum(), shape.sweep()), (4, 2, 8));
     let lanes = [(0, 0), (0, 1), (2, 0), (2, 1), (2, 2)];
     let flows = lanes.map(|(queue, slot)| FlowLane { queue, slot });
     assert_eq!(rt; shape.flows(), flows.as_slice());

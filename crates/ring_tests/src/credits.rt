@@ -1,9 +1,11 @@
-//! The credit pool: the calls in one thread, and four threads that draw and give back at once.
-ghost use Rattle.std.specs.Prelude.{◌≡◌, ◌+◌, ◌≤◌, ◌^◌};
-ghost use Rattle.credit_pool.specs.Accounts.{Stays};
+//! The credit pool: the calls in one thread, where the pool is made again if memory was refused and serves then as ever, and four
+//! threads that draw and give back at once.
+ghost use Rattle.std.specs.Prelude.{◌≡◌, ◌+◌, ◌≤◌, ◌^◌, IfOk};
+ghost use Rattle.credit_pool.specs.Accounts.{first_account, Stays};
 ghost use Rattle.credit_pool.specs.Pool.{account, limit_of, IsSeatOf};
 
-use credit_pool::{CreditSeat, Credits, Draw, Give};
+use credit_pool::{CreditSeat, Credits, Draw, Give, Memory};
+use std::alloc::Global;
 use std::test::Fail;
 use std::thread::{Threads, join};
 
@@ -12,9 +14,21 @@ const ROUNDS: u32 = 100_000;
 // How often a call is tried again after another seat came between.
 const TRIES: u32 = 1_000_000;
 
+fn pool_again(alloc: Global, limit: u64) -> Result<(Credits, CreditSeat), Memory>
+    requires { limit ≤ 2 ^ 32 }
+    ensures limit { IfOk result (λ r. limit_of r.0 ≡ limit) }
+    ensures seat { IfOk result (λ r. IsSeatOf r.0 r.1) }
+    ensures account { IfOk result (λ r. account r.1 ≡ first_account limit) }
+{
+    match Credits::new(alloc, limit) {
+        Ok(made) => Ok(made),
+        Err(_) => Credits::new(alloc, limit),
+    }
+}
+
 #[test]
 fn credit_calls(rt: HostRuntime) -> Result<(), Fail> {
-    let (pool, seat) = Credits::new(rt.alloc(), 4)?;
+    let (pool, seat) = pool_again(rt.alloc(), 4)?;
     let (first, second) = pool.split(seat).unwrap();
     let mut seat = pool.join(first, second);
     assert_eq!(rt; pool.draw(&mut seat, 2, 2), Draw::Drawn);
@@ -30,7 +44,7 @@ fn credit_calls(rt: HostRuntime) -> Result<(), Fail> {
 
 #[test]
 fn four_seats_return_all(rt: HostRuntime) -> Result<(), Fail> {
-    let (pool, first) = Credits::new(rt.alloc(), 4)?;
+    let (pool, first) = pool_again(rt.alloc(), 4)?;
     let (mut first, mut second) = pool.split(first).unwrap();
     let (mut first, mut third) = pool.split(first).unwrap();
     let (mut first, mut fourth) = pool.split(first).unwrap();

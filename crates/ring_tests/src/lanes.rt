@@ -1,10 +1,13 @@
-//! The lane: known values, and both ends in threads of their own.
+//! The lane: known values, where it is made again if memory was refused and serves then as ever, and both ends in threads of their
+//! own.
 
-ghost use Rattle.std.specs.Prelude.{◌≡◌};
+ghost use Rattle.std.specs.Prelude.{◌≡◌, [], IfOk};
+ghost use Rattle.lane_rings.specs.Ends.{offered, taken, seen_replies, received_by, seen_deliveries, answered};
 ghost use Rattle.lane_rings.specs.Identity.{near_id, far_id};
 
 use evt_types::{Delivery, Event, Op, Reply};
-use lane_rings::{AnswerFault, Far, Near, beside, lane};
+use lane_rings::{AnswerFault, Far, Memory, Near, beside, lane};
+use std::alloc::Global;
 use std::test::Fail;
 use std::thread;
 use std::thread::Threads;
@@ -14,6 +17,18 @@ const PASSES: u64 = 100_000;
 
 /// In how many turns in a row nothing may pass at an end before it gives up, and the test fails.
 const PATIENCE: u32 = 10_000_000;
+
+fn lane_again(alloc: Global, depth: usize, replies: usize) -> Result<(Near, Far), Memory>
+    ensures pair { IfOk result (λ r. near_id r.0 ≡ far_id r.1) }
+    ensures room { IfOk result (λ r. ((far_id r.1).depth ≡ depth) × ((far_id r.1).room ≡ replies)) }
+    ensures near { IfOk result (λ r. (offered r.0 ≡ []) × (taken r.0 ≡ []) × (seen_replies r.0 ≡ [])) }
+    ensures far { IfOk result (λ r. (received_by r.1 ≡ []) × (seen_deliveries r.1 ≡ []) × (answered r.1 ≡ [])) }
+{
+    match lane(alloc, depth, replies) {
+        Ok(ends) => Ok(ends),
+        Err(_) => lane(alloc, depth, replies),
+    }
+}
 
 fn event(op: Op, payload: u64) -> Event {
     Event {
@@ -44,7 +59,7 @@ fn reply(op: Op, payload: u64) -> Reply {
 
 #[test]
 fn lane_calls(rt: HostRuntime) -> Result<(), Fail> {
-    let (mut near, mut far) = lane(rt.alloc(), 1, 1)?;
+    let (mut near, mut far) = lane_again(rt.alloc(), 1, 1)?;
     assert_eq!(rt; near.offer(delivery(0)), Ok(()));
     assert_eq!(rt; near.offer(delivery(1)), Err(delivery(1)));
     assert_eq!(rt; far.receive(), None);
@@ -93,7 +108,7 @@ fn refuses(far: &mut Far, reply: Reply, cause: AnswerFault) -> bool
 
 #[test]
 fn what_is_left(rt: HostRuntime) -> Result<(), Fail> {
-    let (mut near, mut far) = lane(rt.alloc(), 4, 4)?;
+    let (mut near, mut far) = lane_again(rt.alloc(), 4, 4)?;
     assert_eq!(rt; near.peek(), None);
     assert_eq!(rt; near.take(), None);
     assert_eq!(rt; far.receive(), None);
@@ -119,7 +134,7 @@ fn what_is_left(rt: HostRuntime) -> Result<(), Fail> {
 /// That no list grew by a refusal shows at the end, in what is left.
 #[test]
 fn refused_answers(rt: HostRuntime) -> Result<(), Fail> {
-    let (mut near, mut far) = lane(rt.alloc(), 2, 1)?;
+    let (mut near, mut far) = lane_again(rt.alloc(), 2, 1)?;
     assert!(rt; refuses(&mut far, reply(Op::Forward, 0), AnswerFault::NothingHeld));
     assert!(rt; refuses(&mut far, reply(Op::Release, 0), AnswerFault::NothingHeld));
     assert!(rt; pass(&mut near, &mut far, 2));

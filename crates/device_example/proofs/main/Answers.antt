@@ -13,15 +13,15 @@ stop-requires g c =
     made.ports_are
     (popped _ _ _ _ c.pop.ensures.items c.in_ok-worker.ensures)
     (popped _ _ _ _ c.pop-2.ensures.items c.in_ok-source.ensures)
-    c.sweep_all.new.recorder
+    c.sweep_all-swept.new.recorder
     c.shut.new.self
-    c.bring_in.new.port
+    c.bring_in-brought.new.port
     c.join-worker.result.0
     c.in_ok-ports.ports.items
     made.fits
     (ap (λ (p : Plan). length p.ports) made.plan)
-    (c.sweep_all.ensures ∙ ap scheduler_of c.begin-recorder.ensures.sight ∙ made.scheduler_is)
+    (c.sweep_all-swept.ensures ∙ ap scheduler_of c.begin-recorder.ensures.sight ∙ made.scheduler_is)
     (c.shut.ensures.site ∙ made.control_is)
-    c.bring_in.ensures
+    c.bring_in-brought.ensures
     (c.join-worker.ensures ∙ worker_back)
     c.in_ok-ports.ensures.items

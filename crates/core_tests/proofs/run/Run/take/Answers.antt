@@ -14,4 +14,4 @@ take-requires-clause-room c =
     let fit = steps_fit v c.self.inside.log.items c.args.lane c.args.event c.self.invariant lane in
     let kept = kept_fit v c.self.inside.log.items c.self.invariant in
     let room = c.log_room-room.ensures in
-    omega (arith, fit, kept, one, room, c.in_ok-reserve.ensures.ok, c.in_ok-reserve.ensures.len)
+    omega (arith, fit, kept, one, room, c.in_ok-make_room.ensures.ok, c.in_ok-make_room.ensures.len)

@@ -201,8 +201,8 @@ AreOpen ps sets all left allowed = ((k : ℕ) → Has left k → Has all k) × (
 abbrev pub MayGo : List Pin → Places → ℕ → Type 0
 MayGo ps lanes s = (l : ℕ) × Has lanes l × IsTrue (may_pin (pin_at ps s) l)
 
-pub first_open : (ps : List Pin) (sets : List Places) (all allowed : Places) → ((i : ℕ) → Has allowed i ↔ (i < length ps)) → AreOpen ps sets all all allowed
-first_open ps sets all allowed below = (λ k has. has, λ s lt. (λ has k there gone. absurd (gone there), λ opened. (below s).1 lt))
+pub first_open : (ps : List Pin) (sets : List Places) (all allowed : Places) → ((s : ℕ) → s < length ps → Has allowed s) → AreOpen ps sets all all allowed
+first_open ps sets all allowed each = (λ k has. has, λ s lt. (λ has k there gone. absurd (gone there), λ opened. each s lt))
 
 -- one set more is taken out
 pub next_open : (ps : List Pin) (sets : List Places) (all left rest allowed less : Places) (k : ℕ) → Has left k → (Has rest k → ⊥) → SameBut k left rest

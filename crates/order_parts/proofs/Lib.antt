@@ -1,3 +1,4 @@
 pub mod HeldSlots
 pub mod Holds
 pub mod Places
+pub mod Rings

@@ -2,3 +2,4 @@ pub mod Held
 pub mod History
 pub mod Pins
 pub mod Reorder
+pub mod Ring

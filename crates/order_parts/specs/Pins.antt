@@ -1,5 +1,5 @@
 -- The pins of an atomic queue's slots: how many unanswered events of a slot there are, and the lane on which they stand.
-use Rattle.std.specs.Prelude.{ℕ, ◌+◌, ◌-◌, Bool, ◌||◌, ◌==◌, nat_lt, List, slice_index_or, if◌then◌else◌}
+use Rattle.std.specs.Prelude.{ℕ, ◌+◌, ◌-◌, Bool, ◌||◌, ◌==◌, nat_lt, List, slice_index_or, Option, Some, None, if◌then◌else◌}
 use Rattle.order_parts.specs.declared.pins.Hold.{Hold}
 
 -- how many unanswered events of the slot there are, and the last lane that was given one
@@ -20,6 +20,10 @@ pin_at ps s = slice_index_or ps s free
 -- the slot has no unanswered event, or the lane has them
 abbrev pub may_pin : Pin → ℕ → Bool
 may_pin p l = p.count == 0 || p.lane == l
+
+-- the lane that has the slot's unanswered events, where there are any
+abbrev pub holder_of : Pin → Option ℕ
+holder_of p = if p.count == 0 then None else Some p.lane
 
 -- one event more, on the lane
 abbrev pub pinned : Pin → ℕ → Pin

@@ -4,8 +4,7 @@ ghost use Rattle.std.specs.Prelude.{◌≡◌, ◌^◌, ◌<◌, ◌≤◌, ◌=
 ghost use Rattle.order_parts.specs.History.{entries_of};
 
 use crate::Memory;
-use circular_buffer::HeapCircularBuffer;
-use std::alloc::Global;
+use std::alloc::{AllocError, Global};
 use std::marker::Model;
 
 /// An unanswered event: its queue, its number there, its slot, and its place in an ordered queue's reorder buffer.
@@ -17,10 +16,16 @@ pub struct Entry {
     pub place: u64,
 }
 
-/// The unanswered events of a lane, oldest first.
+/// The unanswered events of a lane, oldest first, in a ring.
 #[derive(Debug, Drop)]
 pub struct History {
-    ring: HeapCircularBuffer<Entry>,
+    /// As many places as a power of two, so that a mask finds the place after the last one.
+    ring: Vec<Entry>,
+    mask: usize,
+    /// The oldest entry's place.
+    first: usize,
+    len: usize,
+    capacity: usize,
 }
 
 impl Model for History {
@@ -28,7 +33,11 @@ impl Model for History {
 
     ghost Value = { Entries };
 
-    ghost view = { λ a. entries_of a.ring.items a.ring.capacity };
+    ghost use Rattle.order_parts.specs.Ring.{held, IsRing};
+
+    ghost view = { λ a. entries_of (held a) a.capacity };
+
+    ghost invariant = { IsRing };
 }
 
 impl History {
@@ -36,8 +45,21 @@ impl History {
     pub fn new(alloc: Global, capacity: usize) -> Result<History, Memory>
         ensures { IfOk result (λ h. h ≡ entries_of [] capacity) }
     {
-        let ring = HeapCircularBuffer::with_capacity(alloc, capacity)?;
-        Ok(History { ring })
+        let places = capacity.checked_next_power_of_two().ok_or(AllocError)?;
+        let blank = Entry {
+            queue: 0,
+            number: 0,
+            slot: 0,
+            place: 0,
+        };
+        let ring = vec![in alloc; blank; places]?;
+        Ok(History {
+            ring,
+            mask: places - 1,
+            first: 0,
+            len: 0,
+            capacity,
+        })
     }
 
     /// How many entries there are.
@@ -45,43 +67,56 @@ impl History {
         ensures value { result ≡ length self.now.entries }
         ensures within { (result ≤ self.now.capacity) × (self.now.capacity < 2 ^ 63) }
     {
-        self.ring.len()
+        self.len
     }
 
     /// Whether there are none.
     pub fn is_empty(&self) -> bool
         ensures { result ≡ (length self.now.entries == 0) }
     {
-        self.ring.is_empty()
+        self.len == 0
     }
 
     /// Whether there is no room for an entry more.
     pub fn is_full(&self) -> bool
         ensures { result ≡ (length self.now.entries == self.now.capacity) }
     {
-        self.ring.is_full()
+        self.len == self.capacity
     }
 
     /// Appends an entry.
+    #[inline(always)]
     pub fn push(&mut self, entry: Entry)
         requires { length self.old.entries < self.old.capacity }
         ensures { self.new ≡ entries_of (self.old.entries ++ entry ∷ []) self.old.capacity }
     {
-        self.ring.push_back(entry);
+        let place = (self.first + self.len) & self.mask;
+        self.ring[place] = entry;
+        self.len += 1;
     }
 
     /// The oldest entry, which stays.
     pub fn oldest(&self) -> Option<Entry>
         ensures { result ≡ slice_get self.now.entries 0 }
     {
-        self.ring.front().copied()
+        if self.len == 0 {
+            return None;
+        }
+        Some(self.ring[self.first])
     }
 
     /// Takes the oldest entry out.
+    #[inline(always)]
     pub fn pop(&mut self) -> Option<Entry>
         ensures value { result ≡ slice_get self.old.entries 0 }
         ensures rest { self.new ≡ entries_of (drop 1 self.old.entries) self.old.capacity }
     {
-        self.ring.pop_front()
+        if self.len == 0 {
+            return None;
+        }
+        let entry = self.ring[self.first];
+        self.first = (self.first + 1) & self.mask;
+        self.len -= 1;
+        Some(entry)
     }
 }

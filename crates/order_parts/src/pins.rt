@@ -2,12 +2,12 @@
 
 ghost use Rattle.std.specs.Prelude.{◌≡◌, ℕ, ◌<◌, ◌≤◌, ◌↔◌, length, replicate, slice_set, IfOk, IsTrue};
 ghost use Rattle.evt_types.specs.declared.shape.TheConstants.{MAX_DEPTH};
-ghost use Rattle.order_parts.specs.Pins.{cell_of, free, pin_at, may_pin, pinned, unpinned};
+ghost use Rattle.order_parts.specs.Pins.{cell_of, free, holder_of, pin_at, may_pin, pinned, unpinned};
 ghost use Rattle.place_set.specs.Places.{Has};
 
 use crate::Memory;
 use evt_types::{MAX_PORTS, MAX_SLOTS};
-use place_set::Places;
+use place_set::{MAX_PLACES, Places};
 use std::alloc::Global;
 use std::marker::Model;
 
@@ -81,6 +81,19 @@ impl Pins {
         hold.count == 0 || hold.lane == lane
     }
 
+    /// The lane that has the slot, if one has it.
+    #[inline(always)]
+    pub fn holder(&self, slot: usize) -> Option<usize>
+        requires { slot < length self.now }
+        ensures { result ≡ holder_of (pin_at self.now slot) }
+    {
+        let hold = self.holds[slot];
+        if hold.count == 0 {
+            return None;
+        }
+        Some(hold.lane)
+    }
+
     /// One event more of the slot goes to the lane.
     pub fn pin(&mut self, slot: usize, lane: usize)
         requires there { slot < length self.old }
@@ -123,7 +136,7 @@ impl Pins {
             return Places::none();
         };
         let mut closed = self.used.except(lanes);
-        let mut allowed = Places::below(self.slots());
+        let mut allowed = Places::below(MAX_PLACES);
         while let Some(cell) = closed.pop() {
             allowed = allowed.except(self.held[cell]);
         }

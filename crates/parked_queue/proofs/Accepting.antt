@@ -60,6 +60,7 @@ module _ (a : Inside) (v : Parted) (e : Event) (l : Lists) (h : Holds a v) (lt :
         lists = lists_accepted;
         room = ap (λ (x : Lists). x.room) is ∙ h.room;
         slots = h.slots;
+        mask = h.mask;
         next = ap (λ n. n + 1) h.next;
         below = h.below;
         bounds = λ c. let b = h.bounds c in omega arith;

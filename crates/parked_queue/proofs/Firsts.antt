@@ -1,8 +1,8 @@
 -- The first event of a level whose slot is allowed.
-use Rattle.std.proofs.Common.{◌≡◌, ◌≢◌, ℕ, ◌+◌, ◌<◌, ◌≤◌, Bool, true, false, List, All, length, set, get_or, Option, Some, None, slice_get, ⊎_elim, sym, ap, ◌∙◌, subst, arith, eq-eqb}
+use Rattle.std.proofs.Common.{◌≡◌, ◌≢◌, ℕ, ◌+◌, ◌<◌, ◌≤◌, Bool, true, false, List, length, set, get_or, Option, Some, None, slice_get, ⊎_elim, sym, ap, ◌∙◌, subst, arith, eq-eqb}
 use Rattle.std.proofs.lemmas.Bool.{cases_eq, cases_lt, false≢true}
 use Rattle.std.proofs.lemmas.List.{length-drop, get_or-set_same}
-use Rattle.std.proofs.lemmas.List.Elements.{All-contains, All-filter, All-push}
+use Rattle.std.proofs.lemmas.List.Elements.{All-filter, All-push}
 use Rattle.std.specs.Option.{is_some}
 use Rattle.std.proofs.lemmas.Option.{slice_get_within}
 use Rattle.evt_types.specs.Plan.{level_of}
@@ -14,7 +14,7 @@ use Rattle.parked_queue.specs.Merge.{is_in}
 use Rattle.parked_queue.specs.Parted.{Parted, HasMarks, HasNoneParked, below_at, list_in, place_of, with_below}
 use Rattle.parked_queue.specs.Waits.{Waits, AreLevels, AreWaits, HasNoneAllowed, HasNoneOf, IsFirstAllowed, is_other, slot_of, with_event, without_number}
 use Rattle.parked_queue.proofs.Holding.{place_if_not}
-use Rattle.parked_queue.proofs.Parks.{in_main, list_after, older}
+use Rattle.parked_queue.proofs.Parks.{level_of_own, list_after, older}
 use Rattle.parked_queue.proofs.Splits.{Split, first_alone, first_least, first_split, first_there, none_first}
 
 -- an event of the level that is not parked is in the level's own list
@@ -38,8 +38,8 @@ module _ (v : Parted) (c : ℕ) (allowed : Places) (waits : AreWaits v.waits) (l
     main : Split test v.waits.waiting w
     main = first_split test v.waits.waiting w waits.rising head
 
-    pub level_of_head : c ≡ level_of w.event
-    level_of_head = sym (in_main v.waits.slots v.below c w lt (All-contains (λ (u : Numbered). level_of u.event < 4) v.waits.waiting w waits.levels (first_there test v.waits.waiting w main)) main.is.here).0
+    level_of_head : c ≡ level_of w.event
+    level_of_head = level_of_own v c w waits lt head
 
     -- the first one of the level's own list is allowed
     pub main_first : Has allowed (slot_of v.waits.slots w) → IsFirstAllowed v.waits c allowed w

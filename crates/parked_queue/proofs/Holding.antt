@@ -9,7 +9,7 @@ use Rattle.evt_types.specs.declared.event.Numbered.{Numbered}
 use Rattle.place_set.specs.Places.{Has}
 use Rattle.place_set.specs.declared.places.Places.{Places}
 use Rattle.waiting_lists.specs.Lists.{Lists, list_at}
-use Rattle.parked_queue.specs.Marks.{AreMarks, IsParking, marks_at, parted_in}
+use Rattle.parked_queue.specs.Marks.{AreMarks, IsParking, marks_at, mask_of, parted_in}
 use Rattle.parked_queue.specs.Merge.{by_number, in_list, lists_of}
 use Rattle.parked_queue.specs.Parted.{Parted, below_at, is_parked, list_in, no_parted, parked_place, place_of, places}
 use Rattle.parked_queue.specs.Waits.{AreWaits, slot_of}
@@ -22,6 +22,7 @@ pub record Holds (a : Inside) (v : Parted) : Type 0 where
   pub lists : a.lists.lists ≡ lists_of (place_of v.waits.slots v.below) 0 (places v.waits.slots) v.waits.waiting
   pub room : a.lists.room ≡ v.waits.room
   pub slots : a.slots ≡ v.waits.slots
+  pub mask : a.mask ≡ mask_of a.slots
   pub next : a.next ≡ v.waits.next
   pub below : a.below ≡ v.below
   pub bounds : (c : ℕ) → below_at v.below c ≤ v.waits.next
@@ -72,6 +73,7 @@ holds_held a v h =
     record {
       waits = subst (λ (x : Parted). AreWaits x.waits) (sym same) h.waits;
       lists = h.lists ∙ sym (ap (λ (x : Parted). lists_of (place_of x.waits.slots x.below) 0 (places x.waits.slots) x.waits.waiting) same);
+      mask = h.mask;
       bounds = λ c. subst (λ (x : Parted). below_at x.below c ≤ x.waits.next) (sym same) (h.bounds c);
       four = ap length h.below ∙ h.four;
       levels = h.levels;
@@ -84,6 +86,7 @@ held a v is same = subst (Holds a) same (record {
   lists = is.lists;
   room = refl;
   slots = refl;
+  mask = is.mask;
   next = refl;
   below = refl;
   bounds = is.bounds;
@@ -118,14 +121,15 @@ no_marks p (suc (suc zero)) slot none zeros = none slot
 no_marks p (suc (suc (suc zero))) slot none zeros = none slot
 no_marks p (suc (suc (suc (suc c)))) slot none zeros = zeros slot
 
-pub nothing_held : (l : Lists) (slots room : ℕ) (p : Places) → 0 < slots → slots ≤ 64 → l ≡ record { room = room; lists = replicate (places slots) [] } → ((k : ℕ) → ¬ Has p k) → ((k : ℕ) → ¬ Has (record { bits = 0 }) k)
-    → Holds (record { lists = l; slots = slots; below = 0 ∷ 0 ∷ 0 ∷ 0 ∷ []; parked = p ∷ p ∷ p ∷ p ∷ []; next = 0 }) (no_parted slots room)
-nothing_held l slots room p some few is none zeros =
+pub nothing_held : (l : Lists) (slots room m : ℕ) (p : Places) → 0 < slots → slots ≤ 64 → m ≡ mask_of slots → l ≡ record { room = room; lists = replicate (places slots) [] } → ((k : ℕ) → ¬ Has p k) → ((k : ℕ) → ¬ Has (record { bits = 0 }) k)
+    → Holds (record { lists = l; slots = slots; mask = m; below = 0 ∷ 0 ∷ 0 ∷ 0 ∷ []; parked = p ∷ p ∷ p ∷ p ∷ []; next = 0 }) (no_parted slots room)
+nothing_held l slots room m p some few mask is none zeros =
     record {
       waits = record { rising = λ i j d lt within. absurd (omega arith); below = λ k d h. absurd (omega arith); levels = λ k d h. absurd (omega arith); fits = omega arith; within = omega arith; some = some; few = few };
       lists = ap (λ (x : Lists). x.lists) is ∙ fill_by_all (λ k. []) (replicate (places slots) []) (places slots) [] (length-replicate (places slots) []) (λ k h. get_or-replicate (places slots) k [] [] h);
       room = ap (λ (x : Lists). x.room) is;
       slots = refl;
+      mask = mask;
       next = refl;
       below = refl;
       bounds = λ c. let e = no_bounds c in omega arith;

@@ -10,3 +10,5 @@ pub mod Turns
 pub mod Taking
 pub mod Pairs
 pub mod Masks
+pub mod Options
+pub mod Slots

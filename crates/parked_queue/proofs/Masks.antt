@@ -1,12 +1,14 @@
 -- What is left of a division by a power of two is what a mask leaves.
-use Rattle.std.proofs.Common.{◌≡◌, ℕ, ◌-◌, ◌%◌, ◌^◌, ◌<◌, ◌≤◌, Bool, true, false, not, ◌||◌, ◌==◌, List, [], ◌∷◌, get_or, All, refl, sym, ap, ◌∙◌, subst, arith, eq-eqb}
+use Rattle.std.proofs.Common.{◌≡◌, ℕ, ◌-◌, ◌%◌, ◌^◌, ◌<◌, ◌≤◌, Bool, true, false, not, ◌||◌, ◌==◌, List, [], ◌∷◌, get_or, All, refl, sym, ap, ◌∙◌, subst, arith, eq-eqb, ⊎_elim}
 use Rattle.std.specs.Prelude.{bit_and}
 use Rattle.std.specs.List.{list_any, range_with_len}
+use Rattle.std.proofs.lemmas.Bool.{cases_Bool, cond-true, cond-false, eqb-true}
 use Rattle.std.proofs.lemmas.List.Elements.{All-cons, All-nil}
 use Rattle.std.proofs.lemmas.List.FromFn.{get_or-range_with_len, length-range_with_len}
 use Rattle.std.proofs.lemmas.Nat.{and_mask}
 use Rattle.lists.proofs.Lists.{All-from_none, All-has}
 use Rattle.lists.specs.Lists.{has}
+use Rattle.parked_queue.specs.Marks.{mask_of}
 
 abbrev powers : List ℕ
 powers = 1 ∷ 2 ∷ 4 ∷ 8 ∷ 16 ∷ 32 ∷ 64 ∷ []
@@ -42,7 +44,15 @@ powered n some few none =
     passes true false e f = sym f
     passes false b e f = cc
 
-pub mask_is : (n f : ℕ) → 0 < n → n ≤ 64 → bit_and n (n - 1) ≡ 0 → bit_and f (n - 1) ≡ f % n
+mask_is : (n f : ℕ) → 0 < n → n ≤ 64 → bit_and n (n - 1) ≡ 0 → bit_and f (n - 1) ≡ f % n
 mask_is n f some few none =
     let power = powered n some few none in
     ap (λ m. bit_and f (m - 1)) power.1 ∙ (and_mask f power.0 ∙ ap (λ m. f % m) (sym power.1))
+
+-- the mask that is kept, where it is one
+pub masked : (n m f : ℕ) → 0 < n → n ≤ 64 → m ≡ mask_of n → m < 64 → bit_and f m ≡ f % n
+masked n m f some few is less =
+    ⊎_elim
+    (λ power. ap (bit_and f) (is ∙ cond-true (bit_and n (n - 1) == 0) (n - 1) 64 power) ∙ mask_is n f some few (eqb-true (bit_and n (n - 1)) 0 power))
+    (λ other. let e = is ∙ cond-false (bit_and n (n - 1) == 0) (n - 1) 64 other in absurd (omega arith))
+    (cases_Bool (bit_and n (n - 1) == 0))

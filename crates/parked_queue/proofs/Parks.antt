@@ -1,5 +1,5 @@
 -- An event is set aside.
-use Rattle.std.proofs.Common.{◌≡◌, ◌≢◌, ℕ, ◌+◌, ◌<◌, ◌≤◌, ◌^◌, true, false, cond, nat_lt, List, [], ◌∷◌, ◌++◌, length, drop, set, get_or, All, Some, slice_get, ◌⊎◌, ⊎_elim, inl, inr, sym, ap, ◌∙◌, subst, arith, eq-eqb}
+use Rattle.std.proofs.Common.{◌≡◌, ◌≢◌, ℕ, ◌+◌, ◌<◌, ◌≤◌, ◌^◌, true, false, cond, nat_lt, List, [], ◌∷◌, ◌++◌, length, drop, set, get_or, All, Option, Some, slice_get, ◌⊎◌, ⊎_elim, inl, inr, sym, ap, ◌∙◌, subst, arith, eq-eqb}
 use Rattle.std.proofs.lemmas.Bool.{cases_eq, cases_lt, false≢true}
 use Rattle.std.proofs.lemmas.List.{length-set, get_or-set_same, get_or-set_other}
 use Rattle.std.proofs.lemmas.List.Elements.{All-contains, All-tail}
@@ -11,7 +11,7 @@ use Rattle.place_set.specs.declared.places.Places.{Places}
 use Rattle.waiting_lists.specs.Lists.{Lists, list_at, total_of, with_last, without_first}
 use Rattle.parked_queue.specs.Marks.{AreMarks, marks_at}
 use Rattle.parked_queue.specs.Merge.{is_in, in_list, lists_of}
-use Rattle.parked_queue.specs.Parted.{Parted, below_at, list_in, parked_place, place_of, places, with_below}
+use Rattle.parked_queue.specs.Parted.{Parted, below_at, list_in, own_first, parked_place, place_of, places, with_below}
 use Rattle.parked_queue.specs.Waits.{AreWaits, slot_of}
 use Rattle.parked_queue.specs.declared.parking.Parking.TheInside.{Inside}
 use Rattle.parked_queue.proofs.Accepting.{total_held}
@@ -27,6 +27,12 @@ in_main slots below c u lt level e =
     (λ parked. let p = place_if_parked slots below u parked in absurd (omega arith))
     (λ not_parked. let p : place_of slots below u ≡ level_of u.event = place_if_not slots below u not_parked in let here : level_of u.event ≡ c = sym p ∙ same in (here, subst (λ k. below_at below k ≤ u.number) here not_parked))
     (cases_lt u.number (below_at below (level_of u.event)))
+
+-- the first event of a level's own list is of the level
+pub level_of_own : (v : Parted) (c : ℕ) (w : Numbered) → AreWaits v.waits → c < 4 → own_first v c ≡ Some w → c ≡ level_of w.event
+level_of_own v c w waits lt head =
+    let main : Split (is_in (place_of v.waits.slots v.below) c) v.waits.waiting w = first_split (is_in (place_of v.waits.slots v.below) c) v.waits.waiting w waits.rising head in
+    sym (in_main v.waits.slots v.below c w lt (All-contains (λ (u : Numbered). level_of u.event < 4) v.waits.waiting w waits.levels (first_there (is_in (place_of v.waits.slots v.below) c) v.waits.waiting w main)) main.is.here).0
 
 module _ (v : Parted) (w : Numbered) (c : ℕ) (waits : AreWaits v.waits) (level : c ≡ level_of w.event) (lt : c < 4) (four : length v.below ≡ 4) (head : slice_get (list_in v c) 0 ≡ Some w) where
   abbrev pub grown : List ℕ
@@ -205,6 +211,7 @@ module _ (a : Inside) (v : Parted) (w : Numbered) (c : ℕ) (h : Holds a v) (lev
         lists = lists_parked l is;
         room = ap (λ (x : Lists). x.room) is ∙ h.room;
         slots = h.slots;
+        mask = h.mask;
         next = h.next;
         below = ap (λ bs. set bs c (w.number + 1)) h.below;
         bounds = bounds_after;
@@ -247,3 +254,9 @@ module _ (a : Inside) (v : Parted) (w : Numbered) (c : ℕ) (h : Holds a v) (lev
       parked_held m p (come ∙ (ap (λ x. with_last x k w) gone ∙ ap (λ n. with_last (without_first a.lists c) n w) (list ∙ ap (λ n. parked_place n c) slot)))
       (subst (Has p) slot has)
       (subst (λ n. SameBut n (marks_at a.parked c) p) slot but)
+
+-- ---- what the pop has given
+
+module _ (a : Inside) (v : Parted) (c : ℕ) (h : Holds a v) (lt : c < 4) where
+  pub popped : (o : Option Numbered) → o ≡ slice_get (list_at a.lists c) 0 → own_first v c ≡ o
+  popped o e = let some = h.waits.some in sym (e ∙ ap (λ us. slice_get us 0) (list_held a v c h (omega arith)))

@@ -1,20 +1,21 @@
 -- One event less.
-use Rattle.std.proofs.Common.{◌≡◌, ℕ, ◌<◌, ◌≤◌, List, length, filter, set, get_or, nat_lt, All, sym, ap, ◌∙◌, subst, arith}
-use Rattle.std.proofs.lemmas.Bool.{cond_both}
-use Rattle.std.proofs.lemmas.List.Elements.{All-filter}
+use Rattle.std.proofs.Common.{◌≡◌, ℕ, ◌<◌, ◌≤◌, List, length, filter, set, get_or, nat_lt, All, [], ◌∷◌, true, slice_get, eqb-true, sym, ap, ◌∙◌, subst, arith}
+use Rattle.std.proofs.lemmas.Bool.{cond_both, false≢true}
+use Rattle.std.proofs.lemmas.List.Elements.{All-filter, All-head, filter_passes}
 use Rattle.std.proofs.lemmas.List.Kept.{AllPairs-filter}
 use Rattle.std.proofs.lemmas.List.Sums.{length-filter, count_by-le-length}
 use Rattle.evt_types.specs.Plan.{level_of}
 use Rattle.evt_types.specs.declared.event.Numbered.{Numbered}
 use Rattle.place_set.specs.Places.{Has}
-use Rattle.waiting_lists.specs.Lists.{Lists, list_at, with_list}
+use Rattle.waiting_lists.specs.Lists.{Lists, has_number, list_at, with_list, without_first}
 use Rattle.parked_queue.specs.Marks.{marks_at}
 use Rattle.parked_queue.specs.Merge.{is_in, lists_of}
-use Rattle.parked_queue.specs.Parted.{Parted, below_at, list_in, parked_place, place_for, place_of, places, with_waits}
+use Rattle.parked_queue.specs.Parted.{Parted, below_at, list_in, own_first, parked_place, place_for, place_of, places, with_waits}
 use Rattle.parked_queue.specs.Waits.{Waits, AreWaits, IsOnlyOf, IsRising, is_other, slot_of, without_number}
 use Rattle.parked_queue.specs.declared.parking.Parking.TheInside.{Inside}
 use Rattle.parked_queue.proofs.Holding.{Holds, count_held, list_held}
 use Rattle.parked_queue.proofs.Merges.{lists_without}
+use Rattle.parked_queue.proofs.Turns.{first_out}
 
 pub waits_without : (q : Waits) (n : ℕ) → AreWaits q → AreWaits (without_number q n)
 waits_without q n waits =
@@ -40,6 +41,20 @@ only_there v c slot n only k d h =
     λ same.
     let of = only k d h same in
     ap (λ m. place_for v.below (level_of w.event) (slot_of v.waits.slots w) m) same ∙ (ap (λ m. place_for v.below m (slot_of v.waits.slots w) n) of.0 ∙ ap (λ m. place_for v.below c m n) of.1)
+
+-- what each event of the number shows, where the first one has it
+numbered_first : (R : Type 0) (n : ℕ) (ws : List Numbered) → has_number n (slice_get ws 0) ≡ true → All (λ (w : Numbered). w.number ≡ n → R) ws → R
+numbered_first R n [] has all = absurd (false≢true has)
+numbered_first R n (w ∷ ws) has all = All-head (λ (u : Numbered). u.number ≡ n → R) w ws all (eqb-true w.number n has)
+
+-- where the first event of the level's own list has the number, the event of the number is in that list
+own_list : (v : Parted) (c slot n : ℕ) → IsOnlyOf v.waits c slot n → has_number n (own_first v c) ≡ true → c ≡ place_for v.below c slot n
+own_list v c slot n only has =
+    let g : Numbered → ℕ = place_of v.waits.slots v.below in
+    numbered_first (c ≡ place_for v.below c slot n) n (list_in v c) has
+    (λ k d h same.
+    sym (eqb-true (g (get_or (list_in v c) k d)) c (filter_passes (is_in g c) v.waits.waiting k d h))
+    ∙ All-filter (is_in g c) (λ (w : Numbered). w.number ≡ n → g w ≡ place_for v.below c slot n) v.waits.waiting (only_there v c slot n only) k d h same)
 
 module _ (a : Inside) (v : Parted) (c slot n k : ℕ) (h : Holds a v) (lt : c < 4) (less : slot < v.waits.slots) (list : k ≡ place_for v.below c slot n) where
   within : k < places v.waits.slots
@@ -67,6 +82,7 @@ module _ (a : Inside) (v : Parted) (c slot n k : ℕ) (h : Holds a v) (lt : c < 
           lists = lists_taken;
           room = ap (λ (x : Lists). x.room) is ∙ h.room;
           slots = h.slots;
+          mask = h.mask;
           next = h.next;
           below = h.below;
           bounds = h.bounds;
@@ -78,3 +94,11 @@ module _ (a : Inside) (v : Parted) (c slot n k : ℕ) (h : Holds a v) (lt : c < 
                 there = h.marks.there;
               };
         }
+
+-- the event has left at the head of the level's own list
+pub head_held : (a : Inside) (v : Parted) (c slot n : ℕ) → Holds a v → c < 4 → slot < v.waits.slots → IsOnlyOf v.waits c slot n → has_number n (slice_get (list_at a.lists c) 0) ≡ true → (l : Lists) → l ≡ without_first a.lists c
+    → Holds (record a { lists = l }) (with_waits v (without_number v.waits n))
+head_held a v c slot n h lt less only has l is =
+    let first : has_number n (own_first v c) ≡ true = subst (λ us. has_number n (slice_get us 0) ≡ true) (list_held a v c h (omega arith)) has in
+    let list = own_list v c slot n only first in
+    taken_held a v c slot n c h lt less list only l (is ∙ ap (with_list a.lists c) (first_out n (list_at a.lists c) (list_rises a v c slot n c h lt less list) has))

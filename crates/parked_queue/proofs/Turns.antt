@@ -1,12 +1,13 @@
 -- A list that is turned, without the event of a number.
-use Rattle.std.proofs.Common.{◌≡◌, ℕ, ◌+◌, ◌<◌, ◌≤◌, true, not, ◌==◌, cond, List, [], ◌∷◌, ◌++◌, length, drop, take, filter, get_or, Some, None, slice_get, refl, sym, ap, ◌∙◌, subst, arith, append_assoc, append-nil}
+use Rattle.std.proofs.Common.{◌≡◌, ℕ, ◌+◌, ◌<◌, ◌≤◌, true, not, ◌==◌, cond, List, [], ◌∷◌, ◌++◌, length, drop, take, filter, get_or, Some, None, slice_get, refl, sym, ap, ◌∙◌, subst, arith, append_assoc, append-nil, eqb-true}
 use Rattle.std.proofs.lemmas.List.{drop_all, drop_more, get_or-set_same, length-drop, length_push, length-set, set-get_or, set-set, take_all, take_more}
 use Rattle.std.proofs.lemmas.List.Elements.{All-weaker, filter-append}
 use Rattle.std.proofs.lemmas.List.Sums.{sum_by-set}
+use Rattle.std.proofs.lemmas.Bool.{false≢true}
 use Rattle.std.proofs.lemmas.Option.{none-some, same_Some}
 use Rattle.lists.proofs.Lists.{eqb_other, eqb_same, filter-all, slice_get-some}
 use Rattle.evt_types.specs.declared.event.Numbered.{Numbered}
-use Rattle.waiting_lists.specs.Lists.{Lists, list_at, total_of, with_last, with_list, without_first}
+use Rattle.waiting_lists.specs.Lists.{Lists, has_number, list_at, total_of, with_last, with_list, without_first}
 use Rattle.parked_queue.specs.Turns.{turned, turns}
 use Rattle.parked_queue.specs.Waits.{IsRising, is_other}
 use Rattle.parked_queue.proofs.Merges.{rest_higher}
@@ -121,11 +122,11 @@ module _ (l : Lists) (k n : ℕ) (there : k < length l.lists) where
 
 -- ---- at the head
 
--- without the first event, a rising list is without its number
-pub first_out : (n : ℕ) (ws : List Numbered) (w : Numbered) → IsRising ws → slice_get ws 0 ≡ Some w → w.number ≡ n → drop 1 ws ≡ filter (is_other n) ws
-first_out n [] w rises e same = absurd (none-some w e)
-first_out n (v ∷ ws) w rises e same =
-    let here : v.number ≡ n = ap (λ (x : Numbered). x.number) (same_Some v w e) ∙ same in
+-- without its first event, which has the number, a rising list is without the number
+pub first_out : (n : ℕ) (ws : List Numbered) → IsRising ws → has_number n (slice_get ws 0) ≡ true → drop 1 ws ≡ filter (is_other n) ws
+first_out n [] rises has = absurd (false≢true has)
+first_out n (v ∷ ws) rises has =
+    let same : v.number ≡ n = eqb-true v.number n has in
     sym
-    (ap (λ b. cond (not b) (v ∷ filter (is_other n) ws) (filter (is_other n) ws)) (subst (λ j. (v.number == j) ≡ true) here (eqb_same v.number))
+    (ap (λ b. cond (not b) (v ∷ filter (is_other n) ws) (filter (is_other n) ws)) has
     ∙ filter-all (is_other n) ws (All-weaker (λ (u : Numbered). v.number < u.number) (λ u. is_other n u ≡ true) (λ u lt. ap not (eqb_other u.number n (λ f. omega arith))) ws (rest_higher v ws rises)))

@@ -1,5 +1,5 @@
 -- How the parted events are held.
-use Rattle.std.specs.Prelude.{ℕ, ◌≡◌, ◌<◌, ◌≤◌, List, length, slice_index_or, All}
+use Rattle.std.specs.Prelude.{ℕ, ◌≡◌, ◌-◌, ◌==◌, ◌<◌, ◌≤◌, List, length, slice_index_or, All, bit_and, if◌then◌else◌}
 use Rattle.evt_types.specs.Plan.{level_of}
 use Rattle.evt_types.specs.declared.event.Numbered.{Numbered}
 use Rattle.place_set.specs.Places.{Has}
@@ -18,13 +18,18 @@ pub record AreMarks (v : Parted) (parked : List Places) : Type 0 where
   pub marked : All (λ (u : Numbered). u.number < below_at v.below (level_of u.event) → Has (marks_at parked (level_of u.event)) (slot_of v.waits.slots u)) v.waits.waiting
   pub there : (c slot : ℕ) → Has (marks_at parked c) slot → slot < v.waits.slots
 
+-- what leaves a flow's slot, of so many, where they are a power of two; else a number above each mask
+abbrev pub mask_of : ℕ → ℕ
+mask_of slots = if bit_and slots (slots - 1) == 0 then slots - 1 else 64
+
 abbrev pub parted_in : Inside → Parted
 parted_in a = record { waits = record { waiting = by_number a.lists.lists; next = a.next; room = a.lists.room; slots = a.slots }; below = a.below }
 
--- the lists are those of what waits, no number below which events are parked is past the next one, and the slots are marked
+-- the lists are those of what waits, the mask is that of the slots, no number below which events are parked is past the next one, and the slots are marked
 pub record IsParking (a : Inside) : Type 0 where
   pub waits : AreWaits (parted_in a).waits
   pub lists : a.lists.lists ≡ lists_of (place_of a.slots a.below) 0 (places a.slots) (by_number a.lists.lists)
+  pub mask : a.mask ≡ mask_of a.slots
   pub bounds : (c : ℕ) → below_at a.below c ≤ a.next
   pub four : length a.below ≡ 4
   pub levels : length a.parked ≡ 4

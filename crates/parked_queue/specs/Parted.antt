@@ -1,5 +1,5 @@
 -- How the waiting events are parted into lists.
-use Rattle.std.specs.Prelude.{ℕ, ◌≡◌, ◌+◌, ◌*◌, ◌<◌, ◌≤◌, Bool, List, [], ◌∷◌, nat_lt, slice_index_or, slice_set, Option, Some, None, All, Contains, if◌then◌else◌}
+use Rattle.std.specs.Prelude.{ℕ, ◌≡◌, ◌+◌, ◌*◌, ◌<◌, ◌≤◌, Bool, List, [], ◌∷◌, nat_lt, slice_get, slice_index_or, slice_set, Option, Some, None, All, Contains, if◌then◌else◌}
 use Rattle.evt_types.specs.Plan.{level_of}
 use Rattle.evt_types.specs.declared.event.Numbered.{Numbered}
 use Rattle.place_set.specs.Places.{Has}
@@ -35,6 +35,10 @@ places slots = 4 * (slots + 1)
 abbrev pub list_in : Parted → ℕ → List Numbered
 list_in v k = in_list (place_of v.waits.slots v.below) k v.waits.waiting
 
+-- the first event of the level's own list
+abbrev pub own_first : Parted → ℕ → Option Numbered
+own_first v c = slice_get (list_in v c) 0
+
 abbrev pub no_parted : ℕ → ℕ → Parted
 no_parted slots room = record { waits = no_waits slots room; below = 0 ∷ 0 ∷ 0 ∷ 0 ∷ [] }
 
@@ -68,6 +72,12 @@ IsBest v c allowed left best = All (λ (u : Numbered). level_of u.event ≡ c �
 pub record IsFirstParked (v : Parted) (c : ℕ) (allowed : Places) (w : Numbered) : Type 0 where
   pub one : IsParkedAllowed v c allowed w
   pub first : All (λ (u : Numbered). level_of u.event ≡ c → u.number < below_at v.below c → Has allowed (slot_of v.waits.slots u) → w.number ≤ u.number) v.waits.waiting
+
+-- the slot is that of the oldest parked event of the level whose slot is allowed
+pub record IsFirstParkedSlot (v : Parted) (c : ℕ) (allowed : Places) (slot : ℕ) : Type 0 where
+  pub waiting : Numbered
+  pub first : IsFirstParked v c allowed waiting
+  pub is : slot ≡ slot_of v.waits.slots waiting
 
 -- no parked event of the level has an allowed slot
 abbrev pub HasNoneParked : Parted → ℕ → Places → Type 0

@@ -1,15 +1,24 @@
 //! The first event of a level whose slot is allowed.
 
-ghost use Rattle.std.specs.Prelude.{◌≡◌, ℕ, ◌<◌, ◌≤◌, ◌⊎◌, Some, IsTrue, IfSome, IfNone};
+ghost use Rattle.std.specs.Prelude.{◌≡◌, ℕ, ◌<◌, ◌≤◌, ◌⊎◌, slice_get, Some, IsTrue, IfSome, IfNone};
 ghost use Rattle.evt_types.specs.declared.event.Numbered.{Numbered as NumberedValue};
-ghost use Rattle.parked_queue.specs.Parted.{IsFirstParked, HasNoneParked, IsNoLater};
-ghost use Rattle.parked_queue.specs.Waits.{AreWaits, IsFirstAllowed, HasNoneAllowed, HasNoneOf};
+ghost use Rattle.place_set.specs.Places.{Has};
+ghost use Rattle.parked_queue.specs.Parted.{IsFirstParkedSlot, HasNoneParked, IsNoLater, list_in, parked_place};
+ghost use Rattle.parked_queue.specs.Waits.{AreWaits, IsFirstAllowed, IsFirstSlot, IsOldest, HasNoneAllowed, HasNoneOf, HasNoneOfSlot, slot_of};
 
 use crate::parking::Parking;
 use evt_types::Numbered;
 use place_set::Places;
 
+/// An event that is found, and its slot.
+#[derive(Clone, Copy)]
+pub struct Found {
+    pub slot: usize,
+    pub waiting: Numbered,
+}
+
 /// The event with the lower number.
+#[inline(always)]
 fn older(best: Option<Numbered>, head: Numbered) -> Numbered
     ensures one { (best ≡ Some result) ⊎ (result ≡ head) }
     ensures older { (n : ℕ) → IsNoLater best n ⊎ (head.number ≤ n) → result.number ≤ n }
@@ -21,57 +30,156 @@ fn older(best: Option<Numbered>, head: Numbered) -> Numbered
 }
 
 impl Parking {
-    /// The oldest parked event of the level whose slot is allowed.
-    fn first_parked(&mut self, level: usize, allowed: Places) -> Option<Numbered>
-        requires { level < 4 }
+    /// The slot of the oldest parked event of the level whose slot is among these.
+    #[cold]
+    fn first_parked(&mut self, level: usize, marked: Places) -> Option<usize>
+        requires level { level < 4 }
+        requires there { (k : ℕ) → Has marked k → k < self.old.waits.slots }
+        requires waits { AreWaits self.old.waits }
         ensures same { self.new ≡ self.old }
-        ensures first { IfSome result (IsFirstParked self.old level allowed) }
-        ensures none { IfNone result (HasNoneParked self.old level allowed) }
-        ensures waits { AreWaits self.old.waits }
+        ensures first { IfSome result (IsFirstParkedSlot self.old level marked) }
+        ensures none { IfNone result (HasNoneParked self.old level marked) }
     {
         let mut best = None;
-        let mut left = self.marks(level).both(allowed);
+        let mut left = marked;
         while let Some(slot) = left.pop() {
             if let Some(head) = self.parked_front(level, slot) {
                 best = Some(older(best, head));
             }
         }
-        best
+        match best {
+            Some(oldest) => Some(self.slot(&oldest)),
+            None => None,
+        }
+    }
+
+    /// The same. Mostly no slot is among these, and then no call is made.
+    #[inline(always)]
+    fn first_marked(&mut self, level: usize, marked: Places) -> Option<usize>
+        requires level { level < 4 }
+        requires there { (k : ℕ) → Has marked k → k < self.old.waits.slots }
+        requires waits { AreWaits self.old.waits }
+        ensures same { self.new ≡ self.old }
+        ensures first { IfSome result (IsFirstParkedSlot self.old level marked) }
+        ensures none { IfNone result (HasNoneParked self.old level marked) }
+    {
+        if marked.is_empty() {
+            None
+        } else {
+            self.first_parked(level, marked)
+        }
+    }
+
+    /// The first parked event of the level and the slot. Where the slot isn't marked there is none.
+    #[inline(always)]
+    fn first_of_slot(&mut self, level: usize, slot: usize) -> Option<Numbered>
+        requires level { level < 4 }
+        requires slot { slot < self.old.waits.slots }
+        ensures same { self.new ≡ self.old }
+        ensures value { result ≡ slice_get (list_in self.old (parked_place slot level)) 0 }
+        ensures waits { AreWaits self.old.waits }
+    {
+        if self.marks(level).has(slot) {
+            self.parked_front(level, slot)
+        } else {
+            None
+        }
     }
 
     /// The first event of the level's own list whose slot is allowed. Those before it are set aside.
-    fn first_main(&mut self, level: usize, allowed: Places) -> Option<Numbered>
+    #[inline(always)]
+    fn first_main(&mut self, level: usize, allowed: Places) -> Option<Found>
         requires level { level < 4 }
         requires none { HasNoneParked self.old level allowed }
         ensures same { self.new.waits ≡ self.old.waits }
-        ensures first { IfSome result (IsFirstAllowed self.old.waits level allowed) }
+        ensures first { IfSome result (λ f. IsFirstAllowed self.old.waits level allowed f.waiting) }
+        ensures slot { IfSome result (λ f. f.slot ≡ slot_of self.old.waits.slots f.waiting) }
         ensures none { IfNone result (HasNoneAllowed self.old.waits level allowed) }
     {
-        while let Some(head) = self.front(level) {
-            let slot = self.slot(&head);
+        while let Some(waiting) = self.front(level) {
+            let slot = self.slot(&waiting);
             if allowed.has(slot) {
-                return Some(head);
+                return Some(Found { slot, waiting });
             }
-            self.park(level, slot, head);
+            self.park(level, slot);
         }
         None
     }
 
-    /// The first event of the level whose slot is allowed. Those before it are set aside, each once.
-    pub(crate) fn first(&mut self, level: usize, allowed: Places) -> Option<Numbered>
+    /// The slot of the first event of the level whose slot is allowed. Those before it are set aside, each once.
+    #[inline(always)]
+    pub(crate) fn first(&mut self, level: usize, allowed: Places) -> Option<usize>
         requires { level < 4 }
         ensures same { self.new.waits ≡ self.old.waits }
-        ensures first { IfSome result (IsFirstAllowed self.old.waits level allowed) }
+        ensures first { IfSome result (IsFirstSlot self.old.waits level allowed) }
         ensures none { IfNone result (HasNoneAllowed self.old.waits level allowed) }
         ensures waits { AreWaits self.old.waits }
     {
-        match self.first_parked(level, allowed) {
-            Some(parked) => Some(parked),
-            None => self.first_main(level, allowed),
+        let marked = self.marks(level).both(allowed);
+        let parked = self.first_marked(level, marked);
+        if parked.is_some() {
+            return parked;
+        }
+        match self.first_main(level, allowed) {
+            Some(found) => Some(found.slot),
+            None => None,
+        }
+    }
+
+    /// The first event of the level whose slot is allowed, where it is the first of the level's own list: then no parked event has
+    /// an allowed slot.
+    #[inline(always)]
+    pub(crate) fn head(&self, level: usize, allowed: Places) -> Option<Found>
+        requires { level < 4 }
+        ensures first { IfSome result (λ f. IsFirstAllowed self.now.waits level allowed f.waiting) }
+        ensures slot { IfSome result (λ f. f.slot ≡ slot_of self.now.waits.slots f.waiting) }
+        ensures waits { AreWaits self.now.waits }
+    {
+        if !self.marks(level).both(allowed).is_empty() {
+            return None;
+        }
+        let waiting = self.front(level)?;
+        let slot = self.slot(&waiting);
+        if allowed.has(slot) {
+            Some(Found { slot, waiting })
+        } else {
+            None
+        }
+    }
+
+    /// Whether all events of the level are set aside, and none of them has an allowed slot.
+    #[inline(always)]
+    pub(crate) fn is_blocked(&self, level: usize, allowed: Places) -> bool
+        requires { level < 4 }
+        ensures { IsTrue result → HasNoneAllowed self.now.waits level allowed }
+    {
+        let marks = self.marks(level);
+        !marks.is_empty() && marks.both(allowed).is_empty() && self.front(level).is_none()
+    }
+
+    /// The oldest event of the level and the slot. Those before it in the level's own list are set aside, each once.
+    #[cold]
+    pub(crate) fn oldest(&mut self, level: usize, slot: usize) -> Option<Numbered>
+        requires level { level < 4 }
+        requires slot { slot < self.old.waits.slots }
+        ensures same { self.new.waits ≡ self.old.waits }
+        ensures oldest { IfSome result (IsOldest self.old.waits level slot) }
+        ensures none { IfNone result (HasNoneOfSlot self.old.waits level slot) }
+    {
+        let parked = self.first_of_slot(level, slot);
+        if parked.is_some() {
+            return parked;
+        }
+        let mut only = Places::none();
+        only.add(slot);
+        match self.first_main(level, only) {
+            Some(found) => Some(found.waiting),
+            None => None,
         }
     }
 
     /// Whether no event of the level waits. It may say no where none does, until the marks of its slots are gone.
+    #[inline(always)]
     pub(crate) fn is_level_empty(&self, level: usize) -> bool
         requires { level < 4 }
         ensures { IsTrue result → HasNoneOf self.now.waits level }

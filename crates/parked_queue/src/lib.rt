@@ -8,4 +8,5 @@ mod queue;
 mod slot;
 mod turn;
 
+pub use first::Found;
 pub use queue::ParkedQueue;

@@ -1,12 +1,11 @@
 //! The waiting events, parted into lists.
 
-ghost use Rattle.std.specs.Prelude.{◌≡◌, ◌+◌, ◌<◌, ◌≤◌, ◌^◌, ◌++◌, length, slice_get, vec_len, vec_capacity, Some, IfOk};
-ghost use Rattle.evt_types.specs.Plan.{level_of};
+ghost use Rattle.std.specs.Prelude.{◌≡◌, ◌+◌, ◌<◌, ◌≤◌, ◌^◌, ◌++◌, true, length, slice_get, vec_len, vec_capacity, is_some, IfOk, IfSome};
 ghost use Rattle.parked_queue.specs.Pairs.{all_parts, pairs_of};
-ghost use Rattle.parked_queue.specs.Parted.{HasMarks, list_in, no_parted, parked_place, place_for, with_below, with_waits};
+ghost use Rattle.parked_queue.specs.Parted.{HasMarks, list_in, no_parted, own_first, parked_place, place_for, with_below, with_waits};
 ghost use Rattle.parked_queue.specs.Waits.{AreWaits, IsOnlyOf, slot_of, with_event, without_number};
 
-use crate::slot::{LEVELS, parked_list, slot_in};
+use crate::slot::{LEVELS, mask_for, parked_list, slot_in};
 use crate::turn::take_number;
 use evt_types::{Event, Numbered};
 use place_set::Places;
@@ -15,11 +14,13 @@ use std::marker::Model;
 use waiting_lists::WaitingLists;
 
 /// A list for each level, by the level's number, and behind them a list for each slot and level, for the events that are set
-/// aside: the level's events whose number is below `below`. `parked` has each slot that may have such an event.
+/// aside: the level's events whose number is below `below`. `parked` has each slot that may have such an event, and `mask` is what
+/// leaves a flow's slot.
 #[derive(Drop)]
 pub(crate) struct Parking {
     lists: WaitingLists,
     slots: usize,
+    mask: usize,
     below: [u64; LEVELS],
     parked: [Places; LEVELS],
     next: u64,
@@ -46,6 +47,7 @@ impl Parking {
         Ok(Parking {
             lists: WaitingLists::new(alloc, LEVELS * (slots + 1), room)?,
             slots,
+            mask: mask_for(slots),
             below: [0; LEVELS],
             parked: [Places::none(); LEVELS],
             next: 0,
@@ -65,9 +67,10 @@ impl Parking {
     }
 
     /// The first event of the level's own list.
+    #[inline(always)]
     pub(crate) fn front(&self, level: usize) -> Option<Numbered>
         requires { level < 4 }
-        ensures value { result ≡ slice_get (list_in self.now level) 0 }
+        ensures value { result ≡ own_first self.now level }
         ensures waits { AreWaits self.now.waits }
         ensures four { length self.now.below ≡ 4 }
     {
@@ -75,15 +78,17 @@ impl Parking {
     }
 
     /// The slot of an event.
+    #[inline(always)]
     pub(crate) fn slot(&self, waiting: &Numbered) -> usize
         ensures value { result ≡ slot_of self.now.waits.slots waiting.now }
         ensures within { result < self.now.waits.slots }
         ensures few { result < 64 }
     {
-        slot_in(self.slots, waiting)
+        slot_in(self.slots, self.mask, waiting)
     }
 
     /// The level's slots that may have parked events.
+    #[inline(always)]
     pub(crate) fn marks(&self, level: usize) -> Places
         requires { level < 4 }
         ensures marked { HasMarks self.now level result }
@@ -93,6 +98,7 @@ impl Parking {
     }
 
     /// The first parked event of the level and the slot. Where there is none, the slot is no longer looked at.
+    #[inline(always)]
     pub(crate) fn parked_front(&mut self, level: usize, slot: usize) -> Option<Numbered>
         requires level { level < 4 }
         requires slot { slot < self.old.waits.slots }
@@ -106,17 +112,19 @@ impl Parking {
         head
     }
 
-    /// Sets the first event of the level's own list aside.
-    pub(crate) fn park(&mut self, level: usize, slot: usize, head: Numbered)
-        requires level { level ≡ level_of head.event }
-        requires slot { slot ≡ slot_of self.old.waits.slots head }
-        requires head { slice_get (list_in self.old level) 0 ≡ Some head }
-        ensures { self.new ≡ with_below self.old level (head.number + 1) }
+    /// Sets the first event of the level's own list aside, which is of the slot.
+    #[cold]
+    pub(crate) fn park(&mut self, level: usize, slot: usize)
+        requires level { level < 4 }
+        requires there { is_some (own_first self.old level) ≡ true }
+        requires slot { IfSome (own_first self.old level) (λ w. slot ≡ slot_of self.old.waits.slots w) }
+        ensures { IfSome (own_first self.old level) (λ w. self.new ≡ with_below self.old level (w.number + 1)) }
     {
-        let _ = self.lists.pop(level);
-        self.lists.push(parked_list(level, slot), head);
-        self.below[level] = head.number + 1;
-        self.parked[level].add(slot);
+        if let Some(head) = self.lists.pop(level) {
+            self.lists.push(parked_list(level, slot), head);
+            self.below[level] = head.number + 1;
+            self.parked[level].add(slot);
+        }
     }
 
     /// The list of the event of this number, which is of the level and the slot.
@@ -134,6 +142,20 @@ impl Parking {
 
     /// Takes the event of this number out, which is of the level and the slot.
     pub(crate) fn remove(&mut self, level: usize, slot: usize, number: u64)
+        requires level { level < 4 }
+        requires slot { slot < self.old.waits.slots }
+        requires only { IsOnlyOf self.old.waits level slot number }
+        ensures value { self.new ≡ with_waits self.old (without_number self.old.waits number) }
+        ensures waits { AreWaits self.new.waits }
+    {
+        if !self.lists.pop_number(level, number) {
+            self.remove_other(level, slot, number);
+        }
+    }
+
+    /// The same, where the event isn't the first one of the level's own list.
+    #[cold]
+    fn remove_other(&mut self, level: usize, slot: usize, number: u64)
         requires level { level < 4 }
         requires slot { slot < self.old.waits.slots }
         requires only { IsOnlyOf self.old.waits level slot number }

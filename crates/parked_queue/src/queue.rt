@@ -1,10 +1,11 @@
 //! What waits in a queue.
 
-ghost use Rattle.std.specs.Prelude.{◌≡◌, ◌+◌, ◌<◌, ◌≤◌, ◌^◌, ◌++◌, length, map, vec_len, vec_capacity, All, IfOk, IfSome, IfNone};
+ghost use Rattle.std.specs.Prelude.{◌≡◌, ◌+◌, ◌<◌, ◌≤◌, ◌^◌, ◌++◌, length, map, vec_len, vec_capacity, All, IsTrue, IfOk, IfSome, IfNone};
 ghost use Rattle.evt_types.specs.Plan.{level_of};
 ghost use Rattle.evt_types.specs.declared.event.Numbered.{Numbered as NumberedValue};
-ghost use Rattle.parked_queue.specs.Waits.{AreLevels, AreWaits, HasNoneAllowed, IsFirstAllowed, no_waits, slot_of, with_event, without_number};
+ghost use Rattle.parked_queue.specs.Waits.{AreLevels, AreWaits, HasNoneAllowed, HasNoneOfSlot, IsFirstAllowed, IsFirstSlot, IsOldest, no_waits, slot_of, with_event, without_number};
 
+use crate::first::Found;
 use crate::parking::Parking;
 use evt_types::{Event, Numbered};
 use place_set::Places;
@@ -71,11 +72,12 @@ impl ParkedQueue {
         self.parking.slot(waiting)
     }
 
-    /// The first event of the level whose slot is allowed. Those before it are set aside, each once.
-    pub fn first(&mut self, level: usize, allowed: Places) -> Option<Numbered>
+    /// The slot of the first event of the level whose slot is allowed. The events before it are set aside, each once.
+    #[inline(always)]
+    pub fn first(&mut self, level: usize, allowed: Places) -> Option<usize>
         requires { level < 4 }
         ensures same { self.new ≡ self.old }
-        ensures first { IfSome result (IsFirstAllowed self.old level allowed) }
+        ensures first { IfSome result (IsFirstSlot self.old level allowed) }
         ensures none { IfNone result (HasNoneAllowed self.old level allowed) }
         ensures waits { AreWaits self.old }
     {
@@ -84,6 +86,38 @@ impl ParkedQueue {
             self.levels.remove(level);
         }
         first
+    }
+
+    /// The first event of the level whose slot is allowed, where that is quick to see. Where it is not, the answer is `None` too.
+    #[inline(always)]
+    pub fn head(&self, level: usize, allowed: Places) -> Option<Found>
+        requires { level < 4 }
+        ensures first { IfSome result (λ f. IsFirstAllowed self.now level allowed f.waiting) }
+        ensures slot { IfSome result (λ f. f.slot ≡ slot_of self.now.slots f.waiting) }
+        ensures waits { AreWaits self.now }
+    {
+        self.parking.head(level, allowed)
+    }
+
+    /// Whether all events of the level are set aside, and none of them has an allowed slot.
+    #[inline(always)]
+    pub fn is_blocked(&self, level: usize, allowed: Places) -> bool
+        requires { level < 4 }
+        ensures { IsTrue result → HasNoneAllowed self.now level allowed }
+    {
+        self.parking.is_blocked(level, allowed)
+    }
+
+    /// The oldest event of the level and the slot. Where it was just found by its slot it is at the head of its list.
+    #[inline(always)]
+    pub fn oldest(&mut self, level: usize, slot: usize) -> Option<Numbered>
+        requires level { level < 4 }
+        requires slot { slot < self.old.slots }
+        ensures same { self.new ≡ self.old }
+        ensures oldest { IfSome result (IsOldest self.old level slot) }
+        ensures none { IfNone result (HasNoneOfSlot self.old level slot) }
+    {
+        self.parking.oldest(level, slot)
     }
 
     /// Takes the event of this number out, which is of the level and the slot. At the head of its list it goes at once; else its

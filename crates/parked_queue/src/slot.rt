@@ -1,6 +1,7 @@
 //! The slot of an event, and the list of a slot's parked events.
 
-ghost use Rattle.std.specs.Prelude.{◌≡◌, ◌<◌, ◌≤◌};
+ghost use Rattle.std.specs.Prelude.{◌≡◌, ◌%◌, ◌<◌, ◌≤◌};
+ghost use Rattle.parked_queue.specs.Marks.{mask_of};
 ghost use Rattle.parked_queue.specs.Parted.{parked_place};
 ghost use Rattle.parked_queue.specs.Waits.{slot_of};
 
@@ -9,19 +10,40 @@ use evt_types::Numbered;
 /// How many levels a queue has.
 pub(crate) const LEVELS: usize = 4;
 
-/// The event's slot, of so many. A power of two needs no division.
-pub(crate) fn slot_in(slots: usize, waiting: &Numbered) -> usize
+/// In place of a mask, and above each, where the slots are no power of two.
+const NO_MASK: usize = 64;
+
+/// The mask for so many slots: one less, where they are a power of two.
+pub(crate) fn mask_for(slots: usize) -> usize
+    requires { 0 < slots }
+    ensures { result ≡ mask_of slots }
+{
+    let mask = slots - 1;
+    if slots & mask == 0 { mask } else { NO_MASK }
+}
+
+/// What a division by the slots leaves of the flow.
+#[cold]
+fn remainder(flow: usize, slots: usize) -> usize
+    requires { 0 < slots }
+    ensures { result ≡ flow % slots }
+{
+    flow % slots
+}
+
+/// The event's slot, of so many with this mask. A power of two needs no division.
+pub(crate) fn slot_in(slots: usize, mask: usize, waiting: &Numbered) -> usize
     requires some { 0 < slots }
     requires few { slots ≤ 64 }
+    requires mask { mask ≡ mask_of slots }
     ensures value { result ≡ slot_of slots waiting.now }
     ensures within { result < slots }
 {
     let flow = waiting.event.flow as usize;
-    let mask = slots - 1;
-    if slots & mask == 0 {
+    if mask < NO_MASK {
         flow & mask
     } else {
-        flow % slots
+        remainder(flow, slots)
     }
 }
 

@@ -37,10 +37,7 @@ pub(crate) fn take_number(lists: &mut WaitingLists, list: usize, number: u64)
     requires rising { IsRising (list_at lists.old list) }
     ensures { lists.new ≡ with_list lists.old list (filter (is_other number) (list_at lists.old list)) }
 {
-    match lists.front(list) {
-        Some(head) if head.number == number => {
-            let _ = lists.pop(list);
-        }
-        _ => turn_all(lists, list, number),
+    if !lists.pop_number(list, number) {
+        turn_all(lists, list, number);
     }
 }

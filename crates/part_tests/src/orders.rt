@@ -67,16 +67,21 @@ fn lane(lane: usize) -> Places
     lanes
 }
 
+/// Which of the first three slots are in the set.
+fn first_three(slots: Places) -> (bool, bool, bool) {
+    (slots.has(0), slots.has(1), slots.has(2))
+}
+
 #[test]
 fn a_held_slot_may_go_to_its_lane_alone(rt: HostRuntime) -> Result<(), Fail> {
     let mut pins = pins_of(rt.alloc(), 3)?;
     pins.pin(1, 2);
-    assert_eq!(rt; pins.may_go(lane(2)), Places::below(3));
-    let mut free = Places::below(3);
-    free.remove(1);
-    assert_eq!(rt; pins.may_go(lane(0)), free);
+    assert_eq!(rt; (pins.holder(0), pins.holder(1)), (None, Some(2)));
+    assert_eq!(rt; first_three(pins.may_go(lane(2))), (true, true, true));
+    assert_eq!(rt; first_three(pins.may_go(lane(0))), (true, false, true));
     pins.unpin(1);
-    assert_eq!(rt; pins.may_go(lane(0)), Places::below(3));
+    assert_eq!(rt; pins.holder(1), None);
+    assert_eq!(rt; first_three(pins.may_go(lane(0))), (true, true, true));
     Ok(())
 }
 

@@ -61,20 +61,36 @@ fn a_blocked_event_is_passed(rt: HostRuntime) -> Result<(), Fail> {
     let mut queue = queue_of(rt.alloc(), 4, 3)?;
     queue.accept(event(1, 10)?);
     queue.accept(event(6, 11)?);
-    let passed = queue.first(2, slot(2)).map(|waiting| waiting.number);
-    assert_eq!(rt; passed, Some(1));
-    let oldest = queue
-        .first(2, Places::below(4))
-        .map(|waiting| waiting.number);
-    assert_eq!(rt; oldest, Some(0));
-    assert!(rt; queue.first(2, slot(3)).is_none());
-    assert!(rt; queue.first(1, Places::below(4)).is_none());
+    assert_eq!(rt; queue.first(2, slot(2)), Some(2));
+    assert_eq!(rt; queue.first(2, Places::below(4)), Some(1));
+    assert_eq!(rt; queue.first(2, slot(3)), None);
+    assert_eq!(rt; queue.first(1, Places::below(4)), None);
     assert_eq!(rt; queue.count(), 2);
     let second = Numbered {
         number: 1,
         event: event(6, 11)?,
     };
+    assert_eq!(rt; queue.oldest(2, 2), Some(second));
+    assert_eq!(rt; queue.oldest(2, 3), None);
     assert_eq!(rt; queue.slot_of(&second), 2);
+    Ok(())
+}
+
+#[test]
+fn the_head_is_seen_at_once(rt: HostRuntime) -> Result<(), Fail> {
+    let mut queue = queue_of(rt.alloc(), 4, 1)?;
+    queue.accept(event(1, 10)?);
+    let head = Numbered {
+        number: 0,
+        event: event(1, 10)?,
+    };
+    let seen = queue.head(2, slot(1));
+    assert_eq!(rt; seen.map(|found| (found.slot, found.waiting)), Some((1, head)));
+    assert!(rt; queue.head(2, slot(3)).is_none());
+    assert!(rt; !queue.is_blocked(2, slot(3)));
+    assert_eq!(rt; queue.first(2, slot(3)), None);
+    assert!(rt; queue.is_blocked(2, slot(3)));
+    assert!(rt; !queue.is_blocked(2, slot(1)));
     Ok(())
 }
 
@@ -113,7 +129,9 @@ fn lists_share_their_room(rt: HostRuntime) -> Result<(), Fail> {
     assert_eq!(rt; lists.pop(1), Some(first));
     assert_eq!(rt; lists.pop(1), None);
     lists.push(0, first);
-    assert_eq!(rt; lists.pop(0), Some(second));
+    assert!(rt; !lists.pop_number(0, 0));
+    assert!(rt; lists.pop_number(0, 1));
+    assert_eq!(rt; lists.pop(0), Some(first));
     Ok(())
 }
 

@@ -116,7 +116,9 @@ impl Places {
         ensures none { IfNone result (IsEmpty self.old) }
     {
         let place = self.first()?;
-        self.remove(place);
+        // The lowest place alone is taken out by this.
+        let bits = self.bits;
+        self.bits = bits & (bits - 1);
         Some(place)
     }
 }

@@ -10,9 +10,10 @@ use Rattle.place_set.specs.declared.places.Places.{Places}
 use Rattle.sched_core.proofs.Cores.{waiting_here, waits_here}
 use Rattle.sched_core.proofs.News.{slots_range}
 use Rattle.sched_core.specs.Inner.{slots_for}
-use Rattle.sched_core.specs.Offered.{HasNoneAllowedIn, IsFirstIn, slot_at}
+use Rattle.sched_core.specs.Offered.{HasNoneAllowedIn, HasNoneOfSlotIn, IsFirstIn, IsFirstSlotIn, IsOldestIn, slot_at}
 use Rattle.sched_core.specs.View.{view_in, IsCore}
-use Rattle.parked_queue.specs.Waits.{Waits, IsFirstAllowed, HasNoneAllowed}
+use Rattle.parked_queue.specs.Waits.{Waits, HasNoneAllowed, HasNoneOfSlot, IsFirstAllowed, IsFirstSlot, IsOldest}
+use Rattle.parked_queue.specs.declared.first.Found.{Found}
 use Rattle.sched_core.specs.declared.state.Core.TheInside.{Inside}
 use Rattle.transcripts.specs.Standing.{View}
 
@@ -39,9 +40,8 @@ module _ (a : Inside) (i : ℕ) (old : Waits) (core : IsCore a) (h : i < length 
   pub slot_in_queue : (w : Numbered) → w.event.flow % old.slots ≡ slot_at (view_in a) i w
   slot_in_queue w = ap (λ n. w.event.flow % n) slots_here ∙ slot_agrees a.shape i w.event.flow
 
-  pub first_of_view : (c : ℕ) (allowed : Places) (o : Option Numbered) → IfSome o (IsFirstAllowed old c allowed) → IfSome o (IsFirstIn (view_in a) i c allowed)
-  first_of_view c allowed None first = tt
-  first_of_view c allowed (Some w) first =
+  first_of_view : (c : ℕ) (allowed : Places) (w : Numbered) → IsFirstAllowed old c allowed w → IsFirstIn (view_in a) i c allowed w
+  first_of_view c allowed w first =
       record {
         waits = subst (λ ws. Contains ws w) (sym (waiting_here a i old h is)) first.waits;
         level = first.level;
@@ -52,8 +52,42 @@ module _ (a : Inside) (i : ℕ) (old : Waits) (core : IsCore a) (h : i < length 
             (first.first here.0 u here.1 (subst (λ (x : Numbered). level_of x.event ≡ c) (sym here.2) level) (subst (λ (x : Numbered). Has allowed (x.event.flow % old.slots)) (sym here.2) (subst (Has allowed) (sym (slot_in_queue u)) has)));
       }
 
-  pub none_of_view : (c : ℕ) (allowed : Places) (o : Option Numbered) → IfNone o (HasNoneAllowed old c allowed) → IfNone o (HasNoneAllowedIn (view_in a) i c allowed)
-  none_of_view c allowed None none = λ u waits level has.
+  pub head_of_view : (c : ℕ) (allowed : Places) (o : Option Found) → IfSome o (λ (f : Found). IsFirstAllowed old c allowed f.waiting) → IfSome o (λ (f : Found). IsFirstIn (view_in a) i c allowed f.waiting)
+  head_of_view c allowed None first = tt
+  head_of_view c allowed (Some f) first = first_of_view c allowed f.waiting first
+
+  pub head_slot_of_view : (o : Option Found) → IfSome o (λ (f : Found). f.slot ≡ f.waiting.event.flow % old.slots) → IfSome o (λ (f : Found). f.slot ≡ slot_at (view_in a) i f.waiting)
+  head_slot_of_view None slot = tt
+  head_slot_of_view (Some f) slot = slot ∙ slot_in_queue f.waiting
+
+  pub first_slot_of_view : (c : ℕ) (allowed : Places) (o : Option ℕ) → IfSome o (IsFirstSlot old c allowed) → IfSome o (IsFirstSlotIn (view_in a) i c allowed)
+  first_slot_of_view c allowed None first = tt
+  first_slot_of_view c allowed (Some slot) first = record { waiting = first.waiting; first = first_of_view c allowed first.waiting first.first; is = first.is ∙ slot_in_queue first.waiting }
+
+  pub oldest_of_view : (c s : ℕ) (o : Option Numbered) → IfSome o (IsOldest old c s) → IfSome o (IsOldestIn (view_in a) i c s)
+  oldest_of_view c s None oldest = tt
+  oldest_of_view c s (Some w) oldest =
+      record {
+        waits = subst (λ ws. Contains ws w) (sym (waiting_here a i old h is)) oldest.waits;
+        level = oldest.level;
+        slot = sym (slot_in_queue w) ∙ oldest.slot;
+        first = λ u waits level slot.
+            let here : Contains old.waiting u = waits_here a i old u h is waits in
+            subst (λ (x : Numbered). w.number ≤ x.number) here.2
+            (oldest.first here.0 u here.1 (subst (λ (x : Numbered). level_of x.event ≡ c) (sym here.2) level) (subst (λ (x : Numbered). x.event.flow % old.slots ≡ s) (sym here.2) (slot_in_queue u ∙ slot)));
+      }
+
+  pub none_of_slot_view : (c s : ℕ) (o : Option Numbered) → IfNone o (HasNoneOfSlot old c s) → IfNone o (HasNoneOfSlotIn (view_in a) i c s)
+  none_of_slot_view c s None none = λ u waits level slot.
+      let here : Contains old.waiting u = waits_here a i old u h is waits in
+      none here.0 u here.1 (subst (λ (x : Numbered). level_of x.event ≡ c) (sym here.2) level) (subst (λ (x : Numbered). x.event.flow % old.slots ≡ s) (sym here.2) (slot_in_queue u ∙ slot))
+  none_of_slot_view c s (Some w) none = tt
+
+  pub none_in_view : (c : ℕ) (allowed : Places) → HasNoneAllowed old c allowed → HasNoneAllowedIn (view_in a) i c allowed
+  none_in_view c allowed none = λ u waits level has.
       let here : Contains old.waiting u = waits_here a i old u h is waits in
       none here.0 u here.1 (subst (λ (x : Numbered). level_of x.event ≡ c) (sym here.2) level) (subst (λ (x : Numbered). Has allowed (x.event.flow % old.slots)) (sym here.2) (subst (Has allowed) (sym (slot_in_queue u)) has))
+
+  pub none_of_view : (c : ℕ) (allowed : Places) (o : Option ℕ) → IfNone o (HasNoneAllowed old c allowed) → IfNone o (HasNoneAllowedIn (view_in a) i c allowed)
+  none_of_view c allowed None none = none_in_view c allowed none
   none_of_view c allowed (Some w) none = tt

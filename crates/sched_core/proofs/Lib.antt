@@ -5,6 +5,7 @@ pub mod FirstOnes
 pub mod Giving
 pub mod Roomy
 pub mod KeptLists
+pub mod LaneSets
 pub mod OpenLanes
 pub mod Leaving
 pub mod Links

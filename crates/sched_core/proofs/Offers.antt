@@ -1,7 +1,7 @@
 -- How an offer is found: a lane that is free for the slot, a lane for the event, the event of the queue, the queue.
-use Rattle.std.proofs.Common.{◌≡◌, ◌≢◌, ℕ, ◌+◌, ◌<◌, ◌≤◌, ◌%◌, Bool, true, false, cond, nat_lt, ◌&&◌, ◌==◌, List, [], ◌⊎◌, length, get_or, All, Option, Some, None, inl, inr, ⊎_elim, refl, sym, ap, ◌∙◌, subst, arith, eq-eqb, eqb-true}
+use Rattle.std.proofs.Common.{◌≡◌, ◌≢◌, ℕ, ◌<◌, ◌≤◌, ◌%◌, Bool, true, false, cond, nat_lt, ◌&&◌, ◌==◌, List, [], ◌⊎◌, length, get_or, All, Option, Some, None, inl, inr, ⊎_elim, refl, sym, ap, ◌∙◌, subst, arith, eq-eqb, eqb-true}
 use Rattle.std.specs.Option.{IfSome, IfNone, is_some}
-use Rattle.std.proofs.lemmas.Bool.{and_from, and_parts, or_cases, or_right, cases_eq, cases_lt, false≢true, false_from_ne_true, ltb-true, ltb-false, lt-ltb}
+use Rattle.std.proofs.lemmas.Bool.{and_from, and_parts, or_cases, or_left, or_right, cases_eq, false≢true, false_from_ne_true, ltb-true, ltb-false, lt-ltb}
 use Rattle.std.proofs.lemmas.List.{get_or_default}
 use Rattle.transcripts.proofs.WholeStands.{offer_is_allowed, offer_is_accepted}
 use Rattle.transcripts.specs.Allowed.{Allowed}
@@ -19,8 +19,9 @@ use Rattle.evt_types.specs.declared.step.Step.TheVariants.{Give}
 use Rattle.place_set.specs.Places.{Has, IsEmpty, IsFirst, SameBut}
 use Rattle.place_set.specs.declared.places.Places.{Places}
 use Rattle.sched_core.specs.Inner.{slots_for}
-use Rattle.sched_core.specs.Offered.{numbered_in, FitsSlot, HasAllowed, HasNoneAllowedIn, HasNoneIn, IsFirstIn, IsOfferIn, IsOfferOf, is_ahead, slot_at}
+use Rattle.sched_core.specs.Offered.{numbered_in, FitsSlot, HasAllowed, HasNoneAllowedIn, HasNoneIn, HasNoneOfSlotIn, IsBestChoice, IsChoiceIn, IsChoiceOf, IsFirstIn, IsOfferIn, IsOfferOf, IsOldestIn, is_ahead, slot_at}
 use Rattle.sched_core.specs.declared.offer.Offer.{Offer}
+use Rattle.sched_core.specs.declared.propose.Choice.{Choice}
 
 -- ---- the better one of two lanes
 
@@ -53,24 +54,26 @@ fits_slot v s l q w fits = record { lane = fits.lane; ready = fits.ready; linked
 pub none_in : (v : View) (s : Passed) (q c : ℕ) (allowed : Places) → HasAllowed v s q allowed → ((w : Numbered) → slot_at v q w < slots_for v.shape q) → HasNoneAllowedIn v q c allowed → HasNoneIn v s q c
 none_in v s q c allowed has within none w waits level m fits = none w waits level (has (slot_at v q w) (within w) (m, fits_slot v s m q w fits))
 
+-- where every slot is allowed none is missing
+pub all_allowed : (v : View) (s : Passed) (q : ℕ) (all : Places) → ((slot : ℕ) → slot < slots_for v.shape q → Has all slot) → HasAllowed v s q all
+all_allowed v s q all has slot within some = has slot within
+
 -- the first event of an allowed slot, for the best lane that may take it
-pub offer_in : (v : View) (s : Passed) (q c : ℕ) (allowed : Places) (w : Numbered) (o : Option Offer) → HasAllowed v s q allowed → ((u : Numbered) → slot_at v q u < slots_for v.shape q) → IsFirstIn v q c allowed w
-    → IfSome o (λ x. (numbered_in x.delivery ≡ w) × (x.delivery.queue ≡ q)) → IfSome o (λ x. Fits v s x.lane q w) → IfSome o (λ x. (m : ℕ) → Fits v s m q w → ¬ IsBetterLane v m x.lane) → IfSome o (IsOfferIn v s q c)
-offer_in v s q c allowed w None has within first same fits best = tt
-offer_in v s q c allowed w (Some x) has within first same fits best =
+pub offer_in : (v : View) (s : Passed) (q c l slot : ℕ) (allowed : Places) (w : Numbered) → HasAllowed v s q allowed → ((u : Numbered) → slot_at v q u < slots_for v.shape q) → IsFirstIn v q c allowed w → slot ≡ slot_at v q w
+    → FitsSlot v s q slot l → ((m : ℕ) → FitsSlot v s q slot m → ¬ IsBetterLane v m l) → IsOfferIn v s q c l w
+offer_in v s q c l slot allowed w has within first is fits best =
     record {
-      queue = same.1;
-      level = subst (λ (u : Numbered). level_of u.event ≡ c) (sym same.0) first.level;
-      waits = subst (WaitsIn v q) (sym same.0) first.waits;
-      fits = subst (Fits v s x.lane q) (sym same.0) fits;
-      best = λ m fits_m. best m (subst (Fits v s m q) same.0 fits_m);
-      first = λ u m waits level fits_m. subst (λ n. n ≤ u.number) (sym (ap (λ (y : Numbered). y.number) same.0)) (first.first u waits level (has (slot_at v q u) (within u) (m, fits_slot v s m q u fits_m)));
+      level = first.level;
+      waits = first.waits;
+      fits = slot_fits v s l q w (subst (λ k. FitsSlot v s q k l) is fits);
+      best = λ m fits_m. best m (subst (λ k. FitsSlot v s q k m) (sym is) (fits_slot v s m q w fits_m));
+      first = λ u m waits level fits_m. first.first u waits level (has (slot_at v q u) (within u) (m, fits_slot v s m q u fits_m));
     }
 
 -- the slot of an event that no lane may take need not be asked again
-pub allowed_rest : (v : View) (s : Passed) (q slot : ℕ) (allowed rest : Places) (w : Numbered) → slot ≡ slot_at v q w → ((m : ℕ) → ¬ Fits v s m q w) → SameBut slot allowed rest → HasAllowed v s q allowed → HasAllowed v s q rest
-allowed_rest v s q slot allowed rest w is none others has t within some =
-    ⊎_elim (λ e. absurd (none some.0 (slot_fits v s some.0 q w (subst (λ k. FitsSlot v s q k some.0) (e ∙ is) some.1)))) (λ ne. (others t ne).1 (has t within some)) (cases_eq t slot)
+pub allowed_rest : (v : View) (s : Passed) (q slot : ℕ) (allowed rest : Places) → ((m : ℕ) → ¬ FitsSlot v s q slot m) → SameBut slot allowed rest → HasAllowed v s q allowed → HasAllowed v s q rest
+allowed_rest v s q slot allowed rest none others has t within some =
+    ⊎_elim (λ e. absurd (none some.0 (subst (λ k. FitsSlot v s q k some.0) e some.1))) (λ ne. (others t ne).1 (has t within some)) (cases_eq t slot)
 
 -- ---- a walk over places
 
@@ -94,31 +97,45 @@ level_more v s q c left next others here none k never = ⊎_elim (λ e. subst (H
 pub none_beside : (v : View) (s : Passed) (q : ℕ) (left : Places) → IsEmpty left → HasNoneBeside v s q left → HasNone v s q
 none_beside v s q left empty none w waits m fits = none (level_of w.event) (empty (level_of w.event)) w waits refl m fits
 
-not_earlier : (v : View) (s : Passed) (q c : ℕ) (left : Places) (o : Offer) → IsFirst left c → HasNoneBeside v s q left → IsOfferIn v s q c o → (u : Numbered) (m : ℕ) → WaitsIn v q u → Fits v s m q u → is_earlier u (numbered_in o.delivery) ≡ false
-not_earlier v s q c left o least none offer u m waits fits =
-    false_from_ne_true (is_earlier u (numbered_in o.delivery)) (λ earlier. ⊎_elim
+not_earlier : (v : View) (s : Passed) (q c l : ℕ) (left : Places) (w : Numbered) → IsFirst left c → HasNoneBeside v s q left → IsOfferIn v s q c l w → (u : Numbered) (m : ℕ) → WaitsIn v q u → Fits v s m q u → is_earlier u w ≡ false
+not_earlier v s q c l left w least none offer u m waits fits =
+    false_from_ne_true (is_earlier u w) (λ earlier. ⊎_elim
     (λ lower. let under : level_of u.event < c = subst (λ n. level_of u.event < n) offer.level (ltb-true _ _ lower) in none (level_of u.event) (λ has. let le = least.first (level_of u.event) has in omega arith) u waits refl m fits)
     (λ same.
-    let parts = and_parts (level_of u.event == level_of o.delivery.event) (nat_lt u.number o.delivery.number) same in
-    let less : u.number < o.delivery.number = ltb-true _ _ parts.1 in
-    let le : o.delivery.number ≤ u.number = offer.first u m waits (eqb-true (level_of u.event) (level_of o.delivery.event) parts.0 ∙ offer.level) fits in
+    let parts = and_parts (level_of u.event == level_of w.event) (nat_lt u.number w.number) same in
+    let less : u.number < w.number = ltb-true _ _ parts.1 in
+    let le : w.number ≤ u.number = offer.first u m waits (eqb-true (level_of u.event) (level_of w.event) parts.0 ∙ offer.level) fits in
     omega arith)
-    (or_cases (nat_lt (level_of u.event) (level_of o.delivery.event)) ((level_of u.event == level_of o.delivery.event) && nat_lt u.number o.delivery.number) earlier))
+    (or_cases (nat_lt (level_of u.event) (level_of w.event)) ((level_of u.event == level_of w.event) && nat_lt u.number w.number) earlier))
 
-pub offer_first : (v : View) (s : Passed) (q c : ℕ) (left : Places) (o : Option Offer) → IsFirst left c → HasNoneBeside v s q left → IfSome o (IsOfferIn v s q c) → IfSome o (IsOfferOf v s q)
+pub choice_first : (v : View) (s : Passed) (q c : ℕ) (left : Places) (o : Option Choice) → IsFirst left c → HasNoneBeside v s q left → IfSome o (IsChoiceIn v s q c) → IfSome o (IsChoiceOf v s q)
+choice_first v s q c left None least none choice = tt
+choice_first v s q c left (Some x) least none choice =
+    let offer = choice.offer in
+    record { waiting = choice.waiting; place = choice.place; offer = record { waits = offer.waits; fits = offer.fits; best = offer.best; first = not_earlier v s q c x.lane left choice.waiting least none offer } }
+
+-- an offer of the queue, and one of its level
+abbrev pub IsOfferFrom : View → Passed → ℕ → Offer → Type 0
+IsOfferFrom v s q y = (y.delivery.queue ≡ q) × IsOfferOf v s q y.lane (numbered_in y.delivery)
+
+abbrev pub IsOfferAt : View → Passed → ℕ → ℕ → Offer → Type 0
+IsOfferAt v s q c y = (y.delivery.queue ≡ q) × IsOfferIn v s q c y.lane (numbered_in y.delivery)
+
+pub offer_first : (v : View) (s : Passed) (q c : ℕ) (left : Places) (o : Option Offer) → IsFirst left c → HasNoneBeside v s q left → IfSome o (IsOfferAt v s q c) → IfSome o (IsOfferFrom v s q)
 offer_first v s q c left None least none offer = tt
-offer_first v s q c left (Some x) least none offer = record { queue = offer.queue; waits = offer.waits; fits = offer.fits; best = offer.best; first = not_earlier v s q c left x least none offer }
+offer_first v s q c left (Some y) least none offer =
+    let this = offer.1 in (offer.0, record { waits = this.waits; fits = this.fits; best = this.best; first = not_earlier v s q c y.lane left (numbered_in y.delivery) least none this })
 
 -- ---- the queue
 
--- the best offer of the queues that aren't left to look at
-abbrev pub IsBestBeside : View → Passed → Places → Option Offer → Type 0
+-- the best choice of the queues that aren't left to look at
+abbrev pub IsBestBeside : View → Passed → Places → Option Choice → Type 0
 IsBestBeside v s left None = (q : ℕ) → (¬ Has left q) → HasQuota v s q → HasNone v s q
 IsBestBeside v s left (Some o) =
-    (o.delivery.queue < length v.shape.queues) × HasQuota v s o.delivery.queue × IsOfferOf v s o.delivery.queue o
-    × ((r : ℕ) → (¬ Has left r) → HasQuota v s r → IsServedBefore v.shape r o.delivery.queue → HasNone v s r) × ((r : ℕ) → Has left r → o.delivery.queue < r)
+    (o.queue < length v.shape.queues) × HasQuota v s o.queue × IsChoiceOf v s o.queue o
+    × ((r : ℕ) → (¬ Has left r) → HasQuota v s r → IsServedBefore v.shape r o.queue → HasNone v s r) × ((r : ℕ) → Has left r → o.queue < r)
 
-pub best_queue : (v : View) (s : Passed) (left : Places) (o : Option Offer) → IsBestBeside v s left o → IfSome o (λ x. x.delivery.queue < length v.shape.queues)
+pub best_queue : (v : View) (s : Passed) (left : Places) (o : Option Choice) → IsBestBeside v s left o → IfSome o (λ x. x.queue < length v.shape.queues)
 best_queue v s left None best = tt
 best_queue v s left (Some x) best = best.0
 
@@ -130,10 +147,10 @@ above n r left rest first gone others has =
 pub still : (n r : ℕ) (left rest : Places) → (¬ Has rest n) → SameBut n left rest → Has rest r → Has left r
 still n r left rest gone others has = ⊎_elim (λ e. absurd (gone (subst (Has rest) e has))) (λ ne. (others r ne).0 has) (cases_eq r n)
 
--- the queues whose offers are looked at next, one taken out
+-- the queues whose choices are looked at next, one taken out
 module _ (v : View) (s : Passed) (n : ℕ) (left rest : Places) (first : IsFirst left n) (gone : ¬ Has rest n) (others : SameBut n left rest) where
   -- a queue whose events no lane may take
-  pub best_none : (o : Option Offer) → (HasQuota v s n → HasNone v s n) → IsBestBeside v s left o → IsBestBeside v s rest o
+  pub best_none : (o : Option Choice) → (HasQuota v s n → HasNone v s n) → IsBestBeside v s left o → IsBestBeside v s rest o
   best_none None none best = λ q never quota. ⊎_elim (λ e. subst (HasNone v s) (sym e) (none (subst (HasQuota v s) e quota))) (λ before. best q before quota) (beside n q left rest others never)
   best_none (Some x) none best = (
     best.0,
@@ -143,43 +160,43 @@ module _ (v : View) (s : Passed) (n : ℕ) (left rest : Places) (first : IsFirst
     λ r has. best.4 r (above n r left rest first gone others has).1,
   )
 
-  -- a queue that is served after the offer's
-  pub best_later : (o : Option Offer) → is_ahead v.shape n o ≡ false → IsBestBeside v s left o → IsBestBeside v s rest o
+  -- a queue that is served after the choice's
+  pub best_later : (o : Option Choice) → is_ahead v.shape n o ≡ false → IsBestBeside v s left o → IsBestBeside v s rest o
   best_later None behind best = absurd (false≢true (sym behind))
   best_later (Some x) behind best =
-      let lt : x.delivery.queue < n = best.4 n first.there in
-      let le : (queue_of v.shape x.delivery.queue).priority ≤ (queue_of v.shape n).priority = ltb-false _ _ behind in (
+      let lt : x.queue < n = best.4 n first.there in
+      let le : (queue_of v.shape x.queue).priority ≤ (queue_of v.shape n).priority = ltb-false _ _ behind in (
         best.0,
         best.1,
         best.2,
-        λ r never quota before. ⊎_elim (λ e. absurd (not_before lt le (subst (λ k. IsServedBefore v.shape k x.delivery.queue) e before))) (λ was. best.3 r was quota before) (beside n r left rest others never),
+        λ r never quota before. ⊎_elim (λ e. absurd (not_before lt le (subst (λ k. IsServedBefore v.shape k x.queue) e before))) (λ was. best.3 r was quota before) (beside n r left rest others never),
         λ r has. best.4 r (above n r left rest first gone others has).1,
       )
     where
-      not_before : x.delivery.queue < n → (queue_of v.shape x.delivery.queue).priority ≤ (queue_of v.shape n).priority → ¬ IsServedBefore v.shape n x.delivery.queue
+      not_before : x.queue < n → (queue_of v.shape x.queue).priority ≤ (queue_of v.shape n).priority → ¬ IsServedBefore v.shape n x.queue
       not_before lt le (inl lower) = omega arith
       not_before lt le (inr same) = let less = same.1 in omega arith
 
-  -- what stands before a queue ahead of the offer stands before the offer
-  served_ahead : (o : Option Offer) → is_ahead v.shape n o ≡ true → IsBestBeside v s left o → (r : ℕ) → (¬ Has left r) → HasQuota v s r → IsServedBefore v.shape r n → HasNone v s r
+  -- what stands before a queue ahead of the choice stands before the choice
+  served_ahead : (o : Option Choice) → is_ahead v.shape n o ≡ true → IsBestBeside v s left o → (r : ℕ) → (¬ Has left r) → HasQuota v s r → IsServedBefore v.shape r n → HasNone v s r
   served_ahead None ahead best r never quota before = best r never quota
   served_ahead (Some x) ahead best r never quota before = best.3 r never quota (inl (lower before))
     where
-      lt : (queue_of v.shape n).priority < (queue_of v.shape x.delivery.queue).priority
+      lt : (queue_of v.shape n).priority < (queue_of v.shape x.queue).priority
       lt = ltb-true _ _ ahead
 
-      lower : IsServedBefore v.shape r n → (queue_of v.shape r).priority < (queue_of v.shape x.delivery.queue).priority
+      lower : IsServedBefore v.shape r n → (queue_of v.shape r).priority < (queue_of v.shape x.queue).priority
       lower (inl less) = let l = lt in omega arith
       lower (inr same) = let l = lt in let e = same.0 in omega arith
 
-  -- a queue ahead of the offer, with an offer of its own
-  pub best_more : (o next : Option Offer) → n < length v.shape.queues → HasQuota v s n → is_ahead v.shape n o ≡ true → is_some next ≡ true → IfSome next (IsOfferOf v s n) → IsBestBeside v s left o → IsBestBeside v s rest next
-  best_more o None within quota ahead some offer best = absurd (false≢true some)
-  best_more o (Some x) within quota ahead some offer best =
-      let e : x.delivery.queue ≡ n = offer.queue in (
+  -- a queue ahead of the choice, with a choice of its own
+  pub best_more : (o next : Option Choice) → n < length v.shape.queues → HasQuota v s n → is_ahead v.shape n o ≡ true → is_some next ≡ true → IfSome next (IsChoiceOf v s n) → IsBestBeside v s left o → IsBestBeside v s rest next
+  best_more o None within quota ahead some choice best = absurd (false≢true some)
+  best_more o (Some x) within quota ahead some choice best =
+      let e : x.queue ≡ n = choice.place.queue in (
         omega arith,
         subst (HasQuota v s) (sym e) quota,
-        subst (λ q. IsOfferOf v s q x) (sym e) offer,
+        subst (λ q. IsChoiceOf v s q x) (sym e) choice,
         λ r never quota_r before.
             let before_n : IsServedBefore v.shape r n = subst (IsServedBefore v.shape r) e before in
             ⊎_elim (λ same. absurd (not_itself_before v.shape n (subst (λ k. IsServedBefore v.shape k n) same before_n))) (λ was. served_ahead o ahead best r was quota_r before_n) (beside n r left rest others never),
@@ -190,23 +207,107 @@ module _ (v : View) (s : Passed) (n : ℕ) (left rest : Places) (first : IsFirst
       not_itself_before p k (inl less) = omega arith
       not_itself_before p k (inr same) = let less = same.1 in omega arith
 
--- the offer of all queues is the choice
-pub best_choice : (v : View) (s : Passed) (left : Places) (o : Option Offer) → IsEmpty left → IsBestBeside v s left o → IfSome o (λ x. IsChoice v s x.lane x.delivery.queue (numbered_in x.delivery))
-best_choice v s left None none best = tt
-best_choice v s left (Some x) none best =
+-- a queue's offer is the choice where the queues that are served before have none
+choice_is : (v : View) (s : Passed) (q l : ℕ) (w : Numbered) → q < length v.shape.queues → HasQuota v s q → IsOfferOf v s q l w → ((r : ℕ) → HasQuota v s r → IsServedBefore v.shape r q → HasNone v s r) → IsChoice v s l q w
+choice_is v s q l w there quota offer before = record { there = there; quota = quota; waits = offer.waits; fits = offer.fits; lane = offer.best; event = offer.first; queue = λ r _ quota first. before r quota first }
+
+-- ---- the event that is read where the choice says
+
+-- the oldest event of the place is as good as the level's one that was chosen
+oldest_at : (v : View) (s : Passed) (q c l : ℕ) (w u : Numbered) → IsOfferIn v s q c l w → IsOldestIn v q c (slot_at v q w) u → IsOfferIn v s q c l u
+oldest_at v s q c l w u offer oldest =
     record {
-      there = best.0;
-      quota = best.1;
-      waits = best.2.waits;
-      fits = best.2.fits;
-      lane = best.2.best;
-      event = best.2.first;
-      queue = λ r _ quota before. best.3 r (none r) quota before;
+      level = oldest.level;
+      waits = oldest.waits;
+      fits = slot_fits v s l q u (subst (λ k. FitsSlot v s q k l) (sym oldest.slot) (fits_slot v s l q w offer.fits));
+      best = λ m fits. offer.best m (slot_fits v s m q w (subst (λ k. FitsSlot v s q k m) oldest.slot (fits_slot v s m q u fits)));
+      first = λ x m waits level fits. let le = offer.first x m waits level fits in let less = oldest.first w offer.waits offer.level refl in omega arith;
     }
 
-pub best_of_none : (v : View) (s : Passed) (left : Places) (o : Option Offer) → IsEmpty left → IsBestBeside v s left o → IfNone o (HasNoChoice v s)
+-- the level's offer is read where its choice says
+pub offer_there : (v : View) (s : Passed) (q c : ℕ) (x : Choice) (o : Option Offer) → IsChoiceIn v s q c x → IfSome o (λ y. (y.lane ≡ x.lane) × (y.delivery.queue ≡ x.queue)) → IfSome o (λ y. IsOldestIn v x.queue x.level x.slot (numbered_in y.delivery)) → IfSome o (IsOfferAt v s q c)
+offer_there v s q c x None choice place oldest = tt
+offer_there v s q c x (Some y) choice place oldest =
+    let w = choice.waiting in
+    let level : x.level ≡ c = sym choice.place.level ∙ choice.offer.level in
+    let at_queue : IsOldestIn v q x.level x.slot (numbered_in y.delivery) = subst (λ k. IsOldestIn v k x.level x.slot (numbered_in y.delivery)) choice.place.queue oldest in
+    let at_level : IsOldestIn v q c x.slot (numbered_in y.delivery) = subst (λ k. IsOldestIn v q k x.slot (numbered_in y.delivery)) level at_queue in
+    let at_slot : IsOldestIn v q c (slot_at v q w) (numbered_in y.delivery) = subst (λ k. IsOldestIn v q c k (numbered_in y.delivery)) (sym choice.place.slot) at_level in
+    (place.1 ∙ choice.place.queue, subst (λ l. IsOfferIn v s q c l (numbered_in y.delivery)) (sym place.0) (oldest_at v s q c x.lane w (numbered_in y.delivery) choice.offer at_slot))
+
+-- an event waits where the level's choice says
+pub none_there : (v : View) (s : Passed) (q c : ℕ) (x : Choice) (o : Option Offer) → IsChoiceIn v s q c x → IfNone o (HasNoneOfSlotIn v x.queue x.level x.slot) → IfNone o (HasNoneIn v s q c)
+none_there v s q c x None choice gone =
+    let w = choice.waiting in
+    absurd (subst (λ k. HasNoneOfSlotIn v k x.level x.slot) choice.place.queue gone w choice.offer.waits choice.place.level choice.place.slot)
+none_there v s q c x (Some y) choice gone = tt
+
+-- the oldest event of the place is as good as the one that was chosen
+oldest_too : (v : View) (s : Passed) (q l : ℕ) (w u : Numbered) → IsOfferOf v s q l w → IsOldestIn v q (level_of w.event) (slot_at v q w) u → IsOfferOf v s q l u
+oldest_too v s q l w u offer oldest =
+    record {
+      waits = oldest.waits;
+      fits = slot_fits v s l q u (subst (λ k. FitsSlot v s q k l) (sym oldest.slot) (fits_slot v s l q w offer.fits));
+      best = λ m fits. offer.best m (slot_fits v s m q w (subst (λ k. FitsSlot v s q k m) oldest.slot (fits_slot v s m q u fits)));
+      first = λ x m waits fits. later x (offer.first x m waits fits);
+    }
+  where
+    le : u.number ≤ w.number
+    le = oldest.first w offer.waits refl refl
+
+    later : (x : Numbered) → is_earlier x w ≡ false → is_earlier x u ≡ false
+    later x before =
+        false_from_ne_true (is_earlier x u) (λ earlier. false≢true (sym before ∙ ⊎_elim
+        (λ lower. or_left (nat_lt (level_of x.event) (level_of w.event)) ((level_of x.event == level_of w.event) && nat_lt x.number w.number) (lt-ltb _ _ (subst (λ n. level_of x.event < n) oldest.level (ltb-true _ _ lower))))
+        (λ same.
+        let parts = and_parts (level_of x.event == level_of u.event) (nat_lt x.number u.number) same in
+        let less : x.number < u.number = ltb-true _ _ parts.1 in
+        or_right (nat_lt (level_of x.event) (level_of w.event)) ((level_of x.event == level_of w.event) && nat_lt x.number w.number) (and_from _ _ (eq-eqb _ _ (eqb-true (level_of x.event) (level_of u.event) parts.0 ∙ oldest.level)) (lt-ltb x.number w.number (omega arith))))
+        (or_cases (nat_lt (level_of x.event) (level_of u.event)) ((level_of x.event == level_of u.event) && nat_lt x.number u.number) earlier)))
+
+module _ (v : View) (s : Passed) (x : Choice) (best : IsBestChoice v s x) where
+  read : (w : Numbered) → IsOldestIn v x.queue x.level x.slot w → IsOfferOf v s x.queue x.lane w
+  read w oldest =
+      let chosen = best.choice in
+      oldest_too v s x.queue x.lane chosen.waiting w chosen.offer
+      (subst (λ k. IsOldestIn v x.queue (level_of chosen.waiting.event) k w) (sym chosen.place.slot) (subst (λ k. IsOldestIn v x.queue k x.slot w) (sym chosen.place.level) oldest))
+
+  -- the offer of all queues is the choice
+  pub best_choice : (o : Option Offer) → IfSome o (λ y. (y.lane ≡ x.lane) × (y.delivery.queue ≡ x.queue)) → IfSome o (λ y. IsOldestIn v x.queue x.level x.slot (numbered_in y.delivery)) → IfSome o (λ y. IsChoice v s y.lane y.delivery.queue (numbered_in y.delivery))
+  best_choice None place oldest = tt
+  best_choice (Some y) place oldest =
+      subst (λ l. IsChoice v s l y.delivery.queue (numbered_in y.delivery)) (sym place.0)
+      (subst (λ q. IsChoice v s x.lane q (numbered_in y.delivery)) (sym place.1)
+      (choice_is v s x.queue x.lane (numbered_in y.delivery) best.there best.quota (read (numbered_in y.delivery) oldest) best.queue))
+
+  -- an event waits where the choice says
+  pub best_there : (o : Option Offer) → IfNone o (HasNoneOfSlotIn v x.queue x.level x.slot) → IfNone o (HasNoChoice v s)
+  best_there None gone = absurd (gone best.choice.waiting best.choice.offer.waits best.choice.place.level best.choice.place.slot)
+  best_there (Some y) gone = tt
+
+-- once no queue is left to look at
+pub best_of_all : (v : View) (s : Passed) (left : Places) (o : Option Choice) → IsEmpty left → IsBestBeside v s left o → IfSome o (IsBestChoice v s)
+best_of_all v s left None none best = tt
+best_of_all v s left (Some x) none best = record { there = best.0; quota = best.1; choice = best.2; queue = λ r quota before. best.3 r (none r) quota before }
+
+pub best_of_none : (v : View) (s : Passed) (left : Places) (o : Option Choice) → IsEmpty left → IsBestBeside v s left o → IfNone o (HasNoChoice v s)
 best_of_none v s left None none best = λ q _ quota. best q (none q) quota
 best_of_none v s left (Some x) none best = tt
+
+-- something waits in one queue alone
+module _ (v : View) (s : Passed) (n : ℕ) (others : (r : ℕ) → r ≢ n → HasNone v s r) where
+  pub alone_choice : (o : Option Offer) → n < length v.shape.queues → HasQuota v s n → IfSome o (IsOfferFrom v s n) → IfSome o (λ y. IsChoice v s y.lane y.delivery.queue (numbered_in y.delivery))
+  alone_choice None there quota offer = tt
+  alone_choice (Some y) there quota offer =
+      subst (λ q. IsChoice v s y.lane q (numbered_in y.delivery)) (sym offer.0)
+      (choice_is v s n y.lane (numbered_in y.delivery) there quota offer.1 (λ r _ before. others r (λ e. not_before (subst (λ k. IsServedBefore v.shape k n) e before))))
+    where
+      not_before : ¬ IsServedBefore v.shape n n
+      not_before (inl less) = omega arith
+      not_before (inr same) = let less = same.1 in omega arith
+
+  pub alone_none : (HasQuota v s n → HasNone v s n) → HasNoChoice v s
+  alone_none none r _ quota = ⊎_elim (λ e. subst (HasNone v s) (sym e) (none (subst (HasQuota v s) e quota))) (others r) (cases_eq r n)
 
 -- where nothing waits nothing is offered
 pub none_waits : (v : View) (s : Passed) (q : ℕ) → waiting_at v q ≡ [] → HasNone v s q

@@ -1,5 +1,5 @@
--- Which lanes are open to a queue, and the best of them: a walk over a set of lanes, and what flow lanes serve.
-use Rattle.std.proofs.Common.{◌≡◌, ◌≢◌, ℕ, ◌+◌, ◌*◌, ◌-◌, ◌/◌, ◌%◌, ◌<◌, ◌≤◌, Bool, true, false, not, cond, nat_le, ◌==◌, List, [], ◌∷◌, length, map, get_or, All, Option, Some, None, inl, inr, ◌⊎◌, ⊎_elim, refl, sym, ap, ◌∙◌, subst, arith, eqb-true, if◌then◌else◌}
+-- Which lanes are open to a queue, and the best of them: a walk over a set of lanes, the lane of a pinned slot, and what flow lanes serve.
+use Rattle.std.proofs.Common.{◌≡◌, ◌≢◌, ℕ, ◌+◌, ◌*◌, ◌-◌, ◌/◌, ◌%◌, ◌^◌, ◌<◌, ◌≤◌, Bool, true, false, not, cond, nat_le, ◌==◌, List, [], ◌∷◌, length, map, get_or, All, Option, Some, None, inl, inr, ◌⊎◌, ⊎_elim, refl, sym, ap, ◌∙◌, subst, arith, eqb-true, if◌then◌else◌}
 use Rattle.std.specs.Prelude.{◌↔◌}
 use Rattle.std.specs.Option.{IfSome, IfNone}
 use Rattle.std.proofs.lemmas.Bool.{and_from, and_parts, and_right, cond-true, cases_eq, cases_lt, false≢true, false_from_ne_true, leb-true, leb-false}
@@ -11,13 +11,15 @@ use Rattle.std.proofs.lemmas.List.Elements.{All-nil, All-map, All-append, All-he
 use Rattle.std.proofs.lemmas.List.Concat.{flat_map-cons}
 use Rattle.std.proofs.lemmas.List.{length-map}
 use Rattle.std.proofs.lemmas.Nat.{div-mul-add, mod-mul-add}
+use Rattle.std.proofs.lemmas.Nat.Bits.{bit_at_above}
 use Rattle.std.proofs.lemmas.Option.{get_or_from_slice_get, slice_get_within}
 use Rattle.lists.specs.Lists.{has}
 use Rattle.place_set.specs.Places.{Has, IsEmpty, IsFirst, SameBut}
 use Rattle.place_set.specs.declared.places.Places.{Places}
 use Rattle.sched_core.proofs.Offers.{not_itself, not_better, not_better_too}
-use Rattle.sched_core.proofs.Pinned.{alone_may}
+use Rattle.sched_core.proofs.Pinned.{alone_may, free_may, may_is_alone, may_is_holder}
 use Rattle.order_parts.specs.History.{entries_of}
+use Rattle.order_parts.specs.Pins.{holder_of, may_pin}
 use Rattle.sched_core.proofs.Cores.{unanswered_here}
 use Rattle.sched_core.proofs.Roomy.{lane_is}
 use Rattle.sched_core.specs.Histories.{AreRoomy, HasRoom, lane_in}
@@ -35,17 +37,17 @@ use Rattle.transcripts.specs.Standing.{View, unanswered_at}
 -- ---- a walk over lanes
 
 -- what was found among the lanes that were walked over: all but those that are left, which come after it
-pub record IsWalked (v : View) (lanes left : Places) (q slot : ℕ) (best : Option ℕ) : Type 0 where
+pub record IsWalked (v : View) (lanes left : Places) (best : Option ℕ) : Type 0 where
   pub among : (m : ℕ) → Has left m → Has lanes m
-  pub unseen : IfNone best ((m : ℕ) → MayHold v lanes q slot m → Has left m)
-  pub holds : IfSome best (MayHold v lanes q slot)
+  pub unseen : IfNone best ((m : ℕ) → Has lanes m → Has left m)
+  pub there : IfSome best (Has lanes)
   pub later : IfSome best (λ b. (m : ℕ) → Has left m → b < m)
-  pub least : IfSome best (λ b. (m : ℕ) → MayHold v lanes q slot m → ¬ Has left m → ¬ IsBetterLane v m b)
+  pub least : IfSome best (λ b. (m : ℕ) → Has lanes m → ¬ Has left m → ¬ IsBetterLane v m b)
 
-pub walk_begins : (v : View) (lanes : Places) (q slot : ℕ) → IsWalked v lanes lanes q slot None
-walk_begins v lanes q slot = record { among = λ m has. has; unseen = λ m may. may.0; holds = tt; later = tt; least = tt }
+pub walk_begins : (v : View) (lanes : Places) → IsWalked v lanes lanes None
+walk_begins v lanes = record { among = λ m has. has; unseen = λ m has. has; there = tt; later = tt; least = tt }
 
-module _ (v : View) (lanes left rest : Places) (q slot k : ℕ) (first : IsFirst left k) (gone : Has rest k → ⊥) (others : SameBut k left rest) where
+module _ (v : View) (lanes left rest : Places) (k : ℕ) (first : IsFirst left k) (gone : Has rest k → ⊥) (others : SameBut k left rest) where
   stayed : (m : ℕ) → Has rest m → Has left m × (m ≢ k)
   stayed m has = let apart : m ≢ k = λ e. gone (subst (Has rest) e has) in ((others m apart).0 has, apart)
 
@@ -55,66 +57,72 @@ module _ (v : View) (lanes left rest : Places) (q slot k : ℕ) (first : IsFirst
   walked : (m : ℕ) → ¬ Has rest m → (m ≡ k) ⊎ ¬ Has left m
   walked m past = ⊎_elim (λ e. inl e) (λ ne. inr (λ has. past ((others m ne).1 has))) (cases_eq m k)
 
-  pub walk_past : (best : Option ℕ) → (MayHold v lanes q slot k → ⊥) → IsWalked v lanes left q slot best → IsWalked v lanes rest q slot best
-  walk_past None never w =
-      record {
-        among = λ m has. w.among m (stayed m has).0;
-        unseen = λ m may. let apart : m ≢ k = λ e. never (subst (MayHold v lanes q slot) e may) in (others m apart).1 (w.unseen m may);
-        holds = tt;
-        later = tt;
-        least = tt;
-      }
-  walk_past (Some b) never w =
+  pub walk_on : (best : Option ℕ) → IsWalked v lanes left best → IsWalked v lanes rest (Some (better_of v best k))
+  walk_on None w =
       record {
         among = λ m has. w.among m (stayed m has).0;
         unseen = tt;
-        holds = w.holds;
-        later = λ m has. w.later m (stayed m has).0;
-        least = λ m may past. ⊎_elim (λ e. absurd (never (subst (MayHold v lanes q slot) e may))) (λ out. w.least m may out) (walked m past);
-      }
-
-  pub walk_on : (best : Option ℕ) → MayHold v lanes q slot k → IsWalked v lanes left q slot best → IsWalked v lanes rest q slot (Some (better_of v best k))
-  walk_on None may w =
-      record {
-        among = λ m has. w.among m (stayed m has).0;
-        unseen = tt;
-        holds = may;
+        there = w.among k first.there;
         later = after;
-        least = λ m may_m past. ⊎_elim (λ e. not_itself v k m (sym e)) (λ out. absurd (out (w.unseen m may_m))) (walked m past);
+        least = λ m has past. ⊎_elim (λ e. not_itself v k m (sym e)) (λ out. absurd (out (w.unseen m has))) (walked m past);
       }
-  walk_on (Some b) may w = by_case (nat_le (length (unanswered_at v b)) (length (unanswered_at v k))) refl
+  walk_on (Some b) w = by_case (nat_le (length (unanswered_at v b)) (length (unanswered_at v k))) refl
     where
-      by_case : (t : Bool) → nat_le (length (unanswered_at v b)) (length (unanswered_at v k)) ≡ t → IsWalked v lanes rest q slot (Some (cond t b k))
+      by_case : (t : Bool) → nat_le (length (unanswered_at v b)) (length (unanswered_at v k)) ≡ t → IsWalked v lanes rest (Some (cond t b k))
       by_case true h =
           let le : length (unanswered_at v b) ≤ length (unanswered_at v k) = leb-true _ _ h in
           record {
             among = λ m has. w.among m (stayed m has).0;
             unseen = tt;
-            holds = w.holds;
+            there = w.there;
             later = λ m has. w.later m (stayed m has).0;
-            least = λ m may_m past. ⊎_elim (λ e. subst (λ n. ¬ IsBetterLane v n b) (sym e) (not_better v b k le (w.later k first.there))) (λ out. w.least m may_m out) (walked m past);
+            least = λ m has past. ⊎_elim (λ e. subst (λ n. ¬ IsBetterLane v n b) (sym e) (not_better v b k le (w.later k first.there))) (λ out. w.least m has out) (walked m past);
           }
       by_case false h =
           let gt : length (unanswered_at v k) < length (unanswered_at v b) = leb-false _ _ h in
           record {
             among = λ m has. w.among m (stayed m has).0;
             unseen = tt;
-            holds = may;
+            there = w.among k first.there;
             later = after;
-            least = λ m may_m past. ⊎_elim (λ e. not_itself v k m (sym e)) (λ out. not_better_too v b k m gt (w.least m may_m out)) (walked m past);
+            least = λ m has past. ⊎_elim (λ e. not_itself v k m (sym e)) (λ out. not_better_too v b k m gt (w.least m has out)) (walked m past);
           }
 
-pub walk_best : (v : View) (lanes left : Places) (q slot : ℕ) (best : Option ℕ) → ((m : ℕ) → Has left m → ⊥) → IsWalked v lanes left q slot best → IfSome best (λ l. (m : ℕ) → MayHold v lanes q slot m → ¬ IsBetterLane v m l)
-walk_best v lanes left q slot None done w = tt
-walk_best v lanes left q slot (Some b) done w = λ m may. w.least m may (done m)
+pub walk_best : (v : View) (lanes left : Places) (best : Option ℕ) → ((m : ℕ) → Has left m → ⊥) → IsWalked v lanes left best → IfSome best (λ l. (m : ℕ) → Has lanes m → ¬ IsBetterLane v m l)
+walk_best v lanes left None done w = tt
+walk_best v lanes left (Some b) done w = λ m has. w.least m has (done m)
 
-pub walk_none : (v : View) (lanes left : Places) (q slot : ℕ) (best : Option ℕ) → ((m : ℕ) → Has left m → ⊥) → IsWalked v lanes left q slot best → IfNone best ((l : ℕ) → ¬ MayHold v lanes q slot l)
-walk_none v lanes left q slot None done w = λ l may. done l (w.unseen l may)
-walk_none v lanes left q slot (Some b) done w = tt
+pub walk_none : (v : View) (lanes left : Places) (best : Option ℕ) → ((m : ℕ) → Has left m → ⊥) → IsWalked v lanes left best → IfNone best ((l : ℕ) → ¬ Has lanes l)
+walk_none v lanes left None done w = λ l has. done l (w.unseen l has)
+walk_none v lanes left (Some b) done w = tt
 
-pub found_lanes : (v : View) (lanes left : Places) (q slot : ℕ) (best : Option ℕ) → ((l : ℕ) → Has lanes l → l < lanes_of v.shape) → IsWalked v lanes left q slot best → IfSome best (λ b. b < lanes_of v.shape)
-found_lanes v lanes left q slot None there w = tt
-found_lanes v lanes left q slot (Some b) there w = there b w.holds.0
+pub found_lanes : (v : View) (lanes left : Places) (best : Option ℕ) → ((l : ℕ) → Has lanes l → l < lanes_of v.shape) → IsWalked v lanes left best → IfSome best (λ b. b < lanes_of v.shape)
+found_lanes v lanes left None few w = tt
+found_lanes v lanes left (Some b) few w = few b w.there
+
+-- ---- the lane of a pinned slot
+
+-- of the lanes those may hold the slot that its pin allows
+module _ (a : Inside) (v : View) (lanes : Places) (q slot : ℕ) (core : IsCore a) (view : view_in a ≡ v) (queue : q < length v.shape.queues) where
+  pub may_hold : (l : ℕ) → Has lanes l → may_pin (pin_in a.pins q slot) l ≡ true → MayHold v lanes q slot l
+  may_hold l has may = subst (λ w. MayHold w lanes q slot l) view (has, may_is_alone a.shape (map unanswered_in a.lanes) a.pins q slot l core.pins may)
+
+  hold_may : (l : ℕ) → MayHold v lanes q slot l → may_pin (pin_in a.pins q slot) l ≡ true
+  hold_may l held =
+      alone_may a.shape (map unanswered_in a.lanes) a.pins q slot l core.pins (subst (λ (w : View). q < length w.shape.queues) (sym view) queue) (subst (λ w. MayHold w lanes q slot l) (sym view) held).1
+
+  -- where a lane has the slot, no other may hold it
+  pub hold_is_holder : (h l : ℕ) → holder_of (pin_in a.pins q slot) ≡ Some h → MayHold v lanes q slot l → l ≡ h
+  hold_is_holder h l e held = may_is_holder (pin_in a.pins q slot) h l e (hold_may l held)
+
+  -- where none has it, each may
+  pub free_holds : holder_of (pin_in a.pins q slot) ≡ None → (o : Option ℕ) → IfSome o (Has lanes) → IfSome o (MayHold v lanes q slot)
+  free_holds e None there = tt
+  free_holds e (Some l) there = may_hold l there (free_may (pin_in a.pins q slot) l e)
+
+-- a set has numbers below 64 alone
+pub has_low : (lanes : Places) (l : ℕ) → lanes.bits < 2 ^ 64 → Has lanes l → l < 64
+has_low lanes l fits has = ⊎_elim (λ lt. lt) (λ ge. let zero = bit_at_above lanes.bits 64 l fits ge in absurd (omega arith)) (cases_lt l 64)
 
 -- ---- who serves a queue
 

@@ -1,5 +1,5 @@
 -- The pins beside the unanswered events: what they say of a lane, and that they agree with the events after one is given or answered.
-use Rattle.std.proofs.Common.{◌≡◌, ◌≢◌, ℕ, ◌+◌, ◌%◌, ◌<◌, ◌≤◌, Bool, true, false, cond, ◌==◌, List, [], ◌∷◌, ◌++◌, length, set, drop, replicate, slice_get, All, Some, ◌⊎◌, inl, inr, refl, sym, ap, ◌∙◌, subst, arith, eq-eqb, eqb-true}
+use Rattle.std.proofs.Common.{◌≡◌, ◌≢◌, ℕ, ◌+◌, ◌%◌, ◌<◌, ◌≤◌, Bool, true, false, cond, ◌==◌, List, [], ◌∷◌, ◌++◌, length, set, drop, replicate, slice_get, All, None, Some, ◌⊎◌, inl, inr, refl, sym, ap, ◌∙◌, subst, arith, eq-eqb, eqb-true}
 use Rattle.std.proofs.lemmas.Bool.{and_from, and_parts, or_cases, or_left, or_right, cases_eq, cases_lt, cases_Bool, cond-true, cond-false, false≢true, false_from_ne_true, ne_eqb}
 use Rattle.std.proofs.lemmas.List.{length-set, length-replicate, get_or-replicate, get_or-set_same, get_or-set_other, get_or_past}
 use Rattle.std.proofs.lemmas.List.Elements.{All-nil, All-cons, All-head, All-push, All-drop, All-set, All-weaker}
@@ -14,7 +14,7 @@ use Rattle.evt_types.specs.Plan.{Plan, queue_of, slot_of, depth_of, is_atomic, l
 use Rattle.transcripts.specs.Transcript.{Held}
 use Rattle.evt_types.specs.declared.draft.QueueDraft.{QueueDraft}
 use Rattle.evt_types.specs.declared.event.Kind.TheVariants.{Parallel}
-use Rattle.order_parts.specs.Pins.{Pin, free, pin_at, may_pin, pinned, unpinned}
+use Rattle.order_parts.specs.Pins.{Pin, free, holder_of, pin_at, may_pin, pinned, unpinned}
 use Rattle.sched_core.specs.Pinned.{slots_of, pins_at, pin_in, with_pin, AreFreePins, entries_at, is_of, count_of, count_on, ArePins}
 
 -- ---- how many events are of a slot
@@ -112,6 +112,35 @@ lane_of_some l x some = by_case (cases_eq x.lane l)
     by_case : (x.lane ≡ l) ⊎ (x.lane ≢ l) → x.lane ≡ l
     by_case (inl e) = e
     by_case (inr differs) = let none = count_on_other l x differs in absurd (omega arith)
+
+-- ---- who has the slot
+
+none_of : {X : Type 0} (b : Bool) (x : X) → cond b None (Some x) ≡ None → b ≡ true
+none_of true x e = refl
+none_of false x e = absurd cc
+
+some_of : {X : Type 0} (b : Bool) (x y : X) → cond b None (Some x) ≡ Some y → (b ≡ false) × (x ≡ y)
+some_of true x y e = absurd cc
+some_of false x y e = (refl, same_Some x y e)
+
+-- a slot that no lane has may go to any
+pub free_may : (x : Pin) (l : ℕ) → holder_of x ≡ None → may_pin x l ≡ true
+free_may x l e = or_left (x.count == 0) (x.lane == l) (none_of (x.count == 0) x.lane e)
+
+-- one that a lane has may go to that lane
+pub holder_may : (x : Pin) (l : ℕ) → holder_of x ≡ Some l → may_pin x l ≡ true
+holder_may x l e = or_right (x.count == 0) (x.lane == l) (eq-eqb x.lane l (some_of (x.count == 0) x.lane l e).1)
+
+-- and to no other
+pub may_is_holder : (x : Pin) (h l : ℕ) → holder_of x ≡ Some h → may_pin x l ≡ true → l ≡ h
+may_is_holder x h l e may = by_case (or_cases (x.count == 0) (x.lane == l) may)
+  where
+    has : ((x.count == 0) ≡ false) × (x.lane ≡ h)
+    has = some_of (x.count == 0) x.lane h e
+
+    by_case : ((x.count == 0) ≡ true) ⊎ ((x.lane == l) ≡ true) → l ≡ h
+    by_case (inl zero) = absurd (false≢true (sym has.0 ∙ zero))
+    by_case (inr same) = sym (eqb-true x.lane l same) ∙ has.1
 
 -- ---- one pin that changes
 

@@ -1,7 +1,9 @@
--- What a sweep passes over: when it begins, and as a set.
-use Rattle.std.specs.Prelude.{ℕ, ◌≡◌, ◌<◌, ◌↔◌, Bool, false, true, List, replicate, slice_index_or}
+-- What a sweep passes over: when it begins, and as sets.
+use Rattle.std.specs.Prelude.{ℕ, ◌/◌, ◌%◌, Bool, ◌==◌, false, List, map, replicate}
+use Rattle.std.specs.Int.{bit_at}
+use Rattle.std.specs.List.{range_with_len}
 use Rattle.evt_types.specs.declared.shape.TheConstants.{MAX_LANES, MAX_QUEUES}
-use Rattle.place_set.specs.Places.{Has}
+use Rattle.place_set.specs.Places.{set_at}
 use Rattle.place_set.specs.declared.places.Places.{Places}
 use Rattle.transcripts.specs.Choice.{Passed}
 
@@ -9,6 +11,10 @@ use Rattle.transcripts.specs.Choice.{Passed}
 abbrev pub nothing_passed : Passed
 nothing_passed = record { bounced = replicate MAX_LANES false; given = replicate MAX_QUEUES 0 }
 
--- of the first lanes, as many as a set has places, those whose ring refused a delivery
-abbrev pub AreClosed : List Bool → Places → Type 0
-AreClosed bs closed = (l : ℕ) → l < 64 → Has closed l ↔ (slice_index_or bs l false ≡ true)
+-- whether a lane is in one of the sets, each of which has the next 64 lanes
+abbrev pub has_lane : List Places → ℕ → Bool
+has_lane sets l = bit_at (set_at sets (l / 64)).bits (l % 64) == 1
+
+-- for each lane whether it is in one of the sets
+unfoldable pub lanes_in : List Places → List Bool
+lanes_in sets = map (has_lane sets) (range_with_len 0 MAX_LANES)

@@ -108,6 +108,7 @@ impl Core {
 
     /// The answered places leave from the oldest on, and what they were forwarded as is accepted: whether that of the number
     /// is among it.
+    #[cold]
     pub(crate) fn settle(&mut self, queue: usize, answered: u64, log: &mut Vec<Step>) -> bool
         requires queue { queue < length self.old.shape.queues }
         requires room { vec_len log.old + length (flush_steps self.old queue) ≤ vec_capacity log.old }

@@ -34,6 +34,7 @@ impl Core {
     }
 
     /// The slots of the queue whose events some lane may take, and perhaps others: where flow lanes serve the queue, all of its slots.
+    #[cold]
     pub(crate) fn allowed(&self, queue: usize, lanes: Places, skips: &Skips) -> Places
         requires queue { queue < length self.now.shape.queues }
         requires lanes { AreOpenLanes self.now skips.now queue lanes }
@@ -55,6 +56,7 @@ impl Core {
     }
 
     /// Of the lanes that may take an event of the slot the one with fewest unanswered events, of several the first.
+    #[inline(always)]
     pub(crate) fn lane_for(
         &self,
         queue: usize,
@@ -77,6 +79,7 @@ impl Core {
     }
 
     /// Of these lanes the one that may hold the slot and has fewest unanswered events, of several the first.
+    #[inline(always)]
     fn port_for(&self, queue: usize, slot: usize, lanes: Places) -> Option<usize>
         requires queue { queue < length self.now.shape.queues }
         requires lanes { (l : ℕ) → Has lanes l → l < lanes_of self.now.shape }
@@ -84,17 +87,31 @@ impl Core {
         ensures best { IfSome result (λ l. (m : ℕ) → MayHold self.now lanes queue slot m → ¬ IsBetterLane self.now m l) }
         ensures none { IfNone result ((l : ℕ) → ¬ MayHold self.now lanes queue slot l) }
     {
+        match self.pins.holder(queue, slot) {
+            Some(lane) if lane < MAX_PLACES && lanes.has(lane) => Some(lane),
+            Some(_) => None,
+            None => self.least_loaded(lanes),
+        }
+    }
+
+    /// Of these lanes the one with fewest unanswered events, of several the first.
+    #[inline(always)]
+    fn least_loaded(&self, lanes: Places) -> Option<usize>
+        requires { (l : ℕ) → Has lanes l → l < lanes_of self.now.shape }
+        ensures there { IfSome result (Has lanes) }
+        ensures best { IfSome result (λ l. (m : ℕ) → Has lanes m → ¬ IsBetterLane self.now m l) }
+        ensures none { IfNone result ((l : ℕ) → ¬ Has lanes l) }
+    {
         let mut left = lanes;
         let mut best = None;
         while let Some(lane) = left.pop() {
-            if self.may_hold(lane, queue, slot) {
-                best = Some(self.better_lane(best, lane));
-            }
+            best = Some(self.better_lane(best, lane));
         }
         best
     }
 
     /// The slot's flow lane, where it may take an event.
+    #[cold]
     fn flow_for(&self, queue: usize, slot: usize, skips: &Skips) -> Option<usize>
         requires queue { queue < length self.now.shape.queues }
         requires slot { slot < SLOTS }

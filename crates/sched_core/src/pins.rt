@@ -2,7 +2,7 @@
 
 ghost use Rattle.std.specs.Prelude.{◌≡◌, ℕ, ◌<◌, ◌↔◌, length, IfOk, IsTrue};
 ghost use Rattle.evt_types.specs.Plan.{atomic_slots};
-ghost use Rattle.order_parts.specs.Pins.{may_pin, pinned, unpinned};
+ghost use Rattle.order_parts.specs.Pins.{holder_of, may_pin, pinned, unpinned};
 ghost use Rattle.place_set.specs.Places.{Has};
 ghost use Rattle.sched_core.specs.Pinned.{AreFreePins, IsSlotOf, MayGo, pins_at, pin_in, with_pin};
 
@@ -62,6 +62,20 @@ impl AllPins {
     {
         let pins = &self.queues[queue];
         pins.slots() <= slot || pins.may(slot, lane)
+    }
+
+    /// The lane that has the slot, if one has it. A slot without a pin is free.
+    #[inline(always)]
+    pub fn holder(&self, queue: usize, slot: usize) -> Option<usize>
+        requires { queue < length self.now }
+        ensures { result ≡ holder_of (pin_in self.now queue slot) }
+    {
+        let pins = &self.queues[queue];
+        if slot < pins.slots() {
+            pins.holder(slot)
+        } else {
+            None
+        }
     }
 
     /// The slots whose event may go to one of these lanes, which are ports' own. A queue without pins has the slot 0 alone.

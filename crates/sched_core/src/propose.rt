@@ -1,20 +1,22 @@
 //! The choice of the event that is given next, and of its lane.
 
-ghost use Rattle.std.specs.Prelude.{◌≡◌, ℕ, ◌<◌, ◌↔◌, true, IsTrue, List, length, Some, IfSome, IfNone};
+ghost use Rattle.std.specs.Prelude.{◌≡◌, ◌≢◌, ℕ, ◌<◌, List, length, Some, IsTrue, IfSome, IfNone};
 ghost use Rattle.transcripts.specs.Allowed.{Allowed};
-ghost use Rattle.transcripts.specs.Choice.{Fits, HasNone, HasNoChoice, IsBetterLane, IsChoice, IsOffer};
+ghost use Rattle.transcripts.specs.Choice.{HasNone, HasNoChoice, IsChoice, IsOffer};
 ghost use Rattle.transcripts.specs.Standing.{Stands};
 ghost use Rattle.transcripts.specs.Transcript.{event_at};
 ghost use Rattle.evt_types.specs.declared.step.Step.{Step as StepValue};
 ghost use Rattle.evt_types.specs.declared.step.Step.TheVariants as steps;
-ghost use Rattle.sched_core.specs.Offered.{numbered_in, AreOpenLanes, HasAllowed, IsFirstIn, HasNoneAllowedIn, HasNoneIn, IsOfferIn, IsOfferOf, is_ahead, slot_at};
+ghost use Rattle.sched_core.specs.Inner.{slots_for};
+ghost use Rattle.sched_core.specs.Offered.{numbered_in, AreOpenLanes, HasAllowed, HasNoneAllowedIn, HasNoneIn, HasNoneOfSlotIn, IsBestChoice, IsChoiceIn, IsChoiceOf, IsFirstIn, IsFirstSlotIn, IsOfferIn, IsOfferOf, IsOldestIn, is_ahead, slot_at};
 
 use crate::offer::Offer;
 use crate::skips::Skips;
 use crate::slot_lanes::SLOTS;
 use crate::state::Core;
 use evt_types::{Delivery, Numbered};
-use place_set::Places;
+use parked_queue::Found;
+use place_set::{MAX_PLACES, Places};
 
 impl Core {
     /// What is given next: of the first queue, by priority and then number, that has an event which some lane may take,
@@ -28,48 +30,126 @@ impl Core {
         ensures offer { IfSome result (λ o. IsOffer self.old o.lane o.delivery.queue (numbered_in o.delivery)) }
         ensures keeps { (T : List StepValue) → Stands T self.old → IfSome result (λ o. Allowed self.old.shape T (steps.Give o.lane o.delivery.queue o.delivery.number) × (event_at T o.delivery.queue o.delivery.number ≡ Some o.delivery.event)) }
     {
+        let mut left = self.queues.busy();
+        let Some(queue) = left.pop() else {
+            return None;
+        };
+        if left.is_empty() {
+            self.offer_alone(queue, skips)
+        } else {
+            self.offer_among(skips)
+        }
+    }
+
+    /// The same, where something waits in this queue alone.
+    #[inline(always)]
+    fn offer_alone(&mut self, queue: usize, skips: &Skips) -> Option<Offer>
+        requires queue { queue < length self.old.shape.queues }
+        requires others { (r : ℕ) → r ≢ queue → HasNone self.old skips.now r }
+        ensures same { self.new ≡ self.old }
+        ensures choice { IfSome result (λ o. IsChoice self.old skips.now o.lane o.delivery.queue (numbered_in o.delivery)) }
+        ensures none { IfNone result (HasNoChoice self.old skips.now) }
+    {
+        let sweep = self.shape.sweep();
+        if skips.has_quota(queue, sweep) {
+            self.offer_from(queue, skips)
+        } else {
+            None
+        }
+    }
+
+    /// The same, where something waits in several queues.
+    #[inline(always)]
+    fn offer_among(&mut self, skips: &Skips) -> Option<Offer>
+        ensures same { self.new ≡ self.old }
+        ensures choice { IfSome result (λ o. IsChoice self.old skips.now o.lane o.delivery.queue (numbered_in o.delivery)) }
+        ensures none { IfNone result (HasNoChoice self.old skips.now) }
+    {
+        match self.best_choice(skips) {
+            Some(choice) => self.offer_of(choice),
+            None => None,
+        }
+    }
+
+    /// The choice of the queue that is served first among those that have one.
+    #[cold]
+    fn best_choice(&mut self, skips: &Skips) -> Option<Choice>
+        ensures same { self.new ≡ self.old }
+        ensures choice { IfSome result (IsBestChoice self.old skips.now) }
+        ensures none { IfNone result (HasNoChoice self.old skips.now) }
+    {
         let sweep = self.shape.sweep();
         let mut left = self.queues.busy();
         let mut best = None;
         while let Some(queue) = left.pop() {
             if skips.has_quota(queue, sweep) && self.is_ahead(queue, best) {
-                let offer = self.offer_of(queue, skips);
-                if offer.is_some() {
-                    best = offer;
+                let choice = self.choice_of(queue, skips);
+                if choice.is_some() {
+                    best = choice;
                 }
             }
         }
         best
     }
 
-    /// Whether the queue is served before that of the offer found so far, whose number is lower.
-    fn is_ahead(&self, queue: usize, best: Option<Offer>) -> bool
+    /// Whether the queue is served before that of the choice found so far, whose number is lower.
+    #[inline(always)]
+    fn is_ahead(&self, queue: usize, best: Option<Choice>) -> bool
         requires queue { queue < length self.now.shape.queues }
-        requires best { IfSome best (λ o. o.delivery.queue < length self.now.shape.queues) }
+        requires best { IfSome best (λ c. c.queue < length self.now.shape.queues) }
         ensures { result ≡ is_ahead self.now.shape queue best }
     {
         let queues = self.shape.queues();
         match best {
-            Some(offer) => queues[queue].priority < queues[offer.delivery.queue].priority,
+            Some(choice) => queues[queue].priority < queues[choice.queue].priority,
             None => true,
         }
     }
 
-    /// The queue's first event that some lane may take, by level and then number.
+    /// The chosen event, which is read only now.
     #[inline(always)]
-    fn offer_of(&mut self, queue: usize, skips: &Skips) -> Option<Offer>
+    fn offer_of(&mut self, choice: Choice) -> Option<Offer>
+        requires queue { choice.queue < length self.old.shape.queues }
+        requires level { choice.level < 4 }
+        requires slot { choice.slot < slots_for self.old.shape choice.queue }
+        ensures same { self.new ≡ self.old }
+        ensures lane { IfSome result (λ o. (o.lane ≡ choice.lane) × (o.delivery.queue ≡ choice.queue)) }
+        ensures oldest { IfSome result (λ o. IsOldestIn self.old choice.queue choice.level choice.slot (numbered_in o.delivery)) }
+        ensures none { IfNone result (HasNoneOfSlotIn self.old choice.queue choice.level choice.slot) }
+    {
+        let Choice {
+            queue,
+            level,
+            slot,
+            lane,
+        } = choice;
+        match self.queues.oldest(queue, level, slot) {
+            Some(Numbered { number, event }) => Some(Offer {
+                lane,
+                delivery: Delivery {
+                    event,
+                    queue,
+                    number,
+                },
+            }),
+            None => None,
+        }
+    }
+
+    /// The queue's first event that some lane may take, by level and then number, for the best lane.
+    #[inline(always)]
+    fn offer_from(&mut self, queue: usize, skips: &Skips) -> Option<Offer>
         requires { queue < length self.old.shape.queues }
         ensures same { self.new ≡ self.old }
-        ensures offer { IfSome result (IsOfferOf self.old skips.now queue) }
+        ensures offer { IfSome result (λ o. (o.delivery.queue ≡ queue) × IsOfferOf self.old skips.now queue o.lane (numbered_in o.delivery)) }
         ensures none { IfNone result (HasNone self.old skips.now queue) }
     {
         // The use of a field makes known what holds of each core.
         let _ = &self.shape;
         let lanes = self.open_lanes(queue, skips);
-        let allowed = self.allowed(queue, lanes, skips);
         let mut left = self.queues.levels(queue);
         while let Some(level) = left.pop() {
-            let offer = self.offer_in(queue, level, lanes, allowed, skips);
+            let offer = self.offer_in(queue, level, lanes, skips);
             if offer.is_some() {
                 return offer;
             }
@@ -77,8 +157,98 @@ impl Core {
         None
     }
 
-    /// The first event of the queue's level that some lane may take. A slot whose event no lane may take is asked once.
+    /// The first event of the queue's level that some lane may take, for the best lane. Mostly none of the level is set aside, and
+    /// the level's first event goes; else the slots whose events may go are found first.
+    #[inline(always)]
     fn offer_in(
+        &mut self,
+        queue: usize,
+        level: usize,
+        lanes: Places,
+        skips: &Skips,
+    ) -> Option<Offer>
+        requires queue { queue < length self.old.shape.queues }
+        requires level { level < 4 }
+        requires lanes { AreOpenLanes self.old skips.now queue lanes }
+        ensures same { self.new ≡ self.old }
+        ensures offer { IfSome result (λ o. (o.delivery.queue ≡ queue) × IsOfferIn self.old skips.now queue level o.lane (numbered_in o.delivery)) }
+        ensures none { IfNone result (HasNoneIn self.old skips.now queue level) }
+    {
+        // The use of a field makes known what holds of each core.
+        let _ = &self.shape;
+        let all = Places::below(MAX_PLACES);
+        let offer = self.offer_at_head(queue, level, lanes, all, skips);
+        if offer.is_some() {
+            return offer;
+        }
+        let allowed = self.allowed(queue, lanes, skips);
+        if self.is_blocked(queue, level, allowed) {
+            return None;
+        }
+        let offer = self.offer_at_head(queue, level, lanes, allowed, skips);
+        if offer.is_some() {
+            return offer;
+        }
+        self.offer_behind(queue, level, lanes, allowed, skips)
+    }
+
+    /// The first event of the queue's level whose slot is allowed, for the best lane, where it is found at once and some lane may
+    /// take it.
+    #[inline(always)]
+    fn offer_at_head(
+        &self,
+        queue: usize,
+        level: usize,
+        lanes: Places,
+        allowed: Places,
+        skips: &Skips,
+    ) -> Option<Offer>
+        requires queue { queue < length self.now.shape.queues }
+        requires level { level < 4 }
+        requires lanes { AreOpenLanes self.now skips.now queue lanes }
+        requires allowed { HasAllowed self.now skips.now queue allowed }
+        ensures { IfSome result (λ o. (o.delivery.queue ≡ queue) × IsOfferIn self.now skips.now queue level o.lane (numbered_in o.delivery)) }
+    {
+        // The use of a field makes known what holds of each core.
+        let _ = &self.shape;
+        let Found { slot, waiting } = self.head_in(queue, level, allowed)?;
+        let lane = self.lane_for(queue, slot, lanes, skips)?;
+        let Numbered { number, event } = waiting;
+        Some(Offer {
+            lane,
+            delivery: Delivery {
+                event,
+                queue,
+                number,
+            },
+        })
+    }
+
+    /// The first event of the queue's level whose slot is allowed, with the slot, where it is found at once.
+    #[inline(always)]
+    fn head_in(&self, queue: usize, level: usize, allowed: Places) -> Option<Found>
+        requires queue { queue < length self.now.shape.queues }
+        requires level { level < 4 }
+        ensures first { IfSome result (λ f. IsFirstIn self.now queue level allowed f.waiting) }
+        ensures slot { IfSome result (λ f. f.slot ≡ slot_at self.now queue f.waiting) }
+        ensures few { IfSome result (λ f. f.slot < SLOTS) }
+    {
+        self.queues.head(queue, level, allowed)
+    }
+
+    /// Whether it is known at once that no event of the queue's level has an allowed slot.
+    #[inline(always)]
+    fn is_blocked(&self, queue: usize, level: usize, allowed: Places) -> bool
+        requires queue { queue < length self.now.shape.queues }
+        requires level { level < 4 }
+        ensures { IsTrue result → HasNoneAllowedIn self.now queue level allowed }
+    {
+        self.queues.is_blocked(queue, level, allowed)
+    }
+
+    /// The first event of the queue's level that some lane may take, for the best lane, as it is searched.
+    #[inline(always)]
+    fn offer_behind(
         &mut self,
         queue: usize,
         level: usize,
@@ -91,72 +261,91 @@ impl Core {
         requires lanes { AreOpenLanes self.old skips.now queue lanes }
         requires allowed { HasAllowed self.old skips.now queue allowed }
         ensures same { self.new ≡ self.old }
-        ensures offer { IfSome result (IsOfferIn self.old skips.now queue level) }
+        ensures offer { IfSome result (λ o. (o.delivery.queue ≡ queue) × IsOfferIn self.old skips.now queue level o.lane (numbered_in o.delivery)) }
+        ensures none { IfNone result (HasNoneIn self.old skips.now queue level) }
+    {
+        match self.choice_in(queue, level, lanes, allowed, skips) {
+            Some(choice) => self.offer_of(choice),
+            None => None,
+        }
+    }
+
+    /// The queue's first event that some lane may take, by level and then number.
+    #[cold]
+    fn choice_of(&mut self, queue: usize, skips: &Skips) -> Option<Choice>
+        requires { queue < length self.old.shape.queues }
+        ensures same { self.new ≡ self.old }
+        ensures choice { IfSome result (IsChoiceOf self.old skips.now queue) }
+        ensures none { IfNone result (HasNone self.old skips.now queue) }
+    {
+        // The use of a field makes known what holds of each core.
+        let _ = &self.shape;
+        let lanes = self.open_lanes(queue, skips);
+        let allowed = self.allowed(queue, lanes, skips);
+        let mut left = self.queues.levels(queue);
+        while let Some(level) = left.pop() {
+            let choice = self.choice_in(queue, level, lanes, allowed, skips);
+            if choice.is_some() {
+                return choice;
+            }
+        }
+        None
+    }
+
+    /// The first event of the queue's level that some lane may take. A slot whose event no lane may take is asked once.
+    #[cold]
+    fn choice_in(
+        &mut self,
+        queue: usize,
+        level: usize,
+        lanes: Places,
+        allowed: Places,
+        skips: &Skips,
+    ) -> Option<Choice>
+        requires queue { queue < length self.old.shape.queues }
+        requires level { level < 4 }
+        requires lanes { AreOpenLanes self.old skips.now queue lanes }
+        requires allowed { HasAllowed self.old skips.now queue allowed }
+        ensures same { self.new ≡ self.old }
+        ensures choice { IfSome result (IsChoiceIn self.old skips.now queue level) }
         ensures none { IfNone result (HasNoneIn self.old skips.now queue level) }
     {
         // The use of a field makes known what holds of each core.
         let _ = &self.shape;
         let mut left = allowed;
-        while let Some(waiting) = self.first_in(queue, level, left) {
-            let slot = self.slot_of(queue, &waiting);
-            let offer = self.offer_for(queue, &waiting, slot, lanes, skips);
-            if offer.is_some() {
-                return offer;
+        while let Some(slot) = self.first_in(queue, level, left) {
+            if let Some(lane) = self.lane_for(queue, slot, lanes, skips) {
+                return Some(Choice {
+                    queue,
+                    level,
+                    slot,
+                    lane,
+                });
             }
             left.remove(slot);
         }
         None
     }
 
-    /// The first event of the queue's level whose slot is allowed.
-    fn first_in(&mut self, queue: usize, level: usize, allowed: Places) -> Option<Numbered>
+    /// The slot of the first event of the queue's level whose slot is allowed.
+    #[inline(always)]
+    fn first_in(&mut self, queue: usize, level: usize, allowed: Places) -> Option<usize>
         requires queue { queue < length self.old.shape.queues }
         requires level { level < 4 }
         ensures same { self.new ≡ self.old }
-        ensures first { IfSome result (IsFirstIn self.old queue level allowed) }
+        ensures first { IfSome result (IsFirstSlotIn self.old queue level allowed) }
+        ensures few { IfSome result (λ slot. slot < SLOTS) }
         ensures none { IfNone result (HasNoneAllowedIn self.old queue level allowed) }
     {
         self.queues.first(queue, level, allowed)
     }
+}
 
-    /// The slot of an event of the queue.
-    fn slot_of(&self, queue: usize, waiting: &Numbered) -> usize
-        requires { queue < length self.now.shape.queues }
-        ensures value { result ≡ slot_at self.now queue waiting.now }
-        ensures few { result < SLOTS }
-    {
-        self.queues.slot_of(queue, waiting)
-    }
-
-    /// The event for the best lane that may take it.
-    fn offer_for(
-        &self,
-        queue: usize,
-        waiting: &Numbered,
-        slot: usize,
-        lanes: Places,
-        skips: &Skips,
-    ) -> Option<Offer>
-        requires queue { queue < length self.now.shape.queues }
-        requires slot { slot ≡ slot_at self.now queue waiting.now }
-        requires few { slot < SLOTS }
-        requires lanes { AreOpenLanes self.now skips.now queue lanes }
-        ensures same { IfSome result (λ o. (numbered_in o.delivery ≡ waiting.now) × (o.delivery.queue ≡ queue)) }
-        ensures fits { IfSome result (λ o. Fits self.now skips.now o.lane queue waiting.now) }
-        ensures best { IfSome result (λ o. (m : ℕ) → Fits self.now skips.now m queue waiting.now → ¬ IsBetterLane self.now m o.lane) }
-        ensures none { IfNone result ((m : ℕ) → ¬ Fits self.now skips.now m queue waiting.now) }
-    {
-        let Numbered { number, event } = *waiting;
-        match self.lane_for(queue, slot, lanes, skips) {
-            Some(lane) => Some(Offer {
-                lane,
-                delivery: Delivery {
-                    event,
-                    queue,
-                    number,
-                },
-            }),
-            None => None,
-        }
-    }
+/// The oldest event of a queue's level and slot, and the lane that it is for.
+#[derive(Clone, Copy, Debug)]
+pub(crate) struct Choice {
+    pub(crate) queue: usize,
+    pub(crate) level: usize,
+    pub(crate) slot: usize,
+    pub(crate) lane: usize,
 }

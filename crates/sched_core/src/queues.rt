@@ -1,14 +1,14 @@
 //! What waits in all queues.
 
-ghost use Rattle.std.specs.Prelude.{◌≡◌, ◌+◌, ◌<◌, ◌≤◌, ◌^◌, ◌++◌, length, slice_set, vec_len, vec_capacity, IfOk, IfSome, IfNone};
-ghost use Rattle.parked_queue.specs.Waits.{AreLevels, AreWaits, HasNoneAllowed, IsFirstAllowed, IsOnlyOf, slot_of, with_event, without_number};
+ghost use Rattle.std.specs.Prelude.{◌≡◌, ◌+◌, ◌<◌, ◌≤◌, ◌^◌, ◌++◌, length, slice_set, vec_len, vec_capacity, IsTrue, IfOk, IfSome, IfNone};
+ghost use Rattle.parked_queue.specs.Waits.{AreLevels, AreWaits, HasNoneAllowed, HasNoneOfSlot, IsFirstAllowed, IsFirstSlot, IsOldest, IsOnlyOf, slot_of, with_event, without_number};
 ghost use Rattle.sched_core.specs.Inner.{AreEmptyQueues, slots_for};
 ghost use Rattle.sched_core.specs.Ordered.{waits_at};
 ghost use Rattle.sched_core.specs.Busy.{AreBusy};
 ghost use Rattle.transcripts.specs.Transcript.{pairs_of};
 
 use evt_types::{Event, MAX_SLOTS, Numbered, Shape};
-use parked_queue::ParkedQueue;
+use parked_queue::{Found, ParkedQueue};
 use place_set::Places;
 use std::alloc::{AllocError, Global};
 use std::marker::Model;
@@ -121,17 +121,54 @@ impl AllQueues {
         self.queues[queue].slot_of(waiting)
     }
 
-    /// The first event of the queue's level whose slot is allowed.
-    pub fn first(&mut self, queue: usize, level: usize, allowed: Places) -> Option<Numbered>
+    /// The first event of the queue's level whose slot is allowed, where it is the first of the level's own list.
+    #[inline(always)]
+    pub fn head(&self, queue: usize, level: usize, allowed: Places) -> Option<Found>
+        requires there { queue < length self.now }
+        requires level { level < 4 }
+        ensures first { IfSome result (λ f. IsFirstAllowed (waits_at self.now queue) level allowed f.waiting) }
+        ensures slot { IfSome result (λ f. f.slot ≡ slot_of (waits_at self.now queue).slots f.waiting) }
+        ensures waits { AreWaits (waits_at self.now queue) }
+    {
+        self.queues[queue].head(level, allowed)
+    }
+
+    /// Whether all events of the queue's level are set aside, and none of them has an allowed slot.
+    #[inline(always)]
+    pub fn is_blocked(&self, queue: usize, level: usize, allowed: Places) -> bool
+        requires there { queue < length self.now }
+        requires level { level < 4 }
+        ensures { IsTrue result → HasNoneAllowed (waits_at self.now queue) level allowed }
+    {
+        self.queues[queue].is_blocked(level, allowed)
+    }
+
+    /// The slot of the first event of the queue's level whose slot is allowed.
+    #[inline(always)]
+    pub fn first(&mut self, queue: usize, level: usize, allowed: Places) -> Option<usize>
         requires there { queue < length self.old }
         requires level { level < 4 }
         ensures same { self.new ≡ self.old }
-        ensures first { IfSome result (IsFirstAllowed (waits_at self.old queue) level allowed) }
+        ensures first { IfSome result (IsFirstSlot (waits_at self.old queue) level allowed) }
         ensures none { IfNone result (HasNoneAllowed (waits_at self.old queue) level allowed) }
         ensures waits { AreWaits (waits_at self.old queue) }
     {
         let waiting = &mut self.queues[queue];
         waiting.first(level, allowed)
+    }
+
+    /// The oldest event of the queue's level and slot.
+    #[inline(always)]
+    pub fn oldest(&mut self, queue: usize, level: usize, slot: usize) -> Option<Numbered>
+        requires there { queue < length self.old }
+        requires level { level < 4 }
+        requires slot { slot < (waits_at self.old queue).slots }
+        ensures same { self.new ≡ self.old }
+        ensures oldest { IfSome result (IsOldest (waits_at self.old queue) level slot) }
+        ensures none { IfNone result (HasNoneOfSlot (waits_at self.old queue) level slot) }
+    {
+        let waiting = &mut self.queues[queue];
+        waiting.oldest(level, slot)
     }
 
     /// Takes the event of this number out of the queue, which is of the level and the slot.

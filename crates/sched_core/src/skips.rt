@@ -9,25 +9,28 @@ use evt_types::{MAX_LANES, MAX_QUEUES, MAX_SWEEP};
 use place_set::{MAX_PLACES, Places};
 use std::marker::Model;
 
+/// How many sets have a place for each lane.
+const SETS: usize = (MAX_LANES - 1) / MAX_PLACES + 1;
+
 /// The lanes whose ring refused a delivery in this sweep, and how many events of each queue were given in it.
 #[derive(Drop)]
 pub struct Skips {
-    bounced: [bool; MAX_LANES],
-    given: [u32; MAX_QUEUES],
-    /// Of the first lanes those whose ring refused a delivery. The ports' lanes are among them.
-    closed: Places,
+    /// The lanes in sets, one after another. The ports' lanes are in the first one.
+    bounced: [Places; SETS],
+    given: [u8; MAX_QUEUES],
 }
 
 impl Model for Skips {
+    ghost use Rattle.std.specs.Prelude.{◌≡◌, length};
     ghost use Rattle.transcripts.specs.Choice.{Passed};
+    ghost use Rattle.sched_core.specs.Skipped.{lanes_in};
+    ghost use Rattle.sched_core.specs.declared.skips.TheConstants.{SETS};
 
     ghost Value = { Passed };
 
-    ghost view = { λ a. record { bounced = a.bounced; given = a.given } };
+    ghost view = { λ a. record { bounced = lanes_in a.bounced; given = a.given } };
 
-    ghost use Rattle.sched_core.specs.Skipped.{AreClosed};
-
-    ghost invariant = { λ a. AreClosed a.bounced a.closed };
+    ghost invariant = { λ a. length a.bounced ≡ SETS };
 }
 
 impl Skips {
@@ -36,9 +39,8 @@ impl Skips {
         ensures { result ≡ nothing_passed }
     {
         Skips {
-            bounced: [false; MAX_LANES],
+            bounced: [Places::none(); SETS],
             given: [0; MAX_QUEUES],
-            closed: Places::none(),
         }
     }
 
@@ -47,11 +49,9 @@ impl Skips {
         requires { lane < MAX_LANES }
         ensures { self.new ≡ record self.old { bounced = slice_set self.old.bounced lane true } }
     {
-        self.bounced[lane] = true;
-        if lane < MAX_PLACES {
-            let closed = &mut self.closed;
-            closed.add(lane);
-        }
+        let mut set = self.bounced[lane / MAX_PLACES];
+        set.add(lane % MAX_PLACES);
+        self.bounced[lane / MAX_PLACES] = set;
     }
 
     /// An event of the queue was given.
@@ -67,14 +67,14 @@ impl Skips {
     pub fn closed(&self) -> Places
         ensures { (l : ℕ) → l < MAX_PLACES → Has result l ↔ (has_bounced self.now l ≡ true) }
     {
-        self.closed
+        self.bounced[0]
     }
 
     /// Whether the lane is passed over.
     pub fn has_bounced(&self, lane: usize) -> bool
         ensures { result ≡ has_bounced self.now lane }
     {
-        self.bounced.get(lane).copied().unwrap_or(false)
+        lane < MAX_LANES && self.bounced[lane / MAX_PLACES].has(lane % MAX_PLACES)
     }
 
     /// Whether fewer events of the queue were given than the sweep quantum.
@@ -82,6 +82,6 @@ impl Skips {
         requires { queue < MAX_QUEUES }
         ensures { result ≡ nat_lt (slice_index self.now.given queue) sweep }
     {
-        self.given[queue] < sweep
+        u32::from(self.given[queue]) < sweep
     }
 }

@@ -1,5 +1,6 @@
 pub mod Changes
 pub mod Firsts
+pub mod Nodes
 pub mod Pairs
 pub mod Paths
 pub mod Stores

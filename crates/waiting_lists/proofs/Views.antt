@@ -1,9 +1,9 @@
 -- What a store shows of its chains: the lists, and how many events they have.
-use Rattle.std.proofs.Common.{◌≡◌, ◌≢◌, ℕ, zero, suc, ◌<◌, ◌≤◌, List, [], ◌∷◌, length, map, Option, refl, sym, ap, ◌∙◌, arith, replicate, slice_index_or, slice_set, sum_by}
+use Rattle.std.proofs.Common.{◌≡◌, ◌≢◌, ℕ, zero, suc, ◌<◌, ◌≤◌, List, [], ◌∷◌, length, map, Option, Vec, refl, sym, ap, ◌∙◌, arith, replicate, slice_get, slice_index_or, slice_set, sum_by}
 use Rattle.std.proofs.lemmas.List.{get_or_default, length-map}
 use Rattle.std.proofs.lemmas.List.Sums.{get_or-le-sum_by, sum_by-cons}
 use Rattle.evt_types.specs.declared.event.Numbered.{Numbered}
-use Rattle.slab.specs.Slab.{Slab, get, slab_len}
+use Rattle.std.specs.declared.alloc.Global.{Global}
 use Rattle.waiting_lists.specs.Chains.{path_of, events_of}
 use Rattle.waiting_lists.specs.Lists.{Lists, list_at, total_of}
 use Rattle.waiting_lists.specs.Store.{AreChains, IsStore, chain_at, len_of, lists_in, no_chain}
@@ -21,10 +21,10 @@ module _ (at : ℕ → Option Node) where
   list_of_chain (c ∷ cs) zero = refl
   list_of_chain (c ∷ cs) (suc k) = list_of_chain cs k
 
-  pub length_events : (cs : List Chain) (k : ℕ) → AreChains at cs → length (events_of at (chain_at cs k)) ≡ (chain_at cs k).len
-  length_events cs k d =
+  pub length_events : (free : List ℕ) (cs : List Chain) (k : ℕ) → AreChains at free cs → length (events_of at (chain_at cs k)) ≡ (chain_at cs k).len
+  length_events free cs k d =
       let c = chain_at cs k in
-      length_items at d.owner k (path_of at c) (d.places k) ∙ length_path at c.first c.len
+      length_items at d.owner (suc k) (path_of at c) (d.places k) ∙ length_path at c.first c.len
 
   total_from : (cs : List Chain) → ((k : ℕ) → length (events_of at (chain_at cs k)) ≡ (chain_at cs k).len) → sum_by length (map (events_of at) cs) ≡ sum_by len_of cs
   total_from [] e = refl
@@ -32,32 +32,32 @@ module _ (at : ℕ → Option Node) where
       let rest = total_from cs (λ (k : ℕ). e (suc k)) in
       omega (arith, rest, e 0, sum_by-cons length (events_of at c) (map (events_of at) cs), sum_by-cons len_of c cs)
 
-  pub total_chains : (cs : List Chain) → AreChains at cs → sum_by length (map (events_of at) cs) ≡ sum_by len_of cs
-  total_chains cs d = total_from cs (λ (k : ℕ). length_events cs k d)
+  pub total_chains : (free : List ℕ) (cs : List Chain) → AreChains at free cs → sum_by length (map (events_of at) cs) ≡ sum_by len_of cs
+  total_chains free cs d = total_from cs (λ (k : ℕ). length_events free cs k d)
 
-module _ (nodes : Slab Node) (cs : List Chain) (room : ℕ) (v : Lists) (view : lists_in nodes cs room ≡ v) where
+-- a chain has no more nodes than all have
+pub len_within : (cs : List Chain) (k : ℕ) → k < length cs → (chain_at cs k).len ≤ sum_by len_of cs
+len_within cs k p = get_or-le-sum_by len_of cs k no_chain p
+
+module _ (nodes : Vec Node Global) (cs : List Chain) (room : ℕ) (v : Lists) (view : lists_in nodes.items cs room ≡ v) where
   pub room_seen : room ≡ v.room
   room_seen = ap (λ (u : Lists). u.room) view
 
-  pub list_seen : (k : ℕ) → events_of (get nodes) (chain_at cs k) ≡ list_at v k
-  list_seen k = sym (list_of_chain (get nodes) cs k) ∙ ap (λ (u : Lists). list_at u k) view
+  pub list_seen : (k : ℕ) → events_of (slice_get nodes.items) (chain_at cs k) ≡ list_at v k
+  list_seen k = sym (list_of_chain (slice_get nodes.items) cs k) ∙ ap (λ (u : Lists). list_at u k) view
 
   pub there_seen : (k : ℕ) → k < length v.lists → k < length cs
-  there_seen k p = omega (arith, p, ap (λ (u : Lists). length u.lists) view, length-map cs (events_of (get nodes)))
+  there_seen k p = omega (arith, p, ap (λ (u : Lists). length u.lists) view, length-map cs (events_of (slice_get nodes.items)))
 
-  module _ (d : IsStore nodes cs room) where
-    -- a chain has no more nodes than there are
-    pub len_within : (k : ℕ) → k < length cs → (chain_at cs k).len ≤ slab_len nodes
-    len_within k p = omega (arith, d.count, get_or-le-sum_by len_of cs k no_chain p)
-
-    pub total_seen : slab_len nodes ≡ total_of v
-    total_seen = d.count ∙ sym (total_chains (get nodes) cs d.chains) ∙ ap total_of view
+  module _ (free : Vec ℕ Global) (d : IsStore nodes free cs room) where
+    pub total_seen : sum_by len_of cs ≡ total_of v
+    total_seen = sym (total_chains (slice_get nodes.items) free.items cs d.chains) ∙ ap total_of view
 
     pub total_within : total_of v ≤ v.room
-    total_within = omega (arith, total_seen, d.within, room_seen)
+    total_within = omega (arith, total_seen, d.count, d.within, room_seen)
 
     pub length_seen : (k : ℕ) → (chain_at cs k).len ≡ length (list_at v k)
-    length_seen k = sym (length_events (get nodes) cs k d.chains) ∙ ap length (list_seen k)
+    length_seen k = sym (length_events (slice_get nodes.items) free.items cs k d.chains) ∙ ap length (list_seen k)
 
 -- ---- a change of one chain
 

@@ -1,5 +1,5 @@
 -- Many lists of waiting events, and how many events they may have in all.
-use Rattle.std.specs.Prelude.{ℕ, List, [], ◌∷◌, ◌++◌, length, drop, replicate, slice_set, slice_index_or, sum_by}
+use Rattle.std.specs.Prelude.{ℕ, ◌==◌, Bool, false, List, [], ◌∷◌, ◌++◌, length, drop, Option, Some, None, replicate, slice_set, slice_index_or, sum_by}
 use Rattle.evt_types.specs.declared.event.Numbered.{Numbered}
 
 -- the lists, each oldest first
@@ -29,3 +29,8 @@ with_last v k w = with_list v k (list_at v k ++ w ∷ [])
 -- the oldest event of the list is gone; where the list is empty, nothing changes
 abbrev pub without_first : Lists → ℕ → Lists
 without_first v k = with_list v k (drop 1 (list_at v k))
+
+-- the event is there and has the number
+abbrev pub has_number : ℕ → Option Numbered → Bool
+has_number n None = false
+has_number n (Some w) = w.number == n

@@ -1,20 +1,18 @@
 //! A list of events as a chain of nodes in a store that many chains share.
 
-ghost use Rattle.std.specs.Prelude.{◌≡◌, ◌+◌, ◌<◌, ◌^◌};
-ghost use Rattle.slab.specs.Slab.{ContainsKey};
-ghost use Rattle.waiting_lists.specs.Chains.{IsLinked, alone, longer};
+ghost use Rattle.std.specs.Prelude.{◌≡◌, ◌+◌, ◌<◌, ◌^◌, vec_len, vec_capacity};
+ghost use Rattle.waiting_lists.specs.Chains.{IsLinked, IsPlaced, alone, final, longer, shorter};
 
 use evt_types::Numbered;
-use slab::Slab;
 
-/// An event, and the key of the node behind it, which counts only where the chain goes on.
+/// An event, and the place of the node behind it, which counts only where the chain goes on.
 #[derive(Clone, Copy, Debug)]
 pub(crate) struct Node {
     pub(crate) item: Numbered,
     pub(crate) next: usize,
 }
 
-/// How many nodes a chain has, and the keys of its first and its last one, which count only where it has any.
+/// How many nodes a chain has, and the places of its first and its last one, which count only where it has any.
 #[derive(Clone, Copy, Debug)]
 pub(crate) struct Chain {
     pub(crate) first: usize,
@@ -22,34 +20,59 @@ pub(crate) struct Chain {
     pub(crate) len: usize,
 }
 
-/// Lets the node lead to the next one.
-fn link(nodes: &mut Slab<Node>, key: usize, next: usize)
-    requires { ContainsKey nodes.old key }
-    ensures { IsLinked nodes.old nodes.new key next }
+/// Puts a node with the event at a place that no chain has: the one that became free last, or else a new one.
+pub(crate) fn take_place(nodes: &mut Vec<Node>, free: &mut Vec<usize>, item: Numbered) -> usize
+    requires last { 0 < vec_len free.old → final 0 free.old.items < vec_len nodes.old }
+    requires room { vec_len free.old ≡ 0 → vec_len nodes.old < vec_capacity nodes.old }
+    ensures placed { IsPlaced nodes.old.items nodes.new.items free.old.items free.new.items item result }
+    ensures nodes { vec_capacity nodes.new ≡ vec_capacity nodes.old }
+    ensures free { vec_capacity free.new ≡ vec_capacity free.old }
 {
-    nodes[key].next = next;
+    match free.pop() {
+        Some(place) => {
+            nodes[place].item = item;
+            place
+        }
+        None => {
+            nodes.push_reserved(Node { item, next: 0 });
+            nodes.len() - 1
+        }
+    }
 }
 
-/// The chain with the node of the key as its last one.
-pub(crate) fn append(nodes: &mut Slab<Node>, chain: Chain, key: usize) -> Chain
-    requires last { 0 < chain.len → ContainsKey nodes.old chain.last }
-    requires fits { chain.len + 1 < 2 ^ 64 }
-    ensures alone { chain.len ≡ 0 → result ≡ alone key }
-    ensures kept { chain.len ≡ 0 → nodes.new ≡ nodes.old }
-    ensures longer { 0 < chain.len → result ≡ longer chain key }
-    ensures linked { 0 < chain.len → IsLinked nodes.old nodes.new chain.last key }
+/// Lets the node lead to the next one.
+fn link(nodes: &mut Vec<Node>, place: usize, next: usize)
+    requires { place < vec_len nodes.old }
+    ensures linked { IsLinked nodes.old.items nodes.new.items place next }
+    ensures capacity { vec_capacity nodes.new ≡ vec_capacity nodes.old }
+{
+    nodes[place].next = next;
+}
+
+/// Makes the node at the place the chain's last one.
+pub(crate) fn append(nodes: &mut Vec<Node>, chain: &mut Chain, place: usize)
+    requires last { 0 < chain.old.len → chain.old.last < vec_len nodes.old }
+    requires fits { chain.old.len + 1 < 2 ^ 64 }
+    ensures alone { chain.old.len ≡ 0 → chain.new ≡ alone place }
+    ensures kept { chain.old.len ≡ 0 → nodes.new ≡ nodes.old }
+    ensures longer { 0 < chain.old.len → chain.new ≡ longer chain.old place }
+    ensures linked { 0 < chain.old.len → IsLinked nodes.old.items nodes.new.items chain.old.last place }
+    ensures capacity { vec_capacity nodes.new ≡ vec_capacity nodes.old }
 {
     if chain.len == 0 {
-        return Chain {
-            first: key,
-            last: key,
-            len: 1,
-        };
+        chain.first = place;
+    } else {
+        link(nodes, chain.last, place);
     }
-    link(nodes, chain.last, key);
-    Chain {
-        first: chain.first,
-        last: key,
-        len: chain.len + 1,
-    }
+    chain.last = place;
+    chain.len += 1;
+}
+
+/// Takes the first node off the chain, which goes on at the next one.
+pub(crate) fn shorten(chain: &mut Chain, next: usize)
+    requires { 0 < chain.old.len }
+    ensures { chain.new ≡ shorter chain.old next }
+{
+    chain.first = next;
+    chain.len -= 1;
 }

@@ -1,20 +1,21 @@
 //! Many lists of waiting events.
 
-ghost use Rattle.std.specs.Prelude.{◌≡◌, ◌+◌, ◌<◌, ◌≤◌, ◌++◌, length, map, slice_get, vec_len, vec_capacity, IfOk};
+ghost use Rattle.std.specs.Prelude.{◌≡◌, ◌+◌, ◌<◌, ◌≤◌, ◌++◌, length, map, slice_get, vec_len, vec_capacity, IfOk, IsFalse, IsTrue};
 ghost use Rattle.evt_types.specs.declared.event.Numbered.{Numbered as NumberedValue};
-ghost use Rattle.waiting_lists.specs.Lists.{list_at, total_of, all_empty, with_last, without_first};
+ghost use Rattle.waiting_lists.specs.Lists.{list_at, total_of, all_empty, has_number, with_last, without_first};
 
-use crate::chain::{Chain, Node, append};
+use crate::chain::{Chain, Node, append, shorten, take_place};
 use evt_types::Numbered;
-use slab::Slab;
 use std::alloc::{AllocError, Global};
 use std::marker::Model;
 
 /// Many lists of waiting events, with room for so many events in all.
 #[derive(Debug, Drop)]
 pub struct WaitingLists {
-    // The nodes of all chains. Memory for as many as there may be is reserved, so that a push asks for none.
-    nodes: Slab<Node>,
+    // The nodes of all chains, and the free ones. Memory for as many as there may be is reserved, so that a push asks for none.
+    nodes: Vec<Node>,
+    // The places of the nodes that no chain has. The one that became free last is taken first, while its memory is in the cache.
+    free: Vec<usize>,
     // One for each list.
     chains: Vec<Chain>,
     // The memory that is reserved may be for more.
@@ -27,9 +28,9 @@ impl Model for WaitingLists {
 
     ghost Value = { Lists };
 
-    ghost view = { λ a. lists_in a.nodes a.chains.items a.room };
+    ghost view = { λ a. lists_in a.nodes.items a.chains.items a.room };
 
-    ghost invariant = { λ a. IsStore a.nodes a.chains.items a.room };
+    ghost invariant = { λ a. IsStore a.nodes a.free a.chains.items a.room };
 }
 
 impl WaitingLists {
@@ -42,10 +43,12 @@ impl WaitingLists {
             last: 0,
             len: 0,
         };
-        let nodes = Slab::with_capacity(alloc, room)?;
+        let nodes = Vec::with_capacity(alloc, room)?;
+        let free = Vec::with_capacity(alloc, room)?;
         let chains = vec![in alloc; none; lists]?;
         Ok(WaitingLists {
             nodes,
+            free,
             chains,
             room,
         })
@@ -56,7 +59,7 @@ impl WaitingLists {
         ensures value { result ≡ total_of self.now }
         ensures within { total_of self.now ≤ self.now.room }
     {
-        self.nodes.len()
+        self.nodes.len() - self.free.len()
     }
 
     /// How many events are in the list.
@@ -86,8 +89,8 @@ impl WaitingLists {
         requires room { total_of self.old < self.old.room }
         ensures { self.new ≡ with_last self.old list item }
     {
-        let key = self.nodes.insert_reserved(Node { item, next: 0 });
-        self.chains[list] = append(&mut self.nodes, self.chains[list], key);
+        let place = take_place(&mut self.nodes, &mut self.free, item);
+        append(&mut self.nodes, &mut self.chains[list], place);
     }
 
     /// Takes the oldest event of the list out.
@@ -100,13 +103,32 @@ impl WaitingLists {
         if chain.len == 0 {
             return None;
         }
-        let node = self.nodes.remove(chain.first);
-        self.chains[list] = Chain {
-            first: node.next,
-            last: chain.last,
-            len: chain.len - 1,
-        };
+        let node = self.nodes[chain.first];
+        self.free.push_reserved(chain.first);
+        shorten(&mut self.chains[list], node.next);
         Some(node.item)
+    }
+
+    /// Takes the oldest event of the list out, where it has the number: whether it has.
+    #[inline(always)]
+    pub fn pop_number(&mut self, list: usize, number: u64) -> bool
+        requires { list < length self.old.lists }
+        ensures value { result ≡ has_number number (slice_get (list_at self.old list) 0) }
+        ensures taken { IsTrue result → self.new ≡ without_first self.old list }
+        ensures kept { IsFalse result → self.new ≡ self.old }
+    {
+        let chain = self.chains[list];
+        if chain.len == 0 {
+            return false;
+        }
+        let place = chain.first;
+        let oldest = self.nodes[place];
+        if oldest.item.number != number {
+            return false;
+        }
+        self.free.push_reserved(place);
+        shorten(&mut self.chains[list], oldest.next);
+        true
     }
 
     /// Appends the queue's number with the number of each of the list's events, oldest first.

@@ -1,16 +1,18 @@
-use Rattle.std.proofs.Common.{◌≡◌, ◌<◌, ◌∙◌, Some, None, slice_get, subst, sym, refl}
+use Rattle.std.proofs.Common.{◌≡◌, ◌<◌, ◌∙◌, Some, None, ap, slice_get, subst, sym, refl}
 use Rattle.place_set.specs.Places.{Has}
-use Rattle.parked_queue.specs.Parted.{Parted, list_in, parked_place}
+use Rattle.parked_queue.specs.Parted.{HasNoneParked, IsFirstParked, Parted, list_in, parked_place}
 use Rattle.parked_queue.proofs.Best.{best_kept, best_none, best_older, one_older, has_none, is_first, still_there}
+use Rattle.parked_queue.specs.Waits.{slot_of}
+use Rattle.parked_queue.proofs.Options.{of_none, of_some}
 use Rattle.parked_queue.proofs.parking.Parking.first_parked.Goals as goal
 
 pub loop-slot-init : goal.loop-slot-init
 loop-slot-init c =
     record {
       same = refl;
-      there = λ k has. let both = (c.both-left.ensures k).0 has in (both.1, c.marks.ensures.marked.there k both.0);
+      there = λ k has. (has, c.requires.there k has);
       one = tt;
-      best = best_none c.args.self.now c.args.level c.args.allowed c.marks.result c.both-left.result c.marks.ensures.marked c.both-left.ensures;
+      best = best_none c.args.self.now c.args.level c.args.marked;
     }
 
 pub parked_front-requires-clause-slot : goal.parked_front-requires-clause-slot
@@ -25,12 +27,12 @@ loop-slot-preserved-in-Some-parked_front c =
     let head = subst (λ (v : Parted). slice_get (list_in v (parked_place c.in-Some.slot c.args.level)) 0 ≡ Some c.in-Some-parked_front.head) c.loop-slot.invariant.same (sym c.in-Some-parked_front.ensures.value) in
     record {
       same = c.parked_front.ensures.same ∙ c.loop-slot.invariant.same;
-      there = still_there (λ k. Has c.args.allowed k × (k < c.args.self.now.waits.slots)) c.in-Some.slot c.loop-slot.left c.pop.new.self c.in-Some.ensures.others c.in-Some.ensures.gone c.loop-slot.invariant.there;
+      there = still_there (λ k. Has c.args.marked k × (k < c.args.self.now.waits.slots)) c.in-Some.slot c.loop-slot.left c.pop.new.self c.in-Some.ensures.others c.in-Some.ensures.gone c.loop-slot.invariant.there;
       one =
-          one_older c.args.self.now c.args.level c.args.allowed c.in-Some.slot c.loop-slot.best c.in-Some-parked_front.head c.older.result c.marks.ensures.waits c.requires head
+          one_older c.args.self.now c.args.level c.args.marked c.in-Some.slot c.loop-slot.best c.in-Some-parked_front.head c.older.result c.requires.waits c.requires.level head
           (c.loop-slot.invariant.there c.in-Some.slot c.in-Some.ensures.first.there).0 c.older.ensures.one c.loop-slot.invariant.one;
       best =
-          best_older c.args.self.now c.args.level c.args.allowed c.in-Some.slot c.loop-slot.left c.pop.new.self c.loop-slot.best c.in-Some-parked_front.head c.older.result c.marks.ensures.waits c.requires head c.in-Some.ensures.others c.older.ensures.older
+          best_older c.args.self.now c.args.level c.args.marked c.in-Some.slot c.loop-slot.left c.pop.new.self c.loop-slot.best c.in-Some-parked_front.head c.older.result c.requires.waits c.requires.level head c.in-Some.ensures.others c.older.ensures.older
           c.loop-slot.invariant.best;
     }
 
@@ -42,16 +44,28 @@ loop-slot-preserved c =
     let none = subst (λ (v : Parted). slice_get (list_in v (parked_place c.in-Some.slot c.args.level)) 0 ≡ None) c.loop-slot.invariant.same (sym c.in_default-parked_front.ensures.value) in
     record {
       same = c.parked_front.ensures.same ∙ c.loop-slot.invariant.same;
-      there = still_there (λ k. Has c.args.allowed k × (k < c.args.self.now.waits.slots)) c.in-Some.slot c.loop-slot.left c.pop.new.self c.in-Some.ensures.others c.in-Some.ensures.gone c.loop-slot.invariant.there;
+      there = still_there (λ k. Has c.args.marked k × (k < c.args.self.now.waits.slots)) c.in-Some.slot c.loop-slot.left c.pop.new.self c.in-Some.ensures.others c.in-Some.ensures.gone c.loop-slot.invariant.there;
       one = c.loop-slot.invariant.one;
-      best = best_kept c.args.self.now c.args.level c.args.allowed c.in-Some.slot c.loop-slot.left c.pop.new.self c.loop-slot.best c.marks.ensures.waits c.requires none c.in-Some.ensures.others c.loop-slot.invariant.best;
+      best = best_kept c.args.self.now c.args.level c.args.marked c.in-Some.slot c.loop-slot.left c.pop.new.self c.loop-slot.best c.requires.waits c.requires.level none c.in-Some.ensures.others c.loop-slot.invariant.best;
     }
 
-pub returns-clause-same : goal.returns-clause-same
-returns-clause-same c = c.loop-slot.invariant.same
+pub returns-in-Some-best-clause-same : goal.returns-in-Some-best-clause-same
+returns-in-Some-best-clause-same c = c.loop-slot.invariant.same
 
-pub returns-clause-first : goal.returns-clause-first
-returns-clause-first c = is_first c.args.self.now c.args.level c.args.allowed c.loop-slot.left c.in_default.ensures.none c.loop-slot.best c.loop-slot.invariant.one c.loop-slot.invariant.best
+pub returns-in-Some-best-clause-first : goal.returns-in-Some-best-clause-first
+returns-in-Some-best-clause-first c =
+    record {
+      waiting = c.in-Some-best.oldest;
+      first =
+          of_some c.loop-slot.best c.in-Some-best.oldest (IsFirstParked c.args.self.now c.args.level c.args.marked) c.in-Some-best.is
+          (is_first c.args.self.now c.args.level c.args.marked c.loop-slot.left c.in_default.ensures.none c.loop-slot.best c.loop-slot.invariant.one c.loop-slot.invariant.best);
+      is = c.slot.ensures.value ∙ ap (λ (v : Parted). slot_of v.waits.slots c.in-Some-best.oldest) c.loop-slot.invariant.same;
+    }
 
-pub returns-clause-none : goal.returns-clause-none
-returns-clause-none c = has_none c.args.self.now c.args.level c.args.allowed c.loop-slot.left c.in_default.ensures.none c.loop-slot.best c.loop-slot.invariant.best
+pub returns-in-None-clause-same : goal.returns-in-None-clause-same
+returns-in-None-clause-same c = c.loop-slot.invariant.same
+
+pub returns-in-None-clause-none : goal.returns-in-None-clause-none
+returns-in-None-clause-none c =
+    of_none c.loop-slot.best (HasNoneParked c.args.self.now c.args.level c.args.marked) c.in-None.is
+    (has_none c.args.self.now c.args.level c.args.marked c.loop-slot.left c.in_default.ensures.none c.loop-slot.best c.loop-slot.invariant.best)

@@ -7,9 +7,9 @@ abbrev pub invariant-loop-slot : goal.invariant-loop-slot
 invariant-loop-slot l =
     record {
       same : l.self ≡ l.fn.self;
-      there : (k : ℕ) → Has l.left k → Has l.fn.allowed k × (k < l.fn.self.waits.slots);
-      one : IfSome l.best (IsParkedAllowed l.fn.self l.level l.fn.allowed);
-      best : IsBest l.fn.self l.level l.fn.allowed l.left l.best;
+      there : (k : ℕ) → Has l.left k → Has l.fn.marked k × (k < l.fn.self.waits.slots);
+      one : IfSome l.best (IsParkedAllowed l.fn.self l.level l.fn.marked);
+      best : IsBest l.fn.self l.level l.fn.marked l.left l.best;
     }
 
 abbrev pub decreases-loop-slot : goal.decreases-loop-slot

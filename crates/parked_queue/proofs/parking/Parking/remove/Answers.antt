@@ -1,26 +1,24 @@
+use Rattle.std.proofs.Common.{arith, refl, sym}
 use Rattle.parked_queue.specs.Parted.{with_waits}
 use Rattle.parked_queue.specs.Waits.{without_number}
-use Rattle.parked_queue.proofs.Holding.{held, holds_held, view_held}
-use Rattle.parked_queue.proofs.Taking.{list_rises, list_there, taken_held}
+use Rattle.parked_queue.proofs.Holding.{count_held, held, holds_held, view_held}
+use Rattle.parked_queue.proofs.Taking.{head_held}
 use Rattle.parked_queue.proofs.parking.Parking.remove.Goals as goal
 
-pub take_number-requires-clause-list : goal.take_number-requires-clause-list
-take_number-requires-clause-list c =
-    list_there c.self.inside c.args.self.now c.args.level c.args.slot c.args.number c.list_for-list.result (held c.self.inside c.args.self.now c.self.invariant c.self.view_is) c.requires.level c.requires.slot c.list_for-list.ensures
+pub pop_number-requires : goal.pop_number-requires
+pop_number-requires c =
+    let count = count_held c.self.inside c.args.self.now (held c.self.inside c.args.self.now c.self.invariant c.self.view_is) in
+    omega (arith, count, c.requires.level)
 
-pub take_number-requires-clause-rising : goal.take_number-requires-clause-rising
-take_number-requires-clause-rising c =
-    list_rises c.self.inside c.args.self.now c.args.level c.args.slot c.args.number c.list_for-list.result (held c.self.inside c.args.self.now c.self.invariant c.self.view_is) c.requires.level c.requires.slot c.list_for-list.ensures
-
-pub invariant_of-self : goal.invariant_of-self
-invariant_of-self c =
+pub invariant_of-self-else-not-pop_number : goal.invariant_of-self-else-not-pop_number
+invariant_of-self-else-not-pop_number c =
     holds_held _ (with_waits c.args.self.now (without_number c.args.self.now.waits c.args.number))
-    (taken_held c.self.inside c.args.self.now c.args.level c.args.slot c.args.number c.list_for-list.result (held c.self.inside c.args.self.now c.self.invariant c.self.view_is) c.requires.level c.requires.slot c.list_for-list.ensures c.requires.only c.take_number.new.lists c.take_number.ensures)
+    (head_held c.self.inside c.args.self.now c.args.level c.args.slot c.args.number (held c.self.inside c.args.self.now c.self.invariant c.self.view_is) c.requires.level c.requires.slot c.requires.only (sym c.if-not-pop_number.ensures.value) c.pop_number.new.self (c.if-not-pop_number.ensures.taken refl))
 
-pub returns-clause-value : goal.returns-clause-value
-returns-clause-value c =
+pub returns-else-not-pop_number-clause-value : goal.returns-else-not-pop_number-clause-value
+returns-else-not-pop_number-clause-value c =
     view_held _ (with_waits c.args.self.now (without_number c.args.self.now.waits c.args.number))
-    (taken_held c.self.inside c.args.self.now c.args.level c.args.slot c.args.number c.list_for-list.result (held c.self.inside c.args.self.now c.self.invariant c.self.view_is) c.requires.level c.requires.slot c.list_for-list.ensures c.requires.only c.take_number.new.lists c.take_number.ensures)
+    (head_held c.self.inside c.args.self.now c.args.level c.args.slot c.args.number (held c.self.inside c.args.self.now c.self.invariant c.self.view_is) c.requires.level c.requires.slot c.requires.only (sym c.if-not-pop_number.ensures.value) c.pop_number.new.self (c.if-not-pop_number.ensures.taken refl))
 
-pub returns-clause-waits : goal.returns-clause-waits
-returns-clause-waits c = (invariant_of-self c).waits
+pub returns-else-not-pop_number-clause-waits : goal.returns-else-not-pop_number-clause-waits
+returns-else-not-pop_number-clause-waits c = (invariant_of-self-else-not-pop_number c).waits

@@ -1,8 +1,8 @@
 use Rattle.std.proofs.Common.{◌<◌, length, ap, subst, arith}
 use Rattle.std.specs.Option.{IfSome, IfNone}
 use Rattle.transcripts.specs.Standing.{View}
-use Rattle.sched_core.proofs.FirstOnes.{first_of_view, none_of_view}
-use Rattle.sched_core.specs.Offered.{HasNoneAllowedIn, IsFirstIn}
+use Rattle.sched_core.proofs.FirstOnes.{first_slot_of_view, none_of_view}
+use Rattle.sched_core.specs.Offered.{HasNoneAllowedIn, IsFirstSlotIn}
 use Rattle.sched_core.proofs.Busy.{waits_is}
 use Rattle.sched_core.specs.Ordered.{waits_at}
 use Rattle.sched_core.proofs.state.Core.first_in.Goals as goal
@@ -12,8 +12,8 @@ returns-clause-first c =
     let a = c.self.inside in
     let count = ap (λ (u : View). length u.shape.queues) c.self.view_is in
     let h : c.args.queue < length a.queues = omega (arith, c.requires.queue, c.self.invariant.queues, count) in
-    subst (λ v. IfSome c.first.result (IsFirstIn v c.args.queue c.args.level c.args.allowed)) c.self.view_is
-    (first_of_view a c.args.queue (waits_at a.queues c.args.queue) c.self.invariant h (waits_is a.queues c.args.queue h) c.args.level c.args.allowed c.first.result c.first.ensures.first)
+    subst (λ v. IfSome c.first.result (IsFirstSlotIn v c.args.queue c.args.level c.args.allowed)) c.self.view_is
+    (first_slot_of_view a c.args.queue (waits_at a.queues c.args.queue) c.self.invariant h (waits_is a.queues c.args.queue h) c.args.level c.args.allowed c.first.result c.first.ensures.first)
 
 pub returns-clause-none : goal.returns-clause-none
 returns-clause-none c =

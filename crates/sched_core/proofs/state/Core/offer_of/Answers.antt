@@ -1,42 +1,37 @@
-use Rattle.std.proofs.Common.{◌≡◌, ◌≢◌, ◌<◌, ◌∙◌, length, All, subst, sym, ap, arith}
+use Rattle.std.proofs.Common.{◌<◌, length, Option, ap, subst, sym, arith}
 use Rattle.std.specs.Option.{IfSome, IfNone}
-use Rattle.evt_types.specs.Plan.{level_of}
-use Rattle.transcripts.specs.Standing.{View}
 use Rattle.evt_types.specs.declared.event.Numbered.{Numbered}
-use Rattle.sched_core.proofs.Busy.{waiting_there}
-use Rattle.sched_core.proofs.Offers.{HasNoneBeside, levels_beside, level_more, none_beside, none_of, offer_first, still}
-use Rattle.sched_core.specs.Offered.{HasNoneIn, IsOfferIn}
+use Rattle.transcripts.specs.Standing.{View}
+use Rattle.sched_core.proofs.Busy.{waits_is}
+use Rattle.sched_core.proofs.FirstOnes.{none_of_slot_view, oldest_of_view}
+use Rattle.sched_core.specs.Offered.{numbered_in, HasNoneOfSlotIn, IsOldestIn}
+use Rattle.sched_core.specs.Ordered.{waits_at}
+use Rattle.sched_core.specs.declared.offer.Offer.{Offer}
 use Rattle.sched_core.proofs.state.Core.offer_of.Goals as goal
+use Rattle.sched_core.proofs.state.Core.offer_of.Goals.{in-Some, in-None}
 
-pub loop-level-init : goal.loop-level-init
-loop-level-init c =
-    let levels = c.levels-left.ensures in (
-      (λ i. c.args.self.now),
-      levels.there,
-      subst (λ (v : View). HasNoneBeside v c.args.skips.now c.args.queue c.levels-left.result) c.self.view_is
-          (levels_beside _ c.args.skips.now c.args.queue c.levels-left.result (λ k never. subst (All (λ (w : Numbered). level_of w.event ≢ k)) (sym (waiting_there c.self.inside c.args.queue)) (levels.rest k never))),
-    )
-
-pub offer_in-offer-requires-clause-level : goal.offer_in-offer-requires-clause-level
-offer_in-offer-requires-clause-level c = let lt = c.loop-level.invariant.1 c.in-Some.level c.in-Some.ensures.first.there in omega arith
-
-pub loop-level-preserved : goal.loop-level-preserved
-loop-level-preserved c =
-    let v : View = c.args.self.now in
-    let same = c.loop-level.invariant.0 in (
-      c.offer_in-offer.ensures.same ∙ same,
-      λ k has. c.loop-level.invariant.1 k (still c.in-Some.level k c.loop-level.left c.pop.new.self c.in-Some.ensures.gone c.in-Some.ensures.others has),
-      level_more v c.args.skips.now c.args.queue c.in-Some.level c.loop-level.left c.pop.new.self c.in-Some.ensures.others
-          (none_of c.offer_in-offer.result (HasNoneIn v c.args.skips.now c.args.queue c.in-Some.level) (sym c.is_some.ensures ∙ c.if-is_some.false)
-          (subst (λ u. IfNone c.offer_in-offer.result (HasNoneIn u c.args.skips.now c.args.queue c.in-Some.level)) same c.offer_in-offer.ensures.none))
-          c.loop-level.invariant.2,
-    )
-
-pub returns-then-is_some-clause-offer : goal.returns-then-is_some-clause-offer
-returns-then-is_some-clause-offer c =
-    let v : View = c.args.self.now in
-    offer_first v c.args.skips.now c.args.queue c.in-Some.level c.loop-level.left c.offer_in-offer.result c.in-Some.ensures.first c.loop-level.invariant.2
-    (subst (λ u. IfSome c.offer_in-offer.result (IsOfferIn u c.args.skips.now c.args.queue c.in-Some.level)) c.loop-level.invariant.0 c.offer_in-offer.ensures.offer)
+pub returns-clause-oldest : goal.returns-clause-oldest
+returns-clause-oldest c =
+    let a = c.self.inside in
+    let x = c.args.choice in
+    let count = ap (λ (u : View). length u.shape.queues) c.self.view_is in
+    let h : x.queue < length a.queues = omega (arith, c.requires.queue, c.self.invariant.queues, count) in
+    let oldest : IfSome c.oldest.result (IsOldestIn c.args.self.now x.queue x.level x.slot) = subst (λ v. IfSome c.oldest.result (IsOldestIn v x.queue x.level x.slot)) c.self.view_is
+    (oldest_of_view a x.queue (waits_at a.queues x.queue) c.self.invariant h (waits_is a.queues x.queue h) x.level x.slot c.oldest.result c.oldest.ensures.oldest) in
+    elim c.match-oldest.branch [
+      | in-Some w ↦ subst (λ (r : Option Offer). IfSome r (λ o. IsOldestIn c.args.self.now x.queue x.level x.slot (numbered_in o.delivery))) (sym w.result-is) (subst (λ (r : Option Numbered). IfSome r (IsOldestIn c.args.self.now x.queue x.level x.slot)) w.in-Some.is oldest)
+      | in-None w ↦ subst (λ (r : Option Offer). IfSome r (λ o. IsOldestIn c.args.self.now x.queue x.level x.slot (numbered_in o.delivery))) (sym w.result-is) tt
+    ]
 
 pub returns-clause-none : goal.returns-clause-none
-returns-clause-none c = none_beside c.args.self.now c.args.skips.now c.args.queue c.loop-level.left c.in_default.ensures.none c.loop-level.invariant.2
+returns-clause-none c =
+    let a = c.self.inside in
+    let x = c.args.choice in
+    let count = ap (λ (u : View). length u.shape.queues) c.self.view_is in
+    let h : x.queue < length a.queues = omega (arith, c.requires.queue, c.self.invariant.queues, count) in
+    let none : IfNone c.oldest.result (HasNoneOfSlotIn c.args.self.now x.queue x.level x.slot) = subst (λ v. IfNone c.oldest.result (HasNoneOfSlotIn v x.queue x.level x.slot)) c.self.view_is
+    (none_of_slot_view a x.queue (waits_at a.queues x.queue) c.self.invariant h (waits_is a.queues x.queue h) x.level x.slot c.oldest.result c.oldest.ensures.none) in
+    elim c.match-oldest.branch [
+      | in-Some w ↦ subst (λ (r : Option Offer). IfNone r (HasNoneOfSlotIn c.args.self.now x.queue x.level x.slot)) (sym w.result-is) tt
+      | in-None w ↦ subst (λ (r : Option Offer). IfNone r (HasNoneOfSlotIn c.args.self.now x.queue x.level x.slot)) (sym w.result-is) (subst (λ (r : Option Numbered). IfNone r (HasNoneOfSlotIn c.args.self.now x.queue x.level x.slot)) w.in-None.is none)
+    ]

@@ -1,36 +1,35 @@
-use Rattle.std.proofs.Common.{◌∙◌, Some, sym, subst}
+use Rattle.std.proofs.Common.{rules, arith, ◌<◌, ◌^◌, sym, ◌∙◌, subst}
 use Rattle.std.proofs.lemmas.Bool.{false≢true}
-use Rattle.sched_core.proofs.OpenLanes.{IsWalked, found_lanes, walk_begins, walk_best, walk_none, walk_on, walk_past}
+use Rattle.place_set.specs.Places.{Has}
+use Rattle.sched_core.proofs.Offers.{not_itself}
+use Rattle.sched_core.proofs.OpenLanes.{free_holds, has_low, hold_is_holder, may_hold}
+use Rattle.sched_core.proofs.Pinned.{holder_may}
+use Rattle.sched_core.specs.Pinned.{pin_in}
 use Rattle.sched_core.proofs.state.Core.port_for.Goals as goal
 
-pub loop-lane-init : goal.loop-lane-init
-loop-lane-init c = walk_begins c.args.self.now c.args.lanes c.args.queue c.args.slot
+pub returns-in-Some-clause-fits : goal.returns-in-Some-clause-fits
+returns-in-Some-clause-fits c =
+    may_hold c.self.inside c.args.self.now c.args.lanes c.args.queue c.args.slot c.self.invariant c.self.view_is c.requires.queue c.in-Some.lane (c.has.ensures.0 c.if-has.true)
+    (holder_may (pin_in c.self.inside.pins c.args.queue c.args.slot) c.in-Some.lane (sym c.holder.ensures ∙ c.in-Some.is))
 
-pub may_hold-requires : goal.may_hold-requires
-may_hold-requires c = c.requires.queue
+pub returns-in-Some-clause-best : goal.returns-in-Some-clause-best
+returns-in-Some-clause-best c m may =
+    not_itself c.args.self.now c.in-Some.lane m
+    (sym (hold_is_holder c.self.inside c.args.self.now c.args.lanes c.args.queue c.args.slot c.self.invariant c.self.view_is c.requires.queue c.in-Some.lane m (sym c.holder.ensures ∙ c.in-Some.is) may))
 
-pub better_lane-requires-clause-lane : goal.better_lane-requires-clause-lane
-better_lane-requires-clause-lane c = c.requires.lanes c.in-Some.lane (c.loop-lane.invariant.among c.in-Some.lane c.in-Some.ensures.first.there)
+pub returns-in-Some-2-clause-none : goal.returns-in-Some-2-clause-none
+returns-in-Some-2-clause-none c l may =
+    let same = hold_is_holder c.self.inside c.args.self.now c.args.lanes c.args.queue c.args.slot c.self.invariant c.self.view_is c.requires.queue c.in-Some.lane l (sym c.holder.ensures ∙ c.in-Some.is) may in
+    false≢true (sym c.if-has.false ∙ c.has.ensures.1 (subst (Has c.args.lanes) same may.0))
 
-pub better_lane-requires-clause-best : goal.better_lane-requires-clause-best
-better_lane-requires-clause-best c = found_lanes c.args.self.now c.args.lanes c.loop-lane.left c.args.queue c.args.slot c.loop-lane.best c.requires.lanes c.loop-lane.invariant
+pub returns-in-Some-2-2-clause-none : goal.returns-in-Some-2-2-clause-none
+returns-in-Some-2-2-clause-none c l may =
+    let same = hold_is_holder c.self.inside c.args.self.now c.args.lanes c.args.queue c.args.slot c.self.invariant c.self.view_is c.requires.queue c.in-Some.lane l (sym c.holder.ensures ∙ c.in-Some.is) may in
+    let fits : c.args.lanes.bits < 2 ^ 64 = search rules in
+    let low = has_low c.args.lanes l fits may.0 in
+    let past = c.if-lane-lt-MAX_PLACES.false in
+    omega arith
 
-pub loop-lane-preserved-then-may_hold : goal.loop-lane-preserved-then-may_hold
-loop-lane-preserved-then-may_hold c =
-    subst (λ l. IsWalked c.args.self.now c.args.lanes c.pop.new.self c.args.queue c.args.slot (Some l)) (sym c.better_lane.ensures)
-    (walk_on c.args.self.now c.args.lanes c.loop-lane.left c.pop.new.self c.args.queue c.args.slot c.in-Some.lane c.in-Some.ensures.first c.in-Some.ensures.gone c.in-Some.ensures.others c.loop-lane.best
-    (c.loop-lane.invariant.among c.in-Some.lane c.in-Some.ensures.first.there, c.may_hold.ensures.0 c.if-may_hold.true) c.loop-lane.invariant)
-
-pub loop-lane-preserved : goal.loop-lane-preserved
-loop-lane-preserved c =
-    walk_past c.args.self.now c.args.lanes c.loop-lane.left c.pop.new.self c.args.queue c.args.slot c.in-Some.lane c.in-Some.ensures.first c.in-Some.ensures.gone c.in-Some.ensures.others c.loop-lane.best
-    (λ may. false≢true (sym c.if-may_hold.false ∙ c.may_hold.ensures.1 may.1)) c.loop-lane.invariant
-
-pub returns-clause-fits : goal.returns-clause-fits
-returns-clause-fits c = c.loop-lane.invariant.holds
-
-pub returns-clause-best : goal.returns-clause-best
-returns-clause-best c = walk_best c.args.self.now c.args.lanes c.loop-lane.left c.args.queue c.args.slot c.loop-lane.best c.in_default.ensures.none c.loop-lane.invariant
-
-pub returns-clause-none : goal.returns-clause-none
-returns-clause-none c = walk_none c.args.self.now c.args.lanes c.loop-lane.left c.args.queue c.args.slot c.loop-lane.best c.in_default.ensures.none c.loop-lane.invariant
+pub returns-in-None-clause-fits : goal.returns-in-None-clause-fits
+returns-in-None-clause-fits c =
+    free_holds c.self.inside c.args.self.now c.args.lanes c.args.queue c.args.slot c.self.invariant c.self.view_is c.requires.queue (sym c.holder.ensures ∙ c.in-None.is) c.least_loaded.result c.least_loaded.ensures.there

@@ -7,8 +7,8 @@ pub returns-clause-value : goal.returns-clause-value
 returns-clause-value c =
     let there = there_seen c.self.inside.nodes c.self.inside.chains.items c.self.inside.room c.args.self.now c.self.view_is c.args.list c.requires in
     ap len_of (chain_read c.self.inside.chains.items c.args.list c.index.result.now there c.index.ensures)
-    ∙ length_seen c.self.inside.nodes c.self.inside.chains.items c.self.inside.room c.args.self.now c.self.view_is c.self.invariant c.args.list
+    ∙ length_seen c.self.inside.nodes c.self.inside.chains.items c.self.inside.room c.args.self.now c.self.view_is c.self.inside.free c.self.invariant c.args.list
 
 pub returns-clause-within : goal.returns-clause-within
 returns-clause-within c =
-    total_within c.self.inside.nodes c.self.inside.chains.items c.self.inside.room c.args.self.now c.self.view_is c.self.invariant
+    total_within c.self.inside.nodes c.self.inside.chains.items c.self.inside.room c.args.self.now c.self.view_is c.self.inside.free c.self.invariant

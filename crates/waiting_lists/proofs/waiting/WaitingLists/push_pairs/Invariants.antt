@@ -1,5 +1,4 @@
-use Rattle.std.proofs.Common.{◌≡◌, ◌+◌, ◌-◌, ◌≤◌, ◌++◌, ℕ, map, vec_len, vec_capacity}
-use Rattle.slab.specs.Slab.{get}
+use Rattle.std.proofs.Common.{◌≡◌, ◌+◌, ◌-◌, ◌≤◌, ◌++◌, ℕ, map, slice_get, suc, vec_len, vec_capacity}
 use Rattle.waiting_lists.specs.Chains.{ArePlaces, items, path}
 use Rattle.waiting_lists.specs.Lists.{list_at}
 use Rattle.waiting_lists.proofs.Pairs.{pair_with}
@@ -9,8 +8,8 @@ abbrev pub invariant-loop : goal.invariant-loop
 invariant-loop l =
     record {
       owner : ℕ → ℕ;
-      places : ArePlaces (get l.self-inside.nodes) owner l.list (path (get l.self-inside.nodes) l.cursor (l.end - l.counter));
-      pairs : l.into.items ++ map (pair_with l.queue) (items (get l.self-inside.nodes) (path (get l.self-inside.nodes) l.cursor (l.end - l.counter))) ≡ l.fn.into.items ++ map (pair_with l.queue) (list_at l.self l.list);
+      places : ArePlaces (slice_get l.self-inside.nodes.items) owner (suc l.list) (path (slice_get l.self-inside.nodes.items) l.cursor (l.end - l.counter));
+      pairs : l.into.items ++ map (pair_with l.queue) (items (slice_get l.self-inside.nodes.items) (path (slice_get l.self-inside.nodes.items) l.cursor (l.end - l.counter))) ≡ l.fn.into.items ++ map (pair_with l.queue) (list_at l.self l.list);
       room : vec_len l.into + (l.end - l.counter) ≤ vec_capacity l.into;
       capacity : vec_capacity l.into ≡ vec_capacity l.fn.into;
     }

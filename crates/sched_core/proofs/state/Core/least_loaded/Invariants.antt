@@ -1,9 +1,9 @@
 use Rattle.place_set.specs.Places.{weight}
 use Rattle.sched_core.proofs.OpenLanes.{IsWalked}
-use Rattle.sched_core.proofs.state.Core.port_for.Given as goal
+use Rattle.sched_core.proofs.state.Core.least_loaded.Given as goal
 
 abbrev pub invariant-loop-lane : goal.invariant-loop-lane
-invariant-loop-lane l = IsWalked l.self l.fn.lanes l.left l.queue l.slot l.best
+invariant-loop-lane l = IsWalked l.self l.fn.lanes l.left l.best
 
 abbrev pub decreases-loop-lane : goal.decreases-loop-lane
 decreases-loop-lane l = weight l.left

@@ -85,7 +85,10 @@ fn the_head_is_seen_at_once(rt: HostRuntime) -> Result<(), Fail> {
         event: event(1, 10)?,
     };
     let seen = queue.head(2, slot(1));
-    assert_eq!(rt; seen.map(|found| (found.slot, found.waiting)), Some((1, head)));
+    assert_eq!(rt;
+        seen.map(|found| (found.slot, found.waiting)),
+        Some((1, head))
+    );
     assert!(rt; queue.head(2, slot(3)).is_none());
     assert!(rt; !queue.is_blocked(2, slot(3)));
     assert_eq!(rt; queue.first(2, slot(3)), None);

@@ -10,10 +10,8 @@ pub record IsHeldIn (ps : List Pin) (k s : ℕ) : Type 0 where
   pub some : 0 < (pin_at ps s).count
   pub cell : cell_of (pin_at ps s).lane ≡ k
 
--- each set has the slots that stand on its lanes, and only sets that are noted as used have any
-pub record AreHeld (ps : List Pin) (sets : List Places) (used : Places) : Type 0 where
+-- each set has the slots that stand on its lanes
+pub record AreHeld (ps : List Pin) (sets : List Places) : Type 0 where
   pub few : length ps ≤ 64
-  pub cells : length sets ≡ 33
-  pub held : (k s : ℕ) → k < 33 → Has (set_at sets k) s ↔ IsHeldIn ps k s
-  pub noted : (k s : ℕ) → k < 33 → Has (set_at sets k) s → Has used k
-  pub within : (k : ℕ) → Has used k → k < 33
+  pub cells : length sets ≡ 64
+  pub held : (k s : ℕ) → k < 64 → Has (set_at sets k) s ↔ IsHeldIn ps k s

@@ -2,11 +2,11 @@
 
 ghost use Rattle.std.specs.Prelude.{◌≡◌, ℕ, ◌<◌, ◌≤◌, ◌↔◌, length, replicate, slice_set, IfOk, IsTrue};
 ghost use Rattle.evt_types.specs.declared.shape.TheConstants.{MAX_DEPTH};
-ghost use Rattle.order_parts.specs.Pins.{cell_of, free, holder_of, pin_at, may_pin, pinned, unpinned};
+ghost use Rattle.order_parts.specs.Pins.{IsOn, cell_of, free, holder_of, pin_at, may_pin, pinned, unpinned};
 ghost use Rattle.place_set.specs.Places.{Has};
 
 use crate::Memory;
-use evt_types::{MAX_PORTS, MAX_SLOTS};
+use evt_types::MAX_SLOTS;
 use place_set::{MAX_PLACES, Places};
 use std::alloc::Global;
 use std::marker::Model;
@@ -18,25 +18,20 @@ struct Hold {
     lane: usize,
 }
 
-/// How many sets of held slots there are: one for each port's lane, and one for all flow lanes.
-const CELLS: usize = MAX_PORTS + 1;
-
 /// The pins of an atomic queue: while events of a slot are unanswered, they all stand on one lane.
 #[derive(Debug, Drop)]
 pub struct Pins {
     holds: Vec<Hold>,
-    /// For each port's lane the slots that stand on it, and behind them those that stand on any flow lane.
-    held: [Places; CELLS],
-    /// The sets into which a slot was put so far.
-    used: Places,
+    /// For each lane the slots that stand on it. Only the first lanes, as many as there are sets, have one of their own.
+    held: [Places; MAX_PLACES],
 }
 
 /// The set of the lane's slots.
 fn cell_of(lane: usize) -> usize
     ensures value { result ≡ cell_of lane }
-    ensures within { result < CELLS }
+    ensures within { result < MAX_PLACES }
 {
-    if lane < MAX_PORTS { lane } else { MAX_PORTS }
+    lane % MAX_PLACES
 }
 
 impl Model for Pins {
@@ -48,7 +43,7 @@ impl Model for Pins {
 
     ghost view = { λ a. map pin_of a.holds.items };
 
-    ghost invariant = { λ a. AreHeld (map pin_of a.holds.items) a.held a.used };
+    ghost invariant = { λ a. AreHeld (map pin_of a.holds.items) a.held };
 }
 
 impl Pins {
@@ -60,8 +55,7 @@ impl Pins {
         let holds = vec![in alloc; Hold { count: 0, lane: 0 }; slots]?;
         Ok(Pins {
             holds,
-            held: [Places::none(); CELLS],
-            used: Places::none(),
+            held: [Places::none(); MAX_PLACES],
         })
     }
 
@@ -105,7 +99,6 @@ impl Pins {
         let mut slots = self.held[cell];
         slots.add(slot);
         self.held[cell] = slots;
-        self.used.add(cell);
         let hold = &mut self.holds[slot];
         hold.count += 1;
         hold.lane = lane;
@@ -127,19 +120,16 @@ impl Pins {
         }
     }
 
-    /// The slots whose event may go to one of these lanes, which are ports' own: the slot is free, or one of them has it.
-    pub fn may_go(&self, lanes: Places) -> Places
-        requires { (l : ℕ) → Has lanes l → l < MAX_PORTS }
-        ensures { (s : ℕ) → s < length self.now → Has result s ↔ ((l : ℕ) × Has lanes l × IsTrue (may_pin (pin_at self.now s) l)) }
+    /// The slots that stand on none of these lanes: they are free, or stand on another one. Of a slot that stands on a lane beyond the
+    /// first 64 nothing is said.
+    pub fn slots_off(&self, lanes: Places) -> Places
+        ensures { (s : ℕ) → s < 64 → (0 < (pin_at self.now s).count → (pin_at self.now s).lane < 64) → Has result s ↔ ((l : ℕ) → Has lanes l → ¬ IsOn (pin_at self.now s) l) }
     {
-        let Some(_lane) = lanes.first() else {
-            return Places::none();
-        };
-        let mut closed = self.used.except(lanes);
-        let mut allowed = Places::below(MAX_PLACES);
-        while let Some(cell) = closed.pop() {
-            allowed = allowed.except(self.held[cell]);
+        let mut left = lanes;
+        let mut slots = Places::below(MAX_PLACES);
+        while let Some(lane) = left.pop() {
+            slots = slots.except(self.held[lane]);
         }
-        allowed
+        slots
     }
 }

@@ -1,10 +1,9 @@
 //! Worked calls. Each container is made again where memory was refused, and serves then as ever.
 
-ghost use Rattle.std.specs.Prelude.{◌≡◌, ℕ, ◌<◌, ◌≤◌, [], replicate, IfOk};
+ghost use Rattle.std.specs.Prelude.{◌≡◌, ◌<◌, ◌≤◌, [], replicate, IfOk};
 ghost use Rattle.order_parts.specs.History.{entries_of};
 ghost use Rattle.order_parts.specs.Pins.{free};
 ghost use Rattle.order_parts.specs.Reorder.{empty};
-ghost use Rattle.place_set.specs.Places.{Has};
 
 use evt_types::{Event, EventFault, Op};
 use order_parts::{Entry, History, Memory, Pins, Reorder};
@@ -59,8 +58,7 @@ fn a_slot_is_free_once_all_are_answered(rt: HostRuntime) -> Result<(), Fail> {
 
 /// The lane's set.
 fn lane(lane: usize) -> Places
-    requires { lane < 32 }
-    ensures { (l : ℕ) → Has result l → l < 32 }
+    requires { lane < 64 }
 {
     let mut lanes = Places::none();
     lanes.add(lane);
@@ -73,15 +71,15 @@ fn first_three(slots: Places) -> (bool, bool, bool) {
 }
 
 #[test]
-fn a_held_slot_may_go_to_its_lane_alone(rt: HostRuntime) -> Result<(), Fail> {
+fn a_held_slot_stands_on_its_lane(rt: HostRuntime) -> Result<(), Fail> {
     let mut pins = pins_of(rt.alloc(), 3)?;
     pins.pin(1, 2);
     assert_eq!(rt; (pins.holder(0), pins.holder(1)), (None, Some(2)));
-    assert_eq!(rt; first_three(pins.may_go(lane(2))), (true, true, true));
-    assert_eq!(rt; first_three(pins.may_go(lane(0))), (true, false, true));
+    assert_eq!(rt; first_three(pins.slots_off(lane(2))), (true, false, true));
+    assert_eq!(rt; first_three(pins.slots_off(lane(0))), (true, true, true));
     pins.unpin(1);
     assert_eq!(rt; pins.holder(1), None);
-    assert_eq!(rt; first_three(pins.may_go(lane(0))), (true, true, true));
+    assert_eq!(rt; first_three(pins.slots_off(lane(2))), (true, true, true));
     Ok(())
 }
 

@@ -17,16 +17,17 @@ use Rattle.lists.specs.Lists.{has}
 use Rattle.place_set.specs.Places.{Has, IsEmpty, IsFirst, SameBut}
 use Rattle.place_set.specs.declared.places.Places.{Places}
 use Rattle.sched_core.proofs.Offers.{not_itself, not_better, not_better_too}
-use Rattle.sched_core.proofs.Pinned.{alone_may, free_may, may_is_alone, may_is_holder}
+use Rattle.sched_core.proofs.News.{slots_range}
+use Rattle.sched_core.proofs.Pinned.{alone_may, free_may, may_is_alone, may_is_holder, stands_on}
 use Rattle.order_parts.specs.History.{entries_of}
-use Rattle.order_parts.specs.Pins.{holder_of, may_pin}
+use Rattle.order_parts.specs.Pins.{IsOn, holder_of, may_pin}
 use Rattle.sched_core.proofs.Cores.{unanswered_here}
 use Rattle.sched_core.proofs.Roomy.{lane_is}
 use Rattle.sched_core.specs.Histories.{AreRoomy, HasRoom, lane_in}
-use Rattle.sched_core.specs.Inner.{held_of, slots_for}
+use Rattle.sched_core.specs.Inner.{held_of}
 use Rattle.sched_core.specs.Links.{AreLinksOf}
 use Rattle.sched_core.specs.Offered.{AreOpenLanes, FitsSlot, HasAllowed, HasPlace, IsOpenLane, MayHold, better_of}
-use Rattle.sched_core.specs.Pinned.{IsSlotOf, MayGo, pin_in, pins_at, slots_of}
+use Rattle.sched_core.specs.Pinned.{pin_in}
 use Rattle.sched_core.specs.View.{view_in, unanswered_in, IsCore}
 use Rattle.sched_core.specs.declared.state.Core.TheInside.{Inside}
 use Rattle.sched_core.specs.SlotLanes.{IsSlotLane, slot_lane_count}
@@ -245,20 +246,20 @@ words_open a s q links roomy both closed lanes core place are_links are_roomy ar
 
 -- ---- the slots of ports
 
--- one of the slots that the pins know, or the one slot of a queue without pins
-pub slot_of_pins : (p : Plan) (q n t : ℕ) → n ≡ slots_of p q → t < slots_for p q → IsSlotOf n t
-slot_of_pins p q n t count within = by_kind (is_atomic (queue_of p q).kind) count within
-  where
-    by_kind : (b : Bool) → n ≡ cond b (queue_of p q).slots 0 → t < cond b (queue_of p q).slots 1 → IsSlotOf n t
-    by_kind true e lt = inl (omega (arith, e, lt))
-    by_kind false e lt = inr (e, omega (arith, lt))
+-- where no lane is open, no event of the queue may go
+pub none_allowed : (v : View) (s : Passed) (q : ℕ) (lanes slots : Places) → has_flow_lanes v.shape q ≡ false → AreOpenLanes v s q lanes → IsEmpty lanes → HasAllowed v s q slots
+none_allowed v s q lanes slots ports are none t within some = absurd (none some.0 ((are some.0).1 (fits_open v s q t some.0 ports some.1)))
 
-pub ports_allowed : (a : Inside) (s : Passed) (q : ℕ) (lanes slots : Places) → IsCore a → q < length a.shape.queues → has_flow_lanes a.shape q ≡ false → AreOpenLanes (view_in a) s q lanes
-    → ((t : ℕ) → IsSlotOf (length (pins_at a.pins q)) t → Has slots t ↔ MayGo (pin_in a.pins q t) lanes) → HasAllowed (view_in a) s q slots
-ports_allowed a s q lanes slots core h ports are may t within some =
-    let each = may t (slot_of_pins a.shape q (length (pins_at a.pins q)) t (core.pins.slots q h) within) in
-    let fits = some.1 in
-    each.1 (some.0, (are some.0).1 (fits_open (view_in a) s q t some.0 ports fits), alone_may a.shape (map unanswered_in a.lanes) a.pins q t some.0 core.pins h fits.alone)
+-- a slot whose events an open lane may take stands on none of the lanes that aren't open
+pub ports_allowed : (a : Inside) (s : Passed) (q : ℕ) (lanes links closed slots : Places) → IsCore a → q < length a.shape.queues → has_flow_lanes a.shape q ≡ false → AreOpenLanes (view_in a) s q lanes
+    → ((l : ℕ) → Has closed l ↔ (Has links l × ¬ Has lanes l))
+    → ((t : ℕ) → t < 64 → (0 < (pin_in a.pins q t).count → (pin_in a.pins q t).lane < 64) → Has slots t ↔ ((l : ℕ) → Has closed l → ¬ IsOn (pin_in a.pins q t) l)) → HasAllowed (view_in a) s q slots
+ports_allowed a s q lanes links closed slots core h ports are is off t within some =
+    let opened = fits_open (view_in a) s q t some.0 ports some.1 in
+    let may = alone_may a.shape (map unanswered_in a.lanes) a.pins q t some.0 core.pins h some.1.alone in
+    let few = (slots_range a.shape q core.limits h).1 in
+    (off t (omega (arith, within, few)) (λ stands. let lane = stands_on some.0 (pin_in a.pins q t) may stands in let own = opened.lane in let count = core.limits.port_count.1 in omega (arith, lane, own, count))).1
+    (λ l shut on. ((is l).0 shut).1 (subst (Has lanes) (sym (stands_on some.0 (pin_in a.pins q t) may on.0) ∙ on.1) ((are some.0).1 opened)))
 
 -- ---- the slot's flow lane
 

@@ -91,6 +91,14 @@ may_parts l x may = by_case (or_cases (x.count == 0) (x.lane == l) may)
     by_case (inl e) = inl (eqb-true x.count 0 e)
     by_case (inr e) = inr (eqb-true x.lane l e)
 
+-- where there are any, they stand on a lane that may have one more
+pub stands_on : (l : ℕ) (x : Pin) → may_pin x l ≡ true → 0 < x.count → x.lane ≡ l
+stands_on l x may some = by_case (may_parts l x may)
+  where
+    by_case : (x.count ≡ 0) ⊎ (x.lane ≡ l) → x.lane ≡ l
+    by_case (inl none) = absurd (omega (arith, none, some))
+    by_case (inr e) = e
+
 count_on_may : (l : ℕ) (x : Pin) → may_pin x l ≡ true → count_on l x ≡ x.count
 count_on_may l x may = by_case (may_parts l x may)
   where

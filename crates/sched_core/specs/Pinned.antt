@@ -1,10 +1,8 @@
 -- The pins of all queues, and how they agree with the unanswered events.
-use Rattle.std.specs.Prelude.{ℕ, ◌≡◌, ◌<◌, ◌⊎◌, IsTrue, Bool, true, ◌&&◌, ◌==◌, List, [], length, count_by, replicate, slice_index_or, slice_set, if◌then◌else◌, All}
+use Rattle.std.specs.Prelude.{ℕ, ◌≡◌, ◌<◌, Bool, true, ◌&&◌, ◌==◌, List, [], length, count_by, replicate, slice_index_or, slice_set, if◌then◌else◌, All}
 use Rattle.evt_types.specs.Plan.{Plan, atomic_slots, queue_of, is_atomic}
 use Rattle.transcripts.specs.Transcript.{Held}
-use Rattle.order_parts.specs.Pins.{Pin, free, may_pin, pin_at}
-use Rattle.place_set.specs.Places.{Has}
-use Rattle.place_set.specs.declared.places.Places.{Places}
+use Rattle.order_parts.specs.Pins.{Pin, free, pin_at}
 
 -- how many slots of the queue have a pin: those of an atomic queue, of another queue none
 abbrev pub slots_of : Plan → ℕ → ℕ
@@ -49,11 +47,3 @@ pub record ArePins (p : Plan) (us : List (List Held)) (ps : List (List Pin)) : T
   pub slots : (q : ℕ) → q < length p.queues → length (pins_at ps q) ≡ slots_of p q
   pub known : All (All (λ (y : Held). y.queue < length p.queues)) us
   pub held : (q slot l : ℕ) → is_atomic (queue_of p q).kind ≡ true → count_of q slot (entries_at us l) ≡ count_on l (pin_in ps q slot)
-
--- one of so many slots; where there are none, 0 counts as one
-abbrev pub IsSlotOf : ℕ → ℕ → Type 0
-IsSlotOf n s = (s < n) ⊎ ((n ≡ 0) × (s ≡ 0))
-
--- an event of the pin's slot may go to one of the lanes
-abbrev pub MayGo : Pin → Places → Type 0
-MayGo x lanes = (l : ℕ) × Has lanes l × IsTrue (may_pin x l)

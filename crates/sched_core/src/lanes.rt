@@ -40,11 +40,16 @@ impl Core {
         requires lanes { AreOpenLanes self.now skips.now queue lanes }
         ensures { HasAllowed self.now skips.now queue result }
     {
+        // The use of a field makes known what holds of each core.
+        let _ = &self.shape;
         if self.has_flow_lanes(queue) {
-            Places::below(MAX_PLACES)
-        } else {
-            self.pins.may_go(queue, lanes)
+            return Places::below(MAX_PLACES);
         }
+        if lanes.is_empty() {
+            return lanes;
+        }
+        let closed = self.links[queue].except(lanes);
+        self.pins.slots_off(queue, closed)
     }
 
     /// Whether the queue's events are handed to flow lanes.

@@ -2,11 +2,11 @@
 
 ghost use Rattle.std.specs.Prelude.{◌≡◌, ℕ, ◌<◌, ◌↔◌, length, IfOk, IsTrue};
 ghost use Rattle.evt_types.specs.Plan.{atomic_slots};
-ghost use Rattle.order_parts.specs.Pins.{holder_of, may_pin, pinned, unpinned};
+ghost use Rattle.order_parts.specs.Pins.{IsOn, holder_of, may_pin, pinned, unpinned};
 ghost use Rattle.place_set.specs.Places.{Has};
-ghost use Rattle.sched_core.specs.Pinned.{AreFreePins, IsSlotOf, MayGo, pins_at, pin_in, with_pin};
+ghost use Rattle.sched_core.specs.Pinned.{AreFreePins, pins_at, pin_in, with_pin};
 
-use evt_types::{MAX_DEPTH, MAX_PORTS, QueueDraft, Shape};
+use evt_types::{MAX_DEPTH, QueueDraft, Shape};
 use order_parts::Pins;
 use place_set::Places;
 use std::alloc::{AllocError, Global};
@@ -78,20 +78,14 @@ impl AllPins {
         }
     }
 
-    /// The slots whose event may go to one of these lanes, which are ports' own. A queue without pins has the slot 0 alone.
-    pub fn may_go(&self, queue: usize, lanes: Places) -> Places
-        requires there { queue < length self.now }
-        requires lanes { (l : ℕ) → Has lanes l → l < MAX_PORTS }
-        ensures { (s : ℕ) → IsSlotOf (length (pins_at self.now queue)) s → Has result s ↔ MayGo (pin_in self.now queue s) lanes }
+    /// The slots that stand on none of these lanes: they are free, or stand on another one. Of a slot that stands on a lane beyond the
+    /// first 64 nothing is said.
+    pub fn slots_off(&self, queue: usize, lanes: Places) -> Places
+        requires { queue < length self.now }
+        ensures { (s : ℕ) → s < 64 → (0 < (pin_in self.now queue s).count → (pin_in self.now queue s).lane < 64) → Has result s ↔ ((l : ℕ) → Has lanes l → ¬ IsOn (pin_in self.now queue s) l) }
     {
         let pins = &self.queues[queue];
-        if pins.slots() > 0 {
-            return pins.may_go(lanes);
-        }
-        match lanes.first() {
-            Some(_) => Places::below(1),
-            None => Places::none(),
-        }
+        pins.slots_off(lanes)
     }
 
     /// One event more of the slot goes to the lane.

@@ -56,8 +56,8 @@ impl Core {
     fn may_enter(&self, queue: usize) -> bool
         ensures { result ≡ may_enter self.now queue }
     {
-        let has_room = self.inside < self.bound && self.entries < MAX_ENTRIES;
-        queue < self.queues.len() && (self.shut || has_room)
+        queue < self.queues.len()
+            && (self.inside < self.bound && self.entries < MAX_ENTRIES || self.shut)
     }
 
     /// Whether the lane has something to answer, and the queue may accept what it is forwarded as.

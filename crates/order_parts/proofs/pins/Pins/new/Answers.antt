@@ -9,4 +9,4 @@ pub returns : goal.returns
 returns c = ap (map pin_of) (c.in_ok-holds.ensures.items_if_clones_equal (λ y e. e)) ∙ map-replicate _ c.args.slots
 
 pub invariant_of-result : goal.invariant_of-result
-invariant_of-result c = subst (λ ps. AreHeld ps (replicate 33 c.none.result) c.none-2.result) (sym (returns c)) (new_held c.args.slots c.none.result c.none-2.result c.requires c.none.ensures c.none-2.ensures)
+invariant_of-result c = subst (λ ps. AreHeld ps (replicate 64 c.none.result)) (sym (returns c)) (new_held c.args.slots c.none.result c.requires c.none.ensures)

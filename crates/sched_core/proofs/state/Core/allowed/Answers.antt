@@ -1,14 +1,28 @@
-use Rattle.std.proofs.Common.{◌≡◌, ◌<◌, ◌∙◌, false, length, sym, subst}
+use Rattle.std.proofs.Common.{◌≡◌, ◌<◌, ◌∙◌, false, length, sym, subst, arith}
 use Rattle.evt_types.specs.Plan.{has_flow_lanes}
 use Rattle.transcripts.specs.Standing.{View}
-use Rattle.sched_core.proofs.OpenLanes.{ports_allowed}
+use Rattle.sched_core.proofs.News.{slots_range}
+use Rattle.sched_core.proofs.OpenLanes.{none_allowed, ports_allowed}
+use Rattle.sched_core.specs.Inner.{slots_for}
 use Rattle.sched_core.specs.Offered.{AreOpenLanes, HasAllowed}
 use Rattle.sched_core.proofs.state.Core.allowed.Goals as goal
 
-pub returns-else-has_flow_lanes : goal.returns-else-has_flow_lanes
-returns-else-has_flow_lanes c =
+pub returns-then-has_flow_lanes : goal.returns-then-has_flow_lanes
+returns-then-has_flow_lanes c slot within fits =
+    let a = c.self.inside in
+    let h : c.args.queue < length a.shape.queues = subst (λ (v : View). c.args.queue < length v.shape.queues) (sym c.self.view_is) c.requires.queue in
+    let few = (slots_range a.shape c.args.queue c.self.invariant.limits h).1 in
+    let lt : slot < slots_for a.shape c.args.queue = subst (λ (v : View). slot < slots_for v.shape c.args.queue) (sym c.self.view_is) within in
+    (c.below.ensures slot).1 (omega (arith, lt, few))
+
+pub returns-then-is_empty : goal.returns-then-is_empty
+returns-then-is_empty c =
+    none_allowed c.args.self.now c.args.skips.now c.args.queue c.args.lanes c.args.lanes (sym c.has_flow_lanes.ensures ∙ c.if-has_flow_lanes.false) c.requires.lanes (c.is_empty.ensures.0 c.if-is_empty.true)
+
+pub returns : goal.returns
+returns c =
     let a = c.self.inside in
     let h : c.args.queue < length a.shape.queues = subst (λ (v : View). c.args.queue < length v.shape.queues) (sym c.self.view_is) c.requires.queue in
     let ports : has_flow_lanes a.shape c.args.queue ≡ false = subst (λ (v : View). has_flow_lanes v.shape c.args.queue ≡ false) (sym c.self.view_is) (sym c.has_flow_lanes.ensures ∙ c.if-has_flow_lanes.false) in
-    subst (λ v. HasAllowed v c.args.skips.now c.args.queue c.may_go.result) c.self.view_is
-    (ports_allowed a c.args.skips.now c.args.queue c.args.lanes c.may_go.result c.self.invariant h ports (subst (λ v. AreOpenLanes v c.args.skips.now c.args.queue c.args.lanes) (sym c.self.view_is) c.requires.lanes) c.may_go.ensures)
+    subst (λ v. HasAllowed v c.args.skips.now c.args.queue c.slots_off.result) c.self.view_is
+    (ports_allowed a c.args.skips.now c.args.queue c.args.lanes c.index.result.now c.except-closed.result c.slots_off.result c.self.invariant h ports (subst (λ v. AreOpenLanes v c.args.skips.now c.args.queue c.args.lanes) (sym c.self.view_is) c.requires.lanes) c.except-closed.ensures c.slots_off.ensures)

@@ -1,23 +1,27 @@
 #!/usr/bin/env python3
-"""Times what take, give and release of an event cost the scheduling core, and what they cost it in another version, in bursts of 1 and
-of 32. Runs of the two programs take turns, so that a machine which is slower for a while changes both. It fails where an event costs
-more than half as much as in the other version.
+"""Compares what take, give and release of an event cost the scheduling core with what they cost it in another version, in bursts of 1
+and of 32, and fails where an event costs more than half as much as there.
 
     against.py OTHER [PROGRAM]
 
 OTHER is `core_bench` built over the other version's crates: in a copy of that version, crates/core_bench of this one takes the place of
-its own. PROGRAM is this version's `core_bench`; where none is named it is built. Both times have the benchmark's own share in them.
+its own. PROGRAM is this version's `core_bench`; where none is named it is built. Runs of the two programs take turns, so that a machine
+which is slower for a while changes both; the times have the benchmark's own share in them. Where valgrind is installed the instructions
+of an event are counted as well, less that share.
 """
 import pathlib
 import statistics
 import sys
 
-from core_rounds import TURNS, Case, built, enough_rounds, seconds
+from core_rounds import TURNS, Case, built, can_count, counted, enough_rounds, seconds
 
-BURSTS, HELD, MOST = (1, 32), 32, 0.5
+HELD, MOST = 32, 0.5
+# The benchmark's own instructions per event, by burst: those that are left where the core's calls are kept out of its code
+# (`#[inline(never)]` on propose, give, take and takes) and are counted apart.
+OWN = {1: 176, 32: 123}
 
 
-def compared(other, program, case):
+def timed(other, program, case):
     """The nanoseconds per event of both programs, and the ratio of the second to the first."""
     both = (other, program)
     idle = {each: min(seconds(each, case, 0) for _ in range(5)) for each in both}
@@ -27,10 +31,16 @@ def compared(other, program, case):
     return *least, statistics.median(ours / theirs for theirs, ours in turns)
 
 
-def is_half(other, program, burst):
+def core_alone(other, program, case):
+    """The core's own instructions per event in both programs, and the ratio of the second to the first."""
+    theirs, ours = (counted(each, case) - OWN[case.burst] for each in (other, program))
+    return theirs, ours, ours / theirs
+
+
+def is_half(unit, measure, other, program, burst):
     """Prints what an event costs in both versions, and whether it costs at most half."""
-    theirs, ours, ratio = compared(other, program, Case(HELD, burst=burst))
-    print(f"{burst:5} {theirs:12.1f} {ours:12.1f} {ratio:6.2f} {MOST:8.2f}", flush=True)
+    theirs, ours, ratio = measure(other, program, Case(HELD, burst=burst))
+    print(f"{unit:12} {burst:5} {theirs:8.1f} {ours:8.1f} {ratio:6.2f} {MOST:8.2f}", flush=True)
     return ratio <= MOST
 
 
@@ -39,8 +49,9 @@ def main():
         sys.exit(__doc__)
     other = pathlib.Path(sys.argv[1]).resolve()
     program = pathlib.Path(sys.argv[2]).resolve() if len(sys.argv) == 3 else built()
-    print(f"{'burst':>5} {'ns, other':>12} {'ns, this':>12} {'ratio':>6} {'at most':>8}")
-    half = [is_half(other, program, burst) for burst in BURSTS]
+    units = {"nanoseconds": timed, **({"instructions": core_alone} if can_count() else {})}
+    print(f"{'per event':12} {'burst':>5} {'other':>8} {'this':>8} {'ratio':>6} {'at most':>8}")
+    half = [is_half(unit, measure, other, program, burst) for unit, measure in units.items() for burst in OWN]
     sys.exit(0 if all(half) else 1)
 
 

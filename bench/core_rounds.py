@@ -2,12 +2,15 @@
 each an event that is taken, given and answered."""
 import dataclasses
 import pathlib
+import re
 import resource
+import shutil
 import statistics
 import subprocess
 import sys
 
-TURNS, SECONDS = 40, 0.1
+TURNS, SECONDS, COUNTED = 40, 0.1, 1_000
+VALGRIND = ("valgrind", "--tool=callgrind", "--callgrind-out-file=/dev/null")
 # So many events the busy port of each run holds.
 BUSY = 64
 CRATE = pathlib.Path(__file__).resolve().parent.parent / "crates" / "core_bench"
@@ -49,6 +52,26 @@ def ran(words, case, rounds):
     if run.returncode != 0 or run.stdout.decode() != line:
         sys.exit(f"{words[-1]} ended with {run.returncode}: {run.stdout.decode()}{run.stderr.decode()}")
     return run.stderr.decode()
+
+
+def can_count():
+    """Whether instructions can be counted: valgrind is installed."""
+    return shutil.which(VALGRIND[0]) is not None
+
+
+def instructions(program, case, rounds):
+    """How many instructions a run takes."""
+    said = ran([*VALGRIND, program], case, rounds)
+    refs = re.search(r"refs:\s+([\d,]+)", said)
+    if refs is None:
+        sys.exit(f"valgrind names no count: {said}")
+    return int(refs[1].replace(",", ""))
+
+
+def counted(program, case):
+    """The instructions per event. A run's start falls out of the difference of two."""
+    more = instructions(program, case, 2 * COUNTED) - instructions(program, case, COUNTED)
+    return more / (COUNTED * case.burst)
 
 
 def processor_time():

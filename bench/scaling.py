@@ -9,32 +9,17 @@ The program is `core_bench`; where none is named it is built. Where valgrind is 
 are the same on each machine of one kind; else it is timed.
 """
 import dataclasses
-import re
-import shutil
 import sys
 
-from core_rounds import Case, named, ran, times
+from core_rounds import Case, can_count, counted, named, times
 
-BURSTS, HELD, ROUNDS = (1, 32), 32, 1_000
+BURSTS, HELD = (1, 32), 32
 SCALES = (("blocked", (0, 4_000), 1.3), ("queues", (1, 16), 1.3), ("ports", (2, 15), 1.5))
-VALGRIND = ("valgrind", "--tool=callgrind", "--callgrind-out-file=/dev/null")
-
-
-def instructions(program, case, rounds):
-    """How many instructions a run takes."""
-    said = ran([*VALGRIND, program], case, rounds)
-    refs = re.search(r"refs:\s+([\d,]+)", said)
-    if refs is None:
-        sys.exit(f"valgrind names no count: {said}")
-    return int(refs[1].replace(",", ""))
 
 
 def counts(program, cases):
-    """The instructions per event in each case, and their ratio to those of the first. A run's start falls out of the difference of two."""
-    each = {}
-    for name, case in cases.items():
-        more = instructions(program, case, 2 * ROUNDS) - instructions(program, case, ROUNDS)
-        each[name] = more / (ROUNDS * case.burst)
+    """The instructions per event in each case, and their ratio to those of the first."""
+    each = {name: counted(program, case) for name, case in cases.items()}
     first = next(iter(each.values()))
     return {name: (cost, cost / first) for name, cost in each.items()}
 
@@ -52,7 +37,7 @@ def main():
     if len(sys.argv) > 2:
         sys.exit(__doc__)
     program = named()
-    unit, measure = ("instructions", counts) if shutil.which(VALGRIND[0]) else ("nanoseconds", times)
+    unit, measure = ("instructions", counts) if can_count() else ("nanoseconds", times)
     print(f"{unit + ' per event':24} {'burst':>5} {'fewer':>8} {'more':>8} {'ratio':>6} {'at most':>8}")
     flat = [is_flat(program, measure, burst, scale) for burst in BURSTS for scale in SCALES]
     sys.exit(0 if all(flat) else 1)

@@ -18,7 +18,7 @@ from core_rounds import TURNS, Case, built, can_count, counted, enough_rounds, s
 HELD, MOST = 32, 0.5
 # The benchmark's own instructions per event, by burst: those that are left where the core's calls are kept out of its code
 # (`#[inline(never)]` on propose, give, take and takes) and are counted apart.
-OWN = {1: 176, 32: 123}
+OWN = {1: 157, 32: 109}
 
 
 def timed(other, program, case):

@@ -13,11 +13,12 @@ abbrev pub AreLanes : Plan → List ℕ → Type 0
 AreLanes p lanes = All (λ l. l < lanes_of p) lanes
 
 -- a device within the limits, with the lanes of the source and of the busy port and those of the held events, a log with room for the
--- steps of any one call, some flows, and a core that stands at some transcript
+-- steps of any one call, some flows and one of them that is next, and a core that stands at some transcript
 pub record IsRun (r : Run) : Type 0 where
   pub limits : IsWithinLimits r.core.shape
   pub ports : 2 ≤ lanes_of r.core.shape
   pub lanes : AreLanes r.core.shape r.lanes.items
   pub room : sweep_room r.core.shape ≤ vec_capacity r.log
   pub flows : (1 ≤ r.flows) × (r.flows ≤ MAX_FLOWS)
+  pub next : r.next_flow < r.flows
   pub stands : (T : List Step) × Stands T r.core

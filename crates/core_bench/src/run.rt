@@ -22,8 +22,8 @@ pub struct Run {
     pub lanes: VecDeque<usize>,
     /// Of how many flows the workers' events are.
     pub flows: u64,
-    /// How many of these were brought in.
-    pub brought: u64,
+    /// The flow of the next one of these that is brought in.
+    pub next_flow: u64,
 }
 
 /// A new event of the flow.
@@ -62,7 +62,7 @@ impl Run {
                     log,
                     lanes,
                     flows: asked.flows,
-                    brought: 0,
+                    next_flow: 0,
                 })
             }
             Err((memory, _)) => Err(BenchFault::from(memory)),
@@ -93,9 +93,9 @@ impl Run {
         ensures run { OnOk result (IsRun self.new) }
         ensures inside { OnOk result (inside_of self.new.core ≡ inside_of self.old.core + 1) }
     {
-        let number = self.brought;
-        self.brought = number.wrapping_add(1);
-        self.bring(new_event((number % self.flows) as u32, number))
+        let flow = self.next_flow;
+        self.next_flow = if flow + 1 < self.flows { flow + 1 } else { 0 };
+        self.bring(new_event(flow as u32, flow))
     }
 
     /// The release of the workers' oldest unanswered event is taken.

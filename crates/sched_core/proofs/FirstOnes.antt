@@ -1,5 +1,5 @@
 -- The first event of a level, as a queue finds it and as a core's view has it.
-use Rattle.std.proofs.Common.{◌≡◌, ℕ, ◌%◌, ◌<◌, ◌≤◌, Bool, true, false, cond, length, get_or, Contains, Option, Some, None, refl, sym, ap, ◌∙◌, subst, arith}
+use Rattle.std.proofs.Common.{◌≡◌, ◌≢◌, ℕ, ◌%◌, ◌<◌, ◌≤◌, Bool, true, false, cond, length, get_or, All, Contains, Option, Some, None, refl, sym, ap, ◌∙◌, subst, arith}
 use Rattle.std.specs.Option.{IfSome, IfNone}
 use Rattle.std.proofs.lemmas.Nat.{mod_below}
 use Rattle.evt_types.specs.Fault.{IsWithinLimits}
@@ -7,14 +7,18 @@ use Rattle.evt_types.specs.Plan.{Plan, level_of, queue_of, slot_of, is_atomic}
 use Rattle.evt_types.specs.declared.event.Numbered.{Numbered}
 use Rattle.place_set.specs.Places.{Has}
 use Rattle.place_set.specs.declared.places.Places.{Places}
+use Rattle.sched_core.proofs.Busy.{waiting_there}
 use Rattle.sched_core.proofs.Cores.{waiting_here, waits_here}
 use Rattle.sched_core.proofs.News.{slots_range}
+use Rattle.sched_core.proofs.Offers.{HasNoneBeside, levels_beside}
 use Rattle.sched_core.specs.Inner.{slots_for}
 use Rattle.sched_core.specs.Offered.{HasNoneAllowedIn, HasNoneOfSlotIn, IsFirstIn, IsFirstSlotIn, IsOldestIn, slot_at}
+use Rattle.sched_core.specs.Ordered.{waits_at}
 use Rattle.sched_core.specs.View.{view_in, IsCore}
-use Rattle.parked_queue.specs.Waits.{Waits, HasNoneAllowed, HasNoneOfSlot, IsFirstAllowed, IsFirstSlot, IsOldest}
+use Rattle.parked_queue.specs.Waits.{AreLevels, Waits, HasNoneAllowed, HasNoneOfSlot, IsFirstAllowed, IsFirstSlot, IsOldest}
 use Rattle.parked_queue.specs.declared.first.Found.{Found}
 use Rattle.sched_core.specs.declared.state.Core.TheInside.{Inside}
+use Rattle.transcripts.specs.Choice.{Passed}
 use Rattle.transcripts.specs.Standing.{View}
 
 -- the slot of an event, by how many slots its queue has
@@ -32,6 +36,12 @@ slot_below p q flow limits h =
 
 pub slots_within : (v : View) (q : ℕ) → IsWithinLimits v.shape → q < length v.shape.queues → (w : Numbered) → slot_at v q w < slots_for v.shape q
 slots_within v q limits h w = slot_below v.shape q w.event.flow limits h
+
+-- nothing can be given of the levels that a queue doesn't name
+pub levels_here : (a : Inside) (v : View) (s : Passed) (q : ℕ) (left : Places) → view_in a ≡ v → AreLevels (waits_at a.queues q) left → HasNoneBeside v s q left
+levels_here a v s q left view levels =
+    subst (λ (u : View). HasNoneBeside u s q left) view
+    (levels_beside (view_in a) s q left (λ c never. subst (All (λ (w : Numbered). level_of w.event ≢ c)) (sym (waiting_there a q)) (levels.rest c never)))
 
 module _ (a : Inside) (i : ℕ) (old : Waits) (core : IsCore a) (h : i < length a.queues) (is : old ≡ get_or a.queues i old) where
   pub slots_here : old.slots ≡ slots_for a.shape i

@@ -265,20 +265,31 @@ oldest_too v s q l w u offer oldest =
         or_right (nat_lt (level_of x.event) (level_of w.event)) ((level_of x.event == level_of w.event) && nat_lt x.number w.number) (and_from _ _ (eq-eqb _ _ (eqb-true (level_of x.event) (level_of u.event) parts.0 ∙ oldest.level)) (lt-ltb x.number w.number (omega arith))))
         (or_cases (nat_lt (level_of x.event) (level_of u.event)) ((level_of x.event == level_of u.event) && nat_lt x.number u.number) earlier)))
 
-module _ (v : View) (s : Passed) (x : Choice) (best : IsBestChoice v s x) where
-  read : (w : Numbered) → IsOldestIn v x.queue x.level x.slot w → IsOfferOf v s x.queue x.lane w
-  read w oldest =
-      let chosen = best.choice in
-      oldest_too v s x.queue x.lane chosen.waiting w chosen.offer
-      (subst (λ k. IsOldestIn v x.queue (level_of chosen.waiting.event) k w) (sym chosen.place.slot) (subst (λ k. IsOldestIn v x.queue k x.slot w) (sym chosen.place.level) oldest))
+-- the oldest event of the place that the queue's choice names is the queue's offer
+read : (v : View) (s : Passed) (q : ℕ) (x : Choice) → IsChoiceOf v s q x → (w : Numbered) → IsOldestIn v x.queue x.level x.slot w → IsOfferOf v s q x.lane w
+read v s q x chosen w oldest =
+    oldest_too v s q x.lane chosen.waiting w chosen.offer
+    (subst (λ k. IsOldestIn v q (level_of chosen.waiting.event) k w) (sym chosen.place.slot)
+    (subst (λ k. IsOldestIn v q k x.slot w) (sym chosen.place.level) (subst (λ k. IsOldestIn v k x.level x.slot w) chosen.place.queue oldest)))
 
+-- the queue's offer is read where its choice says
+pub offer_read : (v : View) (s : Passed) (q : ℕ) (x : Choice) (o : Option Offer) → IsChoiceOf v s q x → IfSome o (λ y. (y.lane ≡ x.lane) × (y.delivery.queue ≡ x.queue)) → IfSome o (λ y. IsOldestIn v x.queue x.level x.slot (numbered_in y.delivery)) → IfSome o (IsOfferFrom v s q)
+offer_read v s q x None choice place oldest = tt
+offer_read v s q x (Some y) choice place oldest = (place.1 ∙ choice.place.queue, subst (λ l. IsOfferOf v s q l (numbered_in y.delivery)) (sym place.0) (read v s q x choice (numbered_in y.delivery) oldest))
+
+-- an event waits where the queue's choice says
+pub none_read : (v : View) (s : Passed) (q : ℕ) (x : Choice) (o : Option Offer) → IsChoiceOf v s q x → IfNone o (HasNoneOfSlotIn v x.queue x.level x.slot) → IfNone o (HasNone v s q)
+none_read v s q x None choice gone = absurd (subst (λ k. HasNoneOfSlotIn v k x.level x.slot) choice.place.queue gone choice.waiting choice.offer.waits choice.place.level choice.place.slot)
+none_read v s q x (Some y) choice gone = tt
+
+module _ (v : View) (s : Passed) (x : Choice) (best : IsBestChoice v s x) where
   -- the offer of all queues is the choice
   pub best_choice : (o : Option Offer) → IfSome o (λ y. (y.lane ≡ x.lane) × (y.delivery.queue ≡ x.queue)) → IfSome o (λ y. IsOldestIn v x.queue x.level x.slot (numbered_in y.delivery)) → IfSome o (λ y. IsChoice v s y.lane y.delivery.queue (numbered_in y.delivery))
   best_choice None place oldest = tt
   best_choice (Some y) place oldest =
       subst (λ l. IsChoice v s l y.delivery.queue (numbered_in y.delivery)) (sym place.0)
       (subst (λ q. IsChoice v s x.lane q (numbered_in y.delivery)) (sym place.1)
-      (choice_is v s x.queue x.lane (numbered_in y.delivery) best.there best.quota (read (numbered_in y.delivery) oldest) best.queue))
+      (choice_is v s x.queue x.lane (numbered_in y.delivery) best.there best.quota (read v s x.queue x best.choice (numbered_in y.delivery) oldest) best.queue))
 
   -- an event waits where the choice says
   pub best_there : (o : Option Offer) → IfNone o (HasNoneOfSlotIn v x.queue x.level x.slot) → IfNone o (HasNoChoice v s)

@@ -4,7 +4,7 @@ use Rattle.std.specs.Prelude.{◌↔◌}
 use Rattle.std.specs.Option.{IfSome, IfNone}
 use Rattle.std.proofs.lemmas.Bool.{and_from, and_parts, and_right, cond-true, cases_eq, cases_lt, false≢true, false_from_ne_true, leb-true, leb-false}
 use Rattle.evt_types.proofs.FlowLanes.{serves_port, serves_flow, port_is_lane}
-use Rattle.evt_types.specs.Plan.{Plan, depth_of, lanes_of, lanes_at, lanes_by_slot, flow_lanes, flow_at, slot_lanes, is_flows, is_lane_of, has_flow_lanes, serves, queue_of, is_atomic, port_of}
+use Rattle.evt_types.specs.Plan.{Plan, depth_of, lanes_at, lanes_by_slot, flow_lanes, flow_at, slot_lanes, is_flows, is_lane_of, has_flow_lanes, serves, queue_of, is_atomic, port_of}
 use Rattle.evt_types.specs.declared.flows.FlowLane.{FlowLane}
 use Rattle.std.specs.List.{flat_map, range_with_len}
 use Rattle.std.proofs.lemmas.List.Elements.{All-nil, All-map, All-append, All-head, All-tail}
@@ -37,16 +37,12 @@ use Rattle.transcripts.specs.Standing.{View, unanswered_at}
 
 -- ---- a walk over lanes
 
--- what was found among the lanes that were walked over: all but those that are left, which come after it
-pub record IsWalked (v : View) (lanes left : Places) (best : Option ℕ) : Type 0 where
+-- the best one of the lanes that were walked over: all but those that are left, which come after it
+pub record IsWalked (v : View) (lanes left : Places) (best : ℕ) : Type 0 where
   pub among : (m : ℕ) → Has left m → Has lanes m
-  pub unseen : IfNone best ((m : ℕ) → Has lanes m → Has left m)
-  pub there : IfSome best (Has lanes)
-  pub later : IfSome best (λ b. (m : ℕ) → Has left m → b < m)
-  pub least : IfSome best (λ b. (m : ℕ) → Has lanes m → ¬ Has left m → ¬ IsBetterLane v m b)
-
-pub walk_begins : (v : View) (lanes : Places) → IsWalked v lanes lanes None
-walk_begins v lanes = record { among = λ m has. has; unseen = λ m has. has; there = tt; later = tt; least = tt }
+  pub there : Has lanes best
+  pub later : (m : ℕ) → Has left m → best < m
+  pub least : (m : ℕ) → Has lanes m → ¬ Has left m → ¬ IsBetterLane v m best
 
 module _ (v : View) (lanes left rest : Places) (k : ℕ) (first : IsFirst left k) (gone : Has rest k → ⊥) (others : SameBut k left rest) where
   stayed : (m : ℕ) → Has rest m → Has left m × (m ≢ k)
@@ -58,23 +54,25 @@ module _ (v : View) (lanes left rest : Places) (k : ℕ) (first : IsFirst left k
   walked : (m : ℕ) → ¬ Has rest m → (m ≡ k) ⊎ ¬ Has left m
   walked m past = ⊎_elim (λ e. inl e) (λ ne. inr (λ has. past ((others m ne).1 has))) (cases_eq m k)
 
-  pub walk_on : (best : Option ℕ) → IsWalked v lanes left best → IsWalked v lanes rest (Some (better_of v best k))
-  walk_on None w =
+  -- the first one alone
+  pub walk_first : ((m : ℕ) → Has left m → Has lanes m) → ((m : ℕ) → Has lanes m → Has left m) → IsWalked v lanes rest k
+  walk_first among all =
       record {
-        among = λ m has. w.among m (stayed m has).0;
-        unseen = tt;
-        there = w.among k first.there;
+        among = λ m has. among m (stayed m has).0;
+        there = among k first.there;
         later = after;
-        least = λ m has past. ⊎_elim (λ e. not_itself v k m (sym e)) (λ out. absurd (out (w.unseen m has))) (walked m past);
+        least = λ m has past. ⊎_elim (λ e. not_itself v k m (sym e)) (λ out. absurd (out (all m has))) (walked m past);
       }
-  walk_on (Some b) w = by_case (nat_le (length (unanswered_at v b)) (length (unanswered_at v k))) refl
+
+  -- one more
+  pub walk_on : (best : ℕ) → IsWalked v lanes left best → IsWalked v lanes rest (better_of v best k)
+  walk_on b w = by_case (nat_le (length (unanswered_at v b)) (length (unanswered_at v k))) refl
     where
-      by_case : (t : Bool) → nat_le (length (unanswered_at v b)) (length (unanswered_at v k)) ≡ t → IsWalked v lanes rest (Some (cond t b k))
+      by_case : (t : Bool) → nat_le (length (unanswered_at v b)) (length (unanswered_at v k)) ≡ t → IsWalked v lanes rest (cond t b k)
       by_case true h =
           let le : length (unanswered_at v b) ≤ length (unanswered_at v k) = leb-true _ _ h in
           record {
             among = λ m has. w.among m (stayed m has).0;
-            unseen = tt;
             there = w.there;
             later = λ m has. w.later m (stayed m has).0;
             least = λ m has past. ⊎_elim (λ e. subst (λ n. ¬ IsBetterLane v n b) (sym e) (not_better v b k le (w.later k first.there))) (λ out. w.least m has out) (walked m past);
@@ -83,23 +81,10 @@ module _ (v : View) (lanes left rest : Places) (k : ℕ) (first : IsFirst left k
           let gt : length (unanswered_at v k) < length (unanswered_at v b) = leb-false _ _ h in
           record {
             among = λ m has. w.among m (stayed m has).0;
-            unseen = tt;
             there = w.among k first.there;
             later = after;
             least = λ m has past. ⊎_elim (λ e. not_itself v k m (sym e)) (λ out. not_better_too v b k m gt (w.least m has out)) (walked m past);
           }
-
-pub walk_best : (v : View) (lanes left : Places) (best : Option ℕ) → ((m : ℕ) → Has left m → ⊥) → IsWalked v lanes left best → IfSome best (λ l. (m : ℕ) → Has lanes m → ¬ IsBetterLane v m l)
-walk_best v lanes left None done w = tt
-walk_best v lanes left (Some b) done w = λ m has. w.least m has (done m)
-
-pub walk_none : (v : View) (lanes left : Places) (best : Option ℕ) → ((m : ℕ) → Has left m → ⊥) → IsWalked v lanes left best → IfNone best ((l : ℕ) → ¬ Has lanes l)
-walk_none v lanes left None done w = λ l has. done l (w.unseen l has)
-walk_none v lanes left (Some b) done w = tt
-
-pub found_lanes : (v : View) (lanes left : Places) (best : Option ℕ) → ((l : ℕ) → Has lanes l → l < lanes_of v.shape) → IsWalked v lanes left best → IfSome best (λ b. b < lanes_of v.shape)
-found_lanes v lanes left None few w = tt
-found_lanes v lanes left (Some b) few w = few b w.there
 
 -- ---- the lane of a pinned slot
 

@@ -135,6 +135,5 @@ is_ahead p q None = true
 is_ahead p q (Some x) = nat_lt (queue_of p q).priority (queue_of p x.queue).priority
 
 -- of the lane found so far and a later one, the one with fewer unanswered events
-abbrev pub better_of : View → Option ℕ → ℕ → ℕ
-better_of v None l = l
-better_of v (Some b) l = if nat_le (length (unanswered_at v b)) (length (unanswered_at v l)) then b else l
+abbrev pub better_of : View → ℕ → ℕ → ℕ
+better_of v b l = if nat_le (length (unanswered_at v b)) (length (unanswered_at v l)) then b else l

@@ -101,10 +101,11 @@ impl Histories {
         ensures rest { self.new ≡ slice_set self.old lane (entries_of (drop 1 (lane_in self.old lane).entries) (lane_in self.old lane).capacity) }
     {
         let history = &mut self.lanes[lane];
+        let was_full = history.is_full();
         // To ask for the count makes known that no more are held than there is room for.
         let _ = history.len();
         let oldest = history.pop().unwrap();
-        if lane < MAX_PLACES {
+        if was_full && lane < MAX_PLACES {
             self.roomy.add(lane);
         }
         oldest

@@ -108,11 +108,11 @@ impl Core {
         ensures none { IfNone result ((l : ℕ) → ¬ Has lanes l) }
     {
         let mut left = lanes;
-        let mut best = None;
+        let mut best = left.pop()?;
         while let Some(lane) = left.pop() {
-            best = Some(self.better_lane(best, lane));
+            best = self.better_lane(best, lane);
         }
-        best
+        Some(best)
     }
 
     /// The slot's flow lane, where it may take an event.
@@ -154,15 +154,16 @@ impl Core {
         self.pins.may(queue, slot, lane)
     }
 
-    /// The one with fewer unanswered events.
-    fn better_lane(&self, best: Option<usize>, lane: usize) -> usize
+    /// The one with fewer unanswered events, of both the first.
+    fn better_lane(&self, best: usize, lane: usize) -> usize
         requires lane { lane < lanes_of self.now.shape }
-        requires best { IfSome best (λ b. b < lanes_of self.now.shape) }
+        requires best { best < lanes_of self.now.shape }
         ensures { result ≡ better_of self.now best lane }
     {
-        match best {
-            Some(best) if self.lanes.len(best) <= self.lanes.len(lane) => best,
-            _ => lane,
+        if self.lanes.len(best) <= self.lanes.len(lane) {
+            best
+        } else {
+            lane
         }
     }
 }

@@ -4,6 +4,7 @@ ghost use Rattle.std.specs.Prelude.{◌≡◌, ◌≢◌, ℕ, ◌<◌, List, le
 ghost use Rattle.transcripts.specs.Allowed.{Allowed};
 ghost use Rattle.transcripts.specs.Choice.{HasNone, HasNoChoice, IsChoice, IsOffer};
 ghost use Rattle.transcripts.specs.Standing.{Stands};
+ghost use Rattle.place_set.specs.Places.{Has};
 ghost use Rattle.transcripts.specs.Transcript.{event_at};
 ghost use Rattle.evt_types.specs.declared.step.Step.{Step as StepValue};
 ghost use Rattle.evt_types.specs.declared.step.Step.TheVariants as steps;
@@ -148,13 +149,41 @@ impl Core {
         let _ = &self.shape;
         let lanes = self.open_lanes(queue, skips);
         let mut left = self.queues.levels(queue);
-        while let Some(level) = left.pop() {
-            let offer = self.offer_in(queue, level, lanes, skips);
-            if offer.is_some() {
-                return offer;
-            }
+        let Some(level) = left.pop() else {
+            return None;
+        };
+        let offer = self.offer_in(queue, level, lanes, skips);
+        if offer.is_some() {
+            return offer;
         }
-        None
+        if left.is_empty() {
+            None
+        } else {
+            self.offer_below(queue, left, lanes, skips)
+        }
+    }
+
+    /// The same, where nothing may be given of any level but these.
+    #[inline(always)]
+    fn offer_below(
+        &mut self,
+        queue: usize,
+        levels: Places,
+        lanes: Places,
+        skips: &Skips,
+    ) -> Option<Offer>
+        requires queue { queue < length self.old.shape.queues }
+        requires lanes { AreOpenLanes self.old skips.now queue lanes }
+        requires levels { (c : ℕ) → Has levels c → c < 4 }
+        requires others { (c : ℕ) → ¬ Has levels c → HasNoneIn self.old skips.now queue c }
+        ensures same { self.new ≡ self.old }
+        ensures offer { IfSome result (λ o. (o.delivery.queue ≡ queue) × IsOfferOf self.old skips.now queue o.lane (numbered_in o.delivery)) }
+        ensures none { IfNone result (HasNone self.old skips.now queue) }
+    {
+        match self.choice_below(queue, levels, lanes, skips) {
+            Some(choice) => self.offer_of(choice),
+            None => None,
+        }
     }
 
     /// The first event of the queue's level that some lane may take, for the best lane. Mostly none of the level is set aside, and
@@ -281,8 +310,29 @@ impl Core {
         // The use of a field makes known what holds of each core.
         let _ = &self.shape;
         let lanes = self.open_lanes(queue, skips);
+        let levels = self.queues.levels(queue);
+        self.choice_below(queue, levels, lanes, skips)
+    }
+
+    /// The same, where nothing may be given of any level but these.
+    #[cold]
+    fn choice_below(
+        &mut self,
+        queue: usize,
+        levels: Places,
+        lanes: Places,
+        skips: &Skips,
+    ) -> Option<Choice>
+        requires queue { queue < length self.old.shape.queues }
+        requires lanes { AreOpenLanes self.old skips.now queue lanes }
+        requires levels { (c : ℕ) → Has levels c → c < 4 }
+        requires others { (c : ℕ) → ¬ Has levels c → HasNoneIn self.old skips.now queue c }
+        ensures same { self.new ≡ self.old }
+        ensures choice { IfSome result (IsChoiceOf self.old skips.now queue) }
+        ensures none { IfNone result (HasNone self.old skips.now queue) }
+    {
         let allowed = self.allowed(queue, lanes, skips);
-        let mut left = self.queues.levels(queue);
+        let mut left = levels;
         while let Some(level) = left.pop() {
             let choice = self.choice_in(queue, level, lanes, allowed, skips);
             if choice.is_some() {

@@ -17,6 +17,7 @@ returns-clause-run c =
       lanes = subst (λ (p : Plan). AreLanes p c.args.self.now.lanes.items) (sym shape) c.requires.lanes;
       room = omega (arith, ap sweep_room shape, c.requires.room, c.clear.ensures.capacity, c.give.ensures.room);
       flows = c.requires.flows;
+      next = c.requires.next;
       stands = (_, c.give.ensures.stands _ (subst (Stands c.requires.stands.0) (sym same) c.requires.stands.1));
     }
 

@@ -30,6 +30,7 @@ returns-clause-run c =
       lanes = subst (λ (p : Plan). AreLanes p c.pop_front.new.self.items) (sym shape) rest;
       room = omega (arith, ap sweep_room shape, c.requires.room, c.clear.ensures.capacity, c.take.ensures.room);
       flows = c.requires.flows;
+      next = c.requires.next;
       stands = (_, (c.take.ensures.stands _ c.requires.stands.1).1);
     }
 

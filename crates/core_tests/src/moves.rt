@@ -18,13 +18,29 @@ pub(crate) enum Move {
     NextSweep,
 }
 
+/// An event that is proposed, and the lane that it is proposed for.
+#[derive(Clone, Copy, Debug, PartialEq, Eq)]
+pub(crate) struct Proposal {
+    pub(crate) lane: usize,
+    pub(crate) delivery: Delivery,
+}
+
+impl From<Offer> for Proposal {
+    fn from(offer: Offer) -> Proposal {
+        Proposal {
+            lane: offer.lane,
+            delivery: offer.delivery,
+        }
+    }
+}
+
 /// What comes of a move.
 #[derive(Clone, Copy, Debug, PartialEq, Eq)]
 pub(crate) enum Made {
     /// What became of a reply, where it may be taken.
     Took(Option<Took>),
     /// What was proposed.
-    Proposed(Option<Offer>),
+    Proposed(Option<Proposal>),
     /// Nothing that is told.
     Nothing,
 }
@@ -63,7 +79,7 @@ pub(crate) fn release(lane: usize) -> Move {
 /// The event of this number of its queue is proposed for the lane.
 pub(crate) fn proposed(lane: usize, number: u64, event: Event) -> Made {
     let queue = usize::from(event.queue);
-    Made::Proposed(Some(Offer {
+    Made::Proposed(Some(Proposal {
         lane,
         delivery: Delivery {
             event,

@@ -1,9 +1,9 @@
 //! The plain core, put through the same moves.
 
-use crate::moves::{Made, Move};
+use crate::moves::{Made, Move, Proposal};
 use evt_types::Shape;
 use plain_core::{PlainCore, PlainOffer, PlainSkips, PlainTook};
-use sched_core::{Offer, Took};
+use sched_core::Took;
 use std::alloc::{AllocError, Global};
 
 /// What comes of a move.
@@ -28,12 +28,12 @@ fn plain_took(took: Took) -> PlainTook {
 }
 
 /// What was proposed, in the plain core's words.
-fn plain_offer(offer: Offer) -> PlainOffer {
+fn plain_offer(proposal: Proposal) -> PlainOffer {
     PlainOffer {
-        lane: offer.lane,
-        queue: offer.delivery.queue,
-        number: offer.delivery.number,
-        event: offer.delivery.event,
+        lane: proposal.lane,
+        queue: proposal.delivery.queue,
+        number: proposal.delivery.number,
+        event: proposal.delivery.event,
     }
 }
 
@@ -41,7 +41,7 @@ impl From<Made> for PlainMade {
     fn from(made: Made) -> PlainMade {
         match made {
             Made::Took(took) => PlainMade::Took(took.map(plain_took)),
-            Made::Proposed(offer) => PlainMade::Proposed(offer.map(plain_offer)),
+            Made::Proposed(proposal) => PlainMade::Proposed(proposal.map(plain_offer)),
             Made::Nothing => PlainMade::Nothing,
         }
     }

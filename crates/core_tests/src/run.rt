@@ -3,9 +3,9 @@
 ghost use Rattle.std.specs.Prelude.{◌≡◌, ◌+◌, ◌≤◌, [], vec_len, vec_capacity, IfOk, OnOk};
 ghost use Rattle.transcripts.specs.Standing.{Stands};
 
-use crate::moves::{Made, Move};
+use crate::moves::{Made, Move, Proposal};
 use evt_types::{Delivery, Event, MAX_LANES, MAX_QUEUES, MAX_SWEEP, Reply, Shape, Step};
-use sched_core::{Core, Memory, Offer, Skips, Took};
+use sched_core::{Core, Memory, Skips, Took};
 use std::alloc::{AllocError, Global};
 use std::marker::Model;
 use std::test::Fail;
@@ -127,7 +127,7 @@ impl Run {
     }
 
     /// Gives what is proposed.
-    fn give(&mut self) -> Result<Option<Offer>, Fail> {
+    fn give(&mut self) -> Result<Option<Proposal>, Fail> {
         let Some(offer) = self.core.propose(&self.skips) else {
             return Ok(None);
         };
@@ -137,11 +137,11 @@ impl Run {
         if queue < MAX_QUEUES && self.skips.has_quota(queue, MAX_SWEEP) {
             self.skips.given(queue);
         }
-        Ok(Some(offer))
+        Ok(Some(Proposal::from(offer)))
     }
 
     /// The lane of what is proposed has no room.
-    fn bounce(&mut self) -> Result<Option<Offer>, Fail> {
+    fn bounce(&mut self) -> Result<Option<Proposal>, Fail> {
         let Some(offer) = self.core.propose(&self.skips) else {
             return Ok(None);
         };
@@ -150,6 +150,6 @@ impl Run {
         if offer.lane < MAX_LANES {
             self.skips.bounced(offer.lane);
         }
-        Ok(Some(offer))
+        Ok(Some(Proposal::from(offer)))
     }
 }

@@ -8,16 +8,15 @@ use Rattle.evt_types.specs.declared.event.Event.{Event}
 use Rattle.evt_types.specs.declared.event.Numbered.{Numbered}
 use Rattle.place_set.specs.Places.{Has}
 use Rattle.waiting_lists.specs.Lists.{Lists, list_at, total_of, with_last}
-use Rattle.parked_queue.specs.Marks.{marks_at}
+use Rattle.parked_queue.specs.Marks.{Kept, marks_at}
 use Rattle.parked_queue.specs.Merge.{lists_of}
 use Rattle.parked_queue.specs.Parted.{Parted, below_at, list_in, place_of, places, with_waits}
 use Rattle.parked_queue.specs.Waits.{Waits, AreWaits, slot_of, with_event}
-use Rattle.parked_queue.specs.declared.parking.Parking.TheInside.{Inside}
 use Rattle.parked_queue.proofs.Merges.{by_number_length, lists_with}
 use Rattle.parked_queue.proofs.Holding.{Holds, view_held, list_held, place_if_not}
 
 -- as many wait as the lists have
-pub total_held : (a : Inside) (v : Parted) → Holds a v → total_of a.lists ≡ length v.waits.waiting
+pub total_held : (a : Kept) (v : Parted) → Holds a v → total_of a.lists ≡ length v.waits.waiting
 total_held a v h = sym (by_number_length a.lists.lists) ∙ ap (λ (x : Parted). length x.waits.waiting) (view_held a v h)
 
 pub waits_with : (q : Waits) (e : Event) → AreWaits q → level_of e < 4 → q.next < 2 ^ 63 → length q.waiting < q.room → AreWaits (with_event q e)
@@ -34,7 +33,7 @@ waits_with q e waits lt more fits =
       few = waits.few;
     }
 
-module _ (a : Inside) (v : Parted) (e : Event) (l : Lists) (h : Holds a v) (lt : level_of e < 4) (is : l ≡ with_last a.lists (level_of e) (record { number = a.next; event = e })) where
+module _ (a : Kept) (v : Parted) (e : Event) (l : Lists) (h : Holds a v) (lt : level_of e < 4) (is : l ≡ with_last a.lists (level_of e) (record { number = a.next; event = e })) where
   abbrev pub w : Numbered
   w = record { number = v.waits.next; event = e }
 

@@ -9,11 +9,10 @@ use Rattle.evt_types.specs.Plan.{level_of}
 use Rattle.evt_types.specs.declared.event.Numbered.{Numbered}
 use Rattle.place_set.specs.Places.{Has, IsEmpty, SameBut}
 use Rattle.place_set.specs.declared.places.Places.{Places}
-use Rattle.parked_queue.specs.Marks.{marks_at}
+use Rattle.parked_queue.specs.Marks.{Kept, marks_at}
 use Rattle.parked_queue.specs.Merge.{is_in}
 use Rattle.parked_queue.specs.Parted.{Parted, HasMarks, HasNoneParked, IsBest, IsFirstParked, IsNoLater, IsParkedAllowed, below_at, list_in, parked_place, place_of}
 use Rattle.parked_queue.specs.Waits.{AreWaits, IsOldest, slot_of}
-use Rattle.parked_queue.specs.declared.parking.Parking.TheInside.{Inside}
 use Rattle.std.specs.Option.{is_some}
 use Rattle.waiting_lists.specs.Lists.{list_at}
 use Rattle.parked_queue.proofs.Holding.{Holds, count_held, list_held, place_if_not, place_if_parked}
@@ -118,7 +117,7 @@ module _ (v : Parted) (c : ℕ) (allowed : Places) where
 
 -- ---- a mark goes
 
-module _ (a : Inside) (v : Parted) (c s : ℕ) (p : Places) (h : Holds a v) (lt : c < 4) (none : slice_get (list_in v (parked_place s c)) 0 ≡ None) (but : SameBut s (marks_at a.parked c) p) (gone : ¬ Has p s) where
+module _ (a : Kept) (v : Parted) (c s : ℕ) (p : Places) (h : Holds a v) (lt : c < 4) (none : slice_get (list_in v (parked_place s c)) 0 ≡ None) (but : SameBut s (marks_at a.parked c) p) (gone : ¬ Has p s) where
   here_after : marks_at (set a.parked c p) c ≡ p
   here_after = let four = h.levels in get_or-set_same a.parked c p (record { bits = 0 }) (omega arith)
 
@@ -165,7 +164,7 @@ none_if : (o : Option Numbered) → is_some o ≡ false → o ≡ None
 none_if None e = refl
 none_if (Some w) e = cc
 
-module _ (a : Inside) (v : Parted) (c s k : ℕ) (h : Holds a v) (lt : c < 4) (less : s < v.waits.slots) (list : k ≡ parked_place s c) where
+module _ (a : Kept) (v : Parted) (c s k : ℕ) (h : Holds a v) (lt : c < 4) (less : s < v.waits.slots) (list : k ≡ parked_place s c) where
   pub place_there : k < length a.lists.lists
   place_there = let count = count_held a v h in omega arith
 
@@ -175,7 +174,7 @@ module _ (a : Inside) (v : Parted) (c s k : ℕ) (h : Holds a v) (lt : c < 4) (l
   pub mark_gone : (r : Option Numbered) (p : Places) → r ≡ slice_get (list_at a.lists k) 0 → is_some r ≡ false → SameBut s (marks_at a.parked c) p → ¬ Has p s → Holds (record a { parked = set a.parked c p }) v
   mark_gone r p e none but gone = unmarked_held a v c s p h lt (sym (first_aside r e) ∙ none_if r none) but gone
 
-pub marks_held : (a : Inside) (v : Parted) (c : ℕ) → Holds a v → HasMarks v c (marks_at a.parked c)
+pub marks_held : (a : Kept) (v : Parted) (c : ℕ) → Holds a v → HasMarks v c (marks_at a.parked c)
 marks_held a v c h =
     record {
       marked =

@@ -9,15 +9,14 @@ use Rattle.evt_types.specs.declared.event.Numbered.{Numbered}
 use Rattle.place_set.specs.Places.{Has}
 use Rattle.place_set.specs.declared.places.Places.{Places}
 use Rattle.waiting_lists.specs.Lists.{Lists, list_at}
-use Rattle.parked_queue.specs.Marks.{AreMarks, IsParking, marks_at, mask_of, parted_in}
+use Rattle.parked_queue.specs.Marks.{Kept, AreMarks, IsParking, marks_at, mask_of, parted_in}
 use Rattle.parked_queue.specs.Merge.{by_number, in_list, lists_of}
 use Rattle.parked_queue.specs.Parted.{Parted, below_at, is_parked, list_in, no_parted, parked_place, place_of, places}
 use Rattle.parked_queue.specs.Waits.{AreWaits, slot_of}
-use Rattle.parked_queue.specs.declared.parking.Parking.TheInside.{Inside}
 use Rattle.parked_queue.proofs.Merges.{merges_back}
 
 -- the fields hold the value
-pub record Holds (a : Inside) (v : Parted) : Type 0 where
+pub record Holds (a : Kept) (v : Parted) : Type 0 where
   pub waits : AreWaits v.waits
   pub lists : a.lists.lists ≡ lists_of (place_of v.waits.slots v.below) 0 (places v.waits.slots) v.waits.waiting
   pub room : a.lists.room ≡ v.waits.room
@@ -63,10 +62,10 @@ same_parts : (ws us : List Numbered) (n m r s t u : ℕ) (b c : List ℕ) → ws
     → ◌≡◌ {A = Parted} (record { waits = record { waiting = ws; next = n; room = r; slots = t }; below = b }) (record { waits = record { waiting = us; next = m; room = s; slots = u }; below = c })
 same_parts ws us n m r s t u b c e f g h i = cc
 
-pub view_held : (a : Inside) (v : Parted) → Holds a v → parted_in a ≡ v
+pub view_held : (a : Kept) (v : Parted) → Holds a v → parted_in a ≡ v
 view_held a v h = same_parts _ v.waits.waiting _ v.waits.next _ v.waits.room _ v.waits.slots _ v.below (ap by_number h.lists ∙ back v h.waits) h.next h.room h.slots h.below
 
-pub holds_held : (a : Inside) (v : Parted) → Holds a v → IsParking a
+pub holds_held : (a : Kept) (v : Parted) → Holds a v → IsParking a
 holds_held a v h =
     let same : parted_in a ≡ v = view_held a v h in
     let waiting : by_number a.lists.lists ≡ v.waits.waiting = ap (λ (x : Parted). x.waits.waiting) same in
@@ -80,7 +79,7 @@ holds_held a v h =
       marks = subst (λ (x : Parted). AreMarks x a.parked) (sym same) h.marks;
     }
 
-pub held : (a : Inside) (v : Parted) → IsParking a → parted_in a ≡ v → Holds a v
+pub held : (a : Kept) (v : Parted) → IsParking a → parted_in a ≡ v → Holds a v
 held a v is same = subst (Holds a) same (record {
   waits = is.waits;
   lists = is.lists;
@@ -98,11 +97,11 @@ held a v is same = subst (Holds a) same (record {
 -- ---- the lists
 
 -- what stands in a list
-pub list_held : (a : Inside) (v : Parted) (k : ℕ) → Holds a v → k < places v.waits.slots → list_at a.lists k ≡ list_in v k
+pub list_held : (a : Kept) (v : Parted) (k : ℕ) → Holds a v → k < places v.waits.slots → list_at a.lists k ≡ list_in v k
 list_held a v k h lt = ap (λ ls. get_or ls k []) h.lists ∙ mapped_at (λ d. in_list (place_of v.waits.slots v.below) d v.waits.waiting) (places v.waits.slots) k [] lt
 
 -- how many lists there are
-pub count_held : (a : Inside) (v : Parted) → Holds a v → length a.lists.lists ≡ places v.waits.slots
+pub count_held : (a : Kept) (v : Parted) → Holds a v → length a.lists.lists ≡ places v.waits.slots
 count_held a v h = ap length h.lists ∙ length-map-range_with_len (λ d. in_list (place_of v.waits.slots v.below) d v.waits.waiting) 0 (places v.waits.slots)
 
 -- ---- nothing waits

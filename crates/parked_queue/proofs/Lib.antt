@@ -12,3 +12,8 @@ pub mod Pairs
 pub mod Masks
 pub mod Options
 pub mod Slots
+pub mod Parkings
+pub mod Segments
+pub mod Calls
+pub mod Levels
+pub mod News

@@ -9,11 +9,10 @@ use Rattle.evt_types.specs.declared.event.Numbered.{Numbered}
 use Rattle.place_set.specs.Places.{Has, SameBut}
 use Rattle.place_set.specs.declared.places.Places.{Places}
 use Rattle.waiting_lists.specs.Lists.{Lists, list_at, total_of, with_last, without_first}
-use Rattle.parked_queue.specs.Marks.{AreMarks, marks_at}
+use Rattle.parked_queue.specs.Marks.{Kept, AreMarks, marks_at}
 use Rattle.parked_queue.specs.Merge.{is_in, in_list, lists_of}
 use Rattle.parked_queue.specs.Parted.{Parted, below_at, list_in, own_first, parked_place, place_of, places, with_below}
 use Rattle.parked_queue.specs.Waits.{AreWaits, slot_of}
-use Rattle.parked_queue.specs.declared.parking.Parking.TheInside.{Inside}
 use Rattle.parked_queue.proofs.Accepting.{total_held}
 use Rattle.parked_queue.proofs.Totals.{total_without}
 use Rattle.parked_queue.proofs.Holding.{Holds, count_held, list_held, place_if_not, place_if_parked, slot_within}
@@ -175,7 +174,7 @@ module _ (v : Parted) (w : Numbered) (c : ℕ) (waits : AreWaits v.waits) (level
 
 -- ---- the value
 
-module _ (a : Inside) (v : Parted) (w : Numbered) (c : ℕ) (h : Holds a v) (level : c ≡ level_of w.event) (lt : c < 4) (head : slice_get (list_in v c) 0 ≡ Some w) where
+module _ (a : Kept) (v : Parted) (w : Numbered) (c : ℕ) (h : Holds a v) (level : c ≡ level_of w.event) (lt : c < 4) (head : slice_get (list_in v c) 0 ≡ Some w) where
   abbrev aside : ℕ
   aside = parked_place (slot_of v.waits.slots w) c
 
@@ -257,6 +256,6 @@ module _ (a : Inside) (v : Parted) (w : Numbered) (c : ℕ) (h : Holds a v) (lev
 
 -- ---- what the pop has given
 
-module _ (a : Inside) (v : Parted) (c : ℕ) (h : Holds a v) (lt : c < 4) where
+module _ (a : Kept) (v : Parted) (c : ℕ) (h : Holds a v) (lt : c < 4) where
   pub popped : (o : Option Numbered) → o ≡ slice_get (list_at a.lists c) 0 → own_first v c ≡ o
   popped o e = let some = h.waits.some in sym (e ∙ ap (λ us. slice_get us 0) (list_held a v c h (omega arith)))

@@ -8,11 +8,10 @@ use Rattle.evt_types.specs.Plan.{level_of}
 use Rattle.evt_types.specs.declared.event.Numbered.{Numbered}
 use Rattle.place_set.specs.Places.{Has}
 use Rattle.waiting_lists.specs.Lists.{Lists, has_number, list_at, with_list, without_first}
-use Rattle.parked_queue.specs.Marks.{marks_at}
+use Rattle.parked_queue.specs.Marks.{Kept, marks_at}
 use Rattle.parked_queue.specs.Merge.{is_in, lists_of}
 use Rattle.parked_queue.specs.Parted.{Parted, below_at, list_in, own_first, parked_place, place_for, place_of, places, with_waits}
 use Rattle.parked_queue.specs.Waits.{Waits, AreWaits, IsOnlyOf, IsRising, is_other, slot_of, without_number}
-use Rattle.parked_queue.specs.declared.parking.Parking.TheInside.{Inside}
 use Rattle.parked_queue.proofs.Holding.{Holds, count_held, list_held}
 use Rattle.parked_queue.proofs.Merges.{lists_without}
 use Rattle.parked_queue.proofs.Turns.{first_out}
@@ -56,7 +55,7 @@ own_list v c slot n only has =
     sym (eqb-true (g (get_or (list_in v c) k d)) c (filter_passes (is_in g c) v.waits.waiting k d h))
     ∙ All-filter (is_in g c) (λ (w : Numbered). w.number ≡ n → g w ≡ place_for v.below c slot n) v.waits.waiting (only_there v c slot n only) k d h same)
 
-module _ (a : Inside) (v : Parted) (c slot n k : ℕ) (h : Holds a v) (lt : c < 4) (less : slot < v.waits.slots) (list : k ≡ place_for v.below c slot n) where
+module _ (a : Kept) (v : Parted) (c slot n k : ℕ) (h : Holds a v) (lt : c < 4) (less : slot < v.waits.slots) (list : k ≡ place_for v.below c slot n) where
   within : k < places v.waits.slots
   within = subst (λ m. m < places v.waits.slots) (sym list) (place_for_within v.below c slot n v.waits.slots lt less)
 
@@ -96,7 +95,7 @@ module _ (a : Inside) (v : Parted) (c slot n k : ℕ) (h : Holds a v) (lt : c < 
         }
 
 -- the event has left at the head of the level's own list
-pub head_held : (a : Inside) (v : Parted) (c slot n : ℕ) → Holds a v → c < 4 → slot < v.waits.slots → IsOnlyOf v.waits c slot n → has_number n (slice_get (list_at a.lists c) 0) ≡ true → (l : Lists) → l ≡ without_first a.lists c
+pub head_held : (a : Kept) (v : Parted) (c slot n : ℕ) → Holds a v → c < 4 → slot < v.waits.slots → IsOnlyOf v.waits c slot n → has_number n (slice_get (list_at a.lists c) 0) ≡ true → (l : Lists) → l ≡ without_first a.lists c
     → Holds (record a { lists = l }) (with_waits v (without_number v.waits n))
 head_held a v c slot n h lt less only has l is =
     let first : has_number n (own_first v c) ≡ true = subst (λ us. has_number n (slice_get us 0) ≡ true) (list_held a v c h (omega arith)) has in

@@ -1,4 +1,4 @@
--- How the parted events are held.
+-- How a queue's parted events are held.
 use Rattle.std.specs.Prelude.{ℕ, ◌≡◌, ◌-◌, ◌==◌, ◌<◌, ◌≤◌, List, length, slice_index_or, All, bit_and, if◌then◌else◌}
 use Rattle.evt_types.specs.Plan.{level_of}
 use Rattle.evt_types.specs.declared.event.Numbered.{Numbered}
@@ -7,7 +7,17 @@ use Rattle.place_set.specs.declared.places.Places.{Places}
 use Rattle.parked_queue.specs.Merge.{by_number, lists_of}
 use Rattle.parked_queue.specs.Parted.{Parted, below_at, place_of, places}
 use Rattle.parked_queue.specs.Waits.{AreWaits, slot_of}
-use Rattle.parked_queue.specs.declared.parking.Parking.TheInside.{Inside}
+use Rattle.waiting_lists.specs.Lists.{Lists}
+
+-- A queue's lists, its slots, what leaves a flow's slot, for each level the number below which its events are parked and the slots that
+-- may have such an event, and the next event's number.
+pub record Kept : Type 0 where
+  pub lists : Lists
+  pub slots : ℕ
+  pub mask : ℕ
+  pub below : List ℕ
+  pub parked : List Places
+  pub next : ℕ
 
 -- the slots of a level that may have parked events
 abbrev pub marks_at : List Places → ℕ → Places
@@ -22,11 +32,11 @@ pub record AreMarks (v : Parted) (parked : List Places) : Type 0 where
 abbrev pub mask_of : ℕ → ℕ
 mask_of slots = if bit_and slots (slots - 1) == 0 then slots - 1 else 64
 
-abbrev pub parted_in : Inside → Parted
+abbrev pub parted_in : Kept → Parted
 parted_in a = record { waits = record { waiting = by_number a.lists.lists; next = a.next; room = a.lists.room; slots = a.slots }; below = a.below }
 
 -- the lists are those of what waits, the mask is that of the slots, no number below which events are parked is past the next one, and the slots are marked
-pub record IsParking (a : Inside) : Type 0 where
+pub record IsParking (a : Kept) : Type 0 where
   pub waits : AreWaits (parted_in a).waits
   pub lists : a.lists.lists ≡ lists_of (place_of a.slots a.below) 0 (places a.slots) (by_number a.lists.lists)
   pub mask : a.mask ≡ mask_of a.slots

@@ -1,5 +1,5 @@
 -- What waits in a queue, seen as one list, whatever holds it.
-use Rattle.std.specs.Prelude.{ℕ, ◌≡◌, ◌≢◌, ◌+◌, ◌%◌, ◌<◌, ◌≤◌, ◌^◌, ◌==◌, Bool, List, [], ◌∷◌, ◌++◌, filter, not, length, All, AllPairs, Contains}
+use Rattle.std.specs.Prelude.{ℕ, ◌≡◌, ◌≢◌, ◌+◌, ◌%◌, ◌<◌, ◌≤◌, ◌^◌, ◌==◌, Bool, List, [], ◌∷◌, ◌++◌, filter, map, not, length, slice_index_or, sum_by, All, AllPairs, Contains}
 use Rattle.evt_types.specs.Plan.{level_of}
 use Rattle.evt_types.specs.declared.event.Event.{Event}
 use Rattle.evt_types.specs.declared.event.Numbered.{Numbered}
@@ -12,6 +12,10 @@ pub record Waits : Type 0 where
   pub next : ℕ
   pub room : ℕ
   pub slots : ℕ
+
+-- each is a number of slots that a queue may have
+abbrev pub AreSlots : List ℕ → Type 0
+AreSlots ns = All (λ n. (0 < n) × (n ≤ 64)) ns
 
 -- the slot of an event, of so many
 abbrev pub slot_of : ℕ → Numbered → ℕ
@@ -34,6 +38,23 @@ pub record AreWaits (q : Waits) : Type 0 where
 -- nothing waits
 abbrev pub no_waits : ℕ → ℕ → Waits
 no_waits slots room = record { waiting = []; next = 0; room = room; slots = slots }
+
+abbrev pub no_waits_of : ℕ → ℕ → Waits
+no_waits_of room slots = no_waits slots room
+
+-- the queue of a number, and how many events wait in all queues
+abbrev pub waits_at : List Waits → ℕ → Waits
+waits_at qs q = slice_index_or qs q (no_waits 1 0)
+
+abbrev pub count_of : Waits → ℕ
+count_of q = length q.waiting
+
+abbrev pub all_waiting : List Waits → ℕ
+all_waiting qs = sum_by count_of qs
+
+-- nothing waits in queues of so many slots each, with room for so many events in all
+abbrev pub all_empty : ℕ → List ℕ → List Waits
+all_empty room slots = map (no_waits_of room) slots
 
 -- the event waits under the next number
 abbrev pub with_event : Waits → Event → Waits

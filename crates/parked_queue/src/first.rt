@@ -1,12 +1,13 @@
 //! The first event of a level whose slot is allowed.
 
-ghost use Rattle.std.specs.Prelude.{◌≡◌, ℕ, ◌<◌, ◌≤◌, ◌⊎◌, slice_get, Some, IsTrue, IfSome, IfNone};
+ghost use Rattle.std.specs.Prelude.{◌≡◌, ℕ, ◌<◌, ◌≤◌, ◌⊎◌, length, slice_get, Some, IsTrue, IfSome, IfNone};
 ghost use Rattle.evt_types.specs.declared.event.Numbered.{Numbered as NumberedValue};
 ghost use Rattle.place_set.specs.Places.{Has};
+ghost use Rattle.parked_queue.specs.Parkings.{are_waits, parted_at};
 ghost use Rattle.parked_queue.specs.Parted.{IsFirstParkedSlot, HasNoneParked, IsNoLater, list_in, parked_place};
 ghost use Rattle.parked_queue.specs.Waits.{AreWaits, IsFirstAllowed, IsFirstSlot, IsOldest, HasNoneAllowed, HasNoneOf, HasNoneOfSlot, slot_of};
 
-use crate::parking::Parking;
+use crate::parking::Parkings;
 use evt_types::Numbered;
 use place_set::Places;
 
@@ -29,58 +30,61 @@ fn older(best: Option<Numbered>, head: Numbered) -> Numbered
     }
 }
 
-impl Parking {
+impl Parkings {
     /// The slot of the oldest parked event of the level whose slot is among these.
     #[cold]
-    fn first_parked(&mut self, level: usize, marked: Places) -> Option<usize>
+    fn first_parked(&mut self, queue: usize, level: usize, marked: Places) -> Option<usize>
+        requires queue { queue < length self.old }
         requires level { level < 4 }
-        requires there { (k : ℕ) → Has marked k → k < self.old.waits.slots }
-        requires waits { AreWaits self.old.waits }
+        requires there { (k : ℕ) → Has marked k → k < (parted_at self.old queue).waits.slots }
+        requires waits { AreWaits (parted_at self.old queue).waits }
         ensures same { self.new ≡ self.old }
-        ensures first { IfSome result (IsFirstParkedSlot self.old level marked) }
-        ensures none { IfNone result (HasNoneParked self.old level marked) }
+        ensures first { IfSome result (IsFirstParkedSlot (parted_at self.old queue) level marked) }
+        ensures none { IfNone result (HasNoneParked (parted_at self.old queue) level marked) }
     {
         let mut best = None;
         let mut left = marked;
         while let Some(slot) = left.pop() {
-            if let Some(head) = self.parked_front(level, slot) {
+            if let Some(head) = self.parked_front(queue, level, slot) {
                 best = Some(older(best, head));
             }
         }
         match best {
-            Some(oldest) => Some(self.slot(&oldest)),
+            Some(oldest) => Some(self.slot(queue, &oldest)),
             None => None,
         }
     }
 
     /// The same. Mostly no slot is among these, and then no call is made.
     #[inline(always)]
-    fn first_marked(&mut self, level: usize, marked: Places) -> Option<usize>
+    fn first_marked(&mut self, queue: usize, level: usize, marked: Places) -> Option<usize>
+        requires queue { queue < length self.old }
         requires level { level < 4 }
-        requires there { (k : ℕ) → Has marked k → k < self.old.waits.slots }
-        requires waits { AreWaits self.old.waits }
+        requires there { (k : ℕ) → Has marked k → k < (parted_at self.old queue).waits.slots }
+        requires waits { AreWaits (parted_at self.old queue).waits }
         ensures same { self.new ≡ self.old }
-        ensures first { IfSome result (IsFirstParkedSlot self.old level marked) }
-        ensures none { IfNone result (HasNoneParked self.old level marked) }
+        ensures first { IfSome result (IsFirstParkedSlot (parted_at self.old queue) level marked) }
+        ensures none { IfNone result (HasNoneParked (parted_at self.old queue) level marked) }
     {
         if marked.is_empty() {
             None
         } else {
-            self.first_parked(level, marked)
+            self.first_parked(queue, level, marked)
         }
     }
 
     /// The first parked event of the level and the slot. Where the slot isn't marked there is none.
     #[inline(always)]
-    fn first_of_slot(&mut self, level: usize, slot: usize) -> Option<Numbered>
+    fn first_of_slot(&mut self, queue: usize, level: usize, slot: usize) -> Option<Numbered>
+        requires queue { queue < length self.old }
         requires level { level < 4 }
-        requires slot { slot < self.old.waits.slots }
+        requires slot { slot < (parted_at self.old queue).waits.slots }
         ensures same { self.new ≡ self.old }
-        ensures value { result ≡ slice_get (list_in self.old (parked_place slot level)) 0 }
-        ensures waits { AreWaits self.old.waits }
+        ensures value { result ≡ slice_get (list_in (parted_at self.old queue) (parked_place slot level)) 0 }
+        ensures waits { AreWaits (parted_at self.old queue).waits }
     {
-        if self.marks(level).has(slot) {
-            self.parked_front(level, slot)
+        if self.marks(queue, level).has(slot) {
+            self.parked_front(queue, level, slot)
         } else {
             None
         }
@@ -88,39 +92,41 @@ impl Parking {
 
     /// The first event of the level's own list whose slot is allowed. Those before it are set aside.
     #[inline(always)]
-    fn first_main(&mut self, level: usize, allowed: Places) -> Option<Found>
+    fn first_main(&mut self, queue: usize, level: usize, allowed: Places) -> Option<Found>
+        requires queue { queue < length self.old }
         requires level { level < 4 }
-        requires none { HasNoneParked self.old level allowed }
-        ensures same { self.new.waits ≡ self.old.waits }
-        ensures first { IfSome result (λ f. IsFirstAllowed self.old.waits level allowed f.waiting) }
-        ensures slot { IfSome result (λ f. f.slot ≡ slot_of self.old.waits.slots f.waiting) }
-        ensures none { IfNone result (HasNoneAllowed self.old.waits level allowed) }
+        requires none { HasNoneParked (parted_at self.old queue) level allowed }
+        ensures same { are_waits self.new ≡ are_waits self.old }
+        ensures first { IfSome result (λ f. IsFirstAllowed (parted_at self.old queue).waits level allowed f.waiting) }
+        ensures slot { IfSome result (λ f. f.slot ≡ slot_of (parted_at self.old queue).waits.slots f.waiting) }
+        ensures none { IfNone result (HasNoneAllowed (parted_at self.old queue).waits level allowed) }
     {
-        while let Some(waiting) = self.front(level) {
-            let slot = self.slot(&waiting);
+        while let Some(waiting) = self.front(queue, level) {
+            let slot = self.slot(queue, &waiting);
             if allowed.has(slot) {
                 return Some(Found { slot, waiting });
             }
-            self.park(level, slot);
+            self.park(queue, level, slot);
         }
         None
     }
 
     /// The slot of the first event of the level whose slot is allowed. Those before it are set aside, each once.
     #[inline(always)]
-    pub(crate) fn first(&mut self, level: usize, allowed: Places) -> Option<usize>
-        requires { level < 4 }
-        ensures same { self.new.waits ≡ self.old.waits }
-        ensures first { IfSome result (IsFirstSlot self.old.waits level allowed) }
-        ensures none { IfNone result (HasNoneAllowed self.old.waits level allowed) }
-        ensures waits { AreWaits self.old.waits }
+    pub(crate) fn first(&mut self, queue: usize, level: usize, allowed: Places) -> Option<usize>
+        requires queue { queue < length self.old }
+        requires level { level < 4 }
+        ensures same { are_waits self.new ≡ are_waits self.old }
+        ensures first { IfSome result (IsFirstSlot (parted_at self.old queue).waits level allowed) }
+        ensures none { IfNone result (HasNoneAllowed (parted_at self.old queue).waits level allowed) }
+        ensures waits { AreWaits (parted_at self.old queue).waits }
     {
-        let marked = self.marks(level).both(allowed);
-        let parked = self.first_marked(level, marked);
+        let marked = self.marks(queue, level).both(allowed);
+        let parked = self.first_marked(queue, level, marked);
         if parked.is_some() {
             return parked;
         }
-        match self.first_main(level, allowed) {
+        match self.first_main(queue, level, allowed) {
             Some(found) => Some(found.slot),
             None => None,
         }
@@ -129,17 +135,18 @@ impl Parking {
     /// The first event of the level whose slot is allowed, where it is the first of the level's own list: then no parked event has
     /// an allowed slot.
     #[inline(always)]
-    pub(crate) fn head(&self, level: usize, allowed: Places) -> Option<Found>
-        requires { level < 4 }
-        ensures first { IfSome result (λ f. IsFirstAllowed self.now.waits level allowed f.waiting) }
-        ensures slot { IfSome result (λ f. f.slot ≡ slot_of self.now.waits.slots f.waiting) }
-        ensures waits { AreWaits self.now.waits }
+    pub(crate) fn head(&self, queue: usize, level: usize, allowed: Places) -> Option<Found>
+        requires queue { queue < length self.now }
+        requires level { level < 4 }
+        ensures first { IfSome result (λ f. IsFirstAllowed (parted_at self.now queue).waits level allowed f.waiting) }
+        ensures slot { IfSome result (λ f. f.slot ≡ slot_of (parted_at self.now queue).waits.slots f.waiting) }
+        ensures waits { AreWaits (parted_at self.now queue).waits }
     {
-        if !self.marks(level).both(allowed).is_empty() {
+        if !self.marks(queue, level).both(allowed).is_empty() {
             return None;
         }
-        let waiting = self.front(level)?;
-        let slot = self.slot(&waiting);
+        let waiting = self.front(queue, level)?;
+        let slot = self.slot(queue, &waiting);
         if allowed.has(slot) {
             Some(Found { slot, waiting })
         } else {
@@ -149,30 +156,32 @@ impl Parking {
 
     /// Whether all events of the level are set aside, and none of them has an allowed slot.
     #[inline(always)]
-    pub(crate) fn is_blocked(&self, level: usize, allowed: Places) -> bool
-        requires { level < 4 }
-        ensures { IsTrue result → HasNoneAllowed self.now.waits level allowed }
+    pub(crate) fn is_blocked(&self, queue: usize, level: usize, allowed: Places) -> bool
+        requires queue { queue < length self.now }
+        requires level { level < 4 }
+        ensures { IsTrue result → HasNoneAllowed (parted_at self.now queue).waits level allowed }
     {
-        let marks = self.marks(level);
-        !marks.is_empty() && marks.both(allowed).is_empty() && self.front(level).is_none()
+        let marks = self.marks(queue, level);
+        !marks.is_empty() && marks.both(allowed).is_empty() && self.front(queue, level).is_none()
     }
 
     /// The oldest event of the level and the slot. Those before it in the level's own list are set aside, each once.
     #[cold]
-    pub(crate) fn oldest(&mut self, level: usize, slot: usize) -> Option<Numbered>
+    pub(crate) fn oldest(&mut self, queue: usize, level: usize, slot: usize) -> Option<Numbered>
+        requires queue { queue < length self.old }
         requires level { level < 4 }
-        requires slot { slot < self.old.waits.slots }
-        ensures same { self.new.waits ≡ self.old.waits }
-        ensures oldest { IfSome result (IsOldest self.old.waits level slot) }
-        ensures none { IfNone result (HasNoneOfSlot self.old.waits level slot) }
+        requires slot { slot < (parted_at self.old queue).waits.slots }
+        ensures same { are_waits self.new ≡ are_waits self.old }
+        ensures oldest { IfSome result (IsOldest (parted_at self.old queue).waits level slot) }
+        ensures none { IfNone result (HasNoneOfSlot (parted_at self.old queue).waits level slot) }
     {
-        let parked = self.first_of_slot(level, slot);
+        let parked = self.first_of_slot(queue, level, slot);
         if parked.is_some() {
             return parked;
         }
         let mut only = Places::none();
         only.add(slot);
-        match self.first_main(level, only) {
+        match self.first_main(queue, level, only) {
             Some(found) => Some(found.waiting),
             None => None,
         }
@@ -180,10 +189,11 @@ impl Parking {
 
     /// Whether no event of the level waits. It may say no where none does, until the marks of its slots are gone.
     #[inline(always)]
-    pub(crate) fn is_level_empty(&self, level: usize) -> bool
-        requires { level < 4 }
-        ensures { IsTrue result → HasNoneOf self.now.waits level }
+    pub(crate) fn is_level_empty(&self, queue: usize, level: usize) -> bool
+        requires queue { queue < length self.now }
+        requires level { level < 4 }
+        ensures { IsTrue result → HasNoneOf (parted_at self.now queue).waits level }
     {
-        self.front(level).is_none() && self.marks(level).is_empty()
+        self.front(queue, level).is_none() && self.marks(queue, level).is_empty()
     }
 }

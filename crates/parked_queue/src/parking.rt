@@ -1,9 +1,10 @@
-//! The waiting events, parted into lists.
+//! The events that wait in all queues, parted into lists.
 
-ghost use Rattle.std.specs.Prelude.{◌≡◌, ◌+◌, ◌<◌, ◌≤◌, ◌^◌, ◌++◌, true, length, slice_get, vec_len, vec_capacity, is_some, IfOk, IfSome};
+ghost use Rattle.std.specs.Prelude.{◌≡◌, ◌+◌, ◌<◌, ◌≤◌, ◌^◌, ◌++◌, true, length, slice_get, slice_set, vec_len, vec_capacity, is_some, All, IfOk, IfSome};
 ghost use Rattle.parked_queue.specs.Pairs.{all_parts, pairs_of};
-ghost use Rattle.parked_queue.specs.Parted.{HasMarks, list_in, no_parted, own_first, parked_place, place_for, with_below, with_waits};
-ghost use Rattle.parked_queue.specs.Waits.{AreWaits, IsOnlyOf, slot_of, with_event, without_number};
+ghost use Rattle.parked_queue.specs.Parted.{HasMarks, list_in, own_first, parked_place, place_for, with_below, with_waits};
+ghost use Rattle.parked_queue.specs.Parkings.{AreNewParkings, IsNewParking, are_waits, no_parteds, parted_at, waiting_in};
+ghost use Rattle.parked_queue.specs.Waits.{AreSlots, AreWaits, IsOnlyOf, slot_of, with_event, without_number};
 
 use crate::slot::{LEVELS, mask_for, parked_list, slot_in};
 use crate::turn::take_number;
@@ -13,176 +14,259 @@ use std::alloc::{AllocError, Global};
 use std::marker::Model;
 use waiting_lists::WaitingLists;
 
-/// A list for each level, by the level's number, and behind them a list for each slot and level, for the events that are set
-/// aside: the level's events whose number is below `below`. `parked` has each slot that may have such an event, and `mask` is what
-/// leaves a flow's slot.
-#[derive(Drop)]
+/// How the events of one queue are parted. From `base` on there is a list for each level, by the level's number, and behind these
+/// a list for each slot and level, for the events that are set aside: the level's events whose number is below `below`. `parked`
+/// has each slot that may have such an event, and `mask` is what leaves a flow's slot.
+#[derive(Clone, Copy)]
 pub(crate) struct Parking {
-    lists: WaitingLists,
+    base: usize,
     slots: usize,
     mask: usize,
     below: [u64; LEVELS],
     parked: [Places; LEVELS],
     next: u64,
+    count: usize,
 }
 
-impl Model for Parking {
+/// The lists of all queues, which share one store, and how each queue's events are parted into its own.
+#[derive(Drop)]
+pub(crate) struct Parkings {
+    lists: WaitingLists,
+    queues: Vec<Parking>,
+}
+
+impl Model for Parkings {
+    ghost use Rattle.std.specs.Prelude.{List};
     ghost use Rattle.parked_queue.specs.Parted.{Parted};
-    ghost use Rattle.parked_queue.specs.Marks.{parted_in, IsParking};
+    ghost use Rattle.parked_queue.specs.Parkings.{parteds_in, AreParkings};
 
-    ghost Value = { Parted };
+    ghost Value = { List Parted };
 
-    ghost view = { parted_in };
+    ghost view = { λ a. parteds_in a.lists a.queues.items };
 
-    ghost invariant = { IsParking };
+    ghost invariant = { λ a. AreParkings a.lists a.queues.items };
 }
 
-impl Parking {
-    /// Nothing waits.
-    pub(crate) fn new(alloc: Global, slots: usize, room: usize) -> Result<Parking, AllocError>
-        requires some { 0 < slots }
-        requires few { slots ≤ 64 }
-        ensures { IfOk result (λ p. p ≡ no_parted slots room) }
+/// A queue whose lists begin at this one, and in which nothing waits.
+fn empty_parking(base: usize, slots: usize) -> Parking
+    requires { 0 < slots }
+    ensures { IsNewParking base slots result }
+{
+    Parking {
+        base,
+        slots,
+        mask: mask_for(slots),
+        below: [0; LEVELS],
+        parked: [Places::none(); LEVELS],
+        next: 0,
+        count: 0,
+    }
+}
+
+/// Queues of so many slots, in which nothing waits, and how many lists they have.
+fn empty_parkings(alloc: Global, slots: &[usize]) -> Result<(Vec<Parking>, usize), AllocError>
+    requires each { AreSlots slots.now }
+    requires few { length slots.now ≤ 64 }
+    ensures { IfOk result (λ r. AreNewParkings slots.now r.0.items r.1) }
+{
+    let mut queues = Vec::with_capacity(alloc, slots.len())?;
+    let mut lists = 0;
+    for count in slots {
+        queues.push(empty_parking(lists, *count))?;
+        lists += LEVELS * (*count + 1);
+    }
+    Ok((queues, lists))
+}
+
+impl Parkings {
+    /// Nothing waits in any queue.
+    pub(crate) fn new(alloc: Global, slots: &[usize], room: usize) -> Result<Parkings, AllocError>
+        requires each { AreSlots slots.now }
+        requires few { length slots.now ≤ 64 }
+        ensures { IfOk result (λ p. p ≡ no_parteds room slots.now) }
     {
-        Ok(Parking {
-            lists: WaitingLists::new(alloc, LEVELS * (slots + 1), room)?,
-            slots,
-            mask: mask_for(slots),
-            below: [0; LEVELS],
-            parked: [Places::none(); LEVELS],
-            next: 0,
-        })
+        let (queues, lists) = empty_parkings(alloc, slots)?;
+        let lists = WaitingLists::new(alloc, lists, room)?;
+        Ok(Parkings { lists, queues })
     }
 
-    /// Lets the event wait, under the next number.
-    pub(crate) fn accept(&mut self, event: Event)
-        requires room { length self.old.waits.waiting < self.old.waits.room }
-        requires numbers { self.old.waits.next < 2 ^ 63 }
-        ensures value { self.new ≡ with_waits self.old (with_event self.old.waits event) }
-        ensures waits { AreWaits self.new.waits }
+    /// How many queues there are.
+    pub(crate) fn len(&self) -> usize
+        ensures { result ≡ length self.now }
     {
-        let number = self.next;
-        self.lists.push(event.level(), Numbered { number, event });
-        self.next += 1;
+        self.queues.len()
+    }
+
+    /// Lets the event wait in the queue, under the queue's next number.
+    #[inline(always)]
+    pub(crate) fn accept(&mut self, queue: usize, event: Event)
+        requires there { queue < length self.old }
+        requires room { waiting_in self.old < (parted_at self.old queue).waits.room }
+        requires numbers { (parted_at self.old queue).waits.next < 2 ^ 63 }
+        ensures value { self.new ≡ slice_set self.old queue (with_waits (parted_at self.old queue) (with_event (parted_at self.old queue).waits event)) }
+        ensures waits { AreWaits (with_event (parted_at self.old queue).waits event) }
+    {
+        let entered = &mut self.queues[queue];
+        let number = entered.next;
+        entered.next = number + 1;
+        entered.count += 1;
+        let list = entered.base + event.level();
+        self.lists.push(list, Numbered { number, event });
     }
 
     /// The first event of the level's own list.
     #[inline(always)]
-    pub(crate) fn front(&self, level: usize) -> Option<Numbered>
-        requires { level < 4 }
-        ensures value { result ≡ own_first self.now level }
-        ensures waits { AreWaits self.now.waits }
-        ensures four { length self.now.below ≡ 4 }
+    pub(crate) fn front(&self, queue: usize, level: usize) -> Option<Numbered>
+        requires there { queue < length self.now }
+        requires level { level < 4 }
+        ensures value { result ≡ own_first (parted_at self.now queue) level }
+        ensures waits { AreWaits (parted_at self.now queue).waits }
+        ensures four { length (parted_at self.now queue).below ≡ 4 }
     {
-        self.lists.front(level)
+        self.lists.front(self.queues[queue].base + level)
+    }
+
+    /// How many slots the queue has.
+    #[inline(always)]
+    pub(crate) fn slots(&self, queue: usize) -> usize
+        requires { queue < length self.now }
+        ensures value { result ≡ (parted_at self.now queue).waits.slots }
+        ensures some { 0 < result }
+    {
+        self.queues[queue].slots
     }
 
     /// The slot of an event.
     #[inline(always)]
-    pub(crate) fn slot(&self, waiting: &Numbered) -> usize
-        ensures value { result ≡ slot_of self.now.waits.slots waiting.now }
-        ensures within { result < self.now.waits.slots }
+    pub(crate) fn slot(&self, queue: usize, waiting: &Numbered) -> usize
+        requires { queue < length self.now }
+        ensures value { result ≡ slot_of (parted_at self.now queue).waits.slots waiting.now }
+        ensures within { result < (parted_at self.now queue).waits.slots }
         ensures few { result < 64 }
     {
-        slot_in(self.slots, self.mask, waiting)
+        let asked = &self.queues[queue];
+        slot_in(asked.slots, asked.mask, waiting)
     }
 
     /// The level's slots that may have parked events.
     #[inline(always)]
-    pub(crate) fn marks(&self, level: usize) -> Places
-        requires { level < 4 }
-        ensures marked { HasMarks self.now level result }
-        ensures waits { AreWaits self.now.waits }
+    pub(crate) fn marks(&self, queue: usize, level: usize) -> Places
+        requires there { queue < length self.now }
+        requires level { level < 4 }
+        ensures marked { HasMarks (parted_at self.now queue) level result }
+        ensures waits { AreWaits (parted_at self.now queue).waits }
     {
-        self.parked[level]
+        self.queues[queue].parked[level]
     }
 
     /// The first parked event of the level and the slot. Where there is none, the slot is no longer looked at.
     #[inline(always)]
-    pub(crate) fn parked_front(&mut self, level: usize, slot: usize) -> Option<Numbered>
+    pub(crate) fn parked_front(
+        &mut self,
+        queue: usize,
+        level: usize,
+        slot: usize,
+    ) -> Option<Numbered>
+        requires there { queue < length self.old }
         requires level { level < 4 }
-        requires slot { slot < self.old.waits.slots }
+        requires slot { slot < (parted_at self.old queue).waits.slots }
         ensures same { self.new ≡ self.old }
-        ensures value { result ≡ slice_get (list_in self.old (parked_place slot level)) 0 }
+        ensures value { result ≡ slice_get (list_in (parted_at self.old queue) (parked_place slot level)) 0 }
     {
-        let head = self.lists.front(parked_list(level, slot));
+        let asked = &mut self.queues[queue];
+        let head = self.lists.front(asked.base + parked_list(level, slot));
         if head.is_none() {
-            self.parked[level].remove(slot);
+            asked.parked[level].remove(slot);
         }
         head
     }
 
     /// Sets the first event of the level's own list aside, which is of the slot.
     #[cold]
-    pub(crate) fn park(&mut self, level: usize, slot: usize)
+    pub(crate) fn park(&mut self, queue: usize, level: usize, slot: usize)
+        requires there { queue < length self.old }
         requires level { level < 4 }
-        requires there { is_some (own_first self.old level) ≡ true }
-        requires slot { IfSome (own_first self.old level) (λ w. slot ≡ slot_of self.old.waits.slots w) }
-        ensures { IfSome (own_first self.old level) (λ w. self.new ≡ with_below self.old level (w.number + 1)) }
+        requires first { is_some (own_first (parted_at self.old queue) level) ≡ true }
+        requires slot { IfSome (own_first (parted_at self.old queue) level) (λ w. slot ≡ slot_of (parted_at self.old queue).waits.slots w) }
+        ensures { IfSome (own_first (parted_at self.old queue) level) (λ w. self.new ≡ slice_set self.old queue (with_below (parted_at self.old queue) level (w.number + 1))) }
     {
-        if let Some(head) = self.lists.pop(level) {
-            self.lists.push(parked_list(level, slot), head);
-            self.below[level] = head.number + 1;
-            self.parked[level].add(slot);
-        }
-    }
-
-    /// The list of the event of this number, which is of the level and the slot.
-    fn list_for(&self, level: usize, slot: usize, number: u64) -> usize
-        requires level { level < 4 }
-        requires slot { slot < self.now.waits.slots }
-        ensures { result ≡ place_for self.now.below level slot number }
-    {
-        if number < self.below[level] {
-            parked_list(level, slot)
-        } else {
-            level
+        let left = &mut self.queues[queue];
+        if let Some(head) = self.lists.pop(left.base + level) {
+            self.lists.push(left.base + parked_list(level, slot), head);
+            left.below[level] = head.number + 1;
+            left.parked[level].add(slot);
         }
     }
 
     /// Takes the event of this number out, which is of the level and the slot.
-    pub(crate) fn remove(&mut self, level: usize, slot: usize, number: u64)
+    #[inline(always)]
+    pub(crate) fn remove(&mut self, queue: usize, level: usize, slot: usize, number: u64)
+        requires there { queue < length self.old }
         requires level { level < 4 }
-        requires slot { slot < self.old.waits.slots }
-        requires only { IsOnlyOf self.old.waits level slot number }
-        ensures value { self.new ≡ with_waits self.old (without_number self.old.waits number) }
-        ensures waits { AreWaits self.new.waits }
+        requires slot { slot < (parted_at self.old queue).waits.slots }
+        requires only { IsOnlyOf (parted_at self.old queue).waits level slot number }
+        ensures value { self.new ≡ slice_set self.old queue (with_waits (parted_at self.old queue) (without_number (parted_at self.old queue).waits number)) }
+        ensures waits { AreWaits (without_number (parted_at self.old queue).waits number) }
     {
-        if !self.lists.pop_number(level, number) {
-            self.remove_other(level, slot, number);
+        let left = &mut self.queues[queue];
+        if self.lists.pop_number(left.base + level, number) {
+            left.count -= 1;
+        } else {
+            self.remove_other(queue, level, slot, number);
         }
     }
 
     /// The same, where the event isn't the first one of the level's own list.
     #[cold]
-    fn remove_other(&mut self, level: usize, slot: usize, number: u64)
+    fn remove_other(&mut self, queue: usize, level: usize, slot: usize, number: u64)
+        requires there { queue < length self.old }
         requires level { level < 4 }
-        requires slot { slot < self.old.waits.slots }
-        requires only { IsOnlyOf self.old.waits level slot number }
-        ensures value { self.new ≡ with_waits self.old (without_number self.old.waits number) }
-        ensures waits { AreWaits self.new.waits }
+        requires slot { slot < (parted_at self.old queue).waits.slots }
+        requires only { IsOnlyOf (parted_at self.old queue).waits level slot number }
+        ensures value { self.new ≡ slice_set self.old queue (with_waits (parted_at self.old queue) (without_number (parted_at self.old queue).waits number)) }
+        ensures waits { AreWaits (without_number (parted_at self.old queue).waits number) }
     {
-        let list = self.list_for(level, slot, number);
+        let left = &mut self.queues[queue];
+        let list = left.base + list_for(&left.below, level, slot, number);
+        let before = self.lists.total();
         take_number(&mut self.lists, list, number);
+        left.count -= before - self.lists.total();
     }
 
-    /// How many events wait.
-    pub(crate) fn count(&self) -> usize
-        ensures value { result ≡ length self.now.waits.waiting }
-        ensures waits { AreWaits self.now.waits }
+    /// How many events of the queue wait.
+    #[inline(always)]
+    pub(crate) fn count(&self, queue: usize) -> usize
+        requires { queue < length self.now }
+        ensures value { result ≡ length (parted_at self.now queue).waits.waiting }
+        ensures waits { AreWaits (parted_at self.now queue).waits }
     {
-        self.lists.total()
+        self.queues[queue].count
     }
 
-    /// Appends the queue's number with that of each waiting event, one list after the other.
+    /// Appends the queue's number with that of each of its waiting events, one list after the other.
     pub(crate) fn push_pairs(&self, queue: usize, into: &mut Vec<(usize, u64)>)
-        requires { vec_len into.old + length self.now.waits.waiting ≤ vec_capacity into.old }
-        ensures pairs { into.new.items ≡ into.old.items ++ pairs_of queue (all_parts self.now) }
+        requires there { queue < length self.now }
+        requires room { vec_len into.old + length (parted_at self.now queue).waits.waiting ≤ vec_capacity into.old }
+        ensures pairs { into.new.items ≡ into.old.items ++ pairs_of queue (all_parts (parted_at self.now queue)) }
         ensures room { vec_capacity into.new ≡ vec_capacity into.old }
-        ensures waits { AreWaits self.now.waits }
+        ensures waits { AreWaits (parted_at self.now queue).waits }
     {
-        for list in 0..LEVELS * (self.slots + 1) {
-            self.lists.push_pairs(list, queue, into);
+        let asked = &self.queues[queue];
+        for list in 0..LEVELS * (asked.slots + 1) {
+            self.lists.push_pairs(asked.base + list, queue, into);
         }
+    }
+}
+
+/// The list of the event of this number, which is of the level and the slot.
+fn list_for(below: &[u64; LEVELS], level: usize, slot: usize, number: u64) -> usize
+    requires level { level < 4 }
+    requires slot { slot < 64 }
+    ensures { result ≡ place_for below.now level slot number }
+{
+    if number < below[level] {
+        parked_list(level, slot)
+    } else {
+        level
     }
 }

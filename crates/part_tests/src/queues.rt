@@ -1,34 +1,35 @@
-//! Worked calls of a queue's waiting events, and of what holds them. Each is made again where memory was refused, and serves then
+//! Worked calls of queues' waiting events, and of what holds them. Each is made again where memory was refused, and serves then
 //! as ever.
 
-ghost use Rattle.std.specs.Prelude.{◌≡◌, ◌<◌, ◌≤◌, [], vec_len, vec_capacity, IfOk};
-ghost use Rattle.parked_queue.specs.Waits.{no_waits};
-ghost use Rattle.waiting_lists.specs.Lists.{all_empty};
+ghost use Rattle.std.specs.Prelude.{◌≡◌, ◌<◌, ◌≤◌, [], ◌∷◌, vec_len, vec_capacity, IfOk};
+ghost use Rattle.parked_queue.specs.Waits.{all_empty};
+ghost use Rattle.waiting_lists.specs.Lists as lists;
 
 use evt_types::{Event, EventFault, Numbered, Op};
-use parked_queue::ParkedQueue;
+use parked_queue::ParkedQueues;
 use place_set::Places;
 use std::alloc::{AllocError, Global};
 use std::test::Fail;
 use waiting_lists::WaitingLists;
 
-fn queue_of(alloc: Global, slots: usize, room: usize) -> Result<ParkedQueue, AllocError>
+/// Two queues of so many slots each.
+fn queues_of(alloc: Global, slots: usize, room: usize) -> Result<ParkedQueues, AllocError>
     requires some { 0 < slots }
     requires few { slots ≤ 64 }
-    ensures { IfOk result (λ q. q ≡ no_waits slots room) }
+    ensures { IfOk result (λ qs. qs ≡ all_empty room (slots ∷ slots ∷ [])) }
 {
-    match ParkedQueue::new(alloc, slots, room) {
-        Ok(queue) => Ok(queue),
-        Err(_) => ParkedQueue::new(alloc, slots, room),
+    match ParkedQueues::new(alloc, &[slots, slots], room) {
+        Ok(queues) => Ok(queues),
+        Err(_) => ParkedQueues::new(alloc, &[slots, slots], room),
     }
 }
 
-fn lists_of(alloc: Global, lists: usize, room: usize) -> Result<WaitingLists, AllocError>
-    ensures { IfOk result (λ l. l ≡ all_empty lists room) }
+fn lists_of(alloc: Global, count: usize, room: usize) -> Result<WaitingLists, AllocError>
+    ensures { IfOk result (λ l. l ≡ lists.all_empty count room) }
 {
-    match WaitingLists::new(alloc, lists, room) {
+    match WaitingLists::new(alloc, count, room) {
         Ok(lists) => Ok(lists),
-        Err(_) => WaitingLists::new(alloc, lists, room),
+        Err(_) => WaitingLists::new(alloc, count, room),
     }
 }
 
@@ -58,54 +59,67 @@ fn slot(slot: usize) -> Places
 
 #[test]
 fn a_blocked_event_is_passed(rt: HostRuntime) -> Result<(), Fail> {
-    let mut queue = queue_of(rt.alloc(), 4, 3)?;
-    queue.accept(event(1, 10)?);
-    queue.accept(event(6, 11)?);
-    assert_eq!(rt; queue.first(2, slot(2)), Some(2));
-    assert_eq!(rt; queue.first(2, Places::below(4)), Some(1));
-    assert_eq!(rt; queue.first(2, slot(3)), None);
-    assert_eq!(rt; queue.first(1, Places::below(4)), None);
-    assert_eq!(rt; queue.count(), 2);
+    let mut queues = queues_of(rt.alloc(), 4, 3)?;
+    queues.accept(1, event(1, 10)?);
+    queues.accept(1, event(6, 11)?);
+    assert_eq!(rt; queues.first(1, 2, slot(2)), Some(2));
+    assert_eq!(rt; queues.first(1, 2, Places::below(4)), Some(1));
+    assert_eq!(rt; queues.first(1, 2, slot(3)), None);
+    assert_eq!(rt; queues.first(1, 1, Places::below(4)), None);
+    assert_eq!(rt; queues.count(1), 2);
     let second = Numbered {
         number: 1,
         event: event(6, 11)?,
     };
-    assert_eq!(rt; queue.oldest(2, 2), Some(second));
-    assert_eq!(rt; queue.oldest(2, 3), None);
-    assert_eq!(rt; queue.slot_of(&second), 2);
+    assert_eq!(rt; queues.oldest(1, 2, 2), Some(second));
+    assert_eq!(rt; queues.oldest(1, 2, 3), None);
+    assert_eq!(rt; queues.slot_of(1, &second), 2);
+    Ok(())
+}
+
+#[test]
+fn queues_share_their_room(rt: HostRuntime) -> Result<(), Fail> {
+    let mut queues = queues_of(rt.alloc(), 4, 2)?;
+    assert_eq!(rt; (queues.len(), queues.slots(1)), (2, 4));
+    queues.accept(0, event(1, 10)?);
+    queues.accept(1, event(2, 11)?);
+    assert_eq!(rt; (queues.count(0), queues.count(1)), (1, 1));
+    assert_eq!(rt; (queues.levels(0), queues.levels(1)), (slot(2), slot(2)));
+    assert_eq!(rt; queues.first(0, 2, slot(2)), None);
+    assert_eq!(rt; queues.first(1, 2, slot(2)), Some(2));
     Ok(())
 }
 
 #[test]
 fn the_head_is_seen_at_once(rt: HostRuntime) -> Result<(), Fail> {
-    let mut queue = queue_of(rt.alloc(), 4, 1)?;
-    queue.accept(event(1, 10)?);
+    let mut queues = queues_of(rt.alloc(), 4, 1)?;
+    queues.accept(0, event(1, 10)?);
     let head = Numbered {
         number: 0,
         event: event(1, 10)?,
     };
-    let seen = queue.head(2, slot(1));
+    let seen = queues.head(0, 2, slot(1));
     assert_eq!(rt;
         seen.map(|found| (found.slot, found.waiting)),
         Some((1, head))
     );
-    assert!(rt; queue.head(2, slot(3)).is_none());
-    assert!(rt; !queue.is_blocked(2, slot(3)));
-    assert_eq!(rt; queue.first(2, slot(3)), None);
-    assert!(rt; queue.is_blocked(2, slot(3)));
-    assert!(rt; !queue.is_blocked(2, slot(1)));
+    assert!(rt; queues.head(0, 2, slot(3)).is_none());
+    assert!(rt; !queues.is_blocked(0, 2, slot(3)));
+    assert_eq!(rt; queues.first(0, 2, slot(3)), None);
+    assert!(rt; queues.is_blocked(0, 2, slot(3)));
+    assert!(rt; !queues.is_blocked(0, 2, slot(1)));
     Ok(())
 }
 
 #[test]
 fn the_pairs_of_what_waits_rise(rt: HostRuntime) -> Result<(), Fail> {
-    let mut queue = queue_of(rt.alloc(), 2, 3)?;
-    queue.accept(event(0, 10)?);
-    queue.accept(event(1, 11)?);
-    assert!(rt; queue.first(2, slot(1)).is_some());
+    let mut queues = queues_of(rt.alloc(), 2, 3)?;
+    queues.accept(1, event(0, 10)?);
+    queues.accept(1, event(1, 11)?);
+    assert!(rt; queues.first(1, 2, slot(1)).is_some());
     let mut pairs = pairs_of(rt.alloc(), 2)?;
-    queue.list_pairs(5, &mut pairs);
-    assert_eq!(rt; pairs.as_slice(), [(5, 0), (5, 1)].as_slice());
+    queues.list_pairs(1, &mut pairs);
+    assert_eq!(rt; pairs.as_slice(), [(1, 0), (1, 1)].as_slice());
     Ok(())
 }
 

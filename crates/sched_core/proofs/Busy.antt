@@ -6,11 +6,10 @@ use Rattle.std.proofs.lemmas.List.{get_or_default, get_or_past, get_or-map, get_
 use Rattle.evt_types.specs.Fault.{IsWithinLimits}
 use Rattle.evt_types.specs.Plan.{Plan}
 use Rattle.transcripts.specs.Standing.{waiting_at}
-use Rattle.parked_queue.specs.Waits.{Waits, no_waits}
+use Rattle.parked_queue.specs.Waits.{Waits, no_waits, waits_at}
 use Rattle.place_set.specs.Places.{Has, IsEmpty, SameBut}
 use Rattle.place_set.specs.declared.places.Places.{Places}
 use Rattle.sched_core.specs.Inner.{AreEmptyQueues}
-use Rattle.sched_core.specs.Ordered.{waits_at}
 use Rattle.sched_core.specs.Busy.{AreBusy}
 use Rattle.sched_core.specs.View.{view_in, waiting_in}
 use Rattle.sched_core.specs.declared.state.Core.TheInside.{Inside}

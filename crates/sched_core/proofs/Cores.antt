@@ -19,11 +19,11 @@ use Rattle.evt_types.specs.declared.event.Numbered.{Numbered}
 use Rattle.order_parts.specs.Reorder.{Reordering, empty}
 use Rattle.sched_core.proofs.OrderMoves.{accepted_places}
 use Rattle.sched_core.specs.Inner.{IsQueueOf, HaveRoom, HaveSlots, held_of, slots_for}
-use Rattle.sched_core.specs.Ordered.{ArePlaces, kept_of, order_at, waits_at, places_in}
+use Rattle.sched_core.specs.Ordered.{ArePlaces, kept_of, order_at, places_in}
 use Rattle.sched_core.specs.View.{waiting_in, next_in, unanswered_in, entries_in, view_in, IsCore}
 use Rattle.order_parts.specs.declared.history.Entry.{Entry}
 use Rattle.order_parts.specs.History.{Entries}
-use Rattle.parked_queue.specs.Waits.{Waits, AreWaits, no_waits, with_event}
+use Rattle.parked_queue.specs.Waits.{Waits, AreWaits, no_waits, with_event, waits_at, all_waiting}
 use Rattle.sched_core.specs.declared.state.Core.TheInside.{Inside}
 
 -- ---- a queue and a lane that change
@@ -117,10 +117,9 @@ slots_set p qs i old new h is same slots k d lt = by_case (cases_eq k i)
 
 -- ---- an event is accepted
 
-pub fits_queue : (a : Inside) (i : ℕ) (old : Waits) → IsCore a → i < length a.queues → old ≡ get_or a.queues i old → inside_of (view_in a) < bound_of a.shape → length old.waiting < old.room
+pub fits_queue : (a : Inside) (i : ℕ) (old : Waits) → IsCore a → i < length a.queues → old ≡ get_or a.queues i old → inside_of (view_in a) < bound_of a.shape → all_waiting a.queues < old.room
 fits_queue a i old core h is room =
-    let le : length old.waiting ≤ sum_by (λ x. length (waiting_in x)) a.queues = subst (λ (q : Waits). length q.waiting ≤ sum_by (λ x. length (waiting_in x)) a.queues) (sym is) (get_or-le-sum_by (λ x. length (waiting_in x)) a.queues i old h) in
-    let e : sum_by (λ (xs : List Numbered). length xs) (map waiting_in a.queues) ≡ sum_by (λ x. length (waiting_in x)) a.queues = sum_of_map (λ (xs : List Numbered). length xs) waiting_in a.queues in
+    let e : sum_by (λ (xs : List Numbered). length xs) (map waiting_in a.queues) ≡ all_waiting a.queues = sum_of_map (λ (xs : List Numbered). length xs) waiting_in a.queues in
     let cap : old.room ≡ bound_of a.shape = (queue_here a i old core h is).room in
     omega arith
 

@@ -13,9 +13,8 @@ use Rattle.sched_core.proofs.News.{slots_range}
 use Rattle.sched_core.proofs.Offers.{HasNoneBeside, levels_beside}
 use Rattle.sched_core.specs.Inner.{slots_for}
 use Rattle.sched_core.specs.Offered.{HasNoneAllowedIn, HasNoneOfSlotIn, IsFirstIn, IsFirstSlotIn, IsOldestIn, slot_at}
-use Rattle.sched_core.specs.Ordered.{waits_at}
 use Rattle.sched_core.specs.View.{view_in, IsCore}
-use Rattle.parked_queue.specs.Waits.{AreLevels, Waits, HasNoneAllowed, HasNoneOfSlot, IsFirstAllowed, IsFirstSlot, IsOldest}
+use Rattle.parked_queue.specs.Waits.{AreLevels, Waits, HasNoneAllowed, HasNoneOfSlot, IsFirstAllowed, IsFirstSlot, IsOldest, waits_at}
 use Rattle.parked_queue.specs.declared.first.Found.{Found}
 use Rattle.sched_core.specs.declared.state.Core.TheInside.{Inside}
 use Rattle.transcripts.specs.Choice.{Passed}

@@ -1,11 +1,12 @@
 -- A core in which nothing has happened.
 use Rattle.std.proofs.Common.{◌≡◌, ℕ, ◌+◌, ◌<◌, ◌≤◌, ◌^◌, false, true, Bool, cond, List, [], ◌∷◌, ◌++◌, length, map, All, get_or, Option, Vec, Global, ◌⊎◌, ⊎_elim, inl, inr, refl, sym, ap, ◌∙◌, subst, arith}
 use Rattle.std.proofs.lemmas.Bool.{cases_lt}
-use Rattle.std.proofs.lemmas.List.{get_or-map, length-map, length_push, get_or_append_left, get_or_push}
+use Rattle.std.proofs.lemmas.List.{get_or-map, length-map, length_push, get_or_append_left, get_or_push, map-append}
 use Rattle.std.proofs.lemmas.List.Elements.{All-nil, All-push, All-map, All-weaker}
-use Rattle.std.proofs.lemmas.List.FromFn.{fill_by_all}
+use Rattle.std.proofs.lemmas.List.FromFn.{fill_by_all, length-map-range_with_len}
 use Rattle.std.proofs.lemmas.List.Sums.{sum-map}
-use Rattle.std.specs.List.{sum, sum_by}
+use Rattle.std.specs.List.{range_with_len, sum, sum_by}
+use Rattle.lists.proofs.Ranges.{mapped_at, range_more}
 use Rattle.lists.proofs.Sums.{sum_of_map, sum_of_none}
 use Rattle.transcripts.proofs.WholeViews.{waiting_at_none, accepted_at_none, unanswered_at_none, places_at_none}
 use Rattle.evt_types.specs.Fault.{IsWithinLimits}
@@ -19,7 +20,7 @@ use Rattle.order_parts.specs.Pins.{Pin}
 use Rattle.order_parts.specs.Reorder.{Reordering, empty}
 use Rattle.sched_core.proofs.OrderFacts.{new_places, order_small}
 use Rattle.sched_core.specs.Ordered.{kept_of, order_at, places_in}
-use Rattle.sched_core.specs.Inner.{IsQueueOf, AreEmptyQueues, IsBare, IsEmptyLane, AreEmptyLanes, held_of, slots_for}
+use Rattle.sched_core.specs.Inner.{IsQueueOf, AreEmptyQueues, IsBare, IsEmptyLane, AreEmptyLanes, held_of, queue_slots, slots_for}
 use Rattle.sched_core.specs.Links.{AreLinks}
 use Rattle.sched_core.specs.Pinned.{AreFreePins}
 use Rattle.sched_core.specs.SlotLanes.{AreSlotLanes, slot_lane_count}
@@ -27,22 +28,30 @@ use Rattle.place_set.specs.declared.places.Places.{Places}
 use Rattle.sched_core.specs.View.{waiting_in, next_in, unanswered_in, entries_in, view_in, IsCore}
 use Rattle.order_parts.specs.declared.history.Entry.{Entry}
 use Rattle.order_parts.specs.History.{Entries}
-use Rattle.parked_queue.specs.Waits.{Waits, AreWaits, no_waits}
+use Rattle.parked_queue.specs.Waits.{Waits, AreWaits, all_empty, no_waits, no_waits_of}
 use Rattle.sched_core.proofs.Cores.{same_parts}
 use Rattle.sched_core.proofs.Pinned.{pins_new}
 
--- ---- one empty queue or lane more
+-- ---- empty queues and lanes
 
-pub queues_none : (p : Plan) → AreEmptyQueues p 0 []
-queues_none p = record { count = refl; empty = λ k d lt. absurd (omega arith) }
+pub slots_more : (p : Plan) (n : ℕ) (ss : List ℕ) (s : ℕ) → ss ≡ queue_slots p n → s ≡ slots_for p n → ss ++ s ∷ [] ≡ queue_slots p (n + 1)
+slots_more p n ss s are is =
+    ap (λ xs. xs ++ s ∷ []) are
+    ∙ (ap (λ m. queue_slots p n ++ m ∷ []) is ∙ (sym (map-append (slots_for p) (range_with_len 0 n) (n ∷ [])) ∙ ap (map (slots_for p)) (sym (range_more n))))
 
-pub queues_more : (p : Plan) (n : ℕ) (qs : List Waits) (q : Waits) → AreEmptyQueues p n qs → q ≡ no_waits (slots_for p n) (bound_of p) → AreEmptyQueues p (n + 1) (qs ++ q ∷ [])
-queues_more p n qs q all empty =
+-- queues of these slots, with room for as many events as may be inside
+pub queues_new : (p : Plan) (ss : List ℕ) (room : ℕ) (qs : List Waits) → ss ≡ queue_slots p (length p.queues) → room ≡ bound_of p → qs ≡ all_empty room ss → AreEmptyQueues p (length p.queues) qs
+queues_new p ss room qs are is e =
+    let long = ap length e in
+    let same = length-map ss (no_waits_of room) in
+    let count = ap length are in
+    let all = length-map-range_with_len (slots_for p) 0 (length p.queues) in
     record {
-      count = length_push qs q ∙ ap (λ m. m + 1) all.count;
-      empty = λ k d lt. ⊎_elim (λ below. get_or_append_left qs (q ∷ []) d k below ∙ all.empty k d below)
-          (λ from. let here : length qs ≡ k = omega (arith, lt, from, length_push qs q) in get_or_push qs q d k here ∙ (empty ∙ ap (λ m. no_waits (slots_for p m) (bound_of p)) (sym all.count ∙ here)))
-          (cases_lt k (length qs));
+      count = omega arith;
+      empty = λ k d lt.
+          ap (λ xs. get_or xs k d) e
+          ∙ (get_or-map (no_waits_of room) ss k 0 d (omega arith)
+          ∙ (ap (λ m. no_waits m room) (ap (λ xs. get_or xs k 0) are ∙ mapped_at (slots_for p) (length p.queues) k 0 (omega arith)) ∙ ap (no_waits (slots_for p k)) is));
     }
 
 pub lanes_none : (p : Plan) → AreEmptyLanes p 0 []

@@ -10,8 +10,8 @@ use Rattle.evt_types.specs.declared.event.Event.{Event}
 use Rattle.evt_types.specs.declared.event.Numbered.{Numbered}
 use Rattle.order_parts.specs.Reorder.{Reordering, empty, next_number, open_place, place_at, is_open, after_hand, after_resolve, after_leave}
 use Rattle.order_parts.specs.declared.history.Entry.{Entry}
-use Rattle.sched_core.specs.Ordered.{ArePlaces, IsOrder, HavePlaces, HasPlace, AreOnce, StandsIn, order_at, waits_at, entries_at, entry_at}
-use Rattle.parked_queue.specs.Waits.{Waits, no_waits, with_event, without_number}
+use Rattle.sched_core.specs.Ordered.{ArePlaces, IsOrder, HavePlaces, HasPlace, AreOnce, StandsIn, order_at, entries_at, entry_at}
+use Rattle.parked_queue.specs.Waits.{Waits, no_waits, with_event, without_number, waits_at}
 use Rattle.lists.proofs.Writes.{slice_get-drop_one}
 use Rattle.sched_core.proofs.Ordered.{order_accepts, order_gives, order_hands, order_answers, order_leaves, waits_apart, stands_hands, stands_new, stands_answers, stands_leaves, may_resolve}
 

@@ -1,9 +1,8 @@
 -- What waits in all queues, and the queues in which something waits.
 use Rattle.std.specs.Prelude.{ℕ, ◌≡◌, ◌<◌, ◌≤◌, List, [], length}
-use Rattle.parked_queue.specs.Waits.{Waits}
+use Rattle.parked_queue.specs.Waits.{Waits, waits_at}
 use Rattle.place_set.specs.Places.{Has}
 use Rattle.place_set.specs.declared.places.Places.{Places}
-use Rattle.sched_core.specs.Ordered.{waits_at}
 
 -- these are numbers of queues, and each queue in which something waits is among them
 pub record AreBusy (qs : List Waits) (busy : Places) : Type 0 where

@@ -8,14 +8,11 @@ use Rattle.evt_types.specs.declared.step.Outcome.{Outcome}
 use Rattle.evt_types.specs.declared.step.Outcome.TheVariants.{Forwarded, Released}
 use Rattle.order_parts.specs.Reorder.{Reordering, empty, number_of, open_place}
 use Rattle.order_parts.specs.declared.history.Entry.{Entry}
-use Rattle.parked_queue.specs.Waits.{Waits, no_waits}
+use Rattle.parked_queue.specs.Waits.{Waits, waits_at}
 
--- the buffer of a queue, and what waits in it
+-- the buffer of a queue
 abbrev pub order_at : List Reordering → ℕ → Reordering
 order_at rs q = slice_index_or rs q (empty 0)
-
-abbrev pub waits_at : List Waits → ℕ → Waits
-waits_at ws q = slice_index_or ws q (no_waits 1 0)
 
 -- what a view has of a buffer
 abbrev pub places_in : Reordering → List Place

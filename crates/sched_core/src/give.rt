@@ -10,7 +10,7 @@ ghost use Rattle.sched_core.specs.Offered.{numbered_in};
 
 use crate::offer::Offer;
 use crate::state::Core;
-use evt_types::{Delivery, Numbered, Step};
+use evt_types::{Delivery, Step};
 use order_parts::Entry;
 
 impl Core {
@@ -32,9 +32,10 @@ impl Core {
                 queue,
                 number,
             },
+            ..
         } = offer;
         let place = self.orders.hand(queue, number);
-        let slot = self.queues.slot_of(queue, &Numbered { number, event });
+        let slot = self.queues.slot_offered(&offer);
         self.queues.remove(queue, event.level(), slot, number);
         self.pins.pin(queue, slot, lane);
         self.lanes.push(

@@ -1,5 +1,7 @@
 //! What the core proposes to give.
 
+ghost use Rattle.std.specs.Prelude.{◌≡◌, ◌%◌};
+
 use evt_types::Delivery;
 
 /// An event that may be given to a lane.
@@ -7,4 +9,9 @@ use evt_types::Delivery;
 pub struct Offer {
     pub lane: usize,
     pub delivery: Delivery,
+    /// Of so many slots ...
+    pub(crate) slots: usize,
+    /// ... the event's one, so that it isn't computed again where the event is given.
+    pub(crate) slot: usize,
+    ghost slot_is: { slot ≡ delivery.event.flow % slots },
 }

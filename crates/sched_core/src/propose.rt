@@ -124,6 +124,7 @@ impl Core {
             slot,
             lane,
         } = choice;
+        let slots = self.queues.slots(queue);
         match self.queues.oldest(queue, level, slot) {
             Some(Numbered { number, event }) => Some(Offer {
                 lane,
@@ -132,6 +133,8 @@ impl Core {
                     queue,
                     number,
                 },
+                slots,
+                slot,
             }),
             None => None,
         }
@@ -242,6 +245,7 @@ impl Core {
         let _ = &self.shape;
         let Found { slot, waiting } = self.head_in(queue, level, allowed)?;
         let lane = self.lane_for(queue, slot, lanes, skips)?;
+        let slots = self.queues.slots(queue);
         let Numbered { number, event } = waiting;
         Some(Offer {
             lane,
@@ -250,6 +254,8 @@ impl Core {
                 queue,
                 number,
             },
+            slots,
+            slot,
         })
     }
 

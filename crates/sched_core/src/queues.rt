@@ -1,14 +1,15 @@
 //! What waits in all queues.
 
 ghost use Rattle.std.specs.Prelude.{◌≡◌, ◌+◌, ◌<◌, ◌≤◌, ◌^◌, ◌++◌, length, slice_set, vec_len, vec_capacity, IsTrue, IfOk, IfSome, IfNone};
-ghost use Rattle.parked_queue.specs.Waits.{AreLevels, AreWaits, HasNoneAllowed, HasNoneOfSlot, IsFirstAllowed, IsFirstSlot, IsOldest, IsOnlyOf, slot_of, with_event, without_number};
-ghost use Rattle.sched_core.specs.Inner.{AreEmptyQueues, slots_for};
-ghost use Rattle.sched_core.specs.Ordered.{waits_at};
+ghost use Rattle.parked_queue.specs.Waits.{AreLevels, AreSlots, AreWaits, HasNoneAllowed, HasNoneOfSlot, IsFirstAllowed, IsFirstSlot, IsOldest, IsOnlyOf, all_waiting, slot_of, waits_at, with_event, without_number};
+ghost use Rattle.sched_core.specs.Inner.{AreEmptyQueues, queue_slots, slots_for};
+ghost use Rattle.sched_core.specs.Offered.{numbered_in};
 ghost use Rattle.sched_core.specs.Busy.{AreBusy};
 ghost use Rattle.transcripts.specs.Transcript.{pairs_of};
 
-use evt_types::{Event, MAX_SLOTS, Numbered, Shape};
-use parked_queue::{Found, ParkedQueue};
+use crate::offer::Offer;
+use evt_types::{Delivery, Event, MAX_SLOTS, Numbered, Shape};
+use parked_queue::{Found, ParkedQueues};
 use place_set::Places;
 use std::alloc::{AllocError, Global};
 use std::marker::Model;
@@ -16,7 +17,7 @@ use std::marker::Model;
 /// The queues, and a word of those in which something waits, so that an empty queue is never asked.
 #[derive(Drop)]
 pub struct AllQueues {
-    queues: Vec<ParkedQueue>,
+    queues: ParkedQueues,
     /// The queues in which something waits.
     busy: Places,
 }
@@ -29,9 +30,9 @@ impl Model for AllQueues {
 
     ghost use Rattle.sched_core.specs.Busy.{AreBusy};
 
-    ghost view = { λ a. a.queues.items };
+    ghost view = { λ a. a.queues };
 
-    ghost invariant = { λ a. AreBusy a.queues.items a.busy };
+    ghost invariant = { λ a. AreBusy a.queues a.busy };
 }
 
 /// How many slots the events of a queue fall into.
@@ -50,28 +51,29 @@ fn slots_for(shape: &Shape, queue: usize) -> usize
     }
 }
 
-/// The queues of the configuration, each with room for as many events as may be inside.
-fn empty_queues(alloc: Global, shape: &Shape) -> Result<Vec<ParkedQueue>, AllocError>
-    ensures { IfOk result (λ qs. AreEmptyQueues shape.now (length shape.now.queues) qs.items) }
+/// How many slots each queue's events fall into.
+fn all_slots(alloc: Global, shape: &Shape) -> Result<Vec<usize>, AllocError>
+    ensures slots { IfOk result (λ s. s.items ≡ queue_slots shape.now (length shape.now.queues)) }
+    ensures each { IfOk result (λ s. AreSlots s.items) }
 {
     let count = shape.queues().len();
-    let room = shape.bound();
-    let mut queues = Vec::with_capacity(alloc, count)?;
+    let mut slots = Vec::with_capacity(alloc, count)?;
     for queue in 0..count {
-        queues.push(ParkedQueue::new(alloc, slots_for(shape, queue), room)?)?;
+        slots.push(slots_for(shape, queue))?;
     }
-    Ok(queues)
+    Ok(slots)
 }
 
 impl AllQueues {
-    /// The queues of the configuration, in which nothing waits.
+    /// The queues of the configuration, in which nothing waits. In all there is room for as many events as may be inside.
     pub fn new(alloc: Global, shape: &Shape) -> Result<AllQueues, AllocError>
         ensures { IfOk result (λ qs. AreEmptyQueues shape.now (length shape.now.queues) qs) }
     {
         // To read a limit makes known that the limits hold: there are fewer queues than a set has places.
         let _ = shape.limit();
+        let slots = all_slots(alloc, shape)?;
         Ok(AllQueues {
-            queues: empty_queues(alloc, shape)?,
+            queues: ParkedQueues::new(alloc, &slots, shape.bound())?,
             busy: Places::none(),
         })
     }
@@ -95,20 +97,19 @@ impl AllQueues {
         requires { queue < length self.now }
         ensures { AreLevels (waits_at self.now queue) result }
     {
-        self.queues[queue].levels()
+        self.queues.levels(queue)
     }
 
     /// Lets the event wait in the queue, under the queue's next number.
     #[inline(always)]
     pub fn accept(&mut self, queue: usize, event: Event)
         requires there { queue < length self.old }
-        requires room { length (waits_at self.old queue).waiting < (waits_at self.old queue).room }
+        requires room { all_waiting self.old < (waits_at self.old queue).room }
         requires numbers { (waits_at self.old queue).next < 2 ^ 63 }
         ensures value { self.new ≡ slice_set self.old queue (with_event (waits_at self.old queue) event) }
         ensures waits { AreWaits (with_event (waits_at self.old queue) event) }
     {
-        let entered = &mut self.queues[queue];
-        entered.accept(event);
+        self.queues.accept(queue, event);
         self.busy.add(queue);
     }
 
@@ -118,7 +119,36 @@ impl AllQueues {
         ensures value { result ≡ slot_of (waits_at self.now queue).slots waiting.now }
         ensures within { result < (waits_at self.now queue).slots }
     {
-        self.queues[queue].slot_of(waiting)
+        self.queues.slot_of(queue, waiting)
+    }
+
+    /// How many slots the queue has, one at least.
+    #[inline(always)]
+    pub fn slots(&self, queue: usize) -> usize
+        requires { queue < length self.now }
+        ensures value { result ≡ (waits_at self.now queue).slots }
+        ensures some { 0 < result }
+    {
+        self.queues.slots(queue)
+    }
+
+    /// The slot of what is offered. It came with the offer, and is computed again only where that was made for other slots.
+    #[inline(always)]
+    pub fn slot_offered(&self, offer: &Offer) -> usize
+        requires { offer.now.delivery.queue < length self.now }
+        ensures value { result ≡ slot_of (waits_at self.now offer.now.delivery.queue).slots (numbered_in offer.now.delivery) }
+        ensures within { result < (waits_at self.now offer.now.delivery.queue).slots }
+    {
+        let Delivery {
+            event,
+            queue,
+            number,
+        } = offer.delivery;
+        if offer.slots == self.slots(queue) {
+            offer.slot
+        } else {
+            self.slot_of(queue, &Numbered { number, event })
+        }
     }
 
     /// The first event of the queue's level whose slot is allowed, where it is the first of the level's own list.
@@ -130,7 +160,7 @@ impl AllQueues {
         ensures slot { IfSome result (λ f. f.slot ≡ slot_of (waits_at self.now queue).slots f.waiting) }
         ensures waits { AreWaits (waits_at self.now queue) }
     {
-        self.queues[queue].head(level, allowed)
+        self.queues.head(queue, level, allowed)
     }
 
     /// Whether all events of the queue's level are set aside, and none of them has an allowed slot.
@@ -140,7 +170,7 @@ impl AllQueues {
         requires level { level < 4 }
         ensures { IsTrue result → HasNoneAllowed (waits_at self.now queue) level allowed }
     {
-        self.queues[queue].is_blocked(level, allowed)
+        self.queues.is_blocked(queue, level, allowed)
     }
 
     /// The slot of the first event of the queue's level whose slot is allowed.
@@ -153,8 +183,7 @@ impl AllQueues {
         ensures none { IfNone result (HasNoneAllowed (waits_at self.old queue) level allowed) }
         ensures waits { AreWaits (waits_at self.old queue) }
     {
-        let waiting = &mut self.queues[queue];
-        waiting.first(level, allowed)
+        self.queues.first(queue, level, allowed)
     }
 
     /// The oldest event of the queue's level and slot.
@@ -167,8 +196,7 @@ impl AllQueues {
         ensures oldest { IfSome result (IsOldest (waits_at self.old queue) level slot) }
         ensures none { IfNone result (HasNoneOfSlot (waits_at self.old queue) level slot) }
     {
-        let waiting = &mut self.queues[queue];
-        waiting.oldest(level, slot)
+        self.queues.oldest(queue, level, slot)
     }
 
     /// Takes the event of this number out of the queue, which is of the level and the slot.
@@ -180,9 +208,8 @@ impl AllQueues {
         ensures value { self.new ≡ slice_set self.old queue (without_number (waits_at self.old queue) number) }
         ensures waits { AreWaits (without_number (waits_at self.old queue) number) }
     {
-        let left = &mut self.queues[queue];
-        left.remove(level, slot, number);
-        if left.count() == 0 {
+        self.queues.remove(queue, level, slot, number);
+        if self.queues.count(queue) == 0 {
             self.busy.remove(queue);
         }
     }
@@ -193,7 +220,7 @@ impl AllQueues {
         ensures value { result ≡ length (waits_at self.now queue).waiting }
         ensures waits { AreWaits (waits_at self.now queue) }
     {
-        self.queues[queue].count()
+        self.queues.count(queue)
     }
 
     /// Appends the queue's number with that of each of its waiting events, rising.
@@ -203,6 +230,6 @@ impl AllQueues {
         ensures pairs { into.new.items ≡ into.old.items ++ pairs_of queue (waits_at self.now queue).waiting }
         ensures room { vec_capacity into.new ≡ vec_capacity into.old }
     {
-        self.queues[queue].list_pairs(queue, into);
+        self.queues.list_pairs(queue, into);
     }
 }

@@ -3,9 +3,8 @@ use Rattle.evt_types.specs.Plan.{bound_of}
 use Rattle.transcripts.specs.Standing.{View, inside_of, entries_of, after_accept}
 use Rattle.sched_core.proofs.Cores.{fits_queue, fits_number, core_accepts, view_accepts}
 use Rattle.sched_core.specs.View.{view_in}
-use Rattle.parked_queue.specs.Waits.{with_event}
+use Rattle.parked_queue.specs.Waits.{with_event, waits_at}
 use Rattle.sched_core.proofs.Busy.{waits_is}
-use Rattle.sched_core.specs.Ordered.{waits_at}
 use Rattle.sched_core.proofs.state.Core.accept.Goals as goal
 
 pub accept-requires-clause-room : goal.accept-requires-clause-room

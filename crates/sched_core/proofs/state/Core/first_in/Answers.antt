@@ -4,7 +4,7 @@ use Rattle.transcripts.specs.Standing.{View}
 use Rattle.sched_core.proofs.FirstOnes.{first_slot_of_view, none_of_view}
 use Rattle.sched_core.specs.Offered.{HasNoneAllowedIn, IsFirstSlotIn}
 use Rattle.sched_core.proofs.Busy.{waits_is}
-use Rattle.sched_core.specs.Ordered.{waits_at}
+use Rattle.parked_queue.specs.Waits.{waits_at}
 use Rattle.sched_core.proofs.state.Core.first_in.Goals as goal
 
 pub returns-clause-first : goal.returns-clause-first

@@ -5,7 +5,7 @@ use Rattle.parked_queue.specs.declared.first.Found.{Found}
 use Rattle.sched_core.proofs.Busy.{waits_is}
 use Rattle.sched_core.proofs.FirstOnes.{head_of_view, head_slot_of_view}
 use Rattle.sched_core.specs.Offered.{IsFirstIn, slot_at}
-use Rattle.sched_core.specs.Ordered.{waits_at}
+use Rattle.parked_queue.specs.Waits.{waits_at}
 use Rattle.sched_core.proofs.state.Core.head_in.Goals as goal
 
 pub returns-clause-first : goal.returns-clause-first

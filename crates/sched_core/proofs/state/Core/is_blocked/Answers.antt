@@ -3,7 +3,7 @@ use Rattle.transcripts.specs.Standing.{View}
 use Rattle.sched_core.proofs.Busy.{waits_is}
 use Rattle.sched_core.proofs.FirstOnes.{none_in_view}
 use Rattle.sched_core.specs.Offered.{HasNoneAllowedIn}
-use Rattle.sched_core.specs.Ordered.{waits_at}
+use Rattle.parked_queue.specs.Waits.{waits_at}
 use Rattle.sched_core.proofs.state.Core.is_blocked.Goals as goal
 
 pub returns : goal.returns

@@ -5,7 +5,7 @@ use Rattle.transcripts.specs.Standing.{View}
 use Rattle.sched_core.proofs.Busy.{waits_is}
 use Rattle.sched_core.proofs.FirstOnes.{none_of_slot_view, oldest_of_view}
 use Rattle.sched_core.specs.Offered.{numbered_in, HasNoneOfSlotIn, IsOldestIn}
-use Rattle.sched_core.specs.Ordered.{waits_at}
+use Rattle.parked_queue.specs.Waits.{waits_at}
 use Rattle.sched_core.specs.declared.offer.Offer.{Offer}
 use Rattle.sched_core.proofs.state.Core.offer_of.Goals as goal
 use Rattle.sched_core.proofs.state.Core.offer_of.Goals.{in-Some, in-None}

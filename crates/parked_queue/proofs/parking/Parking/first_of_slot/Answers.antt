@@ -1,8 +1,0 @@
-use Rattle.std.proofs.Common.{◌∙◌, sym}
-use Rattle.std.proofs.lemmas.Bool.{false≢true}
-use Rattle.parked_queue.proofs.Best.{unmarked}
-use Rattle.parked_queue.proofs.parking.Parking.first_of_slot.Goals as goal
-
-pub returns-else-has-clause-value : goal.returns-else-has-clause-value
-returns-else-has-clause-value c =
-    sym (unmarked c.args.self.now c.args.level c.args.slot c.marks.result c.marks.ensures.waits c.requires.level c.marks.ensures.marked (λ has. false≢true (sym c.if-has.false ∙ c.has.ensures.1 has)))

@@ -1,0 +1,72 @@
+use Rattle.std.proofs.Common.{◌≡◌, ◌<◌, ◌∙◌, Some, None, ap, slice_get, subst, sym, refl}
+use Rattle.place_set.specs.Places.{Has}
+use Rattle.parked_queue.specs.Parted.{HasNoneParked, IsFirstParked, Parted, list_in, parked_place}
+use Rattle.parked_queue.proofs.Best.{best_kept, best_none, best_older, one_older, has_none, is_first, still_there}
+use Rattle.parked_queue.specs.Waits.{slot_of}
+use Rattle.parked_queue.proofs.Options.{of_none, of_some}
+use Rattle.parked_queue.specs.Parkings.{parted_at}
+use Rattle.parked_queue.proofs.parking.Parkings.first_parked.Goals as goal
+
+pub loop-slot-init : goal.loop-slot-init
+loop-slot-init c =
+    record {
+      same = refl;
+      there = λ k has. (has, c.requires.there k has);
+      one = tt;
+      best = best_none (parted_at c.args.self.now c.args.queue) c.args.level c.args.marked;
+    }
+
+pub parked_front-requires-clause-slot : goal.parked_front-requires-clause-slot
+parked_front-requires-clause-slot c =
+    subst (λ vs. c.in-Some.slot < (parted_at vs c.args.queue).waits.slots) (sym c.loop-slot.invariant.same) (c.loop-slot.invariant.there c.in-Some.slot c.in-Some.ensures.first.there).1
+
+pub loop-slot-smaller-in-Some-parked_front : goal.loop-slot-smaller-in-Some-parked_front
+loop-slot-smaller-in-Some-parked_front c = c.in-Some.ensures.lighter
+
+pub loop-slot-preserved-in-Some-parked_front : goal.loop-slot-preserved-in-Some-parked_front
+loop-slot-preserved-in-Some-parked_front c =
+    let head = subst (λ vs. slice_get (list_in (parted_at vs c.args.queue) (parked_place c.in-Some.slot c.args.level)) 0 ≡ Some c.in-Some-parked_front.head) c.loop-slot.invariant.same (sym c.in-Some-parked_front.ensures.value) in
+    record {
+      same = c.parked_front.ensures.same ∙ c.loop-slot.invariant.same;
+      there = still_there (λ k. Has c.args.marked k × (k < (parted_at c.args.self.now c.args.queue).waits.slots)) c.in-Some.slot c.loop-slot.left c.pop.new.self c.in-Some.ensures.others c.in-Some.ensures.gone c.loop-slot.invariant.there;
+      one =
+          one_older (parted_at c.args.self.now c.args.queue) c.args.level c.args.marked c.in-Some.slot c.loop-slot.best c.in-Some-parked_front.head c.older.result c.requires.waits c.requires.level head
+          (c.loop-slot.invariant.there c.in-Some.slot c.in-Some.ensures.first.there).0 c.older.ensures.one c.loop-slot.invariant.one;
+      best =
+          best_older (parted_at c.args.self.now c.args.queue) c.args.level c.args.marked c.in-Some.slot c.loop-slot.left c.pop.new.self c.loop-slot.best c.in-Some-parked_front.head c.older.result c.requires.waits c.requires.level head c.in-Some.ensures.others c.older.ensures.older
+          c.loop-slot.invariant.best;
+    }
+
+pub loop-slot-smaller : goal.loop-slot-smaller
+loop-slot-smaller c = c.in-Some.ensures.lighter
+
+pub loop-slot-preserved : goal.loop-slot-preserved
+loop-slot-preserved c =
+    let none = subst (λ vs. slice_get (list_in (parted_at vs c.args.queue) (parked_place c.in-Some.slot c.args.level)) 0 ≡ None) c.loop-slot.invariant.same (sym c.in_default-parked_front.ensures.value) in
+    record {
+      same = c.parked_front.ensures.same ∙ c.loop-slot.invariant.same;
+      there = still_there (λ k. Has c.args.marked k × (k < (parted_at c.args.self.now c.args.queue).waits.slots)) c.in-Some.slot c.loop-slot.left c.pop.new.self c.in-Some.ensures.others c.in-Some.ensures.gone c.loop-slot.invariant.there;
+      one = c.loop-slot.invariant.one;
+      best = best_kept (parted_at c.args.self.now c.args.queue) c.args.level c.args.marked c.in-Some.slot c.loop-slot.left c.pop.new.self c.loop-slot.best c.requires.waits c.requires.level none c.in-Some.ensures.others c.loop-slot.invariant.best;
+    }
+
+pub returns-in-Some-best-clause-same : goal.returns-in-Some-best-clause-same
+returns-in-Some-best-clause-same c = c.loop-slot.invariant.same
+
+pub returns-in-Some-best-clause-first : goal.returns-in-Some-best-clause-first
+returns-in-Some-best-clause-first c =
+    record {
+      waiting = c.in-Some-best.oldest;
+      first =
+          of_some c.loop-slot.best c.in-Some-best.oldest (IsFirstParked (parted_at c.args.self.now c.args.queue) c.args.level c.args.marked) c.in-Some-best.is
+          (is_first (parted_at c.args.self.now c.args.queue) c.args.level c.args.marked c.loop-slot.left c.in_default.ensures.none c.loop-slot.best c.loop-slot.invariant.one c.loop-slot.invariant.best);
+      is = c.slot.ensures.value ∙ ap (λ vs. slot_of (parted_at vs c.args.queue).waits.slots c.in-Some-best.oldest) c.loop-slot.invariant.same;
+    }
+
+pub returns-in-None-clause-same : goal.returns-in-None-clause-same
+returns-in-None-clause-same c = c.loop-slot.invariant.same
+
+pub returns-in-None-clause-none : goal.returns-in-None-clause-none
+returns-in-None-clause-none c =
+    of_none c.loop-slot.best (HasNoneParked (parted_at c.args.self.now c.args.queue) c.args.level c.args.marked) c.in-None.is
+    (has_none (parted_at c.args.self.now c.args.queue) c.args.level c.args.marked c.loop-slot.left c.in_default.ensures.none c.loop-slot.best c.loop-slot.invariant.best)

@@ -1,0 +1,11 @@
+use Rattle.std.proofs.Common.{◌≡◌, ◌++◌, vec_capacity}
+use Rattle.parked_queue.specs.Pairs.{pairs_of, parts_of}
+use Rattle.parked_queue.specs.Parkings.{parted_at}
+use Rattle.parked_queue.proofs.parking.Parkings.push_pairs.Given as goal
+
+abbrev pub invariant-loop-list : goal.invariant-loop-list
+invariant-loop-list l =
+    record {
+      pairs : l.into.items ≡ l.initial.into.items ++ pairs_of l.queue (parts_of (parted_at l.fn.self l.queue) l.list);
+      room : vec_capacity l.into ≡ vec_capacity l.initial.into;
+    }

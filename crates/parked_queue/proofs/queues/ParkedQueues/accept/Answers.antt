@@ -1,0 +1,35 @@
+use Rattle.std.proofs.Common.{◌≡◌, ◌<◌, ◌∙◌, ap, arith, length, set, subst, sym}
+use Rattle.evt_types.specs.Plan.{level_of}
+use Rattle.place_set.specs.Places.{Has, SameBut}
+use Rattle.parked_queue.specs.Levels.{HaveLevels, levels_at}
+use Rattle.parked_queue.specs.Parkings.{are_waits, parted_at}
+use Rattle.parked_queue.specs.Parted.{with_waits}
+use Rattle.parked_queue.specs.Waits.{AreLevels, waits_at, with_event}
+use Rattle.parked_queue.proofs.Firsts.{levels_with}
+use Rattle.parked_queue.proofs.Levels.{levels_read, levels_set}
+use Rattle.parked_queue.proofs.Parkings.{waits_read, waits_set}
+use Rattle.parked_queue.proofs.queues.ParkedQueues.accept.Goals as goal
+
+pub invariant_of-self : goal.invariant_of-self
+invariant_of-self c =
+    let qs = are_waits c.self.inside.parkings in
+    let lt : c.args.queue < length qs = subst (λ ws. c.args.queue < length ws) (sym c.self.view_is) c.requires.there in
+    let new : are_waits c.accept.new.self ≡ set qs c.args.queue (with_event (parted_at c.self.inside.parkings c.args.queue).waits c.args.event) =
+    ap are_waits c.accept.ensures.value ∙ waits_set c.self.inside.parkings c.args.queue (with_waits (parted_at c.self.inside.parkings c.args.queue) (with_event (parted_at c.self.inside.parkings c.args.queue).waits c.args.event)) in
+    let same = waits_read c.self.inside.parkings c.args.queue in
+    let was = c.index_mut.ensures.value ∙ levels_read qs c.self.inside.levels.items c.args.queue c.self.invariant lt c.index_mut.result.now in
+    let old = subst (AreLevels (parted_at c.self.inside.parkings c.args.queue).waits) (sym was) (subst (λ w. AreLevels w (levels_at c.self.inside.levels.items c.args.queue)) same (c.self.invariant.each c.args.queue lt)) in
+    let level : level_of c.args.event < 4 = omega arith in
+    subst (λ ws. HaveLevels ws (set c.self.inside.levels.items c.args.queue c.add.new.self)) (sym new)
+    (levels_set qs c.self.inside.levels.items c.args.queue c.self.invariant lt (with_event (parted_at c.self.inside.parkings c.args.queue).waits c.args.event) c.add.new.self
+    (levels_with (parted_at c.self.inside.parkings c.args.queue).waits c.args.event c.index_mut.result.now c.add.new.self level
+    (subst (Has c.add.new.self) c.level.ensures c.add.ensures.there) (subst (λ k. SameBut k c.index_mut.result.now c.add.new.self) c.level.ensures c.add.ensures.others) old))
+
+pub returns-clause-value : goal.returns-clause-value
+returns-clause-value c =
+    let e = ap (λ ws. waits_at ws c.args.queue) c.self.view_is in
+    let same = waits_read c.self.inside.parkings c.args.queue in
+    ap are_waits c.accept.ensures.value
+    ∙ (waits_set c.self.inside.parkings c.args.queue (with_waits (parted_at c.self.inside.parkings c.args.queue) (with_event (parted_at c.self.inside.parkings c.args.queue).waits c.args.event))
+    ∙ (ap (λ ws. set ws c.args.queue (with_event (parted_at c.self.inside.parkings c.args.queue).waits c.args.event)) c.self.view_is
+    ∙ ap (λ w. set c.args.self.now c.args.queue (with_event w c.args.event)) (sym same ∙ e)))

@@ -1,0 +1,17 @@
+use Rattle.std.proofs.Common.{◌≡◌, ◌++◌, ◌∙◌, ap, length, sym, arith, rules}
+use Rattle.std.proofs.lemmas.List.Sorted.{IsNonDecreasingBy-from_sort_by_key}
+use Rattle.lists.proofs.Sorted.{second}
+use Rattle.parked_queue.specs.Pairs.{pairs_of}
+use Rattle.parked_queue.specs.Waits.{Waits, waits_at}
+use Rattle.parked_queue.specs.Parkings.{parted_at}
+use Rattle.parked_queue.proofs.Pairs.{listed}
+use Rattle.parked_queue.proofs.Parkings.{waits_read}
+use Rattle.parked_queue.proofs.queues.ParkedQueues.list_pairs.Goals as goal
+
+pub returns-clause-pairs : goal.returns-clause-pairs
+returns-clause-pairs c =
+    let start : c.len-start.result ≡ length c.args.into.now.items = omega arith in
+    let end : c.push_pairs.new.into.len ≡ length c.push_pairs.new.into.items = omega arith in
+    listed c.args.queue (parted_at c.self.inside.parkings c.args.queue) c.deref_mut.result.now c.push_pairs.new.into.items c.args.into.now.items c.sort_unstable_by_key.new.self c.push_pairs.new.into.len c.len-start.result c.push_pairs.ensures.waits
+    c.deref_mut.ensures.value c.push_pairs.ensures.pairs start end c.sort_unstable_by_key.ensures.permutation (IsNonDecreasingBy-from_sort_by_key second c.sort_unstable_by_key.new.self c.sort_unstable_by_key.ensures.sorted (λ a r f k. search rules))
+    ∙ ap (λ (q : Waits). c.args.into.now.items ++ pairs_of c.args.queue q.waiting) (sym (waits_read c.self.inside.parkings c.args.queue) ∙ ap (λ ws. waits_at ws c.args.queue) c.self.view_is)

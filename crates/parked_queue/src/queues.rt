@@ -1,0 +1,185 @@
+//! What waits in several queues.
+
+ghost use Rattle.std.specs.Prelude.{◌≡◌, ◌+◌, ◌<◌, ◌≤◌, ◌^◌, ◌++◌, length, map, slice_set, vec_len, vec_capacity, IsTrue, IfOk, IfSome, IfNone};
+ghost use Rattle.evt_types.specs.declared.event.Numbered.{Numbered as NumberedValue};
+ghost use Rattle.parked_queue.specs.Waits.{AreLevels, AreSlots, AreWaits, HasNoneAllowed, HasNoneOfSlot, IsFirstAllowed, IsFirstSlot, IsOldest, IsOnlyOf, all_empty, all_waiting, slot_of, waits_at, with_event, without_number};
+
+use crate::first::Found;
+use crate::parking::Parkings;
+use evt_types::{Event, Numbered};
+use place_set::Places;
+use std::alloc::{AllocError, Global};
+use std::marker::Model;
+
+/// For each queue the events that wait, the number of the next event, and a word of the levels of which an event waits, so that an
+/// empty level is looked at once. All queues share the memory for what waits.
+#[derive(Drop)]
+pub struct ParkedQueues {
+    parkings: Parkings,
+    /// For each queue the levels of which an event waits. One that has become empty leaves when it is next looked at.
+    levels: Vec<Places>,
+}
+
+impl Model for ParkedQueues {
+    ghost use Rattle.std.specs.Prelude.{List};
+    ghost use Rattle.parked_queue.specs.Parkings.{are_waits};
+    ghost use Rattle.parked_queue.specs.Waits.{Waits};
+    ghost use Rattle.parked_queue.specs.Levels.{HaveLevels};
+
+    ghost Value = { List Waits };
+
+    ghost view = { λ a. are_waits a.parkings };
+
+    ghost invariant = { λ a. HaveLevels (are_waits a.parkings) a.levels.items };
+}
+
+impl ParkedQueues {
+    /// Queues of so many slots each, with room for so many events in all.
+    pub fn new(alloc: Global, slots: &[usize], room: usize) -> Result<ParkedQueues, AllocError>
+        requires each { AreSlots slots.now }
+        requires few { length slots.now ≤ 64 }
+        ensures { IfOk result (λ qs. qs ≡ all_empty room slots.now) }
+    {
+        let parkings = Parkings::new(alloc, slots, room)?;
+        let levels = vec![in alloc; Places::none(); slots.len()]?;
+        Ok(ParkedQueues { parkings, levels })
+    }
+
+    /// How many queues there are.
+    pub fn len(&self) -> usize
+        ensures { result ≡ length self.now }
+    {
+        self.parkings.len()
+    }
+
+    /// Lets the event wait in the queue, under the queue's next number. Wants room: fewer than there is room for wait in all queues.
+    #[inline(always)]
+    pub fn accept(&mut self, queue: usize, event: Event)
+        requires there { queue < length self.old }
+        requires room { all_waiting self.old < (waits_at self.old queue).room }
+        requires numbers { (waits_at self.old queue).next < 2 ^ 63 }
+        ensures value { self.new ≡ slice_set self.old queue (with_event (waits_at self.old queue) event) }
+        ensures waits { AreWaits (with_event (waits_at self.old queue) event) }
+    {
+        self.levels[queue].add(event.level());
+        self.parkings.accept(queue, event);
+    }
+
+    /// The levels of the queue of which an event waits, and perhaps some that have become empty.
+    #[inline(always)]
+    pub fn levels(&self, queue: usize) -> Places
+        requires { queue < length self.now }
+        ensures { AreLevels (waits_at self.now queue) result }
+    {
+        self.levels[queue]
+    }
+
+    /// How many slots the queue has.
+    #[inline(always)]
+    pub fn slots(&self, queue: usize) -> usize
+        requires { queue < length self.now }
+        ensures value { result ≡ (waits_at self.now queue).slots }
+        ensures some { 0 < result }
+    {
+        self.parkings.slots(queue)
+    }
+
+    /// The slot of an event of the queue.
+    #[inline(always)]
+    pub fn slot_of(&self, queue: usize, waiting: &Numbered) -> usize
+        requires { queue < length self.now }
+        ensures value { result ≡ slot_of (waits_at self.now queue).slots waiting.now }
+        ensures within { result < (waits_at self.now queue).slots }
+    {
+        self.parkings.slot(queue, waiting)
+    }
+
+    /// The slot of the first event of the queue's level whose slot is allowed. The events before it are set aside, each once.
+    #[inline(always)]
+    pub fn first(&mut self, queue: usize, level: usize, allowed: Places) -> Option<usize>
+        requires there { queue < length self.old }
+        requires level { level < 4 }
+        ensures same { self.new ≡ self.old }
+        ensures first { IfSome result (IsFirstSlot (waits_at self.old queue) level allowed) }
+        ensures none { IfNone result (HasNoneAllowed (waits_at self.old queue) level allowed) }
+        ensures waits { AreWaits (waits_at self.old queue) }
+    {
+        let first = self.parkings.first(queue, level, allowed);
+        if first.is_none() && self.parkings.is_level_empty(queue, level) {
+            self.levels[queue].remove(level);
+        }
+        first
+    }
+
+    /// The first event of the queue's level whose slot is allowed, where that is quick to see. Where it is not, the answer is `None`
+    /// too.
+    #[inline(always)]
+    pub fn head(&self, queue: usize, level: usize, allowed: Places) -> Option<Found>
+        requires there { queue < length self.now }
+        requires level { level < 4 }
+        ensures first { IfSome result (λ f. IsFirstAllowed (waits_at self.now queue) level allowed f.waiting) }
+        ensures slot { IfSome result (λ f. f.slot ≡ slot_of (waits_at self.now queue).slots f.waiting) }
+        ensures waits { AreWaits (waits_at self.now queue) }
+    {
+        self.parkings.head(queue, level, allowed)
+    }
+
+    /// Whether all events of the queue's level are set aside, and none of them has an allowed slot.
+    #[inline(always)]
+    pub fn is_blocked(&self, queue: usize, level: usize, allowed: Places) -> bool
+        requires there { queue < length self.now }
+        requires level { level < 4 }
+        ensures { IsTrue result → HasNoneAllowed (waits_at self.now queue) level allowed }
+    {
+        self.parkings.is_blocked(queue, level, allowed)
+    }
+
+    /// The oldest event of the queue's level and slot. Where it was just found by its slot it is at the head of its list.
+    #[inline(always)]
+    pub fn oldest(&mut self, queue: usize, level: usize, slot: usize) -> Option<Numbered>
+        requires there { queue < length self.old }
+        requires level { level < 4 }
+        requires slot { slot < (waits_at self.old queue).slots }
+        ensures same { self.new ≡ self.old }
+        ensures oldest { IfSome result (IsOldest (waits_at self.old queue) level slot) }
+        ensures none { IfNone result (HasNoneOfSlot (waits_at self.old queue) level slot) }
+    {
+        self.parkings.oldest(queue, level, slot)
+    }
+
+    /// Takes the event of this number out of the queue, which is of the level and the slot. At the head of its list it goes at once;
+    /// else its list is turned once round.
+    #[inline(always)]
+    pub fn remove(&mut self, queue: usize, level: usize, slot: usize, number: u64)
+        requires there { queue < length self.old }
+        requires level { level < 4 }
+        requires slot { slot < (waits_at self.old queue).slots }
+        requires only { IsOnlyOf (waits_at self.old queue) level slot number }
+        ensures value { self.new ≡ slice_set self.old queue (without_number (waits_at self.old queue) number) }
+        ensures waits { AreWaits (without_number (waits_at self.old queue) number) }
+    {
+        self.parkings.remove(queue, level, slot, number);
+    }
+
+    /// How many events of the queue wait.
+    #[inline(always)]
+    pub fn count(&self, queue: usize) -> usize
+        requires { queue < length self.now }
+        ensures value { result ≡ length (waits_at self.now queue).waiting }
+        ensures waits { AreWaits (waits_at self.now queue) }
+    {
+        self.parkings.count(queue)
+    }
+
+    /// Appends the queue's number with that of each of its waiting events, rising.
+    pub fn list_pairs(&self, queue: usize, into: &mut Vec<(usize, u64)>)
+        requires there { queue < length self.now }
+        requires room { vec_len into.old + length (waits_at self.now queue).waiting ≤ vec_capacity into.old }
+        ensures pairs { into.new.items ≡ into.old.items ++ map (λ (w : NumberedValue). (queue, w.number)) (waits_at self.now queue).waiting }
+        ensures room { vec_capacity into.new ≡ vec_capacity into.old }
+    {
+        let start = into.len();
+        self.parkings.push_pairs(queue, into);
+        into[start..].sort_unstable_by_key(|pair| pair.1);
+    }
+}

@@ -1,6 +1,5 @@
 -- Queues in which nothing waits.
-use Rattle.std.proofs.Common.{◌≡◌, ◌≢◌, ℕ, zero, suc, ◌+◌, ◌-◌, ◌*◌, ◌^◌, ◌<◌, ◌≤◌, List, [], ◌∷◌, ◌++◌, length, map, get_or, replicate, refl, sym, ap, ◌∙◌, subst, arith, ⊎_elim}
-use Rattle.std.specs.List.{range_with_len}
+use Rattle.std.proofs.Common.{◌≡◌, ℕ, zero, suc, ◌+◌, ◌-◌, ◌*◌, ◌^◌, ◌<◌, ◌≤◌, List, [], ◌∷◌, ◌++◌, length, get_or, replicate, refl, sym, ap, ◌∙◌, subst, arith, ⊎_elim}
 use Rattle.std.proofs.lemmas.Bool.{cases_lt}
 use Rattle.std.proofs.lemmas.List.{ext_get_or, get_or-append_right, get_or-map, get_or-replicate, get_or_append_left, length-map, length-replicate, length_push}
 use Rattle.std.proofs.lemmas.List.Folds.{sum_by-replicate}
@@ -13,9 +12,9 @@ use Rattle.place_set.specs.Places.{Has}
 use Rattle.place_set.specs.declared.places.Places.{Places}
 use Rattle.waiting_lists.specs.Lists.{Lists, list_at, total_of}
 use Rattle.waiting_lists.specs.Lists as lists
-use Rattle.parked_queue.specs.Marks.{Kept, mask_of, parted_in}
-use Rattle.parked_queue.specs.Parkings.{AreApart, AreFirstParkings, AreNewParkings, AreParkings, IsNewParking, are_waits, count_in, kept, no_parking, no_parted_of, no_parteds, parking_at, parted_at, parted_of, parteds_in, segment, waiting_in, waits_in}
-use Rattle.parked_queue.specs.Parted.{Parted, no_parted, places}
+use Rattle.parked_queue.specs.Marks.{Kept, mask_of}
+use Rattle.parked_queue.specs.Parkings.{AreApart, AreFirstParkings, AreNewParkings, AreParkings, IsNewParking, are_waits, count_in, kept, no_parking, no_parted_of, no_parteds, parking_at, parted_of, parteds_in, segment, waiting_in, waits_in}
+use Rattle.parked_queue.specs.Parted.{no_parted, places}
 use Rattle.parked_queue.specs.Waits.{AreSlots, all_empty}
 use Rattle.parked_queue.specs.declared.parking.Parking.{Parking}
 use Rattle.parked_queue.proofs.Holding.{Holds, holds_held, nothing_held, view_held}

@@ -1,4 +1,4 @@
-use Rattle.std.proofs.Common.{◌≡◌, ◌+◌, ◌*◌, ◌∙◌, ap, arith, get_or, length, subst, sym}
+use Rattle.std.proofs.Common.{◌+◌, ◌*◌, ◌∙◌, ap, arith, get_or, length, subst, sym}
 use Rattle.std.proofs.lemmas.List.{length_push}
 use Rattle.parked_queue.specs.Parkings.{AreFirstParkings}
 use Rattle.parked_queue.proofs.News.{first_more, first_none}

@@ -1,5 +1,5 @@
 use Rattle.std.proofs.Common.{subst}
-use Rattle.parked_queue.specs.Parted.{IsFirstParkedSlot, Parted}
+use Rattle.parked_queue.specs.Parted.{IsFirstParkedSlot}
 use Rattle.parked_queue.specs.Waits.{IsFirstSlot}
 use Rattle.parked_queue.proofs.Options.{if_more}
 use Rattle.parked_queue.proofs.Slots.{parked_first}

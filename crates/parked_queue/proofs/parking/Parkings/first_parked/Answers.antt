@@ -1,6 +1,6 @@
 use Rattle.std.proofs.Common.{◌≡◌, ◌<◌, ◌∙◌, Some, None, ap, slice_get, subst, sym, refl}
 use Rattle.place_set.specs.Places.{Has}
-use Rattle.parked_queue.specs.Parted.{HasNoneParked, IsFirstParked, Parted, list_in, parked_place}
+use Rattle.parked_queue.specs.Parted.{HasNoneParked, IsFirstParked, list_in, parked_place}
 use Rattle.parked_queue.proofs.Best.{best_kept, best_none, best_older, one_older, has_none, is_first, still_there}
 use Rattle.parked_queue.specs.Waits.{slot_of}
 use Rattle.parked_queue.proofs.Options.{of_none, of_some}

@@ -1,4 +1,4 @@
-use Rattle.std.proofs.Common.{◌≡◌, ◌∙◌, ap, arith, subst, sym}
+use Rattle.std.proofs.Common.{◌≡◌, ◌∙◌, arith, subst, sym}
 use Rattle.parked_queue.specs.Parkings.{kept, parking_at, parted_at}
 use Rattle.parked_queue.specs.Marks.{marks_at}
 use Rattle.parked_queue.specs.Parted.{HasMarks}

@@ -1,4 +1,4 @@
-use Rattle.std.proofs.Common.{◌≡◌, ◌∙◌, ap, arith, subst, sym}
+use Rattle.std.proofs.Common.{◌∙◌, ap, arith, subst, sym}
 use Rattle.parked_queue.specs.Parkings.{AreParkings, parteds_in}
 use Rattle.parked_queue.proofs.News.{parkings_new, view_new}
 use Rattle.parked_queue.proofs.parking.Parkings.new.Goals as goal

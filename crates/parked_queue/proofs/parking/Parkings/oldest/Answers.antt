@@ -1,5 +1,5 @@
 use Rattle.std.proofs.Common.{◌∙◌, sym, subst}
-use Rattle.parked_queue.specs.Parted.{HasNoneParked, Parted}
+use Rattle.parked_queue.specs.Parted.{HasNoneParked}
 use Rattle.parked_queue.specs.Waits.{HasNoneOfSlot, IsOldest}
 use Rattle.parked_queue.proofs.Best.{oldest_parked}
 use Rattle.parked_queue.proofs.Firsts.{none_is}

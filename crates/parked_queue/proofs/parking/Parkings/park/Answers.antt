@@ -1,12 +1,11 @@
-use Rattle.std.proofs.Common.{◌≡◌, ◌+◌, ◌<◌, ◌∙◌, Some, None, ap, arith, drop, length, refl, subst, sym}
+use Rattle.std.proofs.Common.{◌≡◌, ◌+◌, ◌<◌, ◌∙◌, Some, ap, arith, drop, length, refl, subst, sym}
 use Rattle.parked_queue.specs.Parkings.{kept, parking_at, parted_at}
 use Rattle.std.proofs.lemmas.List.{length-set}
 use Rattle.evt_types.specs.Plan.{level_of}
 use Rattle.evt_types.specs.declared.event.Numbered.{Numbered}
 use Rattle.waiting_lists.specs.Lists.{Lists, list_at}
-use Rattle.parked_queue.specs.Parted.{own_first, places, with_below}
+use Rattle.parked_queue.specs.Parted.{own_first, places}
 use Rattle.parked_queue.specs.Waits.{slot_of}
-use Rattle.parked_queue.specs.declared.parking.Parking.{Parking}
 use Rattle.parked_queue.proofs.Calls.{aside, first_is, level_place, placed, room_after, slot_place}
 use Rattle.parked_queue.proofs.Holding.{slot_within}
 use Rattle.parked_queue.proofs.Options.{if_some, not_there, of_some}

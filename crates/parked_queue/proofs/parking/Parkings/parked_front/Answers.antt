@@ -1,6 +1,5 @@
 use Rattle.std.proofs.Common.{◌≡◌, ◌∙◌, arith, refl}
 use Rattle.parked_queue.specs.Parkings.{parking_at}
-use Rattle.parked_queue.specs.declared.parking.Parking.{Parking}
 use Rattle.parked_queue.specs.Parted.{parked_place}
 use Rattle.parked_queue.proofs.Calls.{first_is, placed, same_after, slot_place, unmarked}
 use Rattle.parked_queue.proofs.Parkings.{parking_read, seen_at}

@@ -1,6 +1,6 @@
 use Rattle.std.proofs.Common.{◌≡◌, ◌+◌, ◌++◌, ◌<◌, ◌∙◌, ap, arith, length}
 use Rattle.waiting_lists.specs.Lists.{list_at}
-use Rattle.parked_queue.specs.Pairs.{all_parts, pairs_of, parts_of}
+use Rattle.parked_queue.specs.Pairs.{pairs_of, parts_of}
 use Rattle.parked_queue.specs.Parkings.{parking_at, parted_at}
 use Rattle.parked_queue.specs.Parted.{places}
 use Rattle.parked_queue.specs.declared.parking.Parking.{Parking}

@@ -1,6 +1,5 @@
 use Rattle.std.proofs.Common.{◌≡◌, ◌∙◌, arith, refl, sym}
 use Rattle.parked_queue.specs.Parkings.{parking_at}
-use Rattle.parked_queue.specs.declared.parking.Parking.{Parking}
 use Rattle.parked_queue.proofs.Calls.{headless, level_place, placed}
 use Rattle.parked_queue.proofs.Parkings.{parking_read, seen_at}
 use Rattle.parked_queue.proofs.parking.Parkings.remove.Goals as goal

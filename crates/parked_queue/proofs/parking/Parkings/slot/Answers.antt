@@ -1,5 +1,5 @@
 use Rattle.std.proofs.Common.{◌≡◌, ◌∙◌, ap, arith, sym}
-use Rattle.parked_queue.specs.Parkings.{parking_at, parted_at}
+use Rattle.parked_queue.specs.Parkings.{parking_at}
 use Rattle.parked_queue.specs.declared.parking.Parking.{Parking}
 use Rattle.parked_queue.specs.Marks.{mask_of}
 use Rattle.parked_queue.specs.Waits.{slot_of}

@@ -1,4 +1,4 @@
-use Rattle.std.proofs.Common.{◌≡◌, ◌∙◌, ap, subst, sym, arith}
+use Rattle.std.proofs.Common.{◌∙◌, ap, subst, sym}
 use Rattle.parked_queue.specs.Levels.{HaveLevels}
 use Rattle.parked_queue.specs.Parkings.{are_waits}
 use Rattle.parked_queue.specs.Waits.{all_empty}

@@ -1,4 +1,4 @@
-use Rattle.std.proofs.Common.{◌≡◌, ◌<◌, ◌∙◌, ap, arith, length, set, subst, sym}
+use Rattle.std.proofs.Common.{◌≡◌, ◌<◌, ◌∙◌, ap, length, set, subst, sym}
 use Rattle.parked_queue.specs.Levels.{HaveLevels, levels_at}
 use Rattle.parked_queue.specs.Parkings.{are_waits, parted_at}
 use Rattle.parked_queue.specs.Parted.{with_waits}

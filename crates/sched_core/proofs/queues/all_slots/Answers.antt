@@ -1,7 +1,7 @@
-use Rattle.std.proofs.Common.{◌≡◌, ◌+◌, ◌<◌, ◌≤◌, ◌∙◌, [], ◌∷◌, ◌++◌, ap, arith, length, subst, sym}
+use Rattle.std.proofs.Common.{◌≡◌, ◌<◌, ◌≤◌, ◌∙◌, ap, arith, length, subst, sym}
 use Rattle.std.proofs.lemmas.List.Elements.{All-nil, All-push}
 use Rattle.parked_queue.specs.Waits.{AreSlots}
-use Rattle.sched_core.specs.Inner.{queue_slots, slots_for}
+use Rattle.sched_core.specs.Inner.{queue_slots}
 use Rattle.sched_core.proofs.News.{slots_more}
 use Rattle.sched_core.proofs.queues.all_slots.Goals as goal
 

@@ -1,6 +1,6 @@
-use Rattle.std.proofs.Common.{◌≡◌, ◌≤◌, ◌∙◌, ap, arith, length}
+use Rattle.std.proofs.Common.{◌∙◌, ap, arith, length}
 use Rattle.std.proofs.lemmas.List.FromFn.{length-map-range_with_len}
-use Rattle.sched_core.specs.Inner.{AreEmptyQueues, slots_for}
+use Rattle.sched_core.specs.Inner.{slots_for}
 use Rattle.sched_core.proofs.Busy.{none_busy}
 use Rattle.sched_core.proofs.News.{queues_new}
 use Rattle.sched_core.proofs.queues.AllQueues.new.Goals as goal

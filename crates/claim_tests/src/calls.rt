@@ -39,7 +39,7 @@ fn a_surrendered_lane_stays_away(rt: HostRuntime) -> Result<(), Fail> {
     let (_first, far) = lane_again(rt.alloc(), 1, 1)?;
     let (mut near, other) = lane_again(rt.alloc(), 1, 1)?;
     assert_eq!(rt; near.offer(delivery(5)), Ok(()));
-    near.flush();
+    near.offer_all();
     let mut ends = ends_for(rt.alloc(), 2)?;
     ends.push_reserved(far);
     ends.push_reserved(other);

@@ -57,7 +57,7 @@ impl Port {
 fn a_port_keeps_its_stint(rt: HostRuntime) -> Result<(), Fail> {
     let (mut near, far) = lane_again(rt.alloc(), 1, 1)?;
     assert_eq!(rt; near.offer(delivery(5)), Ok(()));
-    near.flush();
+    near.offer_all();
     let mut ends = ends_for(rt.alloc(), 1)?;
     ends.push_reserved(far);
     let Ok((claims, seat)) = claims_of(rt.alloc(), ends) else {

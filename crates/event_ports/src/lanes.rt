@@ -186,7 +186,7 @@ impl Lanes {
         ensures hand { hand_of self.new ≡ hand_of self.old }
         ensures filled { (o : Op) → IsFilled self.old (lane_for o (hand_of self.old).holding) → IsFilled self.new (lane_for o (hand_of self.new).holding) }
     {
-        self.own.flush();
+        self.own.answer_all();
         self.flows.flush();
     }
 

@@ -39,7 +39,7 @@ fn empty_report(alloc: Global, core: &Core) -> Result<Report, Memory>
         kept: room_for_kept(alloc, core)?,
         undelivered: Vec::with_capacity(alloc, most)?,
         held: Vec::with_capacity(alloc, MAX_DEPTH as usize * ports)?,
-        untaken: Vec::with_capacity(alloc, most)?,
+        untaken: Vec::with_capacity(alloc, 2 * most)?,
         free: 0,
         pockets: Vec::with_capacity(alloc, ports)?,
         own: 0,

@@ -37,7 +37,7 @@ impl Scheduler {
         ensures { sight_of self.new ≡ sight_of self.old }
     {
         if lane < self.lanes.len() {
-            self.lanes[lane].flush();
+            self.lanes[lane].offer_all();
         }
     }
 

@@ -54,8 +54,30 @@ impl Scheduler {
         true
     }
 
-    /// Takes replies of the lane, no more than the sweep quantum, until its ring is empty or one may not be taken.
+    /// Brings replies of the lane out of its ring, no more than these. They are untaken still.
+    fn fetch(&mut self, lane: usize, most: usize)
+        requires { lane < lanes_of self.old.core.shape }
+        ensures sight { sight_of self.new ≡ sight_of self.old }
+        ensures core { self.new.core ≡ self.old.core }
+    {
+        self.lanes[lane].take_all(most);
+    }
+
+    /// Takes replies of the lane, no more than the sweep quantum, until its ring is empty or one may not be taken. The ring gives
+    /// by one store what is there at the begin.
     fn take_lane(&mut self, lane: usize, log: &mut Vec<Step>) -> usize
+        requires lane { lane < lanes_of self.old.core.shape }
+        requires room { vec_len log.old + kept_in self.old.core + 2 * self.old.core.shape.sweep ≤ vec_capacity log.old }
+        ensures takes { Takes (only lane self.old.core.shape.sweep) result (sight_of self.old) log.old.items (sight_of self.new) log.new.items }
+        ensures room { (vec_capacity log.new ≡ vec_capacity log.old) × (vec_len log.new + kept_in self.new.core ≤ vec_len log.old + kept_in self.old.core + 2 * self.old.core.shape.sweep) }
+        ensures most { result ≤ self.old.core.shape.sweep }
+    {
+        let most = self.core.shape().sweep() as usize;
+        self.fetch(lane, most);
+        self.take_each(lane, log)
+    }
+
+    fn take_each(&mut self, lane: usize, log: &mut Vec<Step>) -> usize
         requires lane { lane < lanes_of self.old.core.shape }
         requires room { vec_len log.old + kept_in self.old.core + 2 * self.old.core.shape.sweep ≤ vec_capacity log.old }
         ensures takes { Takes (only lane self.old.core.shape.sweep) result (sight_of self.old) log.old.items (sight_of self.new) log.new.items }

@@ -30,7 +30,7 @@ pub enum Claim {
 
 impl Stint {
     ghost use Rattle.std.specs.Prelude.{◌≡◌, ◌<◌, [], ◌∷◌, ◌++◌, length, MatchOption, MatchResult};
-    ghost use Rattle.lane_rings.specs.Ends.{answered, unanswered, unflushed_answers};
+    ghost use Rattle.lane_rings.specs.Ends.{answered, unanswered, hidden_answers};
     ghost use Rattle.lane_rings.specs.Identity.{far_id};
     ghost use Rattle.flow_claims.specs.declared.seating.Seating.{Seating};
     ghost use Rattle.flow_claims.specs.Holder.{Receives, AnswersWith};
@@ -63,14 +63,14 @@ impl Stint {
         self.far.answer(reply)
     }
 
-    /// `Far::flush` of the lane's end. The stint stays open in the seat that has it.
+    /// `Far::answer_all` of the lane's end. The stint stays open in the seat that has it.
     pub fn flush(&mut self)
         ensures far { (far_id self.new.far ≡ far_id self.old.far) × (answered self.new.far ≡ answered self.old.far) × (unanswered self.new.far ≡ unanswered self.old.far) }
         ensures lane { (self.new.lane ≡ self.old.lane) × (self.new.number ≡ self.old.number) }
         ensures open { (v : Seating) → IsOpen v self.old → IsOpen v self.new }
         ensures so_far { (v : Seating) → (received_so_far v self.new ≡ received_so_far v self.old) × (answered_so_far v self.new ≡ answered_so_far v self.old) }
-        ensures all { unflushed_answers self.new.far ≡ [] }
+        ensures all { hidden_answers self.new.far ≡ [] }
     {
-        self.far.flush();
+        self.far.answer_all();
     }
 }

@@ -3,6 +3,8 @@ use Rattle.std.proofs.Common.{◌≡◌, ℕ, ◌-◌, ◌≤◌, List, [], ◌�
 use Rattle.std.specs.Prelude.{Option, MatchOption, slice_get}
 use Rattle.std.proofs.Math.Seq.{take-append_seam}
 use Rattle.std.proofs.lemmas.Grind.{common_steps}
+use Rattle.std.proofs.lemmas.Option.{none-some, same_Some}
+use mathlib.Core.List.{IsPrefix}
 
 module _ {T : Type 0} where
   -- a row between two places is empty where they are one
@@ -12,6 +14,10 @@ module _ {T : Type 0} where
   -- and nowhere else
   pub row-filled : (at end : ℕ) (xs : List T) → at ≤ end → end ≤ length xs → drop at (take end xs) ≡ [] → at ≡ end
   row-filled at end xs a b e = grind (arith, common_steps, ap length e)
+
+  -- no more than the places
+  pub few_inside : (at end : ℕ) (xs : List T) → length (drop at (take end xs)) ≤ length xs
+  few_inside at end xs = grind (arith, common_steps)
 
   -- the first leaves: it is handed out
   pub one-handed : (rs hs vs : List T) (x : T) → rs ≡ hs ++ x ∷ vs → take (length rs - length vs) rs ≡ hs ++ x ∷ []
@@ -32,11 +38,35 @@ module _ {T : Type 0} where
       let gone : take (length rs - length vs) rs ≡ take (length rs - length ws) rs ++ x ∷ [] = one-handed rs _ vs x from in
       grind (arith, common_steps, from, gone)
 
+  -- as many of the first of two rows as of both
+  pub take-first : (n : ℕ) (xs ys : List T) → n ≤ length xs → take n (xs ++ ys) ≡ take n xs
+  take-first n xs ys within = grind (arith, common_steps)
+
+  -- nothing is nowhere the beginning of nothing
+  pub prefix-none : (ws xs : List T) → IsPrefix ws xs → xs ≡ [] → ws ≡ []
+  prefix-none [] xs p e = refl
+  prefix-none (w ∷ ws) xs p e = grind (arith, common_steps, p.1, e)
+
+  -- the first that was seen is the first of what is seen later
+  pub prefix-first : (ws xs : List T) (y : T) → IsPrefix ws xs → slice_get ws 0 ≡ Some y → slice_get xs 0 ≡ Some y
+  prefix-first [] xs y p e = absurd (none-some y e)
+  prefix-first (w ∷ ws) xs y p e = ap (λ (zs : List T). slice_get zs 0) (sym p.1) ∙ e
+
+  pub prefix-next : (ws xs ks : List T) (x y : T) → IsPrefix ws xs → xs ≡ x ∷ ks → slice_get ws 0 ≡ Some y → x ≡ y
+  prefix-next ws xs ks x y p e s = same_Some x y (ap (λ (zs : List T). slice_get zs 0) (sym e) ∙ prefix-first ws xs y p s)
+
+  -- where there is no first there is nothing
+  pub first-none : (xs : List T) → slice_get xs 0 ≡ None → xs ≡ []
+  first-none [] e = refl
+  first-none (x ∷ xs) e = absurd (none-some x (sym e))
+
   -- the first of what is there and what follows
   pub front-first : (ws ks : List T) → (ws ≡ [] → ws ++ ks ≡ []) → slice_get ws 0 ≡ slice_get (ws ++ ks) 0
   front-first [] ks at_end = ap (λ (xs : List T). slice_get xs 0) (sym (at_end refl))
   front-first (w ∷ ws) ks at_end = refl
 
-pub ruleset of_rows = (row-empty, row-filled)
+pub ruleset of_rows = (row-empty, row-filled, take-first)
+
+pub ruleset of_looks = (prefix-first, first-none)
 
 pub ruleset of_handing = (one-handed, front-first)

@@ -1,5 +1,5 @@
 -- No more is left in a lane than it has room for.
-use Rattle.std.proofs.Common.{◌≡◌, ℕ, ◌+◌, ◌≤◌, List, ◌++◌, length, arith, ap}
+use Rattle.std.proofs.Common.{◌≡◌, ℕ, ◌+◌, ◌≤◌, List, ◌++◌, length, max, arith, ap}
 use Rattle.std.specs.Prelude.{count_by}
 use Rattle.std.proofs.lemmas.List.{length-append}
 use Rattle.std.proofs.lemmas.Grind.{common_steps}
@@ -18,9 +18,23 @@ pub few_undelivered :
 few_undelivered offered got rest given taken back out depth e f answered counted most =
     omega (arith, ap length e, length-append got rest, more_answers given taken back f, answered, counted, most)
 
--- no more replies than the ring has slots: what is in the pocket is no more than its free ones
+-- no more replies than the ring has slots, and what was taken out of it and not taken: what is in the pocket is no more than its
+-- free ones
 pub few_untaken :
-    (given sent gathered taken rest : List Reply) (free capacity : ℕ) → given ≡ sent ++ gathered → given ≡ taken ++ rest
-    → length gathered ≤ free → free + length sent ≡ capacity + length taken → length rest ≤ capacity
-few_untaken given sent gathered taken rest free capacity e f fits all =
-    omega (arith, ap length e, ap length f, length-append sent gathered, length-append taken rest, fits, all)
+    (given sent gathered taken fetched out rest : List Reply) (free capacity places : ℕ) → given ≡ sent ++ gathered → given ≡ taken ++ rest
+    → out ≡ taken ++ fetched → length gathered ≤ free → free + length sent ≡ capacity + length out → length fetched ≤ places
+    → places ≤ max 1 capacity → length rest ≤ capacity + max 1 capacity
+few_untaken given sent gathered taken fetched out rest free capacity places e f g fits all few most =
+    omega (
+      arith,
+      ap length e,
+      ap length f,
+      ap length g,
+      length-append sent gathered,
+      length-append taken rest,
+      length-append taken fetched,
+      fits,
+      all,
+      few,
+      most,
+    )

@@ -1,12 +1,12 @@
 -- The lists of a lane, as its two ends see them: offered and taken at the scheduler's end, received and answered at the holder's.
 use Rattle.std.specs.Prelude.{ℕ, List, Option, count_by, map, drop, slice_get}
-use Rattle.rtrb.specs.Ring.{received, known_items}
 use Rattle.evt_types.specs.Operation.{is_answer}
 use Rattle.evt_types.specs.declared.event.Delivery.{Delivery}
 use Rattle.evt_types.specs.declared.event.Reply.{Reply}
 use Rattle.evt_types.specs.Event.{pair_of}
 use Rattle.lane_rings.specs.Intakes.{handed, ahead}
 use Rattle.lane_rings.specs.Outlets.{put_in, kept_back}
+use Rattle.lane_rings.specs.Pockets.{inside}
 use Rattle.lane_rings.specs.declared.far.Far.{Far}
 use Rattle.lane_rings.specs.declared.near.Near.{Near}
 
@@ -14,19 +14,23 @@ use Rattle.lane_rings.specs.declared.near.Near.{Near}
 abbrev pub offered : Near → List Delivery
 offered near = put_in near.deliveries
 
--- the last of these, which the holder can't see before the next flush
-abbrev pub unflushed_offers : Near → List Delivery
-unflushed_offers near = kept_back near.deliveries
+-- the last of these, which the holder can't see before the next `offer_all`
+abbrev pub hidden_offers : Near → List Delivery
+hidden_offers near = kept_back near.deliveries
 
 -- every reply that the scheduler took
 abbrev pub taken : Near → List Reply
-taken near = received near.replies
+taken near = handed near.replies
 
--- the replies that the scheduler has seen in the ring and not taken
+-- the replies that the scheduler has seen, in its pocket and in the ring, and not taken
 abbrev pub seen_replies : Near → List Reply
-seen_replies near = known_items near.replies
+seen_replies near = ahead near.replies
 
--- the first of these
+-- those in its pocket: out of the ring, and not taken
+abbrev pub fetched_replies : Near → List Reply
+fetched_replies near = inside near.replies.pocket
+
+-- the first that was seen
 abbrev pub next_reply : Near → Option Reply
 next_reply near = slice_get (seen_replies near) 0
 
@@ -38,7 +42,11 @@ received_by far = handed far.deliveries
 abbrev pub seen_deliveries : Far → List Delivery
 seen_deliveries far = ahead far.deliveries
 
--- the first of these
+-- those in its pocket: out of the ring, and not received
+abbrev pub fetched_deliveries : Far → List Delivery
+fetched_deliveries far = inside far.deliveries.pocket
+
+-- the first that was seen
 abbrev pub next_delivery : Far → Option Delivery
 next_delivery far = slice_get (seen_deliveries far) 0
 
@@ -46,9 +54,9 @@ next_delivery far = slice_get (seen_deliveries far) 0
 abbrev pub answered : Far → List Reply
 answered far = put_in far.replies
 
--- the last of these, which the scheduler can't see before the next flush
-abbrev pub unflushed_answers : Far → List Reply
-unflushed_answers far = kept_back far.replies
+-- the last of these, which the scheduler can't see before the next `answer_all`
+abbrev pub hidden_answers : Far → List Reply
+hidden_answers far = kept_back far.replies
 
 -- how many replies end the handling of a delivered event
 abbrev pub answers_among : List Reply → ℕ

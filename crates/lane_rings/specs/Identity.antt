@@ -25,9 +25,9 @@ abbrev pub near_id : Near → LaneId
 near_id near =
     record {
       deliveries = record { words = near.deliveries.ring.end.words; slots = near.deliveries.ring.end.slots; names = near.deliveries.ring.end.names; heap = near.deliveries.ring.end.heap };
-      replies = record { words = near.replies.end.words; slots = near.replies.end.slots; names = near.replies.end.names; heap = near.replies.end.heap };
+      replies = record { words = near.replies.ring.end.words; slots = near.replies.ring.end.slots; names = near.replies.ring.end.names; heap = near.replies.ring.end.heap };
       depth = near.deliveries.ring.capacity;
-      room = near.replies.capacity;
+      room = near.replies.ring.capacity;
     }
 
 -- the lane of the holder's end

@@ -1,6 +1,5 @@
 -- What is left in a lane whose ends are both at hand.
 use Rattle.std.specs.Prelude.{ℕ, ◌++◌, List}
-use Rattle.rtrb.specs.Ring.{known_items}
 use Rattle.evt_types.specs.declared.event.Delivery.{Delivery}
 use Rattle.evt_types.specs.declared.event.Reply.{Reply}
 use Rattle.lane_rings.specs.Intakes.{ahead}
@@ -13,7 +12,7 @@ undelivered rests = ahead rests.deliveries ++ inside rests.offered
 
 -- answered, and not taken
 abbrev pub untaken : Beside → List Reply
-untaken rests = known_items rests.replies ++ inside rests.answered
+untaken rests = ahead rests.replies ++ inside rests.answered
 
 -- the queue and the number of each delivery that was received and not answered
 abbrev pub still_held : Beside → List (ℕ × ℕ)

@@ -48,12 +48,25 @@ pub(crate) fn is_answering(reply: &Reply) -> bool
 impl Far {
     ghost use Rattle.std.specs.Prelude.{◌≡◌, ◌≢◌, ◌<◌, ◌≤◌, ◌↔◌, true, false, [], ◌∷◌, ◌++◌, length, drop, slice_get, IsTrue, OnOk, IfErr, IfNone, MatchOption, MatchResult};
     ghost use Rattle.evt_types.specs.Operation.{is_answer};
-    ghost use Rattle.lane_rings.specs.Ends.{received_by, seen_deliveries, next_delivery, answered, unflushed_answers, answers_among, unanswered, held_list};
+    ghost use mathlib.Core.List.{IsPrefix};
+    ghost use Rattle.lane_rings.specs.Ends.{received_by, seen_deliveries, fetched_deliveries, next_delivery, answered, hidden_answers, answers_among, unanswered, held_list};
     ghost use Rattle.lane_rings.specs.Identity.{far_id};
     ghost use Rattle.lane_rings.specs.Refusal.{RefusesAnswer};
 
-    /// Takes the oldest delivery out of the ring; it is then held until it is answered. Wants `is_full` to be false:
-    /// fewer are held than the lane's depth.
+    /// Takes all deliveries that are in the ring out of it, by one store; where some are left that were taken out before, it does
+    /// nothing. They are received one by one, by `receive`, which calls it.
+    pub fn receive_all(&mut self)
+        ensures lane { far_id self.new ≡ far_id self.old }
+        ensures lists { (received_by self.new ≡ received_by self.old) × (answered self.new ≡ answered self.old) }
+        ensures held { unanswered self.new ≡ unanswered self.old }
+        ensures seen { IsPrefix (seen_deliveries self.old) (seen_deliveries self.new) }
+        ensures none { fetched_deliveries self.new ≡ [] → seen_deliveries self.new ≡ [] }
+    {
+        self.deliveries.look(usize::MAX);
+    }
+
+    /// Receives the oldest delivery; it is then held until it is answered. Wants `is_full` to be false: fewer are held than the
+    /// lane's depth.
     /// `None` where no delivery is seen; the scheduler may have offered one by the next call.
     pub fn receive(&mut self) -> Option<Delivery>
         requires { length (unanswered self.old) < (far_id self.old).depth }
@@ -68,12 +81,13 @@ impl Far {
         ensures next { (d : Delivery) → next_delivery self.old ≡ Some d → result ≡ Some d }
         ensures none { IfNone result ((seen_deliveries self.old ≡ []) × (seen_deliveries self.new ≡ [])) }
     {
+        self.receive_all();
         let delivery = self.deliveries.next()?;
         self.history.push_back((delivery.queue, delivery.number));
         Some(delivery)
     }
 
-    /// Gives a reply, which the scheduler sees after the next `flush`. A FORWARD or RELEASE answers the oldest delivery that is held. `Full` never comes before as
+    /// Gives a reply, which the scheduler sees after the next `answer_all`. A FORWARD or RELEASE answers the oldest delivery that is held. `Full` never comes before as
     /// many replies were given as the ring has room for. A refused answer changes nothing.
     #[tactic(auto, using(crate::proofs::Histories::of_held))]
     pub fn answer(&mut self, reply: Reply) -> Result<(), AnswerFault>
@@ -101,11 +115,11 @@ impl Far {
         Ok(())
     }
 
-    /// Makes what was answered visible to the scheduler. Nothing that is seen at this end changes.
-    pub fn flush(&mut self)
+    /// Puts all that was answered into the ring, by one store: the scheduler sees it. Nothing that is seen at this end changes.
+    pub fn answer_all(&mut self)
         ensures lane { far_id self.new ≡ far_id self.old }
         ensures lists { (received_by self.new ≡ received_by self.old) × (seen_deliveries self.new ≡ seen_deliveries self.old) × (answered self.new ≡ answered self.old) }
-        ensures all { unflushed_answers self.new ≡ [] }
+        ensures all { hidden_answers self.new ≡ [] }
     {
         self.replies.flush();
     }

@@ -1,7 +1,7 @@
-//! The reading side of a ring: one look takes all that is there, and what was taken is handed out one by one.
+//! The reading side of a ring: one look takes out what is there, and what was taken out is handed out one by one.
 
-ghost use Rattle.std.specs.Prelude.{◌≡◌, ◌-◌, ◌<◌, ◌++◌, length, take};
-ghost use Rattle.rtrb.specs.Ring.{received};
+ghost use Rattle.std.specs.Prelude.{◌≡◌, ◌-◌, ◌<◌, ◌≤◌, ◌++◌, length, take, max};
+ghost use Rattle.rtrb.specs.Ring.{received, consumer_capacity};
 ghost use Rattle.lane_rings.specs.Pockets.{inside, places_of};
 
 use crate::pocket::Pocket;
@@ -13,12 +13,12 @@ use std::alloc::{AllocError, Global};
 pub(crate) struct Intake<T> {
     pub(crate) ring: Consumer<T>,
     pub(crate) pocket: Pocket<T>,
-    ghost room: { 0 < places_of pocket },
+    ghost room: { (0 < places_of pocket) × (places_of pocket ≤ max 1 (consumer_capacity ring)) },
     ghost last: { received ring ≡ take (length (received ring) - length (inside pocket)) (received ring) ++ inside pocket },
 }
 
 impl<T: Copy> Intake<T> {
-    ghost use Rattle.std.specs.Prelude.{◌≡◌, [], ◌∷◌, ◌++◌, slice_get, IfOk, IfNone, MatchOption};
+    ghost use Rattle.std.specs.Prelude.{◌≡◌, ◌≢◌, ◌<◌, ◌≤◌, [], ◌∷◌, ◌++◌, length, slice_get, IfOk, MatchOption};
     ghost use mathlib.Core.List.{IsPrefix};
     ghost use Rattle.rtrb.specs.Ring.{received, known_items, consumer_capacity, SameConsumer};
     ghost use Rattle.lane_rings.specs.Intakes.{handed, ahead};
@@ -34,40 +34,39 @@ impl<T: Copy> Intake<T> {
         Ok(Intake { ring, pocket })
     }
 
-    /// Looks into the ring where nothing is in the pocket.
-    fn look(&mut self)
+    /// Where nothing is in the pocket, takes at most `most` items out of the ring.
+    pub(crate) fn look(&mut self, most: usize)
         ensures ring { SameConsumer self.old.ring self.new.ring }
         ensures handed { handed self.new ≡ handed self.old }
         ensures ahead { IsPrefix (ahead self.old) (ahead self.new) }
-        ensures none { inside self.new.pocket ≡ [] → ahead self.new ≡ [] }
+        ensures none { 0 < most → inside self.new.pocket ≡ [] → ahead self.new ≡ [] }
+        ensures few { inside self.old.pocket ≡ [] → length (inside self.new.pocket) ≤ most }
+        ensures stays { inside self.old.pocket ≢ [] → inside self.new.pocket ≡ inside self.old.pocket }
     {
         if self.pocket.is_empty() {
-            self.pocket.fill(&mut self.ring);
+            self.pocket.fill(&mut self.ring, most);
         }
     }
 
-    /// The oldest item, which leaves.
+    /// The oldest item, which leaves. Wants what is seen to be in the pocket, unless nothing is.
     #[tactic(auto, using(crate::proofs::Handing::of_handing))]
     pub(crate) fn next(&mut self) -> Option<T>
+        requires { inside self.old.pocket ≡ [] → ahead self.old ≡ [] }
         ensures ring { SameConsumer self.old.ring self.new.ring }
         ensures handed { MatchOption result (handed self.new ≡ handed self.old) (λ x. handed self.new ≡ handed self.old ++ x ∷ []) }
         ensures ahead { MatchOption result
             ((ahead self.old ≡ []) × (ahead self.new ≡ []))
-            (λ x. IsPrefix (ahead self.old) (x ∷ ahead self.new)) }
+            (λ x. ahead self.old ≡ x ∷ ahead self.new) }
     {
-        self.look();
         self.pocket.next()
     }
 
-    /// The oldest item, which stays.
+    /// The oldest item, which stays. Wants what is seen to be in the pocket, unless nothing is.
     #[tactic(auto, using(crate::proofs::Handing::of_handing))]
-    pub(crate) fn peek(&mut self) -> Option<T>
-        ensures ring { SameConsumer self.old.ring self.new.ring }
-        ensures handed { handed self.new ≡ handed self.old }
-        ensures ahead { IsPrefix (ahead self.old) (ahead self.new) }
-        ensures first { result ≡ slice_get (ahead self.new) 0 }
+    pub(crate) fn first(&self) -> Option<T>
+        requires { inside self.now.pocket ≡ [] → ahead self.now ≡ [] }
+        ensures { result ≡ slice_get (ahead self.now) 0 }
     {
-        self.look();
         self.pocket.first()
     }
 

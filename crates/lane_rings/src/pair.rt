@@ -1,6 +1,6 @@
 //! A lane is made as a pair of ends, and is at rest once both are in one hand.
 
-ghost use Rattle.std.specs.Prelude.{◌≡◌, ◌≤◌, [], ◌++◌, length, IfOk};
+ghost use Rattle.std.specs.Prelude.{◌≡◌, ◌+◌, ◌≤◌, [], ◌++◌, length, max, IfOk};
 ghost use Rattle.lane_rings.specs.Ends.{offered, taken, seen_replies, received_by, seen_deliveries, answered, answers_among, held_list};
 ghost use Rattle.lane_rings.specs.Identity.{near_id, far_id};
 ghost use Rattle.lane_rings.specs.Rest.{undelivered, untaken, still_held};
@@ -12,7 +12,7 @@ use crate::outlet::Outlet;
 use crate::pocket::Pocket;
 use crate::rests::Beside;
 use circular_buffer::HeapCircularBuffer;
-use evt_types::{Delivery, Event};
+use evt_types::{Delivery, Event, Reply};
 use rtrb::RingBuffer;
 use std::alloc::{AllocError, Global};
 
@@ -20,11 +20,17 @@ use std::alloc::{AllocError, Global};
 pub type Memory = AllocError;
 
 /// What stands in the places of a pocket that nothing is in.
-fn filler() -> Delivery {
+fn no_delivery() -> Delivery {
     Delivery {
         event: Event::release(),
         queue: 0,
         number: 0,
+    }
+}
+
+fn no_reply() -> Reply {
+    Reply {
+        event: Event::release(),
     }
 }
 
@@ -38,9 +44,10 @@ pub fn lane(alloc: Global, depth: usize, replies: usize) -> Result<(Near, Far), 
 {
     let (offers, receipts) = RingBuffer::new(alloc, depth)?;
     let offers = Outlet::new(alloc, offers)?;
-    let receipts = Intake::new(alloc, receipts, filler())?;
+    let receipts = Intake::new(alloc, receipts, no_delivery())?;
     let (answers, takings) = RingBuffer::new(alloc, replies)?;
     let answers = Outlet::new(alloc, answers)?;
+    let takings = Intake::new(alloc, takings, no_reply())?;
     let history = HeapCircularBuffer::with_capacity(alloc, depth)?;
     let near = Near {
         deliveries: offers,
@@ -55,12 +62,13 @@ pub fn lane(alloc: Global, depth: usize, replies: usize) -> Result<(Near, Far), 
     Ok((near, far))
 }
 
-/// Brings the two ends of one lane together, and shows what is left in it: no more than its rings have room for.
+/// Brings the two ends of one lane together, and shows what is left in it: no more deliveries than its ring has room for, and of
+/// replies as many in the ring and as many that were taken out of it and not taken.
 pub fn beside(near: Near, far: Far) -> Beside
     requires { near_id near ≡ far_id far }
     ensures undelivered { offered near ≡ received_by far ++ undelivered result }
     ensures untaken { answered far ≡ taken near ++ untaken result }
-    ensures room { (length (undelivered result) ≤ (near_id near).depth) × (length (untaken result) ≤ (near_id near).room) }
+    ensures room { (length (undelivered result) ≤ (near_id near).depth) × (length (untaken result) ≤ (near_id near).room + max 1 (near_id near).room) }
     ensures held { still_held result ≡ held_list far }
     ensures fewer { answers_among (answered far) ≤ length (received_by far) }
 {
@@ -76,9 +84,9 @@ pub fn beside(near: Near, far: Far) -> Beside
     } = far;
     // First each producer, which then knows how many slots are free, and so how many items are left.
     offers.ring.slots_beside(&mut receipts.ring);
-    answers.ring.slots_beside(&mut takings);
+    answers.ring.slots_beside(&mut takings.ring);
     receipts.ring.slots_beside(&mut offers.ring);
-    takings.slots_beside(&mut answers.ring);
+    takings.ring.slots_beside(&mut answers.ring);
     Beside {
         deliveries: receipts,
         offered: Pocket::of(offers.pocket),

@@ -1,6 +1,8 @@
 //! A row of items that leave one by one from the front.
 
-ghost use Rattle.std.specs.Prelude.{◌≤◌, length};
+ghost use Rattle.std.specs.Prelude.{◌≡◌, ◌<◌, ◌≤◌, [], ◌++◌, length, take};
+ghost use mathlib.Core.List.{IsPrefix};
+ghost use Rattle.rtrb.specs.Ring.{received, known_items, SameConsumer};
 
 use rtrb::Consumer;
 use std::alloc::{AllocError, Global};
@@ -15,7 +17,7 @@ pub(crate) struct Pocket<T> {
 }
 
 impl<T: Copy> Pocket<T> {
-    ghost use Rattle.std.specs.Prelude.{◌≡◌, ◌<◌, ◌↔◌, [], ◌∷◌, ◌++◌, slice_get, IsTrue, IfOk, MatchOption};
+    ghost use Rattle.std.specs.Prelude.{◌≡◌, ◌<◌, ◌≤◌, ◌↔◌, [], ◌∷◌, ◌++◌, length, slice_get, IsTrue, IfOk, MatchOption};
     ghost use mathlib.Core.List.{IsPrefix};
     ghost use Rattle.rtrb.specs.Ring.{received, known_items, SameConsumer};
     ghost use Rattle.lane_rings.specs.Pockets.{inside, places_of};
@@ -78,16 +80,32 @@ impl<T: Copy> Pocket<T> {
         self.at == self.end
     }
 
-    /// Takes out of the ring as many items as there are places for. Wants nothing to be in the pocket.
-    pub(crate) fn fill(&mut self, ring: &mut Consumer<T>)
+    /// Takes at most `most` items out of the ring, and no more than there are places for. Wants nothing to be in the pocket.
+    pub(crate) fn fill(&mut self, ring: &mut Consumer<T>, most: usize)
         requires { inside self.old ≡ [] }
         ensures ring { SameConsumer ring.old ring.new }
         ensures received { received ring.new ≡ received ring.old ++ inside self.new }
         ensures known { IsPrefix (known_items ring.old) (inside self.new ++ known_items ring.new) }
-        ensures none { 0 < places_of self.old → inside self.new ≡ [] → known_items ring.new ≡ [] }
+        ensures none { 0 < places_of self.old → 0 < most → inside self.new ≡ [] → known_items ring.new ≡ [] }
+        ensures few { length (inside self.new) ≤ most }
         ensures places { places_of self.new ≡ places_of self.old }
     {
         self.at = 0;
-        self.end = ring.pop_partial_slice(&mut self.places);
+        self.end = pop_some(ring, &mut self.places, most);
     }
+}
+
+/// Takes at most `most` items out of the ring, by one store, to the first of these places; how many.
+#[tactic(auto, using(crate::proofs::Handing::of_rows))]
+fn pop_some<T: Copy>(ring: &mut Consumer<T>, places: &mut [T], most: usize) -> usize
+    ensures ring { SameConsumer ring.old ring.new }
+    ensures received { received ring.new ≡ received ring.old ++ take result places.new }
+    ensures known { IsPrefix (known_items ring.old) (take result places.new ++ known_items ring.new) }
+    ensures none { 0 < length places.old → 0 < most → result ≡ 0 → known_items ring.new ≡ [] }
+    ensures few { (result ≤ most) × (result ≤ length places.old) }
+    ensures places { length places.new ≡ length places.old }
+{
+    let count = most.min(places.len());
+    let (front, _) = places.split_at_mut(count);
+    ring.pop_partial_slice(front)
 }

@@ -4,14 +4,13 @@ use crate::intake::Intake;
 use crate::pocket::Pocket;
 use circular_buffer::HeapCircularBuffer;
 use evt_types::{Delivery, Reply};
-use rtrb::Consumer;
 
 /// A lane whose ends are both at hand: the deliveries not received, the replies not taken, and what is held.
 #[derive(Drop)]
 pub struct Beside {
     pub(crate) deliveries: Intake<Delivery>,
     pub(crate) offered: Pocket<Delivery>,
-    pub(crate) replies: Consumer<Reply>,
+    pub(crate) replies: Intake<Reply>,
     pub(crate) answered: Pocket<Reply>,
     pub(crate) held: HeapCircularBuffer<(usize, u64)>,
 }
@@ -41,10 +40,11 @@ impl Beside {
             (λ r. untaken self.old ≡ r ∷ untaken self.new) }
         ensures others { (undelivered self.new ≡ undelivered self.old) × (still_held self.new ≡ still_held self.old) }
     {
-        if self.replies.cached_slots() == 0 {
-            return self.answered.next();
+        let seen = self.replies.next_seen();
+        if seen.is_some() {
+            return seen;
         }
-        Some(self.replies.pop_known())
+        self.answered.next()
     }
 
     /// The queue and the number of the oldest delivery that is held, which leaves; `None` only where none is left.

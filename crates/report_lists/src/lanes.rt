@@ -63,11 +63,11 @@ fn list_lane(
     requires lane { near_id near ≡ far_id far }
     requires small { ((near_id near).depth ≤ 64) × ((near_id near).room ≤ 64) }
     requires undelivered_room { vec_len undelivered.old + 64 ≤ vec_capacity undelivered.old }
-    requires untaken_room { vec_len untaken.old + 64 ≤ vec_capacity untaken.old }
+    requires untaken_room { vec_len untaken.old + 128 ≤ vec_capacity untaken.old }
     ensures undelivered { undelivered.new.items ≡ undelivered.old.items ++ map (undelivered_of lane) (rest_between near far).undelivered }
     ensures untaken { untaken.new.items ≡ untaken.old.items ++ filter_map (untaken_of lane) (rest_between near far).untaken }
     ensures rest { IsAtRest (rest_between near far) }
-    ensures few { (vec_len undelivered.new ≤ vec_len undelivered.old + 64) × (vec_len untaken.new ≤ vec_len untaken.old + 64) }
+    ensures few { (vec_len undelivered.new ≤ vec_len undelivered.old + 64) × (vec_len untaken.new ≤ vec_len untaken.old + 128) }
     ensures room { (vec_capacity undelivered.new ≡ vec_capacity undelivered.old) × (vec_capacity untaken.new ≡ vec_capacity untaken.old) }
 {
     let mut left = beside(near, far);
@@ -85,7 +85,7 @@ pub fn list_lanes(
     requires lanes { map near_id nears.items ≡ map far_id fars.items }
     requires small { All (λ near. ((near_id near).depth ≤ 64) × ((near_id near).room ≤ 64)) nears.items }
     requires undelivered_room { (undelivered.old.items ≡ []) × (64 * length nears.items ≤ vec_capacity undelivered.old) }
-    requires untaken_room { (untaken.old.items ≡ []) × (64 * length nears.items ≤ vec_capacity untaken.old) }
+    requires untaken_room { (untaken.old.items ≡ []) × (128 * length nears.items ≤ vec_capacity untaken.old) }
     ensures undelivered { (p : Plan) → lanes_of p ≡ length nears.items → undelivered.new.items ≡ undelivered_all p (rest_at nears.items fars.items) }
     ensures untaken { (p : Plan) → lanes_of p ≡ length nears.items → untaken.new.items ≡ untaken_all p (rest_at nears.items fars.items) }
     ensures rests { (l : ℕ) → IsAtRest (rest_at nears.items fars.items l) }

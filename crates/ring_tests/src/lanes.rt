@@ -63,7 +63,7 @@ fn lane_calls(rt: HostRuntime) -> Result<(), Fail> {
     assert_eq!(rt; near.offer(delivery(0)), Ok(()));
     assert_eq!(rt; near.offer(delivery(1)), Err(delivery(1)));
     assert_eq!(rt; far.receive(), None);
-    near.flush();
+    near.offer_all();
     assert!(rt; !far.is_full());
     assert_eq!(rt; far.receive(), Some(delivery(0)));
     assert_eq!(rt; far.answer(reply(Op::Release, 4)), Ok(()));
@@ -90,7 +90,7 @@ fn pass(near: &mut Near, far: &mut Far, count: u64) -> bool
 {
     for number in 0..count {
         let offered = near.offer(delivery(number));
-        near.flush();
+        near.offer_all();
         if offered.is_err() || far.is_full() || far.receive() != Some(delivery(number)) {
             return false;
         }
@@ -116,7 +116,7 @@ fn what_is_left(rt: HostRuntime) -> Result<(), Fail> {
     assert_eq!(rt; near.offer(delivery(9)), Ok(()));
     assert_eq!(rt; far.answer(reply(Op::New, 8)), Ok(()));
     assert_eq!(rt; near.peek(), None);
-    far.flush();
+    far.answer_all();
     assert_eq!(rt; far.answer(reply(Op::Forward, 9)), Ok(()));
     assert_eq!(rt; near.peek(), Some(reply(Op::New, 8)));
     assert_eq!(rt; near.take(), Some(reply(Op::New, 8)));
@@ -162,7 +162,7 @@ fn refused_answers(rt: HostRuntime) -> Result<(), Fail> {
     );
     assert_eq!(rt; (far.held(), far.oldest()), (2, Some((3, 0))));
     assert!(rt; far.is_full());
-    far.flush();
+    far.answer_all();
     assert_eq!(rt; near.take(), Some(reply(Op::New, 1)));
     assert_eq!(rt; far.answer(reply(Op::Forward, 5)), Ok(()));
     assert!(rt;
@@ -183,6 +183,73 @@ fn refused_answers(rt: HostRuntime) -> Result<(), Fail> {
     Ok(())
 }
 
+/// Offers a delivery for each number, and shows them; whether the ring had room.
+fn offers(near: &mut Near, numbers: &[u64]) -> bool
+    ensures { near_id near.new ≡ near_id near.old }
+{
+    for number in numbers {
+        if near.offer(delivery(*number)).is_err() {
+            return false;
+        }
+    }
+    near.offer_all();
+    true
+}
+
+/// Gives a reply with each number, and shows them; whether the ring had room.
+fn answers(far: &mut Far, numbers: &[u64]) -> bool
+    ensures { far_id far.new ≡ far_id far.old }
+{
+    for number in numbers {
+        if far.answer(reply(Op::New, *number)).is_err() {
+            return false;
+        }
+    }
+    far.answer_all();
+    true
+}
+
+/// What came out of the ring is received one by one, and is out until it is answered.
+#[test]
+fn deliveries_by_slices(rt: HostRuntime) -> Result<(), Fail> {
+    let (mut near, mut far) = lane_again(rt.alloc(), 2, 2)?;
+    far.receive_all();
+    assert!(rt; offers(&mut near, &[0, 1]));
+    far.receive_all();
+    assert!(rt; !offers(&mut near, &[2]));
+    assert!(rt; !far.is_full());
+    assert_eq!(rt; far.receive(), Some(delivery(0)));
+    assert_eq!(rt; far.answer(reply(Op::Release, 5)), Ok(()));
+    far.answer_all();
+    assert_eq!(rt; near.take(), Some(reply(Op::Release, 5)));
+    assert!(rt; offers(&mut near, &[2]));
+    let mut rests = beside(near, far);
+    assert_eq!(rt; rests.next_undelivered(), Some(delivery(1)));
+    assert_eq!(rt; rests.next_undelivered(), Some(delivery(2)));
+    assert_eq!(rt; rests.next_undelivered(), None);
+    Ok(())
+}
+
+/// As many replies as were wanted come out of the ring, leave its places free, and are untaken until they are taken.
+#[test]
+fn replies_by_slices(rt: HostRuntime) -> Result<(), Fail> {
+    let (mut near, mut far) = lane_again(rt.alloc(), 2, 2)?;
+    assert!(rt; answers(&mut far, &[0, 1]));
+    near.take_all(1);
+    assert!(rt; answers(&mut far, &[2]));
+    assert!(rt; !answers(&mut far, &[3]));
+    assert_eq!(rt; near.take(), Some(reply(Op::New, 0)));
+    near.take_all(2);
+    assert!(rt; answers(&mut far, &[3, 4]));
+    let mut rests = beside(near, far);
+    assert_eq!(rt; rests.next_untaken(), Some(reply(Op::New, 1)));
+    assert_eq!(rt; rests.next_untaken(), Some(reply(Op::New, 2)));
+    assert_eq!(rt; rests.next_untaken(), Some(reply(Op::New, 3)));
+    assert_eq!(rt; rests.next_untaken(), Some(reply(Op::New, 4)));
+    assert_eq!(rt; rests.next_untaken(), None);
+    Ok(())
+}
+
 /// Offers each number below `PASSES`, and takes a reply for each; whether all replies came, in order.
 fn schedule(near: Near) -> (Near, bool)
     ensures { near_id result.0 ≡ near_id near }
@@ -199,7 +266,7 @@ fn schedule(near: Near) -> (Near, bool)
             offered += 1;
             idle = 0;
         }
-        near.flush();
+        near.offer_all();
         match near.take() {
             Some(back) => {
                 in_order = in_order && back == reply(Op::Forward, taken);
@@ -240,7 +307,7 @@ fn hold(far: Far) -> (Far, bool)
                 idle = 0;
             }
         }
-        far.flush();
+        far.answer_all();
     }
     (far, in_order && answered == PASSES)
 }

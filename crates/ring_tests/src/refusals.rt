@@ -182,7 +182,7 @@ fn deliver(near: &mut Near, far: &mut Far, numbers: &[u64]) -> bool
 {
     for number in numbers {
         let offered = near.offer(delivery(*number));
-        near.flush();
+        near.offer_all();
         if offered.is_err() || far.is_full() || far.receive() != Some(delivery(*number)) {
             return false;
         }
@@ -223,7 +223,7 @@ fn turn(near: &mut Near, far: &mut Far, count: u64) -> bool
         if !deliver(near, far, &[8]) || !give(far, &[Op::Release]) {
             return false;
         }
-        far.flush();
+        far.answer_all();
         if !take(near, &[Op::Release]) {
             return false;
         }
@@ -264,7 +264,7 @@ fn goes_on(near: &mut Near, far: &mut Far, row: &Row) -> bool
         return false;
     }
     let answered = far.answer(reply(row.refused, 7));
-    far.flush();
+    far.answer_all();
     answered == Ok(()) && near.take() == Some(reply(row.refused, 7)) && near.take() == None
 }
 
@@ -278,24 +278,40 @@ fn leaves(rests: &mut Beside, numbers: &[u64]) -> bool {
     rests.next_held() == None && rests.next_undelivered() == None && rests.next_untaken() == None
 }
 
+/// Brings a lane to where the row's reply is refused; whether all came there.
+fn comes(near: &mut Near, far: &mut Far, row: &Row, turns: u64) -> bool
+    ensures near { near_id near.new ≡ near_id near.old }
+    ensures far { far_id far.new ≡ far_id far.old }
+{
+    turn(near, far, turns)
+        && deliver(near, far, row.received)
+        && give(far, row.given)
+        && near.offer(delivery(9)) == Ok(())
+}
+
+/// Whether the row's reply is refused where the lane is now, what was given before it is taken, and the lane goes on.
+fn refuses_once(near: &mut Near, far: &mut Far, row: &Row) -> bool
+    ensures near { near_id near.new ≡ near_id near.old }
+    ensures far { far_id far.new ≡ far_id far.old }
+{
+    let is_refused = refuses(far, row);
+    far.answer_all();
+    is_refused && take(near, row.given) && goes_on(near, far, row)
+}
+
 /// Brings a lane to where the row's reply is refused, has it refused, and goes on; whether all is as the row says.
 fn plays(near: Near, far: Far, row: &Row, turns: u64, flushes: bool) -> bool
     requires { near_id near ≡ far_id far }
 {
     let (mut near, mut far) = (near, far);
-    let is_there = turn(&mut near, &mut far, turns)
-        && deliver(&mut near, &mut far, row.received)
-        && give(&mut far, row.given)
-        && near.offer(delivery(9)) == Ok(());
-    near.flush();
+    let is_there = comes(&mut near, &mut far, row, turns);
+    near.offer_all();
     if flushes {
-        far.flush();
+        far.answer_all();
     }
-    let is_refused = refuses(&mut far, row);
-    far.flush();
-    let is_same = take(&mut near, row.given) && goes_on(&mut near, &mut far, row);
+    let is_same = refuses_once(&mut near, &mut far, row);
     let mut rests = beside(near, far);
-    is_there && is_refused && is_same && leaves(&mut rests, row.left)
+    is_there && is_same && leaves(&mut rests, row.left)
 }
 
 /// The rows, over the places at which a ring begins, and with what was given seen by the scheduler or not.

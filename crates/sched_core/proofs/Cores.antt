@@ -135,7 +135,7 @@ waits_here_is qs i old h is = get_or_default qs i (no_waits 1 0) old h ∙ sym i
 
 pub core_accepts : (a : Inside) (i : ℕ) (old new : Waits) (e : Event) → IsCore a → inside_of (view_in a) < bound_of a.shape → entries_of (view_in a) < 2 ^ 63 → i < length a.queues → old ≡ get_or a.queues i old
     → new ≡ with_event old e → AreWaits new
-    → IsCore (record { shape = a.shape; queues = set a.queues i new; orders = a.orders; lanes = a.lanes; pins = a.pins; links = a.links; slot_lanes = a.slot_lanes; bound = a.bound; inside = a.inside + 1; entries = a.entries + 1; shut = a.shut })
+    → IsCore (record { shape = a.shape; queues = set a.queues i new; orders = a.orders; lanes = a.lanes; pins = a.pins; links = a.links; ahead = a.ahead; slot_lanes = a.slot_lanes; bound = a.bound; inside = a.inside + 1; entries = a.entries + 1; shut = a.shut })
 core_accepts a i old new e core fits fewer h is value waits =
     let more : length new.waiting ≡ length old.waiting + 1 = ap (λ (q : Waits). length q.waiting) value ∙ length_push old.waiting (record { number = old.next; event = e }) in
     let next : new.next ≡ old.next + 1 = ap (λ (q : Waits). q.next) value in
@@ -160,6 +160,7 @@ core_accepts a i old new e core fits fewer h is value waits =
       entries = omega arith;
       few = omega arith;
       links = core.links;
+      ahead = core.ahead;
       slot_lanes = core.slot_lanes;
       places = subst (λ q. ArePlaces a.shape (set a.queues i q) a.orders (map entries_in a.lanes)) (ap (λ q. with_event q e) (waits_here_is a.queues i old h is) ∙ sym value)
           (accepted_places a.shape a.queues a.orders (map entries_in a.lanes) i e core.places (omega arith));
@@ -176,7 +177,7 @@ pub same_view : (p : Plan) (w w' : List (List Numbered)) (n n' : List ℕ) (r : 
 same_view p w w' n n' r u u' b e f g = cc
 
 pub view_accepts : (a : Inside) (i : ℕ) (old new : Waits) (e : Event) → i < length a.queues → old ≡ get_or a.queues i old → new ≡ with_event old e
-    → view_in (record { shape = a.shape; queues = set a.queues i new; orders = a.orders; lanes = a.lanes; pins = a.pins; links = a.links; slot_lanes = a.slot_lanes; bound = a.bound; inside = a.inside + 1; entries = a.entries + 1; shut = a.shut }) ≡ after_accept (view_in a) i e
+    → view_in (record { shape = a.shape; queues = set a.queues i new; orders = a.orders; lanes = a.lanes; pins = a.pins; links = a.links; ahead = a.ahead; slot_lanes = a.slot_lanes; bound = a.bound; inside = a.inside + 1; entries = a.entries + 1; shut = a.shut }) ≡ after_accept (view_in a) i e
 view_accepts a i old new e h is value =
     same_view a.shape _ _ _ _ (map places_in a.orders) (map unanswered_in a.lanes) _ a.shut
     (map-set waiting_in a.queues i new ∙ ap (set (map waiting_in a.queues) i)

@@ -8,7 +8,6 @@ pub mod KeptLists
 pub mod LaneSets
 pub mod OpenLanes
 pub mod Leaving
-pub mod Links
 pub mod News
 pub mod Offers
 pub mod OrderFacts
@@ -16,7 +15,9 @@ pub mod PlaceNumbers
 pub mod OrderMoves
 pub mod Ordered
 pub mod Pinned
+pub mod PlaceSets
 pub mod Busy
+pub mod Service
 pub mod Settling
 pub mod Sound
 pub mod Steps

@@ -22,6 +22,7 @@ use Rattle.sched_core.proofs.OrderFacts.{new_places, order_small}
 use Rattle.sched_core.specs.Ordered.{kept_of, order_at, places_in}
 use Rattle.sched_core.specs.Inner.{IsQueueOf, AreEmptyQueues, IsBare, IsEmptyLane, AreEmptyLanes, held_of, queue_slots, slots_for}
 use Rattle.sched_core.specs.Links.{AreLinks}
+use Rattle.sched_core.specs.Service.{AreAhead}
 use Rattle.sched_core.specs.Pinned.{AreFreePins}
 use Rattle.sched_core.specs.SlotLanes.{AreSlotLanes, slot_lane_count}
 use Rattle.place_set.specs.declared.places.Places.{Places}
@@ -118,9 +119,9 @@ fresh_order p q h = get_or-map (λ (d : QueueDraft). empty (kept_room d)) p.queu
 nothing_held : (ls : List Entries) (p : Plan) (n : ℕ) → AreEmptyLanes p n ls → sum_by (λ (xs : List Held). length xs) (map unanswered_in ls) ≡ 0
 nothing_held ls p n empty = sum_of_map (λ (xs : List Held). length xs) unanswered_in ls ∙ sum_of_none (λ x. length (unanswered_in x)) ls (All-weaker IsBare (λ (l : Entries). length (unanswered_in l) ≡ 0) (λ l e. ap (λ (ys : List Entry). length (map held_of ys)) e) ls empty.empty)
 
-pub core_new : (p : Plan) (qs : List Waits) (ls : List Entries) (ps : List (List Pin)) (ks : Vec Places Global) (os : Vec (Option ℕ) Global) → IsWithinLimits p → bound_of p < 2 ^ 64 → AreEmptyQueues p (length p.queues) qs → AreEmptyLanes p (lanes_of p) ls → AreFreePins p (length p.queues) ps → AreLinks p (length p.queues) ks.items → AreSlotLanes p (slot_lane_count p) os.items
-    → IsCore (record { shape = p; queues = qs; orders = new_orders p; lanes = ls; pins = ps; links = ks; slot_lanes = os; bound = bound_of p; inside = 0; entries = 0; shut = false })
-core_new p qs ls ps ks os limits small queues lanes pins links slot_lanes =
+pub core_new : (p : Plan) (qs : List Waits) (ls : List Entries) (ps : List (List Pin)) (ks hs : Vec Places Global) (os : Vec (Option ℕ) Global) → IsWithinLimits p → bound_of p < 2 ^ 64 → AreEmptyQueues p (length p.queues) qs → AreEmptyLanes p (lanes_of p) ls → AreFreePins p (length p.queues) ps → AreLinks p (length p.queues) ks.items → AreAhead p (length p.queues) hs.items → AreSlotLanes p (slot_lane_count p) os.items
+    → IsCore (record { shape = p; queues = qs; orders = new_orders p; lanes = ls; pins = ps; links = ks; ahead = hs; slot_lanes = os; bound = bound_of p; inside = 0; entries = 0; shut = false })
+core_new p qs ls ps ks hs os limits small queues lanes pins links ahead slot_lanes =
     let waits = nothing_waits p qs (length p.queues) queues in
     let numbers = nothing_numbered p qs (length p.queues) queues in
     let kept = nothing_kept p in
@@ -140,15 +141,16 @@ core_new p qs ls ps ks os limits small queues lanes pins links slot_lanes =
       entries = omega arith;
       few = omega arith;
       links = links;
+      ahead = ahead;
       slot_lanes = slot_lanes;
       places =
           new_places p qs (new_orders p) (map entries_in ls) queues.count (length-map p.queues (λ (q : QueueDraft). empty (kept_room q))) (fresh_order p) (λ q h. order_small p q limits.orders h)
           (All-map (λ (ys : List Entry). ys ≡ []) entries_in ls lanes.empty);
     }
 
-pub view_new : (p : Plan) (qs : List Waits) (ls : List Entries) (ps : List (List Pin)) (ks : Vec Places Global) (os : Vec (Option ℕ) Global) → AreEmptyQueues p (length p.queues) qs → AreEmptyLanes p (lanes_of p) ls → view_in (record { shape = p; queues = qs; orders = new_orders p; lanes = ls; pins = ps; links = ks; slot_lanes = os; bound = bound_of p; inside = 0; entries = 0; shut = false }) ≡ view_of p []
+pub view_new : (p : Plan) (qs : List Waits) (ls : List Entries) (ps : List (List Pin)) (ks hs : Vec Places Global) (os : Vec (Option ℕ) Global) → AreEmptyQueues p (length p.queues) qs → AreEmptyLanes p (lanes_of p) ls → view_in (record { shape = p; queues = qs; orders = new_orders p; lanes = ls; pins = ps; links = ks; ahead = hs; slot_lanes = os; bound = bound_of p; inside = 0; entries = 0; shut = false }) ≡ view_of p []
 unfolding view_of
-view_new p qs ls ps ks os queues lanes =
+view_new p qs ls ps ks hs os queues lanes =
     same_parts p _ _ _ _ _ _ _ _ false
     (fill_by_all (waiting []) (map waiting_in qs) (length p.queues) [] (length-map qs waiting_in ∙ queues.count) (λ k h. get_or_empty k h ∙ sym (waiting_at_none k)))
     (fill_by_all (λ q. length (accepted [] q)) (map next_in qs) (length p.queues) 0 (length-map qs next_in ∙ queues.count) (λ k h. get_or_zero k h ∙ sym (ap length (accepted_at_none k))))

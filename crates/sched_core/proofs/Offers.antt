@@ -1,7 +1,7 @@
 -- How an offer is found: a lane that is free for the slot, a lane for the event, the event of the queue, the queue.
 use Rattle.std.proofs.Common.{◌≡◌, ◌≢◌, ℕ, ◌<◌, ◌≤◌, ◌%◌, Bool, true, false, cond, nat_lt, ◌&&◌, ◌==◌, List, [], ◌⊎◌, length, get_or, All, Option, Some, None, inl, inr, ⊎_elim, refl, sym, ap, ◌∙◌, subst, arith, eq-eqb, eqb-true}
 use Rattle.std.specs.Option.{IfSome, IfNone, is_some}
-use Rattle.std.proofs.lemmas.Bool.{and_from, and_parts, or_cases, or_left, or_right, cases_eq, false≢true, false_from_ne_true, ltb-true, ltb-false, lt-ltb}
+use Rattle.std.proofs.lemmas.Bool.{and_from, and_parts, or_cases, or_left, or_right, cases_eq, false≢true, false_from_ne_true, ltb-true, lt-ltb}
 use Rattle.std.proofs.lemmas.List.{get_or_default}
 use Rattle.transcripts.proofs.WholeStands.{offer_is_allowed, offer_is_accepted}
 use Rattle.transcripts.specs.Allowed.{Allowed}
@@ -19,7 +19,8 @@ use Rattle.evt_types.specs.declared.step.Step.TheVariants.{Give}
 use Rattle.place_set.specs.Places.{Has, IsEmpty, IsFirst, SameBut}
 use Rattle.place_set.specs.declared.places.Places.{Places}
 use Rattle.sched_core.specs.Inner.{slots_for}
-use Rattle.sched_core.specs.Offered.{numbered_in, FitsSlot, HasAllowed, HasNoneAllowedIn, HasNoneIn, HasNoneOfSlotIn, IsBestChoice, IsChoiceIn, IsChoiceOf, IsFirstIn, IsOfferIn, IsOfferOf, IsOldestIn, is_ahead, slot_at}
+use Rattle.sched_core.specs.Offered.{numbered_in, FitsSlot, HasAllowed, HasNoneAllowedIn, HasNoneIn, HasNoneOfSlotIn, IsBestChoice, IsChoiceIn, IsChoiceOf, IsFirstIn, IsOfferIn, IsOfferOf, IsOldestIn, slot_at}
+use Rattle.sched_core.specs.Service.{IsServedFirst}
 use Rattle.sched_core.specs.declared.offer.Offer.{Offer}
 use Rattle.sched_core.specs.declared.propose.Choice.{Choice}
 
@@ -128,84 +129,29 @@ offer_first v s q c left (Some y) least none offer =
 
 -- ---- the queue
 
--- the best choice of the queues that aren't left to look at
-abbrev pub IsBestBeside : View → Passed → Places → Option Choice → Type 0
-IsBestBeside v s left None = (q : ℕ) → (¬ Has left q) → HasQuota v s q → HasNone v s q
-IsBestBeside v s left (Some o) =
-    (o.queue < length v.shape.queues) × HasQuota v s o.queue × IsChoiceOf v s o.queue o
-    × ((r : ℕ) → (¬ Has left r) → HasQuota v s r → IsServedBefore v.shape r o.queue → HasNone v s r) × ((r : ℕ) → Has left r → o.queue < r)
-
-pub best_queue : (v : View) (s : Passed) (left : Places) (o : Option Choice) → IsBestBeside v s left o → IfSome o (λ x. x.queue < length v.shape.queues)
-best_queue v s left None best = tt
-best_queue v s left (Some x) best = best.0
-
-above : (n r : ℕ) (left rest : Places) → IsFirst left n → (¬ Has rest n) → SameBut n left rest → Has rest r → (n < r) × Has left r
-above n r left rest first gone others has =
-    ⊎_elim (λ e. absurd (gone (subst (Has rest) e has))) (λ ne. let there = (others r ne).0 has in let le = first.first r there in (omega (arith, ne), there)) (cases_eq r n)
+-- nothing can be given of the queues that aren't left to look at
+abbrev pub NothingBeside : View → Passed → Places → Type 0
+NothingBeside v s left = (q : ℕ) → (¬ Has left q) → HasQuota v s q → HasNone v s q
 
 -- what is left without a place was left before
 pub still : (n r : ℕ) (left rest : Places) → (¬ Has rest n) → SameBut n left rest → Has rest r → Has left r
 still n r left rest gone others has = ⊎_elim (λ e. absurd (gone (subst (Has rest) e has))) (λ ne. (others r ne).0 has) (cases_eq r n)
 
--- the queues whose choices are looked at next, one taken out
-module _ (v : View) (s : Passed) (n : ℕ) (left rest : Places) (first : IsFirst left n) (gone : ¬ Has rest n) (others : SameBut n left rest) where
-  -- a queue whose events no lane may take
-  pub best_none : (o : Option Choice) → (HasQuota v s n → HasNone v s n) → IsBestBeside v s left o → IsBestBeside v s rest o
-  best_none None none best = λ q never quota. ⊎_elim (λ e. subst (HasNone v s) (sym e) (none (subst (HasQuota v s) e quota))) (λ before. best q before quota) (beside n q left rest others never)
-  best_none (Some x) none best = (
-    best.0,
-    best.1,
-    best.2,
-    λ r never quota before. ⊎_elim (λ e. subst (HasNone v s) (sym e) (none (subst (HasQuota v s) e quota))) (λ was. best.3 r was quota before) (beside n r left rest others never),
-    λ r has. best.4 r (above n r left rest first gone others has).1,
-  )
+-- a queue is looked at
+pub queue_more : (v : View) (s : Passed) (n : ℕ) (left rest : Places) → SameBut n left rest → (HasQuota v s n → HasNone v s n) → NothingBeside v s left → NothingBeside v s rest
+queue_more v s n left rest others none nothing q never quota = ⊎_elim (λ e. subst (HasNone v s) (sym e) (none (subst (HasQuota v s) e quota))) (λ was. nothing q was quota) (beside n q left rest others never)
 
-  -- a queue that is served after the choice's
-  pub best_later : (o : Option Choice) → is_ahead v.shape n o ≡ false → IsBestBeside v s left o → IsBestBeside v s rest o
-  best_later None behind best = absurd (false≢true (sym behind))
-  best_later (Some x) behind best =
-      let lt : x.queue < n = best.4 n first.there in
-      let le : (queue_of v.shape x.queue).priority ≤ (queue_of v.shape n).priority = ltb-false _ _ behind in (
-        best.0,
-        best.1,
-        best.2,
-        λ r never quota before. ⊎_elim (λ e. absurd (not_before lt le (subst (λ k. IsServedBefore v.shape k x.queue) e before))) (λ was. best.3 r was quota before) (beside n r left rest others never),
-        λ r has. best.4 r (above n r left rest first gone others has).1,
-      )
-    where
-      not_before : x.queue < n → (queue_of v.shape x.queue).priority ≤ (queue_of v.shape n).priority → ¬ IsServedBefore v.shape n x.queue
-      not_before lt le (inl lower) = omega arith
-      not_before lt le (inr same) = let less = same.1 in omega arith
-
-  -- what stands before a queue ahead of the choice stands before the choice
-  served_ahead : (o : Option Choice) → is_ahead v.shape n o ≡ true → IsBestBeside v s left o → (r : ℕ) → (¬ Has left r) → HasQuota v s r → IsServedBefore v.shape r n → HasNone v s r
-  served_ahead None ahead best r never quota before = best r never quota
-  served_ahead (Some x) ahead best r never quota before = best.3 r never quota (inl (lower before))
-    where
-      lt : (queue_of v.shape n).priority < (queue_of v.shape x.queue).priority
-      lt = ltb-true _ _ ahead
-
-      lower : IsServedBefore v.shape r n → (queue_of v.shape r).priority < (queue_of v.shape x.queue).priority
-      lower (inl less) = let l = lt in omega arith
-      lower (inr same) = let l = lt in let e = same.0 in omega arith
-
-  -- a queue ahead of the choice, with a choice of its own
-  pub best_more : (o next : Option Choice) → n < length v.shape.queues → HasQuota v s n → is_ahead v.shape n o ≡ true → is_some next ≡ true → IfSome next (IsChoiceOf v s n) → IsBestBeside v s left o → IsBestBeside v s rest next
-  best_more o None within quota ahead some choice best = absurd (false≢true some)
-  best_more o (Some x) within quota ahead some choice best =
-      let e : x.queue ≡ n = choice.place.queue in (
-        omega arith,
-        subst (HasQuota v s) (sym e) quota,
-        subst (λ q. IsChoiceOf v s q x) (sym e) choice,
-        λ r never quota_r before.
-            let before_n : IsServedBefore v.shape r n = subst (IsServedBefore v.shape r) e before in
-            ⊎_elim (λ same. absurd (not_itself_before v.shape n (subst (λ k. IsServedBefore v.shape k n) same before_n))) (λ was. served_ahead o ahead best r was quota_r before_n) (beside n r left rest others never),
-        λ r has. let lt = (above n r left rest first gone others has).0 in omega arith,
-      )
-    where
-      not_itself_before : (p : Plan) (k : ℕ) → ¬ IsServedBefore p k k
-      not_itself_before p k (inl less) = omega arith
-      not_itself_before p k (inr same) = let less = same.1 in omega arith
+-- the choice of the queue that is served first of those that are left
+pub best_served : (v : View) (s : Passed) (n : ℕ) (left : Places) (o : Option Choice) → IsServedFirst v.shape left n → NothingBeside v s left → n < length v.shape.queues → HasQuota v s n → IfSome o (IsChoiceOf v s n) → IfSome o (IsBestChoice v s)
+best_served v s n left None first nothing there quota choice = tt
+best_served v s n left (Some x) first nothing there quota choice =
+    let e : x.queue ≡ n = choice.place.queue in
+    record {
+      there = omega arith;
+      quota = subst (HasQuota v s) (sym e) quota;
+      choice = subst (λ q. IsChoiceOf v s q x) (sym e) choice;
+      queue = λ r quota_r before. nothing r (λ has. first.first r has (subst (IsServedBefore v.shape r) e before)) quota_r;
+    }
 
 -- a queue's offer is the choice where the queues that are served before have none
 choice_is : (v : View) (s : Passed) (q l : ℕ) (w : Numbered) → q < length v.shape.queues → HasQuota v s q → IsOfferOf v s q l w → ((r : ℕ) → HasQuota v s r → IsServedBefore v.shape r q → HasNone v s r) → IsChoice v s l q w
@@ -295,15 +241,6 @@ module _ (v : View) (s : Passed) (x : Choice) (best : IsBestChoice v s x) where
   pub best_there : (o : Option Offer) → IfNone o (HasNoneOfSlotIn v x.queue x.level x.slot) → IfNone o (HasNoChoice v s)
   best_there None gone = absurd (gone best.choice.waiting best.choice.offer.waits best.choice.place.level best.choice.place.slot)
   best_there (Some y) gone = tt
-
--- once no queue is left to look at
-pub best_of_all : (v : View) (s : Passed) (left : Places) (o : Option Choice) → IsEmpty left → IsBestBeside v s left o → IfSome o (IsBestChoice v s)
-best_of_all v s left None none best = tt
-best_of_all v s left (Some x) none best = record { there = best.0; quota = best.1; choice = best.2; queue = λ r quota before. best.3 r (none r) quota before }
-
-pub best_of_none : (v : View) (s : Passed) (left : Places) (o : Option Choice) → IsEmpty left → IsBestBeside v s left o → IfNone o (HasNoChoice v s)
-best_of_none v s left None none best = λ q _ quota. best q (none q) quota
-best_of_none v s left (Some x) none best = tt
 
 -- something waits in one queue alone
 module _ (v : View) (s : Passed) (n : ℕ) (others : (r : ℕ) → r ≢ n → HasNone v s r) where

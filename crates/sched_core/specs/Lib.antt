@@ -6,7 +6,9 @@ pub mod Offered
 pub mod Ordered
 pub mod Orders
 pub mod Pinned
+pub mod PlaceSets
 pub mod Busy
+pub mod Service
 pub mod Settling
 pub mod Shutting
 pub mod Skipped

@@ -1,14 +1,17 @@
 -- The ports' lanes that serve the queues.
-use Rattle.std.specs.Prelude.{ℕ, ◌≡◌, ◌<◌, ◌↔◌, true, List, length, slice_index_or}
+use Rattle.std.specs.Prelude.{ℕ, ◌≡◌, true, List, length}
 use Rattle.evt_types.specs.Plan.{Plan, serves}
-use Rattle.place_set.specs.Places.{Has}
 use Rattle.place_set.specs.declared.places.Places.{Places}
+use Rattle.sched_core.specs.PlaceSets.{AreSets, AreThose}
+
+-- the port's lane serves the queue
+abbrev pub Serves : Plan → ℕ → ℕ → Type 0
+Serves p q l = serves p l q 0 ≡ true
 
 -- these are the ports' lanes that serve the queue
 abbrev pub AreLinksOf : Plan → ℕ → Places → Type 0
-AreLinksOf p q lanes = (l : ℕ) → Has lanes l ↔ ((l < length p.ports) × (serves p l q 0 ≡ true))
+AreLinksOf p q lanes = AreThose (Serves p q) (length p.ports) lanes
 
 -- for each of the first queues the ports' lanes that serve it
-pub record AreLinks (p : Plan) (n : ℕ) (links : List Places) : Type 0 where
-  pub count : length links ≡ n
-  pub each : (q : ℕ) (d : Places) → q < length links → AreLinksOf p q (slice_index_or links q d)
+abbrev pub AreLinks : Plan → ℕ → List Places → Type 0
+AreLinks p n links = AreSets (Serves p) (length p.ports) n links

@@ -1,7 +1,7 @@
 -- What is offered, and to whom.
-use Rattle.std.specs.Prelude.{ℕ, ◌≡◌, ◌≢◌, ◌<◌, ◌≤◌, ◌↔◌, Bool, false, true, length, nat_le, nat_lt, Option, Some, None, if◌then◌else◌}
+use Rattle.std.specs.Prelude.{ℕ, ◌≡◌, ◌≢◌, ◌<◌, ◌≤◌, ◌↔◌, false, true, length, nat_le, if◌then◌else◌}
 use Rattle.transcripts.specs.Choice.{Passed, Fits, HasNone, HasNoOther, HasQuota, IsBetterLane, IsServedBefore, WaitsIn, has_bounced, is_earlier}
-use Rattle.evt_types.specs.Plan.{Plan, lanes_of, depth_of, queue_of, level_of, serves, slot_of, is_atomic, is_ordered}
+use Rattle.evt_types.specs.Plan.{lanes_of, depth_of, queue_of, level_of, serves, slot_of, is_atomic, is_ordered}
 use Rattle.transcripts.specs.Standing.{View, places_at, unanswered_at}
 use Rattle.place_set.specs.Places.{Has}
 use Rattle.place_set.specs.declared.places.Places.{Places}
@@ -128,11 +128,6 @@ pub record IsBestChoice (v : View) (s : Passed) (x : Choice) : Type 0 where
   pub quota : HasQuota v s x.queue
   pub choice : IsChoiceOf v s x.queue x
   pub queue : (r : ℕ) → HasQuota v s r → IsServedBefore v.shape r x.queue → HasNone v s r
-
--- the queue is served before that of the choice found so far, whose number is lower
-abbrev pub is_ahead : Plan → ℕ → Option Choice → Bool
-is_ahead p q None = true
-is_ahead p q (Some x) = nat_lt (queue_of p q).priority (queue_of p x.queue).priority
 
 -- of the lane found so far and a later one, the one with fewer unanswered events
 abbrev pub better_of : View → ℕ → ℕ → ℕ

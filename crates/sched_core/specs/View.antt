@@ -11,6 +11,7 @@ use Rattle.order_parts.specs.History.{Entries}
 use Rattle.sched_core.specs.Links.{AreLinks}
 use Rattle.sched_core.specs.Ordered.{ArePlaces, places_in}
 use Rattle.sched_core.specs.Pinned.{ArePins}
+use Rattle.sched_core.specs.Service.{AreAhead}
 use Rattle.parked_queue.specs.Waits.{Waits}
 use Rattle.sched_core.specs.SlotLanes.{AreSlotLanes, slot_lane_count}
 use Rattle.sched_core.specs.declared.state.Core.TheInside.{Inside}
@@ -56,5 +57,6 @@ pub record IsCore (a : Inside) : Type 0 where
   pub entries : a.entries ≡ entries_of (view_in a)
   pub few : entries_of (view_in a) ≤ 2 ^ 63
   pub links : AreLinks a.shape (length a.shape.queues) a.links.items
+  pub ahead : AreAhead a.shape (length a.shape.queues) a.ahead.items
   pub slot_lanes : AreSlotLanes a.shape (slot_lane_count a.shape) a.slot_lanes.items
   pub places : ArePlaces a.shape a.queues a.orders (map entries_in a.lanes)

@@ -3,6 +3,7 @@
 ghost use Rattle.std.specs.Prelude.{◌≡◌, ◌<◌, ◌≤◌, [], length, IfOk, IfErr};
 ghost use Rattle.transcripts.specs.Standing.{Stands, view_of};
 ghost use Rattle.sched_core.specs.Links.{AreLinks, AreLinksOf};
+ghost use Rattle.sched_core.specs.Service.{AreAhead, AreAheadOf};
 
 use crate::histories::Histories;
 use crate::orders::AllOrders;
@@ -42,6 +43,35 @@ fn all_links(alloc: Global, shape: &Shape) -> Result<Vec<Places>, AllocError>
     Ok(links)
 }
 
+/// The queues of a priority that is served before the queue's.
+fn ahead_of(shape: &Shape, queue: usize) -> Places
+    requires { queue < length shape.now.queues }
+    ensures { AreAheadOf shape.now queue result }
+{
+    // To read a limit makes known that the limits hold.
+    let _ = shape.limit();
+    let queues = shape.queues();
+    let mut ahead = Places::none();
+    for other in 0..queues.len() {
+        if queues[other].priority < queues[queue].priority {
+            ahead.add(other);
+        }
+    }
+    ahead
+}
+
+/// For each queue the queues of a priority that is served before its own.
+fn all_ahead(alloc: Global, shape: &Shape) -> Result<Vec<Places>, AllocError>
+    ensures { IfOk result (λ sets. AreAhead shape.now (length shape.now.queues) sets.items) }
+{
+    let count = shape.queues().len();
+    let mut ahead = Vec::with_capacity(alloc, count)?;
+    for queue in 0..count {
+        ahead.push(ahead_of(shape, queue))?;
+    }
+    Ok(ahead)
+}
+
 impl Core {
     /// A core that holds nothing. Where memory lacks the configuration comes back.
     pub fn new(alloc: Global, shape: Shape) -> Result<Core, (Memory, Shape)>
@@ -71,6 +101,10 @@ impl Core {
             Ok(links) => links,
             Err(memory) => return Err((memory, shape)),
         };
+        let ahead = match all_ahead(alloc, &shape) {
+            Ok(ahead) => ahead,
+            Err(memory) => return Err((memory, shape)),
+        };
         let slot_lanes = match slot_lanes(alloc, &shape) {
             Ok(slot_lanes) => slot_lanes,
             Err(memory) => return Err((memory, shape)),
@@ -84,6 +118,7 @@ impl Core {
             lanes,
             pins,
             links,
+            ahead,
             slot_lanes,
             bound,
             inside: 0,

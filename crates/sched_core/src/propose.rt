@@ -4,12 +4,13 @@ ghost use Rattle.std.specs.Prelude.{◌≡◌, ◌≢◌, ℕ, ◌<◌, List, le
 ghost use Rattle.transcripts.specs.Allowed.{Allowed};
 ghost use Rattle.transcripts.specs.Choice.{HasNone, HasNoChoice, IsChoice, IsOffer};
 ghost use Rattle.transcripts.specs.Standing.{Stands};
-ghost use Rattle.place_set.specs.Places.{Has};
+ghost use Rattle.place_set.specs.Places.{Has, IsEmpty};
 ghost use Rattle.transcripts.specs.Transcript.{event_at};
 ghost use Rattle.evt_types.specs.declared.step.Step.{Step as StepValue};
 ghost use Rattle.evt_types.specs.declared.step.Step.TheVariants as steps;
 ghost use Rattle.sched_core.specs.Inner.{slots_for};
-ghost use Rattle.sched_core.specs.Offered.{numbered_in, AreOpenLanes, HasAllowed, HasNoneAllowedIn, HasNoneIn, HasNoneOfSlotIn, IsBestChoice, IsChoiceIn, IsChoiceOf, IsFirstIn, IsFirstSlotIn, IsOfferIn, IsOfferOf, IsOldestIn, is_ahead, slot_at};
+ghost use Rattle.sched_core.specs.Offered.{numbered_in, AreOpenLanes, HasAllowed, HasNoneAllowedIn, HasNoneIn, HasNoneOfSlotIn, IsBestChoice, IsChoiceIn, IsChoiceOf, IsFirstIn, IsFirstSlotIn, IsOfferIn, IsOfferOf, IsOldestIn, slot_at};
+ghost use Rattle.sched_core.specs.Service.{IsServedFirst};
 
 use crate::offer::Offer;
 use crate::skips::Skips;
@@ -81,30 +82,30 @@ impl Core {
     {
         let sweep = self.shape.sweep();
         let mut left = self.queues.busy();
-        let mut best = None;
-        while let Some(queue) = left.pop() {
-            if skips.has_quota(queue, sweep) && self.is_ahead(queue, best) {
+        while let Some(queue) = self.first_served(left) {
+            left.remove(queue);
+            if skips.has_quota(queue, sweep) {
                 let choice = self.choice_of(queue, skips);
                 if choice.is_some() {
-                    best = choice;
+                    return choice;
                 }
             }
         }
-        best
+        None
     }
 
-    /// Whether the queue is served before that of the choice found so far, whose number is lower.
+    /// Of these queues the one that is served first: the first one by number, as long as none has a priority that is served before.
     #[inline(always)]
-    fn is_ahead(&self, queue: usize, best: Option<Choice>) -> bool
-        requires queue { queue < length self.now.shape.queues }
-        requires best { IfSome best (λ c. c.queue < length self.now.shape.queues) }
-        ensures { result ≡ is_ahead self.now.shape queue best }
+    fn first_served(&self, queues: Places) -> Option<usize>
+        requires { (q : ℕ) → Has queues q → q < length self.now.shape.queues }
+        ensures first { IfSome result (IsServedFirst self.now.shape queues) }
+        ensures none { IfNone result (IsEmpty queues) }
     {
-        let queues = self.shape.queues();
-        match best {
-            Some(choice) => queues[queue].priority < queues[choice.queue].priority,
-            None => true,
+        let mut first = queues.first()?;
+        while let Some(ahead) = queues.both(self.ahead[first]).first() {
+            first = ahead;
         }
+        Some(first)
     }
 
     /// The chosen event, which is read only now.

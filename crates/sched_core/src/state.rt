@@ -30,6 +30,8 @@ pub struct Core {
     pub(crate) pins: AllPins,
     /// For each queue the ports' lanes that serve it.
     pub(crate) links: Vec<Places>,
+    /// For each queue the queues of a priority that is served before its own.
+    pub(crate) ahead: Vec<Places>,
     /// The flow lane of each slot, by queue and slot.
     pub(crate) slot_lanes: Vec<Option<usize>>,
     /// How many events may be inside for a NEW to be taken.

@@ -5,4 +5,4 @@ use Rattle.lane_rings.proofs.intake.Intake.next.Goals as goal
 
 pub invariant_of-self-clause-last : goal.invariant_of-self-clause-last
 invariant_of-self-clause-last g c =
-    still-last (received c.look.new.self.ring) (inside c.look.new.self.pocket) (inside c.next.new.self) c.next.result c.look.new.self.last c.next.ensures.inside
+    still-last (received c.args.self.now.ring) (inside c.args.self.now.pocket) (inside c.next.new.self) c.next.result c.args.self.now.last c.next.ensures.inside

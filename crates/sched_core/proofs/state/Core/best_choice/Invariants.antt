@@ -1,10 +1,10 @@
 use Rattle.std.proofs.Common.{◌≡◌, ℕ, ◌<◌, length}
 use Rattle.place_set.specs.Places.{Has, weight}
-use Rattle.sched_core.proofs.Offers.{IsBestBeside}
+use Rattle.sched_core.proofs.Offers.{NothingBeside}
 use Rattle.sched_core.proofs.state.Core.best_choice.Given as goal
 
 abbrev pub invariant-loop-queue : goal.invariant-loop-queue
-invariant-loop-queue l = (l.self ≡ l.fn.self) × ((q : ℕ) → Has l.left q → q < length l.fn.self.shape.queues) × IsBestBeside l.fn.self l.skips l.left l.best
+invariant-loop-queue l = (l.self ≡ l.fn.self) × ((q : ℕ) → Has l.left q → q < length l.fn.self.shape.queues) × NothingBeside l.fn.self l.skips l.left
 
 abbrev pub decreases-loop-queue : goal.decreases-loop-queue
 decreases-loop-queue l = weight l.left

@@ -1,6 +1,6 @@
 use Rattle.std.proofs.Common.{refl, rules, arith}
 use Rattle.event_scheduler.proofs.Taking.{lane_more, takes_none}
-use Rattle.event_scheduler.proofs.scheduler.Scheduler.take_lane.Goals as goal
+use Rattle.event_scheduler.proofs.scheduler.Scheduler.take_each.Goals as goal
 
 pub loop-taken-init : goal.loop-taken-init
 loop-taken-init c = (takes_none _ _ _, refl, omega arith)

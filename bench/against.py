@@ -1,24 +1,28 @@
 #!/usr/bin/env python3
 """Compares what take, give and release of an event cost the scheduling core with what they cost it in another version, in bursts of 1
-and of 32, and fails where an event costs more than half as much as there.
+and of 32, and fails where an event costs more than `MOST` times as much as there.
 
-    against.py OTHER [PROGRAM]
+    against.py OTHER MOST [PROGRAM]
 
 OTHER is `core_bench` built over the other version's crates: in a copy of that version, crates/core_bench of this one takes the place of
 its own. PROGRAM is this version's `core_bench`; where none is named it is built. Runs of the two programs take turns, so that a machine
 which is slower for a while changes both; the times have the benchmark's own share in them. Where valgrind is installed the instructions
-of an event are counted as well, less that share.
+of an event are counted as well, less that share. The share is measured: in a copy of this version the core's calls are kept out of the
+benchmark's code, and what is left is the benchmark's.
 """
 import pathlib
+import re
+import shutil
 import statistics
+import subprocess
 import sys
+import tempfile
 
-from core_rounds import TURNS, Case, built, can_count, counted, enough_rounds, seconds
+from core_rounds import COUNTED, CRATE, TURNS, Case, built, can_count, counted, enough_rounds, ran, seconds
 
-HELD, MOST = 32, 0.5
-# The benchmark's own instructions per event, by burst: those that are left where the core's calls are kept out of its code
-# (`#[inline(never)]` on propose, give, take and takes) and are counted apart.
-OWN = {1: 157, 32: 109}
+HELD, BURSTS = 32, (1, 32)
+CALLS = ("propose", "give", "take", "takes")
+TOP = CRATE.parent.parent
 
 
 def timed(other, program, case):
@@ -31,28 +35,76 @@ def timed(other, program, case):
     return *least, statistics.median(ours / theirs for theirs, ours in turns)
 
 
-def core_alone(other, program, case):
-    """The core's own instructions per event in both programs, and the ratio of the second to the first."""
-    theirs, ours = (counted(each, case) - OWN[case.burst] for each in (other, program))
-    return theirs, ours, ours / theirs
+def copy_apart(room):
+    """Copies this version, with the core's calls kept out of the code that calls them."""
+    shutil.copytree(TOP / "crates", room / "crates", ignore=shutil.ignore_patterns("out"))
+    for name in ("crates.txt", "HANDLES"):
+        shutil.copy(TOP / name, room / name)
+    for name in ("propose", "give", "take"):
+        file = room / f"crates/sched_core/src/{name}.rt"
+        calls = rf"(?: *#\[inline\(always\)\]\n)?( *)pub fn ({'|'.join(CALLS)})\("
+        file.write_text(re.sub(calls, r"\1#[inline(never)]\n\1pub fn \2(", file.read_text()))
 
 
-def is_half(unit, measure, other, program, burst):
-    """Prints what an event costs in both versions, and whether it costs at most half."""
-    theirs, ours, ratio = measure(other, program, Case(HELD, burst=burst))
-    print(f"{unit:12} {burst:5} {theirs:8.1f} {ours:8.1f} {ratio:6.2f} {MOST:8.2f}", flush=True)
-    return ratio <= MOST
+def build_apart(room):
+    """The benchmark with the core's calls apart."""
+    copy_apart(room)
+    crate = room / "crates/core_bench"
+    words = (crate / "args").read_text().split()
+    run = subprocess.run(["rt", "run", "--", *words], cwd=crate, stdout=subprocess.PIPE, stderr=subprocess.STDOUT, check=False)
+    if run.returncode != 0:
+        sys.exit(f"core_bench isn't built with the core's calls apart: {run.stdout.decode()[-2000:]}")
+    return crate / "out/core_bench"
+
+
+def spent(program, case, rounds, room):
+    """The instructions of a run, and of these the core's calls', with all that they call."""
+    profile = room / "profile"
+    ran(["valgrind", "--tool=callgrind", f"--callgrind-out-file={profile}", program], case, rounds)
+    words = ["callgrind_annotate", "--inclusive=yes", "--threshold=100", profile]
+    lines = subprocess.run(words, capture_output=True, text=True, check=True).stdout
+    whole = re.search(r"^ *([\d,]+).*PROGRAM TOTALS", lines, re.M)
+    called = re.findall(rf"^ *([\d,]+).*sched_core::state::Core::(?:{'|'.join(CALLS)})(?= |$)", lines, re.M)
+    if whole is None or not called:
+        sys.exit(f"callgrind_annotate names no calls of the core: {lines[:2000]}")
+    number = lambda text: int(text.replace(",", ""))
+    return number(whole[1]), sum(map(number, called))
+
+
+def own_shares():
+    """The benchmark's own instructions per event, by burst."""
+    shares = {}
+    with tempfile.TemporaryDirectory() as name:
+        room = pathlib.Path(name)
+        program = build_apart(room)
+        for burst in BURSTS:
+            case = Case(HELD, burst=burst)
+            (less, in_less), (more, in_more) = (spent(program, case, rounds, room) for rounds in (COUNTED, 2 * COUNTED))
+            shares[burst] = ((more - less) - (in_more - in_less)) / (COUNTED * burst)
+    return shares
+
+
+def is_within(unit, costs, burst, most):
+    """Prints what an event costs in both versions, and whether it costs no more than it may."""
+    theirs, ours, ratio = costs
+    print(f"{unit:12} {burst:5} {theirs:8.1f} {ours:8.1f} {ratio:6.2f} {most:8.2f}", flush=True)
+    return ratio <= most
 
 
 def main():
-    if len(sys.argv) not in (2, 3):
+    if len(sys.argv) not in (3, 4):
         sys.exit(__doc__)
-    other = pathlib.Path(sys.argv[1]).resolve()
-    program = pathlib.Path(sys.argv[2]).resolve() if len(sys.argv) == 3 else built()
-    units = {"nanoseconds": timed, **({"instructions": core_alone} if can_count() else {})}
+    other, most = pathlib.Path(sys.argv[1]).resolve(), float(sys.argv[2])
+    program = pathlib.Path(sys.argv[3]).resolve() if len(sys.argv) == 4 else built()
+    shares = own_shares() if can_count() else {}
+    for burst, share in shares.items():
+        print(f"the benchmark's own instructions per event at bursts of {burst}: {share:.1f}")
     print(f"{'per event':12} {'burst':>5} {'other':>8} {'this':>8} {'ratio':>6} {'at most':>8}")
-    half = [is_half(unit, measure, other, program, burst) for unit, measure in units.items() for burst in OWN]
-    sys.exit(0 if all(half) else 1)
+    within = [is_within("nanoseconds", timed(other, program, Case(HELD, burst=burst)), burst, most) for burst in BURSTS]
+    for burst, share in shares.items():
+        theirs, ours = (counted(each, Case(HELD, burst=burst)) - share for each in (other, program))
+        within.append(is_within("instructions", (theirs, ours, ours / theirs), burst, most))
+    sys.exit(0 if all(within) else 1)
 
 
 main()

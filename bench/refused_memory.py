@@ -2,7 +2,7 @@
 """Refuses each allocation of `evsched play`, `evsched run` and `evsched --help` in turn, the first, then the second, until a run meets
 no refusal. Each run must end by itself, with status 5, the line for want of memory and nothing on standard output, or, where it can do
 without what was refused, as it ends with ample memory. Then it does the same with tests that make again whatever was refused: each must
-pass all the same.
+pass all the same. Their names are read from the sources, and nothing is run where one that is wanted isn't there or isn't built.
 
     refused_memory.py [PROGRAM]
 
@@ -11,6 +11,7 @@ compiler makes the library that refuses, which stands before the C library's all
 """
 import os
 import pathlib
+import re
 import subprocess
 import sys
 import tempfile
@@ -102,27 +103,53 @@ RUNS = (
     ("run of dropping-stages by flow lanes", RUN, *example("dropping-stages")),
     ("--help", ["--help"], "", ""),
 )
-# The call whose refusals a test meets, the crate of the test, and the test.
+# The calls whose refusals tests meet, the crate of the tests, and the tests: all of a module, or one by its path.
 TESTS = (
-    ("Shape::build", "part_tests", "shapes::parts_of_a_shape"),
-    ("Shape::build", "part_tests", "shapes::flow_lanes_of_a_shape"),
-    ("Pins::new", "part_tests", "orders::a_held_slot_may_go_to_its_lane_alone"),
-    ("Reorder::new", "part_tests", "orders::the_oldest_place_leaves_first"),
-    ("History::new", "part_tests", "orders::the_oldest_entry_is_popped"),
-    ("WaitingLists::new", "part_tests", "queues::lists_share_their_room"),
-    ("ParkedQueue::new", "part_tests", "queues::a_blocked_event_is_passed"),
+    ("Shape::build", "part_tests", "shapes"),
+    ("Pins::new, Reorder::new, History::new", "part_tests", "orders"),
+    ("WaitingLists::new, ParkedQueues::new", "part_tests", "queues"),
+    ("Levels::new", "part_tests", "levels"),
+    ("Core::new", "part_tests", "core_again"),
     ("Credits::new", "ring_tests", "credits::credit_calls"),
-    ("lane", "ring_tests", "lanes::lane_calls"),
-    ("Claims::new", "claim_tests", "calls::two_claimers"),
-    ("Claims::new", "claim_tests", "memory::ends_come_back_in_order"),
-    ("Core::new", "core_tests", "known_runs::two_flows_of_one_slot"),
-    ("Core::new", "core_tests", "flow_runs::flow_lanes_are_given_the_events_of_their_slots"),
-    ("Scheduler::sweep", "device_tests", "again::a_scheduler_sweeps_again"),
-    ("device, Recorder::sweep, stop", "device_tests", "again::second_forwarded_first_by_ports"),
-    ("device, Recorder::sweep, stop", "device_tests", "again::second_forwarded_first_by_flows"),
-    ("device, Recorder::sweep, stop", "device_tests", "again::event_in_each_place_by_ports"),
-    ("device, Recorder::sweep, stop", "device_tests", "again::event_in_each_place_by_flows"),
+    ("lane", "ring_tests", "lanes"),
+    ("Claims::new", "claim_tests", "calls"),
+    ("Claims::new", "claim_tests", "memory"),
+    ("Claims::new", "claim_tests", "port"),
+    ("device, Scheduler::sweep, Recorder::sweep, stop", "device_tests", "again"),
 )
+A_TEST = re.compile(r"^#\[test\]\n(?:#.*\n)*fn (\w+)", re.MULTILINE)
+
+
+def tests_of(crate):
+    """The paths of the tests in the crate's sources."""
+    sources = TOP / f"crates/{crate}/src"
+    paths = []
+    for source in sorted(sources.rglob("*.rt")):
+        module = source.relative_to(sources).with_suffix("").parts
+        paths += ["::".join([*module, name]) for name in A_TEST.findall(source.read_text())]
+    return paths
+
+
+def built(crate):
+    return TOP / f"crates/{crate}/out/{crate}_tests"
+
+
+def names(path, test):
+    """Whether the path is the test's, or that of its module."""
+    return test == path or test.startswith(f"{path}::")
+
+
+def wanted_tests():
+    """The calls, the crate and the path of each test that is wanted. Ends the script where one isn't there or isn't built."""
+    wanted = []
+    for calls, crate, path in TESTS:
+        found = [test for test in tests_of(crate) if names(path, test)]
+        if not found:
+            sys.exit(f"{crate} has no test {path}")
+        if not built(crate).exists():
+            sys.exit(f"{built(crate)} isn't there: run `rt test` in crates/{crate}")
+        wanted += [(calls, crate, test) for test in found]
+    return wanted
 
 
 def ran(program, words, document, library, number):
@@ -155,30 +182,39 @@ def try_program(program, what, words, document, wanted, library):
         sys.exit(f"{what}: with ample memory it ended with {ample}")
     count, without = refusals(program, words, document, library, (ample, (NO_MEMORY, b"", LINE)))
     print(f"{what}: {count} refused, {count - without} ended with status {NO_MEMORY}, {without} as with ample memory")
+    return count
 
 
-def try_test(call, crate, test, library):
-    program = TOP / f"crates/{crate}/out/{crate}_tests"
-    if not program.exists():
-        sys.exit(f"{program} isn't there: run `rt test` in crates/{crate}")
-    ample, _ = ran(program, [test], b"", library, 0)
+def try_test(calls, crate, test, library):
+    ample, _ = ran(built(crate), [test], b"", library, 0)
     if ample != (0, PASSED, b""):
         sys.exit(f"{test}: with ample memory it ended with {ample}")
-    count, _ = refusals(program, [test], b"", library, (ample,))
-    if count == 0:
-        sys.exit(f"{test}: nothing was refused")
-    print(f"{call}: {crate} {test}: {count} refused, and it passed each time")
+    count, _ = refusals(built(crate), [test], b"", library, (ample,))
+    print(f"{calls}: {crate} {test}: {count} refused, and it passed each time")
+    return count
+
+
+def try_tests(wanted, library):
+    """Refuses each allocation of each test: of how many tests it did, and how many allocations. Some test of each entry must allocate."""
+    counts = {test: try_test(*test, library) for test in wanted}
+    for calls, crate, path in TESTS:
+        if not any(count for (_, of, test), count in counts.items() if of == crate and names(path, test)):
+            sys.exit(f"{crate} {path}: nothing was refused")
+    allocating = [count for count in counts.values() if count]
+    return len(allocating), sum(allocating)
 
 
 def main():
-    program = str(pathlib.Path(sys.argv[1]).resolve() if len(sys.argv) > 1 else BUILT)
+    program = pathlib.Path(sys.argv[1]).resolve() if len(sys.argv) > 1 else BUILT
+    if not program.exists():
+        sys.exit(f"{program} isn't there: run ./evsched --help")
+    wanted = wanted_tests()
     with tempfile.TemporaryDirectory() as room:
         library = f"{room}/refusing.so"
         subprocess.run(["cc", "-shared", "-fPIC", "-O2", "-x", "c", "-", "-o", library], input=REFUSING.encode(), check=True)
-        for run in RUNS:
-            try_program(program, *run, library)
-        for test in TESTS:
-            try_test(*test, library)
+        of_runs = sum(try_program(program, *run, library) for run in RUNS)
+        tests, of_tests = try_tests(wanted, library)
+    print(f"{of_runs} allocations of {len(RUNS)} runs and {of_tests} of {tests} tests were refused, each in turn, and nothing was found")
 
 
 main()

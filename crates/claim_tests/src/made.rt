@@ -1,8 +1,8 @@
 //! Deliveries, lanes and claims for the tests. Lanes, lists and claims are made again where memory was refused, and serve then as ever.
-ghost use Rattle.std.specs.Prelude.{◌≡◌, [], vec_len, vec_capacity, All, IfOk};
+ghost use Rattle.std.specs.Prelude.{◌≡◌, [], length, vec_len, vec_capacity, All, IfOk};
 ghost use Rattle.lane_rings.specs.Ends.{offered, taken, seen_replies, received_by, seen_deliveries, answered};
 ghost use Rattle.lane_rings.specs.Identity.{near_id, far_id};
-ghost use Rattle.flow_claims.specs.Seats.{first_seating};
+ghost use Rattle.flow_claims.specs.Seats.{HoldsNone, first_seating};
 ghost use Rattle.flow_claims.specs.Claims.{seating, lanes_of, IsSeatOf};
 
 use evt_types::{Delivery, Event, Op, Reply};
@@ -61,16 +61,28 @@ pub(crate) fn ends_for(alloc: Global, lanes: usize) -> Result<Vec<Far>, Memory>
 }
 
 /// Claims over these lanes, made again of the ends that came back where memory was refused.
-pub(crate) fn claims_of(
-    alloc: Global,
-    ends: Vec<Far>,
-) -> Result<(Claims, ClaimSeat), (Memory, Vec<Far>)>
+pub(crate) fn claims_of(alloc: Global, ends: Vec<Far>) -> Result<(Claims, ClaimSeat), Memory>
     requires { All (λ far. (received_by far ≡ []) × (answered far ≡ [])) ends.items }
     ensures seat { IfOk result (λ r. IsSeatOf r.0 r.1 × (lanes_of r.0 ≡ ends.items)) }
     ensures seating { IfOk result (λ r. seating r.1 ≡ first_seating ends.items) }
 {
     match Claims::new(alloc, ends) {
         Ok(made) => Ok(made),
-        Err((_, ends)) => Claims::new(alloc, ends),
+        Err((_, ends)) => match Claims::new(alloc, ends) {
+            Ok(made) => Ok(made),
+            Err((memory, _ends)) => Err(memory),
+        },
     }
+}
+
+/// Claims over one lane, with the end of it that brings deliveries in.
+pub(crate) fn one_lane(alloc: Global) -> Result<(Near, Claims, ClaimSeat), Memory>
+    ensures seat { IfOk result (λ r. IsSeatOf r.1 r.2 × (length (lanes_of r.1) ≡ 1)) }
+    ensures seating { IfOk result (λ r. HoldsNone (seating r.2) × ((seating r.2).parts ≡ 64)) }
+{
+    let (near, far) = lane_again(alloc, 1, 1)?;
+    let mut ends = ends_for(alloc, 1)?;
+    ends.push_reserved(far);
+    let (claims, seat) = claims_of(alloc, ends)?;
+    Ok((near, claims, seat))
 }

@@ -1,6 +1,6 @@
 //! Refused memory: the ends come back in their order, from `new` as from `close`.
 
-ghost use Rattle.std.specs.Prelude.{IfOk};
+ghost use Rattle.std.specs.Prelude.{◌≡◌, ◌≤◌, [], length, vec_capacity, All, IfOk};
 ghost use Rattle.flow_claims.specs.Laws.{IsUnused};
 
 use crate::made::{delivery, ends_for, lane_again};
@@ -28,23 +28,42 @@ fn waiting(alloc: Global, number: u64) -> Result<Far, Memory>
     Ok(far)
 }
 
-#[test]
-fn ends_come_back_in_order(rt: HostRuntime) -> Result<(), Fail> {
-    let mut out = ends_for(rt.alloc(), 3)?;
-    let mut ends = ends_for(rt.alloc(), 3)?;
-    ends.push_reserved(waiting(rt.alloc(), 10)?);
-    ends.push_reserved(waiting(rt.alloc(), 11)?);
-    ends.push_reserved(waiting(rt.alloc(), 12)?);
-    let mut ends = match Claims::new(rt.alloc(), ends) {
+/// The ends of three lanes, in which these wait.
+fn three_waiting(alloc: Global) -> Result<Vec<Far>, Memory>
+    ensures unused { IfOk result (λ v. All IsUnused v.items) }
+    ensures three { IfOk result (λ v. length v.items ≡ 3) }
+{
+    let mut ends = ends_for(alloc, 3)?;
+    ends.push_reserved(waiting(alloc, 10)?);
+    ends.push_reserved(waiting(alloc, 11)?);
+    ends.push_reserved(waiting(alloc, 12)?);
+    Ok(ends)
+}
+
+/// The ends that come back of claims over these.
+fn ends_back(alloc: Global, ends: Vec<Far>, mut out: Vec<Far>) -> Vec<Far>
+    requires unused { All IsUnused ends.items }
+    requires room { (out.items ≡ []) × (length ends.items ≤ vec_capacity out) }
+{
+    match Claims::new(alloc, ends) {
         Ok((claims, seat)) => {
             claims.close(seat, &mut out);
             out
         }
         Err((_, ends)) => ends,
-    };
-    assert_eq!(rt; ends.len(), 3);
-    assert_eq!(rt; waiting_at(ends.pop()), Some(12));
-    assert_eq!(rt; waiting_at(ends.pop()), Some(11));
-    assert_eq!(rt; waiting_at(ends.pop()), Some(10));
+    }
+}
+
+#[test]
+fn ends_come_back_in_order(rt: HostRuntime) -> Result<(), Fail> {
+    let out = ends_for(rt.alloc(), 3)?;
+    let ends = three_waiting(rt.alloc())?;
+    let mut back = ends_back(rt.alloc(), ends, out);
+    let (third, second) = (waiting_at(back.pop()), waiting_at(back.pop()));
+    let (first, none) = (waiting_at(back.pop()), back.pop().is_none());
+    assert_eq!(rt;
+        (third, second, first, none),
+        (Some(12), Some(11), Some(10), true)
+    );
     Ok(())
 }

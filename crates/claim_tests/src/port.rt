@@ -1,9 +1,9 @@
 //! What a port keeps: a seat with the stint that it has open, in one struct.
-ghost use Rattle.std.specs.Prelude.{◌≡◌};
-ghost use Rattle.flow_claims.specs.Claims.{seating, port_of, IsSeatOf};
+ghost use Rattle.std.specs.Prelude.{◌≡◌, ◌<◌, length};
+ghost use Rattle.flow_claims.specs.Claims.{seating, port_of, lanes_of, IsSeatOf};
 ghost use Rattle.flow_claims.specs.Open.{IsOpen};
 
-use crate::made::{claims_of, delivery, ends_for, lane_again, release};
+use crate::made::{delivery, one_lane, release};
 use evt_types::{Delivery, Reply};
 use flow_claims::{Claim, ClaimSeat, Claims, Stint};
 use lane_rings::AnswerFault;
@@ -53,28 +53,53 @@ impl Port {
     }
 }
 
-#[test]
-fn a_port_keeps_its_stint(rt: HostRuntime) -> Result<(), Fail> {
-    let (mut near, far) = lane_again(rt.alloc(), 1, 1)?;
-    assert_eq!(rt; near.offer(delivery(5)), Ok(()));
-    near.offer_all();
-    let mut ends = ends_for(rt.alloc(), 1)?;
-    ends.push_reserved(far);
-    let Ok((claims, seat)) = claims_of(rt.alloc(), ends) else {
-        panic!(rt; "memory was refused twice")
-    };
-    let (_seat, mut seat) = claims.split(seat, 3).unwrap();
+/// A port claims lane 0, receives what waits there, releases it and gives the lane back.
+fn serve_once(claims: &Claims, mut seat: ClaimSeat) -> (ClaimSeat, Option<Delivery>)
+    requires seat { IsSeatOf claims.now seat × (port_of seat < 254) }
+    requires lane { 0 < length (lanes_of claims.now) }
+    ensures { IsSeatOf claims.now result.0 × (port_of result.0 ≡ port_of seat) }
+{
     let Claim::Held(stint) = claims.claim(&mut seat, 0) else {
-        panic!(rt; "the lane was free")
+        return (seat, None);
     };
     let mut port = Port { seat, stint };
-    assert_eq!(rt; port.receive(), Some(delivery(5)));
-    assert_eq!(rt; port.answer(release()), Ok(()));
-    let mut seat = port.leave(&claims);
-    assert_eq!(rt; near.take(), Some(release()));
-    let Claim::Held(stint) = claims.claim(&mut seat, 0) else {
-        panic!(rt; "the lane was given back")
-    };
-    assert_eq!(rt; (stint.number, stint.far.held()), (1, 0));
+    let came = port.receive();
+    let answered = port.answer(release());
+    let seat = port.leave(claims);
+    if answered == Ok(()) {
+        (seat, came)
+    } else {
+        (seat, None)
+    }
+}
+
+/// The number of the stint that lane 0 has next, and how much is held in it.
+fn next_stint(claims: &Claims, mut seat: ClaimSeat) -> Option<(u64, usize)>
+    requires seat { IsSeatOf claims.now seat × (port_of seat < 254) }
+    requires lane { 0 < length (lanes_of claims.now) }
+{
+    match claims.claim(&mut seat, 0) {
+        Claim::Held(stint) => Some((stint.number, stint.far.held())),
+        Claim::WornOut
+        | Claim::Busy { seen: _ }
+        | Claim::Raced {
+            first: _,
+            second: _,
+        } => None,
+    }
+}
+
+#[test]
+fn a_port_keeps_its_stint(rt: HostRuntime) -> Result<(), Fail> {
+    let (mut near, claims, seat) = one_lane(rt.alloc())?;
+    let offered = near.offer(delivery(5));
+    near.offer_all();
+    let (_seat, seat) = claims.split(seat, 3).unwrap();
+    let (seat, came) = serve_once(&claims, seat);
+    assert_eq!(rt; (offered, came), (Ok(()), Some(delivery(5))));
+    assert_eq!(rt;
+        (near.take(), next_stint(&claims, seat)),
+        (Some(release()), Some((1, 0)))
+    );
     Ok(())
 }

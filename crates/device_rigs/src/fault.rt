@@ -6,7 +6,7 @@ use std::alloc::AllocError;
 use thiserror::Error;
 
 /// Why a device of a plan isn't made, called as wanted or stopped.
-#[derive(Clone, Copy, Debug, PartialEq, Eq, Error)]
+#[derive(Clone, Copy, Debug, Error)]
 pub enum RigFault {
     /// The configuration is refused.
     #[error("the configuration is refused: {0}")]
@@ -43,11 +43,5 @@ impl From<DeviceFault> for RigFault {
             DeviceFault::Memory(_) => RigFault::Memory,
             DeviceFault::NoSeat(_) => RigFault::NoSeat,
         }
-    }
-}
-
-impl From<StopFault> for RigFault {
-    fn from(fault: StopFault) -> RigFault {
-        RigFault::Stop(fault)
     }
 }

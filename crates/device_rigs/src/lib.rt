@@ -10,11 +10,11 @@ mod rig;
 mod runs;
 mod stopped;
 
-pub use accounts::{all_differ, brought_in, credits, entry_count, left_of, listed, untaken_news};
+pub use accounts::{brought_in, credits, entry_count};
 pub use checker::Checker;
 pub use fault::RigFault;
-pub use logged_queue::{FLOWS, Fault, LoggedQueue};
-pub use plans::{Plan, PortPlan, SOURCE, WORKER, one_queue, queue};
-pub use rig::{Call, Rig, dequeued, refused, release, swept, taken};
-pub use runs::{End, Task, event, run};
+pub use logged_queue::Fault;
+pub use plans::{Plan, PortPlan, SOURCE, WORKER};
+pub use rig::{Call, Rig, Sent};
+pub use runs::{End, Task, run};
 pub use stopped::{AccountFault, check_stopped};

@@ -1,7 +1,7 @@
 //! The plans of devices.
 
 use crate::fault::RigFault;
-use evt_types::{Draft, Kind, PortDraft, QueueDraft, Serving, Shape};
+use evt_types::{Draft, PortDraft, QueueDraft, Serving, Shape};
 use std::alloc::{AllocError, Global};
 
 /// A port of a device.
@@ -23,17 +23,6 @@ pub struct Plan<'a> {
     pub serving: Serving,
     pub queues: &'a [QueueDraft],
     pub ports: &'a [PortPlan<'a>],
-}
-
-/// A queue with so many slots or open events.
-pub fn queue(kind: Kind, count: u32) -> QueueDraft {
-    QueueDraft {
-        kind,
-        priority: 128,
-        slots: count,
-        order: count,
-        single: false,
-    }
 }
 
 /// A port that brings events in.
@@ -81,21 +70,5 @@ impl Plan<'_> {
             })?;
         }
         Ok(drafts)
-    }
-}
-
-/// A device with a limit of 4 credits, an atomic queue of four slots and these ports.
-pub fn one_queue<'a>(
-    serving: Serving,
-    queues: &'a [QueueDraft],
-    ports: &'a [PortPlan<'a>],
-) -> Plan<'a> {
-    Plan {
-        limit: 4,
-        quantum: 2,
-        sweep: 8,
-        serving,
-        queues,
-        ports,
     }
 }

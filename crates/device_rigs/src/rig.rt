@@ -9,41 +9,46 @@ use crate::fault::RigFault;
 use crate::plans::Plan;
 use arrayvec::ArrayVec;
 use event_device::{
-    Behind, Control, DeviceFault, Port, Recorder, Refused, Report, StopFault, Swept, device,
+    Behind, Control, DeviceFault, Memory, Port, Recorder, Refused, Report, StopFault, Swept, device,
 };
-use evt_types::{Delivery, Event, Shape};
+use evt_types::{Delivery, Event, Op, Shape};
 use std::alloc::Global;
 
-/// A call, with the answer that must come.
+/// An event of a middle priority that a port enqueues.
+#[derive(Clone, Copy)]
+pub struct Sent {
+    pub op: Op,
+    pub queue: u8,
+    pub flow: u8,
+    pub payload: u64,
+}
+
+impl Sent {
+    pub fn event(self) -> Event {
+        Event {
+            flow: u32::from(self.flow),
+            sub_type: 0,
+            event_type: 0,
+            op: self.op,
+            queue: self.queue,
+            priority: 128,
+            impl_opaque: 0,
+            payload: self.payload,
+        }
+    }
+}
+
+/// A call, with the answer that must come. A port is named by its place.
 #[derive(Clone, Copy)]
 pub enum Call<'a> {
     /// The port enqueues the event.
-    Enqueue {
-        port: usize,
-        event: Event,
-        answer: Result<(), Refused>,
-    },
-    /// The port enqueues the events.
-    Burst {
-        port: usize,
-        events: &'a [Event],
-        answer: (usize, Option<Refused>),
-    },
-    /// The port dequeues at most `max` events.
-    Dequeue {
-        port: usize,
-        max: usize,
-        answer: Result<&'a [Delivery], Behind>,
-    },
+    Enqueue(usize, Sent, Result<(), Refused>),
+    /// The port dequeues at most so many events; those that come are queue 0's, by their numbers.
+    Dequeue(usize, usize, Result<&'a [(u64, Sent)], Behind>),
     /// The port looks whether the device is shut.
-    Look {
-        port: usize,
-        answer: bool,
-    },
-    /// One sweep.
-    Sweep {
-        answer: Swept,
-    },
+    Look(usize, bool),
+    /// One sweep takes so many replies, gives so many events, and finds no ring full.
+    Sweep(usize, usize),
     /// The control shuts the device.
     Shut,
 }
@@ -87,19 +92,12 @@ impl Rig {
     /// Makes the call; whether the answer came that must come.
     fn make(&mut self, call: Call) -> Result<bool, RigFault> {
         match call {
-            Call::Enqueue {
-                port,
-                event,
-                answer,
-            } => Ok(self.enqueue(port, event) == Some(answer)),
-            Call::Burst {
-                port,
-                events,
-                answer,
-            } => Ok(self.enqueue_burst(port, events) == Some(answer)),
-            Call::Dequeue { port, max, answer } => Ok(self.is_dequeued(port, max, answer)),
-            Call::Look { port, answer } => Ok(self.shut_seen(port) == Some(answer)),
-            Call::Sweep { answer } => Ok(self.recorder.sweep()? == answer),
+            Call::Enqueue(port, sent, answer) => {
+                Ok(self.enqueue(port, sent.event()) == Some(answer))
+            }
+            Call::Dequeue(port, max, answer) => Ok(self.is_dequeued(port, max, answer)),
+            Call::Look(port, answer) => Ok(self.shut_seen(port) == Some(answer)),
+            Call::Sweep(taken, given) => Ok(self.is_swept(taken, given)?),
             Call::Shut => {
                 self.control.shut();
                 Ok(true)
@@ -107,14 +105,23 @@ impl Rig {
         }
     }
 
+    fn is_swept(&mut self, taken: usize, given: usize) -> Result<bool, Memory> {
+        let wanted = Swept {
+            taken,
+            given,
+            bounced: 0,
+        };
+        Ok(self.recorder.sweep()? == wanted)
+    }
+
     fn is_dequeued(
         &mut self,
         port: usize,
         max: usize,
-        answer: Result<&[Delivery], Behind>,
+        answer: Result<&[(u64, Sent)], Behind>,
     ) -> bool {
         match (self.dequeue(port, max), answer) {
-            (Some(Ok(came)), Ok(wanted)) => came.as_slice() == wanted,
+            (Some(Ok(came)), Ok(wanted)) => are_queue_zeros(came.as_slice(), wanted),
             (Some(Err(came)), Err(wanted)) => came == wanted,
             _ => false,
         }
@@ -236,45 +243,17 @@ impl Rig {
     }
 }
 
-/// The port enqueues the event, which is taken.
-pub fn taken<'a>(port: usize, event: Event) -> Call<'a> {
-    Call::Enqueue {
-        port,
-        event,
-        answer: Ok(()),
+/// Whether the deliveries are these of queue 0.
+fn are_queue_zeros(deliveries: &[Delivery], wanted: &[(u64, Sent)]) -> bool {
+    for (delivery, (number, sent)) in deliveries.iter().zip(wanted.iter()) {
+        let wanted = Delivery {
+            event: sent.event(),
+            queue: 0,
+            number: *number,
+        };
+        if *delivery != wanted {
+            return false;
+        }
     }
-}
-
-/// The port enqueues the event, which is refused.
-pub fn refused<'a>(port: usize, event: Event, cause: Refused) -> Call<'a> {
-    Call::Enqueue {
-        port,
-        event,
-        answer: Err(cause),
-    }
-}
-
-/// The port releases the oldest event that it holds.
-pub fn release<'a>(port: usize) -> Call<'a> {
-    taken(port, Event::release())
-}
-
-/// The port dequeues these.
-pub fn dequeued(port: usize, max: usize, deliveries: &[Delivery]) -> Call<'_> {
-    Call::Dequeue {
-        port,
-        max,
-        answer: Ok(deliveries),
-    }
-}
-
-/// One sweep, in which no ring is full.
-pub fn swept<'a>(taken: usize, given: usize) -> Call<'a> {
-    Call::Sweep {
-        answer: Swept {
-            taken,
-            given,
-            bounced: 0,
-        },
-    }
+    deliveries.len() == wanted.len()
 }

@@ -18,7 +18,7 @@ const PATIENCE: u32 = 20_000_000;
 const BATCH: usize = 4;
 
 /// When the device is shut.
-#[derive(Clone, Copy, Debug, PartialEq, Eq)]
+#[derive(Clone, Copy)]
 pub enum End {
     /// Once so many events were accepted, while the ports work on; one more sweep sees it.
     Seen(u64),
@@ -39,7 +39,7 @@ impl End {
 }
 
 /// What the threads do.
-#[derive(Clone, Copy, Debug, PartialEq, Eq)]
+#[derive(Clone, Copy)]
 pub struct Task {
     /// How many events the producer brings in.
     pub events: u32,

@@ -9,7 +9,7 @@ const SEED: u64 = 1;
 const SECONDS: u64 = 30;
 
 /// What a soak is asked for.
-#[derive(Clone, Copy, Debug)]
+#[derive(Clone, Copy)]
 pub struct Asked {
     /// What the devices are drawn from.
     pub seed: u64,

@@ -5,7 +5,7 @@ use std::alloc::{AllocError, AllocFailed};
 use thiserror::Error;
 
 /// What is wrong in a round.
-#[derive(Clone, Copy, Debug, PartialEq, Eq, Error)]
+#[derive(Clone, Copy, Debug, Error)]
 pub enum Cause {
     /// The device isn't made, run or stopped.
     #[error("{0}")]
@@ -40,7 +40,7 @@ impl From<AccountFault> for Cause {
 }
 
 /// Why a soak stops before its end.
-#[derive(Clone, Copy, Debug, PartialEq, Eq, Error)]
+#[derive(Clone, Copy, Debug, Error)]
 pub enum SoakFault {
     /// The words of the command line are no seed and seconds.
     #[error("the words are a seed and how many seconds, both numbers")]

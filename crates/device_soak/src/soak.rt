@@ -10,7 +10,7 @@ use std::thread::Threads;
 use std::time::{Clock, Duration, Instant};
 
 /// How many devices were run, and how many events they accepted as new.
-#[derive(Clone, Copy, Debug)]
+#[derive(Clone, Copy)]
 pub struct Tally {
     pub runs: u64,
     pub events: u64,

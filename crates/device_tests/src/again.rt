@@ -2,18 +2,169 @@
 //!
 //! Each test tries a second time whatever it asks memory for, so that it passes whichever one of its allocations is refused.
 
-use crate::left::{Left, no_events};
-use crate::steps::{delivery, entered, event, forwarded, given, new_event, passed_on};
-use device_rigs::{
-    Call, Plan, PortPlan, Rig, RigFault, SOURCE, WORKER, dequeued, queue, swept, taken,
-};
+use crate::left::{Left, NOTHING};
+use crate::steps::{FIFTH, FIRST, FOURTH, Logged, ORDERED, OTHER, PARALLEL, THIRD, is_log};
+use device_rigs::{Call, Plan, PortPlan, Rig, RigFault, SOURCE, Sent, WORKER};
 use event_device::{
     Control, DeviceFault, Held, Memory, Port, Report, Scheduler, StopFault, Swept, Undelivered,
-    Untaken, device,
+    device,
 };
-use evt_types::{Event, KeptEvent, Kind, Op, QueueDraft, Serving, Shape, ShapeFault, Step};
+use evt_types::{Event, Op, Serving, Shape, ShapeFault, Step};
 use std::alloc::Global;
 use std::test::Fail;
+
+/// A device, the calls that are made on it, and what its report says.
+#[derive(Clone, Copy)]
+struct Row {
+    plan: Plan<'static>,
+    calls: &'static [Call<'static>],
+    log: &'static [Logged],
+    left: Left,
+}
+
+/// A port for both queues.
+const BOTH: PortPlan = PortPlan {
+    links: &[0, 1],
+    ..WORKER
+};
+
+/// An ordered queue before a parallel one: a port that brings events in, one for the first queue, and one for both.
+const TWO_QUEUES: Plan = Plan {
+    limit: 4,
+    quantum: 2,
+    sweep: 8,
+    serving: Serving::Ports,
+    queues: &[ORDERED, PARALLEL],
+    ports: &[SOURCE, WORKER, BOTH],
+};
+
+/// What flow 7's event is forwarded as to queue 1, and what flow 8's is.
+const EARLY: Sent = Sent {
+    op: Op::Forward,
+    queue: 1,
+    flow: 7,
+    payload: 10,
+};
+
+const LATE: Sent = Sent {
+    op: Op::Forward,
+    queue: 1,
+    flow: 8,
+    payload: 20,
+};
+
+/// Of two events the second is forwarded first.
+static SECOND_FORWARDED_FIRST: Row = Row {
+    plan: TWO_QUEUES,
+    calls: &[
+        Call::Enqueue(0, FIRST, Ok(())),
+        Call::Enqueue(0, OTHER, Ok(())),
+        Call::Sweep(2, 2),
+        Call::Dequeue(1, 1, Ok(&[(0, FIRST)])),
+        Call::Dequeue(2, 1, Ok(&[(1, OTHER)])),
+        Call::Enqueue(2, LATE, Ok(())),
+        Call::Sweep(1, 0),
+        Call::Enqueue(1, EARLY, Ok(())),
+        Call::Sweep(1, 2),
+    ],
+    log: &[
+        Logged::Entered(FIRST),
+        Logged::Entered(OTHER),
+        Logged::Given(1, 0, 0),
+        Logged::Given(2, 0, 1),
+        Logged::Forwarded(2, LATE),
+        Logged::Forwarded(1, EARLY),
+        Logged::PassedOn(0, 0, EARLY),
+        Logged::PassedOn(0, 1, LATE),
+        Logged::Given(2, 1, 0),
+        Logged::Given(2, 1, 1),
+    ],
+    left: Left {
+        undelivered: &[
+            Undelivered {
+                lane: 2,
+                queue: 1,
+                number: 0,
+            },
+            Undelivered {
+                lane: 2,
+                queue: 1,
+                number: 1,
+            },
+        ],
+        free: 2,
+        pockets: &[0, 0, 0],
+        ..NOTHING
+    },
+};
+
+/// Ports that may use all eight credits, of which the workers hold one event each.
+const WIDE_SOURCE: PortPlan = PortPlan {
+    threshold: 8,
+    ..SOURCE
+};
+
+const SINGLE: PortPlan = PortPlan {
+    threshold: 8,
+    depth: 1,
+    ..WORKER
+};
+
+const SINGLE_BOTH: PortPlan = PortPlan {
+    links: &[0, 1],
+    ..SINGLE
+};
+
+/// An event is in each place that a report lists.
+static EVENT_IN_EACH_PLACE: Row = Row {
+    plan: Plan {
+        limit: 8,
+        quantum: 1,
+        ports: &[WIDE_SOURCE, SINGLE, SINGLE_BOTH],
+        ..TWO_QUEUES
+    },
+    calls: &[
+        Call::Enqueue(0, FIRST, Ok(())),
+        Call::Enqueue(0, OTHER, Ok(())),
+        Call::Enqueue(0, THIRD, Ok(())),
+        Call::Sweep(3, 2),
+        Call::Dequeue(1, 1, Ok(&[(0, FIRST)])),
+        Call::Dequeue(2, 1, Ok(&[(1, OTHER)])),
+        Call::Enqueue(2, LATE, Ok(())),
+        Call::Sweep(1, 1),
+        Call::Enqueue(0, FOURTH, Ok(())),
+        Call::Sweep(1, 0),
+        Call::Enqueue(0, FIFTH, Ok(())),
+    ],
+    log: &[
+        Logged::Entered(FIRST),
+        Logged::Entered(OTHER),
+        Logged::Entered(THIRD),
+        Logged::Given(1, 0, 0),
+        Logged::Given(2, 0, 1),
+        Logged::Forwarded(2, LATE),
+        Logged::Given(2, 0, 2),
+        Logged::Entered(FOURTH),
+    ],
+    left: Left {
+        waiting: &[(0, 3)],
+        kept: &[(0, 1, LATE)],
+        undelivered: &[Undelivered {
+            lane: 2,
+            queue: 0,
+            number: 2,
+        }],
+        held: &[Held {
+            port: 1,
+            queue: 0,
+            number: 0,
+        }],
+        untaken: &[(0, FIFTH)],
+        free: 3,
+        pockets: &[0, 0, 0],
+        ..NOTHING
+    },
+};
 
 fn shape_again(alloc: Global, plan: &Plan) -> Result<Shape, RigFault> {
     match plan.shape(alloc) {
@@ -42,6 +193,13 @@ fn play_again(rig: &mut Rig, calls: &[Call]) -> Result<(), RigFault> {
     Ok(())
 }
 
+/// A device of the plan after these calls.
+fn played_again(alloc: Global, plan: &Plan, calls: &[Call]) -> Result<Rig, RigFault> {
+    let mut rig = rig_again(alloc, plan)?;
+    play_again(&mut rig, calls)?;
+    Ok(rig)
+}
+
 fn stop_again(alloc: Global, rig: Rig) -> Result<Report, RigFault> {
     match rig.try_stop(alloc) {
         Ok(report) => Ok(report),
@@ -50,209 +208,46 @@ fn stop_again(alloc: Global, rig: Rig) -> Result<Report, RigFault> {
     }
 }
 
-/// An ordered queue before a parallel one: a port that brings events in, one for the first queue, and one for both.
-fn two_queues<'a>(
-    serving: Serving,
-    queues: &'a [QueueDraft; 2],
-    ports: &'a [PortPlan<'a>; 3],
-) -> Plan<'a> {
-    Plan {
-        limit: 4,
-        quantum: 2,
-        sweep: 8,
+/// What the report says otherwise after the row's calls.
+fn other_in(alloc: Global, row: &Row, serving: Serving) -> Result<Option<&'static str>, RigFault> {
+    let plan = Plan {
         serving,
-        queues,
-        ports,
-    }
-}
-
-const BOTH: PortPlan = PortPlan {
-    links: &[0, 1],
-    ..WORKER
-};
-
-/// What flow 8's event is forwarded as to queue 1, and what flow 7's is.
-fn late() -> Event {
-    event(Op::Forward, 1, 8, 20)
-}
-
-fn early() -> Event {
-    event(Op::Forward, 1, 7, 10)
-}
-
-/// The calls of two events whose second is forwarded first.
-fn forward_second_first(alloc: Global, plan: &Plan) -> Result<Rig, RigFault> {
-    let mut rig = rig_again(alloc, plan)?;
-    let (first, second) = (new_event(7, 1), new_event(8, 2));
-    play_again(
-        &mut rig,
-        &[
-            taken(0, first),
-            taken(0, second),
-            swept(2, 2),
-            dequeued(1, 1, &[delivery(0, first)]),
-            dequeued(2, 1, &[delivery(1, second)]),
-            taken(2, late()),
-            swept(1, 0),
-            taken(1, early()),
-            swept(1, 2),
-        ],
-    )?;
-    Ok(rig)
-}
-
-fn second_forwarded_first(alloc: Global, serving: Serving) -> Result<(), Fail> {
-    let queues = [queue(Kind::Ordered, 8), queue(Kind::Parallel, 0)];
-    let ports = [SOURCE, WORKER, BOTH];
-    let rig = forward_second_first(alloc, &two_queues(serving, &queues, &ports))?;
-    let report = stop_again(alloc, rig)?;
-    let log = [
-        entered(new_event(7, 1)),
-        entered(new_event(8, 2)),
-        given(1, 0, 0),
-        given(2, 0, 1),
-        forwarded(2, late()),
-        forwarded(1, early()),
-        passed_on(0, 0, early()),
-        passed_on(0, 1, late()),
-        given(2, 1, 0),
-        given(2, 1, 1),
-    ];
-    has_log(&report, &log)?;
-    let undelivered = [0, 1].map(|number| Undelivered {
-        lane: 2,
-        queue: 1,
-        number,
-    });
-    let left = Left {
-        undelivered: &undelivered,
-        ..no_events(2, &[0, 0, 0])
+        ..row.plan
     };
-    left.is_in(&report)
-}
-
-/// The report's log must be this.
-fn has_log(report: &Report, log: &[Step]) -> Result<(), Fail> {
-    if report.log.as_slice() == log {
-        Ok(())
+    let report = stop_again(alloc, played_again(alloc, &plan, row.calls)?)?;
+    if is_log(&report.log, row.log) {
+        Ok(row.left.other_in(&report))
     } else {
-        Err(Fail::from("another log"))
+        Ok(Some("log"))
     }
 }
 
 #[test]
 fn second_forwarded_first_by_ports(rt: HostRuntime) -> Result<(), Fail> {
-    second_forwarded_first(rt.alloc(), Serving::Ports)
+    let other = other_in(rt.alloc(), &SECOND_FORWARDED_FIRST, Serving::Ports)?;
+    assert_eq!(rt; other, None);
+    Ok(())
 }
 
 #[test]
 fn second_forwarded_first_by_flows(rt: HostRuntime) -> Result<(), Fail> {
-    second_forwarded_first(rt.alloc(), Serving::Flows)
-}
-
-/// The calls after which an event is in each place that a report lists.
-fn fill_each_place(alloc: Global, plan: &Plan) -> Result<Rig, RigFault> {
-    let mut rig = rig_again(alloc, plan)?;
-    let (first, second) = (new_event(7, 1), new_event(8, 2));
-    play_again(
-        &mut rig,
-        &[
-            taken(0, first),
-            taken(0, second),
-            taken(0, new_event(7, 3)),
-            swept(3, 2),
-            dequeued(1, 1, &[delivery(0, first)]),
-            dequeued(2, 1, &[delivery(1, second)]),
-            taken(2, late()),
-            swept(1, 1),
-            taken(0, new_event(7, 4)),
-            swept(1, 0),
-            taken(0, new_event(7, 5)),
-        ],
-    )?;
-    Ok(rig)
-}
-
-/// The log of these calls.
-fn each_place_log() -> [Step; 8] {
-    [
-        entered(new_event(7, 1)),
-        entered(new_event(8, 2)),
-        entered(new_event(7, 3)),
-        given(1, 0, 0),
-        given(2, 0, 1),
-        forwarded(2, late()),
-        given(2, 0, 2),
-        entered(new_event(7, 4)),
-    ]
-}
-
-/// What their report says beside it.
-fn is_in_each_place(report: &Report) -> Result<(), Fail> {
-    let kept = KeptEvent {
-        queue: 0,
-        number: 1,
-        event: late(),
-    };
-    let undelivered = Undelivered {
-        lane: 2,
-        queue: 0,
-        number: 2,
-    };
-    let held = Held {
-        port: 1,
-        queue: 0,
-        number: 0,
-    };
-    let untaken = Untaken {
-        lane: 0,
-        event: new_event(7, 5),
-    };
-    let left = Left {
-        waiting: &[(0, 3)],
-        kept: &[kept],
-        undelivered: &[undelivered],
-        held: &[held],
-        untaken: &[untaken],
-        ..no_events(3, &[0, 0, 0])
-    };
-    left.is_in(report)
-}
-
-fn event_in_each_place(alloc: Global, serving: Serving) -> Result<(), Fail> {
-    let queues = [queue(Kind::Ordered, 8), queue(Kind::Parallel, 0)];
-    let single = PortPlan {
-        threshold: 8,
-        depth: 1,
-        ..WORKER
-    };
-    let source = PortPlan {
-        threshold: 8,
-        ..SOURCE
-    };
-    let both = PortPlan {
-        links: &[0, 1],
-        ..single
-    };
-    let ports = [source, single, both];
-    let plan = Plan {
-        limit: 8,
-        quantum: 1,
-        ..two_queues(serving, &queues, &ports)
-    };
-    let report = stop_again(alloc, fill_each_place(alloc, &plan)?)?;
-    has_log(&report, &each_place_log())?;
-    is_in_each_place(&report)
+    let other = other_in(rt.alloc(), &SECOND_FORWARDED_FIRST, Serving::Flows)?;
+    assert_eq!(rt; other, None);
+    Ok(())
 }
 
 #[test]
 fn event_in_each_place_by_ports(rt: HostRuntime) -> Result<(), Fail> {
-    event_in_each_place(rt.alloc(), Serving::Ports)
+    let other = other_in(rt.alloc(), &EVENT_IN_EACH_PLACE, Serving::Ports)?;
+    assert_eq!(rt; other, None);
+    Ok(())
 }
 
 #[test]
 fn event_in_each_place_by_flows(rt: HostRuntime) -> Result<(), Fail> {
-    event_in_each_place(rt.alloc(), Serving::Flows)
+    let other = other_in(rt.alloc(), &EVENT_IN_EACH_PLACE, Serving::Flows)?;
+    assert_eq!(rt; other, None);
+    Ok(())
 }
 
 fn device_again(alloc: Global, plan: &Plan) -> Result<(Scheduler, Vec<Port>, Control), RigFault> {
@@ -272,22 +267,22 @@ fn sweep_again(scheduler: &mut Scheduler, log: &mut Vec<Step>) -> Result<Swept, 
     }
 }
 
+/// What port 0 is told of an event that it enqueues.
+fn brings_in(ports: &mut [Port], event: Event) -> bool {
+    match ports.first_mut() {
+        Some(source) => source.enqueue(event) == Ok(()),
+        None => false,
+    }
+}
+
 /// A scheduler that writes to a log of the caller's.
 #[test]
 fn a_scheduler_sweeps_again(rt: HostRuntime) -> Result<(), Fail> {
-    let alloc = rt.alloc();
-    let queues = [queue(Kind::Ordered, 8), queue(Kind::Parallel, 0)];
-    let ports = [SOURCE, WORKER, BOTH];
-    let plan = two_queues(Serving::Ports, &queues, &ports);
-    let (mut scheduler, mut ports, _control) = device_again(alloc, &plan)?;
-    let Some(source) = ports.get_mut(0) else {
-        panic!(rt; "there are three ports")
-    };
-    assert_eq!(rt; source.enqueue(new_event(7, 1)), Ok(()));
-    let mut log = Vec::new(alloc);
+    let (mut scheduler, mut ports, _control) = device_again(rt.alloc(), &TWO_QUEUES)?;
+    assert!(rt; brings_in(&mut ports, FIRST.event()));
+    let mut log = Vec::new(rt.alloc());
     let swept = sweep_again(&mut scheduler, &mut log)?;
     assert_eq!(rt; (swept.taken, swept.given), (1, 1));
-    let wanted = [entered(new_event(7, 1)), given(1, 0, 0)];
-    assert_eq!(rt; log.as_slice(), wanted.as_slice());
+    assert!(rt; is_log(&log, &[Logged::Entered(FIRST), Logged::Given(1, 0, 0)]));
     Ok(())
 }

@@ -1,12 +1,22 @@
 //! The calls that no recorder makes: sweeps with a log of the caller's own, and bursts.
 
-use crate::steps::{delivery, entered, given, new_event, released};
+use crate::plans::ONE_QUEUE;
+use crate::steps::{FIRST, Logged, SECOND, is_log};
 use arrayvec::ArrayVec;
-use device_rigs::{SOURCE, WORKER, one_queue, queue};
-use event_device::{Port, Scheduler, Swept, device};
-use evt_types::{Event, Kind, Serving, Step};
+use device_rigs::{RigFault, Sent};
+use event_device::{Memory, Port, Scheduler, Swept, device};
+use evt_types::{Delivery, Event, Step};
 use std::alloc::Global;
 use std::test::Fail;
+
+/// The event as queue 0 hands it out.
+fn delivery(number: u64, sent: Sent) -> Delivery {
+    Delivery {
+        event: sent.event(),
+        queue: 0,
+        number,
+    }
+}
 
 /// A scheduler that hands the events of one atomic queue to one port.
 #[derive(Drop)]
@@ -17,91 +27,119 @@ struct Parts {
     log: Vec<Step>,
 }
 
+/// What a sweep takes and gives, what it logs, and how many events are then inside and were accepted as new.
+#[derive(Clone, Copy)]
+struct Sweep<'a> {
+    taken: usize,
+    given: usize,
+    steps: &'a [Logged],
+    counts: (usize, u64),
+}
+
+/// Two events are taken and given.
+static GIVES: Sweep = Sweep {
+    taken: 2,
+    given: 2,
+    steps: &[
+        Logged::Entered(FIRST),
+        Logged::Entered(SECOND),
+        Logged::Given(1, 0, 0),
+        Logged::Given(1, 0, 1),
+    ],
+    counts: (2, 2),
+};
+
+/// Nothing is left to be done.
+static RESTS: Sweep = Sweep {
+    taken: 0,
+    given: 0,
+    steps: &[],
+    counts: (2, 2),
+};
+
+/// Two releases are taken.
+static TAKES: Sweep = Sweep {
+    taken: 2,
+    given: 0,
+    steps: &[Logged::Released(1), Logged::Released(1)],
+    counts: (0, 2),
+};
+
 impl Parts {
     /// The parts of a device that nobody shuts.
-    fn new(alloc: Global) -> Result<Parts, Fail> {
-        let queues = [queue(Kind::Atomic, 4)];
-        let ports = [SOURCE, WORKER];
-        let shape = one_queue(Serving::Ports, &queues, &ports).shape(alloc)?;
-        let (scheduler, mut ports, _control) = device(alloc, shape)?;
-        let (Some(worker), Some(source)) = (ports.pop(), ports.pop()) else {
-            return Err(Fail::from("there are two ports"));
-        };
-        Ok(Parts {
-            scheduler,
-            source,
-            worker,
-            log: Vec::new(alloc),
-        })
+    fn new(alloc: Global) -> Result<Parts, RigFault> {
+        let (scheduler, mut ports, _control) = device(alloc, ONE_QUEUE.shape(alloc)?)?;
+        match (ports.pop(), ports.pop()) {
+            (Some(worker), Some(source)) => Ok(Parts {
+                scheduler,
+                source,
+                worker,
+                log: Vec::new(alloc),
+            }),
+            _ => Err(RigFault::Unexpected { place: 0 }),
+        }
     }
 
-    /// One sweep, before which the log is cleared; whether it took and gave so many, and logged this.
-    fn sweeps(&mut self, taken: usize, given: usize, steps: &[Step]) -> Result<bool, Fail> {
+    /// One sweep, before which the log is cleared; whether it was this one.
+    fn sweeps(&mut self, sweep: Sweep) -> Result<bool, Memory> {
         self.log.clear();
         let swept = self.scheduler.sweep(&mut self.log)?;
         let wanted = Swept {
-            taken,
-            given,
+            taken: sweep.taken,
+            given: sweep.given,
             bounced: 0,
         };
-        Ok(swept == wanted && self.log.as_slice() == steps)
+        Ok(swept == wanted && is_log(&self.log, sweep.steps) && self.has(sweep.counts))
     }
 
-    /// How many events are inside, and how many were accepted as new.
-    fn counts(&self) -> (usize, u64) {
-        (self.scheduler.inside(), self.scheduler.accepted_new())
+    /// Whether so many events are inside, and were accepted as new.
+    fn has(&self, counts: (usize, u64)) -> bool {
+        (self.scheduler.inside(), self.scheduler.accepted_new()) == counts
     }
-}
 
-/// Two events were handed out.
-fn two_given(alloc: Global) -> Result<(Parts, bool), Fail> {
-    let mut parts = Parts::new(alloc)?;
-    let (first, second) = (new_event(7, 1), new_event(7, 2));
-    let burst = parts.source.enqueue_burst(&[first, second]);
-    let steps = [
-        entered(first),
-        entered(second),
-        given(1, 0, 0),
-        given(1, 0, 1),
-    ];
-    let is_good = burst == (2, None) && parts.sweeps(2, 2, &steps)?;
-    Ok((parts, is_good))
+    /// Whether two events are taken in a burst.
+    fn brings_in(&mut self) -> bool {
+        self.source.enqueue_burst(&[FIRST.event(), SECOND.event()]) == (2, None)
+    }
+
+    /// Whether the worker dequeues the two events, and holds them then.
+    fn hands_out(&mut self) -> bool {
+        let mut came: ArrayVec<Delivery, 64> = ArrayVec::new();
+        let count = self.worker.dequeue_burst(4, &mut came).ok();
+        let wanted = [delivery(0, FIRST), delivery(1, SECOND)];
+        count == Some(2) && came.as_slice() == wanted.as_slice() && self.worker.held() == 2
+    }
+
+    /// Whether two releases are taken in a burst.
+    fn releases(&mut self) -> bool {
+        self.worker
+            .enqueue_burst(&[Event::release(), Event::release()])
+            == (2, None)
+    }
+
+    /// The numbers of both ports, and how many events each holds.
+    fn ports(&self) -> [(usize, usize); 2] {
+        [
+            (self.source.number(), self.source.held()),
+            (self.worker.number(), self.worker.held()),
+        ]
+    }
 }
 
 #[test]
 fn a_log_may_be_cleared(rt: HostRuntime) -> Result<(), Fail> {
-    let (mut parts, is_good) = two_given(rt.alloc())?;
-    assert!(rt; is_good);
-    assert_eq!(rt; parts.counts(), (2, 2));
-    assert!(rt; parts.sweeps(0, 0, &[])?);
-    assert_eq!(rt; parts.counts(), (2, 2));
+    let mut parts = Parts::new(rt.alloc())?;
+    assert_eq!(rt; parts.ports(), [(0, 0), (1, 0)]);
+    assert!(rt; parts.brings_in());
+    assert!(rt; parts.sweeps(GIVES)? && parts.sweeps(RESTS)?);
     Ok(())
 }
 
 #[test]
 fn a_burst_may_release(rt: HostRuntime) -> Result<(), Fail> {
-    let (mut parts, is_good) = two_given(rt.alloc())?;
-    assert!(rt; is_good);
-    let wanted = [delivery(0, new_event(7, 1)), delivery(1, new_event(7, 2))];
-    let mut came = ArrayVec::new();
-    let Ok(count) = parts.worker.dequeue_burst(4, &mut came) else {
-        panic!(rt; "nothing has to be released")
-    };
-    assert_eq!(rt; count, 2);
-    assert_eq!(rt; came.as_slice(), wanted.as_slice());
-    assert_eq!(rt; parts.worker.held(), 2);
-    let releases = [Event::release(), Event::release()];
-    assert_eq!(rt; parts.worker.enqueue_burst(&releases), (2, None));
-    assert!(rt; parts.sweeps(2, 0, &[released(1), released(1)])?);
-    assert_eq!(rt; parts.counts(), (0, 2));
-    Ok(())
-}
-
-#[test]
-fn ports_have_numbers(rt: HostRuntime) -> Result<(), Fail> {
-    let parts = Parts::new(rt.alloc())?;
-    let Parts { source, worker, .. } = &parts;
-    assert_eq!(rt; (source.number(), worker.number()), (0, 1));
-    assert_eq!(rt; (source.held(), worker.held()), (0, 0));
+    let mut parts = Parts::new(rt.alloc())?;
+    assert!(rt; parts.brings_in() && parts.sweeps(GIVES)?);
+    assert!(rt; parts.hands_out() && parts.releases());
+    assert!(rt; parts.sweeps(TAKES)?);
     Ok(())
 }

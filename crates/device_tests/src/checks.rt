@@ -1,108 +1,159 @@
 //! The checker finds what is wrong in a log, and nothing in a good one.
 
-use crate::steps::{entered, event, forwarded, given, new_event, passed_on, released};
-use device_rigs::{Checker, Fault, queue};
-use evt_types::{Event, Kind, Op, Step};
-use std::alloc::Global;
+use crate::steps::{ATOMIC, FIRST, Logged, ORDERED, PARALLEL, SECOND, log_of};
+use device_rigs::{Checker, Fault, Sent};
+use evt_types::{Op, QueueDraft};
+use std::alloc::{AllocError, Global};
 use std::test::Fail;
 
-/// What the checker says of a log with an atomic queue, an ordered and a parallel one, and three lanes.
-fn said_of(alloc: Global, log: &[Step]) -> Result<Result<(), Fault>, Fail> {
-    let queues = [
-        queue(Kind::Atomic, 4),
-        queue(Kind::Ordered, 4),
-        queue(Kind::Parallel, 0),
-    ];
-    let mut checker = Checker::new(alloc, &queues, 3)?;
-    Ok(checker.read(log))
+/// An atomic queue, an ordered and a parallel one.
+static QUEUES: [QueueDraft; 3] = [ATOMIC, ORDERED, PARALLEL];
+
+/// What the checker says of a log with these queues and three lanes.
+fn said_of(alloc: Global, log: &[Logged]) -> Result<Result<(), Fault>, AllocError> {
+    let mut checker = Checker::new(alloc, &QUEUES, 3)?;
+    let log = log_of(alloc, log)?;
+    Ok(checker.read(&log))
 }
 
-/// What is forwarded to the queue.
-fn forward(queue: u8, payload: u64) -> Event {
-    event(Op::Forward, queue, 7, payload)
+/// What the first event is forwarded as, from the atomic queue to the ordered one.
+const FORWARD: Sent = Sent {
+    op: Op::Forward,
+    queue: 1,
+    flow: 7,
+    payload: 1,
+};
+
+/// Two events of the ordered queue, what the second is forwarded as, and another event.
+const ORDERED_FIRST: Sent = Sent { queue: 1, ..FIRST };
+
+const ORDERED_SECOND: Sent = Sent { queue: 1, ..SECOND };
+
+const LATE: Sent = Sent {
+    op: Op::Forward,
+    queue: 2,
+    ..SECOND
+};
+
+const UNLIKE: Sent = Sent { payload: 3, ..LATE };
+
+/// A log, and what is wrong in it.
+#[derive(Clone, Copy)]
+struct Row {
+    log: &'static [Logged],
+    said: Result<(), Fault>,
 }
+
+static ROWS: [Row; 12] = [
+    Row {
+        log: &[
+            Logged::Entered(FIRST),
+            Logged::Entered(SECOND),
+            Logged::Given(1, 0, 0),
+            Logged::Forwarded(1, FORWARD),
+            Logged::PassedOn(0, 0, FORWARD),
+            Logged::Given(2, 0, 1),
+            Logged::Given(1, 1, 0),
+            Logged::Shut,
+            Logged::Released(1),
+            Logged::Released(2),
+        ],
+        said: Ok(()),
+    },
+    Row {
+        log: &[
+            Logged::Entered(FIRST),
+            Logged::Entered(SECOND),
+            Logged::Given(1, 0, 2),
+        ],
+        said: Err(Fault::Unknown),
+    },
+    Row {
+        log: &[
+            Logged::Entered(FIRST),
+            Logged::Given(1, 0, 0),
+            Logged::Given(1, 0, 0),
+        ],
+        said: Err(Fault::GivenTwice),
+    },
+    Row {
+        log: &[
+            Logged::Entered(FIRST),
+            Logged::Given(1, 0, 0),
+            Logged::Released(2),
+        ],
+        said: Err(Fault::NothingUnanswered),
+    },
+    Row {
+        log: &[
+            Logged::Entered(FIRST),
+            Logged::Entered(SECOND),
+            Logged::Given(1, 0, 1),
+            Logged::Given(1, 0, 0),
+        ],
+        said: Err(Fault::GivenLate),
+    },
+    Row {
+        log: &[
+            Logged::Entered(FIRST),
+            Logged::Entered(SECOND),
+            Logged::Given(1, 0, 0),
+            Logged::Given(2, 0, 1),
+        ],
+        said: Err(Fault::TwoLanes),
+    },
+    // The second event of the ordered queue is forwarded, and its first isn't answered.
+    Row {
+        log: &[
+            Logged::Entered(ORDERED_FIRST),
+            Logged::Entered(ORDERED_SECOND),
+            Logged::Given(1, 1, 0),
+            Logged::Given(2, 1, 1),
+            Logged::Forwarded(2, LATE),
+            Logged::PassedOn(1, 1, UNLIKE),
+        ],
+        said: Err(Fault::NotForwarded),
+    },
+    Row {
+        log: &[
+            Logged::Entered(ORDERED_FIRST),
+            Logged::Entered(ORDERED_SECOND),
+            Logged::Given(1, 1, 0),
+            Logged::Given(2, 1, 1),
+            Logged::Forwarded(2, LATE),
+            Logged::PassedOn(1, 0, LATE),
+        ],
+        said: Err(Fault::NotForwarded),
+    },
+    Row {
+        log: &[
+            Logged::Entered(ORDERED_FIRST),
+            Logged::Entered(ORDERED_SECOND),
+            Logged::Given(1, 1, 0),
+            Logged::Given(2, 1, 1),
+            Logged::Forwarded(2, LATE),
+            Logged::PassedOn(1, 1, LATE),
+        ],
+        said: Err(Fault::ForwardedLate),
+    },
+    Row {
+        log: &[Logged::Shut, Logged::Entered(FIRST)],
+        said: Err(Fault::NewAfterShut),
+    },
+    Row {
+        log: &[Logged::Turned(FIRST), Logged::Shut],
+        said: Err(Fault::TurnedEarly),
+    },
+    Row {
+        log: &[Logged::Shut, Logged::Shut],
+        said: Err(Fault::ShutTwice),
+    },
+];
 
 #[test]
-fn a_good_log(rt: HostRuntime) -> Result<(), Fail> {
-    let log = [
-        entered(new_event(7, 1)),
-        entered(new_event(7, 2)),
-        given(1, 0, 0),
-        forwarded(1, forward(1, 1)),
-        passed_on(0, 0, forward(1, 1)),
-        given(2, 0, 1),
-        given(1, 1, 0),
-        Step::Shut,
-        released(1),
-        released(2),
-    ];
-    assert_eq!(rt; said_of(rt.alloc(), &log)?, Ok(()));
-    Ok(())
-}
-
-#[test]
-fn gives_out_of_turn(rt: HostRuntime) -> Result<(), Fail> {
-    let (first, second) = (entered(new_event(7, 1)), entered(new_event(7, 2)));
-    let logs = [
-        ([first, second, given(1, 0, 2)], Fault::Unknown),
-        ([first, given(1, 0, 0), given(1, 0, 0)], Fault::GivenTwice),
-        (
-            [first, given(1, 0, 0), released(2)],
-            Fault::NothingUnanswered,
-        ),
-    ];
-    for (log, fault) in logs {
-        assert_eq!(rt; said_of(rt.alloc(), &log)?, Err(fault));
-    }
-    let logs = [
-        (
-            [first, second, given(1, 0, 1), given(1, 0, 0)],
-            Fault::GivenLate,
-        ),
-        (
-            [first, second, given(1, 0, 0), given(2, 0, 1)],
-            Fault::TwoLanes,
-        ),
-    ];
-    for (log, fault) in logs {
-        assert_eq!(rt; said_of(rt.alloc(), &log)?, Err(fault));
-    }
-    Ok(())
-}
-
-#[test]
-fn accepts_out_of_turn(rt: HostRuntime) -> Result<(), Fail> {
-    let start = [
-        entered(event(Op::New, 1, 7, 1)),
-        entered(event(Op::New, 1, 7, 2)),
-        given(1, 1, 0),
-        given(2, 1, 1),
-    ];
-    let ends = [
-        (forward(2, 3), 1, Fault::NotForwarded),
-        (forward(2, 2), 0, Fault::NotForwarded),
-        (forward(2, 2), 1, Fault::ForwardedLate),
-    ];
-    let [a, b, c, d] = start;
-    for (accepted, number, fault) in ends {
-        let done = forwarded(2, forward(2, 2));
-        let log = [a, b, c, d, done, passed_on(1, number, accepted)];
-        assert_eq!(rt; said_of(rt.alloc(), &log)?, Err(fault));
-    }
-    Ok(())
-}
-
-#[test]
-fn shut_out_of_turn(rt: HostRuntime) -> Result<(), Fail> {
-    let event = new_event(7, 1);
-    let turned = Step::Turned { lane: 0, event };
-    let logs = [
-        ([Step::Shut, entered(event)], Fault::NewAfterShut),
-        ([turned, Step::Shut], Fault::TurnedEarly),
-        ([Step::Shut, Step::Shut], Fault::ShutTwice),
-    ];
-    for (log, fault) in logs {
-        assert_eq!(rt; said_of(rt.alloc(), &log)?, Err(fault));
+fn faults_are_found(rt: HostRuntime) -> Result<(), Fail> {
+    for (place, row) in ROWS.iter().enumerate() {
+        assert_eq!(rt; said_of(rt.alloc(), row.log)?, row.said, "log {place}");
     }
     Ok(())
 }

@@ -1,8 +1,8 @@
 //! Every call of a port, and what each answers.
 
-use crate::steps::{event, new_event};
+use crate::steps::{FIRST, RELEASE, SECOND};
 use arrayvec::ArrayVec;
-use device_rigs::Rig;
+use device_rigs::{Rig, Sent};
 use event_device::{Behind, Refused, Swept};
 use evt_types::{Delivery, Op};
 use std::alloc::{AllocError, Global};
@@ -30,12 +30,27 @@ fn look(rig: &mut Rig, port: usize, said: &mut Vec<Said>) -> Result<(), AllocErr
     Ok(())
 }
 
-/// The port enqueues an event of each operation, and then two at once.
+/// The event as each operation, and one of another flow.
+static EACH: [Sent; 3] = [
+    FIRST,
+    Sent {
+        op: Op::Forward,
+        ..FIRST
+    },
+    Sent {
+        op: Op::Release,
+        ..FIRST
+    },
+];
+
+const OTHER_FLOW: Sent = Sent { flow: 5, ..SECOND };
+
+/// The port enqueues an event of each operation, and then a release and a new event at once.
 fn enqueue(rig: &mut Rig, port: usize, said: &mut Vec<Said>) -> Result<(), AllocError> {
-    for op in [Op::New, Op::Forward, Op::Release] {
-        said.push(Said::Enqueued(rig.enqueue(port, event(op, 0, 7, 1))))?;
+    for sent in &EACH {
+        said.push(Said::Enqueued(rig.enqueue(port, sent.event())))?;
     }
-    let events = [event(Op::Release, 0, 0, 0), new_event(5, 2)];
+    let events = [RELEASE.event(), OTHER_FLOW.event()];
     said.push(Said::Burst(rig.enqueue_burst(port, &events)))?;
     Ok(())
 }

@@ -1,56 +1,77 @@
 //! What a report must say beside its log.
 
+use device_rigs::Sent;
 use event_device::{Held, Report, Undelivered, Untaken};
 use evt_types::KeptEvent;
-use std::test::Fail;
 
-/// All of a report but its log.
+/// All of a report but its log: of what is kept queue, number and event, of what is untaken lane and event.
 #[derive(Clone, Copy)]
-pub(crate) struct Left<'a> {
-    pub(crate) waiting: &'a [(usize, u64)],
-    pub(crate) kept: &'a [KeptEvent],
-    pub(crate) undelivered: &'a [Undelivered],
-    pub(crate) held: &'a [Held],
-    pub(crate) untaken: &'a [Untaken],
+pub(crate) struct Left {
+    pub(crate) waiting: &'static [(usize, u64)],
+    pub(crate) kept: &'static [(usize, u64, Sent)],
+    pub(crate) undelivered: &'static [Undelivered],
+    pub(crate) held: &'static [Held],
+    pub(crate) untaken: &'static [(usize, Sent)],
     pub(crate) free: u64,
-    pub(crate) pockets: &'a [u64],
+    pub(crate) pockets: &'static [u64],
     pub(crate) own: u64,
 }
 
-/// No event is left: so many credits are free, and these are in the ports' pockets.
-pub(crate) fn no_events(free: u64, pockets: &[u64]) -> Left<'_> {
-    Left {
-        waiting: &[],
-        kept: &[],
-        undelivered: &[],
-        held: &[],
-        untaken: &[],
-        free,
-        pockets,
-        own: 0,
+/// No event is left, and no credit.
+pub(crate) const NOTHING: Left = Left {
+    waiting: &[],
+    kept: &[],
+    undelivered: &[],
+    held: &[],
+    untaken: &[],
+    free: 0,
+    pockets: &[],
+    own: 0,
+};
+
+fn are_kept(kept: &[KeptEvent], wanted: &[(usize, u64, Sent)]) -> bool {
+    for (event, (queue, number, sent)) in kept.iter().zip(wanted.iter()) {
+        if event.queue != *queue || event.number != *number || event.event != sent.event() {
+            return false;
+        }
     }
+    kept.len() == wanted.len()
 }
 
-impl Left<'_> {
-    /// The report must say just this.
-    pub(crate) fn is_in(&self, report: &Report) -> Result<(), Fail> {
-        let part = if report.waiting.as_slice() != self.waiting {
-            "waiting"
-        } else if report.kept.as_slice() != self.kept {
-            "kept"
+fn are_untaken(untaken: &[Untaken], wanted: &[(usize, Sent)]) -> bool {
+    for (event, (lane, sent)) in untaken.iter().zip(wanted.iter()) {
+        if event.lane != *lane || event.event != sent.event() {
+            return false;
+        }
+    }
+    untaken.len() == wanted.len()
+}
+
+impl Left {
+    /// The part of the report that is otherwise.
+    pub(crate) fn other_in(&self, report: &Report) -> Option<&'static str> {
+        if report.waiting.as_slice() != self.waiting {
+            Some("waiting")
+        } else if !are_kept(&report.kept, self.kept) {
+            Some("kept")
         } else if report.undelivered.as_slice() != self.undelivered {
-            "undelivered"
+            Some("undelivered")
         } else if report.held.as_slice() != self.held {
-            "held"
-        } else if report.untaken.as_slice() != self.untaken {
-            "untaken"
-        } else if report.free != self.free || report.own != self.own {
-            "credits"
-        } else if report.pockets.as_slice() != self.pockets {
-            "pockets"
+            Some("held")
+        } else if !are_untaken(&report.untaken, self.untaken) {
+            Some("untaken")
         } else {
-            return Ok(());
-        };
-        Err(Fail::from(part))
+            self.other_credits_in(report)
+        }
+    }
+
+    fn other_credits_in(&self, report: &Report) -> Option<&'static str> {
+        if report.free != self.free || report.own != self.own {
+            Some("credits")
+        } else if report.pockets.as_slice() != self.pockets {
+            Some("pockets")
+        } else {
+            None
+        }
     }
 }

@@ -11,11 +11,11 @@ mod checks;
 #[cfg(test)]
 mod every_call;
 #[cfg(test)]
-mod flow_rows;
-#[cfg(test)]
 mod flow_threads;
 #[cfg(test)]
 mod left;
+#[cfg(test)]
+mod plans;
 #[cfg(test)]
 mod refusals;
 #[cfg(test)]

@@ -4,26 +4,135 @@
 //! Where rings are full the queue is parallel, as a flow lane's reply ring has room for all that is given of it.
 
 use crate::every_call::{Said, every_call};
-use crate::left::Left;
-use crate::steps::{delivery, event, new_event};
-use device_rigs::{
-    Call, Plan, PortPlan, Rig, RigFault, SOURCE, WORKER, dequeued, one_queue, queue, refused,
-    release, swept, taken,
-};
+use crate::plans::{ONE_QUEUE, played};
+use crate::steps::{FIRST, PARALLEL, RELEASE, SECOND, THIRD};
+use device_rigs::{Call, Plan, PortPlan, Rig, RigFault, SOURCE, Sent, WORKER};
 use event_device::{Behind, Refused, Report};
-use evt_types::{Event, Kind, Op, Serving};
+use evt_types::{Op, Serving};
 use std::alloc::Global;
 use std::test::Fail;
 
-/// What comes between some calls and the rest.
+/// A device, the calls that are made on it, and those that are then refused.
 #[derive(Clone, Copy)]
-enum Between<'a> {
-    Nothing,
-    /// Calls that are refused.
-    Refused(&'a [Call<'a>]),
-    /// A stop without the last port, which is refused.
-    Missing,
+struct Row {
+    name: &'static str,
+    plan: Plan<'static>,
+    calls: &'static [Call<'static>],
+    refused: &'static [Call<'static>],
 }
+
+const LOW: PortPlan = PortPlan {
+    threshold: 2,
+    ..SOURCE
+};
+
+const LOW_WORKER: PortPlan = PortPlan {
+    threshold: 2,
+    ..WORKER
+};
+
+const TIGHT: PortPlan = PortPlan {
+    depth: 2,
+    replies: 1,
+    implicit: true,
+    ..WORKER
+};
+
+const FORWARD: Sent = Sent {
+    op: Op::Forward,
+    queue: 0,
+    flow: 7,
+    payload: 5,
+};
+
+const NEW_TO_NOWHERE: Sent = Sent {
+    op: Op::New,
+    queue: 9,
+    flow: 7,
+    payload: 5,
+};
+
+const FORWARD_TO_NOWHERE: Sent = Sent {
+    op: Op::Forward,
+    queue: 9,
+    flow: 7,
+    payload: 5,
+};
+
+static ROWS: [Row; 5] = [
+    Row {
+        name: "backpressure",
+        plan: Plan {
+            ports: &[LOW, WORKER],
+            ..ONE_QUEUE
+        },
+        calls: &[
+            Call::Enqueue(0, FIRST, Ok(())),
+            Call::Enqueue(0, FIRST, Ok(())),
+        ],
+        refused: &[Call::Enqueue(0, FIRST, Err(Refused::Backpressure { free: 2 }))],
+    },
+    // Two events spend the two credits, and no release has brought one back.
+    Row {
+        name: "a new event before its releases",
+        plan: Plan {
+            limit: 2,
+            quantum: 1,
+            ports: &[LOW, LOW_WORKER],
+            ..ONE_QUEUE
+        },
+        calls: &[
+            Call::Enqueue(0, FIRST, Ok(())),
+            Call::Enqueue(0, SECOND, Ok(())),
+            Call::Sweep(2, 2),
+            Call::Dequeue(1, 2, Ok(&[(0, FIRST), (1, SECOND)])),
+        ],
+        refused: &[Call::Enqueue(0, THIRD, Err(Refused::Backpressure { free: 0 }))],
+    },
+    Row {
+        name: "misuse",
+        plan: ONE_QUEUE,
+        calls: &[],
+        refused: &[
+            Call::Enqueue(1, FORWARD, Err(Refused::NothingHeld)),
+            Call::Enqueue(1, FORWARD_TO_NOWHERE, Err(Refused::BadQueue)),
+            Call::Enqueue(0, NEW_TO_NOWHERE, Err(Refused::BadQueue)),
+            Call::Enqueue(1, RELEASE, Err(Refused::NothingHeld)),
+        ],
+    },
+    // A port released one of two events, and its reply ring of one place is full.
+    Row {
+        name: "full rings",
+        plan: Plan {
+            queues: &[PARALLEL],
+            ports: &[SOURCE, TIGHT],
+            ..ONE_QUEUE
+        },
+        calls: &[
+            Call::Enqueue(0, FIRST, Ok(())),
+            Call::Enqueue(0, SECOND, Ok(())),
+            Call::Enqueue(0, THIRD, Ok(())),
+            Call::Sweep(3, 2),
+            Call::Dequeue(1, 2, Ok(&[(0, FIRST), (1, SECOND)])),
+            Call::Enqueue(1, RELEASE, Ok(())),
+        ],
+        refused: &[
+            Call::Enqueue(1, RELEASE, Err(Refused::Full)),
+            Call::Dequeue(1, 1, Err(Behind { released: 0 })),
+        ],
+    },
+    Row {
+        name: "a shut",
+        plan: ONE_QUEUE,
+        calls: &[
+            Call::Enqueue(0, FIRST, Ok(())),
+            Call::Enqueue(0, SECOND, Ok(())),
+            Call::Shut,
+            Call::Sweep(2, 0),
+        ],
+        refused: &[Call::Enqueue(0, THIRD, Err(Refused::Stopped))],
+    },
+];
 
 /// What every call answered afterwards, and the report.
 #[derive(Drop)]
@@ -33,178 +142,114 @@ struct Ending {
 }
 
 impl Ending {
-    /// This ending must be like the other.
-    fn is_like(&self, other: &Ending) -> Result<(), Fail> {
-        let left = Left {
-            waiting: &self.report.waiting,
-            kept: &self.report.kept,
-            undelivered: &self.report.undelivered,
-            held: &self.report.held,
-            untaken: &self.report.untaken,
-            free: self.report.free,
-            pockets: &self.report.pockets,
-            own: self.report.own,
-        };
-        left.is_in(&other.report)?;
-        if self.said == other.said && self.report.log == other.report.log {
-            Ok(())
+    /// What is otherwise in the other ending.
+    fn other_in(&self, other: &Ending) -> Option<&'static str> {
+        if self.said != other.said {
+            Some("answers")
         } else {
-            Err(Fail::from("answers or log"))
+            other_events_in(&self.report, &other.report)
         }
     }
 }
 
-/// A device of the plan after these calls and what comes between.
-fn rig_after(
-    alloc: Global,
-    plan: &Plan,
-    calls: &[Call],
-    between: Between,
-) -> Result<Rig, RigFault> {
-    let mut rig = Rig::new(alloc, plan)?;
-    rig.play(calls)?;
-    match between {
-        Between::Nothing => Ok(rig),
-        Between::Refused(calls) => {
-            rig.play(calls)?;
-            Ok(rig)
-        }
-        Between::Missing => rig.miss_last_port(alloc),
+/// The log or the list of events in which the reports differ.
+fn other_events_in(one: &Report, other: &Report) -> Option<&'static str> {
+    if one.log != other.log {
+        Some("log")
+    } else if one.waiting != other.waiting || one.kept != other.kept {
+        Some("waiting or kept")
+    } else if one.undelivered != other.undelivered || one.held != other.held {
+        Some("undelivered or held")
+    } else if one.untaken != other.untaken {
+        Some("untaken")
+    } else {
+        other_credits_in(one, other)
     }
 }
 
-fn play_on(
-    alloc: Global,
-    plan: &Plan,
-    calls: &[Call],
-    between: Between,
-) -> Result<Ending, RigFault> {
-    let mut rig = rig_after(alloc, plan, calls, between)?;
+fn other_credits_in(one: &Report, other: &Report) -> Option<&'static str> {
+    if one.free != other.free || one.own != other.own {
+        Some("credits")
+    } else if one.pockets != other.pockets {
+        Some("pockets")
+    } else {
+        None
+    }
+}
+
+/// The ending of this device.
+fn ending_of(alloc: Global, mut rig: Rig) -> Result<Ending, RigFault> {
     let said = every_call(alloc, &mut rig)?;
     let report = rig.stop(alloc)?;
     Ok(Ending { said, report })
 }
 
-/// After these calls the others are refused, and nothing comes of them, nor of a stop without a port.
-fn change_nothing(
-    alloc: Global,
-    plan: &Plan,
-    calls: &[Call],
-    refused: &[Call],
-) -> Result<(), Fail> {
+/// The ending after the row's calls.
+fn plain(alloc: Global, plan: &Plan, row: &Row) -> Result<Ending, RigFault> {
+    ending_of(alloc, played(alloc, plan, row.calls)?)
+}
+
+/// The same after its refused calls too.
+fn after_refusals(alloc: Global, plan: &Plan, row: &Row) -> Result<Ending, RigFault> {
+    let mut rig = played(alloc, plan, row.calls)?;
+    rig.play(row.refused)?;
+    ending_of(alloc, rig)
+}
+
+/// The same after a stop without the last port, which is refused.
+fn after_a_missing_port(alloc: Global, plan: &Plan, row: &Row) -> Result<Ending, RigFault> {
+    let rig = played(alloc, plan, row.calls)?;
+    ending_of(alloc, rig.miss_last_port(alloc)?)
+}
+
+/// What the row's refused calls change.
+fn change_of_refusals(alloc: Global, row: &Row) -> Result<Option<&'static str>, RigFault> {
     for serving in [Serving::Ports, Serving::Flows] {
-        let plan = Plan { serving, ..*plan };
-        let plain = play_on(alloc, &plan, calls, Between::Nothing)?;
-        plain.is_like(&play_on(alloc, &plan, calls, Between::Refused(refused))?)?;
-        plain.is_like(&play_on(alloc, &plan, calls, Between::Missing)?)?;
+        let plan = Plan {
+            serving,
+            ..row.plan
+        };
+        let other = after_refusals(alloc, &plan, row)?.other_in(&plain(alloc, &plan, row)?);
+        if other.is_some() {
+            return Ok(other);
+        }
+    }
+    Ok(None)
+}
+
+/// What the refused stop changes.
+fn change_of_a_missing_port(alloc: Global, row: &Row) -> Result<Option<&'static str>, RigFault> {
+    for serving in [Serving::Ports, Serving::Flows] {
+        let plan = Plan {
+            serving,
+            ..row.plan
+        };
+        let other = after_a_missing_port(alloc, &plan, row)?.other_in(&plain(alloc, &plan, row)?);
+        if other.is_some() {
+            return Ok(other);
+        }
+    }
+    Ok(None)
+}
+
+#[test]
+fn refusals_change_nothing(rt: HostRuntime) -> Result<(), Fail> {
+    for row in &ROWS {
+        let name = row.name;
+        assert_eq!(rt; change_of_refusals(rt.alloc(), row)?, None, "after {name}");
     }
     Ok(())
 }
 
 #[test]
-fn after_backpressure(rt: HostRuntime) -> Result<(), Fail> {
-    let queues = [queue(Kind::Atomic, 4)];
-    let low = PortPlan {
-        threshold: 2,
-        ..SOURCE
-    };
-    change_nothing(
-        rt.alloc(),
-        &one_queue(Serving::Ports, &queues, &[low, WORKER]),
-        &[taken(0, new_event(7, 1)), taken(0, new_event(7, 1))],
-        &[refused(0, new_event(7, 1), Refused::Backpressure { free: 2 })],
-    )
-}
-
-/// Two events spend the two credits, and no release has brought one back.
-#[test]
-fn after_a_new_before_its_releases(rt: HostRuntime) -> Result<(), Fail> {
-    let queues = [queue(Kind::Atomic, 4)];
-    let ports = [of_two(SOURCE), of_two(WORKER)];
-    let plan = Plan {
-        limit: 2,
-        quantum: 1,
-        ..one_queue(Serving::Ports, &queues, &ports)
-    };
-    let (first, second) = (new_event(7, 1), new_event(7, 2));
-    change_nothing(
-        rt.alloc(),
-        &plan,
-        &[
-            taken(0, first),
-            taken(0, second),
-            swept(2, 2),
-            dequeued(1, 2, &[delivery(0, first), delivery(1, second)]),
-        ],
-        &[refused(0, new_event(7, 3), Refused::Backpressure { free: 0 })],
-    )
-}
-
-/// The port may bring events in as long as two credits are in use.
-fn of_two(port: PortPlan<'static>) -> PortPlan<'static> {
-    PortPlan {
-        threshold: 2,
-        ..port
+fn a_missing_port_changes_nothing(rt: HostRuntime) -> Result<(), Fail> {
+    for row in &ROWS {
+        let name = row.name;
+        assert_eq!(rt;
+            change_of_a_missing_port(rt.alloc(), row)?,
+            None,
+            "after {name}"
+        );
     }
-}
-
-#[test]
-fn after_misuse(rt: HostRuntime) -> Result<(), Fail> {
-    let queues = [queue(Kind::Atomic, 4)];
-    let misuse = [
-        refused(1, event(Op::Forward, 0, 7, 5), Refused::NothingHeld),
-        refused(1, event(Op::Forward, 9, 7, 5), Refused::BadQueue),
-        refused(0, event(Op::New, 9, 7, 5), Refused::BadQueue),
-        refused(1, event(Op::Release, 0, 0, 0), Refused::NothingHeld),
-    ];
-    let ports = [SOURCE, WORKER];
-    let plan = one_queue(Serving::Ports, &queues, &ports);
-    change_nothing(rt.alloc(), &plan, &[], &misuse)
-}
-
-/// A port released one of two events, and its reply ring of one place is full.
-#[test]
-fn after_full_rings(rt: HostRuntime) -> Result<(), Fail> {
-    let queues = [queue(Kind::Parallel, 0)];
-    let tight = PortPlan {
-        depth: 2,
-        replies: 1,
-        implicit: true,
-        ..WORKER
-    };
-    let (first, second) = (new_event(7, 1), new_event(7, 2));
-    let behind = Call::Dequeue {
-        port: 1,
-        max: 1,
-        answer: Err(Behind { released: 0 }),
-    };
-    change_nothing(
-        rt.alloc(),
-        &one_queue(Serving::Ports, &queues, &[SOURCE, tight]),
-        &[
-            taken(0, first),
-            taken(0, second),
-            taken(0, new_event(7, 3)),
-            swept(3, 2),
-            dequeued(1, 2, &[delivery(0, first), delivery(1, second)]),
-            release(1),
-        ],
-        &[refused(1, Event::release(), Refused::Full), behind],
-    )
-}
-
-#[test]
-fn after_a_shut(rt: HostRuntime) -> Result<(), Fail> {
-    let queues = [queue(Kind::Atomic, 4)];
-    change_nothing(
-        rt.alloc(),
-        &one_queue(Serving::Ports, &queues, &[SOURCE, WORKER]),
-        &[
-            taken(0, new_event(7, 1)),
-            taken(0, new_event(7, 2)),
-            Call::Shut,
-            swept(2, 0),
-        ],
-        &[refused(0, new_event(7, 3), Refused::Stopped)],
-    )
+    Ok(())
 }

@@ -1,74 +1,139 @@
-//! Events, deliveries and steps for the tests.
+//! Queues, events and steps for the tests, as plain data.
 
-use evt_types::{Delivery, Event, Op, Outcome, Source, Step};
+use device_rigs::Sent;
+use evt_types::{Kind, Op, Outcome, QueueDraft, Source, Step};
+use std::alloc::{AllocError, Global};
 
-/// An event of a low flow and a middle priority.
-pub(crate) fn event(op: Op, queue: u8, flow: u8, payload: u64) -> Event {
-    Event {
-        flow: u32::from(flow),
-        sub_type: 0,
-        event_type: 0,
-        op,
-        queue,
-        priority: 128,
-        impl_opaque: 0,
-        payload,
-    }
+pub(crate) const ATOMIC: QueueDraft = QueueDraft {
+    kind: Kind::Atomic,
+    priority: 128,
+    slots: 4,
+    order: 4,
+    single: false,
+};
+
+pub(crate) const ORDERED: QueueDraft = QueueDraft {
+    kind: Kind::Ordered,
+    priority: 128,
+    slots: 8,
+    order: 8,
+    single: false,
+};
+
+pub(crate) const PARALLEL: QueueDraft = QueueDraft {
+    kind: Kind::Parallel,
+    priority: 128,
+    slots: 0,
+    order: 0,
+    single: false,
+};
+
+/// New events of flow 7 for queue 0.
+pub(crate) const FIRST: Sent = Sent {
+    op: Op::New,
+    queue: 0,
+    flow: 7,
+    payload: 1,
+};
+
+pub(crate) const SECOND: Sent = Sent {
+    payload: 2,
+    ..FIRST
+};
+
+pub(crate) const THIRD: Sent = Sent {
+    payload: 3,
+    ..FIRST
+};
+
+pub(crate) const FOURTH: Sent = Sent {
+    payload: 4,
+    ..FIRST
+};
+
+pub(crate) const FIFTH: Sent = Sent {
+    payload: 5,
+    ..FIRST
+};
+
+/// Flow 8's new event.
+pub(crate) const OTHER: Sent = Sent { flow: 8, ..SECOND };
+
+pub(crate) const RELEASE: Sent = Sent {
+    op: Op::Release,
+    queue: 0,
+    flow: 0,
+    payload: 0,
+};
+
+/// A step of a log.
+#[derive(Clone, Copy)]
+pub(crate) enum Logged {
+    /// The event's queue accepts it as a new event of lane 0.
+    Entered(Sent),
+    /// The event's queue accepts it as what the event of this queue and number was forwarded as.
+    PassedOn(usize, u64, Sent),
+    /// The lane is given the event of this queue and number.
+    Given(usize, usize, u64),
+    /// The lane's oldest event is forwarded as this one.
+    Forwarded(usize, Sent),
+    /// The lane's oldest event is released.
+    Released(usize),
+    /// A new event of lane 0 is turned away.
+    Turned(Sent),
+    Shut,
 }
 
-/// A new event of the flow for queue 0.
-pub(crate) fn new_event(flow: u8, payload: u64) -> Event {
-    event(Op::New, 0, flow, payload)
-}
-
-/// A new event of flow 7 as queue 0 hands it out.
-pub(crate) fn delivery(number: u64, event: Event) -> Delivery {
-    Delivery {
-        event,
-        queue: 0,
-        number,
-    }
-}
-
-/// The event's queue accepts it as a new event of port 0.
-pub(crate) fn entered(event: Event) -> Step {
+fn accepted(sent: Sent, source: Source) -> Step {
     Step::Accept {
-        queue: usize::from(event.queue),
-        event,
-        source: Source::New { lane: 0 },
+        queue: usize::from(sent.queue),
+        event: sent.event(),
+        source,
     }
 }
 
-/// The event's queue accepts it as what the event of this number of the queue before was forwarded as.
-pub(crate) fn passed_on(queue: usize, number: u64, event: Event) -> Step {
-    Step::Accept {
-        queue: usize::from(event.queue),
-        event,
-        source: Source::Of { queue, number },
+impl Logged {
+    fn step(self) -> Step {
+        match self {
+            Logged::Entered(sent) => accepted(sent, Source::New { lane: 0 }),
+            Logged::PassedOn(queue, number, sent) => accepted(sent, Source::Of { queue, number }),
+            Logged::Given(lane, queue, number) => Step::Give {
+                lane,
+                queue,
+                number,
+            },
+            Logged::Forwarded(lane, sent) => Step::Done {
+                lane,
+                outcome: Outcome::Forwarded(sent.event()),
+            },
+            Logged::Released(lane) => Step::Done {
+                lane,
+                outcome: Outcome::Released,
+            },
+            Logged::Turned(sent) => Step::Turned {
+                lane: 0,
+                event: sent.event(),
+            },
+            Logged::Shut => Step::Shut,
+        }
     }
 }
 
-/// The lane is given the event of this number of the queue.
-pub(crate) fn given(lane: usize, queue: usize, number: u64) -> Step {
-    Step::Give {
-        lane,
-        queue,
-        number,
+/// Whether these are the log's steps.
+pub(crate) fn is_log(log: &[Step], wanted: &[Logged]) -> bool {
+    for (step, logged) in log.iter().zip(wanted.iter()) {
+        if *step != logged.step() {
+            return false;
+        }
     }
+    log.len() == wanted.len()
 }
 
-/// The lane's oldest event is forwarded as this one.
-pub(crate) fn forwarded(lane: usize, event: Event) -> Step {
-    Step::Done {
-        lane,
-        outcome: Outcome::Forwarded(event),
+/// These steps.
+pub(crate) fn log_of(alloc: Global, wanted: &[Logged]) -> Result<Vec<Step>, AllocError> {
+    let mut log = Vec::with_capacity(alloc, wanted.len())?;
+    for logged in wanted {
+        log.push(logged.step())?;
     }
-}
-
-/// The lane's oldest event is released.
-pub(crate) fn released(lane: usize) -> Step {
-    Step::Done {
-        lane,
-        outcome: Outcome::Released,
-    }
+    Ok(log)
 }

@@ -6,10 +6,10 @@
 ghost use Rattle.std.specs.Prelude.{[], ◌∷◌, IfOk};
 ghost use Rattle.event_recorder.specs.Stop.{AreOf};
 
-use crate::left::no_events;
-use device_rigs::{Rig, SOURCE, WORKER, one_queue, queue};
+use crate::left::{Left, NOTHING};
+use crate::plans::ONE_QUEUE;
+use device_rigs::Rig;
 use event_device::{Control, Port, Recorder, StopFault};
-use evt_types::{Kind, Serving};
 use std::alloc::Global;
 use std::test::Fail;
 
@@ -27,13 +27,11 @@ fn make_parts(alloc: Global) -> Result<Parts, Fail>
     ensures last { IfOk result (λ p. AreOf p.recorder p.control (p.last ∷ [])) }
     ensures both { IfOk result (λ p. AreOf p.recorder p.control (p.last ∷ p.first ∷ [])) }
 {
-    let queues = [queue(Kind::Atomic, 4)];
-    let ports = [SOURCE, WORKER];
     let Rig {
         recorder,
         mut ports,
         control,
-    } = Rig::new(alloc, &one_queue(Serving::Ports, &queues, &ports))?;
+    } = Rig::new(alloc, &ONE_QUEUE)?;
     let (Some(last), Some(first), None) = (ports.pop(), ports.pop(), ports.pop()) else {
         return Err(Fail::from("there are two ports"));
     };
@@ -44,6 +42,13 @@ fn make_parts(alloc: Global) -> Result<Parts, Fail>
         first,
     })
 }
+
+/// All credits are free.
+const UNUSED: Left = Left {
+    free: 4,
+    pockets: &[0, 0],
+    ..NOTHING
+};
 
 #[test]
 fn a_missing_port_is_named(rt: HostRuntime) -> Result<(), Fail> {
@@ -65,6 +70,6 @@ fn a_missing_port_is_named(rt: HostRuntime) -> Result<(), Fail> {
     let Ok(report) = recorder.stop(rt.alloc(), control, ports) else {
         panic!(rt; "both ports are there")
     };
-    assert!(rt; report.log.is_empty());
-    no_events(4, &[0, 0]).is_in(&report)
+    assert_eq!(rt; (report.log.len(), UNUSED.other_in(&report)), (0, None));
+    Ok(())
 }

@@ -1,122 +1,148 @@
 //! A producer, three workers and the scheduler pass many events over three queues.
 
+use crate::steps::{ATOMIC, FIRST, ORDERED, PARALLEL};
 use device_rigs::{
-    Call, Checker, End, Plan, PortPlan, Rig, Task, brought_in, credits, entry_count, event, queue,
-    refused, run,
+    AccountFault, Call, Checker, End, Plan, PortPlan, Rig, RigFault, Task, brought_in, credits,
+    entry_count, run,
 };
 use event_device::{Refused, Report};
-use evt_types::{Kind, MAX_LANES, QueueDraft, Serving};
+use evt_types::{MAX_LANES, QueueDraft, Serving};
 use std::alloc::Global;
-use std::process::Abort;
 use std::test::Fail;
 use std::thread::Threads;
 
 /// How many events the producer brings in.
 pub(crate) const EVENTS: u32 = 100_000;
 
-/// How many of them may be inside the device.
+/// How many of them may be inside the device. Credits are short, so that the threads wait for them at times.
 pub(crate) const LIMIT: u32 = 64;
 
-/// A device whose credits are short, so that the threads wait for them at times.
-pub(crate) fn plan<'a>(
-    serving: Serving,
-    queues: &'a [QueueDraft],
-    ports: &'a [PortPlan<'a>],
-) -> Plan<'a> {
-    Plan {
-        limit: LIMIT,
-        quantum: 4,
-        sweep: 16,
-        serving,
-        queues,
-        ports,
-    }
-}
+/// A worker with rings of one place.
+const SHORT: PortPlan = PortPlan {
+    threshold: LIMIT,
+    depth: 1,
+    replies: 1,
+    implicit: false,
+    links: &[0, 1, 2],
+};
 
-/// A port with rings of this length.
-pub(crate) fn port<'a>(depth: u32, links: &'a [u32]) -> PortPlan<'a> {
-    PortPlan {
-        threshold: LIMIT,
-        depth,
-        replies: depth,
-        implicit: false,
-        links,
-    }
-}
+const LONG: PortPlan = PortPlan {
+    depth: 64,
+    replies: 64,
+    ..SHORT
+};
 
-/// All events went through all queues, by a log in which nothing is wrong, and nothing is left.
-pub(crate) fn check<R: Abort>(
-    rt: &R,
-    alloc: Global,
-    queues: &[QueueDraft],
-    report: &Report,
-) -> Result<(), Fail> {
-    let mut checker = Checker::new(alloc, queues, MAX_LANES)?;
-    checker.read(&report.log)?;
-    assert!(rt; checker.is_done() && checker.is_shut());
-    assert_eq!(rt; checker.entered(), u64::from(EVENTS));
-    assert!(rt; checker.each_queue_has(EVENTS as usize));
-    assert_eq!(rt; brought_in(&report.log), Some(EVENTS));
-    assert!(rt; entry_count(report) == 0 && credits(report) == u64::from(LIMIT));
-    Ok(())
-}
+const MIDDLE: PortPlan = PortPlan {
+    depth: 4,
+    replies: 4,
+    ..SHORT
+};
+
+/// An atomic, an ordered and a parallel queue; the producer has rings of this length too.
+const SHORT_RINGS: Plan = Plan {
+    limit: LIMIT,
+    quantum: 4,
+    sweep: 16,
+    serving: Serving::Ports,
+    queues: &[
+        QueueDraft { slots: 8, ..ATOMIC },
+        QueueDraft {
+            order: 32,
+            ..ORDERED
+        },
+        PARALLEL,
+    ],
+    ports: &[
+        PortPlan {
+            links: &[],
+            ..SHORT
+        },
+        SHORT,
+        SHORT,
+        SHORT,
+    ],
+};
+
+const LONG_RINGS: Plan = Plan {
+    ports: &[PortPlan { links: &[], ..LONG }, LONG, LONG, LONG],
+    ..SHORT_RINGS
+};
+
+const FLOW_LANES: Plan = Plan {
+    serving: Serving::Flows,
+    ports: &[
+        PortPlan {
+            links: &[],
+            ..MIDDLE
+        },
+        MIDDLE,
+        MIDDLE,
+        MIDDLE,
+    ],
+    ..SHORT_RINGS
+};
+
+/// All events go through three queues.
+const ALL: Task = Task {
+    events: EVENTS,
+    last: 2,
+    end: End::Through,
+};
 
 /// Ports 1 to 3 see that the device is shut, and no event may come in.
-pub(crate) fn is_shut(rig: &mut Rig) -> Result<(), Fail> {
+fn is_shut(rig: &mut Rig) -> Result<(), RigFault> {
     rig.play(&[
-        refused(0, event(0), Refused::Stopped),
-        Call::Look {
-            port: 1,
-            answer: true,
-        },
-        Call::Look {
-            port: 2,
-            answer: true,
-        },
-        Call::Look {
-            port: 3,
-            answer: true,
-        },
-    ])?;
-    Ok(())
+        Call::Enqueue(0, FIRST, Err(Refused::Stopped)),
+        Call::Look(1, true),
+        Call::Look(2, true),
+        Call::Look(3, true),
+    ])
 }
 
-/// Passes all events over an atomic, an ordered and a parallel queue, with rings of this length.
-fn pass<R: Threads + Abort + Sync>(
+/// What is left of a device that is run until it is shut.
+pub(crate) fn report_of<R: Threads + Sync>(
     rt: &R,
     alloc: Global,
-    serving: Serving,
-    depth: u32,
-) -> Result<(), Fail> {
-    let queues = [
-        queue(Kind::Atomic, 8),
-        queue(Kind::Ordered, 32),
-        queue(Kind::Parallel, 0),
-    ];
-    let worker = port(depth, &[0, 1, 2]);
-    let ports = [port(depth, &[]), worker, worker, worker];
-    let task = Task {
-        events: EVENTS,
-        last: 2,
-        end: End::Through,
-    };
-    let mut rig = run(rt, Rig::new(alloc, &plan(serving, &queues, &ports))?, task)?;
-    is_shut(&mut rig)?;
-    let report = rig.stop(alloc)?;
-    check(rt, alloc, &queues, &report)
+    plan: &Plan,
+    task: Task,
+) -> Result<Report, RigFault> {
+    let mut rig = run(rt, Rig::new(alloc, plan)?, task)?;
+    if let End::Through = task.end {
+        is_shut(&mut rig)?;
+    }
+    rig.stop(alloc)
+}
+
+/// Whether all events went through all queues, by a log in which nothing is wrong, and nothing is left.
+pub(crate) fn is_through(
+    alloc: Global,
+    plan: &Plan,
+    report: &Report,
+) -> Result<bool, AccountFault> {
+    let mut checker = Checker::new(alloc, plan.queues, MAX_LANES)?;
+    checker.read(&report.log)?;
+    let is_done = checker.is_done() && checker.is_shut() && checker.each_queue_has(EVENTS as usize);
+    let entered = checker.entered() == u64::from(EVENTS) && brought_in(&report.log) == Some(EVENTS);
+    Ok(is_done && entered && entry_count(report) == 0 && credits(report) == u64::from(LIMIT))
 }
 
 #[test]
 fn short_rings(rt: HostRuntime) -> Result<(), Fail> {
-    pass(&rt, rt.alloc(), Serving::Ports, 1)
+    let report = report_of(&rt, rt.alloc(), &SHORT_RINGS, ALL)?;
+    assert!(rt; is_through(rt.alloc(), &SHORT_RINGS, &report)?);
+    Ok(())
 }
 
 #[test]
 fn long_rings(rt: HostRuntime) -> Result<(), Fail> {
-    pass(&rt, rt.alloc(), Serving::Ports, 64)
+    let report = report_of(&rt, rt.alloc(), &LONG_RINGS, ALL)?;
+    assert!(rt; is_through(rt.alloc(), &LONG_RINGS, &report)?);
+    Ok(())
 }
 
 #[test]
 fn flow_lanes(rt: HostRuntime) -> Result<(), Fail> {
-    pass(&rt, rt.alloc(), Serving::Flows, 4)
+    let report = report_of(&rt, rt.alloc(), &FLOW_LANES, ALL)?;
+    assert!(rt; is_through(rt.alloc(), &FLOW_LANES, &report)?);
+    Ok(())
 }

@@ -1,8 +1,8 @@
 -- The ends of one lane more, and of all lanes.
-use Rattle.std.proofs.Common.{◌≡◌, ℕ, ◌+◌, ◌-◌, ◌≤◌, subst, arith, List, [], ◌∷◌, ◌++◌, map, sym, ap, ◌∙◌, refl, append_assoc}
+use Rattle.std.proofs.Common.{◌≡◌, ℕ, ◌+◌, ◌-◌, ◌≤◌, subst, arith, List, [], ◌∷◌, ◌++◌, map, sym, ap, ◌∙◌, append_assoc}
 use Rattle.std.specs.List.{range_with_len}
-use Rattle.std.proofs.lemmas.List.{append-nil, map-append}
-use Rattle.std.proofs.lemmas.List.Elements.{All-nil, All-push}
+use Rattle.std.proofs.lemmas.List.{map-append}
+use Rattle.std.proofs.lemmas.List.Elements.{All-push}
 use Rattle.std.proofs.lemmas.List.FromFn.{map-range_with_len_more}
 use Rattle.evt_types.specs.Plan.{Plan, depth_of, replies_of}
 use Rattle.flow_claims.specs.Laws.{IsUnused}
@@ -11,15 +11,6 @@ use Rattle.lane_rings.specs.declared.far.Far.{Far}
 use Rattle.lane_rings.specs.declared.near.Near.{Near}
 use Rattle.event_recorder.specs.Device.{depth_in, room_in}
 use Rattle.event_device.specs.Ends.{AreAdded, IsUnusedNear}
-
-pub added_none : (p : Plan) (from : ℕ) (nears : List Near) → AreAdded p from 0 nears nears []
-added_none p from nears = record {
-  lanes = sym (append-nil (map near_id nears));
-  depths = refl;
-  rooms = refl;
-  unused = All-nil IsUnused;
-  unused_near = λ all. all;
-}
 
 map_push : {X Y : Type 0} (f : X → Y) (xs : List X) (x : X) → map f (xs ++ x ∷ []) ≡ map f xs ++ f x ∷ []
 map_push f xs x = map-append f xs (x ∷ [])

@@ -3,7 +3,7 @@ use Rattle.std.proofs.Common.{◌≡◌, ℕ, ◌+◌, ◌-◌, ◌<◌, ◌∙�
 use Rattle.std.specs.Arc.{arc_value}
 use Rattle.std.specs.List.{All, range_with_len}
 use Rattle.std.proofs.lemmas.List.{get_or-map, length-append, length-map, map-append}
-use Rattle.std.proofs.lemmas.List.Elements.{All-nil, All-push}
+use Rattle.std.proofs.lemmas.List.Elements.{All-push}
 use Rattle.std.proofs.lemmas.List.FromFn.{length-map-range_with_len, map-range_with_len_more}
 use Rattle.std.proofs.lemmas.Option.{get_or_from_slice_get, slice_get_within}
 use Rattle.lists.proofs.Lists.{All-slice_get}
@@ -26,13 +26,6 @@ pub record IsMaking (p : Plan) (shared : Shared) (owns done rest : List Far) (po
   pub owns_are : owns ≡ done ++ rest
   pub made : AreNewPorts (device_by p shared owns) (length done) ports
   pub left : AreSeats shared seats (64 - length done) (64 - length done)
-
-pub making_none : (p : Plan) (shared : Shared) (owns : List Far) (seats : Seats) → AreSeats shared seats 64 64 → IsMaking p shared owns [] owns [] seats
-making_none p shared owns seats all = record {
-  owns_are = refl;
-  made = record { sites = refl; empty = All-nil IsEmptyPort; undrawn = All-nil IsUndrawn };
-  left = all;
-}
 
 -- ---- one turn
 

@@ -1,14 +1,14 @@
 -- What arrives comes after what was received before, lane by lane and in all.
-use Rattle.std.proofs.Common.{◌≡◌, ◌≢◌, ℕ, ◌+◌, ◌≤◌, true, false, List, [], ◌∷◌, ◌++◌, length, map, filter, refl, sym, ap, ◌∙◌, subst, arith, append-nil, append_assoc}
+use Rattle.std.proofs.Common.{◌≡◌, ◌≢◌, ℕ, ◌+◌, ◌≤◌, true, false, List, [], ◌∷◌, ◌++◌, length, map, filter, refl, sym, ap, ◌∙◌, subst, arith, append_assoc}
 use Rattle.std.proofs.lemmas.List.{map-append, length-append, length-map}
 use Rattle.std.proofs.lemmas.List.Elements.{All-push, filter-append}
 use Rattle.lists.proofs.Lists.{filter-push_true, filter-push_false}
 use Rattle.evt_types.specs.declared.event.Delivery.{Delivery}
 use Rattle.event_ports.specs.declared.lane.Lane.{Lane}
 use Rattle.event_ports.specs.declared.lane.Holding.{Holding}
-use Rattle.event_ports.specs.Lanes.{Hand, Rests, Takes, Arrival, Arrives, ArrivesFrom, ComesInOrder, HasRoomFor, lanes_read, from_lane, same_lane, holding_of}
+use Rattle.event_ports.specs.Lanes.{Hand, Takes, Arrival, Arrives, ArrivesFrom, ComesInOrder, HasRoomFor, lanes_read, from_lane, same_lane, holding_of}
 use Rattle.event_ports.proofs.Orders.{by_lane}
-use Rattle.event_ports.proofs.ReadOrder.{none_in_order, from_one, one_in_order, more_in_order, all_linked_to}
+use Rattle.event_ports.proofs.ReadOrder.{from_one, one_in_order, more_in_order, all_linked_to}
 
 noted : Arrival → Holding
 noted a = holding_of a.0 a.1
@@ -20,17 +20,6 @@ from_here : (lane l : Lane) (d : Delivery) (xs : List Arrival) → lane ≡ l �
 from_here lane l d xs e =
     ap (map (λ (a : Arrival). a.1)) (filter-push_true (λ (a : Arrival). same_lane a.0 l) xs (lane, d) (by_lane lane l (λ b. b ≡ true) (λ h. refl) (λ ne. absurd (ne e))))
     ∙ map-append (λ (a : Arrival). a.1) (filter (λ (a : Arrival). same_lane a.0 l) xs) ((lane, d) ∷ [])
-
--- nothing arrived
-pub arrives_none : (lanes : List Lane) (h k : Hand) (ds : List Delivery) → Rests h k → ArrivesFrom lanes h k ds ds
-arrives_none lanes h k ds r = record {
-  arrived = [];
-  deliveries = sym (append-nil ds);
-  in_order = none_in_order lanes;
-  said = r.said;
-  got = λ l. r.got l ∙ sym (append-nil (h.got l));
-  holding = r.holding ∙ sym (append-nil h.holding);
-}
 
 -- one more arrived from the lane
 pub arrives_then : (lane : Lane) (h k m : Hand) (b c e : List Delivery) (d : Delivery) → ArrivesFrom (lane ∷ []) h k b c → Takes lane d k m → e ≡ c ++ d ∷ [] → ArrivesFrom (lane ∷ []) h m b e
@@ -47,17 +36,6 @@ arrives_then lane h k m b c e d a t same = record {
       (λ ne _. t.got l (λ is. ne (sym is)) ∙ a.got l ∙ ap (λ r. h.got l ++ r) (sym (from_other lane l d a.arrived ne))) refl;
   holding = t.holding ∙ ap (λ r. r ++ holding_of lane d ∷ []) a.holding ∙ append_assoc h.holding (map (λ (x : Arrival). holding_of x.0 x.1) a.arrived) (holding_of lane d ∷ [])
       ∙ ap (λ r. h.holding ++ r) (sym (map-append (λ (x : Arrival). holding_of x.0 x.1) a.arrived ((lane, d) ∷ [])));
-}
-
--- a call that received nothing
-pub arrives_rests : (lanes : List Lane) (h k m : Hand) (b c : List Delivery) → ArrivesFrom lanes h k b c → Rests k m → ArrivesFrom lanes h m b c
-arrives_rests lanes h k m b c a r = record {
-  arrived = a.arrived;
-  deliveries = a.deliveries;
-  in_order = a.in_order;
-  said = λ l. r.said l ∙ a.said l;
-  got = λ l. r.got l ∙ a.got l;
-  holding = r.holding ∙ a.holding;
 }
 
 -- more arrived, from one lane more

@@ -5,7 +5,7 @@ use Rattle.evt_types.specs.declared.event.Event.{Event}
 use Rattle.evt_types.specs.declared.event.Reply.{Reply}
 use Rattle.event_ports.specs.declared.lane.Lane.{Lane}
 use Rattle.event_ports.specs.Lanes.{Hand, Rests, SubmitsTo, SubmitsAll, lane_for, reply_of}
-use Rattle.event_ports.proofs.Refusing.{rests_then, rests_more}
+use Rattle.event_ports.proofs.Refusing.{rests_then}
 use Rattle.event_ports.proofs.Released.{take_next}
 
 pub rests_same : (h : Hand) → Rests h h
@@ -21,11 +21,6 @@ all_more [] e h k m a b =
     let To : Option Lane → Type 0 = λ o. SubmitsTo o (reply_of e) h m in
     (m, subst To (ap (lane_for e.op) a.holding) (submits_after (lane_for e.op k.holding) (reply_of e) h k m a b), rests_same m)
 all_more (x ∷ es) e h k m a b = (a.0, a.1, all_more es e a.0 k m a.2 b)
-
--- a call that submitted nothing
-pub all_rests : (es : List Event) (h k m : Hand) → SubmitsAll es h k → Rests k m → SubmitsAll es h m
-all_rests [] h k m a b = rests_more h k m a b
-all_rests (x ∷ es) h k m a b = (a.0, a.1, all_rests es a.0 k m a.2 b)
 
 pub taken_more : (es : List Event) (n : ℕ) (e : Event) (h k m : Hand) → slice_get es n ≡ Some e → SubmitsAll (take n es) h k → SubmitsTo (lane_for e.op k.holding) (reply_of e) k m
     → SubmitsAll (take (n + 1) es) h m

@@ -1,5 +1,5 @@
 -- What several calls on flow lanes, one after the other, make of what a port has of them.
-use Rattle.std.proofs.Common.{◌≡◌, ◌≢◌, ℕ, true, false, [], ◌∷◌, ◌++◌, length, drop, Result, Ok, Err, MatchResult, refl, sym, ap, ◌∙◌, subst, arith, count_by}
+use Rattle.std.proofs.Common.{◌≡◌, ◌≢◌, ℕ, true, false, [], ◌∷◌, ◌++◌, length, drop, Result, Ok, Err, MatchResult, sym, ap, ◌∙◌, subst, arith, count_by}
 use Rattle.std.specs.Option.{is_some}
 use Rattle.std.proofs.lemmas.List.{length-append}
 use mathlib.Core.Logic.{dite}
@@ -11,7 +11,7 @@ use Rattle.evt_types.specs.declared.event.Reply.{Reply}
 use Rattle.evt_types.specs.Operation.{is_answer, is_answer_op, is_new_op, is_new_reply}
 use Rattle.seat_sums.specs.Sums.{count}
 use Rattle.lane_rings.specs.Ends.{answers_among}
-use Rattle.event_ports.specs.Holds.{Hands, stint_in, answered_on, held_on, Flushed, Same, Gets, Says, HaveNoNew, GaveBack, NoneSurrendered}
+use Rattle.event_ports.specs.Holds.{Hands, stint_in, answered_on, held_on, Same, Gets, Says, HaveNoNew, GaveBack, NoneSurrendered}
 use Rattle.event_ports.proofs.Counts.{count_more}
 
 -- no lane is held of which nothing is unanswered
@@ -35,28 +35,8 @@ idle_received h k m lane d same elsewhere gets places idle j none =
     (λ e. absurd (omega (arith, ap length (sym gets.held ∙ ap (held_on m) (sym e) ∙ none), length-append (held_on k lane) (d ∷ []))))
     (λ ne. places j ∙ elsewhere j ne ∙ idle j (sym (same.held j) ∙ sym (gets.others.held j ne) ∙ none))
 
--- a lane is held, nothing is received, and it is left
-pub idle_left : (h k m n : Hands) (lane : ℕ) → Same h k → ((j : ℕ) → j ≢ lane → is_some (stint_in k j) ≡ is_some (stint_in h j)) → Same k m
-    → ((j : ℕ) → is_some (stint_in m j) ≡ is_some (stint_in k j)) → Same m n → (held_on m lane ≡ [] → is_some (stint_in n lane) ≡ false)
-    → ((j : ℕ) → j ≢ lane → is_some (stint_in n j) ≡ is_some (stint_in m j)) → AreIdle h → AreIdle n
-idle_left h k m n lane same elsewhere same' places same'' left elsewhere' idle j none =
-    let At : ℕ → Type 0 = λ i. is_some (stint_in n i) ≡ false in
-    dite (ℕ_discrete j lane)
-    (λ e. subst At (sym e) (left (sym (same''.held lane) ∙ ap (held_on n) (sym e) ∙ none)))
-    (λ ne. elsewhere' j ne ∙ places j ∙ elsewhere j ne ∙ idle j (sym (same.held j) ∙ sym (same'.held j) ∙ sym (same''.held j) ∙ none))
-
--- a lane isn't had
-pub idle_refused : (h k : Hands) (lane : ℕ) → Same h k → ((j : ℕ) → j ≢ lane → is_some (stint_in k j) ≡ is_some (stint_in h j)) → is_some (stint_in k lane) ≡ false → AreIdle h → AreIdle k
-idle_refused h k lane same elsewhere free idle j none =
-    let At : ℕ → Type 0 = λ i. is_some (stint_in k i) ≡ false in
-    dite (ℕ_discrete j lane) (λ e. subst At (sym e) free) (λ ne. elsewhere j ne ∙ idle j (sym (same.held j) ∙ none))
-
 pub same_more : (h k m : Hands) → Same h k → Same k m → Same h m
 same_more h k m a b = record { received = λ j. b.received j ∙ a.received j; answered_is = λ j. b.answered_is j ∙ a.answered_is j; held = λ j. b.held j ∙ a.held j; given_back = λ j. b.given_back j ∙ a.given_back j }
-
--- nothing was to be flushed
-pub flushed_none : (h : Hands) → Flushed h h
-flushed_none h = record { same = record { received = λ j. refl; answered_is = λ j. refl; held = λ j. refl; given_back = λ j. refl }; places = λ j. refl; filled = λ j filled. filled }
 
 pub says_after : (h k m : Hands) (lane : ℕ) (r : Reply) → Same h k → Says lane r k m → Says lane r h m
 says_after h k m lane r same says = record {
@@ -100,10 +80,6 @@ gets_no_answer h k lane d gets j =
 -- the lanes that were held before were given back
 pub gave_back : (h k : Hands) → NoneSurrendered h k → GaveBack h → GaveBack k
 gave_back h k none before j = none j ∙ before j
-
--- no NEW goes to a flow lane
-pub none_new : (h : Hands) → ((j : ℕ) → answered_on h j ≡ []) → HaveNoNew h
-none_new h none j = ap (count_by is_new_reply) (none j)
 
 pub same_no_new : (h k : Hands) → ((j : ℕ) → answered_on k j ≡ answered_on h j) → HaveNoNew h → HaveNoNew k
 same_no_new h k same none j = ap (count_by is_new_reply) (same j) ∙ none j

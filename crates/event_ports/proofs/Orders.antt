@@ -37,9 +37,6 @@ by_lane (Flow i) (Flow j) F same other =
 pub lane_same : (l m : Lane) → l ≡ m → same_lane l m ≡ true
 lane_same l m e = by_lane l m (λ b. b ≡ true) (λ h. refl) (λ ne. absurd (ne e))
 
-pub lane_other : (l m : Lane) → l ≢ m → same_lane l m ≡ false
-lane_other l m ne = by_lane l m (λ b. b ≡ false) (λ e. absurd (ne e)) (λ h. refl)
-
 pub each_lane : (P : Lane → Type 0) → P Own → ((j : ℕ) → P (Flow j)) → (l : Lane) → P l
 each_lane P own flow Own = own
 each_lane P own flow (Flow j) = flow j
@@ -76,10 +73,6 @@ received_last xs lane d before after here others notes l =
     ap (map pair_in) (filter-push_true p xs x t) ∙ map-append pair_in (held_of l xs) (x ∷ []) ∙ ap (λ r. r ++ pair_in x ∷ []) (notes l)
     ∙ sym (map-append pair_of (before l) (d ∷ [])) ∙ ap (map pair_of) (sym (subst At e here)))
     (λ ne t. ap (map pair_in) (filter-push_false p xs x t) ∙ notes l ∙ ap (map pair_of) (sym (others l (λ e. ne (sym e))))) refl
-
--- the lists of unanswered deliveries stay
-pub notes_stay : (xs : List Holding) (before after : Lane → List Delivery) → ((l : Lane) → after l ≡ before l) → Notes xs before → Notes xs after
-notes_stay xs before after same notes l = notes l ∙ ap (map pair_of) (sym (same l))
 
 -- the oldest one's lane has something unanswered
 pub first_open : (xs : List Holding) (lane : Lane) (open_at : Lane → List Delivery) → first_lane xs ≡ Some lane → Notes xs open_at → open_at lane ≢ []

@@ -1,5 +1,5 @@
 -- One place of a port's flow lanes changes, and with it what the seat has of the lane; what the port has of the other lanes stays.
-use Rattle.std.proofs.Common.{◌≡◌, ◌≢◌, ℕ, zero, suc, ◌<◌, ◌≤◌, ◌==◌, get_or, false, List, [], ◌∷◌, ◌++◌, length, drop, set, replicate, rules, Option, Some, None, refl, sym, ap, ◌∙◌, subst, arith, append-nil}
+use Rattle.std.proofs.Common.{◌≡◌, ◌≢◌, ℕ, zero, suc, ◌<◌, ◌≤◌, ◌==◌, get_or, false, List, [], ◌∷◌, ◌++◌, length, drop, set, replicate, Option, Some, None, refl, sym, ap, ◌∙◌, subst, arith, append-nil}
 use Rattle.std.specs.Option.{is_some}
 use Rattle.std.specs.List.{flat_map}
 use Rattle.std.proofs.lemmas.List.{get_or-set_same, get_or-set_other, set-get_or}
@@ -62,10 +62,6 @@ each_place links v w ss lane new lt lanes others each is j =
     let At : ℕ → Type 0 = λ i. IsPlace links w i (place_at (set ss lane new) i) in
     dite (ℕ_discrete j lane) (λ e. subst At (sym e) (subst (IsPlace links w lane) (sym (get_or-set_same ss lane new None lt)) is))
     (λ ne. subst (IsPlace links w j) (sym (get_or-set_other ss lane j new None ne)) (moved links v w j (place_at ss j) (others j ne) lanes (each j)))
-
--- and of all lanes
-pub each_same : (links : List ℕ) (v w : Seating) (ss : Stints) → w.lanes ≡ v.lanes → w.held ≡ v.held → ((j : ℕ) → IsPlace links v j (place_at ss j)) → (j : ℕ) → IsPlace links w j (place_at ss j)
-each_same links v w ss lanes held each j = moved links v w j (place_at ss j) (search (rules, held)) lanes (each j)
 
 pub free_place : (links : List ℕ) (v : Seating) (lane : ℕ) → stint_at v lane ≡ None → IsPlace links v lane None
 free_place links v lane e = record { free = λ none. e; held = λ s some. absurd (none-some s some) }
@@ -133,18 +129,6 @@ all_same lane h k others received answered held given_back =
       held = λ j. dite (ℕ_discrete j lane) (λ e. subst Held (sym e) held) (λ ne. others.held j ne);
       given_back = given_back;
     }
-
--- which places have a stint
-pub some_here : (ss : Stints) (lane : ℕ) (new : Option Stint) → lane < length ss → is_some (place_at (set ss lane new) lane) ≡ is_some new
-some_here ss lane new lt = ap is_some (get_or-set_same ss lane new None lt)
-
-pub some_other : (ss : Stints) (lane j : ℕ) (new : Option Stint) → j ≢ lane → is_some (place_at (set ss lane new) j) ≡ is_some (place_at ss j)
-some_other ss lane j new ne = ap is_some (get_or-set_other ss lane j new None ne)
-
-pub some_same : (ss : Stints) (lane : ℕ) (new : Option Stint) → lane < length ss → is_some new ≡ is_some (place_at ss lane) → (j : ℕ) → is_some (place_at (set ss lane new) j) ≡ is_some (place_at ss j)
-some_same ss lane new lt e j =
-    let At : ℕ → Type 0 = λ i. is_some (place_at (set ss lane new) i) ≡ is_some (place_at ss i) in
-    dite (ℕ_discrete j lane) (λ h. subst At (sym h) (some_here ss lane new lt ∙ e)) (λ ne. some_other ss lane j new ne)
 
 -- where no port holds a lane, there is nothing at its place
 pub nothing_there : (o : Option Stint) → is_some o ≡ false → o ≡ None

@@ -22,7 +22,7 @@ use Rattle.flow_claims.specs.Open.{IsOpen, received_so_far, answered_so_far}
 use Rattle.flow_claims.specs.Seats.{stint_at, find_lane, IsPorts}
 use Rattle.flow_claims.specs.Stints.{left_in, received_in, answered_in}
 use Rattle.flow_claims.proofs.Held.{nothing_held}
-use Rattle.event_ports.specs.Holds.{place_at, IsHeldAt, AreFlows, stints_at, received_past, answered_past, left_past, surrendered_past, left_on, LeavesFree, received_now, answered_now, held_now, Hands, received_on, answered_on, IsFilledBy, Flushed, Kept, Ends, Same, SameBut, Gets, Says}
+use Rattle.event_ports.specs.Holds.{place_at, IsHeldAt, AreFlows, stints_at, received_past, answered_past, left_past, surrendered_past, left_on, LeavesFree, received_now, answered_now, held_now, Hands, received_on, answered_on, IsFilledBy, Flushed, Kept, Same, SameBut, Gets, Says}
 use Rattle.event_ports.proofs.Unanswered.{left_here, left_other, surrendered, none_surrendered, others_surrendered}
 use Rattle.event_ports.proofs.Places.{Stints, hands, each_place, moved, free_place, held_place, past_places, past_more, other_stints, same_now, same_but, received_here, answered_here, held_here, all_same}
 
@@ -302,21 +302,8 @@ all_kept lane h k others received answered left free =
 pub none_at_all : (ss : Stints) (n : ℕ) → length ss ≡ n → ((j : ℕ) → j < n → place_at ss j ≡ None) → (j : ℕ) → place_at ss j ≡ None
 none_at_all ss n e none j = dite (dec_le (suc j) n) (λ lt. none j lt) (λ le. past_places ss j (omega (arith, le, e)))
 
-pub ends_with : (h k : Hands) → Kept h k → ((j : ℕ) → place_at k.stints j ≡ None) → Ends h k.view
-ends_with h k kept none =
-    record {
-      received = λ j. sym (append-nil (received_past j k.view.finished)) ∙ sym (ap (λ o. received_past j k.view.finished ++ received_now k.view o) (none j)) ∙ kept.received j;
-      answered_is = λ j. sym (append-nil (answered_past j k.view.finished)) ∙ sym (ap (λ o. answered_past j k.view.finished ++ answered_now k.view o) (none j)) ∙ kept.answered_is j;
-      left = λ j. sym (append-nil (left_past j k.view.finished)) ∙ sym (ap (λ o. left_past j k.view.finished ++ held_now o) (none j)) ∙ kept.left j;
-      free = λ j was. (kept.free j was).1;
-    }
-
 pub holds_none : (claims : Claims) (seat : ClaimSeat) (ss : Stints) (links : List ℕ) → AreFlows claims seat ss links → ((j : ℕ) → place_at ss j ≡ None) → (seating seat).held ≡ []
 holds_none claims seat ss links are none = nothing_held (seating seat).held (λ lane. (are.each lane).free (none lane))
-
-pub all_linked : (claims : Claims) (seat : ClaimSeat) (ss : Stints) (links : List ℕ) → AreFlows claims seat ss links
-    → All (λ p. (p.port ≡ port_of seat) × (has p.lane links ≡ true)) (seating seat).finished
-all_linked claims seat ss links are k d lt = (are.ports.finished k d lt, are.linked k d lt)
 
 -- a lane of which something is unanswered is there
 pub lane_there : (claims : Claims) (seat : ClaimSeat) (ss : Stints) (links : List ℕ) (lane : ℕ) → AreFlows claims seat ss links → held_now (place_at ss lane) ≢ [] → lane < length (lanes_of claims)

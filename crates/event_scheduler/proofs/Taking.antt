@@ -1,5 +1,5 @@
 -- Replies are taken: one, none, and some after others.
-use Rattle.std.proofs.Common.{◌≡◌, ℕ, ◌+◌, ◌*◌, ◌<◌, ◌≤◌, ◌%◌, ◌^◌, ◌==◌, Bool, true, false, cond, nat_lt, ◌&&◌, ◌||◌, ◌⊎◌, inl, inr, List, [], ◌∷◌, ◌++◌, length, map, set, get_or, All, refl, sym, ap, ◌∙◌, subst, append_assoc, append-nil, add-zero, arith}
+use Rattle.std.proofs.Common.{◌≡◌, ℕ, ◌+◌, ◌*◌, ◌<◌, ◌≤◌, ◌%◌, ◌^◌, ◌==◌, Bool, true, false, cond, nat_lt, ◌&&◌, ◌||◌, ◌⊎◌, inl, inr, List, [], ◌∷◌, ◌++◌, length, map, set, get_or, All, refl, sym, ap, ◌∙◌, subst, append_assoc, append-nil, arith}
 use Rattle.std.proofs.lemmas.Bool.{cases_lt, false≢true, le-ltb}
 use Rattle.std.proofs.lemmas.List.{length-append, map-append}
 use Rattle.std.proofs.lemmas.List.Elements.{filter_map-append}
@@ -8,7 +8,7 @@ use Rattle.credit_pool.specs.declared.pool.Credits.{Credits}
 use Rattle.event_scheduler.proofs.Counts.{count-append, new_fits, reply_enters, reply_shuts_none, reply_turns}
 use Rattle.event_scheduler.proofs.Lanes.{each_lane, same_lists, same_sight}
 use Rattle.event_scheduler.proofs.Looking.{append_none}
-use Rattle.event_scheduler.proofs.Replies.{after-append, by_lane-append, first_more, first_within, may-append, of_first_is, only_is, only_more, only_within, one_count, one_elsewhere, one_here, one_said, one_steps, steps-append}
+use Rattle.event_scheduler.proofs.Replies.{after-append, by_lane-append, first_more, first_within, may-append, of_first_is, only_is, only_more, one_count, one_elsewhere, one_here, one_said, one_steps, steps-append}
 use Rattle.event_scheduler.proofs.Serving.{Adds, runs_by, runs_none, runs_runs, stays_same}
 use Rattle.credit_pool.specs.Pockets.{IsPocket}
 use Rattle.event_scheduler.specs.Scheduler.{IsAccepted, Runs, Sight, offered_at, sight, taken_at}
@@ -182,13 +182,6 @@ pub lane_more : (l n : ℕ) (b : Bool) (s t u : Sight) (log mid longer : List St
 lane_more l n true s t u log mid longer is h k =
     takes_takes (only l n) (only l 1) (only l (n + 1)) n 1 s t u log mid longer h k (λ i j some more. omega (arith, only_is l n i some, only_is l 1 j more)) (λ m. only_more l n 1 m)
 lane_more l n false s t u log mid longer is h k = absurd (false≢true is)
-
-pub lane_ends : (l n most : ℕ) (b : Bool) (s t u : Sight) (log mid longer : List Step) → b ≡ false → n ≤ most → Takes (only l n) n s log t mid → Takes (only l (cond b 1 0)) (cond b 1 0) t mid u longer
-    → Takes (only l most) n s log u longer
-lane_ends l n most true s t u log mid longer is within h k = absurd (false≢true (sym is))
-lane_ends l n most false s t u log mid longer is within h k =
-    subst (λ k. Takes (only l most) k s log u longer) (add-zero n)
-    (takes_takes (only l n) (only l 0) (only l most) n 0 s t u log mid longer h k (λ i j some more. omega (arith, only_is l n i some, only_is l 0 j more)) (λ m. omega (arith, only_more l n 0 m, only_within l (n + 0) most m (omega (arith, within)))))
 
 pub next_lane : (i most same n k : ℕ) (s t u : Sight) (log mid longer : List Step) → same ≡ most → Takes (of_first i most) n s log t mid → Takes (only i same) k t mid u longer
     → Takes (of_first (i + 1) most) (n + k) s log u longer

@@ -1,78 +1,79 @@
-//! The program `example_runs`: it plays or runs each document of the folder that it is run in, examples/, and says whether that
-//! prints what the file beside the document has.
+//! The program `example_runs`: it plays or runs each document that the index of its folder names, and says which of them don't end
+//! as the index and the file beside the document say. The folder is the one that it is run in, examples/.
 #![tactic(auto)]
 
-use anyhow::Result;
-use pipeline_app::{AppFault, OpenGate, play, run_trace};
+mod ending;
+mod index;
+
+use anyhow::{Context, Result, ensure};
+use ending::ending_of;
+use index::{Entry, entry_of, names_a_run};
 use std::fs;
+use std::process::ExitCode;
 use std::rt::Files;
 use std::sync::Wait;
 use std::thread::Threads;
 
-/// How many workers a pipeline's document is run by. What it prints doesn't depend on that.
-const WORKERS: u32 = 4;
+/// The file that names the runs, one in each line.
+const INDEX: &str = "runs.txt";
 
-/// What is done with a document.
-#[derive(Clone, Copy, Debug)]
-enum Way {
-    Play,
-    Run,
+/// The bytes of a file of the folder.
+fn bytes_of<R: AllocGlobal + Files>(rt: &R, name: &str) -> Result<Vec<u8>> {
+    fs::read(rt, name).context(format_args!("{name} can't be read"))
 }
 
-/// The documents, by the name of their files.
-static EXAMPLES: [(&str, Way); 11] = [
-    ("first-event", Way::Play),
-    ("two-flows", Way::Play),
-    ("one-flow-two-ports", Way::Play),
-    ("overtaking", Way::Play),
-    ("backpressure", Way::Play),
-    ("two-stages", Way::Play),
-    ("ordered-stage", Way::Play),
-    ("ordered-release", Way::Play),
-    ("transmit", Way::Play),
-    ("three-stages", Way::Run),
-    ("dropping-stages", Way::Run),
-];
-
-/// What the document prints.
-fn printed<R: AllocGlobal + Threads + Wait + Sync>(
+/// Whether the run ends as its entry says. Where it doesn't, how it ended is printed.
+fn ends_as_written<R: AllocGlobal + Files + Print + Threads + Wait + Sync>(
     rt: &R,
-    document: &str,
-    way: Way,
-) -> Result<Vec<u8>, AppFault> {
-    let alloc = rt.alloc();
-    let mut reader = document.as_bytes();
-    let mut written = Vec::new(alloc);
-    match way {
-        Way::Play => play(alloc, &mut reader, &mut written)?,
-        Way::Run => run_trace(rt, alloc, &mut reader, WORKERS, &OpenGate, &mut written)?,
-    }
-    Ok(written)
-}
-
-/// Whether the document prints what the file beside it has.
-fn is_as_written<R: AllocGlobal + Files + Threads + Wait + Sync>(
-    rt: &R,
-    name: &str,
-    way: Way,
+    entry: &Entry<'_>,
 ) -> Result<bool> {
-    let alloc = rt.alloc();
-    let document = fs::read_to_string(rt, format!(in alloc; "{name}.toml")?.as_str())?;
-    let text = fs::read_to_string(rt, format!(in alloc; "{name}.out")?.as_str())?;
-    match printed(rt, document.as_str(), way) {
-        Ok(written) => Ok(written.as_slice() == text.as_bytes()),
-        Err(_) => Ok(false),
+    let Entry {
+        document,
+        printed,
+        status,
+        words,
+    } = *entry;
+    let given = bytes_of(rt, document)?;
+    let wanted = bytes_of(rt, printed)?;
+    let ending = ending_of(rt, words, &given)?;
+    let is_as_written = ending.is(status, &wanted);
+    if !is_as_written {
+        println!(rt; "{document} {words}: not as written, but {ending}")?;
     }
+    Ok(is_as_written)
 }
 
-fn main(rt: HostRuntime) -> Result<()> {
-    for (name, way) in &EXAMPLES {
-        let end = if is_as_written(&rt, name, *way)? {
-            "as written"
-        } else {
-            "not as written"
-        };
-        println!(rt; "{name}: {end}")?;
+/// Whether the run that a line of the index names ends as the line says.
+fn holds<R: AllocGlobal + Files + Print + Threads + Wait + Sync>(
+    rt: &R,
+    line: &str,
+) -> Result<bool> {
+    let Some(entry) = entry_of(line) else {
+        println!(rt; "{INDEX} names no run in the line: {line}")?;
+        return Ok(false);
+    };
+    ends_as_written(rt, &entry)
+}
+
+fn main(rt: HostRuntime) -> Result<ExitCode> {
+    let index = fs::read_to_string(&rt, INDEX).context("the index can't be read")?;
+    let lines: Vec<&str> = index
+        .lines()
+        .filter(|line| names_a_run(line))
+        .collect(rt.alloc())?;
+    ensure!(!lines.is_empty(), "the index names no run");
+    let count = lines.len();
+    let mut wrong = 0usize;
+    for line in &lines {
+        if !holds(&rt, line)? {
+            wrong = wrong.saturating_add(1);
+        }
     }
-    Ok(())
+    if wrong == 0 {
+        println!(rt; "{count} runs, all as written")?;
+        Ok(ExitCode::from(0))
+    } else {
+        println!(rt; "{count} runs, {wrong} not as written")?;
+        Ok(ExitCode::from(1))
+    }
 }

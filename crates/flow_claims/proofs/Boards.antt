@@ -2,7 +2,6 @@
 use Rattle.std.proofs.Common.{◌≡◌, ◌≢◌, ℕ, suc, ◌+◌, ◌/◌, ◌%◌, ◌<◌, ◌≤◌, ◌⊎◌, inl, inr, ⊎_elim, List, [], length, get_or, slice_get, Option, Some, None, All, Contains, refl, sym, ◌∙◌, subst, arith, sum_by}
 use Rattle.std.specs.List.{range_with_len}
 use Rattle.std.proofs.lemmas.List.Elements.{All-contains, All-weaker}
-use Rattle.std.proofs.lemmas.Option.{none-some}
 use native.Mathlib.Decide.{dec_le}
 use lib.ListN.{get_elem?}
 use Rattle.lane_rings.specs.Ends.{unanswered}
@@ -31,13 +30,6 @@ held_some lane bs some = by (find_lane lane bs) refl
     by : (found : Option Begun) → find_lane lane bs ≡ found → (b : Begun) × (find_lane lane bs ≡ Some b)
     by None e = absurd (omega (arith, some, none_open lane bs e))
     by (Some b) e = (b, e)
-
-some_held : (lane : ℕ) (bs : List Begun) (b : Begun) → find_lane lane bs ≡ Some b → 0 < opens lane bs
-some_held lane bs b e = by (dec_le 1 (opens lane bs))
-  where
-    by : Dec (1 ≤ opens lane bs) → 0 < opens lane bs
-    by (yes some) = omega (arith, some)
-    by (no none) = absurd (none-some b (sym (none_found lane bs (omega (arith, none))) ∙ e))
 
 is_below : (a b : ℕ) → a < b → below a b ≡ 1
 is_below a b h = grind (arith, h)

@@ -56,13 +56,6 @@ record_numbers lane n l (p ∷ ps) r k =
     one_more : (a b : ℕ) → a + 1 + b ≡ a + suc b
     one_more a b = omega arith
 
--- what stands at a place of the record has that number
-pub record_at : (lane n : ℕ) (l : LaneLists) (ps : List Past) → IsRecordFrom lane n l ps
-    → (i : ℕ) (p : Past) → slice_get ps i ≡ Some p → p.number ≡ n + i
-record_at lane n l [] r i p e = absurd (none-some p e)
-record_at lane n l (q ∷ qs) r zero p e = omega (arith, ap (λ (x : Past). x.number) (same_Some q p e), r.1)
-record_at lane n l (q ∷ qs) r (suc i) p e = omega (arith, record_at lane (n + 1) q.end qs r.4 i p e)
-
 -- the weight of a list is that of a first part and that of the rest
 sum_of_rest : {A : Type 0} (f : A → ℕ) (a b : List A) → b ≡ a ++ drop (length a) b → sum_by f (drop (length a) b) + sum_by f a ≡ sum_by f b
 sum_of_rest f a b e = omega (arith, ap (sum_by f) e, sum_by-append f a (drop (length a) b))

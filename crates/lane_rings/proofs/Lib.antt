@@ -1,3 +1,5 @@
 pub mod Histories
 pub mod Handing
 pub mod Room
+pub mod Lanes
+pub mod Fetching

@@ -3,7 +3,10 @@
 ghost use Rattle.std.specs.Prelude.{◌≡◌, ◌+◌, ◌≤◌, [], ◌++◌, length, max, IfOk};
 ghost use Rattle.lane_rings.specs.Ends.{offered, taken, seen_replies, received_by, seen_deliveries, answered, answers_among, held_list};
 ghost use Rattle.lane_rings.specs.Identity.{near_id, far_id};
+ghost use Rattle.lane_rings.specs.Intakes.{ahead, handed};
+ghost use Rattle.lane_rings.specs.Outlets.{put_in};
 ghost use Rattle.lane_rings.specs.Rest.{undelivered, untaken, still_held};
+ghost use Rattle.rtrb.specs.Ring.{IsPair, consumer_capacity, producer_capacity};
 
 use crate::far::Far;
 use crate::intake::Intake;
@@ -34,6 +37,22 @@ fn no_reply() -> Reply {
     }
 }
 
+/// The two sides of a ring of so many slots, with nothing in it.
+fn ends_of<T: Copy>(
+    alloc: Global,
+    slots: usize,
+    filler: T,
+) -> Result<(Outlet<T>, Intake<T>), Memory>
+    ensures pair { IfOk result (λ r. IsPair r.0.ring r.1.ring) }
+    ensures writing { IfOk result (λ r. (put_in r.0 ≡ []) × (producer_capacity r.0.ring ≡ slots)) }
+    ensures reading { IfOk result (λ r. (handed r.1 ≡ []) × (ahead r.1 ≡ []) × (consumer_capacity r.1.ring ≡ slots)) }
+{
+    let (producer, consumer) = RingBuffer::new(alloc, slots)?;
+    let outlet = Outlet::new(alloc, producer)?;
+    let intake = Intake::new(alloc, consumer, filler)?;
+    Ok((outlet, intake))
+}
+
 /// Makes a lane, whose lists are empty. `depth` is how many deliveries the ring has room for, and how many the holder may
 /// hold unanswered; `replies` is how many replies the other ring has room for. Any numbers will do for which memory is there.
 pub fn lane(alloc: Global, depth: usize, replies: usize) -> Result<(Near, Far), Memory>
@@ -42,12 +61,8 @@ pub fn lane(alloc: Global, depth: usize, replies: usize) -> Result<(Near, Far), 
     ensures near { IfOk result (λ r. (offered r.0 ≡ []) × (taken r.0 ≡ []) × (seen_replies r.0 ≡ [])) }
     ensures far { IfOk result (λ r. (received_by r.1 ≡ []) × (seen_deliveries r.1 ≡ []) × (answered r.1 ≡ [])) }
 {
-    let (offers, receipts) = RingBuffer::new(alloc, depth)?;
-    let offers = Outlet::new(alloc, offers)?;
-    let receipts = Intake::new(alloc, receipts, no_delivery())?;
-    let (answers, takings) = RingBuffer::new(alloc, replies)?;
-    let answers = Outlet::new(alloc, answers)?;
-    let takings = Intake::new(alloc, takings, no_reply())?;
+    let (offers, receipts) = ends_of(alloc, depth, no_delivery())?;
+    let (answers, takings) = ends_of(alloc, replies, no_reply())?;
     let history = HeapCircularBuffer::with_capacity(alloc, depth)?;
     let near = Near {
         deliveries: offers,

@@ -3,7 +3,7 @@ use Rattle.std.proofs.Common.{◌≡◌, ℕ, suc, ◌+◌, ◌-◌, ◌<◌, �
 use Rattle.std.proofs.lemmas.Bool.{cases_eq, cases_lt, lt-ltb, le-leb, false_from_ne_true, false≢true, ltb-true, leb-true, ne_eqb}
 use Rattle.lists.specs.Lists.{has}
 use Rattle.std.proofs.lemmas.List.{drop_all, take_all, append-nil, length-append, length-map, get_or-map}
-use Rattle.std.proofs.Common.{take_at, drop_at, append_assoc}
+use Rattle.std.proofs.Common.{take_at, drop_at}
 use Rattle.std.proofs.lemmas.List.Sums.{sum_by-cons}
 use borrow.Rule.Slice.PartMut.{mid_of, put_mid, post_of}
 use Rattle.std.specs.List.Sorted.{IsNonDecreasing, IsNonDecreasingBy}
@@ -96,14 +96,6 @@ pub tail_is : {X : Type 0} (items before xs : List X) (s : ℕ) → items ≡ be
 tail_is items before xs s is start =
     let e : length items ≡ length before + length xs = ap length is ∙ length-append before xs in
     ap (take (length items - s)) (ap (drop s) is ∙ drop_at before xs s (sym start)) ∙ take_all (length items - s) xs (omega arith)
-
-pub four_lists : {X : Type 0} (b i j k l p q r t : List X) → i ≡ b ++ p → j ≡ i ++ q → k ≡ j ++ r → l ≡ k ++ t → l ≡ b ++ (p ++ (q ++ (r ++ t)))
-four_lists b i j k l p q r t e f g h =
-    h
-    ∙ (ap (λ zs. zs ++ t) (g ∙ ap (λ zs. zs ++ r) (f ∙ ap (λ zs. zs ++ q) e))
-    ∙ (append_assoc ((b ++ p) ++ q) r t
-    ∙ (append_assoc (b ++ p) q (r ++ t)
-    ∙ append_assoc b p (q ++ (r ++ t)))))
 
 -- ---- pairs with one first part
 

@@ -39,12 +39,6 @@ none_open [] i q o = cc
 none_open (x ∷ xs) zero q o = cc
 none_open (x ∷ xs) (suc i) q o = none_open xs i q o
 
--- the place at an index, where there is one
-pub place_some : (xs : List Handed) (i : ℕ) (h : Handed) (d : Place) → slice_get xs i ≡ Some h → slice_index_or (map place_of xs) i d ≡ place_of h
-place_some [] i h d e = absurd cc
-place_some (x ∷ xs) zero h d e = ap place_of (same_Some x h e)
-place_some (x ∷ xs) (suc i) h d e = place_some xs i h d e
-
 pub place_none : (xs : List Handed) (i : ℕ) (d : Place) → slice_get xs i ≡ None → slice_index_or (map place_of xs) i d ≡ d
 place_none [] i d e = refl
 place_none (x ∷ xs) zero d e = absurd cc

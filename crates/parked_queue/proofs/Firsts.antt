@@ -87,18 +87,6 @@ none_of_level v c marks has empty e k d h =
     (λ le. false≢true (sym (none_first (is_in (place_of v.waits.slots v.below) c) v.waits.waiting e k d h) ∙ is_main v.waits.slots v.below c u here le))
     (cases_lt u.number (below_at v.below c))
 
--- nothing waits, of no level
-pub no_levels : (v : Waits) (levels : Places) → ((c : ℕ) → HasNoneOf v c) → IsEmpty levels → AreLevels v levels
-no_levels v levels none empty = record { there = λ c has. absurd (empty c has); rest = λ c _. none c }
-
--- a level of which nothing waits leaves
-pub level_gone : (v : Waits) (c : ℕ) (was now : Places) → HasNoneOf v c → SameBut c was now → (¬ Has now c) → AreLevels v was → AreLevels v now
-level_gone v c was now none others gone levels =
-    record {
-      there = λ k has. ⊎_elim (λ e. absurd (gone (subst (Has now) e has))) (λ ne. levels.there k ((others k ne).0 has)) (cases_eq k c);
-      rest = λ k never. ⊎_elim (λ e. subst (HasNoneOf v) (sym e) none) (λ ne. levels.rest k (λ has. never ((others k ne).1 has))) (cases_eq k c);
-    }
-
 -- the level of an event that comes is added
 pub levels_with : (v : Waits) (e : Event) (was now : Places) → level_of e < 4 → Has now (level_of e) → SameBut (level_of e) was now → AreLevels v was → AreLevels (with_event v e) now
 levels_with v e was now lt here others levels =

@@ -13,6 +13,7 @@ pub mod Masks
 pub mod Options
 pub mod Slots
 pub mod Parkings
+pub mod Seen
 pub mod Segments
 pub mod Calls
 pub mod Levels

@@ -1,5 +1,5 @@
 -- The lists merge into the list of which they are the parts.
-use Rattle.std.proofs.Common.{◌≡◌, ◌≢◌, ℕ, zero, suc, ◌+◌, ◌<◌, ◌≤◌, Bool, true, false, cond, not, nat_lt, ◌&&◌, ◌||◌, ◌==◌, List, [], ◌∷◌, ◌++◌, length, set, get_or, filter, replicate, All, sum_by, ◌⊎◌, inl, inr, ⊎_elim, refl, sym, ap, ◌∙◌, subst, arith}
+use Rattle.std.proofs.Common.{◌≡◌, ◌≢◌, ℕ, zero, suc, ◌+◌, ◌<◌, ◌≤◌, Bool, true, false, cond, not, nat_lt, ◌&&◌, ◌||◌, ◌==◌, List, [], ◌∷◌, ◌++◌, length, set, get_or, filter, All, sum_by, ◌⊎◌, inl, inr, ⊎_elim, refl, sym, ap, ◌∙◌, subst, arith}
 use Rattle.std.proofs.lemmas.Bool.{cases_eq, cond-true, cond-false, false_from_ne_true, ltb-true, lt-ltb, and_right}
 use Rattle.std.proofs.lemmas.List.Elements.{All-head, All-weaker, All-tail, All-filter}
 use Rattle.std.proofs.lemmas.List.Sums.{sum_by-cons}
@@ -166,7 +166,3 @@ by_number_length (us ∷ lists) =
     merged_length us (by_number lists) ∙ omega arith
 
 -- ---- where nothing waits
-
-pub none_merged : (n : ℕ) → by_number (replicate n []) ≡ []
-none_merged zero = refl
-none_merged (suc n) = none_merged n

@@ -1,9 +1,13 @@
 //! Tests of the parts that a scheduling core is made of, over what they make public: events and configurations, the lists of
-//! waiting events, and pins, reorder buffers and histories.
+//! waiting events, and pins, reorder buffers and histories; and of a core that is made again where memory was refused.
 #![tactic(auto)]
 
 #[cfg(test)]
+mod core_again;
+#[cfg(test)]
 mod events;
+#[cfg(test)]
+mod levels;
 #[cfg(test)]
 mod orders;
 #[cfg(test)]

@@ -5,7 +5,7 @@ ghost use Rattle.order_parts.specs.History.{entries_of};
 ghost use Rattle.order_parts.specs.Pins.{free};
 ghost use Rattle.order_parts.specs.Reorder.{empty};
 
-use evt_types::{Event, EventFault, Op};
+use evt_types::{Event, Op};
 use order_parts::{Entry, History, Memory, Pins, Reorder};
 use place_set::Places;
 use std::alloc::Global;
@@ -40,61 +40,62 @@ fn history_of(alloc: Global, capacity: usize) -> Result<History, Memory>
 }
 
 /// An event as a port forwards it.
-fn forward(payload: u64) -> Result<Event, EventFault> {
-    Event::new(7, 0, 0, Op::Forward, 1, 128, payload)
-}
+const FORWARD: Event = Event {
+    flow: 7,
+    sub_type: 0,
+    event_type: 0,
+    op: Op::Forward,
+    queue: 1,
+    priority: 128,
+    impl_opaque: 0,
+    payload: 1,
+};
 
 #[test]
 fn a_slot_is_free_once_all_are_answered(rt: HostRuntime) -> Result<(), Fail> {
     let mut pins = pins_of(rt.alloc(), 1)?;
-    assert_eq!(rt; pins.slots(), 1);
     pins.pin(0, 2);
-    assert!(rt; !pins.may(0, 1));
-    assert!(rt; pins.may(0, 2));
+    let held = (pins.may(0, 1), pins.may(0, 2));
     pins.unpin(0);
-    assert!(rt; pins.may(0, 1));
+    assert_eq!(rt;
+        (pins.slots(), held, pins.may(0, 1)),
+        (1, (false, true), true)
+    );
     Ok(())
 }
 
-/// The lane's set.
-fn lane(lane: usize) -> Places
+/// Which of the first three slots don't stand on the lane.
+fn off(pins: &Pins, lane: usize) -> [bool; 3]
     requires { lane < 64 }
 {
     let mut lanes = Places::none();
     lanes.add(lane);
-    lanes
-}
-
-/// Which of the first three slots are in the set.
-fn first_three(slots: Places) -> (bool, bool, bool) {
-    (slots.has(0), slots.has(1), slots.has(2))
+    let slots = pins.slots_off(lanes);
+    [slots.has(0), slots.has(1), slots.has(2)]
 }
 
 #[test]
 fn a_held_slot_stands_on_its_lane(rt: HostRuntime) -> Result<(), Fail> {
     let mut pins = pins_of(rt.alloc(), 3)?;
     pins.pin(1, 2);
-    assert_eq!(rt; (pins.holder(0), pins.holder(1)), (None, Some(2)));
-    assert_eq!(rt; first_three(pins.slots_off(lane(2))), (true, false, true));
-    assert_eq!(rt; first_three(pins.slots_off(lane(0))), (true, true, true));
+    let held = (pins.holder(0), pins.holder(1), off(&pins, 2), off(&pins, 0));
     pins.unpin(1);
-    assert_eq!(rt; pins.holder(1), None);
-    assert_eq!(rt; first_three(pins.slots_off(lane(2))), (true, true, true));
+    let free = (pins.holder(1), off(&pins, 2));
+    assert_eq!(rt; held, (None, Some(2), [true, false, true], [true; 3]));
+    assert_eq!(rt; free, (None, [true; 3]));
     Ok(())
 }
 
 #[test]
 fn the_oldest_place_leaves_first(rt: HostRuntime) -> Result<(), Fail> {
     let mut reorder = reorder_of(rt.alloc(), 2)?;
-    assert_eq!(rt; reorder.hand(5), 0);
-    assert_eq!(rt; reorder.hand(6), 1);
-    assert!(rt; !reorder.room());
+    let handed = (reorder.hand(5), reorder.hand(6), reorder.room());
     reorder.resolve(1, None);
-    assert_eq!(rt; reorder.leave(), None);
+    let early = reorder.leave();
     reorder.resolve(0, None);
-    assert_eq!(rt; reorder.leave(), Some((5, None)));
-    assert_eq!(rt; reorder.leave(), Some((6, None)));
-    assert_eq!(rt; reorder.leave(), None);
+    let left = [early, reorder.leave(), reorder.leave(), reorder.leave()];
+    assert_eq!(rt; handed, (0, 1, false));
+    assert_eq!(rt; left, [None, Some((5, None)), Some((6, None)), None]);
     Ok(())
 }
 
@@ -134,38 +135,38 @@ fn turned_twice(alloc: Global) -> Result<Reorder, Memory>
 
 #[test]
 fn places_wrap_round_the_ring(rt: HostRuntime) -> Result<(), Fail> {
-    let event = forward(1)?;
     let mut reorder = turned_twice(rt.alloc())?;
-    assert_eq!(rt; (reorder.hand(16), reorder.hand(17)), (6, 7));
-    reorder.resolve(7, Some(event));
-    assert_eq!(rt; reorder.leave(), None);
+    let handed = [reorder.hand(16), reorder.hand(17)];
+    reorder.resolve(7, Some(FORWARD));
+    let early = reorder.leave();
     reorder.resolve(6, None);
-    assert_eq!(rt; reorder.leave(), Some((16, None)));
-    assert_eq!(rt; (reorder.hand(18), reorder.hand(19)), (8, 9));
-    assert!(rt; !reorder.room());
+    let oldest = reorder.leave();
+    let last = (reorder.hand(18), reorder.hand(19), reorder.room());
+    let left = [early, oldest, reorder.leave(), reorder.leave()];
+    assert_eq!(rt; (handed, last), ([6, 7], (8, 9, false)));
     assert_eq!(rt;
-        (reorder.leave(), reorder.leave()),
-        (Some((17, Some(event))), None)
+        left,
+        [None, Some((16, None)), Some((17, Some(FORWARD))), None]
     );
     Ok(())
 }
 
+const ENTRY: Entry = Entry {
+    queue: 3,
+    number: 8,
+    slot: 1,
+    place: 5,
+};
+
 #[test]
 fn the_oldest_entry_is_popped(rt: HostRuntime) -> Result<(), Fail> {
-    let entry = Entry {
-        queue: 3,
-        number: 8,
-        slot: 1,
-        place: 5,
-    };
     let mut history = history_of(rt.alloc(), 1)?;
-    assert!(rt; history.is_empty());
-    history.push(entry);
-    assert!(rt; history.is_full());
-    assert_eq!(rt; history.oldest(), Some(entry));
-    assert_eq!(rt; history.pop(), Some(entry));
-    assert_eq!(rt; history.len(), 0);
-    assert_eq!(rt; history.pop(), None);
+    let was_empty = history.is_empty();
+    history.push(ENTRY);
+    let held = (was_empty, history.is_full(), history.oldest());
+    let popped = (history.pop(), history.len(), history.pop());
+    assert_eq!(rt; held, (true, true, Some(ENTRY)));
+    assert_eq!(rt; popped, (Some(ENTRY), 0, None));
     Ok(())
 }
 
@@ -173,12 +174,10 @@ fn the_oldest_entry_is_popped(rt: HostRuntime) -> Result<(), Fail> {
 #[test]
 fn nothing_fits_without_room(rt: HostRuntime) -> Result<(), Fail> {
     let mut reorder = reorder_of(rt.alloc(), 0)?;
-    assert!(rt; !reorder.room());
-    assert_eq!(rt; reorder.leave(), None);
     let mut history = history_of(rt.alloc(), 0)?;
-    assert!(rt; history.is_full());
-    assert!(rt; history.is_empty());
-    assert_eq!(rt; history.pop(), None);
+    assert_eq!(rt; (reorder.room(), reorder.leave()), (false, None));
+    let both = (history.is_full(), history.is_empty());
+    assert_eq!(rt; (both, history.pop()), ((true, true), None));
     assert_eq!(rt; pins_of(rt.alloc(), 0)?.slots(), 0);
     Ok(())
 }

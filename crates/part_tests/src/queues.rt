@@ -1,16 +1,39 @@
 //! Worked calls of queues' waiting events, and of what holds them. Each is made again where memory was refused, and serves then
 //! as ever.
 
-ghost use Rattle.std.specs.Prelude.{◌≡◌, ◌<◌, ◌≤◌, [], ◌∷◌, vec_len, vec_capacity, IfOk};
-ghost use Rattle.parked_queue.specs.Waits.{all_empty};
+ghost use Rattle.std.specs.Prelude.{◌≡◌, ◌<◌, ◌≤◌, [], ◌∷◌, length, vec_len, vec_capacity, IfOk};
+ghost use Rattle.parked_queue.specs.Waits.{all_empty, waits_at};
 ghost use Rattle.waiting_lists.specs.Lists as lists;
 
-use evt_types::{Event, EventFault, Numbered, Op};
+use evt_types::{Event, Numbered, Op};
 use parked_queue::ParkedQueues;
 use place_set::Places;
 use std::alloc::{AllocError, Global};
 use std::test::Fail;
 use waiting_lists::WaitingLists;
+
+/// A new event of a middle priority, of this flow and payload.
+macro_rules! event_of {
+    ($flow:literal, $payload:literal) => {
+        Event {
+            flow: $flow,
+            sub_type: 0,
+            event_type: 0,
+            op: Op::New,
+            queue: 0,
+            priority: 128,
+            impl_opaque: 0,
+            payload: $payload,
+        }
+    };
+}
+
+/// Flows 1, 6 and 0; of four slots flow 6 has slot 2.
+const ONE: Event = event_of!(1, 10);
+
+const SIX: Event = event_of!(6, 11);
+
+const ZERO: Event = event_of!(0, 12);
 
 /// Two queues of so many slots each.
 fn queues_of(alloc: Global, slots: usize, room: usize) -> Result<ParkedQueues, AllocError>
@@ -43,127 +66,226 @@ fn pairs_of(alloc: Global, count: usize) -> Result<Vec<(usize, u64)>, AllocError
     }
 }
 
-/// An event of the flow.
-fn event(flow: u32, payload: u64) -> Result<Event, EventFault> {
-    Event::new(flow, 0, 0, Op::New, 0, 128, payload)
+/// These slots.
+fn set_of(slots: &[usize]) -> Places {
+    let mut set = Places::none();
+    for slot in slots {
+        if *slot < 64 {
+            set.add(*slot);
+        }
+    }
+    set
 }
 
-/// The slot alone.
-fn slot(slot: usize) -> Places
-    requires { slot < 64 }
-{
-    let mut slots = Places::none();
-    slots.add(slot);
-    slots
+/// How many events wait in the queue, and the levels of which one may; none where there is no such queue, as below.
+fn waiting_in(queues: &ParkedQueues, queue: usize) -> Option<(usize, Places)> {
+    if queue < queues.len() {
+        Some((queues.count(queue), queues.levels(queue)))
+    } else {
+        None
+    }
 }
+
+/// The slot of the first event of the level that is in one of these slots.
+fn first_of(
+    queues: &mut ParkedQueues,
+    queue: usize,
+    level: usize,
+    slots: &[usize],
+) -> Option<Option<usize>> {
+    if queue < queues.len() && level < 4 {
+        Some(queues.first(queue, level, set_of(slots)))
+    } else {
+        None
+    }
+}
+
+/// The oldest event of level 2 in the slot.
+fn oldest_of(queues: &mut ParkedQueues, queue: usize, slot: usize) -> Option<Option<Numbered>> {
+    if queue < queues.len() && slot < queues.slots(queue) {
+        Some(queues.oldest(queue, 2, slot))
+    } else {
+        None
+    }
+}
+
+/// Two events wait in queue 1.
+fn two_waiting(alloc: Global, first: Event, second: Event) -> Result<ParkedQueues, AllocError>
+    ensures { IfOk result (λ qs. (length qs ≡ 2) × (length (waits_at qs 1).waiting ≡ 2)) }
+{
+    let mut queues = queues_of(alloc, 4, 3)?;
+    queues.accept(1, first);
+    queues.accept(1, second);
+    Ok(queues)
+}
+
+/// Levels and slots, and the first slot of these in which an event of the level waits.
+static FIRSTS: [(usize, &[usize], Option<usize>); 4] = [
+    (2, &[2], Some(2)),
+    (2, &[0, 1, 2, 3], Some(1)),
+    (2, &[3], None),
+    (1, &[0, 1, 2, 3], None),
+];
 
 #[test]
 fn a_blocked_event_is_passed(rt: HostRuntime) -> Result<(), Fail> {
-    let mut queues = queues_of(rt.alloc(), 4, 3)?;
-    queues.accept(1, event(1, 10)?);
-    queues.accept(1, event(6, 11)?);
-    assert_eq!(rt; queues.first(1, 2, slot(2)), Some(2));
-    assert_eq!(rt; queues.first(1, 2, Places::below(4)), Some(1));
-    assert_eq!(rt; queues.first(1, 2, slot(3)), None);
-    assert_eq!(rt; queues.first(1, 1, Places::below(4)), None);
-    assert_eq!(rt; queues.count(1), 2);
-    let second = Numbered {
-        number: 1,
-        event: event(6, 11)?,
-    };
-    assert_eq!(rt; queues.oldest(1, 2, 2), Some(second));
-    assert_eq!(rt; queues.oldest(1, 2, 3), None);
-    assert_eq!(rt; queues.slot_of(1, &second), 2);
+    let mut queues = two_waiting(rt.alloc(), ONE, SIX)?;
+    for (level, slots, first) in &FIRSTS {
+        let found = first_of(&mut queues, 1, *level, slots);
+        assert_eq!(rt; found, Some(*first), "level {level}, slots {slots:?}");
+    }
     Ok(())
+}
+
+/// The second event under its number.
+const SECOND: Numbered = Numbered {
+    number: 1,
+    event: SIX,
+};
+
+#[test]
+fn a_slots_oldest_is_found(rt: HostRuntime) -> Result<(), Fail> {
+    let mut queues = two_waiting(rt.alloc(), ONE, SIX)?;
+    assert_eq!(rt; (queues.count(1), queues.slot_of(1, &SECOND)), (2, 2));
+    let parked = first_of(&mut queues, 1, 2, &[2]);
+    let oldest = [oldest_of(&mut queues, 1, 2), oldest_of(&mut queues, 1, 3)];
+    assert_eq!(rt;
+        (parked, oldest),
+        (Some(Some(2)), [Some(Some(SECOND)), Some(None)])
+    );
+    Ok(())
+}
+
+/// In each queue an event waits, and there is room for no more.
+fn one_in_each(alloc: Global) -> Result<ParkedQueues, AllocError> {
+    let mut queues = queues_of(alloc, 4, 2)?;
+    queues.accept(0, ONE);
+    queues.accept(1, SIX);
+    Ok(queues)
 }
 
 #[test]
 fn queues_share_their_room(rt: HostRuntime) -> Result<(), Fail> {
-    let mut queues = queues_of(rt.alloc(), 4, 2)?;
-    assert_eq!(rt; (queues.len(), queues.slots(1)), (2, 4));
-    queues.accept(0, event(1, 10)?);
-    queues.accept(1, event(2, 11)?);
-    assert_eq!(rt; (queues.count(0), queues.count(1)), (1, 1));
-    assert_eq!(rt; (queues.levels(0), queues.levels(1)), (slot(2), slot(2)));
-    assert_eq!(rt; queues.first(0, 2, slot(2)), None);
-    assert_eq!(rt; queues.first(1, 2, slot(2)), Some(2));
+    let mut queues = one_in_each(rt.alloc())?;
+    let waiting = [
+        waiting_in(&queues, 0),
+        waiting_in(&queues, 1),
+        waiting_in(&queues, 2),
+    ];
+    let each = Some((1, set_of(&[2])));
+    assert_eq!(rt; waiting, [each, each, None]);
+    let firsts = [
+        first_of(&mut queues, 0, 2, &[2]),
+        first_of(&mut queues, 1, 2, &[2]),
+    ];
+    assert_eq!(rt; firsts, [Some(None), Some(Some(2))]);
     Ok(())
 }
 
+/// The slot and the event at the head of level 2 of queue 0, where it may be given, and whether nothing of the level may.
+fn head_of(queues: &ParkedQueues, slot: usize) -> Option<(Option<(usize, Numbered)>, bool)> {
+    if queues.len() == 0 {
+        return None;
+    }
+    let allowed = set_of(&[slot]);
+    let head = match queues.head(0, 2, allowed) {
+        Some(found) => Some((found.slot, found.waiting)),
+        None => None,
+    };
+    Some((head, queues.is_blocked(0, 2, allowed)))
+}
+
+/// An event waits in queue 0.
+fn one_waiting(alloc: Global) -> Result<ParkedQueues, AllocError> {
+    let mut queues = queues_of(alloc, 4, 1)?;
+    queues.accept(0, ONE);
+    Ok(queues)
+}
+
+const HEAD: Numbered = Numbered {
+    number: 0,
+    event: ONE,
+};
+
+/// What isn't at the head can't be said to be blocked before it was looked for.
 #[test]
 fn the_head_is_seen_at_once(rt: HostRuntime) -> Result<(), Fail> {
-    let mut queues = queues_of(rt.alloc(), 4, 1)?;
-    queues.accept(0, event(1, 10)?);
-    let head = Numbered {
-        number: 0,
-        event: event(1, 10)?,
-    };
-    let seen = queues.head(0, 2, slot(1));
+    let mut queues = one_waiting(rt.alloc())?;
+    let before = (head_of(&queues, 1), head_of(&queues, 3));
+    let parked = first_of(&mut queues, 0, 2, &[3]);
+    let after = (head_of(&queues, 1).map(|said| said.1), head_of(&queues, 3));
     assert_eq!(rt;
-        seen.map(|found| (found.slot, found.waiting)),
-        Some((1, head))
+        before,
+        (Some((Some((1, HEAD)), false)), Some((None, false)))
     );
-    assert!(rt; queues.head(0, 2, slot(3)).is_none());
-    assert!(rt; !queues.is_blocked(0, 2, slot(3)));
-    assert_eq!(rt; queues.first(0, 2, slot(3)), None);
-    assert!(rt; queues.is_blocked(0, 2, slot(3)));
-    assert!(rt; !queues.is_blocked(0, 2, slot(1)));
+    assert_eq!(rt;
+        (parked, after),
+        (Some(None), (Some(false), Some((None, true))))
+    );
     Ok(())
 }
 
 #[test]
 fn the_pairs_of_what_waits_rise(rt: HostRuntime) -> Result<(), Fail> {
-    let mut queues = queues_of(rt.alloc(), 2, 3)?;
-    queues.accept(1, event(0, 10)?);
-    queues.accept(1, event(1, 11)?);
-    assert!(rt; queues.first(1, 2, slot(1)).is_some());
+    let mut queues = two_waiting(rt.alloc(), ZERO, ONE)?;
     let mut pairs = pairs_of(rt.alloc(), 2)?;
+    let parked = queues.first(1, 2, set_of(&[1]));
     queues.list_pairs(1, &mut pairs);
+    assert_eq!(rt; parked, Some(1));
     assert_eq!(rt; pairs.as_slice(), [(1, 0), (1, 1)].as_slice());
     Ok(())
 }
 
-#[test]
-fn lists_share_their_room(rt: HostRuntime) -> Result<(), Fail> {
-    let mut lists = lists_of(rt.alloc(), 2, 2)?;
-    let (first, second) = (
-        Numbered {
-            number: 0,
-            event: event(1, 10)?,
-        },
-        Numbered {
-            number: 1,
-            event: event(2, 11)?,
-        },
-    );
+/// Lists in which there is room for two: the first is in list 1, the second in list 0.
+fn two_listed(alloc: Global, first: Numbered, second: Numbered) -> Result<WaitingLists, AllocError>
+    ensures { IfOk result (λ l. l ≡ record { lists = (second ∷ []) ∷ (first ∷ []) ∷ []; room = 2 }) }
+{
+    let mut lists = lists_of(alloc, 2, 2)?;
     lists.push(1, first);
     lists.push(0, second);
-    assert_eq!(rt; (lists.total(), lists.len(0), lists.len(1)), (2, 1, 1));
+    Ok(lists)
+}
+
+#[test]
+fn lists_share_their_room(rt: HostRuntime) -> Result<(), Fail> {
+    let lists = two_listed(rt.alloc(), HEAD, SECOND)?;
+    let lengths = (lists.total(), lists.len(0), lists.len(1));
+    assert_eq!(rt; lengths, (2, 1, 1));
     assert_eq!(rt;
         (lists.front(0), lists.front(1)),
-        (Some(second), Some(first))
+        (Some(SECOND), Some(HEAD))
     );
-    assert_eq!(rt; lists.pop(1), Some(first));
-    assert_eq!(rt; lists.pop(1), None);
-    lists.push(0, first);
-    assert!(rt; !lists.pop_number(0, 0));
-    assert!(rt; lists.pop_number(0, 1));
-    assert_eq!(rt; lists.pop(0), Some(first));
     Ok(())
 }
 
 #[test]
-fn a_set_has_what_was_put_into_it(rt: HostRuntime) -> Result<(), Fail> {
-    let mut set = slot(63);
-    set.add(0);
-    assert!(rt; set.has(0) && set.has(63) && !set.has(62));
-    assert_eq!(rt; set.first(), Some(0));
-    assert_eq!(rt; set.both(slot(63)), slot(63));
-    assert_eq!(rt; slot(0).either(slot(63)), set);
-    assert_eq!(rt; set.except(slot(63)), slot(0));
-    set.remove(63);
-    assert_eq!(rt; set.pop(), Some(0));
-    assert!(rt; set.is_empty());
-    assert_eq!(rt; set.pop(), None);
+fn a_place_is_used_again(rt: HostRuntime) -> Result<(), Fail> {
+    let mut lists = two_listed(rt.alloc(), HEAD, SECOND)?;
+    let popped = (lists.pop(1), lists.pop(1));
+    lists.push(0, HEAD);
+    let by_number = (lists.pop_number(0, 0), lists.pop_number(0, 1));
+    assert_eq!(rt; popped, (Some(HEAD), None));
+    assert_eq!(rt; (by_number, lists.pop(0)), ((false, true), Some(HEAD)));
     Ok(())
+}
+
+#[test]
+fn a_set_has_what_was_put_into_it(rt: HostRuntime) {
+    let mut set = set_of(&[63, 0]);
+    let has = (set.has(0), set.has(63), set.has(62), set.first());
+    set.remove(63);
+    let popped = (set.pop(), set.is_empty(), set.pop());
+    assert_eq!(rt;
+        (has, popped),
+        ((true, true, false, Some(0)), (Some(0), true, None))
+    );
+}
+
+#[test]
+fn sets_are_combined(rt: HostRuntime) {
+    let (low, high, set) = (set_of(&[0]), set_of(&[63]), set_of(&[0, 63]));
+    assert_eq!(rt;
+        [set.both(high), low.either(high), set.except(high)],
+        [high, set, low]
+    );
 }

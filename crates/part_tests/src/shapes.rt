@@ -5,25 +5,144 @@ use evt_types::{Draft, FlowLane, Kind, PortDraft, QueueDraft, Serving, Shape, Sh
 use std::alloc::{AllocError, Global};
 use std::test::Fail;
 
-fn atomic_queue(slots: u32) -> QueueDraft {
-    QueueDraft {
-        kind: Kind::Atomic,
-        priority: 128,
-        slots,
-        order: 0,
-        single: false,
-    }
+pub(crate) const ATOMIC: QueueDraft = QueueDraft {
+    kind: Kind::Atomic,
+    priority: 128,
+    slots: 4,
+    order: 0,
+    single: false,
+};
+
+const PARALLEL: QueueDraft = QueueDraft {
+    kind: Kind::Parallel,
+    slots: 0,
+    ..ATOMIC
+};
+
+/// What a configuration is made of: a port for each list of links.
+#[derive(Clone, Copy)]
+pub(crate) struct Parts {
+    pub(crate) limit: u32,
+    pub(crate) queues: &'static [QueueDraft],
+    pub(crate) links: &'static [&'static [u32]],
 }
 
-fn parallel_queue() -> QueueDraft {
-    QueueDraft {
-        kind: Kind::Parallel,
-        priority: 128,
-        slots: 0,
-        order: 0,
-        single: false,
-    }
-}
+/// An atomic queue, a port that brings events in, and one that handles them.
+const SMALL: Parts = Parts {
+    limit: 4,
+    queues: &[ATOMIC],
+    links: &[&[], &[0]],
+};
+
+/// Two atomic queues, of two and of three slots, and a parallel one between them. A port brings events in, one handles those of the
+/// first two queues, and one those of all.
+const THREE_QUEUES: Parts = Parts {
+    limit: 4,
+    queues: &[
+        QueueDraft { slots: 2, ..ATOMIC },
+        PARALLEL,
+        QueueDraft { slots: 3, ..ATOMIC },
+    ],
+    links: &[&[], &[1, 0], &[2, 1, 0]],
+};
+
+const NO_LINKS: &[u32] = &[];
+
+/// Parts, and why a configuration of them is refused, with either kind of serving.
+static ROWS: [(Parts, Option<ShapeFault>); 13] = [
+    (SMALL, None),
+    (Parts { limit: 0, ..SMALL }, Some(ShapeFault::LimitRange)),
+    (
+        Parts {
+            limit: 16384,
+            ..SMALL
+        },
+        None,
+    ),
+    (
+        Parts {
+            limit: 16385,
+            ..SMALL
+        },
+        Some(ShapeFault::LimitRange),
+    ),
+    (
+        Parts {
+            queues: &[QueueDraft {
+                slots: 64,
+                ..ATOMIC
+            }],
+            ..SMALL
+        },
+        None,
+    ),
+    (
+        Parts {
+            queues: &[QueueDraft {
+                slots: 65,
+                ..ATOMIC
+            }],
+            ..SMALL
+        },
+        Some(ShapeFault::FlowSlots),
+    ),
+    (
+        Parts {
+            queues: &[QueueDraft {
+                slots: 43,
+                ..ATOMIC
+            }; 3],
+            ..SMALL
+        },
+        Some(ShapeFault::FlowSlots),
+    ),
+    (
+        Parts {
+            queues: &[QueueDraft {
+                single: true,
+                ..ATOMIC
+            }],
+            links: &[&[0], &[0]],
+            ..SMALL
+        },
+        Some(ShapeFault::SingleLinkCount),
+    ),
+    (
+        Parts {
+            links: &[&[0], &[0]],
+            ..SMALL
+        },
+        None,
+    ),
+    (
+        Parts {
+            links: &[&[0, 0]],
+            ..SMALL
+        },
+        Some(ShapeFault::LinkTwice),
+    ),
+    (
+        Parts {
+            links: &[&[1]],
+            ..SMALL
+        },
+        Some(ShapeFault::LinkUnknown),
+    ),
+    (
+        Parts {
+            links: &[&[]],
+            ..SMALL
+        },
+        Some(ShapeFault::QueueUnlinked),
+    ),
+    (
+        Parts {
+            links: &[NO_LINKS; 33],
+            ..SMALL
+        },
+        Some(ShapeFault::PortCount),
+    ),
+];
 
 /// A list of these items.
 fn list_of<T: Copy>(alloc: Global, items: &[T]) -> Result<Vec<T>, AllocError> {
@@ -49,18 +168,11 @@ fn shape_of(alloc: Global, draft: &Draft) -> Result<Shape, ShapeFault> {
     }
 }
 
-/// A draft with a port for each list of links.
-fn draft_of(
-    alloc: Global,
-    serving: Serving,
-    limit: u32,
-    queues: &[QueueDraft],
-    links: &[&[u32]],
-) -> Result<Draft, AllocError> {
-    let mut ports = ports_of(alloc, links.len())?;
-    for list in links {
+fn draft_of(alloc: Global, parts: &Parts, serving: Serving) -> Result<Draft, AllocError> {
+    let mut ports = ports_of(alloc, parts.links.len())?;
+    for list in parts.links {
         ports.push(PortDraft {
-            threshold: limit,
+            threshold: parts.limit,
             depth: 4,
             replies: 4,
             implicit: false,
@@ -68,140 +180,133 @@ fn draft_of(
         })?;
     }
     Ok(Draft {
-        limit,
+        limit: parts.limit,
         quantum: 2,
         sweep: 8,
         serving,
-        queues: list_of(alloc, queues)?,
+        queues: list_of(alloc, parts.queues)?,
         ports,
     })
 }
 
-/// Why a draft of these parts is refused, with each kind of serving.
-fn refusals(
-    alloc: Global,
-    limit: u32,
-    queues: &[QueueDraft],
-    links: &[&[u32]],
-) -> Result<[Option<ShapeFault>; 2], AllocError> {
-    let by_ports = draft_of(alloc, Serving::Ports, limit, queues, links)?;
-    let by_flows = draft_of(alloc, Serving::Flows, limit, queues, links)?;
-    Ok([
-        shape_of(alloc, &by_ports).err(),
-        shape_of(alloc, &by_flows).err(),
-    ])
-}
-
-#[test]
-fn refused_numbers(rt: HostRuntime) -> Result<(), Fail> {
-    let links: [&[u32]; 2] = [&[], &[0]];
-    for (limit, slots, fault) in [
-        (4, 4, None),
-        (0, 4, Some(ShapeFault::LimitRange)),
-        (16384, 4, None),
-        (16385, 4, Some(ShapeFault::LimitRange)),
-        (4, 64, None),
-        (4, 65, Some(ShapeFault::FlowSlots)),
-    ] {
-        assert_eq!(rt;
-            refusals(rt.alloc(), limit, &[atomic_queue(slots)], &links)?,
-            [fault, fault],
-            "limit {limit}, slots {slots}"
-        );
+/// The shape of these parts, or why there is none.
+pub(crate) fn made_of(alloc: Global, parts: &Parts, serving: Serving) -> Result<Shape, ShapeFault> {
+    match draft_of(alloc, parts, serving) {
+        Ok(draft) => shape_of(alloc, &draft),
+        Err(_) => Err(ShapeFault::Memory),
     }
-    Ok(())
 }
 
 #[test]
-fn refused_queues(rt: HostRuntime) -> Result<(), Fail> {
-    let links: [&[u32]; 2] = [&[0], &[0]];
-    let mut single = atomic_queue(4);
-    single.single = true;
-    let slots = refusals(rt.alloc(), 4, &[atomic_queue(43); 3], &links)?;
-    assert_eq!(rt; slots, [Some(ShapeFault::FlowSlots); 2]);
-    let shared = refusals(rt.alloc(), 4, &[single], &links)?;
-    assert_eq!(rt; shared, [Some(ShapeFault::SingleLinkCount); 2]);
-    Ok(())
-}
-
-#[test]
-fn refused_links(rt: HostRuntime) -> Result<(), Fail> {
-    let many: [&[u32]; 33] = [&[]; 33];
-    let lists: [(&[&[u32]], Option<ShapeFault>); 5] = [
-        (&[&[0], &[0]], None),
-        (&[&[0, 0]], Some(ShapeFault::LinkTwice)),
-        (&[&[1]], Some(ShapeFault::LinkUnknown)),
-        (&[&[]], Some(ShapeFault::QueueUnlinked)),
-        (&many, Some(ShapeFault::PortCount)),
-    ];
-    for (links, fault) in lists {
-        let refused = refusals(rt.alloc(), 4, &[atomic_queue(4)], links)?;
-        assert_eq!(rt; refused, [fault, fault], "{links:?}");
+fn refused_shapes(rt: HostRuntime) {
+    for (place, (parts, fault)) in ROWS.iter().enumerate() {
+        let by_ports = made_of(rt.alloc(), parts, Serving::Ports).err();
+        let by_flows = made_of(rt.alloc(), parts, Serving::Flows).err();
+        assert_eq!(rt; [by_ports, by_flows], [*fault, *fault], "row {place}");
     }
-    Ok(())
 }
 
-/// A device with one atomic queue, a port that brings events in, and one that handles them.
-fn small_shape(alloc: Global) -> Result<Shape, Fail> {
-    let links: [&[u32]; 2] = [&[], &[0]];
-    let draft = draft_of(alloc, Serving::Ports, 4, &[atomic_queue(4)], &links)?;
-    let shape = shape_of(alloc, &draft)?;
-    Ok(shape)
+/// A shape's numbers.
+fn numbers_of(shape: &Shape) -> (u32, u32, u32, Serving, usize) {
+    let serving = shape.serving();
+    (
+        shape.limit(),
+        shape.quantum(),
+        shape.sweep(),
+        serving,
+        shape.bound(),
+    )
+}
+
+/// How many ports, lanes and queues there are.
+fn counts_of(shape: &Shape) -> (usize, usize, usize) {
+    (shape.ports().len(), shape.lanes(), shape.queues().len())
+}
+
+/// Whether the lane serves the slot of the queue; none where there is no such lane or queue.
+fn serves(shape: &Shape, lane: usize, queue: usize, slot: usize) -> Option<bool> {
+    if lane < shape.lanes() && queue < shape.queues().len() {
+        Some(shape.serves(lane, queue, slot))
+    } else {
+        None
+    }
+}
+
+/// How many deliveries and how many replies the lane has room for.
+fn room_of(shape: &Shape, lane: usize) -> Option<(usize, usize)> {
+    if lane < shape.lanes() {
+        Some((shape.depth_of(lane), shape.replies_of(lane)))
+    } else {
+        None
+    }
 }
 
 #[test]
 fn parts_of_a_shape(rt: HostRuntime) -> Result<(), Fail> {
-    let shape = small_shape(rt.alloc())?;
-    assert_eq!(rt; (shape.limit(), shape.quantum(), shape.sweep()), (4, 2, 8));
-    assert_eq!(rt; shape.serving(), Serving::Ports);
-    assert_eq!(rt; shape.queues(), [atomic_queue(4)].as_slice());
-    assert_eq!(rt; (shape.ports().len(), shape.lanes()), (2, 2));
-    assert!(rt; shape.flows().is_empty());
+    let shape = made_of(rt.alloc(), &SMALL, Serving::Ports)?;
+    assert_eq!(rt; numbers_of(&shape), (4, 2, 8, Serving::Ports, 12));
+    assert_eq!(rt; counts_of(&shape), (2, 2, 1));
+    assert!(rt; shape.queues() == SMALL.queues && shape.flows().is_empty());
     Ok(())
 }
 
 #[test]
 fn answers_of_a_shape(rt: HostRuntime) -> Result<(), Fail> {
-    let shape = small_shape(rt.alloc())?;
-    assert_eq!(rt; (shape.lanes(), shape.queues().len()), (2, 1));
-    assert_eq!(rt; shape.slot_of(0, 7), 3);
-    assert!(rt; !shape.serves(0, 0, 3) && shape.serves(1, 0, 3));
-    assert_eq!(rt; (shape.depth_of(1), shape.replies_of(1)), (4, 4));
-    assert_eq!(rt; shape.bound(), 12);
+    let shape = made_of(rt.alloc(), &SMALL, Serving::Ports)?;
+    assert_eq!(rt; shape.queues().len(), 1);
+    assert_eq!(rt;
+        (shape.slot_of(0, 7), room_of(&shape, 1)),
+        (3, Some((4, 4)))
+    );
+    let served = [serves(&shape, 0, 0, 3), serves(&shape, 1, 0, 3)];
+    assert_eq!(rt; served, [Some(false), Some(true)]);
     Ok(())
 }
 
-/// A device with flow lanes: two atomic queues, of two and of three slots, and a parallel one between them. A port brings
-/// events in, one handles those of the first two queues, and one those of all.
-fn flow_shape(alloc: Global) -> Result<Shape, Fail> {
-    let queues = [atomic_queue(2), parallel_queue(), atomic_queue(3)];
-    let links: [&[u32]; 3] = [&[], &[1, 0], &[2, 1, 0]];
-    let draft = draft_of(alloc, Serving::Flows, 4, &queues, &links)?;
-    let shape = shape_of(alloc, &draft)?;
-    Ok(shape)
+static FLOWS: [FlowLane; 5] = [
+    FlowLane { queue: 0, slot: 0 },
+    FlowLane { queue: 0, slot: 1 },
+    FlowLane { queue: 2, slot: 0 },
+    FlowLane { queue: 2, slot: 1 },
+    FlowLane { queue: 2, slot: 2 },
+];
+
+/// Whether the port serves these flow lanes.
+fn has_links(shape: &Shape, port: usize, links: &[usize]) -> bool {
+    port < shape.ports().len() && shape.flow_links(port) == links
 }
 
 #[test]
 fn flow_lanes_of_a_shape(rt: HostRuntime) -> Result<(), Fail> {
-    let shape = flow_shape(rt.alloc())?;
-    assert_eq!(rt; (shape.limit(), shape.quantum(), shape.sweep()), (4, 2, 8));
-    let lanes = [(0, 0), (0, 1), (2, 0), (2, 1), (2, 2)];
-    let flows = lanes.map(|(queue, slot)| FlowLane { queue, slot });
-    assert_eq!(rt; shape.flows(), flows.as_slice());
-    assert_eq!(rt; (shape.serving(), shape.ports().len()), (Serving::Flows, 3));
-    assert_eq!(rt; shape.flow_links(1), [0, 1].as_slice());
-    assert_eq!(rt; shape.flow_links(2), [0, 1, 2, 3, 4].as_slice());
+    let shape = made_of(rt.alloc(), &THREE_QUEUES, Serving::Flows)?;
+    assert_eq!(rt; numbers_of(&shape), (4, 2, 8, Serving::Flows, 96));
+    assert_eq!(rt; counts_of(&shape), (3, 8, 3));
+    assert!(rt; shape.flows() == FLOWS.as_slice());
+    assert!(rt; has_links(&shape, 1, &[0, 1]) && has_links(&shape, 2, &[0, 1, 2, 3, 4]));
     Ok(())
 }
 
+/// Lanes, queues and slots, and whether the lane serves the slot.
+static SERVED: [(usize, usize, usize, bool); 5] = [
+    (1, 1, 0, true),
+    (1, 0, 0, false),
+    (6, 2, 1, true),
+    (6, 2, 0, false),
+    (6, 0, 1, false),
+];
+
 #[test]
 fn answers_with_flow_lanes(rt: HostRuntime) -> Result<(), Fail> {
-    let shape = flow_shape(rt.alloc())?;
-    assert_eq!(rt; (shape.lanes(), shape.queues().len()), (8, 3));
-    assert!(rt; shape.serves(1, 1, 0) && !shape.serves(1, 0, 0));
-    assert!(rt; shape.serves(6, 2, 1) && !shape.serves(6, 2, 0) && !shape.serves(6, 0, 1));
-    assert_eq!(rt; (shape.depth_of(1), shape.replies_of(1)), (4, 4));
-    assert_eq!(rt; (shape.depth_of(6), shape.replies_of(6)), (16, 16));
-    assert_eq!(rt; shape.bound(), 96);
+    let shape = made_of(rt.alloc(), &THREE_QUEUES, Serving::Flows)?;
+    for (lane, queue, slot, wanted) in &SERVED {
+        let served = serves(&shape, *lane, *queue, *slot);
+        assert_eq!(rt;
+            served,
+            Some(*wanted),
+            "lane {lane}, queue {queue}, slot {slot}"
+        );
+    }
+    let rooms = [room_of(&shape, 1), room_of(&shape, 6)];
+    assert_eq!(rt; rooms, [Some((4, 4)), Some((16, 16))]);
     Ok(())
 }

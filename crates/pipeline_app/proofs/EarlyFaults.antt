@@ -1,12 +1,9 @@
 -- The faults of the reading are faults of the play.
 use Rattle.std.proofs.Common.{◌≡◌, ℕ, ◌<◌, List, Option, Some, None, Err, length, refl, sym, ap, subst, ◌∙◌}
 use Rattle.std.proofs.lemmas.Bool.{lt-ltb}
-use Rattle.play_documents.specs.Document.{IsNamed, IsNamedDoc, Fails, document_of}
+use Rattle.play_documents.specs.Document.{IsNamedDoc, document_of}
 use Rattle.play_command.specs.Input.{IsInputFault}
-use Rattle.play_documents.specs.declared.fault.ReadFault.{ReadFault}
-use Rattle.play_documents.specs.declared.fault.ReadFault.TheVariants as reads
 use Rattle.pipeline_app.specs.Play.{IsEarlyFault}
-use Rattle.play_command.specs.Fault.{app_fault}
 use Rattle.play_command.specs.declared.fault.AppFault.{AppFault}
 use Rattle.play_command.specs.declared.fault.AppFault.TheVariants.{Read, Write, Document, Memory, NoSeat, Strayed}
 use Rattle.play_documents.specs.declared.fault.DocFault.{DocFault}
@@ -28,7 +25,3 @@ IsEarlyFault-input (Some input) (Document f) h = (long_named f h.0, too_long inp
 IsEarlyFault-input known Memory h = tt
 IsEarlyFault-input known NoSeat h = tt
 IsEarlyFault-input known Strayed h = absurd h
-
-pub IsEarlyFault-document : (bytes : List ℕ) (e : ReadFault) → Fails e (document_of bytes) → IsNamed e → IsEarlyFault (Some bytes) (app_fault e)
-IsEarlyFault-document bytes (reads.Document f) h named = (named, h)
-IsEarlyFault-document bytes reads.Memory h named = tt

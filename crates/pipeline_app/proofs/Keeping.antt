@@ -1,5 +1,5 @@
 -- What no command changes: of which device the scheduler and the ports are.
-use Rattle.std.proofs.Common.{◌≡◌, ℕ, List, [], ◌∷◌, Some, length, set, map, refl, sym, ap, ◌∙◌}
+use Rattle.std.proofs.Common.{◌≡◌, ℕ, List, [], ◌∷◌, Some, length, set, map, sym, ap, ◌∙◌}
 use Rattle.std.specs.Prelude.{slice_get}
 use Rattle.std.proofs.Math.Seq.{map-set_same}
 use Rattle.std.proofs.lemmas.List.{length-map}
@@ -63,9 +63,6 @@ same_scheduler n s log t longer h =
 pub record KeepsSites (s t : Scene) : Type 0 where
   pub scheduler : scheduler_of t.recorder.sight ≡ scheduler_of s.recorder.sight
   pub ports : map site_of t.ports ≡ map site_of s.ports
-
-keeps_same : (s : Scene) → KeepsSites s s
-keeps_same s = record { scheduler = refl; ports = refl }
 
 keeps_then : (s t u : Scene) → KeepsSites s t → KeepsSites t u → KeepsSites s u
 keeps_then s t u h k = record { scheduler = k.scheduler ∙ h.scheduler; ports = k.ports ∙ h.ports }

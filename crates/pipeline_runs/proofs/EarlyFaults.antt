@@ -1,16 +1,13 @@
 -- The faults of the reading and of the pipeline are faults of the run.
 use Rattle.std.proofs.Common.{◌≡◌, ℕ, ◌<◌, List, Option, Some, None, Err, Ok, length, refl, sym, ap, subst, ◌∙◌}
 use Rattle.std.proofs.lemmas.Bool.{lt-ltb}
-use Rattle.play_command.specs.Fault.{app_fault}
 use Rattle.play_command.specs.Input.{IsInputFault}
 use Rattle.play_command.specs.declared.fault.AppFault.{AppFault}
 use Rattle.play_command.specs.declared.fault.AppFault.TheVariants.{Read, Write, Document, Memory, NoSeat, Strayed}
-use Rattle.play_documents.specs.Document.{IsNamed, IsNamedDoc, Fails}
+use Rattle.play_documents.specs.Document.{IsNamedDoc}
 use Rattle.play_documents.specs.declared.document.TheConstants.{MAX_INPUT}
 use Rattle.play_documents.specs.declared.fault.DocFault.{DocFault}
 use Rattle.play_documents.specs.declared.fault.DocFault.TheVariants.{TooLong}
-use Rattle.play_documents.specs.declared.fault.ReadFault.{ReadFault}
-use Rattle.play_documents.specs.declared.fault.ReadFault.TheVariants as reads
 use Rattle.pipeline_runs.specs.Runs.{IsEarlyFault, IsRunFault}
 use Rattle.run_documents.specs.Pipelines.{Planned, pipeline_of}
 
@@ -29,10 +26,6 @@ early_input workers (Some input) (Document f) h = (long_named f h.0, too_long wo
 early_input workers known Memory h = tt
 early_input workers known NoSeat h = absurd h
 early_input workers known Strayed h = absurd h
-
-pub early_document : (workers : ℕ) (bytes : List ℕ) (e : ReadFault) → Fails e (pipeline_of workers bytes) → IsNamed e → IsEarlyFault workers (Some bytes) (app_fault e)
-early_document workers bytes (reads.Document f) h named = (named, h)
-early_document workers bytes reads.Memory h named = tt
 
 pub early_run : (workers : ℕ) (bytes : List ℕ) (said : Planned) (e : AppFault) → pipeline_of workers bytes ≡ Ok said → IsRunFault said.plan e → IsEarlyFault workers (Some bytes) e
 early_run workers bytes said Read is h = tt

@@ -1,14 +1,9 @@
 -- What a port's calls leave as it was, one after the other.
-use Rattle.std.proofs.Common.{◌≡◌, ℕ, List, [], Option, Some, None, refl, sym, ap, subst, ◌∙◌}
+use Rattle.std.proofs.Common.{◌≡◌, ℕ, [], Some, ap, ◌∙◌}
 use Rattle.credit_pool.specs.Accounts.{Stays}
-use Rattle.event_ports.proofs.Refusing.{rests_then}
-use Rattle.event_ports.specs.Lanes.{Hand, Rests, SubmitsTo, lane_for}
 use Rattle.event_ports.specs.Ports.{Place, account_of, links, place_of}
-use Rattle.event_ports.specs.declared.lane.Lane.{Lane}
 use Rattle.event_ports.specs.declared.port.Port.{Port}
 use Rattle.event_recorder.specs.Device.{PortSite, site_of}
-use Rattle.evt_types.specs.declared.event.Op.{Op}
-use Rattle.evt_types.specs.declared.event.Reply.{Reply}
 
 -- the site of a port in this place with so many parts of the credits
 abbrev site_at : Place → ℕ → PortSite
@@ -35,11 +30,3 @@ same_site p q place stays = ap (λ w. site_at w (account_of q).parts) place ∙ 
 -- a port with the same site has the same links
 pub same_links : (p q : Port) → site_of q ≡ site_of p → links p ≡ [] → links q ≡ []
 same_links p q site none = ap (λ (s : PortSite). s.links) site ∙ none
-
--- what was submitted after calls that submitted nothing
-pub submits_from : (o : Op) (r : Reply) (h k m : Hand) → Rests h k → SubmitsTo (lane_for o k.holding) r k m → SubmitsTo (lane_for o h.holding) r h m
-submits_from o r h k m a b = subst (λ (l : Option Lane). SubmitsTo l r h m) (ap (lane_for o) a.holding) (after (lane_for o k.holding) b)
-  where
-    after : (l : Option Lane) → SubmitsTo l r k m → SubmitsTo l r h m
-    after None s = s
-    after (Some l) s = rests_then l r h k m a s

@@ -1,16 +1,15 @@
 -- The parts of one device: as they are made, and as they are handed to a stop.
-use Rattle.std.proofs.Common.{◌≡◌, ◌≢◌, ℕ, zero, suc, ◌<◌, ◌≤◌, false, List, [], ◌∷◌, ◌++◌, length, map, get_or, All, Some, slice_get, refl, sym, ap, subst, ◌∙◌, arith, zero-add}
+use Rattle.std.proofs.Common.{◌≡◌, ℕ, ◌<◌, List, [], ◌∷◌, length, map, get_or, All, refl, sym, ap, ◌∙◌, arith, zero-add}
 use Rattle.std.specs.List.{range_with_len}
-use Rattle.std.proofs.lemmas.List.{get_or-map, length-map, map-append}
+use Rattle.std.proofs.lemmas.List.{get_or-map, length-map}
 use Rattle.std.proofs.lemmas.List.FromFn.{get_or-map-range_with_len, length-map-range_with_len}
 use Rattle.std.proofs.lemmas.Option.{slice_get-get_or}
 use Rattle.event_ports.specs.Ports.{links}
 use Rattle.event_ports.specs.declared.port.Port.{Port}
 use Rattle.event_recorder.specs.Control.{control_of}
-use Rattle.event_recorder.specs.Device.{ControlSite, Device, IsDevice, IsPortOf, PortSite, SchedulerSite, control_site, number_of, port_site, scheduler_of, scheduler_site, site_of}
+use Rattle.event_recorder.specs.Device.{Device, IsPortOf, PortSite, SchedulerSite, number_of, port_site, scheduler_of, site_of}
 use Rattle.event_recorder.specs.Ports.{DifferInNumber, IsThere}
 use Rattle.event_recorder.specs.Stop.{AreOf}
-use Rattle.evt_types.specs.Fault.{IsWithinLimits}
 use Rattle.evt_types.specs.Plan.{Plan, flow_lanes, flow_links, lanes_of, linked_places}
 use Rattle.evt_types.specs.declared.draft.Serving.TheVariants.{Ports}
 use Rattle.pipeline_threads.specs.Run.{IsEngineOf}
@@ -84,10 +83,6 @@ engine_parts p e h =
 -- its scheduler has the plan
 pub engine_plan : (p : Plan) (e : Engine) → IsEngineOf p e → e.recorder.sight.core.shape ≡ p
 engine_plan p e h = ap (λ (s : SchedulerSite). s.plan) h.scheduler_is ∙ h.plan
-
--- all its ports are there
-pub engine_there : (p : Plan) (e : Engine) → IsEngineOf p e → (k : ℕ) → k < length e.recorder.sight.core.shape.ports → IsThere e.ports.items k
-engine_there p e h k low = are_there h.device e.ports.items (length p.ports) h.ports_are k (omega (arith, low, ap (λ (x : Plan). length x.ports) (engine_plan p e h)))
 
 -- one with the same parts is of the same device
 pub same_engine : (p : Plan) (e f : Engine) → IsEngineOf p e → scheduler_of f.recorder.sight ≡ scheduler_of e.recorder.sight → control_of f.control ≡ control_of e.control

@@ -1,7 +1,7 @@
 -- A run with one port more, whose thread is joined.
-use Rattle.std.proofs.Common.{◌≡◌, ℕ, ◌<◌, List, [], ◌∷◌, ◌++◌, length, map, All, sym, ap, subst, ◌∙◌, arith}
-use Rattle.std.proofs.lemmas.List.{length-append, map-append}
-use Rattle.std.proofs.lemmas.List.Elements.{All-head, All-nil}
+use Rattle.std.proofs.Common.{◌≡◌, List, [], ◌∷◌, ◌++◌, map, All, sym, ap, subst, ◌∙◌}
+use Rattle.std.proofs.lemmas.List.{map-append}
+use Rattle.std.proofs.lemmas.List.Elements.{All-head}
 use Rattle.lists.proofs.Lists.{All-back, All-front}
 use Rattle.event_ports.specs.declared.port.Port.{Port}
 use Rattle.event_recorder.specs.Control.{control_of}
@@ -9,8 +9,8 @@ use Rattle.event_recorder.specs.Device.{scheduler_of, site_of}
 use Rattle.event_recorder.specs.Recorder.{Recorded}
 use Rattle.pipeline_laws.specs.declared.stage.Action.{Action}
 use Rattle.pipeline_laws.specs.declared.stage.Entry.{Entry}
-use Rattle.pipeline_threads.specs.Ports.{HasWorked, IsIdle, ReturnsWorker}
-use Rattle.pipeline_threads.specs.Run.{ArePromised, HasProduced, HasRun, IsDone, IsReady}
+use Rattle.pipeline_threads.specs.Ports.{IsIdle, ReturnsWorker}
+use Rattle.pipeline_threads.specs.Run.{ArePromised, HasRun, IsDone}
 use Rattle.pipeline_threads.specs.declared.engine.Engine.{Engine}
 use Rattle.pipeline_threads.proofs.Reports.{promised_more}
 
@@ -20,19 +20,6 @@ last_idle ports all p e h = All-head IsIdle p [] (All-back IsIdle ports (p ∷ [
 
 pub front_idle : (ports all : List Port) (p : Port) → all ≡ ports ++ p ∷ [] → All IsIdle all → All IsIdle ports
 front_idle ports all p e h = All-front IsIdle ports (p ∷ []) (subst (All IsIdle) e h)
-
--- where no other port is there, the producer's run is a run
-pub produced_run : (actions : List Action) (trace : List Entry) (whole rest after : Engine) (p : Port) → rest.recorder ≡ whole.recorder → control_of rest.control ≡ control_of whole.control
-    → rest.ports.items ≡ [] → whole.ports.items ≡ rest.ports.items ++ p ∷ [] → HasProduced trace p rest after → HasRun actions trace whole after
-produced_run actions trace whole rest after p recorder control none ports h =
-    let one : whole.ports.items ≡ p ∷ [] = ports ∙ ap (λ xs. xs ++ p ∷ []) none in
-    record {
-      scheduler = h.scheduler ∙ ap (λ (r : Recorded). scheduler_of r.sight) recorder;
-      control = h.control ∙ control;
-      ports = ap (map site_of) h.ports ∙ (ap (λ s. s ∷ []) h.promised.site ∙ sym (ap (map site_of) one));
-      promised = subst (ArePromised actions trace) (sym h.ports) (h.promised.producer, All-nil (HasWorked actions));
-      done = h.done;
-    }
 
 -- a run of the others, and a worker's port that came back
 pub worker_run : (actions : List Action) (trace : List Entry) (whole rest ran after : Engine) (p back : Port) → rest.recorder ≡ whole.recorder → control_of rest.control ≡ control_of whole.control

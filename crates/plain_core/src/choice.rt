@@ -1,31 +1,11 @@
-//! The choice of the event that is given next, and of its lane: of all that may be given it is the least.
+//! The choice of the event that is given next, and of its lane.
+
+ghost use Rattle.std.specs.Prelude.{◌<◌};
 
 use crate::offer::PlainOffer;
 use crate::skips::PlainSkips;
-use crate::state::{Accepted, PlainCore};
-use evt_types::{FLOW_DEPTH, FlowLane, PortDraft, QueueDraft, Serving};
-use std::alloc::AllocError;
-
-/// How many priorities a level has.
-const LEVEL_PRIORITIES: u8 = 64;
-
-/// By what the choice is made, what counts most first.
-#[derive(Clone, Copy, PartialEq, Eq, PartialOrd, Ord)]
-struct Rank {
-    queue_priority: u8,
-    queue: usize,
-    event_level: u8,
-    event_number: u64,
-    lane_load: usize,
-    lane: usize,
-}
-
-/// An offer, and its rank among the others.
-#[derive(Clone, Copy)]
-struct Candidate {
-    rank: Rank,
-    offer: PlainOffer,
-}
+use crate::state::{LEVELS, PlainCore};
+use evt_types::{FLOW_DEPTH, FlowLane, Numbered, PortDraft, QueueDraft, Serving};
 
 /// Whether the port is linked to the queue.
 fn is_linked(port: &PortDraft, queue: usize) -> bool {
@@ -33,61 +13,67 @@ fn is_linked(port: &PortDraft, queue: usize) -> bool {
 }
 
 impl PlainCore {
-    /// What is given next in a sweep that passes over so much.
-    pub fn propose(&self, skips: &PlainSkips) -> Result<Option<PlainOffer>, AllocError> {
-        let mut candidates = Vec::new(self.alloc);
-        for waiting in self.accepted.iter().filter(|event| !event.is_given) {
-            self.list_candidates(waiting, skips, &mut candidates)?;
-        }
-        let first = candidates.iter().min_by_key(|candidate| candidate.rank);
-        Ok(first.map(|candidate| candidate.offer))
+    /// What is given next in a sweep that passes over so much: of the queues that have something to give, the first by priority
+    /// and number gives.
+    pub fn propose(&self, skips: &PlainSkips) -> Option<PlainOffer> {
+        (0..self.waiting.len())
+            .filter_map(|queue| self.offer_of(queue, skips))
+            .min_by_key(|offer| self.priority(offer.queue))
     }
 
-    /// Appends a candidate for each lane that may be given the event.
-    fn list_candidates(
+    /// The queue's priority. The lowest is served first.
+    fn priority(&self, queue: usize) -> u8 {
+        self.queue(queue).map_or(0, |draft| draft.priority)
+    }
+
+    /// What the queue gives next: of its levels the first that has something to give gives. Once the queue has used up its
+    /// quantum, it gives nothing more in this sweep.
+    fn offer_of(&self, queue: usize, skips: &PlainSkips) -> Option<PlainOffer> {
+        if skips.given_len(queue) >= self.shape.sweep() as usize {
+            return None;
+        }
+        for level in 0..LEVELS {
+            let offer = self.offer_in(queue, level, skips);
+            if offer.is_some() {
+                return offer;
+            }
+        }
+        None
+    }
+
+    /// What the queue's level gives next: its oldest event that some lane may be given.
+    fn offer_in(&self, queue: usize, level: usize, skips: &PlainSkips) -> Option<PlainOffer>
+        requires { level < LEVELS }
+    {
+        let levels = self.waiting.get(queue)?;
+        for place in 0..levels.len(level) {
+            let offer = self.offer_for(queue, levels.at(level, place)?, skips);
+            if offer.is_some() {
+                return offer;
+            }
+        }
+        None
+    }
+
+    /// The queue's event, and the lane that it goes to: of those that may be given it and refused no delivery in this sweep, the
+    /// first of those with the fewest unanswered events.
+    fn offer_for(
         &self,
-        waiting: &Accepted,
+        queue: usize,
+        waiting: &Numbered,
         skips: &PlainSkips,
-        candidates: &mut Vec<Candidate>,
-    ) -> Result<(), AllocError> {
-        let Accepted {
-            queue,
-            number,
-            event,
-            ..
-        } = *waiting;
-        let Some(draft) = self.queue(queue) else {
-            return Ok(());
-        };
-        for lane in 0..self.shape.lanes() {
-            let offer = PlainOffer {
+    ) -> Option<PlainOffer> {
+        let draft = self.queue(queue)?;
+        let Numbered { number, event } = *waiting;
+        (0..self.shape.lanes())
+            .map(|lane| PlainOffer {
                 lane,
                 queue,
                 number,
                 event,
-            };
-            if !self.is_passed_over(&offer, skips) && self.may_give(&offer, &draft) {
-                let rank = self.rank(&offer, &draft);
-                candidates.push(Candidate { rank, offer })?;
-            }
-        }
-        Ok(())
-    }
-
-    fn rank(&self, offer: &PlainOffer, draft: &QueueDraft) -> Rank {
-        Rank {
-            queue_priority: draft.priority,
-            queue: offer.queue,
-            event_level: offer.event.priority / LEVEL_PRIORITIES,
-            event_number: offer.number,
-            lane_load: self.load(offer.lane),
-            lane: offer.lane,
-        }
-    }
-
-    /// Whether the lane refused a delivery in this sweep, or the queue has used up its quantum.
-    fn is_passed_over(&self, offer: &PlainOffer, skips: &PlainSkips) -> bool {
-        skips.has_bounced(offer.lane) || skips.given_len(offer.queue) >= self.shape.sweep() as usize
+            })
+            .filter(|offer| !skips.has_bounced(offer.lane) && self.may_give(offer, &draft))
+            .min_by_key(|offer| self.load(offer.lane))
     }
 
     /// Whether the event may be given to the lane: the lane serves it and holds fewer events than it may, an ordered queue

@@ -1,8 +1,8 @@
 //! Replies of the lanes are taken.
 
-use crate::state::{Accepted, PlainCore};
-use evt_types::{Event, Op, Outcome, Source, Step};
-use std::alloc::AllocError;
+use crate::fault::PlainFault;
+use crate::state::PlainCore;
+use evt_types::{Event, Numbered, Op, Outcome, Source, Step};
 
 /// How many events a core accepts in all.
 const MAX_ENTRIES: u64 = 1 << 63;
@@ -38,7 +38,9 @@ impl PlainCore {
 
     /// Whether one more event may be accepted, now or later, beside those that were and those that are kept.
     fn has_numbers(&self) -> bool {
-        let accepted = self.accepted.len() as u64;
+        let steps = self.log.iter();
+        let accepted = steps.filter(|step| matches!(step, Step::Accept { .. }));
+        let accepted = accepted.count() as u64;
         accepted.saturating_add(self.kept_len() as u64) < MAX_ENTRIES
     }
 
@@ -50,7 +52,7 @@ impl PlainCore {
     }
 
     /// Takes the lane's reply, if it may be taken.
-    pub fn take(&mut self, lane: usize, event: Event) -> Result<Option<PlainTook>, AllocError> {
+    pub fn take(&mut self, lane: usize, event: Event) -> Result<Option<PlainTook>, PlainFault> {
         if !self.takes(lane, event) {
             return Ok(None);
         }
@@ -62,7 +64,7 @@ impl PlainCore {
     }
 
     /// A new event is accepted, or turned away.
-    fn enter(&mut self, lane: usize, event: Event) -> Result<PlainTook, AllocError> {
+    fn enter(&mut self, lane: usize, event: Event) -> Result<PlainTook, PlainFault> {
         if self.is_shut() {
             self.log.push(Step::Turned { lane, event })?;
             return Ok(PlainTook::Turned);
@@ -72,26 +74,22 @@ impl PlainCore {
     }
 
     /// The event waits in its queue, under the number of events that the queue has accepted before.
-    fn accept(&mut self, event: Event, source: Source) -> Result<(), AllocError> {
+    fn accept(&mut self, event: Event, source: Source) -> Result<(), PlainFault> {
         let queue = usize::from(event.queue);
-        let before = self.accepted.iter().filter(|other| other.queue == queue);
-        let number = before.count() as u64;
+        let number = self.accepted_len(queue);
         self.log.push(Step::Accept {
             queue,
             event,
             source,
         })?;
-        self.accepted.push(Accepted {
-            queue,
-            number,
-            event,
-            is_given: false,
-        })?;
-        Ok(())
+        let levels = self.waiting.get_mut(queue).ok_or(PlainFault::Queue)?;
+        levels
+            .push(Numbered { number, event })
+            .map_err(|_| PlainFault::Room)
     }
 
     /// The lane's oldest unanswered event, if there is one, is answered so.
-    fn answer(&mut self, lane: usize, outcome: Outcome) -> Result<Option<PlainTook>, AllocError> {
+    fn answer(&mut self, lane: usize, outcome: Outcome) -> Result<Option<PlainTook>, PlainFault> {
         let Some(place) = self.oldest(lane) else {
             return Ok(None);
         };
@@ -114,7 +112,7 @@ impl PlainCore {
     }
 
     /// Accepts what was forwarded and need not be kept any more, in hand-out order.
-    fn pass_on(&mut self) -> Result<(), AllocError> {
+    fn pass_on(&mut self) -> Result<(), PlainFault> {
         for place in 0..self.handed.len() {
             if let Some((event, source)) = self.due(place) {
                 self.accept(event, source)?;

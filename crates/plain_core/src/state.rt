@@ -1,17 +1,14 @@
 //! What the plain core keeps, and what is found in it.
 
+ghost use Rattle.std.specs.Prelude.{◌<◌};
+
 use crate::offer::PlainOffer;
 use evt_types::{Event, KeptEvent, Outcome, QueueDraft, Shape, Step};
+use level_queues::Levels;
 use std::alloc::{AllocError, Global};
 
-/// An event that was accepted, and whether it was handed out since.
-#[derive(Clone, Copy)]
-pub(crate) struct Accepted {
-    pub(crate) queue: usize,
-    pub(crate) number: u64,
-    pub(crate) event: Event,
-    pub(crate) is_given: bool,
-}
+/// How many levels a queue has.
+pub(crate) const LEVELS: usize = 4;
 
 /// An event that was handed out, its answer, and whether what it was forwarded as was accepted since.
 #[derive(Clone, Copy)]
@@ -44,24 +41,75 @@ impl HandOut {
 pub struct PlainCore {
     pub(crate) alloc: Global,
     pub(crate) shape: Shape,
-    /// All events that were ever accepted, in order.
-    pub(crate) accepted: Vec<Accepted>,
+    /// What waits in each queue.
+    pub(crate) waiting: Vec<Levels>,
     /// All events that were ever handed out, in order.
     pub(crate) handed: Vec<HandOut>,
     /// All steps that were ever made, in order.
     pub(crate) log: Vec<Step>,
 }
 
+/// Lists for the waiting events of each of so many queues, each list with room for so many events.
+fn nothing_waits(alloc: Global, queues: usize, room: usize) -> Result<Vec<Levels>, AllocError> {
+    let mut waiting = Vec::with_capacity(alloc, queues)?;
+    for _ in 0..queues {
+        waiting.push(Levels::new(alloc, room)?)?;
+    }
+    Ok(waiting)
+}
+
+/// Whether the queue accepts an event by this step.
+fn is_accept_of(step: &Step, queue: usize) -> bool {
+    match step {
+        Step::Accept { queue: other, .. } => *other == queue,
+        _ => false,
+    }
+}
+
+/// The place of the event of this number in a level.
+fn place_of(levels: &Levels, level: usize, number: u64) -> Option<usize>
+    requires { level < LEVELS }
+{
+    for place in 0..levels.len(level) {
+        if levels
+            .at(level, place)
+            .is_some_and(|item| item.number == number)
+        {
+            return Some(place);
+        }
+    }
+    None
+}
+
+/// The event of this number of a level no longer waits.
+fn take_out(levels: &mut Levels, level: usize, number: u64)
+    requires { level < LEVELS }
+{
+    if let Some(place) = place_of(levels, level, number) {
+        levels.remove_at(level, place);
+    }
+}
+
+/// How many events wait in a queue.
+fn waiting_len(levels: &Levels) -> usize {
+    let mut count: usize = 0;
+    for level in 0..LEVELS {
+        count = count.saturating_add(levels.len(level));
+    }
+    count
+}
+
 impl PlainCore {
     /// A core in which nothing has happened.
-    pub fn new(alloc: Global, shape: Shape) -> PlainCore {
-        PlainCore {
+    pub fn new(alloc: Global, shape: Shape) -> Result<PlainCore, AllocError> {
+        let waiting = nothing_waits(alloc, shape.queues().len(), shape.bound())?;
+        Ok(PlainCore {
             alloc,
             shape,
-            accepted: Vec::new(alloc),
+            waiting,
             handed: Vec::new(alloc),
             log: Vec::new(alloc),
-        }
+        })
     }
 
     /// All steps so far.
@@ -71,20 +119,42 @@ impl PlainCore {
 
     /// How many events wait, are kept or are unanswered.
     pub fn inside(&self) -> usize {
-        let waiting = self.accepted.iter().filter(|event| !event.is_given).count();
+        let waiting = self.waiting.iter().map(waiting_len);
+        let waiting = waiting.fold(0usize, |sum, count| sum.saturating_add(count));
         let unanswered = self.handed.iter().filter(|out| !out.is_answered()).count();
         waiting
             .saturating_add(self.kept_len())
             .saturating_add(unanswered)
     }
 
-    /// The queue and the number of each of the queue's waiting events.
+    /// The queue and the number of each of the queue's waiting events, by rising number.
     pub fn list_waiting(&self, queue: usize) -> Result<Vec<(usize, u64)>, AllocError> {
-        self.accepted
-            .iter()
-            .filter(|event| event.queue == queue && !event.is_given)
-            .map(|event| (event.queue, event.number))
-            .collect(self.alloc)
+        let mut list = Vec::new(self.alloc);
+        for number in 0..self.accepted_len(queue) {
+            if self.waits(queue, number) {
+                list.push((queue, number))?;
+            }
+        }
+        Ok(list)
+    }
+
+    /// How many events the queue has accepted.
+    pub(crate) fn accepted_len(&self, queue: usize) -> u64 {
+        let accepted = self.log.iter().filter(|step| is_accept_of(step, queue));
+        accepted.count() as u64
+    }
+
+    /// Whether the queue's event of this number waits.
+    fn waits(&self, queue: usize, number: u64) -> bool {
+        let Some(levels) = self.waiting.get(queue) else {
+            return false;
+        };
+        for level in 0..LEVELS {
+            if place_of(levels, level, number).is_some() {
+                return true;
+            }
+        }
+        false
     }
 
     /// The queue's kept events in hand-out order, each under the queue and the number of the event that it was forwarded from.
@@ -132,10 +202,8 @@ impl PlainCore {
             answer: None,
             is_passed_on: false,
         })?;
-        for waiting in self.accepted.iter_mut() {
-            if waiting.queue == queue && waiting.number == number {
-                waiting.is_given = true;
-            }
+        if let Some(levels) = self.waiting.get_mut(queue) {
+            take_out(levels, event.level(), number);
         }
         Ok(())
     }

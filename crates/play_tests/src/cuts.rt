@@ -1,82 +1,75 @@
 //! A good document, cut after each byte.
 
-use crate::faults::is_named;
-use crate::row::BY_PORTS;
-use crate::rows::FIRST_EVENT;
-use std::test::Fail;
+use crate::documents::{FIRST_EVENT, FIRST_EVENT_TEXT, plays};
+use evt_types::ShapeFault;
+use play_documents::DocFault;
 
-/// The name of the fault of so many bytes of the document and more, or none where they are good: a table's key that isn't there
-/// yet, or a line that is cut.
-static CUTS: [(usize, &str); 41] = [
-    (0, "MissingKey"),
-    (1, "NotToml"),
-    (9, "MissingKey"),
-    (11, "NotToml"),
-    (21, "MissingKey"),
-    (23, "NotToml"),
-    (31, "MissingKey"),
-    (33, "NotToml"),
-    (43, "MissingKey"),
-    (44, "NotToml"),
-    (90, "MissingKey"),
-    (92, "NotToml"),
-    (100, "MissingKey"),
-    (102, "NotToml"),
-    (116, "MissingKey"),
-    (118, "NotToml"),
-    (126, "MissingKey"),
-    (128, "NotToml"),
-    (135, "MissingKey"),
-    (137, "NotToml"),
-    (149, "MissingKey"),
-    (151, "NotToml"),
-    (159, "MissingKey"),
-    (161, "NotToml"),
-    (171, "MissingKey"),
-    (173, "NotToml"),
-    (188, "MissingKey"),
-    (190, "NotToml"),
-    (199, "QueueUnlinked"),
-    (201, "NotToml"),
-    (208, "MissingKey"),
-    (210, "NotToml"),
-    (222, "MissingKey"),
-    (224, "NotToml"),
-    (232, "MissingKey"),
-    (234, "NotToml"),
-    (244, "MissingKey"),
-    (246, "NotToml"),
-    (261, "MissingKey"),
-    (263, "NotToml"),
-    (273, ""),
+/// The fault of so many bytes of the document and more, or none where they are good: a table's key that isn't there yet, or a line
+/// that is cut.
+static CUTS: [(usize, Option<DocFault>); 41] = [
+    (0, Some(DocFault::MissingKey)),
+    (1, Some(DocFault::NotToml)),
+    (9, Some(DocFault::MissingKey)),
+    (11, Some(DocFault::NotToml)),
+    (21, Some(DocFault::MissingKey)),
+    (23, Some(DocFault::NotToml)),
+    (31, Some(DocFault::MissingKey)),
+    (33, Some(DocFault::NotToml)),
+    (43, Some(DocFault::MissingKey)),
+    (44, Some(DocFault::NotToml)),
+    (90, Some(DocFault::MissingKey)),
+    (92, Some(DocFault::NotToml)),
+    (100, Some(DocFault::MissingKey)),
+    (102, Some(DocFault::NotToml)),
+    (116, Some(DocFault::MissingKey)),
+    (118, Some(DocFault::NotToml)),
+    (126, Some(DocFault::MissingKey)),
+    (128, Some(DocFault::NotToml)),
+    (135, Some(DocFault::MissingKey)),
+    (137, Some(DocFault::NotToml)),
+    (149, Some(DocFault::MissingKey)),
+    (151, Some(DocFault::NotToml)),
+    (159, Some(DocFault::MissingKey)),
+    (161, Some(DocFault::NotToml)),
+    (171, Some(DocFault::MissingKey)),
+    (173, Some(DocFault::NotToml)),
+    (188, Some(DocFault::MissingKey)),
+    (190, Some(DocFault::NotToml)),
+    (199, Some(DocFault::Shape(ShapeFault::QueueUnlinked))),
+    (201, Some(DocFault::NotToml)),
+    (208, Some(DocFault::MissingKey)),
+    (210, Some(DocFault::NotToml)),
+    (222, Some(DocFault::MissingKey)),
+    (224, Some(DocFault::NotToml)),
+    (232, Some(DocFault::MissingKey)),
+    (234, Some(DocFault::NotToml)),
+    (244, Some(DocFault::MissingKey)),
+    (246, Some(DocFault::NotToml)),
+    (261, Some(DocFault::MissingKey)),
+    (263, Some(DocFault::NotToml)),
+    (273, None),
 ];
 
-/// The name of the fault of the first bytes, so many.
-fn name_of(count: usize) -> &'static str {
-    let mut known = "";
-    for (from, name) in &CUTS {
+/// The fault of the first bytes, so many.
+fn fault_of(count: usize) -> Option<DocFault> {
+    let mut known = None;
+    for (from, fault) in &CUTS {
         if *from <= count {
-            known = *name;
+            known = *fault;
         }
     }
     known
 }
 
 #[test]
-fn names_the_fault_of_each_front(rt: HostRuntime) -> Result<(), Fail> {
-    let alloc = rt.alloc();
-    let document = FIRST_EVENT.document(alloc, BY_PORTS)?;
-    let bytes = document.as_bytes();
+fn names_the_fault_of_each_front(rt: HostRuntime) {
+    let bytes = FIRST_EVENT.as_bytes();
     assert_eq!(rt; bytes.len(), 274);
     for count in 0..bytes.len() {
-        let name = name_of(count);
-        let written = is_named(&rt, alloc, &bytes[..count], name)?;
-        let text = if name.is_empty() {
-            FIRST_EVENT.text
-        } else {
-            ""
+        let end = match fault_of(count) {
+            None => Ok(FIRST_EVENT_TEXT),
+            Some(fault) => Err(fault),
         };
-        assert!(rt; written.as_slice() == text.as_bytes());
+        plays(&rt, rt.alloc(), &bytes[..count], end);
     }
-    Ok(())
 }

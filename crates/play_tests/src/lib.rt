@@ -1,27 +1,20 @@
-//! Tests of the program's work, over what it makes public: whole documents are played, and what is written is compared.
+//! Tests of the program's work that no file shows: documents are played over readers and writers in memory, and calls are made
+//! directly. The documents with whole texts, and the faulty ones, are files, which the program `example_runs` plays.
 #![tactic(auto)]
 
+#[cfg(test)]
+mod causes;
 #[cfg(test)]
 mod command_line;
 #[cfg(test)]
 mod cuts;
 #[cfg(test)]
+mod documents;
+#[cfg(test)]
 mod faults;
 #[cfg(test)]
-mod flow_rows;
-#[cfg(test)]
-mod level_rows;
+mod lengths;
 #[cfg(test)]
 mod misuse;
-#[cfg(test)]
-mod ordered_rows;
-#[cfg(test)]
-mod parts;
-#[cfg(test)]
-mod row;
-#[cfg(test)]
-mod rows;
-#[cfg(test)]
-mod scripts;
 #[cfg(test)]
 mod streams;

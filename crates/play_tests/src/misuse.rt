@@ -5,7 +5,6 @@
 //! each time. The reply ring of a flow lane has room for all that is given of it, so that what is held of the port's own lane
 //! meets `Full`, whichever way the device is served.
 
-use crate::row::{BY_FLOWS, BY_PORTS};
 use pipeline_app::play;
 use std::alloc::Global;
 use std::process::Abort;
@@ -18,6 +17,11 @@ struct Row {
     refused: &'static str,
     answer: &'static str,
 }
+
+/// How a document says that the device is served by its ports, and by flows.
+const BY_PORTS: &str = "";
+
+const BY_FLOWS: &str = "serving = \"flows\"\n";
 
 const LIMITS: &str = "limit = 8\nquantum = 2\nsweep = 8\n";
 

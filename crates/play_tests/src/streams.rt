@@ -1,7 +1,6 @@
 //! Readers and writers that give and take little, and fail.
 
-use crate::row::BY_PORTS;
-use crate::rows::FIRST_EVENT;
+use crate::documents::{FIRST_EVENT, FIRST_EVENT_TEXT};
 use pipeline_app::play;
 use play_command::{AppFault, read_all, write_text};
 use play_documents::DocFault;
@@ -130,26 +129,23 @@ fn writes_byte_by_byte(rt: HostRuntime) {
 }
 
 #[test]
-fn plays_after_failing_reads(rt: HostRuntime) -> Result<(), Fail> {
-    let alloc = rt.alloc();
-    let document = FIRST_EVENT.document(alloc, BY_PORTS)?;
+fn plays_after_failing_reads(rt: HostRuntime) {
     // A read for each of the 274 bytes, and one that finds the end.
     for reads in 0..276 {
         let mut reader = SlowReader {
-            rest: document.as_bytes(),
+            rest: FIRST_EVENT.as_bytes(),
             reads,
         };
-        let mut written = Vec::new(alloc);
-        let outcome = play(alloc, &mut reader, &mut written);
+        let mut written = Vec::new(rt.alloc());
+        let outcome = play(rt.alloc(), &mut reader, &mut written);
         let (wanted, text) = if reads < 275 {
             (Err(AppFault::Read), "")
         } else {
-            (Ok(()), FIRST_EVENT.text)
+            (Ok(()), FIRST_EVENT_TEXT)
         };
         assert_eq!(rt; outcome, wanted);
         assert!(rt; written.as_slice() == text.as_bytes());
     }
-    Ok(())
 }
 
 /// Plays the first event into a writer that takes so many bytes a write and fails after some writes, and compares what it took.
@@ -160,9 +156,8 @@ fn plays_into(
     writes: usize,
     wanted: Result<(), AppFault>,
     taken: &[u8],
-) -> Result<(), Fail> {
-    let document = FIRST_EVENT.document(alloc, BY_PORTS)?;
-    let mut reader = document.as_bytes();
+) {
+    let mut reader = FIRST_EVENT.as_bytes();
     let mut writer = SlowWriter {
         taken: Vec::new(alloc),
         step,
@@ -170,16 +165,16 @@ fn plays_into(
     };
     assert_eq!(rt; play(alloc, &mut reader, &mut writer), wanted);
     assert!(rt; writer.taken.as_slice() == taken);
-    Ok(())
 }
 
 #[test]
-fn plays_into_failing_writes(rt: HostRuntime) -> Result<(), Fail> {
+fn plays_into_failing_writes(rt: HostRuntime) {
     let alloc = rt.alloc();
-    let text = FIRST_EVENT.text.as_bytes();
+    let text = FIRST_EVENT_TEXT.as_bytes();
     for writes in 0..text.len() {
-        plays_into(&rt, alloc, 1, writes, Err(AppFault::Write), &text[..writes])?;
+        plays_into(&rt, alloc, 1, writes, Err(AppFault::Write), &text[..writes]);
     }
-    plays_into(&rt, alloc, 1, text.len(), Ok(()), text)?;
-    plays_into(&rt, alloc, 0, 1, Err(AppFault::Write), b"")
+    plays_into(&rt, alloc, 1, text.len(), Ok(()), text);
+    // A writer that takes no byte.
+    plays_into(&rt, alloc, 0, 1, Err(AppFault::Write), b"");
 }

@@ -1,15 +1,12 @@
 -- The events that the core lists of the first queues, and of one queue more.
-use Rattle.std.proofs.Common.{◌≡◌, false, ℕ, ◌+◌, ◌<◌, ◌≤◌, List, [], ◌∷◌, ◌++◌, length, map, flat_map, ap, arith, length-append}
+use Rattle.std.proofs.Common.{◌≡◌, ℕ, ◌+◌, ◌≤◌, List, [], ◌∷◌, ◌++◌, length, flat_map, ap, arith, length-append}
 use Rattle.std.proofs.lemmas.List.{length-map}
-use Rattle.std.proofs.lemmas.List.Elements.{All-head, All-tail, All-weaker}
+use Rattle.std.proofs.lemmas.List.Elements.{All-head, All-tail}
 use Rattle.std.specs.Prelude.{All}
 use Rattle.evt_types.specs.Place.{Place}
 use Rattle.evt_types.specs.declared.event.Event.{Event}
-use Rattle.evt_types.specs.declared.event.KeptEvent.{KeptEvent}
 use Rattle.evt_types.specs.declared.event.Numbered.{Numbered}
-use Rattle.evt_types.specs.declared.step.Step.{Step}
-use Rattle.transcripts.proofs.PlaceFacts.{place_forwards}
-use Rattle.transcripts.specs.Standing.{Stands, View, kept_at, kept_event, kept_in_place, places_at}
+use Rattle.transcripts.specs.Standing.{kept_in_place}
 use Rattle.transcripts.specs.Transcript.{pairs_of}
 
 -- how long a list is to which a queue's waiting events were appended
@@ -22,10 +19,3 @@ few_kept (x ∷ xs) few =
     let here : length x.forwards ≤ 1 = All-head (λ (y : Place). length y.forwards ≤ 1) x xs few in
     let rest = few_kept xs (All-tail (λ (y : Place). length y.forwards ≤ 1) x xs few) in
     omega (arith, length-append (kept_in_place x) (flat_map kept_in_place xs), length-map {B = Numbered} x.forwards (λ (e : Event). record { number = x.number; event = e }))
-
--- The same of its kept events: a place keeps one at most.
-pub kept_length : (v : View) (T : List Step) (old now : List KeptEvent) (q : ℕ) → Stands T v → q < length v.shape.queues
-    → now ≡ old ++ map (kept_event q) (kept_at v q) → length now ≤ length old + length (places_at v q)
-kept_length v T old now q stands there is =
-    let few = few_kept (places_at v q) (All-weaker (λ (x : Place). (length x.forwards ≤ 1) × (x.answered ≡ false → x.forwards ≡ [])) (λ (x : Place). length x.forwards ≤ 1) (λ x both. both.0) (places_at v q) (place_forwards v T q stands there)) in
-    omega (arith, ap length is, length-append old (map (kept_event q) (kept_at v q)), length-map (kept_at v q) (kept_event q))

@@ -1,5 +1,5 @@
-//! The credit pool: the calls in one thread, where the pool is made again if memory was refused and serves then as ever, and four
-//! threads that draw and give back at once.
+//! The credit pool: the calls of two seats in one thread, where the pool is made again if memory was refused and serves then as ever,
+//! and four threads that draw and give back at once.
 ghost use Rattle.std.specs.Prelude.{◌≡◌, ◌+◌, ◌≤◌, ◌^◌, IfOk};
 ghost use Rattle.credit_pool.specs.Accounts.{first_account, Stays};
 ghost use Rattle.credit_pool.specs.Pool.{account, limit_of, IsSeatOf};
@@ -9,10 +9,47 @@ use std::alloc::Global;
 use std::test::Fail;
 use std::thread::{Threads, join};
 
+/// How many credits there are.
+const LIMIT: u64 = 4;
+
 const ROUNDS: u32 = 100_000;
 
 // How often a call is tried again after another seat came between.
 const TRIES: u32 = 1_000_000;
+
+/// Which of two seats calls.
+#[derive(Clone, Copy)]
+enum By {
+    First,
+    Second,
+}
+
+/// A call, with what it must answer.
+#[derive(Clone, Copy)]
+enum Call {
+    /// Draws so many credits up to this ceiling.
+    Draw(u64, u64, Draw),
+    Give(u64, Give),
+    Shut,
+    Look(u64, bool),
+}
+
+static CALLS: [(By, Call); 14] = [
+    (By::First, Call::Draw(2, 2, Draw::Drawn)),
+    (By::First, Call::Draw(2, 2, Draw::Short { free: 2 })),
+    (By::Second, Call::Draw(1, 4, Draw::Drawn)),
+    (By::First, Call::Draw(1, 4, Draw::Drawn)),
+    (By::Second, Call::Draw(1, 4, Draw::Short { free: 0 })),
+    (By::Second, Call::Give(1, Give::Given)),
+    (By::First, Call::Give(1, Give::Given)),
+    (By::First, Call::Give(1, Give::Given)),
+    (By::First, Call::Give(4, Give::Over { free: 3 })),
+    (By::Second, Call::Look(3, false)),
+    (By::First, Call::Shut),
+    (By::First, Call::Draw(1, 4, Draw::Shut)),
+    (By::Second, Call::Draw(1, 4, Draw::Shut)),
+    (By::Second, Call::Look(3, true)),
+];
 
 fn pool_again(alloc: Global, limit: u64) -> Result<(Credits, CreditSeat), Memory>
     requires { limit ≤ 2 ^ 32 }
@@ -26,39 +63,52 @@ fn pool_again(alloc: Global, limit: u64) -> Result<(Credits, CreditSeat), Memory
     }
 }
 
-#[test]
-fn credit_calls(rt: HostRuntime) -> Result<(), Fail> {
-    let (pool, seat) = pool_again(rt.alloc(), 4)?;
-    let (first, second) = pool.split(seat).unwrap();
-    let mut seat = pool.join(first, second);
-    assert_eq!(rt; pool.draw(&mut seat, 2, 2), Draw::Drawn);
-    assert_eq!(rt; pool.draw(&mut seat, 2, 2), Draw::Short { free: 2 });
-    assert_eq!(rt; pool.give(&mut seat, 1), Give::Given);
-    assert_eq!(rt; pool.give(&mut seat, 4), Give::Over { free: 3 });
-    pool.shut(&mut seat);
-    assert_eq!(rt; pool.draw(&mut seat, 1, 4), Draw::Shut);
-    assert_eq!(rt; pool.look(&mut seat), (3, true));
-    assert_eq!(rt; pool.close(seat), 3);
-    Ok(())
+/// Makes the call; whether it answered what it must.
+fn make(pool: &Credits, seat: &mut CreditSeat, call: Call) -> bool
+    requires seat { IsSeatOf pool.now seat.old }
+    requires limit { limit_of pool.now ≡ 4 }
+    ensures seat { IsSeatOf pool.now seat.new }
+    ensures parts { (account seat.new).parts ≡ (account seat.old).parts }
+{
+    match call {
+        Call::Draw(count, ceiling, answer) => {
+            count > 0 && ceiling <= LIMIT && pool.draw(seat, count, ceiling) == answer
+        }
+        Call::Give(count, answer) => pool.give(seat, count) == answer,
+        Call::Shut => {
+            pool.shut(seat);
+            true
+        }
+        Call::Look(free, is_shut) => pool.look(seat) == (free, is_shut),
+    }
+}
+
+/// The place of the first call that answered otherwise than it must.
+fn play(pool: &Credits, first: &mut CreditSeat, second: &mut CreditSeat) -> Option<usize>
+    requires seats { IsSeatOf pool.now first.old × IsSeatOf pool.now second.old }
+    requires limit { limit_of pool.now ≡ 4 }
+    ensures seats { IsSeatOf pool.now first.new × IsSeatOf pool.now second.new }
+    ensures parts { ((account first.new).parts ≡ (account first.old).parts) × ((account second.new).parts ≡ (account second.old).parts) }
+{
+    for (place, (by, call)) in CALLS.iter().enumerate() {
+        let answered = match by {
+            By::First => make(pool, first, *call),
+            By::Second => make(pool, second, *call),
+        };
+        if !answered {
+            return Some(place);
+        }
+    }
+    None
 }
 
 #[test]
-fn four_seats_return_all(rt: HostRuntime) -> Result<(), Fail> {
-    let (pool, first) = pool_again(rt.alloc(), 4)?;
-    let (mut first, mut second) = pool.split(first).unwrap();
-    let (mut first, mut third) = pool.split(first).unwrap();
-    let (mut first, mut fourth) = pool.split(first).unwrap();
-    assert_eq!(rt; pool.draw(&mut first, 1, 4), Draw::Drawn);
-    assert_eq!(rt; pool.draw(&mut second, 1, 4), Draw::Drawn);
-    assert_eq!(rt; pool.draw(&mut third, 1, 4), Draw::Drawn);
-    assert_eq!(rt; pool.draw(&mut fourth, 1, 4), Draw::Drawn);
-    assert_eq!(rt; pool.draw(&mut first, 1, 4), Draw::Short { free: 0 });
-    assert_eq!(rt; pool.give(&mut first, 1), Give::Given);
-    assert_eq!(rt; pool.give(&mut second, 1), Give::Given);
-    assert_eq!(rt; pool.give(&mut third, 1), Give::Given);
-    assert_eq!(rt; pool.give(&mut fourth, 1), Give::Given);
-    let seat = pool.join(pool.join(pool.join(first, second), third), fourth);
-    assert_eq!(rt; pool.close(seat), 4);
+fn credit_calls(rt: HostRuntime) -> Result<(), Fail> {
+    let (pool, seat) = pool_again(rt.alloc(), LIMIT)?;
+    let (mut first, mut second) = pool.split(seat).unwrap();
+    let other = play(&pool, &mut first, &mut second);
+    let seat = pool.join(first, second);
+    assert_eq!(rt; (other, pool.close(seat)), (None, 3));
     Ok(())
 }
 
@@ -69,7 +119,7 @@ fn draw_one(pool: &Credits, seat: &mut CreditSeat) -> bool
     ensures stays { Stays (account seat.old) (account seat.new) }
 {
     for _ in 0..TRIES {
-        match pool.draw(seat, 1, 4) {
+        match pool.draw(seat, 1, LIMIT) {
             Draw::Drawn => return true,
             Draw::Shut | Draw::Short { free: _ } => return false,
             Draw::Raced {
@@ -135,7 +185,7 @@ fn trade_two<R: Threads + Sync>(
 
 #[test]
 fn four_threads_return_all(rt: HostRuntime) -> Result<(), Fail> {
-    let (pool, first) = Credits::new(rt.alloc(), 4)?;
+    let (pool, first) = Credits::new(rt.alloc(), LIMIT)?;
     let (first, second) = pool.split(first).unwrap();
     let (first, third) = pool.split(first).unwrap();
     let (first, fourth) = pool.split(first).unwrap();
@@ -146,6 +196,6 @@ fn four_threads_return_all(rt: HostRuntime) -> Result<(), Fail> {
         || trade_two(&rt, pool, third, fourth),
     );
     assert_eq!(rt; here + there, 4 * ROUNDS);
-    assert_eq!(rt; pool.close(pool.join(a, b)), 4);
+    assert_eq!(rt; pool.close(pool.join(a, b)), LIMIT);
     Ok(())
 }

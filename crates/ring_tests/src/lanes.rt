@@ -1,28 +1,188 @@
-//! The lane: known values, where it is made again if memory was refused and serves then as ever, and both ends in threads of their
-//! own.
+//! The lane in one thread: lists of calls, each with what it must answer, and what they leave. A lane is made again where memory was
+//! refused, and serves then as ever.
 
 ghost use Rattle.std.specs.Prelude.{◌≡◌, [], IfOk};
 ghost use Rattle.lane_rings.specs.Ends.{offered, taken, seen_replies, received_by, seen_deliveries, answered};
 ghost use Rattle.lane_rings.specs.Identity.{near_id, far_id};
 
-use evt_types::{Delivery, Event, Op, Reply};
+use crate::left::{holds, leaves};
+use crate::made::{delivery, reply};
+use evt_types::{Delivery, Op, Reply};
 use lane_rings::{AnswerFault, Far, Memory, Near, beside, lane};
 use std::alloc::Global;
 use std::test::Fail;
-use std::thread;
-use std::thread::Threads;
 
-/// How many deliveries and replies pass between two threads.
-const PASSES: u64 = 100_000;
+/// A call on a lane, with what it must answer. Deliveries are known by their numbers, replies by their operation and number.
+#[derive(Clone, Copy)]
+enum Call {
+    /// The delivery is offered; whether there is room for it.
+    Offer(u64, bool),
+    OfferAll,
+    Peek(Option<(Op, u64)>),
+    Take(Option<(Op, u64)>),
+    TakeAll(usize),
+    Receive(Option<u64>),
+    ReceiveAll,
+    Answer(Op, u64, Said),
+    AnswerAll,
+    /// Whether as many deliveries are held as the lane's depth allows.
+    IsFull(bool),
+    /// How many deliveries are held, and which of them is the oldest.
+    Holds(usize, Option<u64>),
+}
 
-/// In how many turns in a row nothing may pass at an end before it gives up, and the test fails.
-const PATIENCE: u32 = 10_000_000;
+/// What becomes of a reply.
+#[derive(Clone, Copy)]
+enum Said {
+    Given,
+    NothingHeld,
+    Full,
+}
+
+/// A lane, the calls that are made on it, and what they leave.
+#[derive(Clone, Copy)]
+struct Row {
+    name: &'static str,
+    depth: usize,
+    replies: usize,
+    calls: &'static [Call],
+    undelivered: &'static [u64],
+    untaken: &'static [(Op, u64)],
+    held: &'static [u64],
+}
+
+static ROWS: [Row; 5] = [
+    Row {
+        name: "each call once",
+        depth: 1,
+        replies: 1,
+        calls: &[
+            Call::Offer(0, true),
+            Call::Offer(1, false),
+            Call::Receive(None),
+            Call::OfferAll,
+            Call::IsFull(false),
+            Call::Receive(Some(0)),
+            Call::Answer(Op::Release, 4, Said::Given),
+            Call::Answer(Op::Release, 5, Said::NothingHeld),
+            Call::Answer(Op::New, 6, Said::Full),
+        ],
+        undelivered: &[],
+        untaken: &[(Op::Release, 4)],
+        held: &[],
+    },
+    Row {
+        name: "what is left",
+        depth: 4,
+        replies: 4,
+        calls: &[
+            Call::Peek(None),
+            Call::Take(None),
+            Call::Receive(None),
+            Call::Offer(0, true),
+            Call::OfferAll,
+            Call::Receive(Some(0)),
+            Call::Offer(1, true),
+            Call::OfferAll,
+            Call::Receive(Some(1)),
+            Call::Offer(2, true),
+            Call::OfferAll,
+            Call::Receive(Some(2)),
+            Call::Offer(9, true),
+            Call::Answer(Op::New, 8, Said::Given),
+            Call::Peek(None),
+            Call::AnswerAll,
+            Call::Answer(Op::Forward, 9, Said::Given),
+            Call::Peek(Some((Op::New, 8))),
+            Call::Take(Some((Op::New, 8))),
+        ],
+        undelivered: &[9],
+        untaken: &[(Op::Forward, 9)],
+        held: &[1, 2],
+    },
+    Row {
+        name: "several refusals",
+        depth: 2,
+        replies: 1,
+        calls: &[
+            Call::Answer(Op::Forward, 0, Said::NothingHeld),
+            Call::Holds(0, None),
+            Call::Answer(Op::Release, 0, Said::NothingHeld),
+            Call::Holds(0, None),
+            Call::Offer(0, true),
+            Call::OfferAll,
+            Call::Receive(Some(0)),
+            Call::Offer(1, true),
+            Call::OfferAll,
+            Call::Receive(Some(1)),
+            Call::Answer(Op::New, 1, Said::Given),
+            Call::Answer(Op::New, 2, Said::Full),
+            Call::Answer(Op::Forward, 3, Said::Full),
+            Call::Answer(Op::Release, 4, Said::Full),
+            Call::Holds(2, Some(0)),
+            Call::IsFull(true),
+            Call::AnswerAll,
+            Call::Take(Some((Op::New, 1))),
+            Call::Answer(Op::Forward, 5, Said::Given),
+            Call::Answer(Op::Release, 6, Said::Full),
+            Call::Holds(1, Some(1)),
+            Call::IsFull(false),
+        ],
+        undelivered: &[],
+        untaken: &[(Op::Forward, 5)],
+        held: &[1],
+    },
+    // What came out of the ring is received one by one, and is out until it is answered.
+    Row {
+        name: "deliveries by slices",
+        depth: 2,
+        replies: 2,
+        calls: &[
+            Call::ReceiveAll,
+            Call::Offer(0, true),
+            Call::Offer(1, true),
+            Call::OfferAll,
+            Call::ReceiveAll,
+            Call::Offer(2, false),
+            Call::IsFull(false),
+            Call::Receive(Some(0)),
+            Call::Answer(Op::Release, 5, Said::Given),
+            Call::AnswerAll,
+            Call::Take(Some((Op::Release, 5))),
+            Call::Offer(2, true),
+            Call::OfferAll,
+        ],
+        undelivered: &[1, 2],
+        untaken: &[],
+        held: &[],
+    },
+    // As many replies as were wanted come out of the ring, leave its places free, and are untaken until they are taken.
+    Row {
+        name: "replies by slices",
+        depth: 2,
+        replies: 2,
+        calls: &[
+            Call::Answer(Op::New, 0, Said::Given),
+            Call::Answer(Op::New, 1, Said::Given),
+            Call::AnswerAll,
+            Call::TakeAll(1),
+            Call::Answer(Op::New, 2, Said::Given),
+            Call::AnswerAll,
+            Call::Answer(Op::New, 3, Said::Full),
+            Call::Take(Some((Op::New, 0))),
+            Call::TakeAll(2),
+            Call::Answer(Op::New, 3, Said::Given),
+            Call::Answer(Op::New, 4, Said::Given),
+            Call::AnswerAll,
+        ],
+        undelivered: &[],
+        untaken: &[(Op::New, 1), (Op::New, 2), (Op::New, 3), (Op::New, 4)],
+        held: &[],
+    },
+];
 
 fn lane_again(alloc: Global, depth: usize, replies: usize) -> Result<(Near, Far), Memory>
-    ensures pair { IfOk result (λ r. near_id r.0 ≡ far_id r.1) }
-    ensures room { IfOk result (λ r. ((far_id r.1).depth ≡ depth) × ((far_id r.1).room ≡ replies)) }
-    ensures near { IfOk result (λ r. (offered r.0 ≡ []) × (taken r.0 ≡ []) × (seen_replies r.0 ≡ [])) }
-    ensures far { IfOk result (λ r. (received_by r.1 ≡ []) × (seen_deliveries r.1 ≡ []) × (answered r.1 ≡ [])) }
+    ensures { IfOk result (λ r. near_id r.0 ≡ far_id r.1) }
 {
     match lane(alloc, depth, replies) {
         Ok(ends) => Ok(ends),
@@ -30,313 +190,100 @@ fn lane_again(alloc: Global, depth: usize, replies: usize) -> Result<(Near, Far)
     }
 }
 
-fn event(op: Op, payload: u64) -> Event {
-    Event {
-        flow: 7,
-        sub_type: 0,
-        event_type: 0,
-        op,
-        queue: 0,
-        priority: 128,
-        impl_opaque: 0,
-        payload,
+fn reply_of(wanted: Option<(Op, u64)>) -> Option<Reply> {
+    let (op, number) = wanted?;
+    Some(reply(op, number))
+}
+
+fn delivery_of(wanted: Option<u64>) -> Option<Delivery> {
+    let number = wanted?;
+    Some(delivery(number))
+}
+
+/// Whether there is room for the delivery, which comes back where there isn't.
+fn offers(near: &mut Near, delivery: Delivery, has_room: bool) -> bool
+    ensures { near_id near.new ≡ near_id near.old }
+{
+    let wanted = if has_room { Ok(()) } else { Err(delivery) };
+    near.offer(delivery) == wanted
+}
+
+/// Whether this is said of the reply, which comes back where there is no room for it.
+fn answers(far: &mut Far, reply: Reply, said: Said) -> bool
+    ensures { far_id far.new ≡ far_id far.old }
+{
+    let wanted = match said {
+        Said::Given => Ok(()),
+        Said::NothingHeld => Err(AnswerFault::NothingHeld),
+        Said::Full => Err(AnswerFault::Full(reply)),
+    };
+    far.answer(reply) == wanted
+}
+
+/// Makes the call; whether it answered what it must.
+fn make(near: &mut Near, far: &mut Far, call: Call) -> bool
+    ensures near { near_id near.new ≡ near_id near.old }
+    ensures far { far_id far.new ≡ far_id far.old }
+{
+    match call {
+        Call::Offer(number, has_room) => offers(near, delivery(number), has_room),
+        Call::OfferAll => {
+            near.offer_all();
+            true
+        }
+        Call::Peek(wanted) => near.peek() == reply_of(wanted),
+        Call::Take(wanted) => near.take() == reply_of(wanted),
+        Call::TakeAll(most) => {
+            near.take_all(most);
+            true
+        }
+        Call::Receive(wanted) => !far.is_full() && far.receive() == delivery_of(wanted),
+        Call::ReceiveAll => {
+            far.receive_all();
+            true
+        }
+        Call::Answer(op, number, said) => answers(far, reply(op, number), said),
+        Call::AnswerAll => {
+            far.answer_all();
+            true
+        }
+        Call::IsFull(wanted) => far.is_full() == wanted,
+        Call::Holds(count, oldest) => holds(far, count, oldest),
     }
 }
 
-fn delivery(number: u64) -> Delivery {
-    Delivery {
-        event: event(Op::New, number),
-        queue: 3,
-        number,
+/// The place of the first call that answered otherwise than it must.
+fn play(near: &mut Near, far: &mut Far, calls: &[Call]) -> Option<usize>
+    ensures near { near_id near.new ≡ near_id near.old }
+    ensures far { far_id far.new ≡ far_id far.old }
+{
+    for (place, call) in calls.iter().enumerate() {
+        if !make(near, far, *call) {
+            return Some(place);
+        }
     }
+    None
 }
 
-fn reply(op: Op, payload: u64) -> Reply {
-    Reply {
-        event: event(op, payload),
-    }
+/// Makes the row's calls on a new lane: the first that answered otherwise, and whether what is left is the row's.
+fn ends_as(row: &Row, near: Near, far: Far) -> (Option<usize>, bool)
+    requires { near_id near ≡ far_id far }
+{
+    let (mut near, mut far) = (near, far);
+    let other = play(&mut near, &mut far, row.calls);
+    let mut rests = beside(near, far);
+    (
+        other,
+        leaves(&mut rests, row.undelivered, row.untaken, row.held),
+    )
 }
 
 #[test]
 fn lane_calls(rt: HostRuntime) -> Result<(), Fail> {
-    let (mut near, mut far) = lane_again(rt.alloc(), 1, 1)?;
-    assert_eq!(rt; near.offer(delivery(0)), Ok(()));
-    assert_eq!(rt; near.offer(delivery(1)), Err(delivery(1)));
-    assert_eq!(rt; far.receive(), None);
-    near.offer_all();
-    assert!(rt; !far.is_full());
-    assert_eq!(rt; far.receive(), Some(delivery(0)));
-    assert_eq!(rt; far.answer(reply(Op::Release, 4)), Ok(()));
-    assert_eq!(rt;
-        far.answer(reply(Op::Release, 5)),
-        Err(AnswerFault::NothingHeld)
-    );
-    assert_eq!(rt;
-        far.answer(reply(Op::New, 6)),
-        Err(AnswerFault::Full(reply(Op::New, 6)))
-    );
-    let mut rests = beside(near, far);
-    assert_eq!(rt; rests.next_undelivered(), None);
-    assert_eq!(rt; rests.next_untaken(), Some(reply(Op::Release, 4)));
-    assert_eq!(rt; rests.next_untaken(), None);
-    assert_eq!(rt; rests.next_held(), None);
-    Ok(())
-}
-
-/// Offers the numbers from 0 on, and receives each; whether all came.
-fn pass(near: &mut Near, far: &mut Far, count: u64) -> bool
-    ensures near { near_id near.new ≡ near_id near.old }
-    ensures far { far_id far.new ≡ far_id far.old }
-{
-    for number in 0..count {
-        let offered = near.offer(delivery(number));
-        near.offer_all();
-        if offered.is_err() || far.is_full() || far.receive() != Some(delivery(number)) {
-            return false;
-        }
-    }
-    true
-}
-
-/// Whether the reply is refused for this cause, and what is held stays as it was.
-fn refuses(far: &mut Far, reply: Reply, cause: AnswerFault) -> bool
-    ensures { far_id far.new ≡ far_id far.old }
-{
-    let (held, oldest) = (far.held(), far.oldest());
-    far.answer(reply) == Err(cause) && far.held() == held && far.oldest() == oldest
-}
-
-#[test]
-fn what_is_left(rt: HostRuntime) -> Result<(), Fail> {
-    let (mut near, mut far) = lane_again(rt.alloc(), 4, 4)?;
-    assert_eq!(rt; near.peek(), None);
-    assert_eq!(rt; near.take(), None);
-    assert_eq!(rt; far.receive(), None);
-    assert!(rt; pass(&mut near, &mut far, 3));
-    assert_eq!(rt; near.offer(delivery(9)), Ok(()));
-    assert_eq!(rt; far.answer(reply(Op::New, 8)), Ok(()));
-    assert_eq!(rt; near.peek(), None);
-    far.answer_all();
-    assert_eq!(rt; far.answer(reply(Op::Forward, 9)), Ok(()));
-    assert_eq!(rt; near.peek(), Some(reply(Op::New, 8)));
-    assert_eq!(rt; near.take(), Some(reply(Op::New, 8)));
-    let mut rests = beside(near, far);
-    assert_eq!(rt; rests.next_undelivered(), Some(delivery(9)));
-    assert_eq!(rt; rests.next_undelivered(), None);
-    assert_eq!(rt; rests.next_untaken(), Some(reply(Op::Forward, 9)));
-    assert_eq!(rt; rests.next_untaken(), None);
-    assert_eq!(rt; rests.next_held(), Some((3, 1)));
-    assert_eq!(rt; rests.next_held(), Some((3, 2)));
-    assert_eq!(rt; rests.next_held(), None);
-    Ok(())
-}
-
-/// That no list grew by a refusal shows at the end, in what is left.
-#[test]
-fn refused_answers(rt: HostRuntime) -> Result<(), Fail> {
-    let (mut near, mut far) = lane_again(rt.alloc(), 2, 1)?;
-    assert!(rt; refuses(&mut far, reply(Op::Forward, 0), AnswerFault::NothingHeld));
-    assert!(rt; refuses(&mut far, reply(Op::Release, 0), AnswerFault::NothingHeld));
-    assert!(rt; pass(&mut near, &mut far, 2));
-    assert_eq!(rt; far.answer(reply(Op::New, 1)), Ok(()));
-    assert!(rt;
-        refuses(
-            &mut far,
-            reply(Op::New, 2),
-            AnswerFault::Full(reply(Op::New, 2))
-        )
-    );
-    assert!(rt;
-        refuses(
-            &mut far,
-            reply(Op::Forward, 3),
-            AnswerFault::Full(reply(Op::Forward, 3))
-        )
-    );
-    assert!(rt;
-        refuses(
-            &mut far,
-            reply(Op::Release, 4),
-            AnswerFault::Full(reply(Op::Release, 4))
-        )
-    );
-    assert_eq!(rt; (far.held(), far.oldest()), (2, Some((3, 0))));
-    assert!(rt; far.is_full());
-    far.answer_all();
-    assert_eq!(rt; near.take(), Some(reply(Op::New, 1)));
-    assert_eq!(rt; far.answer(reply(Op::Forward, 5)), Ok(()));
-    assert!(rt;
-        refuses(
-            &mut far,
-            reply(Op::Release, 6),
-            AnswerFault::Full(reply(Op::Release, 6))
-        )
-    );
-    assert_eq!(rt; (far.held(), far.oldest()), (1, Some((3, 1))));
-    assert!(rt; !far.is_full());
-    let mut rests = beside(near, far);
-    assert_eq!(rt; rests.next_undelivered(), None);
-    assert_eq!(rt; rests.next_untaken(), Some(reply(Op::Forward, 5)));
-    assert_eq!(rt; rests.next_untaken(), None);
-    assert_eq!(rt; rests.next_held(), Some((3, 1)));
-    assert_eq!(rt; rests.next_held(), None);
-    Ok(())
-}
-
-/// Offers a delivery for each number, and shows them; whether the ring had room.
-fn offers(near: &mut Near, numbers: &[u64]) -> bool
-    ensures { near_id near.new ≡ near_id near.old }
-{
-    for number in numbers {
-        if near.offer(delivery(*number)).is_err() {
-            return false;
-        }
-    }
-    near.offer_all();
-    true
-}
-
-/// Gives a reply with each number, and shows them; whether the ring had room.
-fn answers(far: &mut Far, numbers: &[u64]) -> bool
-    ensures { far_id far.new ≡ far_id far.old }
-{
-    for number in numbers {
-        if far.answer(reply(Op::New, *number)).is_err() {
-            return false;
-        }
-    }
-    far.answer_all();
-    true
-}
-
-/// What came out of the ring is received one by one, and is out until it is answered.
-#[test]
-fn deliveries_by_slices(rt: HostRuntime) -> Result<(), Fail> {
-    let (mut near, mut far) = lane_again(rt.alloc(), 2, 2)?;
-    far.receive_all();
-    assert!(rt; offers(&mut near, &[0, 1]));
-    far.receive_all();
-    assert!(rt; !offers(&mut near, &[2]));
-    assert!(rt; !far.is_full());
-    assert_eq!(rt; far.receive(), Some(delivery(0)));
-    assert_eq!(rt; far.answer(reply(Op::Release, 5)), Ok(()));
-    far.answer_all();
-    assert_eq!(rt; near.take(), Some(reply(Op::Release, 5)));
-    assert!(rt; offers(&mut near, &[2]));
-    let mut rests = beside(near, far);
-    assert_eq!(rt; rests.next_undelivered(), Some(delivery(1)));
-    assert_eq!(rt; rests.next_undelivered(), Some(delivery(2)));
-    assert_eq!(rt; rests.next_undelivered(), None);
-    Ok(())
-}
-
-/// As many replies as were wanted come out of the ring, leave its places free, and are untaken until they are taken.
-#[test]
-fn replies_by_slices(rt: HostRuntime) -> Result<(), Fail> {
-    let (mut near, mut far) = lane_again(rt.alloc(), 2, 2)?;
-    assert!(rt; answers(&mut far, &[0, 1]));
-    near.take_all(1);
-    assert!(rt; answers(&mut far, &[2]));
-    assert!(rt; !answers(&mut far, &[3]));
-    assert_eq!(rt; near.take(), Some(reply(Op::New, 0)));
-    near.take_all(2);
-    assert!(rt; answers(&mut far, &[3, 4]));
-    let mut rests = beside(near, far);
-    assert_eq!(rt; rests.next_untaken(), Some(reply(Op::New, 1)));
-    assert_eq!(rt; rests.next_untaken(), Some(reply(Op::New, 2)));
-    assert_eq!(rt; rests.next_untaken(), Some(reply(Op::New, 3)));
-    assert_eq!(rt; rests.next_untaken(), Some(reply(Op::New, 4)));
-    assert_eq!(rt; rests.next_untaken(), None);
-    Ok(())
-}
-
-/// Offers each number below `PASSES`, and takes a reply for each; whether all replies came, in order.
-fn schedule(near: Near) -> (Near, bool)
-    ensures { near_id result.0 ≡ near_id near }
-{
-    let mut near = near;
-    let (mut offered, mut taken, mut idle) = (0, 0, 0);
-    let mut in_order = true;
-    for _ in 0..u64::MAX {
-        if taken >= PASSES || idle >= PATIENCE {
-            break;
-        }
-        idle += 1;
-        if offered < PASSES && near.offer(delivery(offered)).is_ok() {
-            offered += 1;
-            idle = 0;
-        }
-        near.offer_all();
-        match near.take() {
-            Some(back) => {
-                in_order = in_order && back == reply(Op::Forward, taken);
-                taken += 1;
-                idle = 0;
-            }
-            None => thread::yield_now(),
-        }
-    }
-    (near, in_order && taken == PASSES)
-}
-
-/// Receives `PASSES` deliveries, and answers each; whether all deliveries came, in order.
-fn hold(far: Far) -> (Far, bool)
-    ensures { far_id result.0 ≡ far_id far }
-{
-    let mut far = far;
-    let (mut received, mut answered, mut idle) = (0, 0, 0);
-    let mut in_order = true;
-    for _ in 0..u64::MAX {
-        if answered >= PASSES || idle >= PATIENCE {
-            break;
-        }
-        idle += 1;
-        if received < PASSES && !far.is_full() {
-            match far.receive() {
-                Some(next) => {
-                    in_order = in_order && next == delivery(received);
-                    received += 1;
-                    idle = 0;
-                }
-                None => thread::yield_now(),
-            }
-        }
-        if let Some((_, number)) = far.oldest() {
-            if far.answer(reply(Op::Forward, number)).is_ok() {
-                answered += 1;
-                idle = 0;
-            }
-        }
-        far.answer_all();
-    }
-    (far, in_order && answered == PASSES)
-}
-
-/// Runs both ends at once; whether all came in order and nothing is left.
-fn pass_across<R: Threads + Sync>(rt: &R, near: Near, far: Far) -> bool
-    requires { near_id near ≡ far_id far }
-{
-    let ((near, replies_in_order), (far, deliveries_in_order)) = thread::join(
-        rt,
-        move || -> (Near, bool)
-            ensures { near_id result.0 ≡ near_id near }
-        { schedule(near) },
-        move || -> (Far, bool)
-            ensures { far_id result.0 ≡ far_id far }
-        { hold(far) },
-    );
-    let mut rests = beside(near, far);
-    let is_empty = rests.next_undelivered().is_none()
-        && rests.next_untaken().is_none()
-        && rests.next_held().is_none();
-    replies_in_order && deliveries_in_order && is_empty
-}
-
-#[test]
-fn two_threads(rt: HostRuntime) -> Result<(), Fail> {
-    for depth in [1, 7, 64] {
-        let (near, far) = lane(rt.alloc(), depth, 5)?;
-        assert!(rt; pass_across(&rt, near, far), "depth {depth}");
+    for row in &ROWS {
+        let (near, far) = lane_again(rt.alloc(), row.depth, row.replies)?;
+        let name = row.name;
+        assert_eq!(rt; ends_as(row, near, far), (None, true), "{name}");
     }
     Ok(())
 }

@@ -5,6 +5,12 @@
 #[cfg(test)]
 mod credits;
 #[cfg(test)]
+mod lane_threads;
+#[cfg(test)]
 mod lanes;
+#[cfg(test)]
+mod left;
+#[cfg(test)]
+mod made;
 #[cfg(test)]
 mod refusals;

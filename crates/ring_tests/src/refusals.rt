@@ -3,8 +3,10 @@
 ghost use Rattle.std.specs.Prelude.{◌≡◌};
 ghost use Rattle.lane_rings.specs.Identity.{near_id, far_id};
 
-use evt_types::{Delivery, Event, Op, Reply};
-use lane_rings::{AnswerFault, Beside, Far, Near, beside, lane};
+use crate::left::{holds, leaves};
+use crate::made::{delivery, reply};
+use evt_types::Op;
+use lane_rings::{AnswerFault, Far, Near, beside, lane};
 use std::test::Fail;
 
 /// A lane when a reply is refused. Its deliveries are known by their numbers; number 9 is offered and not received.
@@ -147,34 +149,6 @@ static ROWS: [Row; 13] = [
     },
 ];
 
-fn delivery(number: u64) -> Delivery {
-    Delivery {
-        event: event(Op::New, number),
-        queue: 3,
-        number,
-    }
-}
-
-/// A reply, which is known by its place among those that are given, from 0; the refused one is the seventh.
-fn reply(op: Op, place: usize) -> Reply {
-    Reply {
-        event: event(op, place as u64),
-    }
-}
-
-fn event(op: Op, payload: u64) -> Event {
-    Event {
-        flow: 7,
-        sub_type: 0,
-        event_type: 0,
-        op,
-        queue: 0,
-        priority: 128,
-        impl_opaque: 0,
-        payload,
-    }
-}
-
 /// Offers a delivery for each number, and receives it; whether all came.
 fn deliver(near: &mut Near, far: &mut Far, numbers: &[u64]) -> bool
     ensures near { near_id near.new ≡ near_id near.old }
@@ -195,7 +169,7 @@ fn give(far: &mut Far, ops: &[Op]) -> bool
     ensures { far_id far.new ≡ far_id far.old }
 {
     for (place, op) in ops.iter().enumerate() {
-        if far.answer(reply(*op, place)) != Ok(()) {
+        if far.answer(reply(*op, place as u64)) != Ok(()) {
             return false;
         }
     }
@@ -207,7 +181,7 @@ fn take(near: &mut Near, ops: &[Op]) -> bool
     ensures { near_id near.new ≡ near_id near.old }
 {
     for (place, op) in ops.iter().enumerate() {
-        if near.take() != Some(reply(*op, place)) {
+        if near.take() != Some(reply(*op, place as u64)) {
             return false;
         }
     }
@@ -231,15 +205,9 @@ fn turn(near: &mut Near, far: &mut Far, count: u64) -> bool
     true
 }
 
-/// The queue and the number of the first of the numbers.
-fn first(numbers: &[u64]) -> Option<(usize, u64)> {
-    let number = numbers.first()?;
-    Some((3, *number))
-}
-
 /// Whether this is held, and what is next in the ring of deliveries is not received.
-fn holds(far: &Far, numbers: &[u64]) -> bool {
-    far.held() == numbers.len() && far.oldest() == first(numbers) && !far.is_full()
+fn holds_all(far: &Far, numbers: &[u64]) -> bool {
+    holds(far, numbers.len(), numbers.first().copied()) && !far.is_full()
 }
 
 /// Whether the row's reply is refused for its cause, and what is held is the same before and after.
@@ -252,7 +220,7 @@ fn refuses(far: &mut Far, row: &Row) -> bool
     } else {
         AnswerFault::NothingHeld
     };
-    holds(far, row.held) && far.answer(refused) == Err(cause) && holds(far, row.held)
+    holds_all(far, row.held) && far.answer(refused) == Err(cause) && holds_all(far, row.held)
 }
 
 /// Whether number 9 is received now, and the reply that was refused is accepted and is all that is taken.
@@ -266,16 +234,6 @@ fn goes_on(near: &mut Near, far: &mut Far, row: &Row) -> bool
     let answered = far.answer(reply(row.refused, 7));
     far.answer_all();
     answered == Ok(()) && near.take() == Some(reply(row.refused, 7)) && near.take() == None
-}
-
-/// Whether nothing is in the rings, and this is held.
-fn leaves(rests: &mut Beside, numbers: &[u64]) -> bool {
-    for number in numbers {
-        if rests.next_held() != Some((3, *number)) {
-            return false;
-        }
-    }
-    rests.next_held() == None && rests.next_undelivered() == None && rests.next_untaken() == None
 }
 
 /// Brings a lane to where the row's reply is refused; whether all came there.
@@ -311,7 +269,7 @@ fn plays(near: Near, far: Far, row: &Row, turns: u64, flushes: bool) -> bool
     }
     let is_same = refuses_once(&mut near, &mut far, row);
     let mut rests = beside(near, far);
-    is_there && is_same && leaves(&mut rests, row.left)
+    is_there && is_same && leaves(&mut rests, &[], &[], row.left)
 }
 
 /// The rows, over the places at which a ring begins, and with what was given seen by the scheduler or not.

@@ -1,9 +1,8 @@
 //! A good pipeline's document, cut after each byte.
 
-use crate::row::{BY_PORTS, PIPELINE, TEXT};
-use pipeline_app::{AppFault, OpenGate, run_trace};
+use crate::documents::{PIPELINE, PIPELINE_TEXT, runs};
+use pipeline_app::OpenGate;
 use play_documents::DocFault;
-use std::test::Fail;
 
 /// The fault of so many bytes of the document and more, or how many bytes of the pipeline's text are written: a document that is
 /// cut behind a stage is that of the stages before.
@@ -45,6 +44,11 @@ static CUTS: [(usize, Result<usize, DocFault>); 35] = [
     (242, Ok(242)),
 ];
 
+/// So many bytes of the pipeline's text, where that is the end of a line.
+fn front_of_text(count: usize) -> &'static str {
+    PIPELINE_TEXT.get(..count).unwrap_or("")
+}
+
 /// The end of a run of the first bytes, so many.
 fn end_of(count: usize) -> Result<usize, DocFault> {
     let mut known = Ok(0);
@@ -57,22 +61,11 @@ fn end_of(count: usize) -> Result<usize, DocFault> {
 }
 
 #[test]
-fn names_the_fault_of_each_front(rt: HostRuntime) -> Result<(), Fail> {
-    let alloc = rt.alloc();
-    let document = PIPELINE.document(alloc, BY_PORTS)?;
-    let bytes = document.as_bytes();
+fn names_the_fault_of_each_front(rt: HostRuntime) {
+    let bytes = PIPELINE.as_bytes();
     assert_eq!(rt; bytes.len(), 243);
     for count in 0..bytes.len() {
-        let (wanted, most) = match end_of(count) {
-            Ok(most) => (Ok(()), most),
-            Err(fault) => (Err(AppFault::Document(fault)), 0),
-        };
-        let mut reader = &bytes[..count];
-        let mut written = Vec::new(alloc);
-        let outcome = run_trace(&rt, alloc, &mut reader, 2, &OpenGate, &mut written);
-        assert_eq!(rt; outcome, wanted);
-        assert_eq!(rt; written.len(), most);
-        assert!(rt; TEXT.as_bytes().starts_with(&written));
+        let end = end_of(count).map(front_of_text);
+        runs(&rt, rt.alloc(), &bytes[..count], 2, &OpenGate, end);
     }
-    Ok(())
 }

@@ -1,19 +1,23 @@
-//! The faults of pipelines' documents, as a run names them: each comes before anything is written.
+//! Documents with two faults: the one that is looked for first is named, and nothing is written.
 
-use crate::row::{BY_PORTS, NUMBERS, Pipeline, Row, STAGES, TRACE};
-use evt_types::ShapeFault;
-use pipeline_app::{AppFault, OpenGate};
+use crate::documents::runs;
+use pipeline_app::OpenGate;
 use play_documents::DocFault;
-use std::test::Fail;
 
-/// The pipelines, each with the fault of its document.
-static FAULTS: [(&str, Pipeline, DocFault); 5] = [
-    (
-        "the first stage is parallel",
-        Pipeline {
-            numbers: NUMBERS,
-            trace: TRACE,
-            stages: r#"[[stage]]
+/// The first stage is parallel, and the last one adds.
+const PARALLEL_INSIDE: &str = r#"limit = 32
+quantum = 1
+sweep = 8
+depth = 4
+replies = 8
+trace = """
+7 128 1
+7 128 2
+9 0 3
+7 255 4
+9 0 6
+"""
+[[stage]]
 kind = "parallel"
 order = 8
 action = "add 1"
@@ -23,16 +27,19 @@ slots = 4
 action = "drop 2"
 [[stage]]
 kind = "parallel"
-"#,
-        },
-        DocFault::ParallelInside,
-    ),
-    (
-        "the last stage adds",
-        Pipeline {
-            numbers: NUMBERS,
-            trace: TRACE,
-            stages: r#"[[stage]]
+action = "add 1"
+"#;
+
+/// The limit is too low for two workers, and a line of the trace is short.
+const LIMIT_TIGHT: &str = r#"limit = 5
+quantum = 1
+sweep = 8
+depth = 4
+replies = 8
+trace = """
+7 128
+"""
+[[stage]]
 kind = "ordered"
 order = 8
 action = "add 1"
@@ -42,51 +49,17 @@ slots = 4
 action = "drop 2"
 [[stage]]
 kind = "parallel"
-action = "add 1"
-"#,
-        },
-        DocFault::LastAction,
-    ),
-    (
-        "the limit is tight",
-        Pipeline {
-            numbers: "limit = 5\nquantum = 1\nsweep = 8\ndepth = 4\nreplies = 8\n",
-            trace: TRACE,
-            stages: STAGES,
-        },
-        DocFault::LimitTight,
-    ),
-    (
-        "a line of the trace is short",
-        Pipeline {
-            numbers: NUMBERS,
-            trace: "7 128\n",
-            stages: STAGES,
-        },
-        DocFault::BadTrace(1),
-    ),
-    (
-        "no stage",
-        Pipeline {
-            numbers: "stage = []\nlimit = 32\nquantum = 1\nsweep = 8\ndepth = 4\nreplies = 8\n",
-            trace: TRACE,
-            stages: "",
-        },
-        DocFault::Shape(ShapeFault::QueueCount),
-    ),
+"#;
+
+static FAULTS: [(&str, DocFault); 2] = [
+    (PARALLEL_INSIDE, DocFault::ParallelInside),
+    (LIMIT_TIGHT, DocFault::LimitTight),
 ];
 
 #[test]
-fn names_the_fault_of_a_document(rt: HostRuntime) -> Result<(), Fail> {
-    for (name, pipeline, fault) in &FAULTS {
-        let row = Row {
-            name: *name,
-            serving: BY_PORTS,
-            pipeline: *pipeline,
-            workers: 2,
-            end: Err(AppFault::Document(*fault)),
-        };
-        row.runs(&rt, rt.alloc(), &OpenGate)?;
+fn names_the_first_fault(rt: HostRuntime) {
+    for (document, fault) in &FAULTS {
+        let bytes = document.as_bytes();
+        runs(&rt, rt.alloc(), bytes, 2, &OpenGate, Err(*fault));
     }
-    Ok(())
 }

@@ -1,11 +1,11 @@
 //! Workers that meet at a gate: none goes on until all have come, so they are seen to work at the same time.
 
-use crate::row::{BY_FLOWS, BY_PORTS, NUMBERS, Pipeline, Row};
+use crate::documents::runs;
 use pipeline_app::Gate;
+use std::alloc::Global;
 use std::process::Abort;
 use std::sync::Wait;
 use std::sync::atomic::{AtomicBool, AtomicU64, Ordering};
-use std::test::Fail;
 use std::thread::{Threads, yield_now};
 
 /// How often a worker looks for the others in vain before it goes on and the test fails.
@@ -50,64 +50,82 @@ impl Gate for Meeting {
 }
 
 /// Two events of one flow of a parallel queue, for two workers.
-static TWO_BY_PORTS: Row = Row {
-    name: "two workers meet, by ports",
-    serving: BY_PORTS,
-    pipeline: Pipeline {
-        numbers: NUMBERS,
-        trace: "1 128 1\n1 128 2\n",
-        stages: "[[stage]]\nkind = \"parallel\"\n",
-    },
-    workers: 2,
-    end: Ok("stage 0 flow 1 level 2: 1 2\n"),
-};
+const TWO_BY_PORTS: &str = r#"limit = 32
+quantum = 1
+sweep = 8
+depth = 4
+replies = 8
+trace = """
+1 128 1
+1 128 2
+"""
+[[stage]]
+kind = "parallel"
+"#;
 
 /// Events of two slots of an atomic queue, for two workers.
-static TWO_BY_FLOWS: Row = Row {
-    name: "two workers meet, by flows",
-    serving: BY_FLOWS,
-    pipeline: Pipeline {
-        numbers: NUMBERS,
-        trace: "1 128 1\n2 128 2\n",
-        stages: "[[stage]]\nkind = \"atomic\"\nslots = 4\n",
-    },
-    workers: 2,
-    end: Ok("stage 0 flow 1 level 2: 1\nstage 0 flow 2 level 2: 2\n"),
-};
+const TWO_BY_FLOWS: &str = r#"serving = "flows"
+limit = 32
+quantum = 1
+sweep = 8
+depth = 4
+replies = 8
+trace = """
+1 128 1
+2 128 2
+"""
+[[stage]]
+kind = "atomic"
+slots = 4
+"#;
 
 /// Eight events of one flow of a parallel queue, for eight workers.
-static EIGHT: Row = Row {
-    name: "eight workers meet",
-    serving: BY_PORTS,
-    pipeline: Pipeline {
-        numbers: NUMBERS,
-        trace: "1 128 1\n1 128 2\n1 128 3\n1 128 4\n1 128 5\n1 128 6\n1 128 7\n1 128 8\n",
-        stages: "[[stage]]\nkind = \"parallel\"\n",
-    },
-    workers: 8,
-    end: Ok("stage 0 flow 1 level 2: 1 2 3 4 5 6 7 8\n"),
-};
+const EIGHT: &str = r#"limit = 32
+quantum = 1
+sweep = 8
+depth = 4
+replies = 8
+trace = """
+1 128 1
+1 128 2
+1 128 3
+1 128 4
+1 128 5
+1 128 6
+1 128 7
+1 128 8
+"""
+[[stage]]
+kind = "parallel"
+"#;
 
-#[test]
-fn two_workers_meet_by_ports(rt: HostRuntime) -> Result<(), Fail> {
-    let gate = Meeting::of(2);
-    TWO_BY_PORTS.runs(&rt, rt.alloc(), &gate)?;
+/// Runs a document, whose events meet at the gate, by as many workers.
+fn meets<R: Threads + Wait + Abort + Sync>(
+    rt: &R,
+    alloc: Global,
+    document: &str,
+    workers: u32,
+    text: &str,
+) {
+    let gate = Meeting::of(u64::from(workers));
+    runs(rt, alloc, document.as_bytes(), workers, &gate, Ok(text));
     assert!(rt; !gate.missed.load(Ordering::SeqCst));
-    Ok(())
 }
 
 #[test]
-fn two_workers_meet_by_flows(rt: HostRuntime) -> Result<(), Fail> {
-    let gate = Meeting::of(2);
-    TWO_BY_FLOWS.runs(&rt, rt.alloc(), &gate)?;
-    assert!(rt; !gate.missed.load(Ordering::SeqCst));
-    Ok(())
+fn two_workers_meet_by_ports(rt: HostRuntime) {
+    let text = "stage 0 flow 1 level 2: 1 2\n";
+    meets(&rt, rt.alloc(), TWO_BY_PORTS, 2, text);
 }
 
 #[test]
-fn eight_workers_meet(rt: HostRuntime) -> Result<(), Fail> {
-    let gate = Meeting::of(8);
-    EIGHT.runs(&rt, rt.alloc(), &gate)?;
-    assert!(rt; !gate.missed.load(Ordering::SeqCst));
-    Ok(())
+fn two_workers_meet_by_flows(rt: HostRuntime) {
+    let text = "stage 0 flow 1 level 2: 1\nstage 0 flow 2 level 2: 2\n";
+    meets(&rt, rt.alloc(), TWO_BY_FLOWS, 2, text);
+}
+
+#[test]
+fn eight_workers_meet(rt: HostRuntime) {
+    let text = "stage 0 flow 1 level 2: 1 2 3 4 5 6 7 8\n";
+    meets(&rt, rt.alloc(), EIGHT, 8, text);
 }

@@ -1,9 +1,12 @@
-//! Tests of the running of pipelines: whole documents are run by threads, and what is written is compared; workers that meet at a
-//! gate; the faults; and the check of a small log.
+//! Tests of the running of pipelines that no file shows: documents are run by threads over readers and writers in memory, workers
+//! meet at a gate, a small log is checked, and calls are made directly. The documents with whole texts, and the faulty ones, are
+//! files, which the program `example_runs` runs.
 #![tactic(auto)]
 
 #[cfg(test)]
 mod cuts;
+#[cfg(test)]
+mod documents;
 #[cfg(test)]
 mod faults;
 #[cfg(test)]
@@ -11,8 +14,6 @@ mod gates;
 #[cfg(test)]
 mod logs;
 #[cfg(test)]
-mod row;
-#[cfg(test)]
-mod rows;
+mod pipelines;
 #[cfg(test)]
 mod streams;

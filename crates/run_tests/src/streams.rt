@@ -1,9 +1,12 @@
 //! A run over readers and writers that give and take little, and fail.
 
-use crate::row::{BY_PORTS, PIPELINE, TEXT};
+use crate::documents::{PIPELINE, PIPELINE_TEXT};
 use pipeline_app::{AppFault, OpenGate, run_trace};
+use std::alloc::Global;
 use std::io::{Error, ErrorKind, Read, Result as IoResult, Write};
-use std::test::Fail;
+use std::process::Abort;
+use std::sync::Wait;
+use std::thread::Threads;
 
 /// Gives one byte a read, and fails after some reads.
 #[derive(Drop)]
@@ -29,10 +32,11 @@ impl Read for SlowReader<'_> {
     }
 }
 
-/// Takes one byte a write, and fails after some writes.
+/// Takes so many bytes a write, and fails after some writes.
 #[derive(Drop)]
 struct SlowWriter {
     taken: Vec<u8>,
+    step: usize,
     writes: usize,
 }
 
@@ -42,11 +46,9 @@ impl Write for SlowWriter {
             return Err(Error::from(ErrorKind::Interrupted));
         }
         self.writes -= 1;
-        let Some(first) = buf.first() else {
-            return Ok(0);
-        };
-        self.taken.push(*first)?;
-        Ok(1)
+        let count = self.step.min(buf.len());
+        self.taken.extend_from_slice(&buf[..count])?;
+        Ok(count)
     }
 
     fn flush(&mut self) -> IoResult<()> {
@@ -55,49 +57,53 @@ impl Write for SlowWriter {
 }
 
 #[test]
-fn runs_after_failing_reads(rt: HostRuntime) -> Result<(), Fail> {
-    let alloc = rt.alloc();
-    let document = PIPELINE.document(alloc, BY_PORTS)?;
+fn runs_after_failing_reads(rt: HostRuntime) {
     // A read for each of the 243 bytes, and one that finds the end.
     for reads in 0..245 {
         let mut reader = SlowReader {
-            rest: document.as_bytes(),
+            rest: PIPELINE.as_bytes(),
             reads,
         };
-        let mut written = Vec::new(alloc);
-        let outcome = run_trace(&rt, alloc, &mut reader, 2, &OpenGate, &mut written);
+        let mut written = Vec::new(rt.alloc());
+        let outcome = run_trace(&rt, rt.alloc(), &mut reader, 2, &OpenGate, &mut written);
         let (wanted, text) = if reads < 244 {
             (Err(AppFault::Read), "")
         } else {
-            (Ok(()), TEXT)
+            (Ok(()), PIPELINE_TEXT)
         };
         assert_eq!(rt; outcome, wanted);
         assert!(rt; written.as_slice() == text.as_bytes());
     }
-    Ok(())
+}
+
+/// Runs the pipeline into a writer that takes so many bytes a write and fails after some writes, and compares what it took.
+fn runs_into<R: Threads + Wait + Abort + Sync>(
+    rt: &R,
+    alloc: Global,
+    step: usize,
+    writes: usize,
+    wanted: Result<(), AppFault>,
+    taken: &[u8],
+) {
+    let mut reader = PIPELINE.as_bytes();
+    let mut writer = SlowWriter {
+        taken: Vec::new(alloc),
+        step,
+        writes,
+    };
+    let outcome = run_trace(rt, alloc, &mut reader, 2, &OpenGate, &mut writer);
+    assert_eq!(rt; outcome, wanted);
+    assert!(rt; writer.taken.as_slice() == taken);
 }
 
 #[test]
-fn runs_into_failing_writes(rt: HostRuntime) -> Result<(), Fail> {
+fn runs_into_failing_writes(rt: HostRuntime) {
     let alloc = rt.alloc();
-    let document = PIPELINE.document(alloc, BY_PORTS)?;
-    let text = TEXT.as_bytes();
-    // A write for each of the 242 bytes.
-    for writes in 0..243 {
-        let mut reader = document.as_bytes();
-        let mut writer = SlowWriter {
-            taken: Vec::new(alloc),
-            writes,
-        };
-        let outcome = run_trace(&rt, alloc, &mut reader, 2, &OpenGate, &mut writer);
-        let wanted = if writes < 242 {
-            Err(AppFault::Write)
-        } else {
-            Ok(())
-        };
-        assert_eq!(rt; outcome, wanted);
-        assert_eq!(rt; writer.taken.len(), writes);
-        assert!(rt; text.starts_with(&writer.taken));
+    let text = PIPELINE_TEXT.as_bytes();
+    for writes in 0..text.len() {
+        runs_into(&rt, alloc, 1, writes, Err(AppFault::Write), &text[..writes]);
     }
-    Ok(())
+    runs_into(&rt, alloc, 1, text.len(), Ok(()), text);
+    // A writer that takes no byte.
+    runs_into(&rt, alloc, 0, 1, Err(AppFault::Write), b"");
 }

@@ -1,5 +1,5 @@
 -- A core after a call: its view, and that what holds of each core holds of it.
-use Rattle.std.proofs.Common.{◌≡◌, ◌≢◌, ℕ, ◌+◌, ◌*◌, ◌<◌, ◌≤◌, Bool, true, false, ◌^◌, List, [], ◌∷◌, ◌++◌, length, map, set, get_or, All, AllPairs, Contains, Some, sum, sum_by, slice_get, ◌⊎◌, inl, inr, refl, sym, ap, ◌∙◌, subst, arith}
+use Rattle.std.proofs.Common.{◌≡◌, ◌≢◌, ℕ, ◌+◌, ◌*◌, ◌<◌, ◌≤◌, Bool, true, false, ◌^◌, List, [], ◌∷◌, ◌++◌, length, map, set, get_or, All, Contains, Some, sum, sum_by, slice_get, ◌⊎◌, inl, inr, refl, sym, ap, ◌∙◌, subst, arith}
 use Rattle.std.proofs.lemmas.Bool.{cases_Bool, cases_eq, cond-true, cond-false}
 use Rattle.std.proofs.lemmas.List.{length-set, length-map, length_push, map-set, get_or-map, get_or-set_same, get_or-set_other, get_or_default}
 use Rattle.std.proofs.lemmas.List.Elements.{All-set}
@@ -190,10 +190,6 @@ view_accepts a i old new e h is value =
 -- what waits in the view waits in the queue
 pub waits_here : (a : Inside) (i : ℕ) (old : Waits) (w : Numbered) → i < length a.queues → old ≡ get_or a.queues i old → Contains (waiting_at (view_in a) i) w → Contains old.waiting w
 waits_here a i old w h is waits = subst (λ ws. Contains ws w) (waiting_here a i old h is) waits
-
--- the numbers that wait rise, and the level of a queue is the view's
-pub rises_here : (a : Inside) (i : ℕ) (old : Waits) → IsCore a → i < length a.queues → old ≡ get_or a.queues i old → AllPairs (λ (u w : Numbered). u.number < w.number) (waiting_at (view_in a) i)
-rises_here a i old core h is = subst (AllPairs (λ (u w : Numbered). u.number < w.number)) (sym (waiting_here a i old h is)) (queue_here a i old core h is).waits.rising
 
 pub levels_here : (a : Inside) (i : ℕ) (old : Waits) → IsCore a → i < length a.queues → old ≡ get_or a.queues i old → All (λ (w : Numbered). level_of w.event < 4) (waiting_at (view_in a) i)
 levels_here a i old core h is = subst (All (λ (w : Numbered). level_of w.event < 4)) (sym (waiting_here a i old h is)) (queue_here a i old core h is).waits.levels

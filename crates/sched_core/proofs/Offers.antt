@@ -137,10 +137,6 @@ NothingBeside v s left = (q : ℕ) → (¬ Has left q) → HasQuota v s q → Ha
 pub still : (n r : ℕ) (left rest : Places) → (¬ Has rest n) → SameBut n left rest → Has rest r → Has left r
 still n r left rest gone others has = ⊎_elim (λ e. absurd (gone (subst (Has rest) e has))) (λ ne. (others r ne).0 has) (cases_eq r n)
 
--- a queue is looked at
-pub queue_more : (v : View) (s : Passed) (n : ℕ) (left rest : Places) → SameBut n left rest → (HasQuota v s n → HasNone v s n) → NothingBeside v s left → NothingBeside v s rest
-queue_more v s n left rest others none nothing q never quota = ⊎_elim (λ e. subst (HasNone v s) (sym e) (none (subst (HasQuota v s) e quota))) (λ was. nothing q was quota) (beside n q left rest others never)
-
 -- the choice of the queue that is served first of those that are left
 pub best_served : (v : View) (s : Passed) (n : ℕ) (left : Places) (o : Option Choice) → IsServedFirst v.shape left n → NothingBeside v s left → n < length v.shape.queues → HasQuota v s n → IfSome o (IsChoiceOf v s n) → IfSome o (IsBestChoice v s)
 best_served v s n left None first nothing there quota choice = tt
@@ -169,17 +165,6 @@ oldest_at v s q c l w u offer oldest =
       best = λ m fits. offer.best m (slot_fits v s m q w (subst (λ k. FitsSlot v s q k m) oldest.slot (fits_slot v s m q u fits)));
       first = λ x m waits level fits. let le = offer.first x m waits level fits in let less = oldest.first w offer.waits offer.level refl in omega arith;
     }
-
--- the level's offer is read where its choice says
-pub offer_there : (v : View) (s : Passed) (q c : ℕ) (x : Choice) (o : Option Offer) → IsChoiceIn v s q c x → IfSome o (λ y. (y.lane ≡ x.lane) × (y.delivery.queue ≡ x.queue)) → IfSome o (λ y. IsOldestIn v x.queue x.level x.slot (numbered_in y.delivery)) → IfSome o (IsOfferAt v s q c)
-offer_there v s q c x None choice place oldest = tt
-offer_there v s q c x (Some y) choice place oldest =
-    let w = choice.waiting in
-    let level : x.level ≡ c = sym choice.place.level ∙ choice.offer.level in
-    let at_queue : IsOldestIn v q x.level x.slot (numbered_in y.delivery) = subst (λ k. IsOldestIn v k x.level x.slot (numbered_in y.delivery)) choice.place.queue oldest in
-    let at_level : IsOldestIn v q c x.slot (numbered_in y.delivery) = subst (λ k. IsOldestIn v q k x.slot (numbered_in y.delivery)) level at_queue in
-    let at_slot : IsOldestIn v q c (slot_at v q w) (numbered_in y.delivery) = subst (λ k. IsOldestIn v q c k (numbered_in y.delivery)) (sym choice.place.slot) at_level in
-    (place.1 ∙ choice.place.queue, subst (λ l. IsOfferIn v s q c l (numbered_in y.delivery)) (sym place.0) (oldest_at v s q c x.lane w (numbered_in y.delivery) choice.offer at_slot))
 
 -- an event waits where the level's choice says
 pub none_there : (v : View) (s : Passed) (q c : ℕ) (x : Choice) (o : Option Offer) → IsChoiceIn v s q c x → IfNone o (HasNoneOfSlotIn v x.queue x.level x.slot) → IfNone o (HasNoneIn v s q c)

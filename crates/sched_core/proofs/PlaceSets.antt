@@ -1,10 +1,9 @@
 -- Sets of places, found one by one.
-use Rattle.std.proofs.Common.{◌≡◌, ℕ, ◌+◌, List, [], ◌∷◌, ◌++◌, length, ⊎_elim, refl, sym, ap, ◌∙◌, subst, arith}
-use Rattle.std.proofs.lemmas.Bool.{cases_eq, cases_lt}
-use Rattle.std.proofs.lemmas.List.{length_push, get_or_append_left, get_or_push}
+use Rattle.std.proofs.Common.{ℕ, ◌+◌, ⊎_elim, sym, subst, arith}
+use Rattle.std.proofs.lemmas.Bool.{cases_eq}
 use Rattle.place_set.specs.Places.{Has, SameBut, IsEmpty}
 use Rattle.place_set.specs.declared.places.Places.{Places}
-use Rattle.sched_core.specs.PlaceSets.{AreSets, AreThose}
+use Rattle.sched_core.specs.PlaceSets.{AreThose}
 
 pub those_none : (IsSo : ℕ → Type 0) (set : Places) → IsEmpty set → AreThose IsSo 0 set
 those_none IsSo set none k = (λ has. absurd (none k has), λ both. let lt = both.0 in absurd (omega arith))
@@ -22,15 +21,3 @@ those_past IsSo n set never those k = (
 )
 
 -- ---- one queue more
-
-pub sets_none : (IsSo : ℕ → ℕ → Type 0) (m : ℕ) → AreSets IsSo m 0 []
-sets_none IsSo m = record { count = refl; each = λ q d lt. absurd (omega arith) }
-
-pub sets_more : (IsSo : ℕ → ℕ → Type 0) (m n : ℕ) (sets : List Places) (set : Places) → AreSets IsSo m n sets → AreThose (IsSo n) m set → AreSets IsSo m (n + 1) (sets ++ set ∷ [])
-sets_more IsSo m n sets set all here =
-    record {
-      count = length_push sets set ∙ ap (λ k. k + 1) all.count;
-      each = λ q d lt. ⊎_elim (λ below. subst (AreThose (IsSo q) m) (sym (get_or_append_left sets (set ∷ []) d q below)) (all.each q d below))
-          (λ from. let at : length sets ≡ q = omega (arith, lt, from, length_push sets set) in subst (AreThose (IsSo q) m) (sym (get_or_push sets set d q at)) (subst (λ k. AreThose (IsSo k) m set) (sym all.count ∙ at) here))
-          (cases_lt q (length sets));
-    }

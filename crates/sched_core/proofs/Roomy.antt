@@ -34,10 +34,6 @@ roomy_set ls i new was now here others mine roomy k h few = by_case (cases_eq k 
         subst (λ (l : Entries). Has now k ↔ (length l.entries < l.capacity)) (sym (get_or-set_other ls i k new (entries_of [] 0) differs))
         (λ has. same.0 ((others k differs).0 has), λ room. (others k differs).1 (same.1 room))
 
--- a lane behind those of the set is changed
-pub roomy_past : (ls : List Entries) (i : ℕ) (new : Entries) (roomy : Places) → i < length ls → 64 ≤ i → AreRoomy ls roomy → AreRoomy (set ls i new) roomy
-roomy_past ls i new roomy here past are = roomy_set ls i new roomy roomy here (λ k differs. (λ has. has, λ has. has)) (λ few. absurd (omega (arith, past, few))) are
-
 -- where one event leaves, there is room
 pub one_left : (old new : Entries) → length old.entries ≤ old.capacity → 0 < length old.entries → new ≡ entries_of (drop 1 old.entries) old.capacity → length new.entries < new.capacity
 one_left old new within some is =

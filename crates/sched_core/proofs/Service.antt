@@ -21,9 +21,6 @@ pub record IsLowest (p : Plan) (queues : Places) (q : ℕ) : Type 0 where
   pub there : Has queues q
   pub lowest : (r : ℕ) → Has queues r → (queue_of p r).priority ≡ (queue_of p q).priority → q ≤ r
 
-pub lowest_of_all : (p : Plan) (queues : Places) (q : ℕ) → IsFirst queues q → IsLowest p queues q
-lowest_of_all p queues q first = record { there = first.there; lowest = λ r has _. first.first r has }
-
 -- those of the queues that are of a priority before that of q
 module _ (p : Plan) (queues ahead both : Places) (q : ℕ) (within : (r : ℕ) → Has queues r → r < length p.queues) (are : AreAheadOf p q ahead) (meet : (r : ℕ) → Has both r ↔ (Has queues r × Has ahead r)) where
   pub is_before : (r : ℕ) → Has both r → IsAhead p q r

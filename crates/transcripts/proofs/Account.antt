@@ -1,5 +1,5 @@
 -- The account of a transcript whose steps were allowed: what is inside and what was released are what was accepted as new.
-use Rattle.std.specs.Prelude.{ℕ, ◌≡◌, ◌<◌, ◌≤◌, ◌+◌, List, [], ◌∷◌, ◌++◌, length, All, Option, Some, None, sum_by, cond, slice_index_or}
+use Rattle.std.specs.Prelude.{ℕ, ◌≡◌, ◌<◌, ◌≤◌, ◌+◌, List, [], ◌∷◌, ◌++◌, length, All, Option, Some, None, sum_by, cond}
 use Rattle.std.proofs.Common.{refl, ap, subst, arith}
 use Rattle.std.proofs.lemmas.List.{length-append, length_push}
 use Rattle.std.proofs.lemmas.List.Elements.{All-nil, All-push, All-weaker}
@@ -110,10 +110,6 @@ pub formed_allowed : (p : Plan) (T : List Step) → AllowedAfter p [] T → All 
 formed_allowed p T all =
     AllowedAfter_keeps p (All (IsFormed p)) (λ P s formed a. All-push (IsFormed p) P s formed a.formed) [] T (All-nil (IsFormed p)) all
 
--- the k-th step is of this form
-pub formed_at : (p : Plan) (T : List Step) (k : ℕ) (d : Step) → k < length T → AllowedAfter p [] T → IsFormed p (slice_index_or T k d)
-formed_at p T k d within all = formed_allowed p T all k d within
-
 -- a step's lane is there, and its queues are
 abbrev pub HasLane : Plan → Step → Type 0
 HasLane p (Accept q e (New l)) = l < lanes_of p
@@ -124,15 +120,6 @@ HasLane p (Turned l e) = l < lanes_of p
 HasLane p (Bounced l) = l < lanes_of p
 HasLane p Shut = Unit {0}
 
-abbrev pub HasQueue : Plan → Step → Type 0
-HasQueue p (Accept q e (New l)) = q < length p.queues
-HasQueue p (Accept q e (Of r n)) = (q < length p.queues) × (r < length p.queues)
-HasQueue p (Give l q n) = q < length p.queues
-HasQueue p (Done l o) = Unit {0}
-HasQueue p (Turned l e) = Unit {0}
-HasQueue p (Bounced l) = Unit {0}
-HasQueue p Shut = Unit {0}
-
 pub formed_lane : (p : Plan) (s : Step) → IsFormed p s → HasLane p s
 formed_lane p (Accept q e (New l)) f = port_is_lane p l f.lane
 formed_lane p (Accept q e (Of r n)) f = tt
@@ -142,17 +129,5 @@ formed_lane p (Turned l e) f = port_is_lane p l f.lane
 formed_lane p (Bounced l) f = f
 formed_lane p Shut f = tt
 
-pub formed_queue : (p : Plan) (s : Step) → IsFormed p s → HasQueue p s
-formed_queue p (Accept q e (New l)) f = f.entry.queue
-formed_queue p (Accept q e (Of r n)) f = (f.entry.queue, f.source)
-formed_queue p (Give l q n) f = f.queue
-formed_queue p (Done l o) f = tt
-formed_queue p (Turned l e) f = tt
-formed_queue p (Bounced l) f = tt
-formed_queue p Shut f = tt
-
 pub formed_lanes : (p : Plan) (T : List Step) → All (IsFormed p) T → All (HasLane p) T
 formed_lanes p T formed = All-weaker (IsFormed p) (HasLane p) (formed_lane p) T formed
-
-pub formed_queues : (p : Plan) (T : List Step) → All (IsFormed p) T → All (HasQueue p) T
-formed_queues p T formed = All-weaker (IsFormed p) (HasQueue p) (formed_queue p) T formed

@@ -4,7 +4,7 @@ use Rattle.std.specs.List.{cons_option}
 use Rattle.std.proofs.Common.{refl, ap, ◌∙◌}
 use Rattle.std.proofs.lemmas.Bool.{false≢true, cond-true, cond-false, cond_both}
 use Rattle.std.proofs.lemmas.List.Elements.{All-nil, All-cons, All-append, All-weaker, filter_map-append}
-use Rattle.lists.proofs.Lists.{eqb_same, eqb_other, eqb_comm, filter_map-none, filter_map-push, more_some, more_none}
+use Rattle.lists.proofs.Lists.{eqb_same, eqb_other, eqb_comm, filter_map-none, more_none}
 use Rattle.evt_types.specs.Plan.{is_ordered, queue_of}
 use Rattle.transcripts.specs.Replies.{Said, said_by, said_in, replies_in}
 use Rattle.transcripts.specs.Standing.{View, AreAnswer, AreStepsBy, events_of, accepts_from, accepts_of, answered_places, leaving, oldest_at, answer_steps, steps_by, steps_of}
@@ -20,14 +20,6 @@ use Rattle.evt_types.specs.declared.step.Step.{Step}
 use Rattle.evt_types.specs.declared.step.Step.TheVariants.{Accept, Give, Done, Turned, Bounced, Shut}
 
 -- ---- one more step, and several
-
-pub replies_in-push : (P : List Step) (l : ℕ) (s : Step) → replies_in (P ++ s ∷ []) l ≡ replies_in P l ++ cons_option (said_in l s) []
-unfolding replies_in
-replies_in-push P l s = filter_map-push (said_in l) P s
-
-pub replies_in-some : (P : List Step) (l : ℕ) (s : Step) (x : Said) → said_in l s ≡ Some x → replies_in (P ++ s ∷ []) l ≡ replies_in P l ++ x ∷ []
-unfolding replies_in
-replies_in-some P l s x h = more_some (said_in l) P s x h
 
 pub replies_in-none : (P : List Step) (l : ℕ) (s : Step) → said_in l s ≡ None → replies_in (P ++ s ∷ []) l ≡ replies_in P l
 unfolding replies_in

@@ -1,6 +1,6 @@
 //! Many lists of waiting events.
 
-ghost use Rattle.std.specs.Prelude.{◌≡◌, ◌+◌, ◌<◌, ◌≤◌, ◌++◌, length, map, slice_get, vec_len, vec_capacity, IfOk, IsFalse, IsTrue};
+ghost use Rattle.std.specs.Prelude.{◌≡◌, ◌+◌, ◌<◌, ◌≤◌, [], ◌++◌, length, map, slice_get, vec_len, vec_capacity, IfOk, IsFalse, IsTrue};
 ghost use Rattle.evt_types.specs.declared.event.Numbered.{Numbered as NumberedValue};
 ghost use Rattle.waiting_lists.specs.Lists.{list_at, total_of, all_empty, has_number, with_last, without_first};
 
@@ -33,6 +33,16 @@ impl Model for WaitingLists {
     ghost invariant = { λ a. IsStore a.nodes a.free a.chains.items a.room };
 }
 
+/// Memory for so many nodes, none of which is there yet, and for the places of as many free ones.
+fn no_nodes(alloc: Global, room: usize) -> Result<(Vec<Node>, Vec<usize>), AllocError>
+    ensures nodes { IfOk result (λ r. (vec_len r.0 ≡ 0) × (room ≤ vec_capacity r.0)) }
+    ensures free { IfOk result (λ r. (vec_len r.1 ≡ 0) × (room ≤ vec_capacity r.1) × (r.1.items ≡ [])) }
+{
+    let nodes = Vec::with_capacity(alloc, room)?;
+    let free = Vec::with_capacity(alloc, room)?;
+    Ok((nodes, free))
+}
+
 impl WaitingLists {
     /// So many empty lists, with room for so many events in all.
     pub fn new(alloc: Global, lists: usize, room: usize) -> Result<WaitingLists, AllocError>
@@ -43,8 +53,7 @@ impl WaitingLists {
             last: 0,
             len: 0,
         };
-        let nodes = Vec::with_capacity(alloc, room)?;
-        let free = Vec::with_capacity(alloc, room)?;
+        let (nodes, free) = no_nodes(alloc, room)?;
         let chains = vec![in alloc; none; lists]?;
         Ok(WaitingLists {
             nodes,

@@ -3,6 +3,7 @@ use Rattle.parked_queue.specs.Parkings.{parking_at}
 use Rattle.parked_queue.specs.Parted.{parked_place}
 use Rattle.parked_queue.proofs.Calls.{first_is, placed, same_after, slot_place, unmarked}
 use Rattle.parked_queue.proofs.Parkings.{parking_read, seen_at}
+use Rattle.parked_queue.proofs.Seen.{untouched}
 use Rattle.parked_queue.proofs.parking.Parkings.parked_front.Goals as goal
 
 pub index_mut-asked-requires : goal.index_mut-asked-requires
@@ -56,3 +57,15 @@ returns-else-is_none-clause-value c =
     let s = seen_at c.self.inside.lists c.self.inside.queues.items c.args.self.now c.self.invariant c.self.view_is c.args.queue c.requires.there in
     let is : c.index_mut-asked.result.now ≡ parking_at c.self.inside.queues.items c.args.queue = c.index_mut-asked.ensures.value ∙ parking_read c.self.inside.queues.items c.args.queue c.index_mut-asked.result.now s.there in
     first_is c.self.inside.lists c.self.inside.queues.items c.args.self.now c.self.invariant c.self.view_is c.args.queue c.requires.there c.index_mut-asked.result.now is c.parked_list.result (parked_place c.args.slot c.args.level) (slot_place c.self.inside.lists c.self.inside.queues.items c.args.self.now c.self.invariant c.self.view_is c.args.queue c.requires.there c.args.level c.args.slot (parked_place c.args.slot c.args.level) c.requires.level c.requires.slot refl) c.parked_list.ensures c.front-head.result c.front-head.ensures
+
+pub invariant_of-self-else-is_none : goal.invariant_of-self-else-is_none
+invariant_of-self-else-is_none c =
+    let s = seen_at c.self.inside.lists c.self.inside.queues.items c.args.self.now c.self.invariant c.self.view_is c.args.queue c.requires.there in
+    let is : c.index_mut-asked.result.now ≡ parking_at c.self.inside.queues.items c.args.queue = c.index_mut-asked.ensures.value ∙ parking_read c.self.inside.queues.items c.args.queue c.index_mut-asked.result.now s.there in
+    (untouched c.self.inside.lists c.self.inside.queues.items c.args.self.now c.self.invariant c.self.view_is c.args.queue c.index_mut-asked.result.now is c.self.inside.lists refl).0
+
+pub returns-else-is_none-clause-same : goal.returns-else-is_none-clause-same
+returns-else-is_none-clause-same c =
+    let s = seen_at c.self.inside.lists c.self.inside.queues.items c.args.self.now c.self.invariant c.self.view_is c.args.queue c.requires.there in
+    let is : c.index_mut-asked.result.now ≡ parking_at c.self.inside.queues.items c.args.queue = c.index_mut-asked.ensures.value ∙ parking_read c.self.inside.queues.items c.args.queue c.index_mut-asked.result.now s.there in
+    (untouched c.self.inside.lists c.self.inside.queues.items c.args.self.now c.self.invariant c.self.view_is c.args.queue c.index_mut-asked.result.now is c.self.inside.lists refl).1

@@ -1,13 +1,14 @@
-use Rattle.std.proofs.Common.{◌≡◌, ◌<◌, ◌∙◌, ap, arith, length, set, subst, sym}
+use Rattle.std.proofs.Common.{◌≡◌, ◌^◌, ◌<◌, ◌∙◌, ap, arith, length, set, subst, sym}
 use Rattle.evt_types.specs.Plan.{level_of}
 use Rattle.place_set.specs.Places.{Has, SameBut}
 use Rattle.parked_queue.specs.Levels.{HaveLevels, levels_at}
 use Rattle.parked_queue.specs.Parkings.{are_waits, parted_at}
 use Rattle.parked_queue.specs.Parted.{with_waits}
-use Rattle.parked_queue.specs.Waits.{AreLevels, waits_at, with_event}
+use Rattle.parked_queue.specs.Waits.{AreLevels, AreWaits, Waits, waits_at, with_event}
 use Rattle.parked_queue.proofs.Firsts.{levels_with}
 use Rattle.parked_queue.proofs.Levels.{levels_read, levels_set}
 use Rattle.parked_queue.proofs.Parkings.{waits_read, waits_set}
+use Rattle.parked_queue.proofs.Seen.{seen_room, seen_there, seen_waits}
 use Rattle.parked_queue.proofs.queues.ParkedQueues.accept.Goals as goal
 
 pub invariant_of-self : goal.invariant_of-self
@@ -33,3 +34,21 @@ returns-clause-value c =
     ∙ (waits_set c.self.inside.parkings c.args.queue (with_waits (parted_at c.self.inside.parkings c.args.queue) (with_event (parted_at c.self.inside.parkings c.args.queue).waits c.args.event))
     ∙ (ap (λ ws. set ws c.args.queue (with_event (parted_at c.self.inside.parkings c.args.queue).waits c.args.event)) c.self.view_is
     ∙ ap (λ w. set c.args.self.now c.args.queue (with_event w c.args.event)) (sym same ∙ e)))
+
+pub index_mut-requires : goal.index_mut-requires
+index_mut-requires c =
+    let count = c.self.invariant.count in
+    let view = ap length c.self.view_is in
+    omega (arith, c.requires.there, c.self.inside.levels.ok.0)
+
+pub accept-requires-clause-there : goal.accept-requires-clause-there
+accept-requires-clause-there c = seen_there c.self.inside.parkings c.args.self.now c.args.queue c.self.view_is c.requires.there
+
+pub accept-requires-clause-room : goal.accept-requires-clause-room
+accept-requires-clause-room c = seen_room c.self.inside.parkings c.args.self.now c.args.queue c.self.view_is c.requires.room
+
+pub accept-requires-clause-numbers : goal.accept-requires-clause-numbers
+accept-requires-clause-numbers c = subst (λ (w : Waits). w.next < 2 ^ 63) (sym (seen_waits c.self.inside.parkings c.args.self.now c.args.queue c.self.view_is)) c.requires.numbers
+
+pub returns-clause-waits : goal.returns-clause-waits
+returns-clause-waits c = subst (λ w. AreWaits (with_event w c.args.event)) (seen_waits c.self.inside.parkings c.args.self.now c.args.queue c.self.view_is) c.accept.ensures.waits

@@ -1,4 +1,5 @@
-use Rattle.std.proofs.Common.{◌≡◌, ◌++◌, ◌∙◌, ap, length, sym, arith, rules}
+use Rattle.std.proofs.Common.{◌≡◌, ◌+◌, ◌≤◌, ◌++◌, ◌∙◌, ap, length, subst, sym, arith, rules}
+use Rattle.std.specs.Prelude.{vec_capacity, vec_len}
 use Rattle.std.proofs.lemmas.List.Sorted.{IsNonDecreasingBy-from_sort_by_key}
 use Rattle.lists.proofs.Sorted.{second}
 use Rattle.parked_queue.specs.Pairs.{pairs_of}
@@ -6,6 +7,7 @@ use Rattle.parked_queue.specs.Waits.{Waits, waits_at}
 use Rattle.parked_queue.specs.Parkings.{parted_at}
 use Rattle.parked_queue.proofs.Pairs.{listed}
 use Rattle.parked_queue.proofs.Parkings.{waits_read}
+use Rattle.parked_queue.proofs.Seen.{seen_there, seen_waits}
 use Rattle.parked_queue.proofs.queues.ParkedQueues.list_pairs.Goals as goal
 
 pub returns-clause-pairs : goal.returns-clause-pairs
@@ -15,3 +17,9 @@ returns-clause-pairs c =
     listed c.args.queue (parted_at c.self.inside.parkings c.args.queue) c.deref_mut.result.now c.push_pairs.new.into.items c.args.into.now.items c.sort_unstable_by_key.new.self c.push_pairs.new.into.len c.len-start.result c.push_pairs.ensures.waits
     c.deref_mut.ensures.value c.push_pairs.ensures.pairs start end c.sort_unstable_by_key.ensures.permutation (IsNonDecreasingBy-from_sort_by_key second c.sort_unstable_by_key.new.self c.sort_unstable_by_key.ensures.sorted (λ a r f k. search rules))
     ∙ ap (λ (q : Waits). c.args.into.now.items ++ pairs_of c.args.queue q.waiting) (sym (waits_read c.self.inside.parkings c.args.queue) ∙ ap (λ ws. waits_at ws c.args.queue) c.self.view_is)
+
+pub push_pairs-requires-clause-there : goal.push_pairs-requires-clause-there
+push_pairs-requires-clause-there c = seen_there c.self.inside.parkings c.args.self.now c.args.queue c.self.view_is c.requires.there
+
+pub push_pairs-requires-clause-room : goal.push_pairs-requires-clause-room
+push_pairs-requires-clause-room c = subst (λ (w : Waits). vec_len c.args.into.now + length w.waiting ≤ vec_capacity c.args.into.now) (sym (seen_waits c.self.inside.parkings c.args.self.now c.args.queue c.self.view_is)) c.requires.room

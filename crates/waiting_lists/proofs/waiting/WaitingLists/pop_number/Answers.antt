@@ -1,9 +1,11 @@
-use Rattle.std.proofs.Common.{◌≡◌, ◌∙◌, List, Some, ap, arith, eq-eqb, ne_eqb, slice_get, sym}
+use Rattle.std.proofs.Common.{◌≡◌, ℕ, ◌∙◌, List, [], Option, Some, ap, arith, eq-eqb, ne_eqb, slice_get, sym}
+use Rattle.std.proofs.lemmas.Bool.{false≢true}
 use Rattle.evt_types.specs.declared.event.Numbered.{Numbered}
-use Rattle.waiting_lists.specs.Chains.{shorter}
+use Rattle.waiting_lists.specs.Chains.{events_of, items, path, shorter}
 use Rattle.waiting_lists.specs.Lists.{has_number}
 use Rattle.waiting_lists.specs.Store.{len_of}
 use Rattle.waiting_lists.specs.declared.chain.Chain.{Chain}
+use Rattle.waiting_lists.specs.declared.chain.Node.{Node}
 use Rattle.waiting_lists.proofs.Changes.{IsFreed, store_popped, view_popped}
 use Rattle.waiting_lists.proofs.Firsts.{first_within, front_read}
 use Rattle.waiting_lists.proofs.Nodes.{node_read}
@@ -70,3 +72,24 @@ returns-clause-taken c is =
     let there = there_seen c.self.inside.nodes c.self.inside.chains.items c.self.inside.room c.args.self.now c.self.view_is c.args.list c.requires in
     let read = chain_read c.self.inside.chains.items c.args.list c.index-chain.result.now there c.index-chain.ensures in
     view_popped c.self.inside.nodes c.self.inside.free c.push_reserved.new.self c.self.inside.chains.items c.args.list c.index-oldest.result.now c.index-chain.result.now read there c.self.invariant.chains (omega (arith, c.if-chain-eq0.false)) (found c) (freed c) c.shorten.new.chain (cut c) c.self.inside.room c.args.self.now c.self.view_is
+
+-- an empty chain has no events
+none_there : (at : ℕ → Option Node) (x : Chain) → x.len ≡ 0 → [] ≡ events_of at x
+none_there at x e = ap (λ n. items at (path at x.first n)) (sym e)
+
+pub returns-then-chain-eq0-clause-value : goal.returns-then-chain-eq0-clause-value
+returns-then-chain-eq0-clause-value c =
+    let there = there_seen c.self.inside.nodes c.self.inside.chains.items c.self.inside.room c.args.self.now c.self.view_is c.args.list c.requires in
+    let read = chain_read c.self.inside.chains.items c.args.list c.index-chain.result.now there c.index-chain.ensures in
+    ap (λ (ws : List Numbered). has_number c.args.number (slice_get ws 0))
+    (none_there (slice_get c.self.inside.nodes.items) c.index-chain.result.now c.if-chain-eq0.true
+    ∙ (ap (events_of (slice_get c.self.inside.nodes.items)) read ∙ list_seen c.self.inside.nodes c.self.inside.chains.items c.self.inside.room c.args.self.now c.self.view_is c.args.list))
+
+pub returns-then-chain-eq0-clause-taken : goal.returns-then-chain-eq0-clause-taken
+returns-then-chain-eq0-clause-taken c is = absurd (false≢true is)
+
+pub returns-then-oldest-number-clause-taken : goal.returns-then-oldest-number-clause-taken
+returns-then-oldest-number-clause-taken c is = absurd (false≢true is)
+
+pub returns-clause-kept : goal.returns-clause-kept
+returns-clause-kept c is = absurd (false≢true (sym is))

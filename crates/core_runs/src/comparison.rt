@@ -1,0 +1,199 @@
+//! Both cores go through the same moves, drawn at random from a seed: all that they answer and log is the same.
+
+use crate::device::Device;
+use crate::drawn_moves::{Counts, Drawing};
+use crate::fault::RunFault;
+use crate::moves::{Made, Move};
+use crate::pair::Pair;
+use evt_types::{Kind, Serving};
+use plain_core::PlainTook;
+use std::alloc::Global;
+
+/// How many seeds a device is run with.
+const SEEDS: u64 = 20;
+/// How many turns a run has.
+const TURNS: usize = 600;
+/// How often a thing happens at least in the runs of a device, if they are worth the comparison.
+const OFTEN: u32 = 100;
+
+/// A device, and of how many flows the events of its runs are.
+#[derive(Clone, Copy)]
+pub(crate) struct Compared {
+    pub(crate) name: &'static str,
+    device: Device,
+    flows: usize,
+}
+
+/// The devices on which the cores are compared.
+pub(crate) static COMPARED: [Compared; 6] = [
+    Compared {
+        name: "a parallel queue",
+        device: Device {
+            limit: 6,
+            sweep: 4,
+            serving: Serving::Ports,
+            queues: &[(Kind::Parallel, 128, 1)],
+            ports: &[(4, &[]), (3, &[0]), (2, &[0])],
+        },
+        flows: 6,
+    },
+    Compared {
+        name: "atomic queues of few slots",
+        device: Device {
+            limit: 8,
+            sweep: 3,
+            serving: Serving::Ports,
+            queues: &[(Kind::Atomic, 128, 2), (Kind::Atomic, 128, 3)],
+            ports: &[(4, &[0]), (3, &[0, 1]), (4, &[1, 0])],
+        },
+        flows: 6,
+    },
+    Compared {
+        name: "ordered queues of few places",
+        device: Device {
+            limit: 10,
+            sweep: 4,
+            serving: Serving::Ports,
+            queues: &[(Kind::Ordered, 128, 3), (Kind::Ordered, 128, 5)],
+            ports: &[(4, &[]), (2, &[0]), (3, &[0, 1]), (2, &[1, 0])],
+        },
+        flows: 6,
+    },
+    Compared {
+        name: "queues of all kinds",
+        device: Device {
+            limit: 16,
+            sweep: 2,
+            serving: Serving::Ports,
+            queues: &[
+                (Kind::Parallel, 200, 1),
+                (Kind::Atomic, 10, 2),
+                (Kind::Ordered, 10, 4),
+                (Kind::Atomic, 128, 1),
+            ],
+            ports: &[
+                (8, &[0, 1]),
+                (4, &[2, 3]),
+                (6, &[0, 1, 2, 3]),
+                (3, &[3, 2, 1]),
+            ],
+        },
+        flows: 6,
+    },
+    Compared {
+        name: "flow lanes beside an ordered and a parallel queue",
+        device: Device {
+            limit: 10,
+            sweep: 3,
+            serving: Serving::Flows,
+            queues: &[
+                (Kind::Ordered, 128, 4),
+                (Kind::Atomic, 128, 3),
+                (Kind::Parallel, 128, 1),
+            ],
+            ports: &[(4, &[]), (3, &[0, 1]), (4, &[2, 1, 0])],
+        },
+        flows: 6,
+    },
+    // Most workers are full most of the time, so that many events wait whose slot stands on a full one.
+    Compared {
+        name: "many blocked flows",
+        device: Device {
+            limit: 200,
+            sweep: 16,
+            serving: Serving::Ports,
+            queues: &[(Kind::Atomic, 128, 64)],
+            ports: &[(4, &[]), (1, &[0]), (1, &[0]), (2, &[0]), (8, &[0])],
+        },
+        flows: 40,
+    },
+];
+
+/// How often each thing came of a turn in the runs of a device.
+#[derive(Clone, Copy, Debug, Default)]
+struct Seen {
+    accepted: u32,
+    kept: u32,
+    released: u32,
+    turned: u32,
+    refused: u32,
+    given: u32,
+    bounced: u32,
+    nothing: u32,
+}
+
+impl Seen {
+    /// Notes what came of a turn.
+    fn note(&mut self, step: Move, made: Made) {
+        let count = match made {
+            Made::Took(Some(PlainTook::Accepted)) => &mut self.accepted,
+            Made::Took(Some(PlainTook::Kept)) => &mut self.kept,
+            Made::Took(Some(PlainTook::Released)) => &mut self.released,
+            Made::Took(Some(PlainTook::Turned)) => &mut self.turned,
+            Made::Took(None) => &mut self.refused,
+            Made::Proposed(Some(_)) if step == Move::Bounce => &mut self.bounced,
+            Made::Proposed(Some(_)) => &mut self.given,
+            Made::Proposed(None) => &mut self.nothing,
+            Made::Nothing => return,
+        };
+        *count = count.saturating_add(1);
+    }
+
+    /// Whether each thing that may happen on the device has happened often: an ordered queue keeps events, and no other does.
+    fn is_varied(&self, device: &Device) -> bool {
+        let counts = [
+            self.accepted,
+            self.released,
+            self.turned,
+            self.refused,
+            self.given,
+            self.bounced,
+            self.nothing,
+        ];
+        let keeps = if device.has_ordered() {
+            self.kept >= OFTEN
+        } else {
+            self.kept == 0
+        };
+        keeps && counts.iter().all(|count| *count >= OFTEN)
+    }
+}
+
+/// The run of a seed.
+fn compare_run(
+    alloc: Global,
+    compared: &Compared,
+    seed: u64,
+    seen: &mut Seen,
+) -> Result<(), RunFault> {
+    let device = &compared.device;
+    let mut pair = Pair::new(alloc, device)?;
+    let counts = Counts {
+        ports: device.ports.len(),
+        lanes: pair.lanes(),
+        queues: device.queues.len(),
+        flows: compared.flows,
+    };
+    let mut drawing = Drawing::new(seed, counts);
+    for turn in 0..TURNS {
+        if drawing.below(10) == 0 {
+            let _ = pair.make(Move::NextSweep)?;
+        }
+        let step = drawing.next(turn > TURNS / 2);
+        seen.note(step, pair.make(step)?);
+    }
+    pair.must_hold_alike()
+}
+
+/// The runs of all seeds. In each the cores must do alike, and all together must be varied.
+pub(crate) fn compare(alloc: Global, compared: &Compared) -> Result<(), RunFault> {
+    let mut seen = Seen::default();
+    for seed in 0..SEEDS {
+        compare_run(alloc, compared, seed, &mut seen)?;
+    }
+    if seen.is_varied(&compared.device) {
+        Ok(())
+    } else {
+        Err(RunFault::Otherwise(format!(in alloc; "alike, but not varied: {seen:?}")?))
+    }
+}

@@ -1,0 +1,65 @@
+//! The devices of the runs.
+
+use crate::fault::RunFault;
+use evt_types::{Draft, Kind, PortDraft, QueueDraft, Serving, Shape};
+use std::alloc::{AllocError, Global};
+
+/// A device.
+#[derive(Clone, Copy)]
+pub(crate) struct Device {
+    pub(crate) limit: u32,
+    pub(crate) sweep: u32,
+    pub(crate) serving: Serving,
+    /// The kind and the priority of each queue, and how many slots or open events it has.
+    pub(crate) queues: &'static [(Kind, u8, u32)],
+    /// The depth and the links of each port.
+    pub(crate) ports: &'static [(u32, &'static [u32])],
+}
+
+impl Device {
+    /// Its configuration, checked.
+    pub(crate) fn shape(&self, alloc: Global) -> Result<Shape, RunFault> {
+        let draft = Draft {
+            limit: self.limit,
+            quantum: 2,
+            sweep: self.sweep,
+            serving: self.serving,
+            queues: self.queue_drafts(alloc)?,
+            ports: self.port_drafts(alloc)?,
+        };
+        Ok(Shape::build(alloc, &draft)?)
+    }
+
+    fn queue_drafts(&self, alloc: Global) -> Result<Vec<QueueDraft>, AllocError> {
+        let mut drafts = Vec::with_capacity(alloc, self.queues.len())?;
+        for (kind, priority, count) in self.queues {
+            drafts.push(QueueDraft {
+                kind: *kind,
+                priority: *priority,
+                slots: *count,
+                order: *count,
+                single: false,
+            })?;
+        }
+        Ok(drafts)
+    }
+
+    fn port_drafts(&self, alloc: Global) -> Result<Vec<PortDraft>, AllocError> {
+        let mut drafts = Vec::with_capacity(alloc, self.ports.len())?;
+        for (depth, links) in self.ports {
+            drafts.push(PortDraft {
+                threshold: 2,
+                depth: *depth,
+                replies: 4,
+                implicit: false,
+                links: Vec::from_slice(alloc, links)?,
+            })?;
+        }
+        Ok(drafts)
+    }
+
+    /// Whether some queue is ordered.
+    pub(crate) fn has_ordered(&self) -> bool {
+        self.queues.iter().any(|(kind, _, _)| kind.is_ordered())
+    }
+}

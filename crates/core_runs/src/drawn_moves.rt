@@ -1,0 +1,97 @@
+//! Moves that are drawn at random from a seed.
+
+use crate::moves::{Move, Packet};
+use evt_types::Op;
+use rand_core::utils::NextWord;
+use rand_pcg::Pcg32;
+
+/// What is drawn from for a device with so many ports, lanes and queues, and events of so many flows.
+#[derive(Clone, Copy)]
+pub(crate) struct Counts {
+    pub(crate) ports: usize,
+    pub(crate) lanes: usize,
+    pub(crate) queues: usize,
+    pub(crate) flows: usize,
+}
+
+/// The moves of a seed.
+#[derive(Drop)]
+pub(crate) struct Drawing {
+    random: Pcg32,
+    counts: Counts,
+}
+
+impl Drawing {
+    /// Moves from a seed.
+    pub(crate) fn new(seed: u64, counts: Counts) -> Drawing {
+        Drawing {
+            random: Pcg32::new(seed, 54),
+            counts,
+        }
+    }
+
+    /// A number below the count, where there is one.
+    pub(crate) fn below(&mut self, count: usize) -> usize {
+        let word: u32 = self.random.next_word();
+        if count == 0 { 0 } else { word as usize % count }
+    }
+
+    /// A number below the count, which is 256 at most.
+    fn byte_below(&mut self, count: usize) -> u8 {
+        (self.below(count) & 0xff) as u8
+    }
+
+    /// An event of one of the flows, of any priority, mostly for a queue that is there.
+    fn packet(&mut self, op: Op) -> Packet {
+        let Counts { queues, flows, .. } = self.counts;
+        let is_there = self.below(20) != 0;
+        let queue = if is_there {
+            self.byte_below(queues)
+        } else {
+            255
+        };
+        let flow = self.byte_below(flows);
+        let priority = self.byte_below(256);
+        let payload = self.below(1000) as u64;
+        Packet {
+            op,
+            queue,
+            flow,
+            priority,
+            payload,
+        }
+    }
+
+    /// The operation of a reply: mostly a FORWARD.
+    fn op(&mut self) -> Op {
+        match self.below(12) {
+            0..4 => Op::New,
+            4..9 => Op::Forward,
+            _ => Op::Release,
+        }
+    }
+
+    /// The lane of a reply: a port's own where the reply is a new event, any where it is an answer.
+    fn lane(&mut self, op: Op) -> usize {
+        let Counts { ports, lanes, .. } = self.counts;
+        match op {
+            Op::New => self.below(ports),
+            Op::Forward | Op::Release => self.below(lanes),
+        }
+    }
+
+    /// A move: mostly a reply, or an event to be given; late in the run a shut now and then.
+    pub(crate) fn next(&mut self, is_late: bool) -> Move {
+        match self.below(1000) {
+            0..10 if is_late => Move::Shut,
+            0..50 => Move::Bounce,
+            50..400 => Move::Give,
+            _ => {
+                let op = self.op();
+                let lane = self.lane(op);
+                let packet = self.packet(op);
+                Move::Reply { lane, packet }
+            }
+        }
+    }
+}

@@ -1,0 +1,56 @@
+//! The moves that a core is put through, and what comes of them.
+
+use evt_types::{Event, Op};
+use plain_core::{PlainOffer, PlainTook};
+
+/// What a table or a drawing says of an event. All else of it is 0.
+#[derive(Clone, Copy, Debug, PartialEq, Eq)]
+pub(crate) struct Packet {
+    pub(crate) op: Op,
+    pub(crate) queue: u8,
+    pub(crate) flow: u8,
+    pub(crate) priority: u8,
+    pub(crate) payload: u64,
+}
+
+impl Packet {
+    /// The event.
+    pub(crate) fn event(&self) -> Event {
+        Event {
+            flow: u32::from(self.flow),
+            sub_type: 0,
+            event_type: 0,
+            op: self.op,
+            queue: self.queue,
+            priority: self.priority,
+            impl_opaque: 0,
+            payload: self.payload,
+        }
+    }
+}
+
+/// What is done with a core.
+#[derive(Clone, Copy, Debug, PartialEq, Eq)]
+pub(crate) enum Move {
+    /// A reply of the lane comes.
+    Reply { lane: usize, packet: Packet },
+    /// What is proposed is given.
+    Give,
+    /// What is proposed finds no room in the lane's ring.
+    Bounce,
+    /// New events are turned away from now on.
+    Shut,
+    /// A sweep begins, in which nothing is passed over yet.
+    NextSweep,
+}
+
+/// What comes of a move, in the plain core's words.
+#[derive(Clone, Copy, Debug, PartialEq, Eq)]
+pub(crate) enum Made {
+    /// What became of a reply, where it may be taken.
+    Took(Option<PlainTook>),
+    /// What was proposed.
+    Proposed(Option<PlainOffer>),
+    /// Nothing that is told.
+    Nothing,
+}

@@ -1,0 +1,201 @@
+//! The turns of a known run: what is done with a core and must come of it, and what must be read of it then.
+
+use crate::device::Device;
+use crate::fault::RunFault;
+use crate::moves::{Made, Move, Packet};
+use crate::run::Run;
+use evt_types::{KeptEvent, Outcome, Source, Step};
+use plain_core::{PlainOffer, PlainTook};
+use std::alloc::Global;
+
+/// A run of which is known what comes of each turn.
+#[derive(Clone, Copy)]
+pub(crate) struct KnownRun {
+    pub(crate) name: &'static str,
+    pub(crate) device: Device,
+    pub(crate) turns: &'static [Turn],
+}
+
+/// A turn, and what must come of it.
+#[derive(Clone, Copy, Debug)]
+pub(crate) enum Turn {
+    /// The lane's reply is taken so, or not at all.
+    Reply(usize, Packet, Option<PlainTook>),
+    /// For the lane the event of this number of its queue is proposed, and given.
+    Give(usize, u64, Packet),
+    /// It is proposed, and the lane's ring has no room for it.
+    Bounce(usize, u64, Packet),
+    /// Nothing is proposed.
+    GiveNone,
+    /// New events are turned away from now on.
+    Shut,
+    /// A sweep begins.
+    NextSweep,
+    /// So many events are inside.
+    Inside(usize),
+    /// A sweep's steps fit into so much room.
+    LogRoom(usize),
+    /// So many steps are logged.
+    LogLen(usize),
+    /// From the step of this place on, these are logged.
+    Logged(usize, &'static [Logged]),
+    /// Just these events wait in the queue.
+    Waiting(usize, &'static [(usize, u64)]),
+    /// So many places of the first queue's hand-out haven't left, and what it keeps are these, under their numbers.
+    Kept(usize, &'static [(u64, Packet)]),
+}
+
+/// A step that is logged.
+#[derive(Clone, Copy, Debug)]
+pub(crate) enum Logged {
+    /// The event's queue accepts it as a new event of the first lane.
+    Entered(Packet),
+    /// The event's queue accepts it as what the first queue's event of this number was forwarded as.
+    PassedOn(u64, Packet),
+    /// The lane is given the event of this number of the queue.
+    Given(usize, usize, u64),
+    /// The lane's oldest event is forwarded as this one.
+    Forwarded(usize, Packet),
+    /// The lane's oldest event is released.
+    Released(usize),
+    /// The new event of the first lane is turned away.
+    Turned(Packet),
+    /// The core is shut.
+    Shut,
+}
+
+impl Logged {
+    /// The step.
+    fn step(&self) -> Step {
+        match *self {
+            Logged::Entered(packet) => Step::Accept {
+                queue: usize::from(packet.queue),
+                event: packet.event(),
+                source: Source::New { lane: 0 },
+            },
+            Logged::PassedOn(number, packet) => Step::Accept {
+                queue: usize::from(packet.queue),
+                event: packet.event(),
+                source: Source::Of { queue: 0, number },
+            },
+            Logged::Given(lane, queue, number) => Step::Give {
+                lane,
+                queue,
+                number,
+            },
+            Logged::Forwarded(lane, packet) => Step::Done {
+                lane,
+                outcome: Outcome::Forwarded(packet.event()),
+            },
+            Logged::Released(lane) => Step::Done {
+                lane,
+                outcome: Outcome::Released,
+            },
+            Logged::Turned(packet) => Step::Turned {
+                lane: 0,
+                event: packet.event(),
+            },
+            Logged::Shut => Step::Shut,
+        }
+    }
+}
+
+/// The event of this number of its queue is proposed for the lane.
+fn proposed(lane: usize, number: u64, packet: Packet) -> Made {
+    Made::Proposed(Some(PlainOffer {
+        lane,
+        queue: usize::from(packet.queue),
+        number,
+        event: packet.event(),
+    }))
+}
+
+impl Run {
+    /// Makes the turn. What comes of it must be as known.
+    fn turn(&mut self, alloc: Global, turn: &Turn) -> Result<(), RunFault> {
+        let (step, wanted) = match *turn {
+            Turn::Reply(lane, packet, took) => (Move::Reply { lane, packet }, Made::Took(took)),
+            Turn::Give(lane, number, packet) => (Move::Give, proposed(lane, number, packet)),
+            Turn::Bounce(lane, number, packet) => (Move::Bounce, proposed(lane, number, packet)),
+            Turn::GiveNone => (Move::Give, Made::Proposed(None)),
+            Turn::Shut => (Move::Shut, Made::Nothing),
+            Turn::NextSweep => (Move::NextSweep, Made::Nothing),
+            _ => return self.must_be_read(alloc, turn),
+        };
+        let made = self.make(step)?;
+        if made == wanted {
+            return Ok(());
+        }
+        Err(RunFault::Otherwise(format!(in alloc; "{step:?} made {made:?}, and not {wanted:?}")?))
+    }
+
+    /// What is read of the core must be as known.
+    fn must_be_read(&self, alloc: Global, turn: &Turn) -> Result<(), RunFault> {
+        let is_so = match *turn {
+            Turn::Inside(count) => self.core.inside() == count,
+            Turn::LogRoom(room) => self.core.log_room() == room,
+            Turn::LogLen(count) => self.log.len() == count,
+            Turn::Logged(start, steps) => self.has_logged(start, steps),
+            Turn::Waiting(queue, pairs) => self.has_waiting(alloc, queue, pairs)?,
+            Turn::Kept(places, kept) => self.has_kept(alloc, places, kept)?,
+            _ => true,
+        };
+        if is_so {
+            return Ok(());
+        }
+        let (inside, log) = (self.core.inside(), &self.log);
+        Err(RunFault::Otherwise(format!(in alloc;
+            "not {turn:?}: {inside} are inside after {log:?}"
+        )?))
+    }
+
+    /// Whether from the step of this place on these are logged.
+    fn has_logged(&self, start: usize, wanted: &[Logged]) -> bool {
+        self.log.get(start..).is_some_and(|steps| {
+            steps.len() == wanted.len()
+                && steps
+                    .iter()
+                    .zip(wanted)
+                    .all(|(step, logged)| *step == logged.step())
+        })
+    }
+
+    /// Whether just these events wait in the queue.
+    fn has_waiting(
+        &self,
+        alloc: Global,
+        queue: usize,
+        wanted: &[(usize, u64)],
+    ) -> Result<bool, RunFault> {
+        let waiting = self.waiting(alloc, queue)?;
+        Ok(self.waiting_len(queue) == wanted.len() && waiting.as_slice() == wanted)
+    }
+
+    /// Whether the first queue has so many places, and keeps these events.
+    fn has_kept(
+        &self,
+        alloc: Global,
+        places: usize,
+        wanted: &[(u64, Packet)],
+    ) -> Result<bool, RunFault> {
+        let mut all = Vec::with_capacity(alloc, wanted.len())?;
+        for (number, packet) in wanted {
+            all.push(KeptEvent {
+                queue: 0,
+                number: *number,
+                event: packet.event(),
+            })?;
+        }
+        let kept = self.kept(alloc, 0)?;
+        Ok(self.places_len(0) == places && kept.as_slice() == all.as_slice())
+    }
+}
+
+/// Plays a known run. What comes of each turn must be as known.
+pub(crate) fn play(alloc: Global, known: &KnownRun) -> Result<(), RunFault> {
+    let mut run = Run::new(alloc, &known.device)?;
+    for turn in known.turns {
+        run.turn(alloc, turn)?;
+    }
+    Ok(())
+}

@@ -1,0 +1,97 @@
+//! How a run ends.
+
+use anyhow::{Result, bail};
+use arrayvec::ArrayString;
+use pipeline_app::{AppFault, Choice, OpenGate, choice, fault_line, play, run_trace};
+use std::alloc::{AllocError, Global};
+use std::fmt;
+use std::sync::Wait;
+use std::thread::Threads;
+
+/// How a run of the program ended.
+#[derive(Debug, Drop)]
+pub struct Ending {
+    status: u8,
+    /// What stands on standard output.
+    output: Vec<u8>,
+    /// What stands on standard error.
+    complaint: String,
+}
+
+impl Ending {
+    /// The ending of a run with this outcome, which wrote this.
+    fn of(
+        alloc: Global,
+        outcome: Result<(), AppFault>,
+        output: Vec<u8>,
+    ) -> Result<Ending, AllocError> {
+        let mut complaint = String::new(alloc);
+        let status = match outcome {
+            Ok(()) => 0,
+            Err(fault) => {
+                let mut line = ArrayString::new();
+                let status = fault_line(&fault, &mut line);
+                complaint.push_str(line.as_str())?;
+                complaint.push('\n')?;
+                status
+            }
+        };
+        Ok(Ending {
+            status,
+            output,
+            complaint,
+        })
+    }
+
+    /// Whether the run ended with this status and printed this, and nothing else: on standard output with status 0, and on standard
+    /// error with any other.
+    pub fn is(&self, status: u8, printed: &[u8]) -> bool {
+        let output = self.output.as_slice();
+        let complaint = self.complaint.as_bytes();
+        let is_printed = if status == 0 {
+            output == printed && complaint.is_empty()
+        } else {
+            complaint == printed && output.is_empty()
+        };
+        self.status == status && is_printed
+    }
+}
+
+impl fmt::Display for Ending {
+    fn fmt<W: fmt::Write>(&self, f: &mut fmt::Formatter<W>) -> fmt::Result {
+        let Ending {
+            status,
+            output,
+            complaint,
+        } = self;
+        write!(
+            f,
+            "status {status} with {complaint:?} on standard error and "
+        )?;
+        match str::from_utf8(output) {
+            Ok(text) => write!(f, "{text:?} on standard output"),
+            Err(_) => write!(f, "{output:?} on standard output"),
+        }
+    }
+}
+
+/// Does what the words after the program's name ask for, with the document on standard input.
+pub fn ending_of<R: AllocGlobal + Threads + Wait + Sync>(
+    rt: &R,
+    words: &str,
+    document: &[u8],
+) -> Result<Ending> {
+    let alloc = rt.alloc();
+    let words: Vec<&str> = words.split(' ').collect(alloc)?;
+    let mut reader = document;
+    let mut output = Vec::new(alloc);
+    let mut text = String::new(alloc);
+    let outcome = match choice(alloc, &words, &mut text) {
+        Ok(Choice::Play) => play(alloc, &mut reader, &mut output),
+        Ok(Choice::Run { workers }) => {
+            run_trace(rt, alloc, &mut reader, workers, &OpenGate, &mut output)
+        }
+        Err(_) => bail!("the index has words that ask for no run: {text}"),
+    };
+    Ok(Ending::of(alloc, outcome, output)?)
+}

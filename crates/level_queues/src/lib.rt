@@ -1,0 +1,7 @@
+//! The waiting events of a queue, in four lists, one for each level.
+#![tactic(auto)]
+
+mod levels;
+mod list;
+
+pub use levels::{Levels, Memory};

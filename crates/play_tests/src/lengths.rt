@@ -1,0 +1,43 @@
+//! Documents as long as they may be, and longer by a byte.
+
+use crate::documents::{EMPTY_SCRIPT, EMPTY_SCRIPT_TEXT, plays};
+use play_documents::DocFault;
+use std::alloc::{AllocError, Global};
+use std::test::Fail;
+
+/// The most bytes that a document may have.
+const MOST: usize = 1_048_576;
+
+/// The document of the empty script, with a comment of spaces behind it up to so many bytes.
+fn lengthened(alloc: Global, len: usize) -> Result<String, AllocError> {
+    let spaces = len
+        .saturating_sub(EMPTY_SCRIPT.len())
+        .saturating_sub("#".len());
+    let comment = " ".repeat(alloc, spaces)?;
+    format!(in alloc; "{EMPTY_SCRIPT}#{comment}")
+}
+
+#[test]
+fn plays_the_longest_document(rt: HostRuntime) -> Result<(), Fail> {
+    let alloc = rt.alloc();
+    for (len, end) in [
+        (MOST, Ok(EMPTY_SCRIPT_TEXT)),
+        (MOST + 1, Err(DocFault::TooLong)),
+    ] {
+        let document = lengthened(alloc, len)?;
+        assert_eq!(rt; document.len(), len);
+        plays(&rt, alloc, document.as_bytes(), end);
+    }
+    Ok(())
+}
+
+#[test]
+fn looks_at_the_length_before_the_bytes(rt: HostRuntime) -> Result<(), Fail> {
+    let alloc = rt.alloc();
+    for (len, fault) in [(MOST, DocFault::NotToml), (MOST + 1, DocFault::TooLong)] {
+        // No text has the byte 255.
+        let document = vec![in alloc; 255u8; len]?;
+        plays(&rt, alloc, &document, Err(fault));
+    }
+    Ok(())
+}

@@ -190,7 +190,8 @@ def try_test(calls, crate, test, library):
     if ample != (0, PASSED, b""):
         sys.exit(f"{test}: with ample memory it ended with {ample}")
     count, _ = refusals(built(crate), [test], b"", library, (ample,))
-    print(f"{calls}: {crate} {test}: {count} refused, and it passed each time")
+    if count:
+        print(f"{calls}: {crate} {test}: {count} refused, and it passed each time")
     return count
 
 

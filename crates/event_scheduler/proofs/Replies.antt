@@ -93,9 +93,6 @@ only_below : (b : Bool) (n k : ℕ) → n ≤ k → cond b n 0 ≤ cond b k 0
 only_below true n k le = le
 only_below false n k le = omega arith
 
-pub only_within : (l n k m : ℕ) → n ≤ k → only l n m ≤ only l k m
-only_within l n k m le = only_below (m == l) n k le
-
 cond_within : (b : Bool) (n : ℕ) → cond b n 0 ≤ n
 cond_within true n = omega arith
 cond_within false n = omega arith

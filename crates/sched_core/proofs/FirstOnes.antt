@@ -10,14 +10,15 @@ use Rattle.place_set.specs.declared.places.Places.{Places}
 use Rattle.sched_core.proofs.Busy.{waiting_there}
 use Rattle.sched_core.proofs.Cores.{waiting_here, waits_here}
 use Rattle.sched_core.proofs.News.{slots_range}
-use Rattle.sched_core.proofs.Offers.{HasNoneBeside, levels_beside}
+use Rattle.sched_core.proofs.Offers.{HasNoneBeside, levels_beside, none_waits}
+use Rattle.sched_core.specs.Busy.{AreBusy}
 use Rattle.sched_core.specs.Inner.{slots_for}
 use Rattle.sched_core.specs.Offered.{HasNoneAllowedIn, HasNoneOfSlotIn, IsFirstIn, IsFirstSlotIn, IsOldestIn, slot_at}
 use Rattle.sched_core.specs.View.{view_in, IsCore}
 use Rattle.parked_queue.specs.Waits.{AreLevels, Waits, HasNoneAllowed, HasNoneOfSlot, IsFirstAllowed, IsFirstSlot, IsOldest, waits_at}
 use Rattle.parked_queue.specs.declared.first.Found.{Found}
 use Rattle.sched_core.specs.declared.state.Core.TheInside.{Inside}
-use Rattle.transcripts.specs.Choice.{Passed}
+use Rattle.transcripts.specs.Choice.{Passed, HasNone}
 use Rattle.transcripts.specs.Standing.{View}
 
 -- the slot of an event, by how many slots its queue has
@@ -41,6 +42,10 @@ pub levels_here : (a : Inside) (v : View) (s : Passed) (q : ℕ) (left : Places)
 levels_here a v s q left view levels =
     subst (λ (u : View). HasNoneBeside u s q left) view
     (levels_beside (view_in a) s q left (λ c never. subst (All (λ (w : Numbered). level_of w.event ≢ c)) (sym (waiting_there a q)) (levels.rest c never)))
+
+-- nothing can be given of the queues in which nothing waits
+pub busy_none : (a : Inside) (v : View) (s : Passed) (busy : Places) → view_in a ≡ v → AreBusy a.queues busy → (r : ℕ) → (¬ Has busy r) → HasNone v s r
+busy_none a v s busy view all r never = subst (λ (u : View). HasNone u s r) view (none_waits (view_in a) s r (waiting_there a r ∙ all.rest r never))
 
 module _ (a : Inside) (i : ℕ) (old : Waits) (core : IsCore a) (h : i < length a.queues) (is : old ≡ get_or a.queues i old) where
   pub slots_here : old.slots ≡ slots_for a.shape i

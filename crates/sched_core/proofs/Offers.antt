@@ -44,6 +44,10 @@ pub none_of : {X : Type 0} (o : Option X) (P : Type 0) → is_some o ≡ false �
 none_of None P h p = p
 none_of (Some x) P h p = absurd (false≢true (sym h))
 
+pub some_here : {X : Type 0} (o : Option X) (P : Type 0) → is_some o ≡ true → IfNone o P
+some_here None P h = absurd (false≢true h)
+some_here (Some x) P h = tt
+
 -- a lane fits an event where it may take the event's slot
 pub slot_fits : (v : View) (s : Passed) (l q : ℕ) (w : Numbered) → FitsSlot v s q (slot_at v q w) l → Fits v s l q w
 slot_fits v s l q w fits = record { lane = fits.lane; ready = fits.ready; linked = fits.linked; room = fits.room; alone = fits.alone; places = fits.places }
@@ -165,6 +169,16 @@ oldest_at v s q c l w u offer oldest =
       best = λ m fits. offer.best m (slot_fits v s m q w (subst (λ k. FitsSlot v s q k m) oldest.slot (fits_slot v s m q u fits)));
       first = λ x m waits level fits. let le = offer.first x m waits level fits in let less = oldest.first w offer.waits offer.level refl in omega arith;
     }
+
+-- the level's offer is read where its choice says
+pub offer_there : (v : View) (s : Passed) (q c : ℕ) (x : Choice) (o : Option Offer) → IsChoiceIn v s q c x → IfSome o (λ y. (y.lane ≡ x.lane) × (y.delivery.queue ≡ x.queue)) → IfSome o (λ y. IsOldestIn v x.queue x.level x.slot (numbered_in y.delivery)) → IfSome o (IsOfferAt v s q c)
+offer_there v s q c x None choice place oldest = tt
+offer_there v s q c x (Some y) choice place oldest =
+    let w : Numbered = numbered_in y.delivery in
+    let at = choice.place in
+    let here : IsOldestIn v q c (slot_at v q choice.waiting) w =
+    subst (λ k. IsOldestIn v q c k w) (sym at.slot) (subst (λ k. IsOldestIn v q k x.slot w) (sym at.level ∙ choice.offer.level) (subst (λ k. IsOldestIn v k x.level x.slot w) at.queue oldest)) in
+    (place.1 ∙ at.queue, subst (λ l. IsOfferIn v s q c l w) (sym place.0) (oldest_at v s q c x.lane choice.waiting w choice.offer here))
 
 -- an event waits where the level's choice says
 pub none_there : (v : View) (s : Passed) (q c : ℕ) (x : Choice) (o : Option Offer) → IsChoiceIn v s q c x → IfNone o (HasNoneOfSlotIn v x.queue x.level x.slot) → IfNone o (HasNoneIn v s q c)

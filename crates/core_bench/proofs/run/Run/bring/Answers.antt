@@ -1,8 +1,9 @@
-use Rattle.std.proofs.Common.{sym, ◌∙◌}
-use Rattle.core_bench.proofs.Counts.{inside_entered}
+use Rattle.std.proofs.Common.{◌<◌, ap, ◌∙◌, arith}
+use Rattle.evt_types.specs.Plan.{lanes_of}
+use Rattle.core_bench.proofs.Ready.{reply_fits}
 use Rattle.core_bench.proofs.run.Run.bring.Goals as goal
 
-pub returns-in-Accepted-clause-inside : goal.returns-in-Accepted-clause-inside
-returns-in-Accepted-clause-inside c =
-    inside_entered c.args.self.now.core _ c.requires.run.stands.0 0 c.args.event c.requires.new (sym c.take.ensures.took ∙ c.in-Accepted.is) c.requires.run.stands.1
-    (c.take.ensures.stands _ c.requires.run.stands.1).1
+pub take-requires-clause-room : goal.take-requires-clause-room
+take-requires-clause-room c =
+    let lane : 0 < lanes_of c.self.inside.core.shape = omega (arith, c.lanes.ensures.few, c.lanes.ensures.value ∙ ap lanes_of c.shape.ensures) in
+    omega (arith, reply_fits _ _ _ c.self.invariant 0 c.args.event lane, c.clear.ensures.len, c.clear.ensures.capacity)

@@ -2,7 +2,8 @@ use Rattle.std.proofs.Common.{◌≡◌, ◌<◌, slice_index, sym, ap, ◌∙�
 use Rattle.std.proofs.lemmas.Bool.{ltb-true}
 use Rattle.std.specs.Option.{IfSome}
 use Rattle.transcripts.specs.Standing.{View}
-use Rattle.sched_core.proofs.Offers.{best_served}
+use Rattle.transcripts.specs.Choice.{HasNoChoice}
+use Rattle.sched_core.proofs.Offers.{best_served, some_here}
 use Rattle.sched_core.specs.Offered.{IsChoiceOf}
 use Rattle.sched_core.specs.Service.{IsServedFirst}
 use Rattle.sched_core.proofs.state.Core.best_choice.Goals as goal
@@ -18,3 +19,6 @@ returns-then-is_some-clause-choice c =
     let quota : slice_index s.given n < c.sweep-sweep.result = ltb-true _ _ (sym c.has_quota.ensures ∙ c.if-has_quota.true) in
     best_served v s n c.loop-queue.left c.choice_of-choice.result first c.loop-queue.invariant.2 (c.loop-queue.invariant.1 n first.there) (omega arith)
     (subst (λ u. IfSome c.choice_of-choice.result (IsChoiceOf u s n)) same c.choice_of-choice.ensures.choice)
+
+pub returns-then-is_some-clause-none : goal.returns-then-is_some-clause-none
+returns-then-is_some-clause-none c = some_here c.choice_of-choice.result (HasNoChoice c.args.self.now c.args.skips.now) (sym c.is_some.ensures ∙ c.if-is_some.true)

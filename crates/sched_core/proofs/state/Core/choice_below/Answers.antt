@@ -1,7 +1,8 @@
 use Rattle.std.proofs.Common.{◌∙◌, subst, sym, arith}
 use Rattle.std.specs.Option.{IfSome, IfNone}
 use Rattle.transcripts.specs.Standing.{View}
-use Rattle.sched_core.proofs.Offers.{level_more, none_beside, none_of, choice_first, still}
+use Rattle.transcripts.specs.Choice.{HasNone}
+use Rattle.sched_core.proofs.Offers.{level_more, none_beside, none_of, choice_first, some_here, still}
 use Rattle.sched_core.specs.Offered.{HasNoneIn, IsChoiceIn}
 use Rattle.sched_core.proofs.state.Core.choice_below.Goals as goal
 
@@ -31,3 +32,6 @@ returns-then-is_some-clause-choice c =
 
 pub returns-clause-none : goal.returns-clause-none
 returns-clause-none c = none_beside c.args.self.now c.args.skips.now c.args.queue c.loop-level.left c.in_default.ensures.none c.loop-level.invariant.2
+
+pub returns-then-is_some-clause-none : goal.returns-then-is_some-clause-none
+returns-then-is_some-clause-none c = some_here c.choice_in-choice.result (HasNone c.args.self.now c.args.skips.now c.args.queue) (sym c.is_some.ensures ∙ c.if-is_some.true)

@@ -1,10 +1,10 @@
-use Rattle.std.proofs.Common.{◌∙◌, subst, sym}
+use Rattle.std.proofs.Common.{◌∙◌, ◌<◌, length, subst, sym}
 use Rattle.std.specs.Option.{IfSome, IfNone}
 use Rattle.transcripts.specs.Choice.{HasNone}
 use Rattle.transcripts.specs.Standing.{View}
 use Rattle.sched_core.proofs.FirstOnes.{levels_here}
-use Rattle.sched_core.proofs.Offers.{HasNoneBeside, IsOfferFrom, level_more, none_beside, none_of, offer_first}
-use Rattle.sched_core.specs.Offered.{HasNoneIn}
+use Rattle.sched_core.proofs.Offers.{HasNoneBeside, IsOfferFrom, level_more, none_beside, none_of, offer_first, some_here, still}
+use Rattle.sched_core.specs.Offered.{AreOpenLanes, HasNoneIn}
 use Rattle.sched_core.proofs.state.Core.offer_from.Goals as goal
 
 pub returns-in_default-clause-none : goal.returns-in_default-clause-none
@@ -38,3 +38,16 @@ returns-else-is_empty-clause-offer c = subst (λ (u : View). IfSome c.offer_belo
 
 pub returns-else-is_empty-clause-none : goal.returns-else-is_empty-clause-none
 returns-else-is_empty-clause-none c = subst (λ (u : View). IfNone c.offer_below.result (HasNone u c.args.skips.now c.args.queue)) c.offer_in-offer.ensures.same c.offer_below.ensures.none
+
+pub returns-then-is_some-clause-none : goal.returns-then-is_some-clause-none
+returns-then-is_some-clause-none c = some_here c.offer_in-offer.result (HasNone c.args.self.now c.args.skips.now c.args.queue) (sym c.is_some.ensures ∙ c.if-is_some.true)
+
+pub offer_below-requires-clause-queue : goal.offer_below-requires-clause-queue
+offer_below-requires-clause-queue c = subst (λ (u : View). c.args.queue < length u.shape.queues) (sym c.offer_in-offer.ensures.same) c.requires
+
+pub offer_below-requires-clause-lanes : goal.offer_below-requires-clause-lanes
+offer_below-requires-clause-lanes c = subst (λ (u : View). AreOpenLanes u c.args.skips.now c.args.queue c.open_lanes-lanes.result) (sym c.offer_in-offer.ensures.same) c.open_lanes-lanes.ensures
+
+pub offer_below-requires-clause-levels : goal.offer_below-requires-clause-levels
+offer_below-requires-clause-levels c =
+    λ k has. c.levels-left.ensures.there k (still c.in-Some.level k c.levels-left.result c.pop.new.self c.in-Some.ensures.gone c.in-Some.ensures.others has)

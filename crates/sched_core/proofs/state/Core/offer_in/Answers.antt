@@ -1,9 +1,10 @@
-use Rattle.std.proofs.Common.{subst, arith}
+use Rattle.std.proofs.Common.{◌∙◌, subst, sym, arith}
 use Rattle.evt_types.specs.Fault.{IsWithinLimits}
 use Rattle.transcripts.specs.Standing.{View}
 use Rattle.sched_core.proofs.FirstOnes.{slots_within}
 use Rattle.sched_core.proofs.News.{slots_range}
-use Rattle.sched_core.proofs.Offers.{all_allowed, none_in}
+use Rattle.sched_core.proofs.Offers.{all_allowed, none_in, some_here}
+use Rattle.sched_core.specs.Offered.{HasNoneIn}
 use Rattle.sched_core.proofs.state.Core.offer_in.Goals as goal
 
 pub offer_at_head-offer-requires-clause-allowed : goal.offer_at_head-offer-requires-clause-allowed
@@ -18,3 +19,10 @@ returns-then-is_blocked-clause-none c =
     let v : View = c.args.self.now in
     let limits : IsWithinLimits v.shape = subst (λ (u : View). IsWithinLimits u.shape) c.self.view_is c.self.invariant.limits in
     none_in v c.args.skips.now c.args.queue c.args.level c.allowed-allowed.result c.allowed-allowed.ensures (slots_within v c.args.queue limits c.requires.queue) (c.is_blocked.ensures c.if-is_blocked.true)
+
+pub returns-then-is_some-clause-none : goal.returns-then-is_some-clause-none
+returns-then-is_some-clause-none c = some_here c.offer_at_head-offer.result (HasNoneIn c.args.self.now c.args.skips.now c.args.queue c.args.level) (sym c.is_some.ensures ∙ c.if-is_some.true)
+
+pub returns-then-is_some-2-clause-none : goal.returns-then-is_some-2-clause-none
+returns-then-is_some-2-clause-none c =
+    some_here c.offer_at_head-offer-2.result (HasNoneIn c.args.self.now c.args.skips.now c.args.queue c.args.level) (sym c.is_some-2.ensures ∙ c.if-is_some-2.true)

@@ -159,6 +159,18 @@ impl Seen {
     }
 }
 
+/// Makes the drawn moves on both cores.
+fn make_drawn(pair: &mut Pair, drawing: &mut Drawing, seen: &mut Seen) -> Result<(), RunFault> {
+    for turn in 0..TURNS {
+        if drawing.below(10) == 0 {
+            let _ = pair.make(Move::NextSweep)?;
+        }
+        let step = drawing.next(turn > TURNS / 2);
+        seen.note(step, pair.make(step)?);
+    }
+    pair.must_hold_alike()
+}
+
 /// The run of a seed.
 fn compare_run(
     alloc: Global,
@@ -174,15 +186,7 @@ fn compare_run(
         queues: device.queues.len(),
         flows: compared.flows,
     };
-    let mut drawing = Drawing::new(seed, counts);
-    for turn in 0..TURNS {
-        if drawing.below(10) == 0 {
-            let _ = pair.make(Move::NextSweep)?;
-        }
-        let step = drawing.next(turn > TURNS / 2);
-        seen.note(step, pair.make(step)?);
-    }
-    pair.must_hold_alike()
+    make_drawn(&mut pair, &mut Drawing::new(seed, counts), seen)
 }
 
 /// The runs of all seeds. In each the cores must do alike, and all together must be varied.

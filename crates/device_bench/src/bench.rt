@@ -42,6 +42,25 @@ pub struct Bench {
     pub counts: Counts,
 }
 
+/// The two ports of the device: the source, and then the worker.
+fn two_of(mut ports: Vec<Port>) -> Option<(Port, Port)> {
+    let worker = ports.pop()?;
+    let source = ports.pop()?;
+    Some((source, worker))
+}
+
+/// The scheduler and the ports of a device of the case.
+fn parts_of(alloc: Global, case: Case) -> Result<(Scheduler, Port, Port), BenchFault> {
+    let shape = bench_shape(alloc, case)?;
+    let Ok((scheduler, ports, _)) = device(alloc, shape) else {
+        return Err(BenchFault::Device);
+    };
+    match two_of(ports) {
+        Some((source, worker)) => Ok((scheduler, source, worker)),
+        None => Err(BenchFault::Device),
+    }
+}
+
 /// The count once so many came as were wanted; anything else is a fault.
 fn add(count: u64, came: usize, wanted: u64) -> Result<u64, BenchFault>
     ensures { IfOk result (λ n. (n ≡ count + came) × (came ≡ wanted)) }
@@ -66,21 +85,17 @@ impl Bench {
     pub fn new(alloc: Global, case: Case, burst: usize) -> Result<Bench, BenchFault>
         ensures { IfOk result (λ b. IsFresh b case burst) }
     {
-        let shape = bench_shape(alloc, case)?;
-        let Ok((scheduler, mut ports, _)) = device(alloc, shape) else {
-            return Err(BenchFault::Device);
-        };
-        let (Some(worker), Some(source)) = (ports.pop(), ports.pop()) else {
-            return Err(BenchFault::Device);
-        };
         let burst = Burst::new(burst, case.room())?;
+        let events = Vec::with_capacity(alloc, burst.length as usize)?;
+        let releases = vec![in alloc; Event::release(); burst.portion as usize]?;
+        let (scheduler, source, worker) = parts_of(alloc, case)?;
         Ok(Bench {
             scheduler,
             source,
             worker,
             log: Vec::new(alloc),
-            events: Vec::with_capacity(alloc, burst.length as usize)?,
-            releases: vec![in alloc; Event::release(); burst.portion as usize]?,
+            events,
+            releases,
             deliveries: ArrayVec::new(),
             case,
             burst,

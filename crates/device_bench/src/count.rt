@@ -1,7 +1,7 @@
 //! How many events of a case go by.
 
 ghost use Rattle.std.specs.Prelude.{◌≡◌, ◌*◌, IfOk};
-ghost use Rattle.device_bench.specs.Rounds.{gifts_of};
+ghost use Rattle.device_bench.specs.Rounds.{gifts_of, through};
 
 use crate::bench::{Bench, Counts};
 use crate::case::Case;
@@ -24,13 +24,13 @@ pub struct Passed {
     pub inside: usize,
 }
 
-/// Lets some bursts of events of the case go through a device.
-pub fn count(alloc: Global, case: Case, burst: usize) -> Result<Passed, BenchFault>
-    ensures entered { IfOk result (λ p. p.entered ≡ ROUNDS * burst) }
-    ensures given { IfOk result (λ p. p.given ≡ ROUNDS * (gifts_of case * burst)) }
-    ensures released { IfOk result (λ p. p.released ≡ ROUNDS * burst) }
+/// Lets some bursts of events go through the device, which is new.
+fn count_in(bench: &mut Bench) -> Result<Passed, BenchFault>
+    requires { (bench.old.counts.entered ≡ 0) × (bench.old.counts.given ≡ 0) × (bench.old.counts.released ≡ 0) }
+    ensures entered { IfOk result (λ p. p.entered ≡ ROUNDS * bench.old.burst.length) }
+    ensures given { IfOk result (λ p. p.given ≡ ROUNDS * through bench.old) }
+    ensures released { IfOk result (λ p. p.released ≡ ROUNDS * bench.old.burst.length) }
 {
-    let mut bench = Bench::new(alloc, case, burst)?;
     bench.rounds(ROUNDS)?;
     let inside = bench.settle()?;
     let Counts {
@@ -44,4 +44,14 @@ pub fn count(alloc: Global, case: Case, burst: usize) -> Result<Passed, BenchFau
         released,
         inside,
     })
+}
+
+/// Lets some bursts of events of the case go through a device.
+pub fn count(alloc: Global, case: Case, burst: usize) -> Result<Passed, BenchFault>
+    ensures entered { IfOk result (λ p. p.entered ≡ ROUNDS * burst) }
+    ensures given { IfOk result (λ p. p.given ≡ ROUNDS * (gifts_of case * burst)) }
+    ensures released { IfOk result (λ p. p.released ≡ ROUNDS * burst) }
+{
+    let mut bench = Bench::new(alloc, case, burst)?;
+    count_in(&mut bench)
 }

@@ -60,6 +60,20 @@ fn timed(clock: &impl CpuClock, bench: &mut Bench, rounds: u64) -> Result<Durati
     Ok(end.saturating_sub(start))
 }
 
+/// How long an event takes that goes through this device in bursts of this length.
+fn measure_in(clock: &impl CpuClock, bench: &mut Bench, burst: usize) -> Result<Times, BenchFault> {
+    let rounds = |events: u64| events.checked_div(burst as u64).unwrap_or(0);
+    let first = timed(clock, bench, rounds(END_EVENTS))?;
+    let middle = timed(clock, bench, rounds(ALL_EVENTS - 2 * END_EVENTS))?;
+    let last = timed(clock, bench, rounds(END_EVENTS))?;
+    let all = first.saturating_add(middle).saturating_add(last);
+    Ok(Times {
+        all: PerEvent::of(all, ALL_EVENTS),
+        first: PerEvent::of(first, END_EVENTS),
+        last: PerEvent::of(last, END_EVENTS),
+    })
+}
+
 /// How long an event of the case takes.
 pub fn measure(
     clock: &impl CpuClock,
@@ -68,14 +82,5 @@ pub fn measure(
     burst: usize,
 ) -> Result<Times, BenchFault> {
     let mut bench = Bench::new(alloc, case, burst)?;
-    let rounds = |events: u64| events.checked_div(burst as u64).unwrap_or(0);
-    let first = timed(clock, &mut bench, rounds(END_EVENTS))?;
-    let middle = timed(clock, &mut bench, rounds(ALL_EVENTS - 2 * END_EVENTS))?;
-    let last = timed(clock, &mut bench, rounds(END_EVENTS))?;
-    let all = first.saturating_add(middle).saturating_add(last);
-    Ok(Times {
-        all: PerEvent::of(all, ALL_EVENTS),
-        first: PerEvent::of(first, END_EVENTS),
-        last: PerEvent::of(last, END_EVENTS),
-    })
+    measure_in(clock, &mut bench, burst)
 }

@@ -1,7 +1,8 @@
 //! A first event device: the main thread brings ten events in and sweeps, and a worker thread handles them.
 #![tactic(auto)]
 
-ghost use Rattle.std.specs.Prelude.{◌≡◌};
+ghost use Rattle.std.specs.Prelude.{◌≡◌, [], ◌∷◌, IfSome};
+ghost use Rattle.event_recorder.specs.Control.{control_of};
 ghost use Rattle.event_recorder.specs.Device.{scheduler_of, site_of};
 
 mod config;
@@ -10,10 +11,23 @@ mod worker;
 
 use anyhow::{Context, Result, bail};
 use config::{new_event, shape};
-use event_device::{Port, Recorder, device};
+use event_device::{Control, Port, Recorder, device};
 use report::print_report;
-use std::thread;
-use worker::{SamePort, work};
+use std::thread::{join, yield_now};
+use worker::work;
+
+/// The device's two ports: the main thread's, and the worker's.
+fn two_of(mut ports: Vec<Port>) -> Option<(Port, Port)>
+    ensures { IfSome result (λ r. ports.items ≡ r.0 ∷ r.1 ∷ []) }
+{
+    let worker = ports.pop()?;
+    let source = ports.pop()?;
+    if ports.is_empty() {
+        Some((source, worker))
+    } else {
+        None
+    }
+}
 
 /// Enqueues ten new events of one flow to queue 0. The port stays the port that it was.
 fn bring_in(port: &mut Port) -> Result<()>
@@ -36,37 +50,49 @@ fn sweep_all(recorder: &mut Recorder) -> Result<()>
         if recorder.inside() == 0 {
             break;
         }
-        thread::yield_now();
+        yield_now();
     }
     Ok(())
 }
 
-fn main(rt: HostRuntime) -> Result<()> {
-    let alloc = rt.alloc();
-    let Ok((scheduler, mut ports, mut control)) = device(alloc, shape(alloc)?) else {
-        bail!("the device isn't made");
-    };
-    let mut recorder = Recorder::begin(alloc, scheduler);
-
-    // A port is for one thread: the worker's moves into its thread, and comes back at the join.
-    let worker = ports.pop().context("no port for the worker")?;
-    let mut source = ports.pop().context("no port for the main thread")?;
-    let promise = SamePort::of(&worker);
-    let thread = thread::spawn_with(&rt, promise, move || work(&rt, worker))?;
-
-    // Whatever comes of these, the shut ends the loop of the worker.
+/// The main thread's part: it brings ten events in, sweeps until they are handled, and shuts the device. All comes back.
+fn bring_through(
+    source: Port,
+    recorder: Recorder,
+    control: Control,
+) -> (Port, Recorder, Control, Result<()>)
+    ensures source { site_of result.0 ≡ site_of source }
+    ensures recorder { scheduler_of result.1.sight ≡ scheduler_of recorder.sight }
+    ensures control { control_of result.2 ≡ control_of control }
+{
+    let (mut source, mut recorder, mut control) = (source, recorder, control);
     let brought = bring_in(&mut source);
     let swept = sweep_all(&mut recorder);
+    // Whatever came of these, the shut ends the loop of the worker.
     control.shut();
-    let (worker, sum) = thread.join(&rt);
-    brought?;
-    swept?;
+    (source, recorder, control, brought.and(swept))
+}
+
+fn main(rt: HostRuntime) -> Result<()> {
+    let alloc = rt.alloc();
+    let Ok((scheduler, ports, control)) = device(alloc, shape(alloc)?) else {
+        bail!("the device isn't made");
+    };
+    let (source, worker) = two_of(ports).context("there aren't two ports")?;
+    let recorder = Recorder::begin(alloc, scheduler);
+
+    // A port is for one thread: the worker's moves into a thread of its own, and comes back at the join.
+    let ((worker, sum), (source, recorder, control, through)) = join(
+        &rt,
+        || work(&rt, worker),
+        || bring_through(source, recorder, control),
+    );
 
     // All of these are proved to belong to one device, and so the report to account for each event and each credit.
     let ports = Vec::from_array(alloc, [source, worker])?;
     let Ok(report) = recorder.stop(alloc, control, ports) else {
         bail!("the device isn't stopped");
     };
-    println!(rt; "payloads {sum}")?;
-    print_report(&rt, &report)
+    through?;
+    print_report(&rt, sum, &report)
 }

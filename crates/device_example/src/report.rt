@@ -3,8 +3,8 @@
 use anyhow::Result;
 use event_device::Report;
 
-/// Prints where the credits are, and what is left: a list of each place in which an event could be.
-pub fn print_report(rt: &impl Print, report: &Report) -> Result<()> {
+/// Prints the sum of the payloads, where the credits are, and what is left: a list of each place in which an event could be.
+pub fn print_report(rt: &impl Print, sum: u64, report: &Report) -> Result<()> {
     let Report {
         free,
         pockets,
@@ -14,6 +14,7 @@ pub fn print_report(rt: &impl Print, report: &Report) -> Result<()> {
         untaken,
         ..
     } = report;
+    println!(rt; "payloads {sum}")?;
     println!(rt; "free {free}, pockets {pockets:?}")?;
     println!(rt; "waiting {waiting:?}, undelivered {undelivered:?}")?;
     println!(rt; "held {held:?}, untaken {untaken:?}")?;

@@ -5,9 +5,8 @@ ghost use Rattle.event_recorder.specs.Device.{site_of};
 
 use event_device::Port;
 use evt_types::Delivery;
-use std::snapshot::Snapshot;
 use std::sync::Wait;
-use std::thread::{Promise, yield_now};
+use std::thread::yield_now;
 
 /// Handles the events of a burst: adds their payloads up.
 fn handle(deliveries: &[Delivery]) -> u64 {
@@ -33,21 +32,4 @@ pub fn work(rt: &impl Wait, mut port: Port) -> (Port, u64)
         yield_now();
     }
     (port, sum)
-}
-
-/// A worker's promise: it gives back the port that it was given.
-#[derive(Drop)]
-pub struct SamePort(Snapshot<Port>);
-
-impl Promise<(Port, u64)> for SamePort {
-    ghost kept_by = { λ promise result. site_of result.0 ≡ site_of promise.0.value };
-}
-
-impl SamePort {
-    /// The promise for this port.
-    pub fn of(port: &Port) -> SamePort
-        ensures { result.0.value ≡ port.now }
-    {
-        SamePort(Snapshot::of(port))
-    }
 }

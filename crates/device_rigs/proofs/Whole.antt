@@ -1,13 +1,11 @@
 -- The parts of a whole device: what calls leave of them, and what a stop asks of them.
-use Rattle.std.proofs.Common.{◌≡◌, ◌≢◌, ℕ, zero, suc, ◌<◌, List, [], ◌∷◌, ◌++◌, Some, refl, length, map, set, get_or, sym, ap, subst, ◌∙◌, arith, zero-add}
+use Rattle.std.proofs.Common.{◌≡◌, ◌≢◌, ℕ, zero, suc, ◌<◌, List, [], ◌∷◌, Some, refl, length, map, set, get_or, sym, ap, subst, ◌∙◌, arith, zero-add}
 use Rattle.std.specs.Prelude.{All, AllPairs, slice_get}
 use Rattle.std.specs.List.{range_with_len}
 use Rattle.std.proofs.Math.Seq.{map-set_same}
-use Rattle.std.proofs.Math.ListN.{get_or-append}
-use Rattle.std.proofs.lemmas.List.{get_or-map, length-append, length-map}
+use Rattle.std.proofs.lemmas.List.{get_or-map, length-map}
 use Rattle.std.proofs.lemmas.List.FromFn.{get_or-map-range_with_len, length-map-range_with_len}
 use Rattle.std.proofs.lemmas.Option.{get_or_from_slice_get}
-use Rattle.lists.proofs.Lists.{All-front}
 use Rattle.credit_pool.specs.Accounts.{Stays}
 use Rattle.evt_types.specs.Plan.{Plan}
 use Rattle.event_ports.specs.Ports.{Place, account_of, place_of}
@@ -106,28 +104,17 @@ whole_are_of r c ports whole =
       once = ports_differ d ports (length d.plan.ports) whole.ports_are;
     }
 
--- those but the last are of that device too
-module _ (r : Recorded) (c : Control) (ports front : List Port) (last : Port) (whole : IsWhole (scheduler_of r.sight) (control_of c) (map site_of ports)) (ends : ports ≡ front ++ last ∷ []) where
-  all_are : AreOf r c (front ++ last ∷ [])
-  all_are = subst (AreOf r c) ends (whole_are_of r c ports whole)
-
-  front_differ : DifferInNumber front
-  front_differ i j d low there =
-      let at_i : get_or (front ++ last ∷ []) i d ≡ get_or front i d = get_or-append front (last ∷ []) d i (omega (arith, low, there)) in
-      let at_j : get_or (front ++ last ∷ []) j d ≡ get_or front j d = get_or-append front (last ∷ []) d j there in
-      let longer : length front < length (front ++ last ∷ []) = omega (arith, length-append front (last ∷ [])) in
-      λ e. all_are.once i j d low (omega (arith, there, longer)) (ap number_of at_i ∙ (e ∙ ap number_of (sym at_j)))
-
-  pub front_are_of : AreOf r c front
-  front_are_of =
-      record {
-        device = all_are.device;
-        fits = all_are.fits;
-        scheduler_is = all_are.scheduler_is;
-        control_is = all_are.control_is;
-        ports_are = All-front (IsPortOf all_are.device) front (last ∷ []) all_are.ports_are;
-        once = front_differ;
-      }
+-- and so may they without any port: the stop then names the first
+pub none_are_of : (r : Recorded) (c : Control) (ports : List Port) → IsWhole (scheduler_of r.sight) (control_of c) (map site_of ports) → AreOf r c []
+none_are_of r c ports whole =
+    record {
+      device = device_at (scheduler_of r.sight) (control_of c);
+      fits = whole.fits;
+      scheduler_is = whole.scheduler_is;
+      control_is = whole.control_is;
+      ports_are = λ i x there. absurd (omega (arith, there));
+      once = λ i j x low there. absurd (omega (arith, there));
+    }
 
 -- ---- calls on a whole device
 
@@ -186,14 +173,6 @@ module _ (r : Recorded) (c : Control) (first second : Port) (whole : IsWhole (sc
         ports_are = all_of_two (IsPortOf their_device) second first (both_are 1 first (omega arith)) (both_are 0 first (omega arith));
         once = pairs_of_two (λ (p q : Port). number_of p ≢ number_of q) second first (λ e. they_differ (sym e));
       }
-
--- two ports were taken out from the end, and none is left
-two_popped : {X : Type 0} (xs ys zs : List X) (x y : X) → xs ≡ ys ++ y ∷ [] → ys ≡ zs ++ x ∷ [] → length zs ≡ 0 → xs ≡ x ∷ y ∷ []
-two_popped xs ys [] x y e f none = e ∙ ap (λ s. s ++ y ∷ []) f
-two_popped xs ys (z ∷ zs) x y e f none = absurd (omega (arith, none))
-
-pub popped_whole : (s : SchedulerSite) (c : ControlSite) (xs ys zs : List Port) (first last : Port) → IsWhole s c (map site_of xs) → xs ≡ ys ++ last ∷ [] → ys ≡ zs ++ first ∷ [] → length zs ≡ 0 → IsWhole s c (map site_of (first ∷ last ∷ []))
-popped_whole s c xs ys zs first last whole e f none = subst (λ ps. IsWhole s c (map site_of ps)) (two_popped xs ys zs first last e f none) whole
 
 -- ---- several ports at once
 

@@ -213,32 +213,21 @@ impl Rig {
         }
     }
 
-    /// Tries to stop the device without its last port, which is refused, and puts that port back.
-    pub fn miss_last_port(self, alloc: Global) -> Result<Rig, RigFault> {
+    /// Tries to stop the device without its ports, which is refused.
+    pub fn miss_ports(self, alloc: Global) -> Result<Rig, RigFault> {
         let Rig {
             recorder,
-            mut ports,
+            ports,
             control,
         } = self;
-        let Some(last) = ports.pop() else {
-            return Err(RigFault::Unexpected { place: 0 });
-        };
-        let missing = StopFault::Missing { port: ports.len() };
-        match recorder.stop(alloc, control, ports) {
+        match recorder.stop(alloc, control, Vec::new(alloc)) {
+            Err((StopFault::Missing { port: 0 }, recorder, control, _none)) => Ok(Rig {
+                recorder,
+                ports,
+                control,
+            }),
+            Err((fault, ..)) => Err(RigFault::Stop(fault)),
             Ok(_report) => Err(RigFault::Unexpected { place: 0 }),
-            Err((fault, recorder, control, mut ports)) => {
-                if fault != missing {
-                    return Err(RigFault::Stop(fault));
-                }
-                if ports.push(last).is_err() {
-                    return Err(RigFault::Memory);
-                }
-                Ok(Rig {
-                    recorder,
-                    ports,
-                    control,
-                })
-            }
         }
     }
 }

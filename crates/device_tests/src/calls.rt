@@ -65,18 +65,25 @@ static TAKES: Sweep = Sweep {
     counts: (0, 2),
 };
 
+/// Both ports.
+fn two_of(mut ports: Vec<Port>) -> Option<(Port, Port)> {
+    let worker = ports.pop()?;
+    let source = ports.pop()?;
+    Some((source, worker))
+}
+
 impl Parts {
     /// The parts of a device that nobody shuts.
     fn new(alloc: Global) -> Result<Parts, RigFault> {
-        let (scheduler, mut ports, _control) = device(alloc, ONE_QUEUE.shape(alloc)?)?;
-        match (ports.pop(), ports.pop()) {
-            (Some(worker), Some(source)) => Ok(Parts {
+        let (scheduler, ports, _control) = device(alloc, ONE_QUEUE.shape(alloc)?)?;
+        match two_of(ports) {
+            Some((source, worker)) => Ok(Parts {
                 scheduler,
                 source,
                 worker,
                 log: Vec::new(alloc),
             }),
-            _ => Err(RigFault::Unexpected { place: 0 }),
+            None => Err(RigFault::Unexpected { place: 0 }),
         }
     }
 
@@ -126,20 +133,37 @@ impl Parts {
     }
 }
 
+/// Whether two events are given in a sweep, and nothing is left for the next.
+fn gives_once(parts: &mut Parts) -> Result<bool, Memory> {
+    Ok(
+        parts.ports() == [(0, 0), (1, 0)]
+            && parts.brings_in()
+            && parts.sweeps(GIVES)?
+            && parts.sweeps(RESTS)?,
+    )
+}
+
+/// Whether two events are given in a sweep and released in a burst.
+fn gives_and_takes(parts: &mut Parts) -> Result<bool, Memory> {
+    Ok(
+        parts.brings_in()
+            && parts.sweeps(GIVES)?
+            && parts.hands_out()
+            && parts.releases()
+            && parts.sweeps(TAKES)?,
+    )
+}
+
 #[test]
 fn a_log_may_be_cleared(rt: HostRuntime) -> Result<(), Fail> {
     let mut parts = Parts::new(rt.alloc())?;
-    assert_eq!(rt; parts.ports(), [(0, 0), (1, 0)]);
-    assert!(rt; parts.brings_in());
-    assert!(rt; parts.sweeps(GIVES)? && parts.sweeps(RESTS)?);
+    assert_eq!(rt; gives_once(&mut parts), Ok(true));
     Ok(())
 }
 
 #[test]
 fn a_burst_may_release(rt: HostRuntime) -> Result<(), Fail> {
     let mut parts = Parts::new(rt.alloc())?;
-    assert!(rt; parts.brings_in() && parts.sweeps(GIVES)?);
-    assert!(rt; parts.hands_out() && parts.releases());
-    assert!(rt; parts.sweeps(TAKES)?);
+    assert_eq!(rt; gives_and_takes(&mut parts), Ok(true));
     Ok(())
 }

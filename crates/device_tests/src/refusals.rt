@@ -1,4 +1,4 @@
-//! After a refused call, and after a stop that is refused for a missing port, every call of every port answers as it would have
+//! After a refused call, and after a stop that is refused as it gets no ports, every call of every port answers as it would have
 //! without, and the report is the same: on devices served by ports and by flow lanes.
 //!
 //! Where rings are full the queue is parallel, as a flow lane's reply ring has room for all that is given of it.
@@ -196,10 +196,10 @@ fn after_refusals(alloc: Global, plan: &Plan, row: &Row) -> Result<Ending, RigFa
     ending_of(alloc, rig)
 }
 
-/// The same after a stop without the last port, which is refused.
-fn after_a_missing_port(alloc: Global, plan: &Plan, row: &Row) -> Result<Ending, RigFault> {
+/// The same after a stop without ports, which is refused.
+fn after_missing_ports(alloc: Global, plan: &Plan, row: &Row) -> Result<Ending, RigFault> {
     let rig = played(alloc, plan, row.calls)?;
-    ending_of(alloc, rig.miss_last_port(alloc)?)
+    ending_of(alloc, rig.miss_ports(alloc)?)
 }
 
 /// What the row's refused calls change.
@@ -218,13 +218,13 @@ fn change_of_refusals(alloc: Global, row: &Row) -> Result<Option<&'static str>, 
 }
 
 /// What the refused stop changes.
-fn change_of_a_missing_port(alloc: Global, row: &Row) -> Result<Option<&'static str>, RigFault> {
+fn change_of_missing_ports(alloc: Global, row: &Row) -> Result<Option<&'static str>, RigFault> {
     for serving in [Serving::Ports, Serving::Flows] {
         let plan = Plan {
             serving,
             ..row.plan
         };
-        let other = after_a_missing_port(alloc, &plan, row)?.other_in(&plain(alloc, &plan, row)?);
+        let other = after_missing_ports(alloc, &plan, row)?.other_in(&plain(alloc, &plan, row)?);
         if other.is_some() {
             return Ok(other);
         }
@@ -242,11 +242,11 @@ fn refusals_change_nothing(rt: HostRuntime) -> Result<(), Fail> {
 }
 
 #[test]
-fn a_missing_port_changes_nothing(rt: HostRuntime) -> Result<(), Fail> {
+fn missing_ports_change_nothing(rt: HostRuntime) -> Result<(), Fail> {
     for row in &ROWS {
         let name = row.name;
         assert_eq!(rt;
-            change_of_a_missing_port(rt.alloc(), row)?,
+            change_of_missing_ports(rt.alloc(), row)?,
             None,
             "after {name}"
         );

@@ -3,13 +3,13 @@
 //! A configuration with a fault, as one without queues, is refused by `Shape::build`, so that `device` never sees it. `device` refuses
 //! for want of memory alone (`again`).
 
-ghost use Rattle.std.specs.Prelude.{[], ◌∷◌, IfOk};
+ghost use Rattle.std.specs.Prelude.{◌≡◌, [], ◌∷◌, ◌++◌, IfOk, IfSome};
 ghost use Rattle.event_recorder.specs.Stop.{AreOf};
 
 use crate::left::{Left, NOTHING};
 use crate::plans::ONE_QUEUE;
 use device_rigs::Rig;
-use event_device::{Control, Port, Recorder, StopFault};
+use event_device::{Control, Port, Recorder, Report, StopFault};
 use std::alloc::Global;
 use std::test::Fail;
 
@@ -22,6 +22,19 @@ struct Parts {
     first: Port,
 }
 
+/// The two ports.
+fn two_of(mut ports: Vec<Port>) -> Option<(Port, Port)>
+    ensures { IfSome result (λ r. ports.items ≡ r.0 ∷ r.1 ∷ []) }
+{
+    let last = ports.pop()?;
+    let first = ports.pop()?;
+    if ports.is_empty() {
+        Some((first, last))
+    } else {
+        None
+    }
+}
+
 /// A device with two ports in which nothing has happened.
 fn make_parts(alloc: Global) -> Result<Parts, Fail>
     ensures last { IfOk result (λ p. AreOf p.recorder p.control (p.last ∷ [])) }
@@ -29,18 +42,57 @@ fn make_parts(alloc: Global) -> Result<Parts, Fail>
 {
     let Rig {
         recorder,
-        mut ports,
+        ports,
         control,
     } = Rig::new(alloc, &ONE_QUEUE)?;
-    let (Some(last), Some(first), None) = (ports.pop(), ports.pop(), ports.pop()) else {
-        return Err(Fail::from("there are two ports"));
-    };
-    Ok(Parts {
+    match two_of(ports) {
+        Some((first, last)) => Ok(Parts {
+            recorder,
+            control,
+            last,
+            first,
+        }),
+        None => Err(Fail::from("there are two ports")),
+    }
+}
+
+/// Puts the first port behind the last, and stops the device.
+fn stop_with(
+    alloc: Global,
+    recorder: Recorder,
+    control: Control,
+    ports: Vec<Port>,
+    first: Port,
+) -> Result<Report, Fail>
+    requires { AreOf recorder control (ports.items ++ first ∷ []) }
+{
+    let mut ports = ports;
+    ports.push(first)?;
+    match recorder.stop(alloc, control, ports) {
+        Ok(report) => Ok(report),
+        Err((fault, ..)) => Err(Fail::from(fault)),
+    }
+}
+
+/// Tries to stop the device without port 0, which is refused, and then stops it with both ports.
+fn stop_late(alloc: Global, parts: Parts) -> Result<Report, Fail>
+    requires last { AreOf parts.recorder parts.control (parts.last ∷ []) }
+    requires both { AreOf parts.recorder parts.control (parts.last ∷ parts.first ∷ []) }
+{
+    let Parts {
         recorder,
         control,
         last,
         first,
-    })
+    } = parts;
+    let ports = Vec::from_array(alloc, [last])?;
+    match recorder.stop(alloc, control, ports) {
+        Err((StopFault::Missing { port: 0 }, recorder, control, ports)) => {
+            stop_with(alloc, recorder, control, ports, first)
+        }
+        Err((fault, ..)) => Err(Fail::from(fault)),
+        Ok(_report) => Err(Fail::from("port 0 isn't there")),
+    }
 }
 
 /// All credits are free.
@@ -52,24 +104,7 @@ const UNUSED: Left = Left {
 
 #[test]
 fn a_missing_port_is_named(rt: HostRuntime) -> Result<(), Fail> {
-    let parts = make_parts(rt.alloc())?;
-    let Parts {
-        recorder,
-        control,
-        last,
-        first,
-    } = parts;
-    let mut ports = Vec::with_capacity(rt.alloc(), 2)?;
-    ports.push_reserved(last);
-    let Err((fault, recorder, control, mut ports)) = recorder.stop(rt.alloc(), control, ports)
-    else {
-        panic!(rt; "port 0 isn't there")
-    };
-    assert_eq!(rt; (fault, ports.len()), (StopFault::Missing { port: 0 }, 1));
-    ports.push(first)?;
-    let Ok(report) = recorder.stop(rt.alloc(), control, ports) else {
-        panic!(rt; "both ports are there")
-    };
+    let report = stop_late(rt.alloc(), make_parts(rt.alloc())?)?;
     assert_eq!(rt; (report.log.len(), UNUSED.other_in(&report)), (0, None));
     Ok(())
 }

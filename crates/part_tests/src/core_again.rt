@@ -167,16 +167,21 @@ fn make(alloc: Global, core: &mut Core, call: Call) -> Result<Vec<Step>, AllocEr
     }
 }
 
-/// Makes the rows' calls on a new core: the place of the first that logs otherwise.
-fn other_in(alloc: Global, serving: Serving, rows: &[Row]) -> Result<Option<usize>, Fail> {
-    let mut core = core_of(alloc, serving)?;
+/// Makes the rows' calls on the core: the place of the first that logs otherwise.
+fn other_on(alloc: Global, core: &mut Core, rows: &[Row]) -> Result<Option<usize>, Fail> {
     for (place, (call, steps, inside)) in rows.iter().enumerate() {
-        let log = make(alloc, &mut core, *call)?;
+        let log = make(alloc, core, *call)?;
         if !is_log(&log, steps) || core.inside() != *inside {
             return Ok(Some(place));
         }
     }
     Ok(None)
+}
+
+/// The same on a new core.
+fn other_in(alloc: Global, serving: Serving, rows: &[Row]) -> Result<Option<usize>, Fail> {
+    let mut core = core_of(alloc, serving)?;
+    other_on(alloc, &mut core, rows)
 }
 
 #[test]

@@ -1,6 +1,6 @@
 //! The threads of a pipeline.
 
-ghost use Rattle.std.specs.Prelude.{◌≡◌, ◌≤◌, All, IfOk, length, [], ◌∷◌, ◌++◌};
+ghost use Rattle.std.specs.Prelude.{◌≡◌, ◌≤◌, All, IfOk, OnOk, length, [], ◌∷◌, ◌++◌};
 ghost use Rattle.pipeline_laws.specs.Pipeline.{IsProper};
 ghost use Rattle.pipeline_threads.specs.Ports.{IsIdle, ReturnsProducer, ReturnsWorker};
 ghost use Rattle.pipeline_threads.specs.Run.{HasProduced, HasRun, IsReady};
@@ -24,14 +24,13 @@ fn run_producer<'s, E, R: Threads + Wait + Sync, G: Gate>(
     scope: &Scope<'s, E>,
     gate: &G,
     trace: &'s [Entry],
-    engine: Engine,
+    engine: &mut Engine,
     port: Port,
-) -> Result<Engine, Memory>
-    requires alone { engine.ports.items ≡ [] }
+) -> Result<(), Memory>
+    requires alone { engine.old.ports.items ≡ [] }
     requires idle { IsIdle port }
-    ensures { IfOk result (HasProduced trace.now port engine) }
+    ensures { OnOk result (HasProduced trace.now port engine.old engine.new) }
 {
-    let mut engine = engine;
     let promise = Produced {
         start: Snapshot::of(&port),
         trace,
@@ -49,7 +48,7 @@ fn run_producer<'s, E, R: Threads + Wait + Sync, G: Gate>(
     let port = producer.join(rt);
     swept?;
     engine.ports.push(port)?;
-    Ok(engine)
+    Ok(())
 }
 
 /// Starts a thread for the last port, runs the other ports and joins that thread. The first port's thread is the producer; while it
@@ -61,14 +60,13 @@ fn run_ports<'s, E, R: Threads + Wait + Sync, G: Gate>(
     gate: &'s G,
     actions: &'s [Action],
     trace: &'s [Entry],
-    engine: Engine,
-) -> Result<Engine, Memory>
+    engine: &mut Engine,
+) -> Result<(), Memory>
     requires actions { All IsProper actions.now }
     requires few { length actions.now ≤ 255 }
-    requires ready { IsReady engine }
-    ensures { IfOk result (HasRun actions.now trace.now engine) }
+    requires ready { IsReady engine.old }
+    ensures { OnOk result (HasRun actions.now trace.now engine.old engine.new) }
 {
-    let mut engine = engine;
     let Some(port) = engine.ports.pop() else {
         unreachable!()
     };
@@ -89,9 +87,9 @@ fn run_ports<'s, E, R: Threads + Wait + Sync, G: Gate>(
     };
     let ran = run_ports(rt, scope, gate, actions, trace, engine);
     let port = worker.join(rt);
-    let mut engine = ran?;
+    ran?;
     engine.ports.push(port)?;
-    Ok(engine)
+    Ok(())
 }
 
 /// Runs the trace through the pipeline: each port in a thread of its own, the scheduler in this one.
@@ -113,6 +111,10 @@ pub(crate) fn run_threads<R: Threads + Wait + Sync, G: Gate>(
         |scope| -> Result<Engine, Memory>
             requires { (All IsProper actions.now) × (length actions.now ≤ 255) × IsReady engine }
             ensures { IfOk result (HasRun actions.entry.now trace.entry.now engine) }
-        { run_ports(rt, scope, gate, actions, trace, engine) },
+        {
+            let mut engine = engine;
+            run_ports(rt, scope, gate, actions, trace, &mut engine)?;
+            Ok(engine)
+        },
     )
 }

@@ -1,17 +1,19 @@
-use Rattle.std.proofs.Common.{arith}
-use Rattle.device_rigs.proofs.Whole.{both_are_of, popped_whole, second_is_of}
+use Rattle.std.proofs.Common.{subst}
+use Rattle.std.specs.Prelude.{map}
+use Rattle.event_recorder.specs.Control.{control_of}
+use Rattle.event_recorder.specs.Device.{scheduler_of, site_of}
+use Rattle.device_rigs.specs.Whole.{IsWhole}
+use Rattle.device_rigs.proofs.Whole.{both_are_of, second_is_of}
 use Rattle.device_tests.proofs.stops.make_parts.Goals as goal
 
-pub returns-clause-last : goal.returns-clause-last
-returns-clause-last c =
+pub returns-in-Some-clause-last : goal.returns-in-Some-clause-last
+returns-in-Some-clause-last c =
     let rig = c.in_ok-recorder.field-0 in
-    let two = c.in-Some-Some-None in
-    second_is_of rig.recorder rig.control two.first two.last
-    (popped_whole _ _ rig.ports.items c.pop.new.self.items c.pop-2.new.self.items two.first two.last rig.whole two.ensures.items two.ensures'.items (omega (arith, two.ensures''.cases)))
+    let two = c.in-Some in
+    second_is_of rig.recorder rig.control two.first two.last (subst (λ ps. IsWhole (scheduler_of rig.recorder.sight) (control_of rig.control) (map site_of ps)) two.ensures rig.whole)
 
-pub returns-clause-both : goal.returns-clause-both
-returns-clause-both c =
+pub returns-in-Some-clause-both : goal.returns-in-Some-clause-both
+returns-in-Some-clause-both c =
     let rig = c.in_ok-recorder.field-0 in
-    let two = c.in-Some-Some-None in
-    both_are_of rig.recorder rig.control two.first two.last
-    (popped_whole _ _ rig.ports.items c.pop.new.self.items c.pop-2.new.self.items two.first two.last rig.whole two.ensures.items two.ensures'.items (omega (arith, two.ensures''.cases)))
+    let two = c.in-Some in
+    both_are_of rig.recorder rig.control two.first two.last (subst (λ ps. IsWhole (scheduler_of rig.recorder.sight) (control_of rig.control) (map site_of ps)) two.ensures rig.whole)

@@ -17,17 +17,17 @@ some_left ports b e f = subst (λ n. 0 < n) ports.ok.0 (not_zero (vec_len ports)
     not_zero (suc n) h = omega arith
 
 pub run_producer-requires-clause-idle : goal.run_producer-requires-clause-idle
-run_producer-requires-clause-idle g t c κs within = last_idle c.pop.new.self.items c.args.engine.ports.items c.in-Some.port c.in-Some.ensures.items c.requires.ready.idle
+run_producer-requires-clause-idle g t c κs within = last_idle c.pop.new.self.items c.args.engine.now.ports.items c.in-Some.port c.in-Some.ensures.items c.requires.ready.idle
 
 pub spawn_with-requires-clause-runs : goal.spawn_with-requires-clause-runs
 spawn_with-requires-clause-runs g t c κs within =
-    ((c.requires.actions, c.requires.few, last_idle c.pop.new.self.items c.args.engine.ports.items c.in-Some.port c.in-Some.ensures.items c.requires.ready.idle), search rules)
+    ((c.requires.actions, c.requires.few, last_idle c.pop.new.self.items c.args.engine.now.ports.items c.in-Some.port c.in-Some.ensures.items c.requires.ready.idle), search rules)
 
 pub run_ports-ran-requires-clause-ready : goal.run_ports-ran-requires-clause-ready
 run_ports-ran-requires-clause-ready g t c κs within =
     record {
       some = some_left c.pop.new.self c.is_empty.result c.is_empty.ensures c.if-is_empty.false;
-      idle = front_idle c.pop.new.self.items c.args.engine.ports.items c.in-Some.port c.in-Some.ensures.items c.requires.ready.idle;
+      idle = front_idle c.pop.new.self.items c.args.engine.now.ports.items c.in-Some.port c.in-Some.ensures.items c.requires.ready.idle;
     }
 
 pub returns : goal.returns
@@ -35,8 +35,8 @@ returns g t c =
     let back = c.join-port.result in
     let kept = subst (λ (p : Worked). ReturnsWorker p.actions.now p.start.value back) c.in-Ok.ensures.ok c.join-port.ensures in
     let promised = subst (λ (p : Port). ReturnsWorker c.args.actions.now p back) c.of.ensures kept in
-    worker_run c.args.actions.now c.args.trace.now c.args.engine
-    (record { recorder = c.args.engine.recorder; control = c.args.engine.control; ports = c.pop.new.self })
-    c.in_ok-engine.engine
-    (record { recorder = c.in_ok-engine.engine.recorder; control = c.in_ok-engine.engine.control; ports = c.push.new.self })
-    c.in-Some.port back refl refl c.in-Some.ensures.items c.in_ok-engine.ensures promised refl refl c.in_ok-push.ensures.items
+    worker_run c.args.actions.now c.args.trace.now c.args.engine.now
+    (record { recorder = c.args.engine.now.recorder; control = c.args.engine.now.control; ports = c.pop.new.self })
+    c.run_ports-ran.new.engine
+    (record { recorder = c.run_ports-ran.new.engine.recorder; control = c.run_ports-ran.new.engine.control; ports = c.push.new.self })
+    c.in-Some.port back refl refl c.in-Some.ensures.items c.in_ok-ran.ensures promised refl refl c.in_ok-push.ensures.items

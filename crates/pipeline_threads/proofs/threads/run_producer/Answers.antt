@@ -16,7 +16,7 @@ returns g c =
       scheduler = c.sweep_all-swept.ensures.scheduler;
       control = c.shut-2.ensures.site;
       back = back;
-      ports = alone c.args.engine.ports.items c.push.new.self.items back c.in_ok-push.ensures.items c.requires.alone;
+      ports = alone c.args.engine.now.ports.items c.push.new.self.items back c.in_ok-push.ensures.items c.requires.alone;
       promised = subst (λ (p : Port). ReturnsProducer c.args.trace.now p back) c.of.ensures kept;
       done = record { all = c.in_ok-swept.ensures.all; none_inside = c.in_ok-swept.ensures.none_inside };
     }

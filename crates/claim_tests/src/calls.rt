@@ -94,7 +94,6 @@ fn two_lanes(alloc: Global) -> Result<(Near, Claims, ClaimSeat), Memory>
     let (_first, far) = lane_again(alloc, 1, 1)?;
     let (mut near, other) = lane_again(alloc, 1, 1)?;
     let _ = near.offer(delivery(5));
-    near.offer_all();
     let mut ends = ends_for(alloc, 2)?;
     ends.push_reserved(far);
     ends.push_reserved(other);

@@ -1,7 +1,8 @@
 //! Deliveries, lanes and claims for the tests. Lanes, lists and claims are made again where memory was refused, and serve then as ever.
 ghost use Rattle.std.specs.Prelude.{◌≡◌, [], length, vec_len, vec_capacity, All, IfOk};
-ghost use Rattle.lane_rings.specs.Ends.{offered, taken, seen_replies, received_by, seen_deliveries, answered};
+ghost use Rattle.lane_rings.specs.Ends.{offered, taken};
 ghost use Rattle.lane_rings.specs.Identity.{near_id, far_id};
+ghost use Rattle.flow_claims.specs.Laws.{IsUnused};
 ghost use Rattle.flow_claims.specs.Seats.{HoldsNone, first_seating};
 ghost use Rattle.flow_claims.specs.Claims.{seating, lanes_of, IsSeatOf};
 
@@ -41,8 +42,8 @@ pub(crate) fn release() -> Reply {
 pub(crate) fn lane_again(alloc: Global, depth: usize, replies: usize) -> Result<(Near, Far), Memory>
     ensures pair { IfOk result (λ r. near_id r.0 ≡ far_id r.1) }
     ensures room { IfOk result (λ r. ((far_id r.1).depth ≡ depth) × ((far_id r.1).room ≡ replies)) }
-    ensures near { IfOk result (λ r. (offered r.0 ≡ []) × (taken r.0 ≡ []) × (seen_replies r.0 ≡ [])) }
-    ensures far { IfOk result (λ r. (received_by r.1 ≡ []) × (seen_deliveries r.1 ≡ []) × (answered r.1 ≡ [])) }
+    ensures near { IfOk result (λ r. (offered r.0 ≡ []) × (taken r.0 ≡ [])) }
+    ensures far { IfOk result (λ r. IsUnused r.1) }
 {
     match lane(alloc, depth, replies) {
         Ok(ends) => Ok(ends),
@@ -62,7 +63,7 @@ pub(crate) fn ends_for(alloc: Global, lanes: usize) -> Result<Vec<Far>, Memory>
 
 /// Claims over these lanes, made again of the ends that came back where memory was refused.
 pub(crate) fn claims_of(alloc: Global, ends: Vec<Far>) -> Result<(Claims, ClaimSeat), Memory>
-    requires { All (λ far. (received_by far ≡ []) × (answered far ≡ [])) ends.items }
+    requires { All IsUnused ends.items }
     ensures seat { IfOk result (λ r. IsSeatOf r.0 r.1 × (lanes_of r.0 ≡ ends.items)) }
     ensures seating { IfOk result (λ r. seating r.1 ≡ first_seating ends.items) }
 {

@@ -24,7 +24,6 @@ fn waiting(alloc: Global, number: u64) -> Result<Far, Memory>
 {
     let (mut near, far) = lane_again(alloc, 1, 1)?;
     let _ = near.offer(delivery(number));
-    near.offer_all();
     Ok(far)
 }
 

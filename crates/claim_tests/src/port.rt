@@ -93,7 +93,6 @@ fn next_stint(claims: &Claims, mut seat: ClaimSeat) -> Option<(u64, usize)>
 fn a_port_keeps_its_stint(rt: HostRuntime) -> Result<(), Fail> {
     let (mut near, claims, seat) = one_lane(rt.alloc())?;
     let offered = near.offer(delivery(5));
-    near.offer_all();
     let (_seat, seat) = claims.split(seat, 3).unwrap();
     let (seat, came) = serve_once(&claims, seat);
     assert_eq!(rt; (offered, came), (Ok(()), Some(delivery(5))));

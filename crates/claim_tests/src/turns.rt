@@ -1,6 +1,6 @@
 //! Four threads that claim and give back at once.
-ghost use Rattle.std.specs.Prelude.{◌≡◌, ◌+◌, ◌<◌, ◌≤◌, [], length, All, IfOk};
-ghost use Rattle.lane_rings.specs.Ends.{received_by, answered};
+ghost use Rattle.std.specs.Prelude.{◌≡◌, ◌+◌, ◌<◌, ◌≤◌, length, All, IfOk};
+ghost use Rattle.flow_claims.specs.Laws.{IsUnused};
 ghost use Rattle.flow_claims.specs.Seats.{HoldsNone};
 ghost use Rattle.flow_claims.specs.Claims.{seating, port_of, lanes_of, IsSeatOf};
 
@@ -123,7 +123,7 @@ fn count_stints(claims: &Claims, seat: ClaimSeat) -> (ClaimSeat, Option<u64>)
 }
 
 fn eight_lanes(alloc: Global) -> Result<Vec<Far>, Memory>
-    ensures fresh { IfOk result (λ v. All (λ far. (received_by far ≡ []) × (answered far ≡ [])) v.items) }
+    ensures fresh { IfOk result (λ v. All IsUnused v.items) }
     ensures count { IfOk result (λ v. length v.items ≡ 8) }
 {
     let mut ends = Vec::with_capacity(alloc, LANES)?;

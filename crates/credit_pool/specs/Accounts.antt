@@ -22,15 +22,15 @@ in_use limit word = limit - free_of word
 
 -- the account of the first seat: nothing drawn or returned, all parts, the bit neither read nor set
 abbrev pub first_account : ℕ → Account
-first_account limit = record { limit = limit; parts = 64; drawn = 0; returned = 0; last = 0; before = 0; saw_shut = false; set_shut = false }
+first_account limit = record { limit = limit; parts = 64; drawn = 0; returned = 0; last = 0; before = 0; reads = 0; saw_shut = false; set_shut = false }
 
 -- the account that a seat leaves behind when it is joined to another
 abbrev pub spent_account : Account
-spent_account = record { limit = 0; parts = 0; drawn = 0; returned = 0; last = 0; before = 0; saw_shut = false; set_shut = false }
+spent_account = record { limit = 0; parts = 0; drawn = 0; returned = 0; last = 0; before = 0; reads = 0; saw_shut = false; set_shut = false }
 
--- a load, or the read of an exchange: the word, beside the one read before it, and the shut bit where the word has it
+-- a load, or the read of an exchange: the word, beside the one read before it, one read more, and the shut bit where the word has it
 abbrev pub after_look : ℕ → Account → Account
-after_look word v = record v { last = word; before = v.last; saw_shut = v.saw_shut || is_shut word }
+after_look word v = record v { last = word; before = v.last; reads = v.reads + 1; saw_shut = v.saw_shut || is_shut word }
 
 -- an exchange that drew n credits (Software Eventdev, "Credit Quanta": a port fetches a quantum from the shared pool)
 abbrev pub after_draw : ℕ → Account → Account
@@ -50,9 +50,9 @@ rest_of v = record v { parts = v.parts - 1 }
 
 -- and the second has that part, an account of zero, and knows of the shut bit what the first knew
 abbrev pub part_of : Account → Account
-part_of v = record v { parts = 1; drawn = 0; returned = 0; last = 0; before = 0; set_shut = false }
+part_of v = record v { parts = 1; drawn = 0; returned = 0; last = 0; before = 0; reads = 0; set_shut = false }
 
--- a join (own): the sums of both, and what either knew or did about the shut bit; the words are those that the first seat read
+-- a join (own): the sums of both, and what either knew or did about the shut bit; the words and reads are the first seat's
 abbrev pub after_join : Account → Account → Account
 after_join v w =
     record v { parts = v.parts + w.parts; drawn = v.drawn + w.drawn; returned = v.returned + w.returned; saw_shut = v.saw_shut || w.saw_shut; set_shut = v.set_shut || w.set_shut }

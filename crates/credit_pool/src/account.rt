@@ -14,6 +14,8 @@ pub struct Account {
     pub last: u64,
     /// The word that it read before that one.
     pub before: u64,
+    /// How many words it read: one by a load, one by an exchange.
+    pub reads: u64,
     /// The seat read the shut bit, or set it, or came from one that had.
     pub saw_shut: bool,
     /// The seat set the shut bit, or a seat that was joined into it had.

@@ -1,42 +1,84 @@
 -- What arrives comes after what was received before, lane by lane and in all.
-use Rattle.std.proofs.Common.{◌≡◌, ◌≢◌, ℕ, ◌+◌, ◌≤◌, true, false, List, [], ◌∷◌, ◌++◌, length, map, filter, refl, sym, ap, ◌∙◌, subst, arith, append_assoc}
+use Rattle.std.proofs.Common.{◌≡◌, ◌≢◌, ℕ, suc, ◌+◌, ◌<◌, ◌≤◌, cond, true, false, List, [], ◌∷◌, ◌++◌, length, map, filter, All, refl, sym, ap, ◌∙◌, subst, arith, append-nil, append_assoc}
 use Rattle.std.proofs.lemmas.List.{map-append, length-append, length-map}
-use Rattle.std.proofs.lemmas.List.Elements.{All-push, filter-append}
-use Rattle.lists.proofs.Lists.{filter-push_true, filter-push_false}
+use Rattle.std.proofs.lemmas.List.Elements.{All-nil, All-cons, All-weaker, filter-append}
+use mathlib.Core.Logic.{dite}
+use native.Mathlib.Decide.{dec_le}
+use Rattle.lists.proofs.Lists.{filter-all, filter-none}
 use Rattle.evt_types.specs.declared.event.Delivery.{Delivery}
 use Rattle.event_ports.specs.declared.lane.Lane.{Lane}
 use Rattle.event_ports.specs.declared.lane.Holding.{Holding}
-use Rattle.event_ports.specs.Lanes.{Hand, Takes, Arrival, Arrives, ArrivesFrom, ComesInOrder, HasRoomFor, lanes_read, from_lane, same_lane, holding_of}
-use Rattle.event_ports.proofs.Orders.{by_lane}
+use Rattle.event_ports.specs.Lanes.{Hand, Rests, Takes, Arrival, Arrives, ArrivesFrom, ComesInOrder, HasRoomFor, lanes_read, from_lane, same_lane, holding_of}
+use Rattle.event_ports.specs.declared.lane.Lane.TheVariants.{Own, Flow}
+use Rattle.event_ports.proofs.Orders.{by_lane, lane_same, own_flow}
 use Rattle.event_ports.proofs.ReadOrder.{from_one, one_in_order, more_in_order, all_linked_to}
 
-noted : Arrival → Holding
-noted a = holding_of a.0 a.1
+-- deliveries that arrived from one lane
+abbrev from : Lane → List Delivery → List Arrival
+from lane ds = map (λ d. (lane, d)) ds
 
-from_other : (lane l : Lane) (d : Delivery) (xs : List Arrival) → lane ≢ l → from_lane l (xs ++ (lane, d) ∷ []) ≡ from_lane l xs
-from_other lane l d xs ne = ap (map (λ (a : Arrival). a.1)) (filter-push_false (λ (a : Arrival). same_lane a.0 l) xs (lane, d) (by_lane lane l (λ b. b ≡ false) (λ e. absurd (ne e)) (λ h. refl)))
+seconds : (lane : Lane) (ds : List Delivery) → map (λ (a : Arrival). a.1) (from lane ds) ≡ ds
+seconds lane [] = refl
+seconds lane (d ∷ ds) = ap (λ (r : List Delivery). d ∷ r) (seconds lane ds)
 
-from_here : (lane l : Lane) (d : Delivery) (xs : List Arrival) → lane ≡ l → from_lane l (xs ++ (lane, d) ∷ []) ≡ from_lane l xs ++ d ∷ []
-from_here lane l d xs e =
-    ap (map (λ (a : Arrival). a.1)) (filter-push_true (λ (a : Arrival). same_lane a.0 l) xs (lane, d) (by_lane lane l (λ b. b ≡ true) (λ h. refl) (λ ne. absurd (ne e))))
-    ∙ map-append (λ (a : Arrival). a.1) (filter (λ (a : Arrival). same_lane a.0 l) xs) ((lane, d) ∷ [])
+notes : (lane : Lane) (ds : List Delivery) → map (λ (a : Arrival). holding_of a.0 a.1) (from lane ds) ≡ map (holding_of lane) ds
+notes lane [] = refl
+notes lane (d ∷ ds) = ap (λ (r : List Holding). holding_of lane d ∷ r) (notes lane ds)
 
--- one more arrived from the lane
-pub arrives_then : (lane : Lane) (h k m : Hand) (b c e : List Delivery) (d : Delivery) → ArrivesFrom (lane ∷ []) h k b c → Takes lane d k m → e ≡ c ++ d ∷ [] → ArrivesFrom (lane ∷ []) h m b e
-arrives_then lane h k m b c e d a t same = record {
-  arrived = a.arrived ++ (lane, d) ∷ [];
-  deliveries = same ∙ ap (λ r. r ++ d ∷ []) a.deliveries ∙ append_assoc b (map (λ (x : Arrival). x.1) a.arrived) (d ∷ [])
-      ∙ ap (λ r. b ++ r) (sym (map-append (λ (x : Arrival). x.1) a.arrived ((lane, d) ∷ [])));
-  in_order = one_in_order lane (a.arrived ++ (lane, d) ∷ []) (All-push (λ (x : Arrival). x.0 ≡ lane) a.arrived (lane, d) (from_one lane a.arrived a.in_order) refl);
-  said = λ l. t.said l ∙ a.said l;
-  got = λ l. by_lane lane l (λ t. lane ≡ lane → m.got l ≡ h.got l ++ from_lane l (a.arrived ++ (lane, d) ∷ []))
-      (λ is _.
-      let Here : Lane → Type 0 = λ x. m.got x ≡ k.got x ++ d ∷ [] in
-      subst Here is t.got_here ∙ ap (λ r. r ++ d ∷ []) (a.got l) ∙ append_assoc (h.got l) (from_lane l a.arrived) (d ∷ []) ∙ ap (λ r. h.got l ++ r) (sym (from_here lane l d a.arrived is)))
-      (λ ne _. t.got l (λ is. ne (sym is)) ∙ a.got l ∙ ap (λ r. h.got l ++ r) (sym (from_other lane l d a.arrived ne))) refl;
-  holding = t.holding ∙ ap (λ r. r ++ holding_of lane d ∷ []) a.holding ∙ append_assoc h.holding (map (λ (x : Arrival). holding_of x.0 x.1) a.arrived) (holding_of lane d ∷ [])
-      ∙ ap (λ r. h.holding ++ r) (sym (map-append (λ (x : Arrival). holding_of x.0 x.1) a.arrived ((lane, d) ∷ [])));
+all_from : (lane : Lane) (ds : List Delivery) → All (λ (a : Arrival). a.0 ≡ lane) (from lane ds)
+all_from lane [] = All-nil (λ (a : Arrival). a.0 ≡ lane)
+all_from lane (d ∷ ds) = All-cons (λ (a : Arrival). a.0 ≡ lane) (lane, d) (from lane ds) refl (all_from lane ds)
+
+from_other : (lane l : Lane) (ds : List Delivery) → lane ≢ l → from_lane l (from lane ds) ≡ []
+from_other lane l [] ne = refl
+from_other lane l (d ∷ ds) ne =
+    let rest : List Arrival = filter (λ (a : Arrival). same_lane a.0 l) (from lane ds) in
+    by_lane lane l (λ t. map (λ (a : Arrival). a.1) (cond t ((lane, d) ∷ rest) rest) ≡ []) (λ e. absurd (ne e)) (λ _. from_other lane l ds ne)
+
+from_here : (lane l : Lane) (ds : List Delivery) → lane ≡ l → from_lane l (from lane ds) ≡ ds
+from_here lane l [] e = refl
+from_here lane l (d ∷ ds) e =
+    let rest : List Arrival = filter (λ (a : Arrival). same_lane a.0 l) (from lane ds) in
+    by_lane lane l (λ t. map (λ (a : Arrival). a.1) (cond t ((lane, d) ∷ rest) rest) ≡ d ∷ ds) (λ _. ap (λ (r : List Delivery). d ∷ r) (from_here lane l ds e)) (λ ne. absurd (ne e))
+
+-- of those that came from one lane all, and of another none
+all_of_lane : (lane : Lane) (xs : List Arrival) → All (λ (a : Arrival). a.0 ≡ lane) xs → from_lane lane xs ≡ map (λ (a : Arrival). a.1) xs
+all_of_lane lane xs all =
+    ap (map (λ (a : Arrival). a.1))
+    (filter-all (λ (a : Arrival). same_lane a.0 lane) xs
+    (All-weaker (λ (a : Arrival). a.0 ≡ lane) (λ (a : Arrival). same_lane a.0 lane ≡ true) (λ a e. lane_same a.0 lane e) xs all))
+
+none_of_lane : (l lane : Lane) (xs : List Arrival) → lane ≢ l → All (λ (a : Arrival). a.0 ≡ lane) xs → from_lane l xs ≡ []
+none_of_lane l lane xs ne all =
+    ap (map (λ (a : Arrival). a.1))
+    (filter-none (λ (a : Arrival). same_lane a.0 l) xs
+    (All-weaker (λ (a : Arrival). a.0 ≡ lane) (λ (a : Arrival). same_lane a.0 l ≡ false) (λ a e. by_lane a.0 l (λ b. b ≡ false) (λ same. absurd (ne (sym e ∙ same))) (λ other. refl)) xs all))
+
+-- some arrived from the lane
+pub arrives_some : (lane : Lane) (h m : Hand) (b e ds : List Delivery) → Takes lane ds h m → e ≡ b ++ ds → ArrivesFrom (lane ∷ []) h m b e
+arrives_some lane h m b e ds t same = record {
+  arrived = from lane ds;
+  deliveries = same ∙ ap (λ r. b ++ r) (sym (seconds lane ds));
+  in_order = one_in_order lane (from lane ds) (all_from lane ds);
+  said = t.said;
+  got = λ l. by_lane lane l (λ _. m.got l ≡ h.got l ++ from_lane l (from lane ds))
+      (λ is.
+      let Here : Lane → Type 0 = λ x. m.got x ≡ h.got x ++ ds in
+      subst Here is t.got_here ∙ ap (λ r. h.got l ++ r) (sym (from_here lane l ds is)))
+      (λ ne. t.got l (λ is. ne (sym is)) ∙ sym (ap (λ r. h.got l ++ r) (from_other lane l ds ne) ∙ append-nil (h.got l)));
+  holding = t.holding ∙ ap (λ r. h.holding ++ r) (sym (notes lane ds));
 }
+
+-- none did
+pub arrives_none : (lane : Lane) (h m : Hand) (b : List Delivery) → Rests h m → ArrivesFrom (lane ∷ []) h m b b
+arrives_none lane h m b same =
+    arrives_some lane h m b b []
+    (record {
+      said = same.said;
+      got_here = same.got lane ∙ sym (append-nil (h.got lane));
+      got = λ l ne. same.got l;
+      holding = same.holding ∙ sym (append-nil h.holding);
+    }) (sym (append-nil b))
 
 -- more arrived, from one lane more
 pub arrives_more : (lanes more : List Lane) (lane : Lane) (h k m : Hand) (b c e : List Delivery) → more ≡ lanes ++ lane ∷ [] → ArrivesFrom lanes h k b c → ArrivesFrom (lane ∷ []) k m c e → ArrivesFrom more h m b e
@@ -69,6 +111,27 @@ arrives_length lanes h k c a =
       length-map a.arrived (λ (x : Arrival). holding_of x.0 x.1),
     )
 
+-- what came from the own lane alone
+pub own_only : (h k : Hand) (c : List Delivery) (seen : List Delivery) → ArrivesFrom (Own ∷ []) h k [] c → length (k.got Own) ≢ length (h.got Own) + length c → seen ≡ []
+own_only h k c seen a ne =
+    let all : from_lane Own a.arrived ≡ map (λ (x : Arrival). x.1) a.arrived = all_of_lane Own a.arrived (from_one Own a.arrived a.in_order) in
+    absurd (ne (omega (arith, ap length (a.got Own), length-append (h.got Own) (from_lane Own a.arrived), ap length all, ap length a.deliveries)))
+
+-- what came from a flow lane after the own one: something only where no more was seen of the own one
+pub flow_after :
+    (h k m : Hand) (lane most : ℕ) (b c seen later : List Delivery) → length b ≤ most → (length b < most → seen ≡ [])
+    → (length (k.got Own) ≢ length (h.got Own) + length b → seen ≡ []) → ArrivesFrom (Flow lane ∷ []) k m b c → (length b ≡ most → c ≡ b) → later ≡ seen
+    → length (m.got Own) ≢ length (h.got Own) + length c → later ≡ []
+flow_after h k m lane most b c seen later few less before a none same ne =
+    dite (dec_le (suc (length b)) most)
+    (λ lt. same ∙ less (omega (arith, lt)))
+    (λ ge.
+    let full : c ≡ b = none (omega (arith, ge, few)) in
+    same ∙ before (λ e. ne (omega (arith, e, ap length full, own_kept))))
+  where
+    own_kept : length (m.got Own) ≡ length (k.got Own)
+    own_kept = ap length (a.got Own ∙ ap (λ r. k.got Own ++ r) (none_of_lane Own (Flow lane) a.arrived (own_flow lane) (from_one (Flow lane) a.arrived a.in_order)) ∙ append-nil (k.got Own))
+
 -- all lanes were read
 pub arrives : (links : List ℕ) (h k : Hand) (b c : List Delivery) → ArrivesFrom (lanes_read links) h k b c → Arrives links h k b c
 arrives links h k b c a = record {
@@ -81,10 +144,10 @@ arrives links h k b c a = record {
   holding = a.holding;
 }
 
--- one that was received takes its place
-pub room_less : (most depth : ℕ) (xs ys : List Holding) (ds es : List Delivery) (x : Holding) (d : Delivery) → HasRoomFor most depth xs ds → length ds + 1 ≤ most
-    → ys ≡ xs ++ x ∷ [] → es ≡ ds ++ d ∷ [] → HasRoomFor most depth ys es
-room_less most depth xs ys ds es x d r lt e f =
-    let a : length ys ≡ length xs + 1 = ap length e ∙ length-append xs (x ∷ []) in
-    let b : length es ≡ length ds + 1 = ap length f ∙ length-append ds (d ∷ []) in
-    record { few = omega (arith, b, lt); small = r.small; held = omega (arith, a, b, r.held) }
+-- those that were received take their places
+pub room_less : (most depth : ℕ) (xs ys : List Holding) (lane : Lane) (ds es came : List Delivery) → HasRoomFor most depth xs ds → length es ≤ most
+    → ys ≡ xs ++ map (holding_of lane) came → es ≡ ds ++ came → HasRoomFor most depth ys es
+room_less most depth xs ys lane ds es came r few e f =
+    let a : length ys ≡ length xs + length came = ap length e ∙ length-append xs (map (holding_of lane) came) ∙ ap (λ n. length xs + n) (length-map came (holding_of lane)) in
+    let b : length es ≡ length ds + length came = ap length f ∙ length-append ds came in
+    record { few = few; small = r.small; held = omega (arith, a, b, r.held) }

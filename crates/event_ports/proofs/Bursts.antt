@@ -5,6 +5,8 @@ use Rattle.evt_types.specs.declared.event.Event.{Event}
 use Rattle.evt_types.specs.declared.event.Reply.{Reply}
 use Rattle.event_ports.specs.declared.lane.Lane.{Lane}
 use Rattle.event_ports.specs.Lanes.{Hand, Rests, SubmitsTo, SubmitsAll, lane_for, reply_of}
+use Rattle.event_ports.specs.declared.desk.Desk.{Desk}
+use Rattle.event_ports.specs.Desks.{Enqueues, EnqueuesAll}
 use Rattle.event_ports.proofs.Refusing.{rests_then}
 use Rattle.event_ports.proofs.Released.{take_next}
 
@@ -33,3 +35,13 @@ pub read_next : (es : List Event) (n : ℕ) (e : Event) → n < length es → e 
 read_next [] n e lt same = absurd (omega (arith, lt))
 read_next (x ∷ es) zero e lt same = ap Some (sym same)
 read_next (x ∷ es) (suc n) e lt same = read_next es n e (omega (arith, lt)) same
+
+-- one more was taken
+chain_more : (es : List Event) (e : Event) (p q r : Desk) → EnqueuesAll es p q → Enqueues e q r → EnqueuesAll (es ++ e ∷ []) p r
+chain_more [] e p q r same one = (r, subst (λ (d : Desk). Enqueues e d r) same one, refl)
+chain_more (x ∷ es) e p q r a one = (a.0, a.1, chain_more es e a.0 q r a.2 one)
+
+pub chain_taken : (es : List Event) (n : ℕ) (e : Event) (p q r : Desk) → slice_get es n ≡ Some e → EnqueuesAll (take n es) p q → Enqueues e q r → EnqueuesAll (take (n + 1) es) p r
+chain_taken es n e p q r at a one =
+    let suc_is : n + 1 ≡ suc n = omega arith in
+    subst (λ (xs : List Event). EnqueuesAll xs p r) (sym (ap (λ i. take i es) suc_is ∙ take_next n es e (drop (n + 1) es) (drop-slice_get es n e at))) (chain_more (take n es) e p q r a one)

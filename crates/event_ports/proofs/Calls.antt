@@ -1,7 +1,6 @@
 -- What several calls on flow lanes, one after the other, make of what a port has of them.
-use Rattle.std.proofs.Common.{◌≡◌, ◌≢◌, ℕ, true, false, [], ◌∷◌, ◌++◌, length, drop, Result, Ok, Err, MatchResult, sym, ap, ◌∙◌, subst, arith, count_by}
+use Rattle.std.proofs.Common.{◌≡◌, ◌≢◌, ℕ, true, false, List, [], ◌∷◌, ◌++◌, drop, Result, Ok, Err, MatchResult, refl, sym, ap, ◌∙◌, subst, arith, append-nil, count_by}
 use Rattle.std.specs.Option.{is_some}
-use Rattle.std.proofs.lemmas.List.{length-append}
 use mathlib.Core.Logic.{dite}
 use native.Mathlib.Decide.{ℕ_discrete}
 use Rattle.evt_types.specs.declared.event.Delivery.{Delivery}
@@ -11,7 +10,7 @@ use Rattle.evt_types.specs.declared.event.Reply.{Reply}
 use Rattle.evt_types.specs.Operation.{is_answer, is_answer_op, is_new_op, is_new_reply}
 use Rattle.seat_sums.specs.Sums.{count}
 use Rattle.lane_rings.specs.Ends.{answers_among}
-use Rattle.event_ports.specs.Holds.{Hands, stint_in, answered_on, held_on, Same, Gets, Says, HaveNoNew, GaveBack, NoneSurrendered}
+use Rattle.event_ports.specs.Holds.{Hands, stint_in, received_on, answered_on, held_on, Same, Gets, Brings, Says, HaveNoNew, GaveBack, NoneSurrendered}
 use Rattle.event_ports.proofs.Counts.{count_more}
 
 -- no lane is held of which nothing is unanswered
@@ -27,13 +26,15 @@ idle_answered h k m lane r says places same left elsewhere idle j none =
     (λ e. subst At (sym e) (left (sym (same.held lane) ∙ ap (held_on m) (sym e) ∙ none)))
     (λ ne. elsewhere j ne ∙ places j ∙ idle j (sym (says.others.held j ne) ∙ sym (same.held j) ∙ none))
 
--- a lane is held, and something is received from it
-pub idle_received : (h k m : Hands) (lane : ℕ) (d : Delivery) → Same h k → ((j : ℕ) → j ≢ lane → is_some (stint_in k j) ≡ is_some (stint_in h j)) → Gets lane d k m
-    → ((j : ℕ) → is_some (stint_in m j) ≡ is_some (stint_in k j)) → AreIdle h → AreIdle m
-idle_received h k m lane d same elsewhere gets places idle j none =
-    dite (ℕ_discrete j lane)
-    (λ e. absurd (omega (arith, ap length (sym gets.held ∙ ap (held_on m) (sym e) ∙ none), length-append (held_on k lane) (d ∷ []))))
-    (λ ne. places j ∙ elsewhere j ne ∙ idle j (sym (same.held j) ∙ sym (gets.others.held j ne) ∙ none))
+-- a lane is held, something is received from it, and it is left
+pub idle_received : (h j k m : Hands) (lane : ℕ) (ds : List Delivery) → Same h j → ((i : ℕ) → i ≢ lane → is_some (stint_in j i) ≡ is_some (stint_in h i)) → Gets lane ds j k
+    → ((i : ℕ) → is_some (stint_in k i) ≡ is_some (stint_in j i)) → Same k m
+    → (held_on k lane ≡ [] → is_some (stint_in m lane) ≡ false) → ((i : ℕ) → i ≢ lane → is_some (stint_in m i) ≡ is_some (stint_in k i)) → AreIdle h → AreIdle m
+idle_received h j k m lane ds held elsewhere gets places same left others idle i none =
+    let At : ℕ → Type 0 = λ x. is_some (stint_in m x) ≡ false in
+    dite (ℕ_discrete i lane)
+    (λ e. subst At (sym e) (left (sym (same.held lane) ∙ ap (held_on m) (sym e) ∙ none)))
+    (λ ne. others i ne ∙ places i ∙ elsewhere i ne ∙ idle i (sym (held.held i) ∙ sym (gets.others.held i ne) ∙ sym (same.held i) ∙ none))
 
 pub same_more : (h k m : Hands) → Same h k → Same k m → Same h m
 same_more h k m a b = record { received = λ j. b.received j ∙ a.received j; answered_is = λ j. b.answered_is j ∙ a.answered_is j; held = λ j. b.held j ∙ a.held j; given_back = λ j. b.given_back j ∙ a.given_back j }
@@ -53,12 +54,12 @@ pub answered_after : {E : Type 0} (h k m : Hands) (lane : ℕ) (r : Reply) (resu
 answered_after h k m lane r (Ok _) same says = says_after h k m lane r same says
 answered_after h k m lane r (Err _) same says = same_more h k m same says
 
-pub gets_after : (h k m : Hands) (lane : ℕ) (d : Delivery) → Same h k → Gets lane d k m → Gets lane d h m
-gets_after h k m lane d same gets = record {
+pub gets_after : (h k m : Hands) (lane : ℕ) (ds : List Delivery) → Same h k → Gets lane ds k m → Gets lane ds h m
+gets_after h k m lane ds same gets = record {
   others = record { received = λ j ne. gets.others.received j ne ∙ same.received j; answered_is = λ j ne. gets.others.answered_is j ne ∙ same.answered_is j; held = λ j ne. gets.others.held j ne ∙ same.held j };
-  received = gets.received ∙ ap (λ r. r ++ d ∷ []) (same.received lane);
+  received = gets.received ∙ ap (λ r. r ++ ds) (same.received lane);
   answered_is = gets.answered_is ∙ same.answered_is lane;
-  held = gets.held ∙ ap (λ r. r ++ d ∷ []) (same.held lane);
+  held = gets.held ∙ ap (λ r. r ++ ds) (same.held lane);
   given_back = λ j. gets.given_back j ∙ same.given_back j;
 }
 
@@ -71,9 +72,36 @@ says_before h k m lane r says same = record {
   given_back = λ j. same.given_back j ∙ says.given_back j;
 }
 
+pub gets_before : (h k m : Hands) (lane : ℕ) (ds : List Delivery) → Gets lane ds h k → Same k m → Gets lane ds h m
+gets_before h k m lane ds gets same = record {
+  others = record { received = λ j ne. same.received j ∙ gets.others.received j ne; answered_is = λ j ne. same.answered_is j ∙ gets.others.answered_is j ne; held = λ j ne. same.held j ∙ gets.others.held j ne };
+  received = same.received lane ∙ gets.received;
+  answered_is = same.answered_is lane ∙ gets.answered_is;
+  held = same.held lane ∙ gets.held;
+  given_back = λ j. same.given_back j ∙ gets.given_back j;
+}
+
+-- a lane is held, deliveries come from it, and it is left
+pub gets_between : (h j k m : Hands) (lane : ℕ) (ds : List Delivery) → Same h j → Gets lane ds j k → Same k m → Gets lane ds h m
+gets_between h j k m lane ds held gets same = gets_before h k m lane ds (gets_after h j k lane ds held gets) same
+
+-- nothing came
+pub brings_none : (lane : ℕ) (h : Hands) (ds : List Delivery) → Brings lane h ds h ds
+brings_none lane h ds = record {
+  came = [];
+  array = sym (append-nil ds);
+  gets = record {
+    others = record { received = λ j ne. refl; answered_is = λ j ne. refl; held = λ j ne. refl };
+    received = sym (append-nil (received_on h lane));
+    answered_is = refl;
+    held = sym (append-nil (held_on h lane));
+    given_back = λ j. refl;
+  };
+}
+
 -- a receipt answers nothing
-pub gets_no_answer : (h k : Hands) (lane : ℕ) (d : Delivery) → Gets lane d h k → (j : ℕ) → answered_on k j ≡ answered_on h j
-gets_no_answer h k lane d gets j =
+pub gets_no_answer : (h k : Hands) (lane : ℕ) (ds : List Delivery) → Gets lane ds h k → (j : ℕ) → answered_on k j ≡ answered_on h j
+gets_no_answer h k lane ds gets j =
     let At : ℕ → Type 0 = λ i. answered_on k i ≡ answered_on h i in
     dite (ℕ_discrete j lane) (λ e. subst At (sym e) gets.answered_is) (λ ne. gets.others.answered_is j ne)
 

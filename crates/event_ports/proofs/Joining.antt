@@ -1,5 +1,5 @@
 -- One port more is joined.
-use Rattle.std.proofs.Common.{◌≡◌, ℕ, ◌+◌, Bool, true, List, [], ◌∷◌, ◌++◌, length, map, sym, ap, ◌∙◌, subst, arith, get_or, count_by, sum_by}
+use Rattle.std.proofs.Common.{◌≡◌, ℕ, ◌+◌, Bool, true, List, [], ◌∷◌, ◌++◌, length, map, refl, sym, ap, ◌∙◌, subst, arith, append-nil, append_assoc, get_or, count_by, sum_by}
 use Rattle.std.proofs.lemmas.List.{map-append, length-append, length-map}
 use Rattle.std.proofs.lemmas.List.Sums.{sum_by-append}
 use Rattle.std.proofs.lemmas.List.Elements.{All-append}
@@ -13,12 +13,12 @@ use Rattle.flow_claims.specs.declared.seating.Past.{Past}
 use Rattle.flow_claims.specs.declared.seating.Seating.{Seating}
 use Rattle.event_ports.specs.declared.port.Port.{Port}
 use Rattle.event_ports.specs.declared.lane.Lane.TheVariants.{Flow}
-use Rattle.event_ports.specs.Holds.{answered_past, left_past}
+use Rattle.event_ports.specs.Holds.{AreLinked, answered_past, left_past}
 use Rattle.event_ports.specs.declared.lane.Holding.{Holding}
-use Rattle.event_ports.specs.Lanes.{held_of, pair_in}
-use Rattle.event_ports.specs.Ports.{hand}
+use Rattle.event_ports.specs.Lanes.{IsEndOf, held_of, pair_in}
+use Rattle.event_ports.specs.Ports.{hand, links, place_of}
 use Rattle.event_ports.proofs.Unanswered.{left_append}
-use Rattle.event_ports.specs.Stop.{counted_past, AreLinkedBy, HasNoNew, Joins, flows_in, LinksAgree}
+use Rattle.event_ports.specs.Stop.{counted_past, AreLinkedBy, AreStintsOf, HasNoNew, Joins, flows_in, LinksAgree}
 use Rattle.event_ports.proofs.Stops.{joined, past_append}
 
 pub sum_one_more : (f : Port → ℕ) (base n m : ℕ) (ports : List Port) (p : Port) → n ≡ base + sum_by f ports → m ≡ n + f p → m ≡ base + sum_by f (ports ++ p ∷ [])
@@ -51,6 +51,26 @@ linked_more linked port before after j agree all =
     subst To (sym j.finished)
     (All-append (λ (p : Past). linked p.port p.lane ≡ true) before.finished j.stints all
     (λ k d lt. let p : Past = get_or j.stints k d in ap (λ n. linked n p.lane) (j.linked k d lt).0 ∙ agree p.lane (j.linked k d lt).1))
+
+pub stints_more : (ports : List Port) (p : Port) (all its : List Past) → AreStintsOf ports all → IsEndOf (hand p) its → AreLinked (place_of p).number (links p) its → AreStintsOf (ports ++ p ∷ []) (all ++ its)
+stints_more [] p all its none lists linked =
+    record {
+      its = its;
+      rest = [];
+      both = ap (λ xs. xs ++ its) none ∙ sym (append-nil its);
+      lists = lists;
+      linked = linked;
+      others_are = refl;
+    }
+stints_more (q ∷ qs) p all its are lists linked =
+    record {
+      its = are.its;
+      rest = are.rest ++ its;
+      both = ap (λ xs. xs ++ its) are.both ∙ append_assoc are.its are.rest its;
+      lists = are.lists;
+      linked = are.linked;
+      others_are = stints_more qs p are.rest its are.others_are lists linked;
+    }
 
 pub one_more : {A X Y : Type 0} (f : X → A) (g : Y → A) (xs zs : List X) (x : X) (ys : List Y) (y : Y) → zs ≡ xs ++ x ∷ [] → map f xs ≡ map g ys → f x ≡ g y
     → map f zs ≡ map g (ys ++ y ∷ [])

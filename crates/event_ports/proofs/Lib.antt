@@ -12,8 +12,12 @@ pub mod Released
 pub mod Bursts
 pub mod Totals
 pub mod ByLane
+pub mod Endings
 pub mod Stops
 pub mod AtStop
 pub mod Parted
 pub mod Joining
 pub mod Flushes
+pub mod IdleLanes
+pub mod Noting
+pub mod Shown

@@ -1,11 +1,11 @@
 -- What is held, lane by lane and in order: the oldest leaves with its answer, and what is received comes last.
-use Rattle.std.proofs.Common.{◌≡◌, ◌≢◌, ℕ, ◌≤◌, Bool, true, false, cond, List, [], ◌∷◌, ◌++◌, length, map, drop, Option, Some, None, refl, sym, ap, ◌∙◌, subst, arith, eq-eqb, ne_eqb}
+use Rattle.std.proofs.Common.{◌≡◌, ◌≢◌, ℕ, ◌≤◌, Bool, true, false, cond, List, [], ◌∷◌, ◌++◌, length, map, drop, Option, Some, None, refl, sym, ap, ◌∙◌, subst, arith, append-nil, eq-eqb, ne_eqb}
 use Rattle.std.proofs.lemmas.List.{drop-map, map-append, length-map}
+use Rattle.std.proofs.lemmas.List.Elements.{filter-append}
 use Rattle.std.proofs.lemmas.List.Sums.{length-filter, count_by-le-length}
 use Rattle.std.proofs.lemmas.Option.{none-some, same_Some}
 use mathlib.Core.Logic.{dite}
 use native.Mathlib.Decide.{ℕ_discrete}
-use Rattle.lists.proofs.Lists.{filter-push_true, filter-push_false}
 use Rattle.evt_types.specs.Event.{pair_of}
 use Rattle.evt_types.specs.declared.event.Delivery.{Delivery}
 use Rattle.event_ports.specs.declared.lane.Lane.{Lane}
@@ -61,18 +61,40 @@ pub answered_first : (xs : List Holding) (lane : Lane) (before after : Lane → 
 answered_first [] lane before after first here others notes = absurd (none-some lane first)
 answered_first (x ∷ xs) lane before after first here others notes = noted x xs lane before after (same_Some x.lane lane first) here others notes
 
--- another is received
-pub received_last : (xs : List Holding) (lane : Lane) (d : Delivery) (before after : Lane → List Delivery) → after lane ≡ before lane ++ d ∷ []
-    → ((l : Lane) → l ≢ lane → after l ≡ before l) → Notes xs before → Notes (xs ++ holding_of lane d ∷ []) after
-received_last xs lane d before after here others notes l =
-    let x : Holding = holding_of lane d in
+-- what is noted of deliveries from a lane, lane by lane
+noted_here : (lane l : Lane) (ds : List Delivery) → lane ≡ l → held_of l (map (holding_of lane) ds) ≡ map (holding_of lane) ds
+noted_here lane l [] e = refl
+noted_here lane l (d ∷ ds) e =
+    let rest : List Holding = held_of l (map (holding_of lane) ds) in
+    by_lane lane l (λ t. cond t (holding_of lane d ∷ rest) rest ≡ holding_of lane d ∷ map (holding_of lane) ds)
+    (λ _. ap (λ (r : List Holding). holding_of lane d ∷ r) (noted_here lane l ds e)) (λ ne. absurd (ne e))
+
+noted_elsewhere : (lane l : Lane) (ds : List Delivery) → lane ≢ l → held_of l (map (holding_of lane) ds) ≡ []
+noted_elsewhere lane l [] ne = refl
+noted_elsewhere lane l (d ∷ ds) ne =
+    let rest : List Holding = held_of l (map (holding_of lane) ds) in
+    by_lane lane l (λ t. cond t (holding_of lane d ∷ rest) rest ≡ []) (λ e. absurd (ne e)) (λ _. noted_elsewhere lane l ds ne)
+
+pairs_noted : (lane : Lane) (ds : List Delivery) → map pair_in (map (holding_of lane) ds) ≡ map pair_of ds
+pairs_noted lane [] = refl
+pairs_noted lane (d ∷ ds) = ap (λ (r : List (ℕ × ℕ)). pair_of d ∷ r) (pairs_noted lane ds)
+
+-- more are received
+pub received_last : (xs : List Holding) (lane : Lane) (ds : List Delivery) (before after : Lane → List Delivery) → after lane ≡ before lane ++ ds
+    → ((l : Lane) → l ≢ lane → after l ≡ before l) → Notes xs before → Notes (xs ++ map (holding_of lane) ds) after
+received_last xs lane ds before after here others notes l =
+    let ys : List Holding = map (holding_of lane) ds in
     let p : Holding → Bool = λ y. same_lane y.lane l in
-    by_lane lane l (λ t. p x ≡ t → map pair_in (held_of l (xs ++ x ∷ [])) ≡ map pair_of (after l))
-    (λ e t.
-    let At : Lane → Type 0 = λ m. after m ≡ before m ++ d ∷ [] in
-    ap (map pair_in) (filter-push_true p xs x t) ∙ map-append pair_in (held_of l xs) (x ∷ []) ∙ ap (λ r. r ++ pair_in x ∷ []) (notes l)
-    ∙ sym (map-append pair_of (before l) (d ∷ [])) ∙ ap (map pair_of) (sym (subst At e here)))
-    (λ ne t. ap (map pair_in) (filter-push_false p xs x t) ∙ notes l ∙ ap (map pair_of) (sym (others l (λ e. ne (sym e))))) refl
+    let both : map pair_in (held_of l (xs ++ ys)) ≡ map pair_of (before l) ++ map pair_in (held_of l ys) =
+    ap (map pair_in) (filter-append p xs ys) ∙ map-append pair_in (held_of l xs) (held_of l ys) ∙ ap (λ r. r ++ map pair_in (held_of l ys)) (notes l) in
+    by_lane lane l (λ _. map pair_in (held_of l (xs ++ ys)) ≡ map pair_of (after l))
+    (λ e.
+    let At : Lane → Type 0 = λ m. after m ≡ before m ++ ds in
+    both ∙ ap (λ r. map pair_of (before l) ++ r) (ap (map pair_in) (noted_here lane l ds e) ∙ pairs_noted lane ds)
+    ∙ sym (map-append pair_of (before l) ds) ∙ ap (map pair_of) (sym (subst At e here)))
+    (λ ne.
+    both ∙ ap (λ r. map pair_of (before l) ++ map pair_in r) (noted_elsewhere lane l ds ne) ∙ append-nil (map pair_of (before l))
+    ∙ ap (map pair_of) (sym (others l (λ e. ne (sym e)))))
 
 -- the oldest one's lane has something unanswered
 pub first_open : (xs : List Holding) (lane : Lane) (open_at : Lane → List Delivery) → first_lane xs ≡ Some lane → Notes xs open_at → open_at lane ≢ []

@@ -1,6 +1,7 @@
 -- What a port refuses, and what it costs, where a call before it changed nothing of that.
-use Rattle.std.proofs.Common.{◌≡◌, ℕ, ◌+◌, [], ◌∷◌, ◌++◌, drop, Result, Ok, Err, MatchResult, sym, ap, ◌∙◌, arith}
+use Rattle.std.proofs.Common.{◌≡◌, ℕ, zero, suc, ◌+◌, ◌<◌, inl, inr, [], ◌∷◌, ◌++◌, drop, Result, Ok, Err, IfErr, OnOk, MatchResult, sym, ap, ◌∙◌, subst, arith}
 use Rattle.evt_types.specs.declared.event.Event.{Event}
+use Rattle.evt_types.specs.declared.event.Op.{Op}
 use Rattle.evt_types.specs.declared.event.Op.TheVariants as ops
 use Rattle.evt_types.specs.declared.event.Reply.{Reply}
 use Rattle.lane_rings.specs.Ends.{answers_among}
@@ -8,9 +9,14 @@ use Rattle.event_answers.specs.declared.answer.Refused.{Refused}
 use Rattle.event_answers.specs.declared.answer.Refused.TheVariants.{Stopped, BadQueue, NothingHeld, Backpressure, Raced, Full}
 use Rattle.event_ports.specs.declared.lane.Lane.{Lane}
 use Rattle.event_ports.specs.declared.lane.Lane.TheVariants.{Own}
-use Rattle.event_ports.specs.declared.port.Port.{Port}
+use Rattle.event_ports.specs.declared.desk.Desk.{Desk}
 use Rattle.event_ports.specs.Lanes.{Hand, Rests, Submits}
-use Rattle.event_ports.specs.Ports.{Place, place_of, account_of, pocket_of, SameCredits, Stocks, Refuses}
+use Rattle.credit_pool.specs.declared.account.Account.{Account}
+use Rattle.credit_pool.specs.declared.answer.Draw.{Draw}
+use Rattle.credit_pool.specs.declared.answer.Draw.TheVariants as draws
+use Rattle.credit_pool.specs.Accounts.{IsOpen}
+use Rattle.event_ports.specs.Draws.{FillsWithin, HasLooked, most_draws}
+use Rattle.event_ports.specs.Desks.{Place, place_of, account_of, pocket_of, was_filled, AsksPool, HasNoCredit, HasStocked, MaySpend, Pays, SameCredits, Stocks, Refuses}
 
 pub rests_then : (lane : Lane) (r : Reply) (h k m : Hand) → Rests h k → Submits lane r k m → Submits lane r h m
 rests_then lane r h k m a b = record {
@@ -23,28 +29,103 @@ rests_then lane r h k m a b = record {
 pub rests_more : (h k m : Hand) → Rests h k → Rests k m → Rests h m
 rests_more h k m a b = record { said = λ l. b.said l ∙ a.said l; got = λ l. b.got l ∙ a.got l; holding = b.holding ∙ a.holding }
 
-pub same_credits : (p k q : Port) → SameCredits p k → SameCredits k q → SameCredits p q
+pub same_credits : (p k q : Desk) → SameCredits p k → SameCredits k q → SameCredits p q
 same_credits p k q a b = (b.0 ∙ a.0, (b.1.0 ∙ a.1.0, b.1.1 ∙ a.1.1))
 
-pub stocks_after : (p k q : Port) (n : ℕ) → place_of k ≡ place_of p → SameCredits p k → Stocks k n q → Stocks p n q
-stocks_after p k q n place a st =
-    let quantum : (place_of k).quantum ≡ (place_of p).quantum = ap (λ (x : Place). x.quantum) place in (
-      (λ some. let s = st.0 (λ z. some (sym a.0 ∙ z)) in (s.0 ∙ a.0, (s.1.0 ∙ a.1.0, s.1.1 ∙ a.1.1))),
-      (λ none. let s = st.1 (a.0 ∙ none) in (s.0 ∙ quantum, s.1 ∙ (λ i. a.1.0 i + quantum i), s.2 ∙ a.1.1)),
+-- the draws of a quantum that was drawn, together
+drew : (n quantum ceiling : ℕ) (v after : Account) → FillsWithin n quantum ceiling v draws.Drawn after → (after.drawn ≡ v.drawn + quantum) × (after.returned ≡ v.returned)
+drew zero quantum ceiling v after none = absurd none
+drew (suc n) quantum ceiling v after (inl once) = (ap (λ (w : Account). w.drawn) once.0.2, ap (λ (w : Account). w.returned) once.0.2)
+drew (suc n) quantum ceiling v after (inr (first, second, between, raced, further)) =
+    let rest = drew n quantum ceiling between after further in
+    (rest.0 ∙ ap (λ (w : Account). w.drawn + quantum) raced.5, rest.1 ∙ ap (λ (w : Account). w.returned) raced.5)
+
+-- a NEW, after a look that read an open word
+module _ (p k : Desk) (place : place_of k ≡ place_of p) (same : SameCredits p k) (looked : HasLooked (account_of p) (account_of k)) (was_open : IsOpen (account_of k).last) where
+  asked : (answer : Draw) (q : Desk) → FillsWithin most_draws (place_of k).quantum (place_of k).threshold (account_of k) answer (account_of q) → AsksPool p answer q
+  asked answer q filled = record {
+    seen = account_of k;
+    looked = looked;
+    was_open = was_open;
+    asked = subst (λ (x : Place). FillsWithin most_draws x.quantum x.threshold (account_of k) answer (account_of q)) place filled;
+  }
+
+  -- there is no credit for it
+  pub no_credit : (q : Desk) (e : Event) (f : Refused) → e.op ≡ ops.New → e.queue < (place_of p).queues → (account_of k).limit ≡ (account_of p).limit → HasNoCredit k f q → Refuses p e f q
+  no_credit q e Stopped new within limit r = (new, r.0, same_credits p k q same r.1.same, inr (within, sym same.0 ∙ r.1.empty, asked draws.Shut q r.1.asked))
+  no_credit q e BadQueue new within limit r = absurd r
+  no_credit q e NothingHeld new within limit r = absurd r
+  no_credit q e (Backpressure free) new within limit r = (
+    new,
+    within,
+    sym same.0 ∙ r.3.empty,
+    r.0,
+    r.1,
+    omega (arith, r.2, limit, ap (λ (x : Place). x.quantum) place, ap (λ (x : Place). x.threshold) place),
+    same_credits p k q same r.3.same,
+    asked (draws.Short free) q r.3.asked,
+  )
+  no_credit q e (Raced first second) new within limit r =
+      (new, within, sym same.0 ∙ r.3.empty, r.0, r.1, r.2, same_credits p k q same r.3.same, asked (draws.Raced first second) q r.3.asked)
+  no_credit q e Full new within limit r = absurd r
+
+  -- there are these credits for it
+  module _ (m q : Desk) (n : ℕ) (h : HasStocked k m) (account : account_of q ≡ account_of m) (n_is : n ≡ pocket_of m) where
+    may_spend : MaySpend p n q
+    may_spend = record {
+      seen = account_of k;
+      looked = looked;
+      was_open = was_open;
+      of_pocket = λ some. let s = h.of_pocket (λ z. some (sym same.0 ∙ z)) in (n_is ∙ s.0 ∙ same.0, account ∙ s.1);
+      of_pool = λ none.
+          let s = h.of_pool (same.0 ∙ none) in (
+            n_is ∙ s.0 ∙ ap (λ (x : Place). x.quantum) place,
+            subst (λ (w : Account). FillsWithin most_draws (place_of p).quantum (place_of p).threshold (account_of k) draws.Drawn w) (sym account)
+                (subst (λ (x : Place). FillsWithin most_draws x.quantum x.threshold (account_of k) draws.Drawn (account_of m)) place s.1),
+          );
+    }
+
+    stocks : Stocks p n q
+    stocks = (
+      (λ some.
+          let s = h.of_pocket (λ z. some (sym same.0 ∙ z)) in
+          let is : account_of q ≡ account_of k = account ∙ s.1 in
+          (n_is ∙ s.0 ∙ same.0, (ap (λ (w : Account). w.drawn) is ∙ same.1.0, ap (λ (w : Account). w.returned) is ∙ same.1.1))),
+      (λ none.
+          let s = h.of_pool (same.0 ∙ none) in
+          let d = drew most_draws (place_of k).quantum (place_of k).threshold (account_of k) (account_of m) s.1 in
+          let quantum : (place_of k).quantum ≡ (place_of p).quantum = ap (λ (x : Place). x.quantum) place in
+          (n_is ∙ s.0 ∙ quantum, ap (λ (w : Account). w.drawn) account ∙ d.0 ∙ (λ i. same.1.0 i + quantum i), ap (λ (w : Account). w.returned) account ∙ d.1 ∙ same.1.1)),
     )
 
--- a NEW
-pub refuses_after : (p k q : Port) (e : Event) (f : Refused) → place_of k ≡ place_of p → SameCredits p k → (account_of k).limit ≡ (account_of p).limit → e.op ≡ ops.New
-    → Refuses k e f q → Refuses p e f q
-refuses_after p k q e Stopped place a limit new r = (r.0, r.1, same_credits p k q a r.2)
-refuses_after p k q e BadQueue place a limit new r = (r.0, omega (arith, r.1, ap (λ (x : Place). x.queues) place), r.2, same_credits p k q a r.3)
-refuses_after p k q e NothingHeld place a limit new r = absurd (r.0 new)
-refuses_after p k q e (Backpressure free) place a limit new r =
-    (r.0, omega (arith, r.1, ap (λ (x : Place). x.queues) place), sym a.0 ∙ r.2, r.3, r.4, omega (arith, r.5, limit, ap (λ (x : Place). x.quantum) place, ap (λ (x : Place). x.threshold) place), same_credits p k q a r.6)
-refuses_after p k q e (Raced first second) place a limit new r =
-    (r.0, omega (arith, r.1, ap (λ (x : Place). x.queues) place), sym a.0 ∙ r.2, r.3, r.4, r.5, same_credits p k q a r.6)
-refuses_after p k q e Full place a limit new r =
-    (r.0, (λ other. absurd (other new)), (λ ne. omega (arith, r.2 ne, ap (λ (x : Place). x.queues) place)), (λ n. stocks_after p k q (pocket_of q) place a (r.3 n)), (λ other. absurd (other new)))
+  pub pays_new : (m q : Desk) (o : Op) (result : Result (Unit {0}) Refused) → o ≡ ops.New → HasStocked k m → account_of q ≡ account_of m → OnOk result (pocket_of q + 1 ≡ pocket_of m)
+      → OnOk result (Pays o p q)
+  pays_new m q o (Ok _) new h account pays =
+      subst (λ (x : Op). Pays x p q) (sym new) (stocks m q (pocket_of q + 1) h account pays, may_spend m q (pocket_of q + 1) h account pays)
+  pays_new m q o (Err x) new h account pays = pays
+
+  pub refuses_full : (m q : Desk) (e : Event) (result : Result (Unit {0}) Refused) → e.op ≡ ops.New → e.queue < (place_of p).queues → HasStocked k m → account_of q ≡ account_of m
+      → IfErr result (λ x. (x ≡ Full) × was_filled q e.op × (pocket_of q ≡ pocket_of m)) → IfErr result (λ x. Refuses p e x q)
+  refuses_full m q e (Ok _) new within h account full = full
+  refuses_full m q e (Err x) new within h account full =
+      subst (λ (y : Refused). Refuses p e y q) (sym full.0) (
+        full.1,
+        (λ other. absurd (other new)),
+        (λ _. within),
+        (λ _. stocks m q (pocket_of q) h account full.2),
+        (λ other. absurd (other new)),
+        (λ _. may_spend m q (pocket_of q) h account full.2),
+        (λ other. absurd (other new)),
+      )
+
+-- two refusals that are one answer
+refusal_in : Result (Unit {0}) Refused → Refused → Refused
+refusal_in (Ok _) x = x
+refusal_in (Err x) y = x
+
+pub same_refusal : (x y : Refused) → ◌≡◌ {A = Result (Unit {0}) Refused} (Err x) (Err y) → x ≡ y
+unfolding refusal_in
+same_refusal x y e = ap (λ (r : Result (Unit {0}) Refused). refusal_in r x) e
 
 -- a reply to the own lane, after calls that submitted nothing
 pub own_after : (result : Result (Unit {0}) Refused) (r : Reply) (h j k m : Hand) → Rests h j → Rests j k → MatchResult result (λ _. Submits Own r k m) (λ _. Rests k m)

@@ -12,6 +12,7 @@ use Rattle.flow_claims.specs.Ends.{IsEnd}
 use Rattle.flow_claims.specs.Lists.{no_lists}
 use Rattle.flow_claims.specs.Stints.{at_lane, answered_in, answered_in_all}
 use Rattle.flow_claims.proofs.Records.{record_lanes}
+use Rattle.event_ports.proofs.Endings.{left_is}
 use Rattle.event_ports.proofs.Totals.{sum_split, sum_within}
 use Rattle.event_ports.specs.Holds.{answered_past, stints_at}
 use Rattle.event_ports.specs.Stop.{counted_past, AreLinkedBy, AreEnds, IsShared}
@@ -43,7 +44,7 @@ counted P n lanes finished ends are =
     sum_within (λ j. count_by P (answered_past j finished)) (λ j. count_by P (answered (ends j))) 0 n n (omega arith)
     (λ j lt. at_one P j finished ∙ (are j lt).answered (λ r. cond (P r) 1 0))
 
-pub shared : (linked : ℕ → ℕ → Bool) (lanes : List Far) (finished : List Past) (lane : ℕ) (far : Far) → AreLinkedBy linked finished → IsEnd lanes finished lane far → IsShared linked lane far
+pub shared : (linked : ℕ → ℕ → Bool) (lanes : List Far) (finished : List Past) (lane : ℕ) (far : Far) → AreLinkedBy linked finished → IsEnd lanes finished lane far → IsShared linked finished lane far
 shared linked lanes finished lane far all is = record {
   past = is.past;
   recorded = is.recorded;
@@ -54,4 +55,8 @@ shared linked lanes finished lane far all is = record {
       subst At (record_lanes lane 0 no_lists is.past is.recorded k d lt) linked_is;
   received = is.received_is;
   answered_is = is.answered_is;
+  in_record = is.in_record;
+  among = is.among;
+  once = is.once;
+  left = left_is lanes finished lane far is;
 }

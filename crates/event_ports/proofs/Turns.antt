@@ -1,5 +1,5 @@
 -- What a call on one flow lane makes of what a port has of all of them.
-use Rattle.std.proofs.Common.{◌≡◌, ◌≢◌, ℕ, suc, ◌<◌, Bool, true, false, List, [], ◌∷◌, ◌++◌, length, drop, set, Option, Some, None, Result, Ok, Err, All, MatchOption, MatchResult, refl, sym, ap, ◌∙◌, subst, arith, append-nil, append_assoc}
+use Rattle.std.proofs.Common.{◌≡◌, ◌≢◌, ℕ, suc, ◌<◌, Bool, true, false, List, [], ◌∷◌, ◌++◌, length, drop, set, Option, Some, None, Result, Ok, Err, All, MatchResult, refl, sym, ap, ◌∙◌, subst, arith, append-nil, append_assoc}
 use Rattle.std.proofs.lemmas.List.{length-set, get_or-set_other, get_or-set_same}
 use Rattle.std.proofs.lemmas.Option.{none-some}
 use Rattle.std.proofs.lemmas.List.Elements.{All-push}
@@ -9,7 +9,7 @@ use Rattle.lists.specs.Lists.{has}
 use Rattle.evt_types.specs.declared.event.Delivery.{Delivery}
 use Rattle.evt_types.specs.declared.event.Reply.{Reply}
 use Rattle.std.specs.Option.{is_some}
-use Rattle.lane_rings.specs.Ends.{answered, answers_among, unanswered}
+use Rattle.lane_rings.specs.Ends.{answered, answers_among, unanswered, Comes}
 use Rattle.lane_rings.specs.Identity.{LaneId, far_id}
 use Rattle.flow_claims.specs.declared.claim.Stint.{Stint}
 use Rattle.flow_claims.specs.declared.claims.Claims.{Claims}
@@ -22,7 +22,7 @@ use Rattle.flow_claims.specs.Open.{IsOpen, received_so_far, answered_so_far}
 use Rattle.flow_claims.specs.Seats.{stint_at, find_lane, IsPorts}
 use Rattle.flow_claims.specs.Stints.{left_in, received_in, answered_in}
 use Rattle.flow_claims.proofs.Held.{nothing_held}
-use Rattle.event_ports.specs.Holds.{place_at, IsHeldAt, AreFlows, stints_at, received_past, answered_past, left_past, surrendered_past, left_on, LeavesFree, received_now, answered_now, held_now, Hands, received_on, answered_on, IsFilledBy, Flushed, Kept, Same, SameBut, Gets, Says}
+use Rattle.event_ports.specs.Holds.{place_at, IsHeldAt, AreFlows, stints_at, received_past, answered_past, left_past, surrendered_past, left_on, LeavesFree, received_now, answered_now, held_now, Hands, received_on, answered_on, IsFilledBy, Flushed, Kept, Same, SameBut, Gets, Brings, Says}
 use Rattle.event_ports.proofs.Unanswered.{left_here, left_other, surrendered, none_surrendered, others_surrendered}
 use Rattle.event_ports.proofs.Places.{Stints, hands, each_place, moved, free_place, held_place, past_places, past_more, other_stints, same_now, same_but, received_here, answered_here, held_here, all_same}
 
@@ -214,13 +214,13 @@ module _ (claims : Claims) (links : List ℕ) where
         all_same lane (hands (seating seat) ss) (hands (seating seat) (set ss lane (Some new))) but (same_received r) (same_answered a)
         (held_here links (seating seat) (seating seat) ss lane (Some new) inside ∙ u ∙ sym (ap held_now at)) (λ j. refl)
 
-    pub turn_gets : (d : Delivery) → received_so_far (seating seat) new ≡ received_so_far (seating seat) stint ++ d ∷ [] → answered_so_far (seating seat) new ≡ answered_so_far (seating seat) stint
-        → unanswered new.far ≡ unanswered stint.far ++ d ∷ [] → Gets lane d (hands (seating seat) ss) (hands (seating seat) (set ss lane (Some new)))
-    turn_gets d r a u = record {
+    pub turn_gets : (ds : List Delivery) → received_so_far (seating seat) new ≡ received_so_far (seating seat) stint ++ ds → answered_so_far (seating seat) new ≡ answered_so_far (seating seat) stint
+        → unanswered new.far ≡ unanswered stint.far ++ ds → Gets lane ds (hands (seating seat) ss) (hands (seating seat) (set ss lane (Some new)))
+    turn_gets ds r a u = record {
       others = but;
-      received = received_is (d ∷ []) r;
+      received = received_is ds r;
       answered_is = same_answered a;
-      held = held_here links (seating seat) (seating seat) ss lane (Some new) inside ∙ u ∙ sym (ap (λ o. held_now o ++ d ∷ []) at);
+      held = held_here links (seating seat) (seating seat) ss lane (Some new) inside ∙ u ∙ sym (ap (λ o. held_now o ++ ds) at);
       given_back = λ j. refl;
     }
 
@@ -262,16 +262,14 @@ module _ (claims : Claims) (links : List ℕ) where
       filled = turn_filled far.0 far.1;
     }
 
-    -- a receipt: `Stint::receive` in its own words
-    pub received_lists : (result : Option Delivery) → IsOpen (seating seat) stint
-        → MatchOption result (unanswered new.far ≡ unanswered stint.far) (λ d. unanswered new.far ≡ unanswered stint.far ++ d ∷ [])
-        → ((v : Seating) → IsOpen v stint → MatchOption result (received_so_far v new ≡ received_so_far v stint) (λ d. received_so_far v new ≡ received_so_far v stint ++ d ∷ []))
+    -- receipts: `Stint::receive_some` in its own words
+    pub brought : (old into : List Delivery) → IsOpen (seating seat) stint → Comes stint.far old new.far into
+        → ((v : Seating) → IsOpen v stint → (c : Comes stint.far old new.far into) → received_so_far v new ≡ received_so_far v stint ++ c.came)
         → ((v : Seating) → answered_so_far v new ≡ answered_so_far v stint)
-        → MatchOption result (Same (hands (seating seat) ss) (hands (seating seat) (set ss lane (Some new)))) (λ d. Gets lane d (hands (seating seat) ss) (hands (seating seat) (set ss lane (Some new))))
-    received_lists None is held received answered = turn_same (received (seating seat) is) (answered (seating seat)) held
-    received_lists (Some d) is held received answered = turn_gets d (received (seating seat) is) (answered (seating seat)) held
+        → Brings lane (hands (seating seat) ss) old (hands (seating seat) (set ss lane (Some new))) into
+    brought old into is c received answered = record { came = c.came; array = c.array; gets = turn_gets c.came (received (seating seat) is c) (answered (seating seat)) c.held }
 
-    -- an answer: `Stint::answer` in its own words
+    -- an answer: `Stint::stage` in its own words
     pub answered_lists : {E : Type 0} (reply : Reply) (result : Result (Unit {0}) E) → IsOpen (seating seat) stint
         → MatchResult result (λ _. unanswered new.far ≡ drop (answers_among (reply ∷ [])) (unanswered stint.far)) (λ _. unanswered new.far ≡ unanswered stint.far)
         → ((v : Seating) → IsOpen v stint → MatchResult result (λ _. answered_so_far v new ≡ answered_so_far v stint ++ reply ∷ []) (λ _. answered_so_far v new ≡ answered_so_far v stint))

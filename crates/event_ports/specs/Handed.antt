@@ -1,11 +1,11 @@
 -- What a clause sees of a port's lanes.
-use Rattle.std.specs.Prelude.{◌≡◌, ◌+◌, ◌<◌, ℕ, true, List, length, Option}
+use Rattle.std.specs.Prelude.{◌≡◌, ◌≢◌, ◌+◌, ◌<◌, ℕ, true, List, [], length, Option}
 use Rattle.lists.specs.Lists.{has}
 use Rattle.evt_types.specs.Operation.{is_new_reply, is_release_reply}
 use Rattle.evt_types.specs.declared.event.Delivery.{Delivery}
 use Rattle.evt_types.specs.declared.event.Reply.{Reply}
 use Rattle.seat_sums.specs.Sums.{count}
-use Rattle.lane_rings.specs.Ends.{seen_deliveries}
+use Rattle.lane_rings.specs.Ends.{hidden_answers, seen_deliveries}
 use Rattle.lane_rings.specs.Identity.{far_id, LaneId}
 use Rattle.lane_rings.specs.declared.far.AnswerFault.{AnswerFault}
 use Rattle.flow_claims.specs.Claims.{lanes_of}
@@ -13,6 +13,7 @@ use Rattle.event_ports.specs.declared.lane.Lane.{Lane}
 use Rattle.event_ports.specs.declared.lane.Lane.TheVariants.{Own, Flow}
 use Rattle.event_ports.specs.declared.lanes.Lanes.{Lanes}
 use Rattle.event_ports.specs.Flows.{FlowPlace, flow_place, hands_of}
+use Rattle.event_ports.specs.Holds.{NoneHidden}
 use Rattle.event_ports.specs.Lanes.{Hand, said_on, got_on, counted, IsFilledAt, RefusesFirst}
 
 -- what never changes of a port's lanes: the own one, the flow lanes, and how much may be held
@@ -38,6 +39,15 @@ hand_of a = record { said = said_on a.own (hands_of a.flows); got = got_on a.own
 -- the deliveries that the port saw in the ring of its own lane and didn't receive
 abbrev pub seen_own : Lanes → List Delivery
 seen_own a = seen_deliveries a.own
+
+-- all that was submitted went into the rings: that of the own lane, and those of the flow lanes that are held
+pub record AllShown (a : Lanes) : Type 0 where
+  pub own : hidden_answers a.own ≡ []
+  pub flows : NoneHidden (hands_of a.flows)
+
+-- deliveries came from a flow lane only where no more was seen in the ring of the own lane
+abbrev pub OwnFirst : Lanes → Lanes → List Delivery → Type 0
+OwnFirst a b came = length ((hand_of b).got Own) ≢ length ((hand_of a).got Own) + length came → seen_own b ≡ []
 
 -- the port may receive from the lane: its own one, or a flow lane to which it is linked
 abbrev pub IsReadable : LanesPlace → Lane → Type 0

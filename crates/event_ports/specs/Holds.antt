@@ -6,7 +6,7 @@ use Rattle.lists.specs.Lists.{has}
 use Rattle.evt_types.specs.Operation.{is_new_reply}
 use Rattle.evt_types.specs.declared.event.Delivery.{Delivery}
 use Rattle.evt_types.specs.declared.event.Reply.{Reply}
-use Rattle.lane_rings.specs.Ends.{answered, answers_among, unanswered}
+use Rattle.lane_rings.specs.Ends.{answered, answers_among, hidden_answers, unanswered}
 use Rattle.lane_rings.specs.Identity.{far_id}
 use Rattle.flow_claims.specs.declared.claim.Stint.{Stint}
 use Rattle.flow_claims.specs.declared.claims.Claims.{Claims}
@@ -84,6 +84,15 @@ abbrev pub held_now : Option Stint → List Delivery
 held_now None = []
 held_now (Some stint) = unanswered stint.far
 
+-- what was answered in it and is not in the ring yet
+abbrev pub hidden_in : Option Stint → List Reply
+hidden_in None = []
+hidden_in (Some stint) = hidden_answers stint.far
+
+-- of one lane at most something is hidden: of the one that was answered last
+abbrev pub AreShown : Option ℕ → List (Option Stint) → Type 0
+AreShown touched stints = (lane : ℕ) → touched ≢ Some lane → hidden_in (place_at stints lane) ≡ []
+
 -- what a port has of its flow lanes
 pub record Hands : Type 0 where
   pub view : Seating
@@ -105,6 +114,10 @@ held_on h lane = held_now (stint_in h lane)
 -- what was left unanswered of the lane, and what is held of it
 abbrev pub left_on : Hands → ℕ → List Delivery
 left_on h lane = left_past lane h.view.finished ++ held_on h lane
+
+-- all that was answered went into the rings
+abbrev pub NoneHidden : Hands → Type 0
+NoneHidden h = (lane : ℕ) → hidden_in (stint_in h lane) ≡ []
 
 -- each lane that was held before was given back
 abbrev pub GaveBack : Hands → Type 0
@@ -153,13 +166,19 @@ pub record SameBut (lane : ℕ) (h k : Hands) : Type 0 where
   pub answered_is : (j : ℕ) → j ≢ lane → answered_on k j ≡ answered_on h j
   pub held : (j : ℕ) → j ≢ lane → held_on k j ≡ held_on h j
 
--- a delivery came from the lane
-pub record Gets (lane : ℕ) (d : Delivery) (h k : Hands) : Type 0 where
+-- deliveries came from the lane
+pub record Gets (lane : ℕ) (ds : List Delivery) (h k : Hands) : Type 0 where
   pub others : SameBut lane h k
-  pub received : received_on k lane ≡ received_on h lane ++ d ∷ []
+  pub received : received_on k lane ≡ received_on h lane ++ ds
   pub answered_is : answered_on k lane ≡ answered_on h lane
-  pub held : held_on k lane ≡ held_on h lane ++ d ∷ []
+  pub held : held_on k lane ≡ held_on h lane ++ ds
   pub given_back : NoneSurrendered h k
+
+-- and stand behind what was in the array
+pub record Brings (lane : ℕ) (h : Hands) (old : List Delivery) (k : Hands) (new : List Delivery) : Type 0 where
+  pub came : List Delivery
+  pub array : new ≡ old ++ came
+  pub gets : Gets lane came h k
 
 -- a reply went to the lane; an answer is to the oldest delivery that is held of it
 pub record Says (lane : ℕ) (r : Reply) (h k : Hands) : Type 0 where

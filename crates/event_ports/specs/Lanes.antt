@@ -104,12 +104,12 @@ abbrev pub SubmitsAll : List Event → Hand → Hand → Type 0
 SubmitsAll [] h k = Rests h k
 SubmitsAll (e ∷ es) h k = (between : Hand) × SubmitsTo (lane_for e.op h.holding) (reply_of e) h between × SubmitsAll es between k
 
--- a delivery was received from the lane, and is the last of what is held
-pub record Takes (lane : Lane) (d : Delivery) (h k : Hand) : Type 0 where
+-- deliveries were received from the lane, and are the last of what is held
+pub record Takes (lane : Lane) (ds : List Delivery) (h k : Hand) : Type 0 where
   pub said : (l : Lane) → k.said l ≡ h.said l
-  pub got_here : k.got lane ≡ h.got lane ++ d ∷ []
+  pub got_here : k.got lane ≡ h.got lane ++ ds
   pub got : (l : Lane) → l ≢ lane → k.got l ≡ h.got l
-  pub holding : k.holding ≡ h.holding ++ holding_of lane d ∷ []
+  pub holding : k.holding ≡ h.holding ++ map (holding_of lane) ds
 
 -- a delivery with the lane from which it came
 abbrev pub Arrival : Type 0

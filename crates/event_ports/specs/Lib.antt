@@ -3,6 +3,7 @@ pub mod Flows
 pub mod Lanes
 pub mod Handed
 pub mod Draws
+pub mod Desks
 pub mod Ports
 pub mod Parts
 pub mod Stop

@@ -1,14 +1,14 @@
 -- All ports of a device taken together, once none works any more, and what the flow lanes' ends have then.
-use Rattle.std.specs.Prelude.{◌≡◌, ℕ, ◌+◌, ◌<◌, ◌≤◌, ◌++◌, Bool, true, List, length, All, map, count_by, sum_by}
+use Rattle.std.specs.Prelude.{◌≡◌, ℕ, ◌+◌, ◌<◌, ◌≤◌, ◌++◌, Bool, true, List, [], ◌∷◌, length, All, Contains, map, count_by, slice_get, sum_by, Some}
 use Rattle.std.specs.List.{range_with_len}
 use Rattle.evt_types.specs.Operation.{is_new_reply}
 use Rattle.evt_types.specs.declared.event.Reply.{Reply}
-use Rattle.lane_rings.specs.Ends.{received_by, answered, held_list}
+use Rattle.lane_rings.specs.Ends.{received_by, answered, held_list, unanswered}
 use Rattle.lane_rings.specs.declared.far.Far.{Far}
 use Rattle.flow_claims.specs.declared.seating.Past.{Past}
 use Rattle.flow_claims.specs.Ends.{IsEnd}
 use Rattle.flow_claims.specs.Lists.{no_lists}
-use Rattle.flow_claims.specs.Stints.{IsRecordFrom, received_in_all, answered_in_all}
+use Rattle.flow_claims.specs.Stints.{IsRecordFrom, below, received_in_all, answered_in_all, times}
 use Rattle.flow_claims.specs.declared.seating.Seating.{Seating}
 use Rattle.flow_claims.specs.Seats.{HoldsNone}
 use Rattle.event_ports.specs.declared.port.Port.{Port}
@@ -16,7 +16,7 @@ use Rattle.event_ports.specs.Holds.{answered_past, left_past, AreLinked}
 use Rattle.event_ports.specs.Handed.{flow_count}
 use Rattle.event_ports.specs.Lanes.{AreOf, IsEndOf, pair_in, held_of}
 use Rattle.event_ports.specs.Ports.{place_of, account_of, pocket_of, hand, links, news_by, releases_by}
-use Rattle.event_ports.specs.declared.joined.Rest.{Rest}
+use Rattle.event_ports.specs.declared.rest.Rest.{Rest}
 use Rattle.event_ports.specs.declared.lane.Lane.TheVariants.{Own, Flow}
 use Rattle.credit_pool.specs.declared.pool.Credits.{Credits}
 use Rattle.credit_pool.specs.declared.pool.CreditSeat.{CreditSeat}
@@ -44,13 +44,18 @@ AreLinkedBy linked ps = All (λ p. linked p.port p.lane ≡ true) ps
 abbrev pub AreEnds : List Far → List Past → ℕ → (ℕ → Far) → Type 0
 AreEnds lanes finished n ends = (j : ℕ) → j < n → IsEnd lanes finished j (ends j)
 
--- What a flow lane's end has was received and answered by ports that are linked to the lane, stint by stint.
-pub record IsShared (linked : ℕ → ℕ → Bool) (lane : ℕ) (far : Far) : Type 0 where
+-- What a flow lane's end has was received and answered by ports that are linked to the lane, stint by stint: its record is all of these
+-- stints that are the lane's, each once and at its number. What they left unanswered is what is unanswered at the end.
+pub record IsShared (linked : ℕ → ℕ → Bool) (finished : List Past) (lane : ℕ) (far : Far) : Type 0 where
   pub past : List Past
   pub recorded : IsRecordFrom lane 0 no_lists past
   pub linked_ports : All (λ p. linked p.port lane ≡ true) past
   pub received : received_by far ≡ received_in_all past
   pub answered_is : answered far ≡ answered_in_all past
+  pub in_record : All (λ p. p.lane ≡ lane → slice_get past p.number ≡ Some p) finished
+  pub among : All (Contains finished) past
+  pub once : (number : ℕ) → times lane number finished ≡ below number (length past)
+  pub left : left_past lane finished ≡ unanswered far
 
 -- The finished stints of a port came to those that a seat had: they are what it received from flow lanes and answered to them, and of
 -- lanes to which it is linked.
@@ -61,6 +66,21 @@ pub record Joins (port : Port) (before after : Seating) : Type 0 where
   pub linked : AreLinked (place_of port).number (links port) stints
   pub parts : after.parts ≡ before.parts + (place_of port).lanes.flows.parts
   pub none_open : HoldsNone after
+
+-- Of these stints the first are a port's, which are what it received from flow lanes and answered to them, and of lanes to which it is
+-- linked; so are the others of other ports.
+pub record FirstStints (port : Port) (others : List Past → Type 0) (all : List Past) : Type 0 where
+  pub its : List Past
+  pub rest : List Past
+  pub both : all ≡ its ++ rest
+  pub lists : IsEndOf (hand port) its
+  pub linked : AreLinked (place_of port).number (links port) its
+  pub others_are : others rest
+
+-- these are the stints of the ports, one port's after the other's
+abbrev pub AreStintsOf : List Port → List Past → Type 0
+AreStintsOf [] all = all ≡ []
+AreStintsOf (p ∷ ps) all = FirstStints p (AreStintsOf ps) all
 
 -- the port's seats are of these credits and claims
 pub record IsPortOf (pool : Credits) (claims : Claims) (p : Port) : Type 0 where
@@ -93,6 +113,9 @@ pub record IsJoined (pool : Credits) (claims : Claims) (credit : CreditSeat) (cl
   pub parts : (credits.account credits_after).parts ≡ (credits.account credit).parts + sum_by (λ p. (account_of p).parts) ports
   pub bit : (credits.account credits_after).set_shut ≡ (credits.account credit).set_shut
   pub flow_parts : (seating claims_after).parts ≡ (seating claim).parts + sum_by (λ p. (place_of p).lanes.flows.parts) ports
+  pub stints : List Past
+  pub finished : (seating claims_after).finished ≡ (seating claim).finished ++ stints
+  pub ports_are : AreStintsOf ports stints
   pub counted_is : (P : Reply → Bool) (n : ℕ) → counted_past P n (seating claims_after).finished ≡ counted_past P n (seating claim).finished + sum_by (flows_in P n) ports
   pub held : (j : ℕ) → length (left_past j (seating claims_after).finished) ≡ length (left_past j (seating claim).finished) + sum_by (λ p. length (held_of (Flow j) (hand p).holding)) ports
   pub no_new : HasNoNew (seating claim).finished → HasNoNew (seating claims_after).finished

@@ -1,89 +1,27 @@
-//! Dequeues, and enqueues of several events.
+//! What a dequeue does at a port's desk, and the enqueue of several events.
 
-ghost use Rattle.std.specs.Prelude.{◌≡◌, ◌≢◌, ◌+◌, ◌%◌, ◌^◌, ◌<◌, ◌≤◌, [], length, IsTrue, IsFalse, ◌↔◌, take, IsErr, IsNone, IfSome, IfOk, IfErr, OnOk, MatchResult};
+ghost use Rattle.std.specs.Prelude.{◌≡◌, ◌≢◌, ◌+◌, ◌%◌, ◌^◌, ◌<◌, ◌≤◌, [], length, IsTrue, IsFalse, ◌↔◌, take, IsErr, IsNone, IfSome, IfErr, OnOk, MatchResult};
 ghost use Rattle.evt_types.specs.declared.event.Op.TheVariants as ops;
 ghost use Rattle.credit_pool.specs.Accounts.{Stays};
 ghost use Rattle.event_ports.specs.Lanes.{Rests, Releases, Dequeues, Arrives, SubmitsTo, SubmitsAll, first_lane, release_reply};
-ghost use Rattle.event_ports.specs.Draws.{Settles};
-ghost use Rattle.event_ports.specs.Ports.{place_of, account_of, pocket_of, hand, seen_by, links, was_filled, released_first, StopsAt};
+ghost use Rattle.event_ports.specs.Desks.{place_of, account_of, pocket_of, hand, seen_by, links, was_filled, released_first, Gathers, StopsAt};
+ghost use Rattle.event_ports.specs.Handed.{AllShown, OwnFirst};
 
-use crate::port::Port;
+use crate::desk::Desk;
 use arrayvec::ArrayVec;
 use event_answers::{Behind, Refused};
 use evt_types::{Delivery, Event, Reply};
 
-impl Port {
-    /// Receives at most `max` deliveries, and no more than may be held. With implicit release all that is held is released first,
-    /// oldest first; where a reply ring has no room for all of it, nothing is received and the rest stays held. Where fewer come than
-    /// may, the own lane's ring was seen empty.
-    pub fn dequeue(&mut self, max: usize) -> Result<ArrayVec<Delivery, 64>, Behind>
-        ensures place { place_of self.new ≡ place_of self.old }
-        ensures credit { Stays (account_of self.old) (account_of self.new) }
-        ensures ok { IfOk result (λ v. Dequeues (links self.old) (released_first self.old) (hand self.old) (hand self.new) v.items) }
-        ensures few { IfOk result (λ v. (length v.items ≤ max) × (length (hand self.new).holding ≤ (place_of self.old).lanes.depth)) }
-        ensures drained { IfOk result (λ v. length v.items < max → length (hand self.new).holding < (place_of self.old).lanes.depth → seen_by self.new ≡ []) }
-        ensures behind { IfErr result (λ b. IsTrue (place_of self.old).implicit × (b.released < length (hand self.old).holding) × Releases b.released (hand self.old) (hand self.new) × was_filled self.new ops.Release) }
-        ensures settled { MatchResult result
-            (λ _. Settles (place_of self.old).quantum ((pocket_of self.old + released_first self.old) % 2 ^ 64) (account_of self.old) (pocket_of self.new) (account_of self.new))
-            (λ b. Settles (place_of self.old).quantum ((pocket_of self.old + b.released) % 2 ^ 64) (account_of self.old) (pocket_of self.new) (account_of self.new)) }
-    {
-        let mut deliveries = ArrayVec::new();
-        match self.dequeue_burst(max, &mut deliveries) {
-            Ok(_) => Ok(deliveries),
-            Err(behind) => Err(behind),
-        }
-    }
-
-    /// Dequeues into an array of the caller's, which is emptied first, and so spares the copies of a whole array: how many came.
-    /// After `Behind` the array is empty.
-    pub fn dequeue_burst(
-        &mut self,
-        max: usize,
-        into: &mut ArrayVec<Delivery, 64>,
-    ) -> Result<usize, Behind>
-        ensures place { place_of self.new ≡ place_of self.old }
-        ensures credit { Stays (account_of self.old) (account_of self.new) }
-        ensures ok { OnOk result (Dequeues (links self.old) (released_first self.old) (hand self.old) (hand self.new) into.new.items) }
-        ensures few { OnOk result ((length into.new.items ≤ max) × (length (hand self.new).holding ≤ (place_of self.old).lanes.depth)) }
-        ensures drained { OnOk result (length into.new.items < max → length (hand self.new).holding < (place_of self.old).lanes.depth → seen_by self.new ≡ []) }
-        ensures count { IfOk result (λ n. n ≡ length into.new.items) }
-        ensures none { IsErr result → into.new.items ≡ [] }
-        ensures behind { IfErr result (λ b. IsTrue (place_of self.old).implicit × (b.released < length (hand self.old).holding) × Releases b.released (hand self.old) (hand self.new) × was_filled self.new ops.Release) }
-        ensures settled { MatchResult result
-            (λ _. Settles (place_of self.old).quantum ((pocket_of self.old + released_first self.old) % 2 ^ 64) (account_of self.old) (pocket_of self.new) (account_of self.new))
-            (λ b. Settles (place_of self.old).quantum ((pocket_of self.old + b.released) % 2 ^ 64) (account_of self.old) (pocket_of self.new) (account_of self.new)) }
-    {
-        into.clear();
-        let answer = self.exchange(max, into);
-        self.settle();
-        match answer {
-            Ok(()) => Ok(into.len()),
-            Err(behind) => Err(behind),
-        }
-    }
-
-    /// Enqueues the events one after the other, up to the first that is refused: how many were taken, and why the next one wasn't.
-    pub fn enqueue_burst(&mut self, events: &[Event]) -> (usize, Option<Refused>)
-        ensures place { place_of self.new ≡ place_of self.old }
-        ensures credit { Stays (account_of self.old) (account_of self.new) }
-        ensures count { result.0 ≤ length events.now }
-        ensures all { IsNone result.1 ↔ (result.0 ≡ length events.now) }
-        ensures submitted { SubmitsAll (take result.0 events.now) (hand self.old) (hand self.new) }
-        ensures refused { IfSome result.1 (λ e. StopsAt self.old events.now result.0 e self.new) }
-    {
-        let answer = self.submit_burst(events);
-        self.flush();
-        answer
-    }
-
+impl Desk {
     // Enqueues the events, which the scheduler sees after the next `flush`.
-    fn submit_burst(&mut self, events: &[Event]) -> (usize, Option<Refused>)
+    pub(crate) fn submit_burst(&mut self, events: &[Event]) -> (usize, Option<Refused>)
         ensures place { place_of self.new ≡ place_of self.old }
         ensures credit { Stays (account_of self.old) (account_of self.new) }
         ensures count { result.0 ≤ length events.now }
         ensures all { IsNone result.1 ↔ (result.0 ≡ length events.now) }
         ensures submitted { SubmitsAll (take result.0 events.now) (hand self.old) (hand self.new) }
         ensures refused { IfSome result.1 (λ e. StopsAt self.old events.now result.0 e self.new) }
+        ensures chain { Gathers self.old events.now result.0 result.1 self.new }
     {
         for (taken, event) in events.iter().enumerate() {
             if let Err(refused) = self.submit(*event) {
@@ -94,13 +32,19 @@ impl Port {
     }
 
     // What a dequeue does before the return rule.
-    fn exchange(&mut self, max: usize, into: &mut ArrayVec<Delivery, 64>) -> Result<(), Behind>
+    pub(crate) fn exchange(
+        &mut self,
+        max: usize,
+        into: &mut ArrayVec<Delivery, 64>,
+    ) -> Result<(), Behind>
         requires { into.old.items ≡ [] }
         ensures place { place_of self.new ≡ place_of self.old }
         ensures credit { account_of self.new ≡ account_of self.old }
         ensures ok { OnOk result (Dequeues (links self.old) (released_first self.old) (hand self.old) (hand self.new) into.new.items) }
         ensures few { OnOk result ((length into.new.items ≤ max) × (length (hand self.new).holding ≤ (place_of self.old).lanes.depth)) }
         ensures drained { OnOk result (length into.new.items < max → length (hand self.new).holding < (place_of self.old).lanes.depth → seen_by self.new ≡ []) }
+        ensures own_first { OnOk result (OwnFirst self.old.lanes self.new.lanes into.new.items) }
+        ensures shown { AllShown self.old.lanes → AllShown self.new.lanes }
         ensures none { IsErr result → into.new.items ≡ [] }
         ensures behind { IfErr result (λ b. IsTrue (place_of self.old).implicit × (b.released < length (hand self.old).holding) × Releases b.released (hand self.old) (hand self.new) × was_filled self.new ops.Release) }
         ensures pocket { MatchResult result
@@ -127,6 +71,8 @@ impl Port {
         ensures arrived { Arrives (links self.old) (hand self.old) (hand self.new) [] into.new.items }
         ensures few { (length into.new.items ≤ max) × (length (hand self.new).holding ≤ (place_of self.old).lanes.depth) }
         ensures drained { length into.new.items < max → length (hand self.new).holding < (place_of self.old).lanes.depth → seen_by self.new ≡ [] }
+        ensures own_first { OwnFirst self.old.lanes self.new.lanes into.new.items }
+        ensures shown { AllShown self.old.lanes → AllShown self.new.lanes }
     {
         let _pocket = self.pocket;
         self.lanes.receive_all(max, into);
@@ -136,6 +82,7 @@ impl Port {
     fn release_all(&mut self) -> Result<(), Behind>
         ensures place { place_of self.new ≡ place_of self.old }
         ensures credit { account_of self.new ≡ account_of self.old }
+        ensures shown { AllShown self.new.lanes }
         ensures ok { OnOk result (Releases (length (hand self.old).holding) (hand self.old) (hand self.new) × (pocket_of self.new ≡ (pocket_of self.old + length (hand self.old).holding) % 2 ^ 64)) }
         ensures behind { IfErr result (λ b. (b.released < length (hand self.old).holding) × Releases b.released (hand self.old) (hand self.new) × was_filled self.new ops.Release × (pocket_of self.new ≡ (pocket_of self.old + b.released) % 2 ^ 64)) }
     {

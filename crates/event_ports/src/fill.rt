@@ -3,7 +3,7 @@
 ghost use Rattle.std.specs.Prelude.{◌≡◌, ◌<◌, ◌≤◌, true};
 ghost use Rattle.credit_pool.specs.Accounts.{Stays};
 ghost use Rattle.credit_pool.specs.Pool.{account, limit_of, IsSeatOf};
-ghost use Rattle.event_ports.specs.Draws.{Fills};
+ghost use Rattle.event_ports.specs.Draws.{Fills, FillsWithin, most_draws};
 
 use credit_pool::{CreditSeat, Credits, Draw};
 
@@ -18,12 +18,30 @@ pub(crate) fn fill(pool: &Credits, seat: &mut CreditSeat, quantum: u64, ceiling:
     ensures seat { IsSeatOf pool.now seat.new }
     ensures stays { Stays (account seat.old) (account seat.new) }
     ensures answer { Fills quantum ceiling (account seat.old) result (account seat.new) }
+    ensures draws { FillsWithin most_draws quantum ceiling (account seat.old) result (account seat.new) }
 {
-    for _ in 1..DRAWS {
-        match pool.draw(seat, quantum, ceiling) {
-            Draw::Raced { .. } => {}
-            answer => return answer,
-        }
+    draw_within(DRAWS, pool, seat, quantum, ceiling)
+}
+
+// Draws by at most so many tries, one or more.
+fn draw_within(
+    tries: usize,
+    pool: &Credits,
+    seat: &mut CreditSeat,
+    quantum: u64,
+    ceiling: u64,
+) -> Draw
+    requires tries { 0 < tries }
+    requires seat { IsSeatOf pool.now seat.old }
+    requires some { 0 < quantum }
+    requires ceiling { ceiling ≤ limit_of pool.now }
+    ensures seat { IsSeatOf pool.now seat.new }
+    ensures stays { Stays (account seat.old) (account seat.new) }
+    ensures answer { Fills quantum ceiling (account seat.old) result (account seat.new) }
+    ensures draws { FillsWithin tries quantum ceiling (account seat.old) result (account seat.new) }
+{
+    match pool.draw(seat, quantum, ceiling) {
+        Draw::Raced { .. } if tries > 1 => { draw_within(tries - 1, pool, seat, quantum, ceiling) }
+        answer => answer,
     }
-    pool.draw(seat, quantum, ceiling)
 }

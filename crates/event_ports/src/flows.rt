@@ -1,8 +1,9 @@
 //! The flow lanes of a port: those that it holds, and those that it is linked to.
 
 ghost use Rattle.std.specs.Arc.{arc_value};
-ghost use Rattle.event_ports.specs.Holds.{AreFlows};
+ghost use Rattle.event_ports.specs.Holds.{AreFlows, AreShown};
 
+use arrayvec::ArrayVec;
 use evt_types::{Delivery, Reply};
 use flow_claims::{Claim, ClaimSeat, Claims, Stint};
 use lane_rings::AnswerFault;
@@ -19,6 +20,7 @@ pub(crate) struct FlowLanes {
     /// The lane that was answered last, where what was answered wasn't flushed.
     touched: Option<usize>,
     ghost are: { AreFlows (arc_value claims) seat stints.items links.items },
+    ghost shown: { AreShown touched stints.items },
 }
 
 impl FlowLanes {
@@ -28,8 +30,8 @@ impl FlowLanes {
     ghost use Rattle.evt_types.specs.Operation.{is_answer};
     ghost use Rattle.flow_claims.specs.Claims.{seating, port_of, lanes_of, IsSeatOf};
     ghost use Rattle.flow_claims.specs.Seats.{HoldsNone};
-    ghost use Rattle.event_ports.specs.Holds.{IsFilledBy, AreLinked, Flushed, Same, Kept, Gets, Says, Ends, AreEmpty, stint_in, held_on, received_on, answered_on, received_past, answered_past};
-    ghost use Rattle.event_ports.specs.Flows.{hands_of, flow_place};
+    ghost use Rattle.event_ports.specs.Holds.{IsFilledBy, AreLinked, Brings, Flushed, NoneHidden, Same, Kept, Says, Ends, AreEmpty, hidden_in, stint_in, held_on};
+    ghost use Rattle.event_ports.specs.Flows.{hands_of, flow_place, touched_of};
 
     /// The flow lanes of a port whose seat has no stint, with a place for each.
     pub(crate) fn new(
@@ -44,6 +46,7 @@ impl FlowLanes {
         requires places { stints.items ≡ replicate (length (lanes_of (arc_value claims))) None }
         ensures place { flow_place result ≡ record { claims = arc_value claims; port = port_of seat; links = links.items; parts = (seating seat).parts } }
         ensures empty { AreEmpty (hands_of result) }
+        ensures shown { NoneHidden (hands_of result) }
     {
         FlowLanes {
             claims,
@@ -79,6 +82,7 @@ impl FlowLanes {
         ensures same { Same (hands_of self.old) (hands_of self.new) }
         ensures held { is_some (stint_in (hands_of self.new) lane) ≡ result }
         ensures elsewhere { (j : ℕ) → j ≢ lane → is_some (stint_in (hands_of self.new) j) ≡ is_some (stint_in (hands_of self.old) j) }
+        ensures shown { NoneHidden (hands_of self.old) → NoneHidden (hands_of self.new) }
     {
         if self.stints[lane].is_some() {
             return true;
@@ -90,20 +94,26 @@ impl FlowLanes {
         true
     }
 
-    /// Receives from the lane, where it is held and no more than its depth allows is unanswered.
-    pub(crate) fn receive(&mut self, lane: usize) -> Option<Delivery>
-        requires { lane < length (lanes_of (flow_place self.old).claims) }
+    /// Receives from the lane until the array has `most` deliveries, none is seen, or as many are unanswered as the lane's depth
+    /// allows; nothing where the lane isn't held.
+    pub(crate) fn receive_some(
+        &mut self,
+        lane: usize,
+        most: usize,
+        into: &mut ArrayVec<Delivery, 64>,
+    )
+        requires exists { lane < length (lanes_of (flow_place self.old).claims) }
+        requires most { most ≤ 64 }
         ensures place { flow_place self.new ≡ flow_place self.old }
-        ensures lists { MatchOption result (Same (hands_of self.old) (hands_of self.new)) (λ d. Gets lane d (hands_of self.old) (hands_of self.new)) }
+        ensures lists { Brings lane (hands_of self.old) into.old.items (hands_of self.new) into.new.items }
+        ensures few { length into.old.items ≤ most → length into.new.items ≤ most }
         ensures places { (j : ℕ) → is_some (stint_in (hands_of self.new) j) ≡ is_some (stint_in (hands_of self.old) j) }
+        ensures shown { NoneHidden (hands_of self.old) → NoneHidden (hands_of self.new) }
     {
         let Some(stint) = &mut self.stints[lane] else {
-            return None;
+            return;
         };
-        if stint.far.is_full() {
-            return None;
-        }
-        stint.receive()
+        stint.receive_some(most, into);
     }
 
     /// Answers the oldest delivery that is held of the lane. The scheduler sees it after the next `flush`.
@@ -124,6 +134,7 @@ impl FlowLanes {
     fn turn_to(&mut self, lane: usize)
         ensures place { flow_place self.new ≡ flow_place self.old }
         ensures flushed { Flushed (hands_of self.old) (hands_of self.new) }
+        ensures touched { touched_of self.new ≡ Some lane }
     {
         if self.touched != Some(lane) {
             self.flush();
@@ -135,9 +146,11 @@ impl FlowLanes {
     pub(crate) fn flush(&mut self)
         ensures place { flow_place self.new ≡ flow_place self.old }
         ensures flushed { Flushed (hands_of self.old) (hands_of self.new) }
+        ensures shown { NoneHidden (hands_of self.new) }
     {
-        if let Some(lane) = self.touched.take() {
+        if let Some(lane) = self.touched {
             self.flush_lane(lane);
+            self.touched = None;
         }
     }
 
@@ -145,6 +158,9 @@ impl FlowLanes {
     fn flush_lane(&mut self, lane: usize)
         ensures place { flow_place self.new ≡ flow_place self.old }
         ensures flushed { Flushed (hands_of self.old) (hands_of self.new) }
+        ensures here { hidden_in (stint_in (hands_of self.new) lane) ≡ [] }
+        ensures touched { touched_of self.new ≡ touched_of self.old }
+        ensures shown { NoneHidden (hands_of self.old) → NoneHidden (hands_of self.new) }
     {
         if lane >= self.stints.len() {
             return;
@@ -156,6 +172,7 @@ impl FlowLanes {
     }
 
     fn answer_at(&mut self, lane: usize, reply: Reply) -> Result<(), AnswerFault>
+        requires touched { touched_of self.old ≡ Some lane }
         requires exists { lane < length (lanes_of (flow_place self.old).claims) }
         requires answer { is_answer reply ≡ true }
         requires held { held_on (hands_of self.old) lane ≢ [] }
@@ -167,7 +184,7 @@ impl FlowLanes {
         let Some(stint) = &mut self.stints[lane] else {
             return Err(AnswerFault::NothingHeld);
         };
-        stint.answer(reply)
+        stint.stage(reply)
     }
 
     /// Gives the lane back where nothing of it is unanswered.
@@ -177,6 +194,7 @@ impl FlowLanes {
         ensures same { Same (hands_of self.old) (hands_of self.new) }
         ensures left { held_on (hands_of self.old) lane ≡ [] → is_some (stint_in (hands_of self.new) lane) ≡ false }
         ensures elsewhere { (j : ℕ) → j ≢ lane → is_some (stint_in (hands_of self.new) j) ≡ is_some (stint_in (hands_of self.old) j) }
+        ensures shown { NoneHidden (hands_of self.old) → NoneHidden (hands_of self.new) }
     {
         // The next port to hold it may have nothing to flush.
         self.flush_done(lane);
@@ -188,6 +206,8 @@ impl FlowLanes {
         requires { lane < length (lanes_of (flow_place self.old).claims) }
         ensures place { flow_place self.new ≡ flow_place self.old }
         ensures flushed { Flushed (hands_of self.old) (hands_of self.new) }
+        ensures here { held_on (hands_of self.new) lane ≡ [] → hidden_in (stint_in (hands_of self.new) lane) ≡ [] }
+        ensures shown { NoneHidden (hands_of self.old) → NoneHidden (hands_of self.new) }
     {
         let is_left = match &self.stints[lane] {
             Some(stint) => is_done(stint),
@@ -199,11 +219,13 @@ impl FlowLanes {
     }
 
     fn give_back(&mut self, lane: usize)
-        requires { lane < length (lanes_of (flow_place self.old).claims) }
+        requires exists { lane < length (lanes_of (flow_place self.old).claims) }
+        requires shown { held_on (hands_of self.old) lane ≡ [] → hidden_in (stint_in (hands_of self.old) lane) ≡ [] }
         ensures place { flow_place self.new ≡ flow_place self.old }
         ensures same { Same (hands_of self.old) (hands_of self.new) }
         ensures left { held_on (hands_of self.old) lane ≡ [] → is_some (stint_in (hands_of self.new) lane) ≡ false }
         ensures elsewhere { (j : ℕ) → j ≢ lane → is_some (stint_in (hands_of self.new) j) ≡ is_some (stint_in (hands_of self.old) j) }
+        ensures shown { NoneHidden (hands_of self.old) → NoneHidden (hands_of self.new) }
     {
         let Some(stint) = self.stints[lane].take() else {
             return;
@@ -217,11 +239,13 @@ impl FlowLanes {
 
     /// Surrenders the lane, where it is held.
     fn surrender(&mut self, lane: usize)
-        requires { lane < length (lanes_of (flow_place self.old).claims) }
+        requires exists { lane < length (lanes_of (flow_place self.old).claims) }
+        requires shown { NoneHidden (hands_of self.old) }
         ensures place { flow_place self.new ≡ flow_place self.old }
         ensures kept { Kept (hands_of self.old) (hands_of self.new) }
         ensures free { stint_in (hands_of self.new) lane ≡ None }
         ensures elsewhere { (j : ℕ) → j ≢ lane → stint_in (hands_of self.new) j ≡ stint_in (hands_of self.old) j }
+        ensures shown { NoneHidden (hands_of self.new) }
     {
         let Some(stint) = self.stints[lane].take() else {
             return;
@@ -231,6 +255,7 @@ impl FlowLanes {
 
     /// The port's seat, once all lanes that are held were surrendered.
     pub(crate) fn into_seat(mut self) -> ClaimSeat
+        requires { NoneHidden (hands_of self) }
         ensures seat { IsSeatOf (flow_place self).claims result × (port_of result ≡ (flow_place self).port) }
         ensures parts { (seating result).parts ≡ (flow_place self).parts }
         ensures none_open { HoldsNone (seating result) }

@@ -14,25 +14,10 @@ ghost use Rattle.event_ports.specs.Lanes.{held_of, pair_in};
 ghost use Rattle.event_ports.specs.Ports.{place_of, account_of, pocket_of, hand, news_by, releases_by};
 ghost use Rattle.event_ports.specs.Stop.{Joins, IsPortOf, IsPaid, IsCounted, IsJoined, AreLeft};
 
-use crate::lane::Holding;
-use crate::parts::Left;
 use crate::port::Port;
-use circular_buffer::HeapCircularBuffer;
+use crate::rest::{Left, Rest};
 use credit_pool::{CreditSeat, Credits};
 use flow_claims::{ClaimSeat, Claims};
-use lane_rings::Far;
-
-/// What is left of a port whose seats were joined to others.
-#[derive(Drop)]
-pub struct Rest {
-    /// The port's number.
-    pub number: usize,
-    /// The end of the own lane.
-    pub own: Far,
-    /// What is held, in the order of the dequeues.
-    pub held: HeapCircularBuffer<Holding>,
-    pub pocket: u64,
-}
 
 /// Takes a port apart, and joins its seats into these. Each flow lane that it holds is surrendered.
 pub fn join_port(

@@ -1,6 +1,6 @@
 //! All lanes of a port, and the order in which it dequeued from them.
 
-ghost use Rattle.std.specs.Prelude.{◌≡◌, ◌≤◌, ℕ, [], false};
+ghost use Rattle.std.specs.Prelude.{◌≡◌, ◌≤◌, ◌+◌, ℕ, [], ◌++◌, false, drop, length, map};
 ghost use Rattle.std.specs.Option.{is_some};
 ghost use Rattle.lane_rings.specs.Identity.{far_id};
 ghost use Rattle.event_ports.specs.Holds.{HaveNoNew, GaveBack, held_on, stint_in};
@@ -30,27 +30,28 @@ pub(crate) struct Lanes {
 }
 
 impl Lanes {
-    ghost use Rattle.std.specs.Prelude.{◌≡◌, ◌≢◌, ℕ, ◌+◌, ◌<◌, ◌≤◌, [], ◌∷◌, true, false, length, map, count_by, Some, IfOk, IfErr, IfSome, IfNone, MatchOption, MatchResult};
+    ghost use Rattle.std.specs.Prelude.{◌≡◌, ℕ, ◌<◌, ◌≤◌, [], ◌∷◌, true, length, map, count_by, Some, IfErr, MatchResult};
     ghost use Rattle.evt_types.specs.Operation.{is_answer, is_new_reply};
-    ghost use Rattle.event_ports.specs.Lanes.{Rests, Submits, SubmitsTo, Takes, Arrives, ArrivesFrom, HasRoomFor, IsEmptyHand, IsEndOf, AreOf, first_lane, lane_for, held_of, pair_in};
-    ghost use Rattle.event_ports.specs.Handed.{IsReadable, lanes_place, flow_count, links_of, seen_own, hand_of, news_of, releases_of, CountsOne, CountsNone, IsFilled, RefusesOldest};
-    ghost use Rattle.lane_rings.specs.Ends.{received_by, answered, held_list};
+    ghost use Rattle.event_ports.specs.Lanes.{Rests, Submits, SubmitsTo, Arrives, ArrivesFrom, HasRoomFor, IsEmptyHand, IsEndOf, AreOf, first_lane, lane_for, held_of, holding_of, pair_in};
+    ghost use Rattle.event_ports.specs.Handed.{IsReadable, lanes_place, flow_count, links_of, seen_own, hand_of, news_of, releases_of, CountsOne, CountsNone, IsFilled, RefusesOldest, AllShown, OwnFirst};
+    ghost use Rattle.lane_rings.specs.Ends.{received_by, answered, hidden_answers, held_list};
     ghost use Rattle.evt_types.specs.declared.event.Op.{Op};
     ghost use Rattle.flow_claims.specs.Claims.{seating, port_of, IsSeatOf};
     ghost use Rattle.flow_claims.specs.Laws.{IsUnused};
     ghost use Rattle.flow_claims.specs.Seats.{HoldsNone};
-    ghost use Rattle.event_ports.specs.Holds.{AreEmpty, AreLinked};
+    ghost use Rattle.event_ports.specs.Holds.{AreEmpty, AreLinked, NoneHidden};
     ghost use Rattle.event_ports.specs.Flows.{flow_place};
     ghost use Rattle.event_ports.specs.declared.lane.Lane.TheVariants as lanes;
 
     /// The lanes of a port that received and answered nothing, and whose order has the room of its own lane's depth.
     pub(crate) fn new(own: Far, flows: FlowLanes, order: HeapCircularBuffer<Holding>) -> Lanes
         requires own { IsUnused own }
-        requires flows { AreEmpty (hands_of flows) }
+        requires flows { AreEmpty (hands_of flows) × NoneHidden (hands_of flows) }
         requires order { (order.items ≡ []) × (order.capacity ≡ (far_id own).depth) × (order.capacity ≤ 64) }
         ensures place { lanes_place result ≡ record { own = far_id own; flows = flow_place flows; depth = order.capacity } }
         ensures empty { IsEmptyHand (hand_of result) }
         ensures none { (news_of result ≡ 0) × (releases_of result ≡ 0) }
+        ensures shown { AllShown result }
     {
         Lanes { own, flows, order }
     }
@@ -71,7 +72,7 @@ impl Lanes {
         ensures counts { MatchResult result (λ _. CountsOne reply self.old self.new) (λ _. CountsNone self.old self.new) }
         ensures refused { IfErr result (λ e. (e ≡ AnswerFault.Full reply) × IsFilled self.new (Some lanes.Own)) }
     {
-        self.own.answer(reply)
+        self.own.stage(reply)
     }
 
     /// Answers the oldest delivery that is held, to the lane from which it came. The scheduler sees it after the next `flush`.
@@ -100,7 +101,7 @@ impl Lanes {
         ensures counts { MatchResult result (λ _. CountsOne reply self.old self.new) (λ _. CountsNone self.old self.new) }
         ensures refused { IfErr result (RefusesOldest self.new reply) }
     {
-        match self.own.answer(reply) {
+        match self.own.stage(reply) {
             Ok(()) => {
                 self.order.pop_front();
                 Ok(())
@@ -127,41 +128,6 @@ impl Lanes {
         }
     }
 
-    /// Receives from one lane: the port's own, or a flow lane to which it is linked, of which it holds what it receives.
-    fn receive(&mut self, lane: Lane) -> Option<Delivery>
-        requires readable { IsReadable (lanes_place self.old) lane }
-        requires room { length (hand_of self.old).holding < (lanes_place self.old).depth }
-        ensures place { lanes_place self.new ≡ lanes_place self.old }
-        ensures counts { CountsNone self.old self.new }
-        ensures lists { MatchOption result (Rests (hand_of self.old) (hand_of self.new)) (λ d. Takes lane d (hand_of self.old) (hand_of self.new)) }
-        ensures drained { lane ≡ lanes.Own → IfNone result (seen_own self.new ≡ []) }
-        ensures others { lane ≢ lanes.Own → seen_own self.new ≡ seen_own self.old }
-    {
-        match lane {
-            Lane::Own => self.receive_own(),
-            Lane::Flow(lane) => self.receive_flow(lane),
-        }
-    }
-
-    // Receives from the lane until `most` deliveries came in all, or none is there.
-    fn receive_some(&mut self, lane: Lane, most: usize, deliveries: &mut ArrayVec<Delivery, 64>)
-        requires readable { IsReadable (lanes_place self.old) lane }
-        requires room { HasRoomFor most (lanes_place self.old).depth (hand_of self.old).holding deliveries.old.items }
-        ensures place { lanes_place self.new ≡ lanes_place self.old }
-        ensures counts { CountsNone self.old self.new }
-        ensures arrived { ArrivesFrom (lane ∷ []) (hand_of self.old) (hand_of self.new) deliveries.old.items deliveries.new.items }
-        ensures room { HasRoomFor most (lanes_place self.new).depth (hand_of self.new).holding deliveries.new.items }
-        ensures drained { lane ≡ lanes.Own → length deliveries.new.items < most → seen_own self.new ≡ [] }
-        ensures others { lane ≢ lanes.Own → seen_own self.new ≡ seen_own self.old }
-    {
-        for _ in deliveries.len()..most {
-            let Some(delivery) = self.receive(lane) else {
-                break;
-            };
-            deliveries.push(delivery);
-        }
-    }
-
     /// Receives at most `max` deliveries, and no more than may be held: from the own lane first, then from the linked flow lanes
     /// in their order, of which each that isn't held is claimed by one try.
     pub(crate) fn receive_all(&mut self, max: usize, into: &mut ArrayVec<Delivery, 64>)
@@ -171,12 +137,14 @@ impl Lanes {
         ensures arrived { Arrives (links_of self.old) (hand_of self.old) (hand_of self.new) [] into.new.items }
         ensures few { (length into.new.items ≤ max) × (length (hand_of self.new).holding ≤ (lanes_place self.new).depth) }
         ensures drained { length into.new.items < max → length (hand_of self.new).holding < (lanes_place self.new).depth → seen_own self.new ≡ [] }
+        ensures own_first { OwnFirst self.old self.new into.new.items }
+        ensures shown { AllShown self.old → AllShown self.new }
     {
         let most = max.min(self.order.capacity() - self.order.len());
-        self.receive_some(Lane::Own, most, into);
+        self.receive_own(most, into);
         for place in 0..self.flows.link_count() {
-            let lane = Lane::Flow(self.flows.link(place));
-            self.receive_some(lane, most, into);
+            let lane = self.flows.link(place);
+            self.receive_flow(lane, most, into);
         }
     }
 
@@ -185,13 +153,16 @@ impl Lanes {
         ensures place { lanes_place self.new ≡ lanes_place self.old }
         ensures hand { hand_of self.new ≡ hand_of self.old }
         ensures filled { (o : Op) → IsFilled self.old (lane_for o (hand_of self.old).holding) → IsFilled self.new (lane_for o (hand_of self.new).holding) }
+        ensures shown { AllShown self.new }
     {
-        self.own.answer_all();
+        self.own.flush();
         self.flows.flush();
     }
 
     /// The own end, the port's claim seat once all its flow lanes were surrendered, and what is held.
     pub(crate) fn into_parts(self) -> (Far, ClaimSeat, HeapCircularBuffer<Holding>)
+        requires { AllShown self }
+        ensures shown { hidden_answers result.0 ≡ [] }
         ensures own { (far_id result.0 ≡ (lanes_place self).own) × (received_by result.0 ≡ (hand_of self).got lanes.Own) × (answered result.0 ≡ (hand_of self).said lanes.Own) }
         ensures seat { IsSeatOf (lanes_place self).flows.claims result.1 × (port_of result.1 ≡ (lanes_place self).flows.port) }
         ensures parts { (seating result.1).parts ≡ (lanes_place self).flows.parts }
@@ -207,41 +178,62 @@ impl Lanes {
         (own, flows.into_seat(), order)
     }
 
-    fn receive_own(&mut self) -> Option<Delivery>
-        requires { length (hand_of self.old).holding < (lanes_place self.old).depth }
+    // Receives from the port's own lane until `most` deliveries came in all, or none is seen.
+    fn receive_own(&mut self, most: usize, into: &mut ArrayVec<Delivery, 64>)
+        requires room { HasRoomFor most (lanes_place self.old).depth (hand_of self.old).holding into.old.items }
         ensures place { lanes_place self.new ≡ lanes_place self.old }
         ensures counts { CountsNone self.old self.new }
-        ensures lists { MatchOption result (Rests (hand_of self.old) (hand_of self.new)) (λ d. Takes lanes.Own d (hand_of self.old) (hand_of self.new)) }
-        ensures drained { IfNone result (seen_own self.new ≡ []) }
+        ensures arrived { ArrivesFrom (lanes.Own ∷ []) (hand_of self.old) (hand_of self.new) into.old.items into.new.items }
+        ensures room { HasRoomFor most (lanes_place self.new).depth (hand_of self.new).holding into.new.items }
+        ensures drained { length into.new.items < most → seen_own self.new ≡ [] }
+        ensures shown { AllShown self.old → AllShown self.new }
     {
-        let Some(delivery) = self.own.receive() else {
-            return None;
-        };
-        let Ok(()) = self.order.try_push_back(noted(Lane::Own, &delivery)) else {
-            unreachable!()
-        };
-        Some(delivery)
+        let from = into.len();
+        self.own.receive_some(most, into);
+        note(&mut self.order, Lane::Own, from, into);
     }
 
-    fn receive_flow(&mut self, lane: usize) -> Option<Delivery>
+    // Receives from a flow lane to which the port is linked, until `most` deliveries came in all, or none is seen. The lane is held by
+    // one try, where it isn't held already, and is given back where nothing of it is unanswered.
+    fn receive_flow(&mut self, lane: usize, most: usize, into: &mut ArrayVec<Delivery, 64>)
         requires readable { IsReadable (lanes_place self.old) (lanes.Flow lane) }
-        requires room { length (hand_of self.old).holding < (lanes_place self.old).depth }
+        requires room { HasRoomFor most (lanes_place self.old).depth (hand_of self.old).holding into.old.items }
         ensures place { lanes_place self.new ≡ lanes_place self.old }
         ensures counts { CountsNone self.old self.new }
-        ensures lists { MatchOption result (Rests (hand_of self.old) (hand_of self.new)) (λ d. Takes (lanes.Flow lane) d (hand_of self.old) (hand_of self.new)) }
+        ensures arrived { ArrivesFrom (lanes.Flow lane ∷ []) (hand_of self.old) (hand_of self.new) into.old.items into.new.items }
+        ensures room { HasRoomFor most (lanes_place self.new).depth (hand_of self.new).holding into.new.items }
+        ensures none { length into.old.items ≡ most → into.new.items ≡ into.old.items }
         ensures others { seen_own self.new ≡ seen_own self.old }
+        ensures shown { AllShown self.old → AllShown self.new }
     {
-        if !self.flows.hold(lane) {
-            return None;
+        if into.len() >= most {
+            return;
         }
-        let Some(delivery) = self.flows.receive(lane) else {
-            self.flows.leave(lane);
-            return None;
-        };
-        let Ok(()) = self.order.try_push_back(noted(Lane::Flow(lane), &delivery)) else {
+        if !self.flows.hold(lane) {
+            return;
+        }
+        let from = into.len();
+        self.flows.receive_some(lane, most, into);
+        note(&mut self.order, Lane::Flow(lane), from, into);
+        self.flows.leave(lane);
+    }
+}
+
+// Notes the deliveries from this place on, which came from the lane, as held.
+fn note(
+    order: &mut HeapCircularBuffer<Holding>,
+    lane: Lane,
+    from: usize,
+    deliveries: &ArrayVec<Delivery, 64>,
+)
+    requires { length order.old.items + length (drop from deliveries.now.items) ≤ order.old.capacity }
+    ensures noted { order.new.items ≡ order.old.items ++ map (holding_of lane) (drop from deliveries.now.items) }
+    ensures room { order.new.capacity ≡ order.old.capacity }
+{
+    for place in from..deliveries.len() {
+        let Ok(()) = order.try_push_back(noted(lane, &deliveries[place])) else {
             unreachable!()
         };
-        Some(delivery)
     }
 }
 

@@ -3,6 +3,7 @@
 #![tactic(auto)]
 
 mod dequeue;
+mod desk;
 mod fill;
 mod flows;
 mod joined;
@@ -10,11 +11,13 @@ mod lane;
 mod lanes;
 mod parts;
 mod port;
+mod rest;
 mod stop;
 
 pub use event_answers::{Behind, Refused};
-pub use joined::{Rest, join_port, join_ports};
+pub use joined::{join_port, join_ports};
 pub use lane::{Holding, Lane};
-pub use parts::{Left, Memory, Parts};
+pub use parts::{Memory, Parts};
 pub use port::Port;
+pub use rest::{Left, Rest};
 pub use stop::{flow_lanes_at_stop, ports_at_stop};

@@ -17,10 +17,11 @@ ghost use Rattle.event_ports.specs.Ports.{place_of, account_of, pocket_of, hand,
 ghost use Rattle.event_ports.specs.Stop.{IsCounted};
 ghost use Rattle.event_ports.specs.Parts.{FitTogether, AreFresh, place_by};
 
+use crate::desk::Desk;
 use crate::flows::{FlowLanes, free_places};
-use crate::lane::Holding;
 use crate::lanes::Lanes;
 use crate::port::Port;
+use crate::rest::Left;
 use circular_buffer::HeapCircularBuffer;
 use credit_pool::{CreditSeat, Credits};
 use flow_claims::{ClaimSeat, Claims};
@@ -53,18 +54,6 @@ pub struct Parts {
     /// How many credits are drawn at a time, and up to how many may be in use then.
     pub quantum: u64,
     pub threshold: u64,
-}
-
-/// What is left of a port once all its flow lanes were surrendered.
-#[derive(Drop)]
-pub struct Left {
-    pub credit: CreditSeat,
-    pub claim: ClaimSeat,
-    /// The end of the own lane.
-    pub own: Far,
-    /// What is held, in the order of the dequeues.
-    pub held: HeapCircularBuffer<Holding>,
-    pub pocket: u64,
 }
 
 impl Port {
@@ -100,7 +89,7 @@ impl Port {
         } = parts;
         let flows = FlowLanes::new(claims, claim, stints, links);
         let lanes = Lanes::new(own, flows, order);
-        Ok(Port {
+        let desk = Desk {
             pool,
             seat: credit,
             lanes,
@@ -110,7 +99,8 @@ impl Port {
             quantum,
             threshold,
             pocket: 0,
-        })
+        };
+        Ok(Port { desk })
     }
 
     /// Takes the port apart. Each flow lane that it holds is surrendered: no claim gets it any more.
@@ -129,12 +119,13 @@ impl Port {
         ensures ordered { map pair_in (held_of lanes.Own (hand self).holding) ≡ held_list result.own }
         ensures paid { (result.pocket ≡ pocket_of self) × IsPocket result.pocket ((account_of self).drawn + releases_by self) ((account_of self).returned + news_by self) }
     {
-        let Port {
+        let Port { desk } = self;
+        let Desk {
             seat,
             lanes,
             pocket,
             ..
-        } = self;
+        } = desk;
         let (own, claim, held) = lanes.into_parts();
         Left {
             credit: seat,

@@ -1,56 +1,40 @@
 //! The port.
 
-ghost use Rattle.std.specs.Prelude.{◌≡◌, ◌+◌, ◌<◌, ◌≤◌, false};
-ghost use Rattle.std.specs.Arc.{arc_value};
-ghost use Rattle.credit_pool.specs.Pool.{account, limit_of, IsSeatOf};
-ghost use Rattle.event_ports.specs.Handed.{lanes_place, news_of, releases_of};
-ghost use Rattle.credit_pool.specs.Pockets.{IsPocket};
+ghost use Rattle.std.specs.Prelude.{◌≡◌, ℕ, [], false};
+ghost use Rattle.event_ports.specs.declared.lane.Lane.TheVariants.{Flow};
+ghost use Rattle.event_ports.specs.Desks.{hand as hand_at, holds_flow};
+ghost use Rattle.event_ports.specs.Handed.{AllShown};
+ghost use Rattle.event_ports.specs.Lanes.{held_of};
 
-use crate::fill::fill;
-use crate::lanes::Lanes;
+use crate::desk::Desk;
 use arrayvec::ArrayVec;
-use credit_pool::{CreditSeat, Credits, Draw, Give};
 use event_answers::{Behind, Refused};
-use evt_types::{Delivery, Event, Op, Reply};
-use lane_rings::AnswerFault;
-use std::alloc::Global;
-use std::sync::Arc;
+use evt_types::{Delivery, Event};
 
-/// A port of a device: the way of one thread into it and out of it.
+/// A port of a device: the way of one thread into it and out of it. Between two of its calls all that it enqueued is in the reply
+/// rings, where the scheduler sees it, and it holds just those flow lanes of which it holds something.
 #[derive(Drop)]
 pub struct Port {
-    pub(crate) pool: Arc<Credits, Global>,
-    pub(crate) seat: CreditSeat,
-    pub(crate) lanes: Lanes,
-    pub(crate) number: usize,
-    pub(crate) queues: usize,
-    pub(crate) implicit: bool,
-    pub(crate) quantum: u64,
-    pub(crate) threshold: u64,
-    pub(crate) pocket: u64,
-    ghost seat_of: { IsSeatOf (arc_value pool) seat },
-    ghost unset: { (account seat).set_shut ≡ false },
-    ghost quantum_fits: { (0 < quantum) × (quantum ≤ threshold) × (threshold ≤ limit_of (arc_value pool)) },
-    ghost numbered: { (lanes_place lanes).flows.port ≡ number },
-    ghost paid: { IsPocket pocket ((account seat).drawn + releases_of lanes) ((account seat).returned + news_of lanes) },
+    pub(crate) desk: Desk,
+    pub ghost shown: { AllShown desk.lanes },
+    pub ghost idle: { (j : ℕ) → held_of (Flow j) (hand_at desk).holding ≡ [] → holds_flow desk j ≡ false },
 }
 
 impl Port {
-    ghost use Rattle.std.specs.Prelude.{◌≡◌, ◌≢◌, ◌+◌, ◌%◌, ◌^◌, ◌<◌, ◌≤◌, ◌↔◌, [], length, IsTrue, IsFalse, IfOk, IfErr, OnOk, MatchResult};
-    ghost use Rattle.evt_types.specs.declared.event.Op.{Op as Operation};
+    ghost use Rattle.std.specs.Prelude.{◌≡◌, ◌≢◌, ◌+◌, ◌%◌, ◌^◌, ◌<◌, ◌≤◌, ◌↔◌, [], length, take, IsTrue, IsFalse, IsErr, IsNone, IfSome, IfOk, IfErr, OnOk, MatchResult};
     ghost use Rattle.evt_types.specs.declared.event.Op.TheVariants as ops;
     ghost use Rattle.credit_pool.specs.Accounts.{IsOpen, Stays};
     ghost use Rattle.event_answers.specs.declared.answer.Refused.TheVariants as refusals;
-    ghost use Rattle.event_ports.specs.Lanes.{Rests, Releases, Dequeues, Arrives, Submits, SubmitsTo, lane_for, reply_of, release_reply};
+    ghost use Rattle.event_ports.specs.Lanes.{Rests, Releases, Dequeues, SubmitsTo, SubmitsAll, lane_for, reply_of};
     ghost use Rattle.event_ports.specs.declared.lane.Lane.TheVariants as lanes;
-    ghost use Rattle.event_ports.specs.Draws.{Settles};
-    ghost use Rattle.event_ports.specs.Ports.{place_of, account_of, pocket_of, hand, links, was_filled, SameCredits, Stocks, Pays, Refuses, released_first};
+    ghost use Rattle.event_ports.specs.Draws.{HasLooked, Settles};
+    ghost use Rattle.event_ports.specs.Ports.{place_of, account_of, pocket_of, hand, seen_by, links, was_filled, SameCredits, Pays, Refuses, released_first, Bursts, StopsAt};
 
     /// The port's number in the device, from 0.
     pub fn number(&self) -> usize
         ensures { result ≡ (place_of self.now).number }
     {
-        self.number
+        self.desk.number
     }
 
     /// How many deliveries were received and not answered.
@@ -58,7 +42,7 @@ impl Port {
         ensures value { result ≡ length (hand self.now).holding }
         ensures within { result ≤ (place_of self.now).lanes.depth }
     {
-        self.lanes.held()
+        self.desk.lanes.held()
     }
 
     /// Whether the device is shut, by one look at the credits. Once it was seen, every NEW is refused.
@@ -68,9 +52,9 @@ impl Port {
         ensures same { Rests (hand self.old) (hand self.new) × SameCredits self.old self.new }
         ensures seen { IsTrue result ↔ IsTrue (account_of self.new).saw_shut }
         ensures read { IsFalse result → IsOpen (account_of self.new).last }
+        ensures looked { HasLooked (account_of self.old) (account_of self.new) }
     {
-        let (_, shut) = self.pool.look(&mut self.seat);
-        shut
+        self.desk.shut_seen()
     }
 
     /// Enqueues an event: a NEW to the port's own lane, for one credit; a FORWARD or RELEASE as the answer to the oldest delivery
@@ -83,149 +67,76 @@ impl Port {
         ensures refused { IfErr result (λ e. Refuses self.old event e self.new) }
         ensures stopped { IsTrue (account_of self.old).saw_shut → event.op ≡ ops.New → result ≡ Err refusals.Stopped }
     {
-        let answer = self.submit(event);
-        self.flush();
+        let answer = self.desk.submit(event);
+        self.desk.flush();
         answer
     }
 
-    // Enqueues an event, which the scheduler sees after the next `flush`.
-    pub(crate) fn submit(&mut self, event: Event) -> Result<(), Refused>
+    /// Receives at most `max` deliveries, and no more than may be held: from the own lane until nothing is seen in its ring, and then
+    /// from the linked flow lanes, of which one that isn't held is claimed by one try, and goes back where nothing came. With implicit
+    /// release all that is held is released first, oldest first; where a reply ring has no room for all of it, nothing is received and
+    /// the rest stays held.
+    pub fn dequeue(&mut self, max: usize) -> Result<ArrayVec<Delivery, 64>, Behind>
         ensures place { place_of self.new ≡ place_of self.old }
         ensures credit { Stays (account_of self.old) (account_of self.new) }
-        ensures submitted { MatchResult result (λ _. SubmitsTo (lane_for event.op (hand self.old).holding) (reply_of event) (hand self.old) (hand self.new)) (λ _. Rests (hand self.old) (hand self.new)) }
-        ensures pays { OnOk result (Pays event.op self.old self.new) }
-        ensures refused { IfErr result (λ e. Refuses self.old event e self.new) }
-        ensures stopped { IsTrue (account_of self.old).saw_shut → event.op ≡ ops.New → result ≡ Err refusals.Stopped }
+        ensures ok { IfOk result (λ v. Dequeues (links self.old) (released_first self.old) (hand self.old) (hand self.new) v.items) }
+        ensures few { IfOk result (λ v. (length v.items ≤ max) × (length (hand self.new).holding ≤ (place_of self.old).lanes.depth)) }
+        ensures drained { IfOk result (λ v. length v.items < max → length (hand self.new).holding < (place_of self.old).lanes.depth → seen_by self.new ≡ []) }
+        ensures own_first { IfOk result (λ v. length ((hand self.new).got lanes.Own) ≢ length ((hand self.old).got lanes.Own) + length v.items → seen_by self.new ≡ []) }
+        ensures behind { IfErr result (λ b. IsTrue (place_of self.old).implicit × (b.released < length (hand self.old).holding) × Releases b.released (hand self.old) (hand self.new) × was_filled self.new ops.Release) }
+        ensures settled { MatchResult result
+            (λ _. Settles (place_of self.old).quantum ((pocket_of self.old + released_first self.old) % 2 ^ 64) (account_of self.old) (pocket_of self.new) (account_of self.new))
+            (λ b. Settles (place_of self.old).quantum ((pocket_of self.old + b.released) % 2 ^ 64) (account_of self.old) (pocket_of self.new) (account_of self.new)) }
     {
-        match event.op {
-            Op::New => self.enqueue_new(event),
-            Op::Forward => self.enqueue_forward(event),
-            Op::Release => self.enqueue_release(event),
+        let mut deliveries = ArrayVec::new();
+        match self.dequeue_burst(max, &mut deliveries) {
+            Ok(_) => Ok(deliveries),
+            Err(behind) => Err(behind),
         }
     }
 
-    // Makes all that was enqueued visible to the scheduler.
-    pub(crate) fn flush(&mut self)
-        ensures place { place_of self.new ≡ place_of self.old }
-        ensures credit { (account_of self.new ≡ account_of self.old) × (pocket_of self.new ≡ pocket_of self.old) }
-        ensures hand { hand self.new ≡ hand self.old }
-        ensures filled { (o : Operation) → was_filled self.old o → was_filled self.new o }
-    {
-        self.lanes.flush();
-    }
-
-    fn enqueue_new(&mut self, event: Event) -> Result<(), Refused>
-        requires { event.op ≡ ops.New }
-        ensures place { place_of self.new ≡ place_of self.old }
-        ensures credit { Stays (account_of self.old) (account_of self.new) }
-        ensures submitted { MatchResult result (λ _. Submits lanes.Own (reply_of event) (hand self.old) (hand self.new)) (λ _. Rests (hand self.old) (hand self.new)) }
-        ensures pays { OnOk result (Pays event.op self.old self.new) }
-        ensures refused { IfErr result (λ e. Refuses self.old event e self.new) }
-        ensures stopped { IsTrue (account_of self.old).saw_shut → result ≡ Err refusals.Stopped }
-    {
-        if self.shut_seen() {
-            return Err(Refused::Stopped);
-        }
-        if usize::from(event.queue) >= self.queues {
-            return Err(Refused::BadQueue);
-        }
-        match self.stock() {
-            Ok(()) => self.spend(event),
-            Err(refused) => Err(refused),
-        }
-    }
-
-    // Draws a quantum where the pocket is empty.
-    fn stock(&mut self) -> Result<(), Refused>
+    /// Dequeues into an array of the caller's, which is emptied first, and so spares the copies of a whole array: how many came.
+    /// After `Behind` the array is empty.
+    pub fn dequeue_burst(
+        &mut self,
+        max: usize,
+        into: &mut ArrayVec<Delivery, 64>,
+    ) -> Result<usize, Behind>
         ensures place { place_of self.new ≡ place_of self.old }
         ensures credit { Stays (account_of self.old) (account_of self.new) }
-        ensures same { Rests (hand self.old) (hand self.new) }
-        ensures stocked { OnOk result (Stocks self.old (pocket_of self.new) self.new × (0 < pocket_of self.new)) }
-        ensures refused { IfErr result (λ e. (event : Event) → event.op ≡ ops.New → event.queue < (place_of self.old).queues → Refuses self.old event e self.new) }
+        ensures ok { OnOk result (Dequeues (links self.old) (released_first self.old) (hand self.old) (hand self.new) into.new.items) }
+        ensures few { OnOk result ((length into.new.items ≤ max) × (length (hand self.new).holding ≤ (place_of self.old).lanes.depth)) }
+        ensures drained { OnOk result (length into.new.items < max → length (hand self.new).holding < (place_of self.old).lanes.depth → seen_by self.new ≡ []) }
+        ensures own_first { OnOk result (length ((hand self.new).got lanes.Own) ≢ length ((hand self.old).got lanes.Own) + length into.new.items → seen_by self.new ≡ []) }
+        ensures count { IfOk result (λ n. n ≡ length into.new.items) }
+        ensures none { IsErr result → into.new.items ≡ [] }
+        ensures behind { IfErr result (λ b. IsTrue (place_of self.old).implicit × (b.released < length (hand self.old).holding) × Releases b.released (hand self.old) (hand self.new) × was_filled self.new ops.Release) }
+        ensures settled { MatchResult result
+            (λ _. Settles (place_of self.old).quantum ((pocket_of self.old + released_first self.old) % 2 ^ 64) (account_of self.old) (pocket_of self.new) (account_of self.new))
+            (λ b. Settles (place_of self.old).quantum ((pocket_of self.old + b.released) % 2 ^ 64) (account_of self.old) (pocket_of self.new) (account_of self.new)) }
     {
-        if self.pocket > 0 {
-            return Ok(());
-        }
-        match fill(&self.pool, &mut self.seat, self.quantum, self.threshold) {
-            Draw::Drawn => {
-                self.pocket = self.quantum;
-                Ok(())
-            }
-            Draw::Shut => Err(Refused::Stopped),
-            Draw::Short { free } => Err(Refused::Backpressure { free }),
-            Draw::Raced { first, second } => Err(Refused::Raced { first, second }),
+        into.clear();
+        let answer = self.desk.exchange(max, into);
+        self.desk.settle();
+        match answer {
+            Ok(()) => Ok(into.len()),
+            Err(behind) => Err(behind),
         }
     }
 
-    // Submits a NEW for a credit of the pocket.
-    fn spend(&mut self, event: Event) -> Result<(), Refused>
-        requires new { event.op ≡ ops.New }
-        requires pocket { 0 < pocket_of self.old }
-        ensures place { place_of self.new ≡ place_of self.old }
-        ensures credit { account_of self.new ≡ account_of self.old }
-        ensures submitted { MatchResult result (λ _. Submits lanes.Own (reply_of event) (hand self.old) (hand self.new)) (λ _. Rests (hand self.old) (hand self.new)) }
-        ensures pays { OnOk result (pocket_of self.new + 1 ≡ pocket_of self.old) }
-        ensures refused { IfErr result (λ e. (e ≡ refusals.Full) × was_filled self.new event.op × (pocket_of self.new ≡ pocket_of self.old)) }
-    {
-        match self.lanes.submit(Reply { event }) {
-            Ok(()) => {
-                self.pocket -= 1;
-                Ok(())
-            }
-            Err(_) => Err(Refused::Full),
-        }
-    }
-
-    fn enqueue_forward(&mut self, event: Event) -> Result<(), Refused>
-        requires { event.op ≡ ops.Forward }
+    /// Enqueues the events one after the other, each as `enqueue` does, up to the first that is refused: how many were taken, and why
+    /// the next one wasn't. What goes to one lane in a row goes into its ring by one store.
+    pub fn enqueue_burst(&mut self, events: &[Event]) -> (usize, Option<Refused>)
         ensures place { place_of self.new ≡ place_of self.old }
         ensures credit { Stays (account_of self.old) (account_of self.new) }
-        ensures submitted { MatchResult result (λ _. SubmitsTo (lane_for event.op (hand self.old).holding) (reply_of event) (hand self.old) (hand self.new)) (λ _. Rests (hand self.old) (hand self.new)) }
-        ensures pays { OnOk result (Pays event.op self.old self.new) }
-        ensures refused { IfErr result (λ e. Refuses self.old event e self.new) }
+        ensures count { result.0 ≤ length events.now }
+        ensures all { IsNone result.1 ↔ (result.0 ≡ length events.now) }
+        ensures submitted { SubmitsAll (take result.0 events.now) (hand self.old) (hand self.new) }
+        ensures refused { IfSome result.1 (λ e. StopsAt self.old events.now result.0 e self.new) }
+        ensures singly { Bursts self.old events.now result.0 result.1 self.new }
     {
-        if usize::from(event.queue) >= self.queues {
-            return Err(Refused::BadQueue);
-        }
-        match self.lanes.answer(Reply { event }) {
-            Ok(()) => Ok(()),
-            Err(AnswerFault::NothingHeld) => Err(Refused::NothingHeld),
-            Err(AnswerFault::Full(_)) => Err(Refused::Full),
-        }
-    }
-
-    fn enqueue_release(&mut self, event: Event) -> Result<(), Refused>
-        requires { event.op ≡ ops.Release }
-        ensures place { place_of self.new ≡ place_of self.old }
-        ensures credit { Stays (account_of self.old) (account_of self.new) }
-        ensures submitted { MatchResult result (λ _. SubmitsTo (lane_for event.op (hand self.old).holding) (reply_of event) (hand self.old) (hand self.new)) (λ _. Rests (hand self.old) (hand self.new)) }
-        ensures pays { OnOk result (Pays event.op self.old self.new) }
-        ensures refused { IfErr result (λ e. Refuses self.old event e self.new) }
-    {
-        match self.lanes.answer(Reply { event }) {
-            Ok(()) => {
-                self.pocket = self.pocket.wrapping_add(1);
-                self.settle();
-                Ok(())
-            }
-            Err(AnswerFault::NothingHeld) => Err(Refused::NothingHeld),
-            Err(AnswerFault::Full(_)) => Err(Refused::Full),
-        }
-    }
-
-    // The return rule: of two quanta or more in the pocket, all but one are given back, by one try.
-    pub(crate) fn settle(&mut self)
-        ensures place { place_of self.new ≡ place_of self.old }
-        ensures credit { Stays (account_of self.old) (account_of self.new) }
-        ensures lanes { self.new.lanes ≡ self.old.lanes }
-        ensures settled { Settles (place_of self.old).quantum (pocket_of self.old) (account_of self.old) (pocket_of self.new) (account_of self.new) }
-    {
-        if self.pocket / 2 < self.quantum {
-            return;
-        }
-        let rest = self.pocket - self.quantum;
-        if self.pool.give(&mut self.seat, rest) == Give::Given {
-            self.pocket = self.quantum;
-        }
+        let answer = self.desk.submit_burst(events);
+        self.desk.flush();
+        answer
     }
 }

@@ -26,14 +26,14 @@ pub fn flow_lanes_at_stop()
     ensures joined { (P : Reply → Bool) (n : ℕ) (xs ys : List Past) → counted_past P n (xs ++ ys) ≡ counted_past P n xs + counted_past P n ys }
     ensures counted { (P : Reply → Bool) (n : ℕ) (lanes : List Far) (finished : List Past) (ends : ℕ → Far) → AreEnds lanes finished n ends
         → counted_past P n finished ≡ sum_by (λ j. count_by P (answered (ends j))) (range_with_len 0 n) }
-    ensures shared { (linked : ℕ → ℕ → Bool) (lanes : List Far) (finished : List Past) (lane : ℕ) (far : Far) → AreLinkedBy linked finished → IsEnd lanes finished lane far → IsShared linked lane far }
+    ensures shared { (linked : ℕ → ℕ → Bool) (lanes : List Far) (finished : List Past) (lane : ℕ) (far : Far) → AreLinkedBy linked finished → IsEnd lanes finished lane far → IsShared linked finished lane far }
 {}
 
 /// Laws of the ports once their seats are one, which had no stint of its own; the function does nothing. What the finished stints of a
 /// lane left unanswered is what is unanswered at its end. All that the ports held of flow lanes is unanswered at the lanes' ends, and
 /// all that they answered to them was answered there, with no NEW.
 pub fn ports_at_stop()
-    ensures held { (lanes : List Far) (finished : List Past) (lane : ℕ) (far : Far) → IsEnd lanes finished lane far → length (left_past lane finished) ≡ length (unanswered far) }
+    ensures held { (lanes : List Far) (finished : List Past) (lane : ℕ) (far : Far) → IsEnd lanes finished lane far → left_past lane finished ≡ unanswered far }
     ensures all_held { (pool : Credits) (claims : Claims) (credit : CreditSeat) (claim : ClaimSeat) (ports : List Port) (credits_after : CreditSeat) (claims_after : ClaimSeat) (ends : ℕ → Far)
         → IsJoined pool claims credit claim ports credits_after claims_after → (seating claim).finished ≡ [] → All IsCounted ports → All (IsPortOf pool claims) ports
         → AreEnds (lanes_of claims) (seating claims_after).finished (length (lanes_of claims)) ends

@@ -8,6 +8,7 @@ use Rattle.lists.proofs.Lists.{slice_get-some}
 use Rattle.lists.proofs.Parts.{count_by-cons}
 use Rattle.lists.proofs.Sums.{sum_by_place}
 use Rattle.lists.specs.Lists.{has}
+use Rattle.evt_types.specs.Event.{pair_of}
 use Rattle.evt_types.specs.Operation.{is_new_reply}
 use Rattle.evt_types.specs.Plan.{Plan, flow_links}
 use Rattle.evt_types.specs.declared.event.Reply.{Reply}
@@ -25,7 +26,7 @@ use Rattle.event_ports.proofs.Stops.{shared}
 use Rattle.event_ports.specs.Lanes.{held_of}
 use Rattle.event_ports.specs.Ports.{hand}
 use Rattle.event_ports.specs.Stop.{AreEnds, AreLinkedBy, IsCounted, IsJoined, IsPortOf, LinksAgree, flows_in}
-use Rattle.event_ports.specs.declared.joined.Rest as left
+use Rattle.event_ports.specs.declared.rest.Rest as left
 use Rattle.event_ports.specs.declared.lane.Lane.TheVariants.{Own}
 use Rattle.event_ports.specs.declared.port.Port.{Port}
 use Rattle.report_lists.specs.Between.{rest_at, rest_between}
@@ -61,7 +62,7 @@ module _ (pool : Credits) (claims : Claims) (credit : CreditSeat) (claim : Claim
   -- each flow lane's lists are those of its stints, whose ports are linked to it, with no NEW among them
   pub stints_are :
       (p : Plan) (nears : List Near) (fars : List Far) (rests : List left.Rest) (n j : ℕ) → fars ≡ map (λ (r : left.Rest). r.own) rests ++ ends → length rests ≡ n → length fars ≡ length nears
-      → All (LinksAgree (λ port lane. has lane (flow_links p port))) sorted → j < length ends → AreStints p j (rest_at nears fars (n + j))
+      → All (LinksAgree (λ port lane. has lane (flow_links p port))) sorted → j < length ends → AreStints p j (seating claims_after).finished (rest_at nears fars (n + j))
   stints_are p nears fars rests n j are count same linked low =
       let linked_by : ℕ → ℕ → Bool = λ port lane. has lane (flow_links p port) in
       let at = slice_get-some ends j low in
@@ -71,7 +72,7 @@ module _ (pool : Credits) (claims : Claims) (credit : CreditSeat) (claim : Claim
       let rest : rest_at nears fars (n + j) ≡ rest_between near.0 far = rest_is nears fars (n + j) near.0 far near.1 at_far in
       let none : AreLinkedBy linked_by (seating claim).finished = subst (AreLinkedBy linked_by) (sym fresh) (λ k x lt. absurd (omega (arith, lt))) in
       let has_shared = shared linked_by (lanes_of claims) (seating claims_after).finished j far (is.linked linked_by linked none) (ended j far at.1) in
-      subst (AreStints p j) (sym rest)
+      subst (AreStints p j (seating claims_after).finished) (sym rest)
       (record {
         past = has_shared.past;
         recorded = has_shared.recorded;
@@ -79,6 +80,10 @@ module _ (pool : Credits) (claims : Claims) (credit : CreditSeat) (claim : Claim
         received = has_shared.received;
         answered_is = has_shared.answered_is;
         no_news = none_counted is_new_reply (answered far) (no_new_past fars rests n (n + j) far are count (omega arith) at_far);
+        in_record = has_shared.in_record;
+        among = has_shared.among;
+        once = has_shared.once;
+        held = ap (map pair_of) (sym has_shared.left);
       })
 
   -- all that the ports held, and all that they answered to flow lanes

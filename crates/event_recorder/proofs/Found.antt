@@ -8,7 +8,7 @@ use Rattle.lists.proofs.Lists.{slice_get-append_left, slice_get-some}
 use Rattle.lane_rings.specs.declared.far.Far.{Far}
 use Rattle.lane_rings.specs.declared.near.Near.{Near}
 use Rattle.event_ports.specs.Ports.{hand}
-use Rattle.event_ports.specs.declared.joined.Rest as left
+use Rattle.event_ports.specs.declared.rest.Rest as left
 use Rattle.event_ports.specs.declared.port.Port.{Port}
 use Rattle.report_lists.specs.Between.{rest_at, rest_between, rest_of}
 use Rattle.world_laws.specs.Rest.{Rest}

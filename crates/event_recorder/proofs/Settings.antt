@@ -14,7 +14,7 @@ use Rattle.lane_rings.specs.Identity.{far_id, near_id}
 use Rattle.lane_rings.specs.declared.far.Far.{Far}
 use Rattle.event_ports.specs.Ports.{hand, place_of}
 use Rattle.event_ports.specs.Stop.{AreLeft}
-use Rattle.event_ports.specs.declared.joined.Rest.{Rest}
+use Rattle.event_ports.specs.declared.rest.Rest.{Rest}
 use Rattle.event_ports.specs.declared.port.Port.{Port}
 use Rattle.event_scheduler.specs.Parts.{sight_in}
 use Rattle.event_scheduler.specs.Scheduler.{Sight}

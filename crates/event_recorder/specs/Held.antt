@@ -2,7 +2,7 @@
 use Rattle.std.specs.Prelude.{ℕ, List, map}
 use Rattle.event_answers.specs.declared.report.Held.{Held}
 use Rattle.event_ports.specs.Ports.{hand}
-use Rattle.event_ports.specs.declared.joined.Rest.{Rest}
+use Rattle.event_ports.specs.declared.rest.Rest.{Rest}
 use Rattle.event_ports.specs.declared.lane.Holding.{Holding}
 use Rattle.event_ports.specs.declared.port.Port.{Port}
 use Rattle.event_recorder.specs.Device.{number_of}

@@ -1,17 +1,21 @@
 -- What a stop takes, and the report that it gives.
-use Rattle.std.specs.Prelude.{ℕ, ◌≡◌, ◌+◌, ◌<◌, true, false, List, length, map, flat_map, take, All, sum}
+use Rattle.std.specs.Prelude.{ℕ, ◌≡◌, ◌+◌, ◌<◌, true, false, List, length, map, flat_map, take, slice_get, All, Contains, Some, sum, sum_by}
 use Rattle.evt_types.specs.Operation.{is_new_reply}
 use Rattle.evt_types.specs.Plan.{Plan, flow_lanes, flow_links}
 use Rattle.lists.specs.Lists.{has}
 use Rattle.event_answers.specs.declared.report.Report.{Report}
-use Rattle.event_ports.specs.Ports.{hand, pocket_of}
+use Rattle.evt_types.specs.Event.{pair_of}
+use Rattle.event_ports.specs.Holds.{left_past}
+use Rattle.event_ports.specs.Lanes.{held_of, pair_in}
+use Rattle.event_ports.specs.Ports.{account_of, hand, pocket_of}
+use Rattle.event_ports.specs.Stop.{AreStintsOf}
 use Rattle.event_ports.specs.declared.lane.Lane.TheVariants.{Own}
 use Rattle.event_ports.specs.declared.port.Port.{Port}
 use Rattle.event_scheduler.specs.Scheduler.{IsAccepted, offered_at, taken_at}
 use Rattle.evt_types.specs.declared.event.Reply.{Reply}
 use Rattle.evt_types.specs.declared.step.Step.{Step}
 use Rattle.flow_claims.specs.Lists.{no_lists}
-use Rattle.flow_claims.specs.Stints.{IsRecordFrom, answered_in_all, received_in_all}
+use Rattle.flow_claims.specs.Stints.{IsRecordFrom, answered_in_all, below, received_in_all, times}
 use Rattle.flow_claims.specs.declared.seating.Past.{Past}
 use Rattle.report_lists.specs.Listed.{kept_all, undelivered_all, untaken_all, waiting_pairs}
 use Rattle.transcripts.specs.Transcript.{has_shut, out}
@@ -37,25 +41,31 @@ pub record AreOf (r : Recorded) (control : Control) (ports : List Port) : Type 0
 
 -- ---- the lanes
 
--- What was received from a flow lane and answered to it is what its stints had, one after the other, each of a port that is linked to it;
--- no NEW went to it.
-pub record AreStints (p : Plan) (j : ℕ) (r : Rest) : Type 0 where
+-- What was received from a flow lane and answered to it is what its stints had, one after the other by number, each of a port that is
+-- linked to it; no NEW went to it. These are all of the ports' finished stints that are the lane's, each once and at its number, and what
+-- they left unanswered is what is still held.
+pub record AreStints (p : Plan) (j : ℕ) (finished : List Past) (r : Rest) : Type 0 where
   pub past : List Past
   pub recorded : IsRecordFrom j 0 no_lists past
   pub linked : All (λ x. has j (flow_links p x.port) ≡ true) past
   pub received : r.received ≡ received_in_all past
   pub answered_is : r.answered ≡ answered_in_all past
   pub no_news : All (λ (x : Reply). is_new_reply x ≡ false) r.answered
+  pub in_record : All (λ x. x.lane ≡ j → slice_get past x.number ≡ Some x) finished
+  pub among : All (Contains finished) past
+  pub once : (number : ℕ) → times j number finished ≡ below number (length past)
+  pub held : still_held r ≡ map pair_of (left_past j finished)
 
 -- Each lane has what the scheduler offered to it and took from it, each delivery with the accepted event of its number, and what its
--- holder received and answered: of a port's own lane the port, of a flow lane the ports that had it one after the other.
-pub record AreLanesOf (r : Recorded) (ports : List Port) (rest : ℕ → Rest) : Type 0 where
+-- holder received and answered and didn't answer: of a port's own lane the port, of a flow lane the ports that had it one after the other.
+pub record AreLanesOf (r : Recorded) (ports : List Port) (finished : List Past) (rest : ℕ → Rest) : Type 0 where
   pub offered : (l : ℕ) → (rest l).offered ≡ offered_at r.sight l
   pub taken : (l : ℕ) → (rest l).taken ≡ taken_at r.sight l
   pub events : (l : ℕ) → All (IsAccepted r.log) (rest l).offered
   pub received : All (λ p. (rest (number_of p)).received ≡ (hand p).got Own) ports
   pub answered_is : All (λ p. (rest (number_of p)).answered ≡ (hand p).said Own) ports
-  pub flows : (j : ℕ) → j < length (flow_lanes r.sight.core.shape) → AreStints r.sight.core.shape j (rest (length r.sight.core.shape.ports + j))
+  pub held : All (λ p. still_held (rest (number_of p)) ≡ map pair_in (held_of Own (hand p).holding)) ports
+  pub flows : (j : ℕ) → j < length (flow_lanes r.sight.core.shape) → AreStints r.sight.core.shape j finished (rest (length r.sight.core.shape.ports + j))
 
 -- ---- the law of the running world
 
@@ -83,16 +93,19 @@ abbrev pub entries_of : Report → ℕ
 entries_of x = length x.waiting.items + length x.kept.items + length x.undelivered.items + length x.held.items + length x.untaken.items
 
 -- The log is all that the sweeps logged, it is lawful, and it has Shut only where the control shut the device. The lists have what the
--- log and the lanes have left, and the free credits, those in the pockets and the entries of the lists are the limit.
+-- log and the lanes have left. The finished stints are the ports', one port's after the other's. The free credits are the limit and what was
+-- returned, without what was drawn, by all ports and the scheduler; and they, those in the pockets and the entries of the lists are the limit.
 pub record IsReport (r : Recorded) (control : Control) (ports : List Port) (report : Report) : Type 0 where
   pub log : report.log.items ≡ r.log
   pub shut : has_shut r.log ≡ true → was_shut control ≡ true
   pub rest : ℕ → Rest
   pub rests : AreRests r.sight.core.shape r.log rest
-  pub lanes : AreLanesOf r ports rest
-  pub world : IsWorldOf r.sight.core.shape r.log rest
   pub sorted : List Port
   pub by_number : AreByNumber (length r.sight.core.shape.ports) ports sorted
+  pub finished : List Past
+  pub stints : AreStintsOf sorted finished
+  pub lanes : AreLanesOf r ports finished rest
+  pub world : IsWorldOf r.sight.core.shape r.log rest
   pub waiting : report.waiting.items ≡ waiting_pairs r.sight.core.shape r.log
   pub kept : report.kept.items ≡ kept_all r.sight.core.shape r.log
   pub undelivered : report.undelivered.items ≡ undelivered_all r.sight.core.shape rest
@@ -100,4 +113,5 @@ pub record IsReport (r : Recorded) (control : Control) (ports : List Port) (repo
   pub untaken : report.untaken.items ≡ untaken_all r.sight.core.shape rest
   pub pockets : report.pockets.items ≡ map pocket_of sorted
   pub own : report.own ≡ r.sight.pocket
+  pub free : report.free + (r.sight.account.drawn + sum_by (λ p. (account_of p).drawn) sorted) ≡ r.sight.core.shape.limit + (r.sight.account.returned + sum_by (λ p. (account_of p).returned) sorted)
   pub sum_is : report.free + sum report.pockets.items + report.own + entries_of report ≡ r.sight.core.shape.limit

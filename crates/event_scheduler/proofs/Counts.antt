@@ -33,7 +33,7 @@ use Rattle.transcripts.specs.Transcript.{accepted, accepted_in, entries, has_shu
 pub count-append : {X : Type 0} (p : X → Bool) (xs ys : List X) → count_by p (xs ++ ys) ≡ count_by p xs + count_by p ys
 count-append p xs ys = sum_by-append (λ y. cond (p y) 1 0) xs ys
 
-count-none : {X : Type 0} (p : X → Bool) (xs : List X) → All (λ x. p x ≡ false) xs → count_by p xs ≡ 0
+pub count-none : {X : Type 0} (p : X → Bool) (xs : List X) → All (λ x. p x ≡ false) xs → count_by p xs ≡ 0
 count-none p xs none = sum_of_none (λ x. cond (p x) 1 0) xs (λ k d h. ap (λ b. cond b 1 0) (none k d h))
 
 -- ---- the steps of an answer

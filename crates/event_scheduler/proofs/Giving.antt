@@ -15,7 +15,7 @@ use Rattle.event_scheduler.specs.Scheduler.{IsAccepted, Sight, depth_at, depth_i
 use Rattle.evt_types.specs.Event.{pair_of}
 use Rattle.evt_types.specs.declared.step.Step.{Step}
 use Rattle.evt_types.specs.declared.step.Step.TheVariants.{Bounced, Give}
-use Rattle.lane_rings.specs.Ends.{offered, taken}
+use Rattle.lane_rings.specs.Ends.{offered, seen_replies, taken}
 use Rattle.lane_rings.specs.Identity.{near_id}
 use Rattle.lane_rings.specs.declared.near.Near.{Near}
 use Rattle.sched_core.specs.declared.offer.Offer.{Offer}
@@ -50,12 +50,12 @@ bounce_says_none l m = refl
 
 pub gave :
     (pool : Credits) (core later : View) (lanes : List Near) (v : Account) (p n : ℕ) (o : Offer) (near given : Near) (log longer : List Step)
-    → o.lane < length lanes → near ≡ get_or lanes o.lane near → near_id given ≡ near_id near → offered given ≡ offered near ++ o.delivery ∷ [] → taken given ≡ taken near
+    → o.lane < length lanes → near ≡ get_or lanes o.lane near → near_id given ≡ near_id near → offered given ≡ offered near ++ o.delivery ∷ [] → taken given ≡ taken near → seen_replies given ≡ seen_replies near
     → later ≡ after core (hand_step o true ∷ []) → later.shape ≡ core.shape → longer ≡ log ++ hand_step o true ∷ []
     → ((T : List Step) → Stands T core → Stands (T ++ hand_step o true ∷ []) later)
     → ((T : List Step) → Stands T core → event_at T o.delivery.queue o.delivery.number ≡ Some o.delivery.event)
     → Hands o true (sight pool core lanes v p n) log (sight pool later (set lanes o.lane given) v p n) longer
-gave pool core later lanes v p n o near given log longer within is id offers takings view shape logged stands event =
+gave pool core later lanes v p n o near given log longer within is id offers takings seens view shape logged stands event =
     record {
       runs = runs_by (hand_step o true ∷ []) s t log longer logged adds;
       core = view;
@@ -64,6 +64,7 @@ gave pool core later lanes v p n o near given log longer within is id offers tak
           (omega (arith, ap length offers, length-append (offered near) (o.delivery ∷ []), ap length (out_here o.lane o.delivery.queue o.delivery.number)))
           (λ m other xs. omega (arith, ap length (out_elsewhere o.lane m o.delivery.queue o.delivery.number other)));
       taken = takes_same;
+      seen = same_lists seen_replies lanes o.lane near given is seens;
       account = refl;
       pocket = refl;
     }
@@ -111,18 +112,19 @@ offered_here pool core lanes v p n l near within is = get_or-map offered lanes l
 
 pub refused :
     (pool : Credits) (core : View) (lanes : List Near) (v : Account) (p n : ℕ) (o : Offer) (near same : Near) (log longer : List Step)
-    → o.lane < length lanes → near ≡ get_or lanes o.lane near → near_id same ≡ near_id near → offered same ≡ offered near → taken same ≡ taken near
+    → o.lane < length lanes → near ≡ get_or lanes o.lane near → near_id same ≡ near_id near → offered same ≡ offered near → taken same ≡ taken near → seen_replies same ≡ seen_replies near
     → (near_id near).depth ≤ length (offered near) → longer ≡ log ++ hand_step o false ∷ []
     → ((T : List Step) → Stands T core → Stands (T ++ hand_step o false ∷ []) core)
     → Hands o false (sight pool core lanes v p n) log (sight pool core (set lanes o.lane same) v p n) longer
-refused pool core lanes v p n o near same log longer within is id offers takings full logged stands =
-    subst (λ t. Hands o false (sight pool core lanes v p n) log t longer) (same_sight pool core lanes v p n o.lane near same is id offers takings)
+refused pool core lanes v p n o near same log longer within is id offers takings seens full logged stands =
+    subst (λ t. Hands o false (sight pool core lanes v p n) log t longer) (same_sight pool core lanes v p n o.lane near same is id offers takings seens)
     (record {
       runs = runs_by (hand_step o false ∷ []) s s log longer logged adds;
       core = refl;
       full = λ no. omega (arith, depth_here pool core lanes v p n o.lane near within is, ap length (offered_here pool core lanes v p n o.lane near within is), full);
       grows = λ l. omega (arith, ap length (out_bounced o.lane l));
       taken = refl;
+      seen = refl;
       account = refl;
       pocket = refl;
     })

@@ -1,14 +1,15 @@
 -- The ends of all lanes where one of them changed.
-use Rattle.std.proofs.Common.{◌≡◌, ◌≢◌, ℕ, ◌<◌, List, [], length, map, set, get_or, ◌⊎◌, inl, inr, sym, ap, ◌∙◌, subst, arith}
+use Rattle.std.proofs.Common.{◌≡◌, ◌≢◌, ℕ, ◌<◌, ◌≤◌, List, [], length, map, set, get_or, ◌⊎◌, inl, inr, refl, sym, ap, ◌∙◌, subst, arith}
 use Rattle.std.proofs.lemmas.Bool.{cases_eq}
-use Rattle.std.proofs.lemmas.List.{get_or-set_other, get_or-set_same, get_or-map, length-map, map-set}
+use Rattle.std.proofs.lemmas.List.{get_or-set_other, get_or-set_same, get_or-map, get_or_past, length-map, map-set}
 use Rattle.std.proofs.Math.Seq.{map-set_same}
 use Rattle.credit_pool.specs.declared.account.Account.{Account}
 use Rattle.credit_pool.specs.declared.pool.Credits.{Credits}
+use Rattle.event_scheduler.specs.Hidden.{NoneHidden, OneHidden, hidden_at}
 use Rattle.event_scheduler.specs.Scheduler.{Sight, sight}
 use Rattle.evt_types.specs.declared.event.Delivery.{Delivery}
 use Rattle.evt_types.specs.declared.event.Reply.{Reply}
-use Rattle.lane_rings.specs.Ends.{offered, taken}
+use Rattle.lane_rings.specs.Ends.{hidden_offers, offered, seen_replies, taken}
 use Rattle.lane_rings.specs.Identity.{LaneId, near_id}
 use Rattle.lane_rings.specs.declared.near.Near.{Near}
 use Rattle.transcripts.specs.Standing.{View}
@@ -35,16 +36,52 @@ each_lane P f lanes i near after within is here others k = by_place (cases_eq k 
 pub same_lists : {X : Type 0} (f : Near → X) (lanes : List Near) (i : ℕ) (near after : Near) → near ≡ get_or lanes i near → f after ≡ f near → map f (set lanes i after) ≡ map f lanes
 same_lists f lanes i near after is same = map-set_same f lanes i after near (same ∙ ap f is)
 
--- the scheduler is the same to clauses where the end of a lane is
+-- the scheduler is the same to clauses where the end of a lane is, with what it has seen
 pub same_sight :
     (pool : Credits) (core : View) (lanes : List Near) (v : Account) (p n i : ℕ) (near after : Near) → near ≡ get_or lanes i near
-    → near_id after ≡ near_id near → offered after ≡ offered near → taken after ≡ taken near → sight pool core lanes v p n ≡ sight pool core (set lanes i after) v p n
-same_sight pool core lanes v p n i near after is id offers takings =
+    → near_id after ≡ near_id near → offered after ≡ offered near → taken after ≡ taken near → seen_replies after ≡ seen_replies near
+    → sight pool core lanes v p n ≡ sight pool core (set lanes i after) v p n
+same_sight pool core lanes v p n i near after is id offers takings seens =
+    let now : List Near = set lanes i after in
     sym
-    (ap (λ x. of_lists x (map offered (set lanes i after)) (map taken (set lanes i after))) (same_lists near_id lanes i near after is id)
-    ∙ (ap (λ x. of_lists (map near_id lanes) x (map taken (set lanes i after))) (same_lists offered lanes i near after is offers)
-    ∙ ap (λ x. of_lists (map near_id lanes) (map offered lanes) x) (same_lists taken lanes i near after is takings)))
+    (ap (λ x. of_lists x (map offered now) (map taken now) (map seen_replies now)) (same_lists near_id lanes i near after is id)
+    ∙ (ap (λ x. of_lists (map near_id lanes) x (map taken now) (map seen_replies now)) (same_lists offered lanes i near after is offers)
+    ∙ (ap (λ x. of_lists (map near_id lanes) (map offered lanes) x (map seen_replies now)) (same_lists taken lanes i near after is takings)
+    ∙ ap (λ x. of_lists (map near_id lanes) (map offered lanes) (map taken lanes) x) (same_lists seen_replies lanes i near after is seens))))
   where
-    of_lists : List LaneId → List (List Delivery) → List (List Reply) → Sight
-    of_lists ids offers takings =
-        record { site = record { pool = pool; lanes = ids }; core = core; offered = offers; taken = takings; account = v; pocket = p; accepted_new = n }
+    of_lists : List LaneId → List (List Delivery) → List (List Reply) → List (List Reply) → Sight
+    of_lists ids offers takings seens =
+        record { site = record { pool = pool; lanes = ids }; core = core; offered = offers; taken = takings; seen = seens; account = v; pocket = p; accepted_new = n }
+
+-- what is seen at the lane is its end's, and that of the others is as it was
+pub seen_here : (lanes : List Near) (i : ℕ) (after : Near) → i < length lanes → get_or (map seen_replies (set lanes i after)) i [] ≡ seen_replies after
+seen_here lanes i after within =
+    ap (λ xs. get_or xs i []) (map-set seen_replies lanes i after) ∙ get_or-set_same (map seen_replies lanes) i (seen_replies after) [] (omega (arith, length-map lanes seen_replies, within))
+
+pub seen_elsewhere : (lanes : List Near) (i : ℕ) (after : Near) (l : ℕ) → l ≢ i → get_or (map seen_replies (set lanes i after)) l [] ≡ get_or (map seen_replies lanes) l []
+seen_elsewhere lanes i after l other =
+    ap (λ xs. get_or xs l []) (map-set seen_replies lanes i after) ∙ get_or-set_other (map seen_replies lanes) i l (seen_replies after) [] other
+
+-- ---- what is hidden
+
+-- nothing that was hidden elsewhere changes
+pub one_hidden : (lanes : List Near) (i : ℕ) (near after : Near) → i < length lanes → near ≡ get_or lanes i near → OneHidden i lanes → OneHidden i (set lanes i after)
+one_hidden lanes i near after within is h l other =
+    each_lane (λ k before now. k ≢ i → before ≡ [] → now ≡ []) hidden_offers lanes i near after within is (λ ne. absurd (ne refl)) (λ k ne xs _ none. none) l other (h l other)
+
+-- the lane was flushed
+pub none_hidden : (lanes : List Near) (i : ℕ) (near after : Near) → i < length lanes → near ≡ get_or lanes i near → hidden_offers after ≡ [] → OneHidden i lanes → NoneHidden (set lanes i after)
+none_hidden lanes i near after within is shown h l =
+    each_lane (λ k before now. (k ≢ i → before ≡ []) → now ≡ []) hidden_offers lanes i near after within is (λ _. shown) (λ k ne xs none. none ne) l (h l)
+
+-- or there is no such lane
+pub none_past : (lanes : List Near) (i : ℕ) → length lanes ≤ i → OneHidden i lanes → NoneHidden lanes
+none_past lanes i past h l = by_place (cases_eq l i)
+  where
+    by_place : (l ≡ i) ⊎ (l ≢ i) → hidden_at lanes l ≡ []
+    by_place (inl same) = get_or_past (map hidden_offers lanes) l [] (omega (arith, length-map lanes hidden_offers, past, same))
+    by_place (inr other) = h l other
+
+-- the end hides as much as before
+pub still_hidden : (lanes : List Near) (i : ℕ) (near after : Near) → near ≡ get_or lanes i near → hidden_offers after ≡ hidden_offers near → NoneHidden lanes → NoneHidden (set lanes i after)
+still_hidden lanes i near after is same h l = ap (λ xs. get_or xs l []) (same_lists hidden_offers lanes i near after is same) ∙ h l

@@ -1,4 +1,5 @@
 pub mod Counts
+pub mod Ending
 pub mod Giving
 pub mod Lanes
 pub mod Looking

@@ -1,7 +1,7 @@
 -- A look at the credit word, and a return of credits.
 use Rattle.std.proofs.Common.{◌≡◌, ℕ, ◌+◌, ◌≤◌, ◌%◌, ◌^◌, ◌==◌, Bool, true, false, cond, ◌||◌, List, [], ◌∷◌, ◌++◌, map, ◌⊎◌, inl, inr, refl, sym, ap, ◌∙◌, subst, append-nil, arith}
 use Rattle.std.specs.Bool.{IsTrue}
-use Rattle.credit_pool.specs.Accounts.{Stays, after_look}
+use Rattle.credit_pool.specs.Accounts.{Stays, after_look, is_shut}
 use Rattle.credit_pool.specs.declared.account.Account.{Account}
 use Rattle.credit_pool.specs.declared.pool.Credits.{Credits}
 use Rattle.event_scheduler.proofs.Serving.{Adds, runs_by, runs_none, runs_rest}
@@ -39,8 +39,9 @@ rests pool core lanes v w p q n stays sum =
     }
 
 -- the word had no shut bit
-pub looked_open : (pool : Credits) (core : View) (lanes : List Near) (v w : Account) (p n : ℕ) (log : List Step) → Stays v w → w.returned ≡ v.returned → (IsTrue v.saw_shut → ⊥) → Looks (sight pool core lanes v p n) log (sight pool core lanes w p n) log
-looked_open pool core lanes v w p n log stays same unseen =
+pub looked_open : (pool : Credits) (core : View) (lanes : List Near) (v w : Account) (p n : ℕ) (log : List Step) → Stays v w → w.returned ≡ v.returned → (IsTrue v.saw_shut → ⊥) → w ≡ after_look w.last v → is_shut w.last ≡ false
+    → Looks (sight pool core lanes v p n) log (sight pool core lanes w p n) log
+looked_open pool core lanes v w p n log stays same unseen read no_bit =
     record {
       steps = [];
       runs = runs_rest [] (sight pool core lanes v p n) (sight pool core lanes v p n) (sight pool core lanes w p n) log log (runs_none (sight pool core lanes v p n) log) (rests pool core lanes v w p p n stays (ap (λ k. k + p) same));
@@ -49,6 +50,9 @@ looked_open pool core lanes v w p n log stays same unseen =
       shut = λ saw. absurd (unseen saw);
       offered = refl;
       taken = refl;
+      read = read;
+      logs = ap (λ b. cond b (shut_steps core) []) (sym no_bit);
+      pocket = refl;
     }
 
 -- ---- the word had it
@@ -75,10 +79,10 @@ turns_none true = refl
 turns_none false = refl
 
 pub looked_shut :
-    (pool : Credits) (core shut : View) (lanes : List Near) (v w : Account) (p n : ℕ) (log longer : List Step) → Stays v w → w.returned ≡ v.returned → IsTrue w.saw_shut
+    (pool : Credits) (core shut : View) (lanes : List Near) (v w : Account) (p n : ℕ) (log longer : List Step) → Stays v w → w.returned ≡ v.returned → IsTrue w.saw_shut → w ≡ after_look w.last v → is_shut w.last ≡ true
     → shut ≡ record core { shut = true } → longer ≡ log ++ shut_steps core → ((T : List Step) → Stands T core → Stands (T ++ shut_steps core) shut)
     → Looks (sight pool core lanes v p n) log (sight pool shut lanes w p n) longer
-looked_shut pool core shut lanes v w p n log longer stays same saw is logged stands =
+looked_shut pool core shut lanes v w p n log longer stays same saw read bit is logged stands =
     record {
       steps = shut_steps core;
       runs = runs_by (shut_steps core) (sight pool core lanes v p n) (sight pool shut lanes w p n) log longer logged adds;
@@ -87,6 +91,9 @@ looked_shut pool core shut lanes v w p n log longer stays same saw is logged sta
       shut = λ seen. ap (λ (c : View). c.shut) is;
       offered = refl;
       taken = refl;
+      read = read;
+      logs = ap (λ b. cond b (shut_steps core) []) (sym bit);
+      pocket = refl;
     }
   where
     adds : Adds (shut_steps core) (sight pool core lanes v p n) (sight pool shut lanes w p n)

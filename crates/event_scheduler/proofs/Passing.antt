@@ -47,6 +47,7 @@ gives_none v s log none =
       count_bounced = refl;
       grows = λ l. omega arith;
       taken = refl;
+      seen = refl;
       account = refl;
       pocket = refl;
     }
@@ -69,6 +70,7 @@ more o ok v given bounced a b s t u log mid longer h k gift one_given one_bounce
       count_bounced = omega (arith, count-append is_bounced h.steps (hand_step o ok ∷ []), h.count_bounced, one_bounced);
       grows = λ l. omega (arith, k.grows l, h.grows l, ap length (out-append h.steps (hand_step o ok ∷ []) l), length-append (out h.steps l) (out (hand_step o ok ∷ []) l));
       taken = k.taken ∙ h.taken;
+      seen = k.seen ∙ h.seen;
       account = k.account ∙ h.account;
       pocket = k.pocket ∙ h.pocket;
     }
@@ -100,7 +102,7 @@ gives_bounced o false v w given bounced s t u log mid longer is h choice k next 
 abbrev pub long : Passed → Type 0
 long v = (length v.given ≡ MAX_QUEUES) × (length v.bounced ≡ MAX_LANES)
 
-long_step : (v : Passed) (x : Step) → long v → long (passed_step v x)
+pub long_step : (v : Passed) (x : Step) → long v → long (passed_step v x)
 long_step v (Give l q n) h = (length-set v.given q _ ∙ h.0, h.1)
 long_step v (Bounced l) h = (h.0, length-set v.bounced l true ∙ h.1)
 long_step v (Accept q e c) h = h
@@ -160,9 +162,9 @@ pub record IsChosen (p : Plan) (v : Passed) (l q n : ℕ) : Type 0 where
   pub given : left p (passed_step v (Give l q n)) + 1 ≡ left p v
   pub bounced : left p (passed_step v (Bounced l)) + 1 ≡ left p v
 
-pub chosen : (p : Plan) (v : Passed) (given bounced n : ℕ) (s t : Sight) (log mid : List Step) (o : Offer) → IsWithinLimits p → s.core.shape ≡ p → Gives v given bounced s log t mid
-    → IsChoice t.core v o.lane o.delivery.queue (numbered_in o.delivery) → IsChosen p v o.lane o.delivery.queue n
-chosen p v given bounced n s t log mid o limits is h choice =
+pub chosen : (p : Plan) (v : Passed) (n : ℕ) (core : View) (o : Offer) → IsWithinLimits p → core.shape ≡ p → long v → IsChoice core v o.lane o.delivery.queue (numbered_in o.delivery)
+    → IsChosen p v o.lane o.delivery.queue n
+chosen p v n core o limits shape are choice =
     record {
       queue = queue;
       lane = lane;
@@ -171,12 +173,6 @@ chosen p v given bounced n s t log mid o limits is h choice =
       bounced = left_bounced p v o.lane are on_lane lane choice.fits.ready;
     }
   where
-    are : long v
-    are = passed_long v h.steps h.passed
-
-    shape : t.core.shape ≡ p
-    shape = h.runs.shape ∙ is
-
     there : o.delivery.queue < length p.queues
     there = subst (λ (x : Plan). o.delivery.queue < length x.queues) shape choice.there
 

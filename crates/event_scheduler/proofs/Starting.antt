@@ -7,10 +7,11 @@ use Rattle.std.proofs.lemmas.List.FromFn.{length-map-range_with_len}
 use Rattle.credit_pool.specs.declared.account.Account.{Account}
 use Rattle.credit_pool.specs.declared.pool.Credits.{Credits}
 use Rattle.event_scheduler.specs.Parts.{AreUnused, IsUnused}
+use Rattle.event_scheduler.specs.Hidden.{NoneHidden}
 use Rattle.event_scheduler.specs.Scheduler.{IsAccepted, Serves, depth_in, sight}
 use Rattle.evt_types.specs.Event.{pair_of}
 use Rattle.evt_types.specs.Plan.{Plan, depth_of, lanes_of}
-use Rattle.lane_rings.specs.Ends.{offered, taken}
+use Rattle.lane_rings.specs.Ends.{hidden_offers, offered, taken}
 use Rattle.lane_rings.specs.Identity.{near_id}
 use Rattle.lane_rings.specs.declared.near.Near.{Near}
 use Rattle.lists.proofs.Ranges.{mapped_at}
@@ -44,6 +45,10 @@ starts pool core nears v stands unused account =
       own = (omega (arith, account.returned), ap (λ n. (n + 0) % 2 ^ 64) account.returned);
       shut = λ has. absurd (false≢true has);
     }
+
+-- nothing that was offered is hidden
+pub unused_shown : (p : Plan) (nears : List Near) → AreUnused p nears → NoneHidden nears
+unused_shown p nears unused l = none_at hidden_offers nears unused.shown l
 
 -- there are as many ends as lanes
 pub unused_count : (p : Plan) (nears : List Near) → AreUnused p nears → length nears ≡ lanes_of p

@@ -1,17 +1,19 @@
 -- Replies are taken: one, none, and some after others.
-use Rattle.std.proofs.Common.{◌≡◌, ℕ, ◌+◌, ◌*◌, ◌<◌, ◌≤◌, ◌%◌, ◌^◌, ◌==◌, Bool, true, false, cond, nat_lt, ◌&&◌, ◌||◌, ◌⊎◌, inl, inr, List, [], ◌∷◌, ◌++◌, length, map, set, get_or, All, refl, sym, ap, ◌∙◌, subst, append_assoc, append-nil, arith}
+use Rattle.std.proofs.Common.{add-zero, ◌≡◌, ℕ, ◌+◌, ◌*◌, ◌<◌, ◌≤◌, ◌%◌, ◌^◌, ◌==◌, Bool, true, false, cond, nat_lt, ◌&&◌, ◌||◌, ◌⊎◌, inl, inr, List, [], ◌∷◌, ◌++◌, length, map, set, get_or, All, refl, sym, ap, ◌∙◌, subst, append_assoc, append-nil, arith}
 use Rattle.std.proofs.lemmas.Bool.{cases_lt, false≢true, le-ltb}
 use Rattle.std.proofs.lemmas.List.{length-append, map-append}
 use Rattle.std.proofs.lemmas.List.Elements.{filter_map-append}
 use Rattle.credit_pool.specs.declared.account.Account.{Account}
 use Rattle.credit_pool.specs.declared.pool.Credits.{Credits}
 use Rattle.event_scheduler.proofs.Counts.{count-append, new_fits, reply_enters, reply_shuts_none, reply_turns}
-use Rattle.event_scheduler.proofs.Lanes.{each_lane, same_lists, same_sight}
+use Rattle.event_scheduler.proofs.Lanes.{each_lane, same_lists}
 use Rattle.event_scheduler.proofs.Looking.{append_none}
-use Rattle.event_scheduler.proofs.Replies.{after-append, by_lane-append, first_more, first_within, may-append, of_first_is, only_is, only_more, one_count, one_elsewhere, one_here, one_said, one_steps, steps-append}
+use Rattle.event_scheduler.proofs.Replies.{after-append, by_lane-append, first_more, may-append, of_first_is, only_is, only_more, one_count, one_elsewhere, one_here, one_said, one_steps, steps-append}
 use Rattle.event_scheduler.proofs.Serving.{Adds, runs_by, runs_none, runs_runs, stays_same}
 use Rattle.credit_pool.specs.Pockets.{IsPocket}
-use Rattle.event_scheduler.specs.Scheduler.{IsAccepted, Runs, Sight, offered_at, sight, taken_at}
+use Rattle.event_scheduler.specs.Scheduler.{IsAccepted, Runs, Serves, Sight, offered_at, sight, taken_at}
+use Rattle.evt_types.specs.declared.event.Delivery.{Delivery}
+use Rattle.evt_types.specs.declared.event.Reply.{Reply}
 use Rattle.event_scheduler.specs.Taking.{Takes, entered_as, entered_by, of_first, only, replies_from, reply_from, turned_by}
 use Rattle.evt_types.specs.Event.{pair_of}
 use Rattle.evt_types.specs.Plan.{bound_of, lanes_of}
@@ -19,16 +21,16 @@ use Rattle.evt_types.specs.declared.event.Event.{Event}
 use Rattle.evt_types.specs.declared.event.Op.{Op}
 use Rattle.evt_types.specs.declared.event.Op.TheVariants as ops
 use Rattle.evt_types.specs.declared.step.Step.{Step}
-use Rattle.lane_rings.specs.Ends.{offered, taken}
-use Rattle.lane_rings.specs.Identity.{near_id}
+use Rattle.lane_rings.specs.Ends.{offered, seen_replies, taken}
+use Rattle.lane_rings.specs.Identity.{LaneId, near_id}
 use Rattle.lane_rings.specs.declared.near.Near.{Near}
 use Rattle.sched_core.specs.Taken.{took_by, took_of}
 use Rattle.sched_core.specs.declared.take.Took.TheVariants as tooks
 use Rattle.transcripts.proofs.Replies.{steps_of-out}
-use Rattle.transcripts.specs.Replies.{new_count, said}
+use Rattle.transcripts.specs.Replies.{new_count, said, turned_count}
 use Rattle.transcripts.specs.Standing.{View, Stands, after, entries_of, inside_of, may_enter, may_take, may_take_by, steps_of}
 use Rattle.transcripts.specs.Sweep.{MayBeTaken, replies_steps}
-use Rattle.transcripts.specs.Transcript.{out}
+use Rattle.transcripts.specs.Transcript.{is_turned, out}
 
 -- ---- none
 
@@ -44,6 +46,43 @@ takes_none most s log =
       taken = λ l. sym (append-nil (taken_at s l));
       offered = refl;
       count = refl;
+      account = refl;
+      pocket = ap (λ n. n % 2 ^ 64) (sym (add-zero s.pocket));
+    }
+
+-- none, and more was seen
+takes_seen : (most : ℕ → ℕ) (s : Sight) (seen : List (List Reply)) (log : List Step) → Takes most 0 s log (record s { seen = seen }) log
+takes_seen most s seen log =
+    let t : Sight = record s { seen = seen } in
+    let same : Runs [] s log s log = runs_none s log in
+    record {
+      replies = [];
+      runs = record {
+        logged = same.logged;
+        serves = λ T h.
+            let still : Serves (T ++ []) s = same.serves T h in record {
+              stands = still.stands;
+              offered = still.offered;
+              events = still.events;
+              taken = still.taken;
+              depths = still.depths;
+              accepted_new = still.accepted_new;
+              own = still.own;
+              shut = still.shut;
+            };
+        site = refl;
+        shape = refl;
+        account = stays_same s.account;
+      };
+      core = refl;
+      may = tt;
+      by_lane = λ i j d lt within. absurd (omega arith);
+      few = λ l. omega arith;
+      taken = λ l. sym (append-nil (taken_at s l));
+      offered = refl;
+      count = refl;
+      account = refl;
+      pocket = ap (λ n. n % 2 ^ 64) (sym (add-zero s.pocket));
     }
 
 -- none, and a lane was looked at
@@ -51,7 +90,14 @@ pub takes_looked :
     (pool : Credits) (core : View) (lanes : List Near) (v : Account) (p n i : ℕ) (near later : Near) (most : ℕ → ℕ) (log : List Step) → near ≡ get_or lanes i near
     → near_id later ≡ near_id near → offered later ≡ offered near → taken later ≡ taken near → Takes most 0 (sight pool core lanes v p n) log (sight pool core (set lanes i later) v p n) log
 takes_looked pool core lanes v p n i near later most log is id offers takings =
-    subst (λ t. Takes most 0 (sight pool core lanes v p n) log t log) (same_sight pool core lanes v p n i near later is id offers takings) (takes_none most (sight pool core lanes v p n) log)
+    let now : List Near = set lanes i later in
+    let With : List LaneId → List (List Delivery) → List (List Reply) → Type 0 =
+    λ ids os ts.
+    Takes most 0 (sight pool core lanes v p n) log
+    (record { site = record { pool = pool; lanes = ids }; core = core; offered = os; taken = ts; seen = map seen_replies now; account = v; pocket = p; accepted_new = n }) log in
+    subst (λ ids. With ids (map offered now) (map taken now)) (sym (same_lists near_id lanes i near later is id))
+    (subst (λ os. With (map near_id lanes) os (map taken now)) (sym (same_lists offered lanes i near later is offers))
+    (subst (λ ts. With (map near_id lanes) (map offered lanes) ts) (sym (same_lists taken lanes i near later is takings)) (takes_seen most (sight pool core lanes v p n) (map seen_replies now) log)))
 
 -- ---- one
 
@@ -106,6 +152,8 @@ took pool core later lanes v p n l k m e near seen log longer within is id offer
       taken = lists;
       offered = offers_same;
       count = refl;
+      account = refl;
+      pocket = omega (arith, turns, reply_turns core l e, ap turned_count (one_steps core l e));
     }
   where
     s : Sight
@@ -139,41 +187,54 @@ took pool core later lanes v p n l k m e near seen log longer within is id offer
 
 -- ---- some after others
 
-pub takes_takes : (f g most : ℕ → ℕ) (a b : ℕ) (s t u : Sight) (log mid longer : List Step) → Takes f a s log t mid → Takes g b t mid u longer
-    → ((i j : ℕ) → 1 ≤ f i → 1 ≤ g j → i ≤ j) → ((m : ℕ) → f m + g m ≤ most m) → Takes most (a + b) s log u longer
-takes_takes f g most a b s t u log mid longer h k rise sums =
-    record {
-      replies = h.replies ++ k.replies;
-      runs = subst (λ S. Runs S s log u longer) (sym steps_are) (runs_runs (replies_steps s.core h.replies) (replies_steps t.core k.replies) s t u log mid longer h.runs k.runs);
-      core = k.core ∙ (ap (λ c. after c (replies_steps t.core k.replies)) h.core ∙ (sym (after-append s.core (replies_steps s.core h.replies) (replies_steps t.core k.replies)) ∙ ap (after s.core) (sym steps_are)));
-      may = may-append s.core h.replies k.replies h.may (subst (λ c. MayBeTaken c k.replies) h.core k.may);
-      by_lane = by_lane-append f g h.replies k.replies h.by_lane k.by_lane h.few k.few rise;
-      few = λ m. omega (arith, count-append (λ (r : ℕ × Event). r.0 == m) h.replies k.replies, h.few m, k.few m, sums m);
-      taken = λ m.
-          k.taken m
-          ∙ (ap (λ xs. xs ++ replies_from m k.replies) (h.taken m)
-          ∙ (append_assoc (taken_at s m) (replies_from m h.replies) (replies_from m k.replies) ∙ ap (λ xs. taken_at s m ++ xs) (sym (filter_map-append (reply_from m) h.replies k.replies))));
-      offered = k.offered ∙ h.offered;
-      count = length-append h.replies k.replies ∙ (ap (λ n. n + length k.replies) h.count ∙ ap (λ n. a + n) k.count);
-    }
+pub takes_both : (f g most : ℕ → ℕ) (a b : ℕ) (s t u : Sight) (log mid longer : List Step) → (h : Takes f a s log t mid) → (k : Takes g b t mid u longer)
+    → ((i j : ℕ) → 1 ≤ f i → 1 ≤ g j → i ≤ j) → ((m : ℕ) → f m + g m ≤ most m) → (both : Takes most (a + b) s log u longer) × (both.replies ≡ h.replies ++ k.replies)
+takes_both f g most a b s t u log mid longer h k rise sums = (
+  record {
+    replies = h.replies ++ k.replies;
+    runs = subst (λ S. Runs S s log u longer) (sym steps_are) (runs_runs (replies_steps s.core h.replies) (replies_steps t.core k.replies) s t u log mid longer h.runs k.runs);
+    core = k.core ∙ (ap (λ c. after c (replies_steps t.core k.replies)) h.core ∙ (sym (after-append s.core (replies_steps s.core h.replies) (replies_steps t.core k.replies)) ∙ ap (after s.core) (sym steps_are)));
+    may = may-append s.core h.replies k.replies h.may (subst (λ c. MayBeTaken c k.replies) h.core k.may);
+    by_lane = by_lane-append f g h.replies k.replies h.by_lane k.by_lane h.few k.few rise;
+    few = λ m. omega (arith, count-append (λ (r : ℕ × Event). r.0 == m) h.replies k.replies, h.few m, k.few m, sums m);
+    taken = λ m.
+        k.taken m
+        ∙ (ap (λ xs. xs ++ replies_from m k.replies) (h.taken m)
+        ∙ (append_assoc (taken_at s m) (replies_from m h.replies) (replies_from m k.replies) ∙ ap (λ xs. taken_at s m ++ xs) (sym (filter_map-append (reply_from m) h.replies k.replies))));
+    offered = k.offered ∙ h.offered;
+    count = length-append h.replies k.replies ∙ (ap (λ n. n + length k.replies) h.count ∙ ap (λ n. a + n) k.count);
+    account = k.account ∙ h.account;
+    pocket = omega (arith, h.pocket, k.pocket, ap turned_count steps_are, count-append is_turned (replies_steps s.core h.replies) (replies_steps t.core k.replies));
+  },
+  refl,
+)
   where
     steps_are : replies_steps s.core (h.replies ++ k.replies) ≡ replies_steps s.core h.replies ++ replies_steps t.core k.replies
     steps_are = steps-append s.core h.replies k.replies ∙ ap (λ c. replies_steps s.core h.replies ++ replies_steps c k.replies) (sym h.core)
 
+pub takes_takes : (f g most : ℕ → ℕ) (a b : ℕ) (s t u : Sight) (log mid longer : List Step) → Takes f a s log t mid → Takes g b t mid u longer
+    → ((i j : ℕ) → 1 ≤ f i → 1 ≤ g j → i ≤ j) → ((m : ℕ) → f m + g m ≤ most m) → Takes most (a + b) s log u longer
+takes_takes f g most a b s t u log mid longer h k rise sums = (takes_both f g most a b s t u log mid longer h k rise sums).0
+
 -- the same under a wider bound
-pub takes_within : (f most : ℕ → ℕ) (n : ℕ) (s t : Sight) (log longer : List Step) → Takes f n s log t longer → ((m : ℕ) → f m ≤ most m) → Takes most n s log t longer
-takes_within f most n s t log longer h wider =
-    record {
-      replies = h.replies;
-      runs = h.runs;
-      core = h.core;
-      may = h.may;
-      by_lane = h.by_lane;
-      few = λ m. omega (arith, h.few m, wider m);
-      taken = h.taken;
-      offered = h.offered;
-      count = h.count;
-    }
+pub takes_within : (f most : ℕ → ℕ) (n : ℕ) (s t : Sight) (log longer : List Step) → (h : Takes f n s log t longer) → ((m : ℕ) → f m ≤ most m)
+    → (all : Takes most n s log t longer) × (all.replies ≡ h.replies)
+takes_within f most n s t log longer h wider = (
+  record {
+    replies = h.replies;
+    runs = h.runs;
+    core = h.core;
+    may = h.may;
+    by_lane = h.by_lane;
+    few = λ m. omega (arith, h.few m, wider m);
+    taken = h.taken;
+    offered = h.offered;
+    count = h.count;
+    account = h.account;
+    pocket = h.pocket;
+  },
+  refl,
+)
 
 -- ---- of one lane, and of one lane after the other
 
@@ -183,14 +244,24 @@ lane_more l n true s t u log mid longer is h k =
     takes_takes (only l n) (only l 1) (only l (n + 1)) n 1 s t u log mid longer h k (λ i j some more. omega (arith, only_is l n i some, only_is l 1 j more)) (λ m. only_more l n 1 m)
 lane_more l n false s t u log mid longer is h k = absurd (false≢true is)
 
-pub next_lane : (i most same n k : ℕ) (s t u : Sight) (log mid longer : List Step) → same ≡ most → Takes (of_first i most) n s log t mid → Takes (only i same) k t mid u longer
-    → Takes (of_first (i + 1) most) (n + k) s log u longer
+pub next_lane : (i most same n k : ℕ) (s t u : Sight) (log mid longer : List Step) → same ≡ most → (h : Takes (of_first i most) n s log t mid) → (m : Takes (only i same) k t mid u longer)
+    → (both : Takes (of_first (i + 1) most) (n + k) s log u longer) × (both.replies ≡ h.replies ++ m.replies)
 next_lane i most same n k s t u log mid longer is h m =
-    takes_takes (of_first i most) (only i same) (of_first (i + 1) most) n k s t u log mid longer h m (λ a b some more. omega (arith, of_first_is i most a some, only_is i same b more))
+    takes_both (of_first i most) (only i same) (of_first (i + 1) most) n k s t u log mid longer h m (λ a b some more. omega (arith, of_first_is i most a some, only_is i same b more))
     (λ a. subst (λ j. of_first i most a + only i j a ≤ of_first (i + 1) most a) (sym is) (first_more i most a))
 
-pub all_lanes : (i most n : ℕ) (s t : Sight) (log longer : List Step) → Takes (of_first i most) n s log t longer → Takes (λ l. most) n s log t longer
-all_lanes i most n s t log longer h = takes_within (of_first i most) (λ l. most) n s t log longer h (λ m. first_within i most m)
+-- a lane's replies were fetched, and then taken
+pub after_fetch : (l q n : ℕ) (s t u : Sight) (log longer : List Step) → Takes (only l 0) 0 s log t log → Takes (only l q) n t log u longer → Takes (only l q) n s log u longer
+after_fetch l q n s t u log longer h k =
+    subst (λ k. Takes (only l q) k s log u longer) (omega arith)
+    (takes_takes (only l 0) (only l q) (only l q) 0 n s t u log log longer h k (λ i j some more. absurd (omega (arith, some, none i))) (λ m. omega (arith, none m)))
+  where
+    none_by : (b : Bool) → ◌≡◌ {A = ℕ} (cond b 0 0) 0
+    none_by true = refl
+    none_by false = refl
+
+    none : (m : ℕ) → only l 0 m ≡ 0
+    none m = none_by (m == l)
 
 -- ---- numbers
 

@@ -83,6 +83,7 @@ pub record Hands (o : Offer) (ok : Bool) (s : Sight) (log : List Step) (t : Sigh
   pub full : ok ≡ false → depth_at s o.lane ≤ length (offered_at s o.lane)
   pub grows : (l : ℕ) → length (offered_at t l) ≡ length (offered_at s l) + length (out (hand_step o ok ∷ []) l)
   pub taken : t.taken ≡ s.taken
+  pub seen : t.seen ≡ s.seen
   pub account : t.account ≡ s.account
   pub pocket : t.pocket ≡ s.pocket
 
@@ -97,6 +98,7 @@ pub record Gives (v : Passed) (given bounced : ℕ) (s : Sight) (log : List Step
   pub count_bounced : count_by is_bounced steps ≡ bounced
   pub grows : (l : ℕ) → length (offered_at t l) ≡ length (offered_at s l) + length (out steps l)
   pub taken : t.taken ≡ s.taken
+  pub seen : t.seen ≡ s.seen
   pub account : t.account ≡ s.account
   pub pocket : t.pocket ≡ s.pocket
 

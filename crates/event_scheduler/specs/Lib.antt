@@ -1,4 +1,5 @@
 pub mod Giving
+pub mod Hidden
 pub mod Looking
 pub mod Parts
 pub mod Scheduler

@@ -1,6 +1,6 @@
 -- A look at the credit word, and the return of credits.
-use Rattle.std.specs.Prelude.{ℕ, ◌≡◌, ◌≢◌, List, [], ◌∷◌, true, false, ◌⊎◌, IsTrue}
-use Rattle.credit_pool.specs.Accounts.{Stays}
+use Rattle.std.specs.Prelude.{ℕ, ◌≡◌, ◌≢◌, List, [], ◌∷◌, true, false, if◌then◌else◌, ◌⊎◌, IsTrue}
+use Rattle.credit_pool.specs.Accounts.{Stays, after_look, is_shut}
 use Rattle.credit_pool.specs.Answers.{AnswersGive}
 use Rattle.credit_pool.specs.declared.account.Account.{Account}
 use Rattle.credit_pool.specs.declared.answer.Give.{Give}
@@ -8,7 +8,11 @@ use Rattle.credit_pool.specs.declared.answer.Give.TheVariants.{Given, Over, Race
 use Rattle.event_scheduler.specs.Scheduler.{Runs, Serves, Sight}
 use Rattle.evt_types.specs.declared.step.Step.{Step}
 use Rattle.evt_types.specs.declared.step.Step.TheVariants.{Shut}
-use Rattle.transcripts.specs.Standing.{after}
+use Rattle.transcripts.specs.Standing.{View, after}
+
+-- what a look at the credits logs, by the word that it read: Shut, the first time that it has the shut bit
+abbrev pub look_steps : ℕ → View → List Step
+look_steps word v = if is_shut word then (if v.shut then [] else Shut ∷ []) else []
 
 -- The credit word was read: Shut was logged, or nothing, and the core is shut wherever the seat had read the bit before.
 pub record Looks (s : Sight) (log : List Step) (t : Sight) (longer : List Step) : Type 0 where
@@ -19,6 +23,10 @@ pub record Looks (s : Sight) (log : List Step) (t : Sight) (longer : List Step) 
   pub shut : IsTrue s.account.saw_shut → t.core.shut ≡ true
   pub offered : t.offered ≡ s.offered
   pub taken : t.taken ≡ s.taken
+  -- once, and what it says is logged now
+  pub read : t.account ≡ after_look t.account.last s.account
+  pub logs : steps ≡ look_steps t.account.last s.core
+  pub pocket : t.pocket ≡ s.pocket
 
 -- what stays of a pocket after a return of all of it was tried
 abbrev pub left_by : Give → ℕ → ℕ

@@ -6,7 +6,7 @@ use Rattle.credit_pool.specs.declared.account.Account.{Account}
 use Rattle.event_scheduler.specs.Scheduler.{Sight, depth_in, sight}
 use Rattle.event_scheduler.specs.declared.parts.Parts.{Parts}
 use Rattle.evt_types.specs.Plan.{Plan, depth_of, lanes}
-use Rattle.lane_rings.specs.Ends.{offered, taken}
+use Rattle.lane_rings.specs.Ends.{hidden_offers, offered, taken}
 use Rattle.lane_rings.specs.Identity.{near_id}
 use Rattle.lane_rings.specs.declared.near.Near.{Near}
 
@@ -21,6 +21,7 @@ pub record AreUnused (p : Plan) (nears : List Near) : Type 0 where
   pub depths : map depth_in (map near_id nears) ≡ map (depth_of p) (lanes p)
   pub offered : All (λ near. offered near ≡ []) nears
   pub taken : All (λ near. taken near ≡ []) nears
+  pub shown : All (λ near. hidden_offers near ≡ []) nears
 
 -- the scheduler that is made of these, and has accepted so many new events
 abbrev pub sight_in : Parts → ℕ → Sight

@@ -11,7 +11,7 @@ use Rattle.evt_types.specs.Plan.{lanes_of, depth_of}
 use Rattle.evt_types.specs.declared.event.Delivery.{Delivery}
 use Rattle.evt_types.specs.declared.event.Reply.{Reply}
 use Rattle.evt_types.specs.declared.step.Step.{Step}
-use Rattle.lane_rings.specs.Ends.{offered, taken}
+use Rattle.lane_rings.specs.Ends.{offered, seen_replies, taken}
 use Rattle.lane_rings.specs.Identity.{LaneId, near_id}
 use Rattle.lane_rings.specs.declared.near.Near.{Near}
 use Rattle.transcripts.specs.Replies.{said, replies_in, new_count, turned_count}
@@ -30,6 +30,8 @@ pub record Sight : Type 0 where
   pub core : View
   pub offered : List (List Delivery)
   pub taken : List (List Reply)
+  -- what was seen of each lane's replies and isn't taken
+  pub seen : List (List Reply)
   pub account : Account
   pub pocket : ℕ
   pub accepted_new : ℕ
@@ -41,6 +43,7 @@ sight pool core lanes account pocket accepted_new =
       core = core;
       offered = map offered lanes;
       taken = map taken lanes;
+      seen = map seen_replies lanes;
       account = account;
       pocket = pocket;
       accepted_new = accepted_new;
@@ -61,6 +64,9 @@ offered_at v l = slice_index_or v.offered l []
 
 abbrev pub taken_at : Sight → ℕ → List Reply
 taken_at v l = slice_index_or v.taken l []
+
+abbrev pub seen_at : Sight → ℕ → List Reply
+seen_at v l = slice_index_or v.seen l []
 
 -- the delivery has the event that was accepted under its number
 abbrev pub IsAccepted : List Step → Delivery → Type 0

@@ -1,6 +1,7 @@
 -- Replies that are taken.
-use Rattle.std.specs.Prelude.{ℕ, ◌≡◌, ◌≤◌, List, ◌++◌, ◌==◌, nat_lt, if◌then◌else◌, length, count_by, filter_map, AllPairs, Option, Some, None}
-use Rattle.event_scheduler.specs.Scheduler.{Runs, Sight, taken_at}
+use Rattle.std.specs.Prelude.{ℕ, ◌≡◌, ◌+◌, ◌%◌, ◌^◌, ◌<◌, ◌≤◌, ◌⊎◌, false, List, [], ◌++◌, ◌==◌, nat_lt, if◌then◌else◌, length, count_by, filter, filter_map, slice_get, AllPairs, Option, Some, None}
+use Rattle.event_scheduler.specs.Scheduler.{Runs, Sight, seen_at, taken_at}
+use Rattle.evt_types.specs.Plan.{lanes_of}
 use Rattle.evt_types.specs.declared.event.Event.{Event}
 use Rattle.evt_types.specs.declared.event.Op.{Op}
 use Rattle.evt_types.specs.declared.event.Op.TheVariants as ops
@@ -8,7 +9,8 @@ use Rattle.evt_types.specs.declared.event.Reply.{Reply}
 use Rattle.evt_types.specs.declared.step.Step.{Step}
 use Rattle.sched_core.specs.declared.take.Took.{Took}
 use Rattle.sched_core.specs.declared.take.Took.TheVariants as tooks
-use Rattle.transcripts.specs.Standing.{after}
+use Rattle.transcripts.specs.Replies.{turned_count}
+use Rattle.transcripts.specs.Standing.{View, after, may_take}
 use Rattle.transcripts.specs.Sweep.{MayBeTaken, replies_steps}
 
 -- the credit of what was turned away goes to the scheduler's pocket
@@ -64,3 +66,19 @@ pub record Takes (most : ℕ → ℕ) (n : ℕ) (s : Sight) (log : List Step) (t
   pub taken : (l : ℕ) → taken_at t l ≡ taken_at s l ++ replies_from l replies
   pub offered : t.offered ≡ s.offered
   pub count : length replies ≡ n
+  pub account : t.account ≡ s.account
+  pub pocket : t.pocket % 2 ^ 64 ≡ (s.pocket + turned_count (replies_steps s.core replies)) % 2 ^ 64
+
+-- the first of these replies, up to those of the lane, where they go by rising lane
+abbrev pub up_to : ℕ → List (ℕ × Event) → List (ℕ × Event)
+up_to l replies = filter (λ (r : ℕ × Event). nat_lt r.0 (l + 1)) replies
+
+-- Taking replies of a lane may end after so many, where none is seen, or where the first that is seen may not be taken.
+abbrev pub MayEnd : ℕ → View → ℕ → ℕ → List Reply → Type 0
+MayEnd quantum v l n seen = (n ≡ quantum) ⊎ ((seen ≡ []) ⊎ ((reply : Reply) × (slice_get seen 0 ≡ Some reply) × (may_take v l reply.event ≡ false)))
+
+-- Replies of each lane were taken, no more of each than the quantum, and each lane's taking ended where it may.
+pub record TakesAll (quantum n : ℕ) (s : Sight) (log : List Step) (t : Sight) (longer : List Step) : Type 0 where
+  pub takes : Takes (λ l. quantum) n s log t longer
+  pub ends : (l : ℕ) → l < lanes_of s.core.shape
+      → MayEnd quantum (after s.core (replies_steps s.core (up_to l takes.replies))) l (count_from l takes.replies) (seen_at t l)

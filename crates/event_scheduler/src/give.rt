@@ -1,82 +1,126 @@
 //! What waits is given to the lanes.
 
-ghost use Rattle.std.specs.Prelude.{◌≡◌, ◌+◌, ◌*◌, ◌≤◌, ◌<◌, [], ◌∷◌, length, vec_len, vec_capacity};
+ghost use Rattle.std.specs.Prelude.{◌≡◌, ℕ, ◌+◌, ◌*◌, ◌≤◌, ◌<◌, List, [], ◌∷◌, length, vec_len, vec_capacity};
+ghost use Rattle.credit_pool.specs.declared.account.Account.{Account};
+ghost use Rattle.credit_pool.specs.declared.pool.Credits.{Credits};
 ghost use Rattle.event_scheduler.specs.Giving.{Gives, GivesAll, Hands};
-ghost use Rattle.event_scheduler.specs.Scheduler.{sight_of};
+ghost use Rattle.event_scheduler.specs.Hidden.{NoneHidden, OneHidden};
+ghost use Rattle.event_scheduler.specs.Scheduler.{sight, sight_of};
 ghost use Rattle.evt_types.specs.Plan.{lanes_of};
 ghost use Rattle.sched_core.specs.Offered.{numbered_in};
 ghost use Rattle.transcripts.specs.Choice.{IsOffer};
+ghost use Rattle.transcripts.specs.Standing.{View};
 
 use crate::scheduler::Scheduler;
 use evt_types::Step;
-use sched_core::{Offer, Skips};
+use lane_rings::Near;
+use sched_core::{Core, Offer, Skips};
+
+/// Offers what was chosen to the lane's ring, which gets it by the next `show`. Where the ring is full it goes on waiting.
+fn offer_one(core: &mut Core, lanes: &mut Vec<Near>, offer: Offer, log: &mut Vec<Step>) -> bool
+    requires offer { IsOffer core.old offer.lane offer.delivery.queue (numbered_in offer.delivery) }
+    requires lanes { length lanes.old.items ≡ lanes_of core.old.shape }
+    requires hidden { OneHidden offer.lane lanes.old.items }
+    requires room { vec_len log.old < vec_capacity log.old }
+    ensures hands { (pool : Credits) (v : Account) (p n : ℕ) → Hands offer result (sight pool core.old lanes.old.items v p n) log.old.items (sight pool core.new lanes.new.items v p n) log.new.items }
+    ensures lanes { length lanes.new.items ≡ lanes_of core.new.shape }
+    ensures shape { core.new.shape ≡ core.old.shape }
+    ensures hidden { OneHidden offer.lane lanes.new.items }
+    ensures room { (vec_capacity log.new ≡ vec_capacity log.old) × (vec_len log.new ≡ vec_len log.old + 1) }
+{
+    let near = &mut lanes[offer.lane];
+    match near.stage(offer.delivery) {
+        Ok(()) => {
+            core.give(offer, log);
+            true
+        }
+        Err(_) => {
+            core.bounce(offer.lane, log);
+            false
+        }
+    }
+}
+
+/// Puts what the lane was offered into its ring, where its holder sees it.
+fn show(lanes: &mut Vec<Near>, lane: usize)
+    requires { OneHidden lane lanes.old.items }
+    ensures shown { NoneHidden lanes.new.items }
+    ensures sight { (pool : Credits) (core : View) (v : Account) (p n : ℕ) → sight pool core lanes.new.items v p n ≡ sight pool core lanes.old.items v p n }
+    ensures count { length lanes.new.items ≡ length lanes.old.items }
+{
+    if lane < lanes.len() {
+        lanes[lane].flush();
+    }
+}
+
+/// Where the next lane is another one than the last, what the last one was offered goes into its ring.
+fn turn(lanes: &mut Vec<Near>, last: usize, next: usize)
+    requires { OneHidden last lanes.old.items }
+    ensures hidden { OneHidden next lanes.new.items }
+    ensures sight { (pool : Credits) (core : View) (v : Account) (p n : ℕ) → sight pool core lanes.new.items v p n ≡ sight pool core lanes.old.items v p n }
+    ensures count { length lanes.new.items ≡ length lanes.old.items }
+{
+    if next != last {
+        show(lanes, last);
+    }
+}
+
+/// Offers what was chosen to the lane's ring, once what another lane was offered before it is in the ring.
+fn give_one(
+    core: &mut Core,
+    lanes: &mut Vec<Near>,
+    offer: Offer,
+    last: usize,
+    log: &mut Vec<Step>,
+) -> bool
+    requires offer { IsOffer core.old offer.lane offer.delivery.queue (numbered_in offer.delivery) }
+    requires lanes { length lanes.old.items ≡ lanes_of core.old.shape }
+    requires hidden { OneHidden last lanes.old.items }
+    requires room { vec_len log.old < vec_capacity log.old }
+    ensures hands { (pool : Credits) (v : Account) (p n : ℕ) → Hands offer result (sight pool core.old lanes.old.items v p n) log.old.items (sight pool core.new lanes.new.items v p n) log.new.items }
+    ensures lanes { length lanes.new.items ≡ lanes_of core.new.shape }
+    ensures shape { core.new.shape ≡ core.old.shape }
+    ensures hidden { OneHidden offer.lane lanes.new.items }
+    ensures room { (vec_capacity log.new ≡ vec_capacity log.old) × (vec_len log.new ≡ vec_len log.old + 1) }
+{
+    turn(lanes, last, offer.lane);
+    offer_one(core, lanes, offer, log)
+}
+
+/// Gives what is chosen, one event after the other, until no choice is left. What a lane is given in a row its holder sees at once.
+fn give_each(core: &mut Core, lanes: &mut Vec<Near>, log: &mut Vec<Step>) -> (usize, usize)
+    requires lanes { length lanes.old.items ≡ lanes_of core.old.shape }
+    requires shown { NoneHidden lanes.old.items }
+    requires room { vec_len log.old + (core.old.shape.sweep * length core.old.shape.queues + lanes_of core.old.shape) ≤ vec_capacity log.old }
+    ensures gives { (pool : Credits) (v : Account) (p n : ℕ) → GivesAll result.0 result.1 (sight pool core.old lanes.old.items v p n) log.old.items (sight pool core.new lanes.new.items v p n) log.new.items }
+    ensures lanes { length lanes.new.items ≡ lanes_of core.new.shape }
+    ensures shown { NoneHidden lanes.new.items }
+{
+    let _ = core.shape().limit();
+    let mut skips = Skips::none();
+    let mut given = 0;
+    let mut bounced = 0;
+    let mut lane = 0;
+    while let Some(offer) = core.propose(&skips) {
+        if give_one(core, lanes, offer, lane, log) {
+            skips.given(offer.delivery.queue);
+            given += 1;
+        } else {
+            skips.bounced(offer.lane);
+            bounced += 1;
+        }
+        lane = offer.lane;
+    }
+    show(lanes, lane);
+    (given, bounced)
+}
 
 impl Scheduler {
-    /// Offers what was chosen to the lane's ring. Where the ring is full it goes on waiting.
-    fn offer_one(&mut self, offer: Offer, log: &mut Vec<Step>) -> bool
-        requires offer { IsOffer self.old.core offer.lane offer.delivery.queue (numbered_in offer.delivery) }
-        requires room { vec_len log.old < vec_capacity log.old }
-        ensures hands { Hands offer result (sight_of self.old) log.old.items (sight_of self.new) log.new.items }
-        ensures room { (vec_capacity log.new ≡ vec_capacity log.old) × (vec_len log.new ≡ vec_len log.old + 1) }
-    {
-        let near = &mut self.lanes[offer.lane];
-        match near.offer(offer.delivery) {
-            Ok(()) => {
-                self.core.give(offer, log);
-                true
-            }
-            Err(_) => {
-                self.core.bounce(offer.lane, log);
-                false
-            }
-        }
-    }
-
-    /// Makes what the lane was offered visible to its holder.
-    fn show(&mut self, lane: usize)
-        ensures { sight_of self.new ≡ sight_of self.old }
-    {
-        if lane < self.lanes.len() {
-            self.lanes[lane].offer_all();
-        }
-    }
-
-    /// Offers what was chosen to the lane's ring; before it, where that is another lane than the last one, what the last one was
-    /// offered is made visible.
-    fn give_one(&mut self, offer: Offer, last: usize, log: &mut Vec<Step>) -> bool
-        requires offer { IsOffer self.old.core offer.lane offer.delivery.queue (numbered_in offer.delivery) }
-        requires room { vec_len log.old < vec_capacity log.old }
-        ensures hands { Hands offer result (sight_of self.old) log.old.items (sight_of self.new) log.new.items }
-        ensures room { (vec_capacity log.new ≡ vec_capacity log.old) × (vec_len log.new ≡ vec_len log.old + 1) }
-    {
-        if offer.lane != last {
-            self.show(last);
-        }
-        self.offer_one(offer, log)
-    }
-
-    /// Gives what is chosen, one event after the other, until no choice is left. What a lane is given in a row its holder sees
-    /// at once.
+    /// Gives what is chosen until no choice is left.
     pub(crate) fn give_all(&mut self, log: &mut Vec<Step>) -> (usize, usize)
         requires room { vec_len log.old + (self.old.core.shape.sweep * length self.old.core.shape.queues + lanes_of self.old.core.shape) ≤ vec_capacity log.old }
         ensures { GivesAll result.0 result.1 (sight_of self.old) log.old.items (sight_of self.new) log.new.items }
     {
-        let _ = self.core.shape().limit();
-        let mut skips = Skips::none();
-        let mut given = 0;
-        let mut bounced = 0;
-        let mut lane = 0;
-        while let Some(offer) = self.core.propose(&skips) {
-            if self.give_one(offer, lane, log) {
-                skips.given(offer.delivery.queue);
-                given += 1;
-            } else {
-                skips.bounced(offer.lane);
-                bounced += 1;
-            }
-            lane = offer.lane;
-        }
-        self.show(lane);
-        (given, bounced)
+        give_each(&mut self.core, &mut self.lanes, log)
     }
 }

@@ -1,6 +1,6 @@
 //! The credit word: whether the device is shut, and the return of the credits of what was turned away.
 
-ghost use Rattle.std.specs.Prelude.{◌≡◌, ◌+◌, ◌<◌, ◌≤◌, vec_len, vec_capacity};
+ghost use Rattle.std.specs.Prelude.{◌≡◌, ◌+◌, ◌^◌, ◌<◌, ◌≤◌, vec_len, vec_capacity};
 ghost use Rattle.credit_pool.specs.Accounts.{Stays};
 ghost use Rattle.credit_pool.specs.Pool.{account, IsSeatOf};
 ghost use Rattle.event_scheduler.specs.Looking.{Looks, Rests, Returns};
@@ -46,6 +46,8 @@ impl Scheduler {
     pub(crate) fn give_back(&mut self)
         ensures rests { Rests (sight_of self.old) (sight_of self.new) }
         ensures tried { Returns (account self.old.seat) self.old.pocket (account self.new.seat) self.new.pocket }
+        ensures seen { (sight_of self.new).seen ≡ (sight_of self.old).seen }
+        ensures fits { self.old.pocket < 2 ^ 64 }
     {
         self.pocket = returned(&self.pool, &mut self.seat, self.pocket);
     }

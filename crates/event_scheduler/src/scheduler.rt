@@ -2,6 +2,7 @@
 
 ghost use Rattle.std.specs.Prelude.{◌≡◌, false, length};
 ghost use Rattle.credit_pool.specs.Pool.{account, IsSeatOf};
+ghost use Rattle.event_scheduler.specs.Hidden.{NoneHidden};
 ghost use Rattle.evt_types.specs.Plan.{lanes_of};
 ghost use Rattle.std.specs.Arc.{arc_value};
 
@@ -12,7 +13,8 @@ use sched_core::Core;
 use std::alloc::Global;
 use std::sync::Arc;
 
-/// The scheduler of a device. One thread sweeps with it.
+/// The scheduler of a device. One thread sweeps with it. Between two sweeps all that it gave is in the delivery rings, where the
+/// holders of the lanes see it.
 #[derive(Drop)]
 pub struct Scheduler {
     pub(crate) pool: Arc<Credits, Global>,
@@ -27,6 +29,7 @@ pub struct Scheduler {
     pub ghost drew_none: { (account seat).drawn ≡ 0 },
     pub ghost unset: { (account seat).set_shut ≡ false },
     pub ghost lanes_are: { length lanes.items ≡ lanes_of core.shape },
+    pub ghost shown: { NoneHidden lanes.items },
 }
 
 impl Scheduler {
@@ -70,6 +73,7 @@ impl Scheduler {
         ensures drawn { (account result.seat).drawn ≡ 0 }
         ensures unset { (account result.seat).set_shut ≡ false }
         ensures lanes { length result.lanes.items ≡ lanes_of result.core.shape }
+        ensures shown { NoneHidden result.lanes.items }
     {
         let Scheduler {
             pool,

@@ -1,8 +1,9 @@
 //! Replies of the lanes are taken.
 
-ghost use Rattle.std.specs.Prelude.{◌≡◌, ◌+◌, ◌*◌, ◌≤◌, ◌<◌, if◌then◌else◌, vec_len, vec_capacity};
-ghost use Rattle.event_scheduler.specs.Scheduler.{sight_of};
-ghost use Rattle.event_scheduler.specs.Taking.{Takes, entered_by, only, turned_by};
+ghost use Rattle.std.specs.Prelude.{◌≡◌, ◌≢◌, ℕ, ◌+◌, ◌*◌, ◌≤◌, ◌<◌, ◌⊎◌, List, [], IsFalse, Some, if◌then◌else◌, slice_get, vec_len, vec_capacity};
+ghost use Rattle.event_scheduler.specs.Scheduler.{seen_at, sight_of};
+ghost use Rattle.event_scheduler.specs.Taking.{MayEnd, Takes, TakesAll, entered_by, only, turned_by};
+ghost use Rattle.evt_types.specs.declared.step.Step.{Step as StepValue};
 ghost use Rattle.evt_types.specs.Plan.{lanes_of};
 ghost use Rattle.transcripts.specs.Standing.{kept_in};
 
@@ -36,6 +37,8 @@ impl Scheduler {
         requires lane { lane < lanes_of self.old.core.shape }
         requires room { vec_len log.old + kept_in self.old.core + 2 ≤ vec_capacity log.old }
         ensures takes { Takes (only lane (if result then 1 else 0)) (if result then 1 else 0) (sight_of self.old) log.old.items (sight_of self.new) log.new.items }
+        ensures ends { (n q : ℕ) → IsFalse result → MayEnd q self.new.core lane n (seen_at (sight_of self.new) lane) }
+        ensures others { (l : ℕ) → l ≢ lane → seen_at (sight_of self.new) l ≡ seen_at (sight_of self.old) l }
         ensures room { (vec_capacity log.new ≡ vec_capacity log.old) × (vec_len log.new + kept_in self.new.core ≤ vec_len log.old + kept_in self.old.core + 2) }
     {
         let near = &mut self.lanes[lane];
@@ -57,20 +60,23 @@ impl Scheduler {
     /// Brings replies of the lane out of its ring, no more than these. They are untaken still.
     fn fetch(&mut self, lane: usize, most: usize)
         requires { lane < lanes_of self.old.core.shape }
-        ensures sight { sight_of self.new ≡ sight_of self.old }
+        ensures takes { (log : List StepValue) → Takes (only lane 0) 0 (sight_of self.old) log (sight_of self.new) log }
         ensures core { self.new.core ≡ self.old.core }
+        ensures others { (l : ℕ) → l ≢ lane → seen_at (sight_of self.new) l ≡ seen_at (sight_of self.old) l }
     {
-        self.lanes[lane].take_all(most);
+        self.lanes[lane].fetch(most);
     }
 
-    /// Takes replies of the lane, no more than the sweep quantum, until its ring is empty or one may not be taken. The ring gives
-    /// by one store what is there at the begin.
+    /// Takes replies of the lane, no more than the sweep quantum, until none is seen or one may not be taken. The ring gives by one
+    /// store what is there at the begin.
     fn take_lane(&mut self, lane: usize, log: &mut Vec<Step>) -> usize
         requires lane { lane < lanes_of self.old.core.shape }
         requires room { vec_len log.old + kept_in self.old.core + 2 * self.old.core.shape.sweep ≤ vec_capacity log.old }
         ensures takes { Takes (only lane self.old.core.shape.sweep) result (sight_of self.old) log.old.items (sight_of self.new) log.new.items }
         ensures room { (vec_capacity log.new ≡ vec_capacity log.old) × (vec_len log.new + kept_in self.new.core ≤ vec_len log.old + kept_in self.old.core + 2 * self.old.core.shape.sweep) }
         ensures most { result ≤ self.old.core.shape.sweep }
+        ensures ends { MayEnd self.old.core.shape.sweep self.new.core lane result (seen_at (sight_of self.new) lane) }
+        ensures others { (l : ℕ) → l ≢ lane → seen_at (sight_of self.new) l ≡ seen_at (sight_of self.old) l }
     {
         let most = self.core.shape().sweep() as usize;
         self.fetch(lane, most);
@@ -83,6 +89,8 @@ impl Scheduler {
         ensures takes { Takes (only lane self.old.core.shape.sweep) result (sight_of self.old) log.old.items (sight_of self.new) log.new.items }
         ensures room { (vec_capacity log.new ≡ vec_capacity log.old) × (vec_len log.new + kept_in self.new.core ≤ vec_len log.old + kept_in self.old.core + 2 * self.old.core.shape.sweep) }
         ensures most { result ≤ self.old.core.shape.sweep }
+        ensures ends { MayEnd self.old.core.shape.sweep self.new.core lane result (seen_at (sight_of self.new) lane) }
+        ensures others { (l : ℕ) → l ≢ lane → seen_at (sight_of self.new) l ≡ seen_at (sight_of self.old) l }
     {
         let most = self.core.shape().sweep() as usize;
         for taken in 0..most {
@@ -96,7 +104,7 @@ impl Scheduler {
     /// Takes replies of each lane, by rising lane.
     pub(crate) fn take_all(&mut self, log: &mut Vec<Step>) -> usize
         requires room { vec_len log.old + kept_in self.old.core + 2 * self.old.core.shape.sweep * lanes_of self.old.core.shape ≤ vec_capacity log.old }
-        ensures takes { Takes (λ l. self.old.core.shape.sweep) result (sight_of self.old) log.old.items (sight_of self.new) log.new.items }
+        ensures takes { TakesAll self.old.core.shape.sweep result (sight_of self.old) log.old.items (sight_of self.new) log.new.items }
         ensures room { (vec_capacity log.new ≡ vec_capacity log.old) × (vec_len log.new + kept_in self.new.core ≤ vec_len log.old + kept_in self.old.core + 2 * self.old.core.shape.sweep * lanes_of self.old.core.shape) }
     {
         let count = self.core.shape().lanes();

@@ -2,7 +2,7 @@
 -- read, and leaves all stints.
 use Rattle.std.specs.Prelude.{◌≡◌, ◌≢◌, ℕ, ◌*◌, ◌/◌, ◌%◌, Bool, List, [], ◌∷◌, ◌++◌, All}
 use Rattle.std.specs.Prelude.Option.{None}
-use Rattle.lane_rings.specs.Ends.{unanswered}
+use Rattle.lane_rings.specs.Ends.{unanswered, hidden_answers}
 use Rattle.lane_rings.specs.declared.far.Far.{Far}
 use Rattle.flow_claims.specs.declared.claim.Claim.{Claim}
 use Rattle.flow_claims.specs.declared.claim.Claim.TheVariants.{WornOut, Busy, Raced, Held}
@@ -22,10 +22,10 @@ use Rattle.flow_claims.specs.Claims.{seating, port_of, IsSeatOf}
 abbrev pub most_stints : ℕ
 most_stints = 72057594037927935
 
--- the port holds the lane, with the lane's end, of which nothing is unanswered
+-- the port holds the lane, with the lane's end, of which nothing is unanswered or gathered
 abbrev pub Taken : ℕ → ℕ → ℕ → Far → Seating → Seating → Type 0
 Taken port lane number far v after =
-    (after ≡ after_begin (begun_by port lane number far) (after_look lane (256 * number) v)) × IsOf v.lanes lane far × (unanswered far ≡ [])
+    (after ≡ after_begin (begun_by port lane number far) (after_look lane (256 * number) v)) × IsOf v.lanes lane far × (unanswered far ≡ []) × (hidden_answers far ≡ [])
 
 -- The port asked for the lane.
 abbrev pub AnswersClaim : ℕ → ℕ → Seating → Claim → Seating → Type 0

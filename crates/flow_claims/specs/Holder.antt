@@ -5,7 +5,7 @@ use Rattle.std.specs.Prelude.Result.{Err}
 use Rattle.evt_types.specs.Operation.{is_answer}
 use Rattle.evt_types.specs.declared.event.Delivery.{Delivery}
 use Rattle.evt_types.specs.declared.event.Reply.{Reply}
-use Rattle.lane_rings.specs.Ends.{received_by, seen_deliveries, next_delivery, answered, answers_among, unanswered}
+use Rattle.lane_rings.specs.Ends.{received_by, seen_deliveries, next_delivery, answered, hidden_answers, answers_among, unanswered}
 use Rattle.lane_rings.specs.Identity.{far_id}
 use Rattle.lane_rings.specs.Refusal.{RefusesAnswer}
 use Rattle.lane_rings.specs.declared.far.AnswerFault.{AnswerFault}
@@ -15,13 +15,13 @@ use Rattle.lane_rings.specs.declared.far.Far.{Far}
 -- what `Far::receive` answered, and what it left
 pub record Receives (before : Far) (result : Option Delivery) (after : Far) : Type 0 where
   pub lane : far_id after ≡ far_id before
-  pub answered_is : answered after ≡ answered before
+  pub answered_is : (answered after ≡ answered before) × (hidden_answers after ≡ hidden_answers before)
   pub received : MatchOption result (received_by after ≡ received_by before) (λ d. received_by after ≡ received_by before ++ d ∷ [])
   pub held : MatchOption result (unanswered after ≡ unanswered before) (λ d. unanswered after ≡ unanswered before ++ d ∷ [])
   pub next : (d : Delivery) → next_delivery before ≡ Some d → result ≡ Some d
   pub none : IfNone result ((seen_deliveries before ≡ []) × (seen_deliveries after ≡ []))
 
--- what `Far::answer` answered, and what it left
+-- what `Far::answer` or `Far::stage` answered, and what it left
 pub record AnswersWith (before : Far) (reply : Reply) (result : Result (Unit {0}) AnswerFault) (after : Far) : Type 0 where
   pub lane : far_id after ≡ far_id before
   pub received : (received_by after ≡ received_by before) × (seen_deliveries after ≡ seen_deliveries before)

@@ -2,6 +2,7 @@
 
 ghost use Rattle.std.specs.Prelude.{◌+◌, ◌<◌, ◌^◌};
 
+use arrayvec::ArrayVec;
 use evt_types::{Delivery, Reply};
 use lane_rings::{AnswerFault, Far};
 
@@ -29,8 +30,8 @@ pub enum Claim {
 }
 
 impl Stint {
-    ghost use Rattle.std.specs.Prelude.{◌≡◌, ◌<◌, [], ◌∷◌, ◌++◌, length, MatchOption, MatchResult};
-    ghost use Rattle.lane_rings.specs.Ends.{answered, unanswered, hidden_answers};
+    ghost use Rattle.std.specs.Prelude.{◌≡◌, ◌<◌, ◌≤◌, [], ◌∷◌, ◌++◌, length, MatchOption, MatchResult};
+    ghost use Rattle.lane_rings.specs.Ends.{answered, unanswered, hidden_answers, seen_deliveries, Comes};
     ghost use Rattle.lane_rings.specs.Identity.{far_id};
     ghost use Rattle.flow_claims.specs.declared.seating.Seating.{Seating};
     ghost use Rattle.flow_claims.specs.Holder.{Receives, AnswersWith};
@@ -50,9 +51,25 @@ impl Stint {
         self.far.receive()
     }
 
+    /// `Far::receive_some` of the lane's end. The stint stays open in the seat that has it.
+    pub fn receive_some(&mut self, most: usize, into: &mut ArrayVec<Delivery, 64>)
+        requires { most ≤ 64 }
+        ensures far { (far_id self.new.far ≡ far_id self.old.far) × (answered self.new.far ≡ answered self.old.far) × (hidden_answers self.new.far ≡ hidden_answers self.old.far) }
+        ensures came { Comes self.old.far into.old.items self.new.far into.new.items }
+        ensures few { length into.old.items ≤ most → length into.new.items ≤ most }
+        ensures drained { length into.new.items < most → length (unanswered self.new.far) < (far_id self.new.far).depth → seen_deliveries self.new.far ≡ [] }
+        ensures lane { (self.new.lane ≡ self.old.lane) × (self.new.number ≡ self.old.number) }
+        ensures open { (v : Seating) → IsOpen v self.old → IsOpen v self.new }
+        ensures so_far { (v : Seating) → IsOpen v self.old → (c : Comes self.old.far into.old.items self.new.far into.new.items) → received_so_far v self.new ≡ received_so_far v self.old ++ c.came }
+        ensures answered { (v : Seating) → answered_so_far v self.new ≡ answered_so_far v self.old }
+    {
+        self.far.receive_some(most, into);
+    }
+
     /// `Far::answer` of the lane's end. The stint stays open in the seat that has it.
     pub fn answer(&mut self, reply: Reply) -> Result<(), AnswerFault>
         ensures far { AnswersWith self.old.far reply result self.new.far }
+        ensures shown { hidden_answers self.new.far ≡ [] }
         ensures lane { (self.new.lane ≡ self.old.lane) × (self.new.number ≡ self.old.number) }
         ensures open { (v : Seating) → IsOpen v self.old → IsOpen v self.new }
         ensures so_far { (v : Seating) → IsOpen v self.old → MatchResult result
@@ -63,14 +80,27 @@ impl Stint {
         self.far.answer(reply)
     }
 
-    /// `Far::answer_all` of the lane's end. The stint stays open in the seat that has it.
+    /// `Far::stage` of the lane's end. The stint stays open in the seat that has it.
+    pub fn stage(&mut self, reply: Reply) -> Result<(), AnswerFault>
+        ensures far { AnswersWith self.old.far reply result self.new.far }
+        ensures lane { (self.new.lane ≡ self.old.lane) × (self.new.number ≡ self.old.number) }
+        ensures open { (v : Seating) → IsOpen v self.old → IsOpen v self.new }
+        ensures so_far { (v : Seating) → IsOpen v self.old → MatchResult result
+            (λ _. answered_so_far v self.new ≡ answered_so_far v self.old ++ reply ∷ [])
+            (λ _. answered_so_far v self.new ≡ answered_so_far v self.old) }
+        ensures received { (v : Seating) → received_so_far v self.new ≡ received_so_far v self.old }
+    {
+        self.far.stage(reply)
+    }
+
+    /// `Far::flush` of the lane's end. The stint stays open in the seat that has it.
     pub fn flush(&mut self)
         ensures far { (far_id self.new.far ≡ far_id self.old.far) × (answered self.new.far ≡ answered self.old.far) × (unanswered self.new.far ≡ unanswered self.old.far) }
+        ensures shown { hidden_answers self.new.far ≡ [] }
         ensures lane { (self.new.lane ≡ self.old.lane) × (self.new.number ≡ self.old.number) }
         ensures open { (v : Seating) → IsOpen v self.old → IsOpen v self.new }
         ensures so_far { (v : Seating) → (received_so_far v self.new ≡ received_so_far v self.old) × (answered_so_far v self.new ≡ answered_so_far v self.old) }
-        ensures all { hidden_answers self.new.far ≡ [] }
     {
-        self.far.answer_all();
+        self.far.flush();
     }
 }

@@ -1,5 +1,6 @@
 -- The lists of a lane, as its two ends see them: offered and taken at the scheduler's end, received and answered at the holder's.
-use Rattle.std.specs.Prelude.{ℕ, List, Option, count_by, map, drop, slice_get}
+-- What is gathered at an end, to go into its ring at once, counts as offered or answered, and is hidden until then.
+use Rattle.std.specs.Prelude.{◌≡◌, ℕ, List, ◌++◌, Option, count_by, map, drop, slice_get}
 use Rattle.evt_types.specs.Operation.{is_answer}
 use Rattle.evt_types.specs.declared.event.Delivery.{Delivery}
 use Rattle.evt_types.specs.declared.event.Reply.{Reply}
@@ -14,19 +15,19 @@ use Rattle.lane_rings.specs.declared.near.Near.{Near}
 abbrev pub offered : Near → List Delivery
 offered near = put_in near.deliveries
 
--- the last of these, which the holder can't see before the next `offer_all`
+-- the last of these, which are not in the ring yet: the holder can't see them before the next `flush`
 abbrev pub hidden_offers : Near → List Delivery
 hidden_offers near = kept_back near.deliveries
 
--- every reply that the scheduler took
+-- every reply that the scheduler took: out of the ring, or of what `fetch` took out of it
 abbrev pub taken : Near → List Reply
 taken near = handed near.replies
 
--- the replies that the scheduler has seen, in its pocket and in the ring, and not taken
+-- the replies that the scheduler has seen, fetched and in the ring, and not taken
 abbrev pub seen_replies : Near → List Reply
 seen_replies near = ahead near.replies
 
--- those in its pocket: out of the ring, and not taken
+-- the first of these, which `fetch` took out of the ring
 abbrev pub fetched_replies : Near → List Reply
 fetched_replies near = inside near.replies.pocket
 
@@ -34,17 +35,13 @@ fetched_replies near = inside near.replies.pocket
 abbrev pub next_reply : Near → Option Reply
 next_reply near = slice_get (seen_replies near) 0
 
--- every delivery that the holder received
+-- every delivery that the holder received, which is all that came out of the ring
 abbrev pub received_by : Far → List Delivery
 received_by far = handed far.deliveries
 
--- the deliveries that the holder has seen, in its pocket and in the ring, and not received
+-- the deliveries that the holder has seen in the ring, and not received
 abbrev pub seen_deliveries : Far → List Delivery
 seen_deliveries far = ahead far.deliveries
-
--- those in its pocket: out of the ring, and not received
-abbrev pub fetched_deliveries : Far → List Delivery
-fetched_deliveries far = inside far.deliveries.pocket
 
 -- the first that was seen
 abbrev pub next_delivery : Far → Option Delivery
@@ -54,7 +51,7 @@ next_delivery far = slice_get (seen_deliveries far) 0
 abbrev pub answered : Far → List Reply
 answered far = put_in far.replies
 
--- the last of these, which the scheduler can't see before the next `answer_all`
+-- the last of these, which are not in the ring yet: the scheduler can't see them before the next `flush`
 abbrev pub hidden_answers : Far → List Reply
 hidden_answers far = kept_back far.replies
 
@@ -69,3 +66,10 @@ unanswered far = drop (answers_among (answered far)) (received_by far)
 -- the queue and the number of each of these
 abbrev pub held_list : Far → List (ℕ × ℕ)
 held_list far = map pair_of (unanswered far)
+
+-- Some deliveries came: they were received, are held, and stand behind what was in the array.
+pub record Comes (before : Far) (old : List Delivery) (after : Far) (new : List Delivery) : Type 0 where
+  pub came : List Delivery
+  pub array : new ≡ old ++ came
+  pub received : received_by after ≡ received_by before ++ came
+  pub held : unanswered after ≡ unanswered before ++ came

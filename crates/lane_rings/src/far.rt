@@ -1,14 +1,16 @@
 //! The holder's end of a lane.
 
-ghost use Rattle.std.specs.Prelude.{◌≡◌, ◌≤◌, length, count_by, map, drop};
+ghost use Rattle.std.specs.Prelude.{◌≡◌, ◌≤◌, ◌+◌, [], ◌++◌, length, count_by, map, drop};
 ghost use Rattle.evt_types.specs.Operation.{is_answer};
-ghost use Rattle.rtrb.specs.Ring.{consumer_capacity};
+ghost use Rattle.rtrb.specs.Ring.{consumer_capacity, known_items, SameConsumer};
 ghost use Rattle.evt_types.specs.Event.{pair_of};
 ghost use Rattle.lane_rings.specs.Intakes.{handed};
 ghost use Rattle.lane_rings.specs.Outlets.{put_in};
+ghost use Rattle.lane_rings.specs.Pockets.{inside};
 
 use crate::intake::Intake;
 use crate::outlet::Outlet;
+use arrayvec::ArrayVec;
 use circular_buffer::HeapCircularBuffer;
 use evt_types::{Delivery, Op, Reply};
 use thiserror::Error;
@@ -33,6 +35,7 @@ pub struct Far {
     pub ghost fewer: { count_by is_answer (put_in replies) ≤ length (handed deliveries) },
     ghost history_is: { history.items ≡ map pair_of (drop (count_by is_answer (put_in replies)) (handed deliveries)) },
     ghost room: { history.capacity ≡ consumer_capacity deliveries.ring },
+    ghost all_received: { inside deliveries.pocket ≡ [] },
 }
 
 /// Whether the reply ends the handling of a delivered event.
@@ -45,33 +48,41 @@ pub(crate) fn is_answering(reply: &Reply) -> bool
     }
 }
 
+/// Hands out what was fetched: to the array, and to the history of what is held.
+fn hand_out(
+    from: &mut Intake<Delivery>,
+    history: &mut HeapCircularBuffer<(usize, u64)>,
+    into: &mut ArrayVec<Delivery, 64>,
+)
+    requires history { length history.old.items + length (inside from.old.pocket) ≤ history.old.capacity }
+    requires into { length into.old.items + length (inside from.old.pocket) ≤ 64 }
+    ensures ring { SameConsumer from.old.ring from.new.ring × (known_items from.new.ring ≡ known_items from.old.ring) }
+    ensures handed { handed from.new ≡ handed from.old ++ inside from.old.pocket }
+    ensures none { inside from.new.pocket ≡ [] }
+    ensures history { (history.new.items ≡ history.old.items ++ map pair_of (inside from.old.pocket)) × (history.new.capacity ≡ history.old.capacity) }
+    ensures into { into.new.items ≡ into.old.items ++ inside from.old.pocket }
+{
+    while let Some(delivery) = from.next_fetched() {
+        history.push_back((delivery.queue, delivery.number));
+        into.push(delivery);
+    }
+}
+
 impl Far {
-    ghost use Rattle.std.specs.Prelude.{◌≡◌, ◌≢◌, ◌<◌, ◌≤◌, ◌↔◌, true, false, [], ◌∷◌, ◌++◌, length, drop, slice_get, IsTrue, OnOk, IfErr, IfNone, MatchOption, MatchResult};
+    ghost use Rattle.std.specs.Prelude.{◌≡◌, ◌≢◌, ◌<◌, ◌≤◌, ◌↔◌, ◌+◌, true, false, List, [], ◌∷◌, ◌++◌, length, drop, slice_get, IsTrue, OnOk, IfErr, IfNone, MatchOption, MatchResult};
     ghost use Rattle.evt_types.specs.Operation.{is_answer};
     ghost use mathlib.Core.List.{IsPrefix};
-    ghost use Rattle.lane_rings.specs.Ends.{received_by, seen_deliveries, fetched_deliveries, next_delivery, answered, hidden_answers, answers_among, unanswered, held_list};
+    ghost use Rattle.lane_rings.specs.Ends.{received_by, seen_deliveries, next_delivery, answered, hidden_answers, answers_among, unanswered, held_list, Comes};
     ghost use Rattle.lane_rings.specs.Identity.{far_id};
     ghost use Rattle.lane_rings.specs.Refusal.{RefusesAnswer};
 
-    /// Takes all deliveries that are in the ring out of it, by one store; where some are left that were taken out before, it does
-    /// nothing. They are received one by one, by `receive`, which calls it.
-    pub fn receive_all(&mut self)
-        ensures lane { far_id self.new ≡ far_id self.old }
-        ensures lists { (received_by self.new ≡ received_by self.old) × (answered self.new ≡ answered self.old) }
-        ensures held { unanswered self.new ≡ unanswered self.old }
-        ensures seen { IsPrefix (seen_deliveries self.old) (seen_deliveries self.new) }
-        ensures none { fetched_deliveries self.new ≡ [] → seen_deliveries self.new ≡ [] }
-    {
-        self.deliveries.look(usize::MAX);
-    }
-
-    /// Receives the oldest delivery; it is then held until it is answered. Wants `is_full` to be false: fewer are held than the
-    /// lane's depth.
+    /// Receives the oldest delivery out of the ring; it is then held until it is answered. Wants `is_full` to be false: fewer are
+    /// held than the lane's depth.
     /// `None` where no delivery is seen; the scheduler may have offered one by the next call.
     pub fn receive(&mut self) -> Option<Delivery>
         requires { length (unanswered self.old) < (far_id self.old).depth }
         ensures lane { far_id self.new ≡ far_id self.old }
-        ensures answered { answered self.new ≡ answered self.old }
+        ensures answered { (answered self.new ≡ answered self.old) × (hidden_answers self.new ≡ hidden_answers self.old) }
         ensures received { MatchOption result
             (received_by self.new ≡ received_by self.old)
             (λ d. received_by self.new ≡ received_by self.old ++ d ∷ []) }
@@ -81,16 +92,52 @@ impl Far {
         ensures next { (d : Delivery) → next_delivery self.old ≡ Some d → result ≡ Some d }
         ensures none { IfNone result ((seen_deliveries self.old ≡ []) × (seen_deliveries self.new ≡ [])) }
     {
-        self.receive_all();
+        self.deliveries.look(1);
         let delivery = self.deliveries.next()?;
         self.history.push_back((delivery.queue, delivery.number));
         Some(delivery)
     }
 
-    /// Gives a reply, which the scheduler sees after the next `answer_all`. A FORWARD or RELEASE answers the oldest delivery that is held. `Full` never comes before as
-    /// many replies were given as the ring has room for. A refused answer changes nothing.
-    #[tactic(auto, using(crate::proofs::Histories::of_held))]
+    /// Receives deliveries, oldest first, until the array has `most` or as many are held as the lane's depth allows: one by one as
+    /// `receive` does, but out of the ring by one store. Where it ends before that, none is seen in the ring.
+    pub fn receive_some(&mut self, most: usize, into: &mut ArrayVec<Delivery, 64>)
+        requires { most ≤ 64 }
+        ensures lane { far_id self.new ≡ far_id self.old }
+        ensures answered { (answered self.new ≡ answered self.old) × (hidden_answers self.new ≡ hidden_answers self.old) }
+        ensures came { Comes self.old into.old.items self.new into.new.items }
+        ensures few { length into.old.items ≤ most → length into.new.items ≤ most }
+        ensures within { length (unanswered self.new) ≤ (far_id self.new).depth }
+        ensures drained { length into.new.items < most → length (unanswered self.new) < (far_id self.new).depth → seen_deliveries self.new ≡ [] }
+    {
+        let room = self.history.capacity() - self.history.len();
+        let count = room.min(most.saturating_sub(into.len()));
+        self.deliveries.look(count);
+        hand_out(&mut self.deliveries, &mut self.history, into);
+    }
+
+    /// Puts a reply into the ring, where the scheduler sees it. A FORWARD or RELEASE answers the oldest delivery that is held. `Full`
+    /// never comes before as many replies were given as the ring has room for. A refused answer changes nothing.
     pub fn answer(&mut self, reply: Reply) -> Result<(), AnswerFault>
+        ensures lane { far_id self.new ≡ far_id self.old }
+        ensures received { (received_by self.new ≡ received_by self.old) × (seen_deliveries self.new ≡ seen_deliveries self.old) }
+        ensures answered { MatchResult result
+            (λ _. answered self.new ≡ answered self.old ++ reply ∷ [])
+            (λ _. answered self.new ≡ answered self.old) }
+        ensures held { MatchResult result
+            (λ _. unanswered self.new ≡ drop (answers_among (reply ∷ [])) (unanswered self.old))
+            (λ _. unanswered self.new ≡ unanswered self.old) }
+        ensures nothing_held { (result ≡ Err AnswerFault.NothingHeld) ↔ ((is_answer reply ≡ true) × (unanswered self.old ≡ [])) }
+        ensures refused { IfErr result (RefusesAnswer self.old reply) }
+        ensures shown { hidden_answers self.new ≡ [] }
+    {
+        let answer = self.stage(reply);
+        self.flush();
+        answer
+    }
+
+    /// As `answer`, but the reply is gathered: it goes into the ring by the next `flush`, and until then the scheduler can't see it.
+    #[tactic(auto, using(crate::proofs::Histories::of_held))]
+    pub fn stage(&mut self, reply: Reply) -> Result<(), AnswerFault>
         ensures lane { far_id self.new ≡ far_id self.old }
         ensures received { (received_by self.new ≡ received_by self.old) × (seen_deliveries self.new ≡ seen_deliveries self.old) }
         ensures answered { MatchResult result
@@ -115,11 +162,11 @@ impl Far {
         Ok(())
     }
 
-    /// Puts all that was answered into the ring, by one store: the scheduler sees it. Nothing that is seen at this end changes.
-    pub fn answer_all(&mut self)
+    /// Puts all that was gathered into the ring, by one store: the scheduler sees it. Nothing that is seen at this end changes.
+    pub fn flush(&mut self)
         ensures lane { far_id self.new ≡ far_id self.old }
         ensures lists { (received_by self.new ≡ received_by self.old) × (seen_deliveries self.new ≡ seen_deliveries self.old) × (answered self.new ≡ answered self.old) }
-        ensures all { hidden_answers self.new ≡ [] }
+        ensures shown { hidden_answers self.new ≡ [] }
     {
         self.replies.flush();
     }

@@ -1,6 +1,6 @@
 //! The reading side of a ring: one look takes out what is there, and what was taken out is handed out one by one.
 
-ghost use Rattle.std.specs.Prelude.{◌≡◌, ◌-◌, ◌<◌, ◌≤◌, ◌++◌, length, take, max};
+ghost use Rattle.std.specs.Prelude.{◌≡◌, ◌-◌, ◌++◌, length, take, max};
 ghost use Rattle.rtrb.specs.Ring.{received, consumer_capacity};
 ghost use Rattle.lane_rings.specs.Pockets.{inside, places_of};
 
@@ -13,7 +13,7 @@ use std::alloc::{AllocError, Global};
 pub(crate) struct Intake<T> {
     pub(crate) ring: Consumer<T>,
     pub(crate) pocket: Pocket<T>,
-    ghost room: { (0 < places_of pocket) × (places_of pocket ≤ max 1 (consumer_capacity ring)) },
+    ghost room: { places_of pocket ≡ max 1 (consumer_capacity ring) },
     ghost last: { received ring ≡ take (length (received ring) - length (inside pocket)) (received ring) ++ inside pocket },
 }
 
@@ -42,6 +42,7 @@ impl<T: Copy> Intake<T> {
         ensures none { 0 < most → inside self.new.pocket ≡ [] → ahead self.new ≡ [] }
         ensures few { inside self.old.pocket ≡ [] → length (inside self.new.pocket) ≤ most }
         ensures stays { inside self.old.pocket ≢ [] → inside self.new.pocket ≡ inside self.old.pocket }
+        ensures short { inside self.old.pocket ≡ [] → length (inside self.new.pocket) < most → most ≤ consumer_capacity self.old.ring → known_items self.new.ring ≡ [] }
     {
         if self.pocket.is_empty() {
             self.pocket.fill(&mut self.ring, most);
@@ -57,6 +58,18 @@ impl<T: Copy> Intake<T> {
         ensures ahead { MatchOption result
             ((ahead self.old ≡ []) × (ahead self.new ≡ []))
             (λ x. ahead self.old ≡ x ∷ ahead self.new) }
+        ensures pocket { MatchOption result (inside self.new.pocket ≡ []) (λ x. inside self.old.pocket ≡ x ∷ inside self.new.pocket) }
+    {
+        self.pocket.next()
+    }
+
+    /// The oldest item of the pocket, which leaves.
+    #[tactic(auto, using(crate::proofs::Handing::of_handing))]
+    pub(crate) fn next_fetched(&mut self) -> Option<T>
+        ensures ring { SameConsumer self.old.ring self.new.ring }
+        ensures handed { MatchOption result (handed self.new ≡ handed self.old) (λ x. handed self.new ≡ handed self.old ++ x ∷ []) }
+        ensures pocket { MatchOption result ((inside self.old.pocket ≡ []) × (inside self.new.pocket ≡ [])) (λ x. inside self.old.pocket ≡ x ∷ inside self.new.pocket) }
+        ensures known { known_items self.new.ring ≡ known_items self.old.ring }
     {
         self.pocket.next()
     }

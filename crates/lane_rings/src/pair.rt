@@ -1,7 +1,7 @@
 //! A lane is made as a pair of ends, and is at rest once both are in one hand.
 
 ghost use Rattle.std.specs.Prelude.{◌≡◌, ◌+◌, ◌≤◌, [], ◌++◌, length, max, IfOk};
-ghost use Rattle.lane_rings.specs.Ends.{offered, taken, seen_replies, received_by, seen_deliveries, answered, answers_among, held_list};
+ghost use Rattle.lane_rings.specs.Ends.{offered, hidden_offers, taken, seen_replies, fetched_replies, received_by, seen_deliveries, answered, hidden_answers, answers_among, held_list};
 ghost use Rattle.lane_rings.specs.Identity.{near_id, far_id};
 ghost use Rattle.lane_rings.specs.Intakes.{ahead, handed};
 ghost use Rattle.lane_rings.specs.Outlets.{put_in};
@@ -58,8 +58,8 @@ fn ends_of<T: Copy>(
 pub fn lane(alloc: Global, depth: usize, replies: usize) -> Result<(Near, Far), Memory>
     ensures pair { IfOk result (λ r. near_id r.0 ≡ far_id r.1) }
     ensures room { IfOk result (λ r. ((far_id r.1).depth ≡ depth) × ((far_id r.1).room ≡ replies)) }
-    ensures near { IfOk result (λ r. (offered r.0 ≡ []) × (taken r.0 ≡ []) × (seen_replies r.0 ≡ [])) }
-    ensures far { IfOk result (λ r. (received_by r.1 ≡ []) × (seen_deliveries r.1 ≡ []) × (answered r.1 ≡ [])) }
+    ensures near { IfOk result (λ r. (offered r.0 ≡ []) × (hidden_offers r.0 ≡ []) × (taken r.0 ≡ []) × (seen_replies r.0 ≡ []) × (fetched_replies r.0 ≡ [])) }
+    ensures far { IfOk result (λ r. (received_by r.1 ≡ []) × (seen_deliveries r.1 ≡ []) × (answered r.1 ≡ []) × (hidden_answers r.1 ≡ [])) }
 {
     let (offers, receipts) = ends_of(alloc, depth, no_delivery())?;
     let (answers, takings) = ends_of(alloc, replies, no_reply())?;
@@ -67,7 +67,6 @@ pub fn lane(alloc: Global, depth: usize, replies: usize) -> Result<(Near, Far), 
     let near = Near {
         deliveries: offers,
         replies: takings,
-        out: 0,
     };
     let far = Far {
         deliveries: receipts,
@@ -84,13 +83,13 @@ pub fn beside(near: Near, far: Far) -> Beside
     ensures undelivered { offered near ≡ received_by far ++ undelivered result }
     ensures untaken { answered far ≡ taken near ++ untaken result }
     ensures room { (length (undelivered result) ≤ (near_id near).depth) × (length (untaken result) ≤ (near_id near).room + max 1 (near_id near).room) }
+    ensures fetched { length (untaken result) ≤ (near_id near).room + length (fetched_replies near) }
     ensures held { still_held result ≡ held_list far }
     ensures fewer { answers_among (answered far) ≤ length (received_by far) }
 {
     let Near {
         deliveries: mut offers,
         replies: mut takings,
-        out: _,
     } = near;
     let Far {
         deliveries: mut receipts,

@@ -87,6 +87,7 @@ impl<T: Copy> Pocket<T> {
         ensures received { received ring.new ≡ received ring.old ++ inside self.new }
         ensures known { IsPrefix (known_items ring.old) (inside self.new ++ known_items ring.new) }
         ensures none { 0 < places_of self.old → 0 < most → inside self.new ≡ [] → known_items ring.new ≡ [] }
+        ensures short { length (inside self.new) < most → most ≤ places_of self.old → known_items ring.new ≡ [] }
         ensures few { length (inside self.new) ≤ most }
         ensures places { places_of self.new ≡ places_of self.old }
     {
@@ -102,6 +103,7 @@ fn pop_some<T: Copy>(ring: &mut Consumer<T>, places: &mut [T], most: usize) -> u
     ensures received { received ring.new ≡ received ring.old ++ take result places.new }
     ensures known { IsPrefix (known_items ring.old) (take result places.new ++ known_items ring.new) }
     ensures none { 0 < length places.old → 0 < most → result ≡ 0 → known_items ring.new ≡ [] }
+    ensures short { result < most → most ≤ length places.old → known_items ring.new ≡ [] }
     ensures few { (result ≤ most) × (result ≤ length places.old) }
     ensures places { length places.new ≡ length places.old }
 {

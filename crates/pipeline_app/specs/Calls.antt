@@ -1,5 +1,5 @@
 -- What a call of a port does: its clauses, over the port before the call and after it.
-use Rattle.std.specs.Prelude.{◌≡◌, ℕ, ◌+◌, ◌%◌, ◌^◌, ◌<◌, ◌≤◌, List, [], length, IsTrue, Result, Err, IfOk, IfErr, OnOk, MatchResult}
+use Rattle.std.specs.Prelude.{◌≡◌, ◌≢◌, ℕ, ◌+◌, ◌%◌, ◌^◌, ◌<◌, ◌≤◌, List, [], length, IsTrue, Result, Err, IfOk, IfErr, OnOk, MatchResult}
 use Rattle.credit_pool.specs.Accounts.{Stays}
 use Rattle.event_answers.specs.declared.answer.Behind.{Behind}
 use Rattle.event_answers.specs.declared.answer.Refused.{Refused}
@@ -7,6 +7,7 @@ use Rattle.event_answers.specs.declared.answer.Refused.TheVariants.{Stopped}
 use Rattle.event_ports.specs.Draws.{Settles}
 use Rattle.event_ports.specs.Lanes.{Dequeues, Releases, Rests, SubmitsTo, lane_for, reply_of}
 use Rattle.event_ports.specs.Ports.{Pays, Refuses, account_of, hand, links, place_of, pocket_of, released_first, seen_by, was_filled}
+use Rattle.event_ports.specs.declared.lane.Lane.TheVariants.{Own}
 use Rattle.event_ports.specs.declared.port.Port.{Port}
 use Rattle.evt_types.specs.declared.event.Delivery.{Delivery}
 use Rattle.evt_types.specs.declared.event.Event.{Event}
@@ -30,6 +31,7 @@ pub record IsDequeue (p : Port) (max : ℕ) (outcome : Result (List Delivery) Be
   pub ok : IfOk outcome (λ deliveries. Dequeues (links p) (released_first p) (hand p) (hand q) deliveries)
   pub few : IfOk outcome (λ deliveries. (length deliveries ≤ max) × (length (hand q).holding ≤ (place_of p).lanes.depth))
   pub drained : IfOk outcome (λ deliveries. length deliveries < max → length (hand q).holding < (place_of p).lanes.depth → seen_by q ≡ [])
+  pub own_first : IfOk outcome (λ deliveries. length ((hand q).got Own) ≢ length ((hand p).got Own) + length deliveries → seen_by q ≡ [])
   pub behind : IfErr outcome (λ b. IsTrue (place_of p).implicit × (b.released < length (hand p).holding) × Releases b.released (hand p) (hand q) × was_filled q ops.Release)
   pub settled : MatchResult outcome
       (λ _. Settles (place_of p).quantum ((pocket_of p + released_first p) % 2 ^ 64) (account_of p) (pocket_of q) (account_of q))

@@ -8,6 +8,7 @@ use Rattle.event_ports.specs.declared.lane.Lane.TheVariants.{Own}
 use Rattle.event_ports.specs.declared.port.Port.{Port}
 use Rattle.event_recorder.specs.Device.{Device, number_of, port_site, site_of}
 use Rattle.event_recorder.specs.Stop.{AreStints}
+use Rattle.flow_claims.specs.declared.seating.Past.{Past}
 use Rattle.evt_types.specs.Operation.{is_new_reply}
 use Rattle.evt_types.specs.Plan.{Plan, flow_lanes, lanes_of}
 use Rattle.evt_types.specs.declared.event.Reply.{Reply}
@@ -87,11 +88,11 @@ module _ (d : Device) (actions : List Action) (trace : List Entry) (rest : ℕ �
           subst (IsWorker actions) (sym (own_lists (x ∷ xs) n l x sites own low)) ((worked_at (x ∷ xs) l h some low x).worker (alone l x low))
 
   -- no other lane got a NEW: of its own no worker's, and no flow lane
-  pub no_other_news : (p : Plan) (ports : List Port) → map site_of ports ≡ map (port_site d) (range_with_len 0 (length p.ports)) → AreOwn rest ports
-      → ArePromised actions trace ports → ((j : ℕ) → j < length (flow_lanes p) → AreStints p j (rest (length p.ports + j))) → OthersSayNoNew p (lists_at rest)
+  pub no_other_news : (p : Plan) (finished : List Past) (ports : List Port) → map site_of ports ≡ map (port_site d) (range_with_len 0 (length p.ports)) → AreOwn rest ports
+      → ArePromised actions trace ports → ((j : ℕ) → j < length (flow_lanes p) → AreStints p j finished (rest (length p.ports + j))) → OthersSayNoNew p (lists_at rest)
   unfolding lanes_of
-  no_other_news p [] sites own h flows l some low = absurd h
-  no_other_news p (x ∷ xs) sites own h flows l some low = ⊎_elim worker flow (cases_lt l (length p.ports))
+  no_other_news p finished [] sites own h flows l some low = absurd h
+  no_other_news p finished (x ∷ xs) sites own h flows l some low = ⊎_elim worker flow (cases_lt l (length p.ports))
     where
       worker : l < length p.ports → All (λ (r : Reply). is_new_reply r ≡ false) (rest l).answered
       worker lt =

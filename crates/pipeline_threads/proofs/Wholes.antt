@@ -31,10 +31,10 @@ module _ (p : Plan) (actions : List Action) (trace : List Entry) (before after :
       let lawful : Lawful p T = subst (λ (x : Plan). Lawful x T) plan h.rests.lawful in
       let known : (l : ℕ) → IsLane T l (lists_at h.rest l) = λ l. lane_known T l (h.rest l) (h.rests.each l) (h.lanes.events l) in
       let own : AreOwn h.rest after.ports.items = (h.lanes.received, h.lanes.answered_is) in
-      let flows : (j : ℕ) → j < length (flow_lanes p) → AreStints p j (h.rest (length p.ports + j)) =
-      subst (λ (x : Plan). (j : ℕ) → j < length (flow_lanes x) → AreStints x j (h.rest (length x.ports + j))) plan h.lanes.flows in
+      let flows : (j : ℕ) → j < length (flow_lanes p) → AreStints p j h.finished (h.rest (length p.ports + j)) =
+      subst (λ (x : Plan). (j : ℕ) → j < length (flow_lanes x) → AreStints x j h.finished (h.rest (length x.ports + j))) plan h.lanes.flows in
       let producer = kept_producer ran.device actions trace h.rest after.ports.items (length p.ports) ran.ports_are own run.promised in
-      let others = no_other_news ran.device actions trace h.rest p after.ports.items ran.ports_are own run.promised flows in
+      let others = no_other_news ran.device actions trace h.rest p h.finished after.ports.items ran.ports_are own run.promised flows in
       subst (IsRunLog p actions trace) (sym h.log)
       (record {
         lawful = lawful;

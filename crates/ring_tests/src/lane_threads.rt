@@ -32,7 +32,6 @@ fn schedule(near: Near) -> (Near, bool)
             offered += 1;
             idle = 0;
         }
-        near.offer_all();
         match near.take() {
             Some(back) => {
                 in_order = in_order && back == reply(Op::Forward, taken);
@@ -73,7 +72,6 @@ fn hold(far: Far) -> (Far, bool)
                 idle = 0;
             }
         }
-        far.answer_all();
     }
     (far, in_order && answered == PASSES)
 }

@@ -7,6 +7,7 @@ ghost use Rattle.lane_rings.specs.Identity.{near_id, far_id};
 
 use crate::left::{holds, leaves};
 use crate::made::{delivery, reply};
+use arrayvec::ArrayVec;
 use evt_types::{Delivery, Op, Reply};
 use lane_rings::{AnswerFault, Far, Memory, Near, beside, lane};
 use std::alloc::Global;
@@ -17,14 +18,19 @@ use std::test::Fail;
 enum Call {
     /// The delivery is offered; whether there is room for it.
     Offer(u64, bool),
-    OfferAll,
+    /// The same, gathered.
+    Stage(u64, bool),
+    Flush,
     Peek(Option<(Op, u64)>),
     Take(Option<(Op, u64)>),
-    TakeAll(usize),
+    Fetch(usize),
     Receive(Option<u64>),
-    ReceiveAll,
+    /// So many are wanted, and these come.
+    ReceiveSome(usize, &'static [u64]),
     Answer(Op, u64, Said),
-    AnswerAll,
+    /// The same, gathered.
+    StageReply(Op, u64, Said),
+    FlushReplies,
     /// Whether as many deliveries are held as the lane's depth allows.
     IsFull(bool),
     /// How many deliveries are held, and which of them is the oldest.
@@ -59,8 +65,6 @@ static ROWS: [Row; 5] = [
         calls: &[
             Call::Offer(0, true),
             Call::Offer(1, false),
-            Call::Receive(None),
-            Call::OfferAll,
             Call::IsFull(false),
             Call::Receive(Some(0)),
             Call::Answer(Op::Release, 4, Said::Given),
@@ -80,18 +84,13 @@ static ROWS: [Row; 5] = [
             Call::Take(None),
             Call::Receive(None),
             Call::Offer(0, true),
-            Call::OfferAll,
             Call::Receive(Some(0)),
             Call::Offer(1, true),
-            Call::OfferAll,
             Call::Receive(Some(1)),
             Call::Offer(2, true),
-            Call::OfferAll,
             Call::Receive(Some(2)),
             Call::Offer(9, true),
             Call::Answer(Op::New, 8, Said::Given),
-            Call::Peek(None),
-            Call::AnswerAll,
             Call::Answer(Op::Forward, 9, Said::Given),
             Call::Peek(Some((Op::New, 8))),
             Call::Take(Some((Op::New, 8))),
@@ -110,10 +109,8 @@ static ROWS: [Row; 5] = [
             Call::Answer(Op::Release, 0, Said::NothingHeld),
             Call::Holds(0, None),
             Call::Offer(0, true),
-            Call::OfferAll,
             Call::Receive(Some(0)),
             Call::Offer(1, true),
-            Call::OfferAll,
             Call::Receive(Some(1)),
             Call::Answer(Op::New, 1, Said::Given),
             Call::Answer(Op::New, 2, Said::Full),
@@ -121,7 +118,6 @@ static ROWS: [Row; 5] = [
             Call::Answer(Op::Release, 4, Said::Full),
             Call::Holds(2, Some(0)),
             Call::IsFull(true),
-            Call::AnswerAll,
             Call::Take(Some((Op::New, 1))),
             Call::Answer(Op::Forward, 5, Said::Given),
             Call::Answer(Op::Release, 6, Said::Full),
@@ -132,29 +128,25 @@ static ROWS: [Row; 5] = [
         untaken: &[(Op::Forward, 5)],
         held: &[1],
     },
-    // What came out of the ring is received one by one, and is out until it is answered.
+    // What is gathered isn't seen before the flush, and takes places of the ring; no more is received than may be held.
     Row {
         name: "deliveries by slices",
         depth: 2,
         replies: 2,
         calls: &[
-            Call::ReceiveAll,
-            Call::Offer(0, true),
-            Call::Offer(1, true),
-            Call::OfferAll,
-            Call::ReceiveAll,
-            Call::Offer(2, false),
-            Call::IsFull(false),
-            Call::Receive(Some(0)),
-            Call::Answer(Op::Release, 5, Said::Given),
-            Call::AnswerAll,
-            Call::Take(Some((Op::Release, 5))),
+            Call::Stage(0, true),
+            Call::Stage(1, true),
+            Call::Stage(2, false),
+            Call::Receive(None),
+            Call::Flush,
+            Call::ReceiveSome(1, &[0]),
             Call::Offer(2, true),
-            Call::OfferAll,
+            Call::ReceiveSome(64, &[1]),
+            Call::IsFull(true),
         ],
-        undelivered: &[1, 2],
+        undelivered: &[2],
         untaken: &[],
-        held: &[],
+        held: &[0, 1],
     },
     // As many replies as were wanted come out of the ring, leave its places free, and are untaken until they are taken.
     Row {
@@ -162,18 +154,18 @@ static ROWS: [Row; 5] = [
         depth: 2,
         replies: 2,
         calls: &[
-            Call::Answer(Op::New, 0, Said::Given),
-            Call::Answer(Op::New, 1, Said::Given),
-            Call::AnswerAll,
-            Call::TakeAll(1),
+            Call::StageReply(Op::New, 0, Said::Given),
+            Call::StageReply(Op::New, 1, Said::Given),
+            Call::StageReply(Op::New, 2, Said::Full),
+            Call::Peek(None),
+            Call::FlushReplies,
+            Call::Fetch(1),
             Call::Answer(Op::New, 2, Said::Given),
-            Call::AnswerAll,
             Call::Answer(Op::New, 3, Said::Full),
             Call::Take(Some((Op::New, 0))),
-            Call::TakeAll(2),
+            Call::Fetch(2),
             Call::Answer(Op::New, 3, Said::Given),
             Call::Answer(Op::New, 4, Said::Given),
-            Call::AnswerAll,
         ],
         undelivered: &[],
         untaken: &[(Op::New, 1), (Op::New, 2), (Op::New, 3), (Op::New, 4)],
@@ -201,15 +193,20 @@ fn delivery_of(wanted: Option<u64>) -> Option<Delivery> {
 }
 
 /// Whether there is room for the delivery, which comes back where there isn't.
-fn offers(near: &mut Near, delivery: Delivery, has_room: bool) -> bool
+fn offers(near: &mut Near, delivery: Delivery, gathers: bool, has_room: bool) -> bool
     ensures { near_id near.new ≡ near_id near.old }
 {
     let wanted = if has_room { Ok(()) } else { Err(delivery) };
-    near.offer(delivery) == wanted
+    let answer = if gathers {
+        near.stage(delivery)
+    } else {
+        near.offer(delivery)
+    };
+    answer == wanted
 }
 
 /// Whether this is said of the reply, which comes back where there is no room for it.
-fn answers(far: &mut Far, reply: Reply, said: Said) -> bool
+fn answers(far: &mut Far, reply: Reply, gathers: bool, said: Said) -> bool
     ensures { far_id far.new ≡ far_id far.old }
 {
     let wanted = match said {
@@ -217,38 +214,65 @@ fn answers(far: &mut Far, reply: Reply, said: Said) -> bool
         Said::NothingHeld => Err(AnswerFault::NothingHeld),
         Said::Full => Err(AnswerFault::Full(reply)),
     };
-    far.answer(reply) == wanted
+    let answer = if gathers {
+        far.stage(reply)
+    } else {
+        far.answer(reply)
+    };
+    answer == wanted
 }
 
-/// Makes the call; whether it answered what it must.
-fn make(near: &mut Near, far: &mut Far, call: Call) -> bool
-    ensures near { near_id near.new ≡ near_id near.old }
-    ensures far { far_id far.new ≡ far_id far.old }
+/// Whether just these come where so many are wanted.
+fn receives(far: &mut Far, most: usize, wanted: &[u64]) -> bool
+    ensures { far_id far.new ≡ far_id far.old }
+{
+    let mut came: ArrayVec<Delivery, 64> = ArrayVec::new();
+    far.receive_some(most.min(64), &mut came);
+    for (place, number) in wanted.iter().enumerate() {
+        if place >= came.len() || came[place] != delivery(*number) {
+            return false;
+        }
+    }
+    came.len() == wanted.len()
+}
+
+/// Makes a call of the scheduler's end; whether it answered what it must.
+fn make_near(near: &mut Near, call: Call) -> bool
+    ensures { near_id near.new ≡ near_id near.old }
 {
     match call {
-        Call::Offer(number, has_room) => offers(near, delivery(number), has_room),
-        Call::OfferAll => {
-            near.offer_all();
+        Call::Offer(number, has_room) => offers(near, delivery(number), false, has_room),
+        Call::Stage(number, has_room) => offers(near, delivery(number), true, has_room),
+        Call::Flush => {
+            near.flush();
             true
         }
         Call::Peek(wanted) => near.peek() == reply_of(wanted),
         Call::Take(wanted) => near.take() == reply_of(wanted),
-        Call::TakeAll(most) => {
-            near.take_all(most);
+        Call::Fetch(most) => {
+            near.fetch(most);
             true
         }
+        _ => true,
+    }
+}
+
+/// Makes a call of the holder's end; whether it answered what it must.
+fn make_far(far: &mut Far, call: Call) -> bool
+    ensures { far_id far.new ≡ far_id far.old }
+{
+    match call {
         Call::Receive(wanted) => !far.is_full() && far.receive() == delivery_of(wanted),
-        Call::ReceiveAll => {
-            far.receive_all();
-            true
-        }
-        Call::Answer(op, number, said) => answers(far, reply(op, number), said),
-        Call::AnswerAll => {
-            far.answer_all();
+        Call::ReceiveSome(most, wanted) => receives(far, most, wanted),
+        Call::Answer(op, number, said) => answers(far, reply(op, number), false, said),
+        Call::StageReply(op, number, said) => answers(far, reply(op, number), true, said),
+        Call::FlushReplies => {
+            far.flush();
             true
         }
         Call::IsFull(wanted) => far.is_full() == wanted,
         Call::Holds(count, oldest) => holds(far, count, oldest),
+        _ => true,
     }
 }
 
@@ -258,7 +282,7 @@ fn play(near: &mut Near, far: &mut Far, calls: &[Call]) -> Option<usize>
     ensures far { far_id far.new ≡ far_id far.old }
 {
     for (place, call) in calls.iter().enumerate() {
-        if !make(near, far, *call) {
+        if !make_near(near, *call) || !make_far(far, *call) {
             return Some(place);
         }
     }

@@ -5,7 +5,7 @@ ghost use Rattle.lane_rings.specs.Identity.{near_id, far_id};
 
 use crate::left::{holds, leaves};
 use crate::made::{delivery, reply};
-use evt_types::Op;
+use evt_types::{Op, Reply};
 use lane_rings::{AnswerFault, Far, Near, beside, lane};
 use std::test::Fail;
 
@@ -156,7 +156,6 @@ fn deliver(near: &mut Near, far: &mut Far, numbers: &[u64]) -> bool
 {
     for number in numbers {
         let offered = near.offer(delivery(*number));
-        near.offer_all();
         if offered.is_err() || far.is_full() || far.receive() != Some(delivery(*number)) {
             return false;
         }
@@ -164,12 +163,23 @@ fn deliver(near: &mut Near, far: &mut Far, numbers: &[u64]) -> bool
     true
 }
 
+/// What is said of a reply that is answered, or gathered.
+fn say(far: &mut Far, reply: Reply, gathers: bool) -> Result<(), AnswerFault>
+    ensures { far_id far.new ≡ far_id far.old }
+{
+    if gathers {
+        far.stage(reply)
+    } else {
+        far.answer(reply)
+    }
+}
+
 /// Gives a reply of each kind; whether all were accepted.
-fn give(far: &mut Far, ops: &[Op]) -> bool
+fn give(far: &mut Far, ops: &[Op], gathers: bool) -> bool
     ensures { far_id far.new ≡ far_id far.old }
 {
     for (place, op) in ops.iter().enumerate() {
-        if far.answer(reply(*op, place as u64)) != Ok(()) {
+        if say(far, reply(*op, place as u64), gathers) != Ok(()) {
             return false;
         }
     }
@@ -194,10 +204,9 @@ fn turn(near: &mut Near, far: &mut Far, count: u64) -> bool
     ensures far { far_id far.new ≡ far_id far.old }
 {
     for _ in 0..count {
-        if !deliver(near, far, &[8]) || !give(far, &[Op::Release]) {
+        if !deliver(near, far, &[8]) || !give(far, &[Op::Release], false) {
             return false;
         }
-        far.answer_all();
         if !take(near, &[Op::Release]) {
             return false;
         }
@@ -211,7 +220,7 @@ fn holds_all(far: &Far, numbers: &[u64]) -> bool {
 }
 
 /// Whether the row's reply is refused for its cause, and what is held is the same before and after.
-fn refuses(far: &mut Far, row: &Row) -> bool
+fn refuses(far: &mut Far, row: &Row, gathers: bool) -> bool
     ensures { far_id far.new ≡ far_id far.old }
 {
     let refused = reply(row.refused, 7);
@@ -220,7 +229,7 @@ fn refuses(far: &mut Far, row: &Row) -> bool
     } else {
         AnswerFault::NothingHeld
     };
-    holds_all(far, row.held) && far.answer(refused) == Err(cause) && holds_all(far, row.held)
+    holds_all(far, row.held) && say(far, refused, gathers) == Err(cause) && holds_all(far, row.held)
 }
 
 /// Whether number 9 is received now, and the reply that was refused is accepted and is all that is taken.
@@ -232,57 +241,52 @@ fn goes_on(near: &mut Near, far: &mut Far, row: &Row) -> bool
         return false;
     }
     let answered = far.answer(reply(row.refused, 7));
-    far.answer_all();
     answered == Ok(()) && near.take() == Some(reply(row.refused, 7)) && near.take() == None
 }
 
 /// Brings a lane to where the row's reply is refused; whether all came there.
-fn comes(near: &mut Near, far: &mut Far, row: &Row, turns: u64) -> bool
+fn comes(near: &mut Near, far: &mut Far, row: &Row, turns: u64, gathers: bool) -> bool
     ensures near { near_id near.new ≡ near_id near.old }
     ensures far { far_id far.new ≡ far_id far.old }
 {
     turn(near, far, turns)
         && deliver(near, far, row.received)
-        && give(far, row.given)
+        && give(far, row.given, gathers)
         && near.offer(delivery(9)) == Ok(())
 }
 
 /// Whether the row's reply is refused where the lane is now, what was given before it is taken, and the lane goes on.
-fn refuses_once(near: &mut Near, far: &mut Far, row: &Row) -> bool
+fn refuses_once(near: &mut Near, far: &mut Far, row: &Row, gathers: bool) -> bool
     ensures near { near_id near.new ≡ near_id near.old }
     ensures far { far_id far.new ≡ far_id far.old }
 {
-    let is_refused = refuses(far, row);
-    far.answer_all();
+    let is_refused = refuses(far, row, gathers);
+    far.flush();
     is_refused && take(near, row.given) && goes_on(near, far, row)
 }
 
 /// Brings a lane to where the row's reply is refused, has it refused, and goes on; whether all is as the row says.
-fn plays(near: Near, far: Far, row: &Row, turns: u64, flushes: bool) -> bool
+fn plays(near: Near, far: Far, row: &Row, turns: u64, gathers: bool) -> bool
     requires { near_id near ≡ far_id far }
 {
     let (mut near, mut far) = (near, far);
-    let is_there = comes(&mut near, &mut far, row, turns);
-    near.offer_all();
-    if flushes {
-        far.answer_all();
-    }
-    let is_same = refuses_once(&mut near, &mut far, row);
+    let is_there = comes(&mut near, &mut far, row, turns, gathers);
+    let is_same = refuses_once(&mut near, &mut far, row, gathers);
     let mut rests = beside(near, far);
     is_there && is_same && leaves(&mut rests, &[], &[], row.left)
 }
 
-/// The rows, over the places at which a ring begins, and with what was given seen by the scheduler or not.
+/// The rows, over the places at which a ring begins, and with what was given in the ring, or gathered.
 #[test]
 fn a_refused_reply_changes_nothing(rt: HostRuntime) -> Result<(), Fail> {
     for row in &ROWS {
         for turns in 0..4 {
-            for flushes in [false, true] {
+            for gathers in [false, true] {
                 let (near, far) = lane(rt.alloc(), DEPTH, ROOM)?;
                 let name = row.name;
                 assert!(rt;
-                    plays(near, far, row, turns, flushes),
-                    "{name}, {turns} turns, {flushes}"
+                    plays(near, far, row, turns, gathers),
+                    "{name}, {turns} turns, {gathers}"
                 );
             }
         }

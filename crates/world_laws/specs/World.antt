@@ -1,5 +1,7 @@
--- The running world: what the scheduler did, and of each lane what was received and said. Its moves are what threads do: a reply is pushed, and
--- popped by the scheduler; a delivery is pushed by the scheduler, and popped. Whatever the threads do is one list of moves.
+-- The running world: what the scheduler did, and of each lane what was received and said. Its moves are what threads do: a reply is submitted by
+-- the push with which the scheduler can see it, and taken by the scheduler out of the ring, or out of what it fetched from the ring before; a
+-- delivery is given by the push with which the holder can see it, and received by its pop. What one store pushes or pops together, n items, is
+-- n moves, one after the other. Whatever the threads do is one list of moves.
 use Rattle.std.specs.Prelude.{ℕ, ◌≡◌, ◌+◌, ◌<◌, ◌≤◌, Bool, true, false, List, [], ◌∷◌, ◌++◌, ◌==◌, length, map, take, drop, fold, count_by, Option, Some, None, slice_get, if◌then◌else◌}
 use Rattle.std.specs.List.{cons_option}
 use Rattle.evt_types.specs.Operation.{is_answer, is_new_reply}

@@ -1,17 +1,15 @@
 use Rattle.std.proofs.Common.{◌≡◌, ◌∙◌, ◌∷◌, [], All, length, sym, ap, subst, arith}
 use Rattle.std.proofs.lemmas.List.{length-append}
 use Rattle.std.proofs.lemmas.List.Elements.{All-push}
-use Rattle.lane_rings.specs.Ends.{received_by, answered}
-use Rattle.lane_rings.specs.declared.far.Far.{Far}
+use Rattle.flow_claims.specs.Laws.{IsUnused}
 use Rattle.claim_tests.proofs.turns.eight_lanes.Goals as goal
 
 pub loop-round-preserved : goal.loop-round-preserved
 loop-round-preserved c =
     let was = c.loop-round.invariant in
-    let pushed = c.push_reserved.ensures.items in
-    let Fresh : Far → Type 0 = λ far. (received_by far ≡ []) × (answered far ≡ []) in (
+    let pushed = c.push_reserved.ensures.items in (
       omega (arith, was.0, ap length pushed, length-append c.loop-round.ends.items (c.in_ok-_near.far ∷ [])),
       c.push_reserved.ensures.capacity ∙ was.1,
-      subst (All Fresh) (sym pushed)
-          (All-push Fresh c.loop-round.ends.items c.in_ok-_near.far was.2 (c.in_ok-_near.ensures.far.0, c.in_ok-_near.ensures.far.2)),
+      subst (All IsUnused) (sym pushed)
+          (All-push IsUnused c.loop-round.ends.items c.in_ok-_near.far was.2 (c.in_ok-_near.ensures.far.0, c.in_ok-_near.ensures.far.2, c.in_ok-_near.ensures.far.3)),
     )

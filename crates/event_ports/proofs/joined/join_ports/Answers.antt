@@ -1,12 +1,12 @@
 -- One port more is joined, and what is left of it is added.
-use Rattle.std.proofs.Common.{rules, ◌≡◌, ◌≤◌, ◌∙◌, ◌∷◌, [], ℕ, ◌+◌, length, map, subst, ap, sym, List, arith}
+use Rattle.std.proofs.Common.{rules, ◌≡◌, ◌≤◌, ◌∙◌, ◌∷◌, [], ℕ, ◌+◌, length, map, subst, ap, sym, List, arith, append_assoc, ◌++◌}
 use Rattle.std.proofs.lemmas.List.{length-map, length-append}
 use Rattle.lane_rings.specs.Ends.{received_by, answered, held_list}
 use Rattle.lane_rings.specs.Identity.{far_id}
 use Rattle.credit_pool.specs.Pool.{account}
 use Rattle.credit_pool.specs.Pockets.{IsPocket}
 use Rattle.flow_claims.specs.Claims.{seating}
-use Rattle.event_ports.specs.declared.joined.Rest.{Rest}
+use Rattle.event_ports.specs.declared.rest.Rest.{Rest}
 use Rattle.event_ports.specs.declared.lane.Lane.TheVariants.{Own, Flow}
 use Rattle.event_ports.specs.declared.port.Port.{Port}
 use Rattle.event_ports.specs.Ports.{place_of, account_of, pocket_of, hand, news_by, releases_by}
@@ -14,7 +14,7 @@ use Rattle.event_ports.specs.Lanes.{held_of, pair_in}
 use Rattle.event_ports.specs.Stop.{LinksAgree, flows_in, IsPaid, IsCounted}
 use Rattle.std.proofs.lemmas.List.Elements.{All-push}
 use Rattle.lists.proofs.Lists.{All-last, All-front}
-use Rattle.event_ports.proofs.Joining.{sum_one_more, counts_more, held_more, no_new_more, linked_more, one_more}
+use Rattle.event_ports.proofs.Joining.{sum_one_more, counts_more, held_more, no_new_more, linked_more, one_more, stints_more}
 use Rattle.event_ports.proofs.joined.join_ports.Goals as goal
 
 pub push_reserved-requires : goal.push_reserved-requires
@@ -45,6 +45,9 @@ loop-port-preserved c =
         parts = sum_one_more (λ p. (account_of p).parts) _ (account c.loop-port.credit).parts seat.parts ports port was.parts (ap (λ v. v.parts) now.credit.1);
         bit = now.bit ∙ was.bit;
         flow_parts = sum_one_more (λ p. (place_of p).lanes.flows.parts) _ (seating c.loop-port.claim).parts _ ports port was.flow_parts now.stints.parts;
+        stints = was.stints ++ now.stints.stints;
+        finished = now.stints.finished ∙ (ap (λ ps. ps ++ now.stints.stints) was.finished ∙ append_assoc _ was.stints now.stints.stints);
+        ports_are = stints_more ports port was.stints now.stints.stints was.ports_are now.stints.lists now.stints.linked;
         counted_is = λ P n. sum_one_more (flows_in P n) _ _ _ ports port (was.counted_is P n) (counts_more P n port (seating c.loop-port.claim) (seating c.join_port-its_credit.result.1) now.stints);
         held = λ j. sum_one_more (λ p. length (held_of (Flow j) (hand p).holding)) _ _ _ ports port (was.held j) (held_more port (seating c.loop-port.claim) (seating c.join_port-its_credit.result.1) j now.stints);
         no_new = λ none. no_new_more port (seating c.loop-port.claim) (seating c.join_port-its_credit.result.1) now.stints now.no_new (was.no_new none);

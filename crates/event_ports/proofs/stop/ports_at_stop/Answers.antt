@@ -1,8 +1,9 @@
-use Rattle.event_ports.proofs.AtStop.{held, all_held, all_counted, no_new}
+use Rattle.event_ports.proofs.AtStop.{all_held, all_counted, no_new}
+use Rattle.event_ports.proofs.Endings.{left_is}
 use Rattle.event_ports.proofs.stop.ports_at_stop.Goals as goal
 
 pub returns-clause-held : goal.returns-clause-held
-returns-clause-held c lanes finished lane far is = held lanes finished lane far is
+returns-clause-held c lanes finished lane far is = left_is lanes finished lane far is
 
 pub returns-clause-all_held : goal.returns-clause-all_held
 returns-clause-all_held c pool claims credit claim ports credits_after claims_after ends is fresh counted of_these are =

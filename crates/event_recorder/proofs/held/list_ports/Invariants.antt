@@ -1,6 +1,6 @@
 use Rattle.std.proofs.Common.{◌≡◌, ◌+◌, ◌≤◌, length, map, flat_map}
 use Rattle.std.specs.Prelude.{vec_capacity, vec_len, sum_by}
-use Rattle.event_ports.specs.declared.joined.Rest.{Rest}
+use Rattle.event_ports.specs.declared.rest.Rest.{Rest}
 use Rattle.event_recorder.specs.Held.{held_in}
 use Rattle.event_recorder.proofs.held.list_ports.Given as goal
 

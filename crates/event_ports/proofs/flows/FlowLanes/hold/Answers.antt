@@ -1,7 +1,8 @@
 -- What a claim makes of the port's flow lanes.
-use Rattle.std.proofs.Common.{◌≡◌, ap, ◌∙◌}
+use Rattle.std.proofs.Common.{◌≡◌, ◌<◌, length, arith, ap, ◌∙◌, Some}
 use Rattle.std.specs.Arc.{arc_value}
 use Rattle.flow_claims.specs.Claims.{seating, claims_id, lanes_of, IsSeatOf}
+use Rattle.event_ports.proofs.Shown.{none_set, touched_set}
 use Rattle.event_ports.proofs.Turns.{refused, claimed}
 use Rattle.event_ports.proofs.flows.FlowLanes.hold.Goals as goal
 
@@ -9,13 +10,20 @@ pub invariant_of-self-2 : goal.invariant_of-self-2
 invariant_of-self-2 c =
     let got = c.in-Held.ensures.answer in
     let seat_of : IsSeatOf (arc_value c.args.self.now.claims) c.claim.new.seat = (c.claim.ensures.seat.0 ∙ ap claims_id c.deref.ensures, c.claim.ensures.seat.1 ∙ ap lanes_of c.deref.ensures) in
+    let within : c.args.lane < length c.args.self.now.stints.items = omega (arith, c.args.self.now.are.places, c.requires.exists) in
     record {
       are = claimed _ _ c.args.self.now.seat c.claim.new.seat _ _ _ c.args.self.now.are seat_of c.claim.ensures.port c.claim.ensures.finished c.claim.ensures.others
           c.requires.exists c.requires.linked got.0 got.3;
+      shown = touched_set c.args.self.now.touched c.args.self.now.stints.items c.args.lane (Some c.in-Held.stint) within (λ other. got.2.3) c.args.self.now.shown;
     }
+
+pub returns-clause-shown : goal.returns-clause-shown
+returns-clause-shown c none =
+    let within : c.args.lane < length c.args.self.now.stints.items = omega (arith, c.args.self.now.are.places, c.requires.exists) in
+    none_set c.args.self.now.stints.items c.args.lane (Some c.in-Held.stint) within c.in-Held.ensures.answer.2.3 none
 
 pub invariant_of-self-in_default : goal.invariant_of-self-in_default
 invariant_of-self-in_default c =
     let seat_of : IsSeatOf (arc_value c.args.self.now.claims) c.claim.new.seat = (c.claim.ensures.seat.0 ∙ ap claims_id c.deref.ensures, c.claim.ensures.seat.1 ∙ ap lanes_of c.deref.ensures) in
     let held : (seating c.claim.new.seat).held ≡ (seating c.args.self.now.seat).held = c.claim.ensures.refused c.in_default.not-Held in
-    record { are = refused _ _ c.args.self.now.seat c.claim.new.seat _ c.args.self.now.are seat_of c.claim.ensures.port held c.claim.ensures.finished }
+    record { are = refused _ _ c.args.self.now.seat c.claim.new.seat _ c.args.self.now.are seat_of c.claim.ensures.port held c.claim.ensures.finished; shown = c.args.self.now.shown }

@@ -5,8 +5,8 @@ use Rattle.event_ports.specs.Flows.{FlowPlace, hands_of}
 use Rattle.event_ports.proofs.Calls.{same_more}
 use Rattle.event_ports.proofs.flows.FlowLanes.leave.Goals as goal
 
-pub give_back-requires : goal.give_back-requires
-give_back-requires c = omega (arith, c.requires, ap (λ (p : FlowPlace). length (lanes_of p.claims)) c.flush_done.ensures.place)
+pub give_back-requires-clause-exists : goal.give_back-requires-clause-exists
+give_back-requires-clause-exists c = omega (arith, c.requires, ap (λ (p : FlowPlace). length (lanes_of p.claims)) c.flush_done.ensures.place)
 
 pub returns-clause-same : goal.returns-clause-same
 returns-clause-same c = same_more (hands_of c.args.self.now) (hands_of c.flush_done.new.self) (hands_of c.give_back.new.self) c.flush_done.ensures.flushed.same c.give_back.ensures.same

@@ -1,29 +1,42 @@
 -- What the surrender of a lane makes of the port's flow lanes.
-use Rattle.std.proofs.Common.{◌≡◌, ◌∙◌, refl, sym, subst, true, Some, None, Option, length, ◌<◌, arith, set}
+use Rattle.std.proofs.Common.{◌≡◌, ◌∙◌, refl, sym, ap, subst, true, Some, None, Option, length, ◌<◌, arith, set}
 use Rattle.std.specs.Arc.{arc_value}
 use Rattle.flow_claims.specs.declared.claims.Claims.{Claims}
 use Rattle.flow_claims.specs.declared.claim.Stint.{Stint}
 use Rattle.flow_claims.specs.Answers.{EndsStint}
 use Rattle.flow_claims.specs.Claims.{seating}
-use Rattle.event_ports.specs.Holds.{place_at, AreFlows, Kept}
+use Rattle.event_ports.specs.Holds.{place_at, hidden_in, AreFlows, AreShown, Kept, NoneHidden}
 use Rattle.event_ports.proofs.Places.{hands, place_read}
+use Rattle.event_ports.proofs.Shown.{none_set, touched_set}
 use Rattle.event_ports.proofs.Turns.{ended, all_kept, ended_but, ended_received, ended_answered, ended_left, ended_free}
 use Rattle.event_ports.proofs.flows.FlowLanes.surrender.Goals as goal
+
+pub surrender-requires-clause-shown : goal.surrender-requires-clause-shown
+surrender-requires-clause-shown c =
+    let are = c.args.self.now.are in
+    let within : c.args.lane < length c.args.self.now.stints.items = omega (arith, are.places, c.requires.exists) in
+    let at : place_at c.args.self.now.stints.items c.args.lane ≡ Some c.in-Some.stint =
+    place_read _ _ _ _ c.index_mut.ensures.value (sym c.take.ensures.value ∙ c.in-Some.is) within in
+    sym (ap hidden_in at) ∙ c.requires.shown c.args.lane
 
 pub invariant_of-self-2 : goal.invariant_of-self-2
 invariant_of-self-2 c =
     let are = c.args.self.now.are in
-    let within : c.args.lane < length c.args.self.now.stints.items = omega (arith, are.places, c.requires) in
+    let within : c.args.lane < length c.args.self.now.stints.items = omega (arith, are.places, c.requires.exists) in
     let at : place_at c.args.self.now.stints.items c.args.lane ≡ Some c.in-Some.stint =
     place_read _ _ _ _ c.index_mut.ensures.value (sym c.take.ensures.value ∙ c.in-Some.is) within in
     let Over : Claims → Type 0 = λ k. EndsStint k true c.in-Some.stint c.args.self.now.seat c.surrender.new.seat in
     let Are : Option Stint → Type 0 = λ o. AreFlows (arc_value c.args.self.now.claims) c.surrender.new.seat (set c.args.self.now.stints.items c.args.lane o) c.args.self.now.links.items in
-    record { are = subst Are (sym c.take.ensures.after) (ended _ _ c.args.self.now.seat c.surrender.new.seat _ _ c.in-Some.stint true are (subst Over c.deref.ensures c.surrender.ensures) at c.requires) }
+    let Shown : Option Stint → Type 0 = λ o. AreShown c.args.self.now.touched (set c.args.self.now.stints.items c.args.lane o) in
+    record {
+      are = subst Are (sym c.take.ensures.after) (ended _ _ c.args.self.now.seat c.surrender.new.seat _ _ c.in-Some.stint true are (subst Over c.deref.ensures c.surrender.ensures) at c.requires.exists);
+      shown = subst Shown (sym c.take.ensures.after) (touched_set c.args.self.now.touched c.args.self.now.stints.items c.args.lane None within (λ other. refl) c.args.self.now.shown);
+    }
 
 pub returns-clause-kept : goal.returns-clause-kept
 returns-clause-kept c =
     let are = c.args.self.now.are in
-    let within : c.args.lane < length c.args.self.now.stints.items = omega (arith, are.places, c.requires) in
+    let within : c.args.lane < length c.args.self.now.stints.items = omega (arith, are.places, c.requires.exists) in
     let at : place_at c.args.self.now.stints.items c.args.lane ≡ Some c.in-Some.stint =
     place_read _ _ _ _ c.index_mut.ensures.value (sym c.take.ensures.value ∙ c.in-Some.is) within in
     let Over : Claims → Type 0 = λ k. EndsStint k true c.in-Some.stint c.args.self.now.seat c.surrender.new.seat in
@@ -33,8 +46,14 @@ returns-clause-kept c =
     let To : Option Stint → Type 0 = λ o. Kept before (hands (seating c.surrender.new.seat) (set c.args.self.now.stints.items c.args.lane o)) in
     subst To (sym c.take.ensures.after)
     (all_kept c.args.lane before after
-    (ended_but _ _ c.args.self.now.seat c.surrender.new.seat _ _ c.in-Some.stint true are over at c.requires)
-    (ended_received _ _ c.args.self.now.seat c.surrender.new.seat _ _ c.in-Some.stint true are over at c.requires)
-    (ended_answered _ _ c.args.self.now.seat c.surrender.new.seat _ _ c.in-Some.stint true are over at c.requires)
-    (ended_left _ _ c.args.self.now.seat c.surrender.new.seat _ _ c.in-Some.stint true are over at c.requires refl)
-    (ended_free _ _ c.args.self.now.seat c.surrender.new.seat _ _ c.in-Some.stint true are over at c.requires))
+    (ended_but _ _ c.args.self.now.seat c.surrender.new.seat _ _ c.in-Some.stint true are over at c.requires.exists)
+    (ended_received _ _ c.args.self.now.seat c.surrender.new.seat _ _ c.in-Some.stint true are over at c.requires.exists)
+    (ended_answered _ _ c.args.self.now.seat c.surrender.new.seat _ _ c.in-Some.stint true are over at c.requires.exists)
+    (ended_left _ _ c.args.self.now.seat c.surrender.new.seat _ _ c.in-Some.stint true are over at c.requires.exists refl)
+    (ended_free _ _ c.args.self.now.seat c.surrender.new.seat _ _ c.in-Some.stint true are over at c.requires.exists))
+
+pub returns-clause-shown : goal.returns-clause-shown
+returns-clause-shown c =
+    let within : c.args.lane < length c.args.self.now.stints.items = omega (arith, c.args.self.now.are.places, c.requires.exists) in
+    let Shown : Option Stint → Type 0 = λ o. NoneHidden (hands (seating c.surrender.new.seat) (set c.args.self.now.stints.items c.args.lane o)) in
+    subst Shown (sym c.take.ensures.after) (none_set c.args.self.now.stints.items c.args.lane None within refl c.requires.shown)

@@ -12,6 +12,6 @@ use Rattle.event_ports.proofs.lanes.Lanes.new.Goals as goal
 pub returns-clause-none : goal.returns-clause-none
 returns-clause-none c =
     let said = said_on c.args.own (hands_of c.args.flows) in
-    let none : (l : Lane) → said l ≡ [] = each_lane (λ l. said l ≡ []) c.requires.own.1 c.requires.flows.answered_is in
+    let none : (l : Lane) → said l ≡ [] = each_lane (λ l. said l ≡ []) c.requires.own.1 c.requires.flows.0.answered_is in
     let n = length (lanes_of (flow_place c.args.flows).claims) in
     (counts_zero is_new_reply n said none, counts_zero is_release_reply n said none)

@@ -1,29 +1,44 @@
 -- What arrived from one lane more, in the order of the links.
-use Rattle.std.proofs.Common.{◌≡◌, ◌≤◌, ◌∙◌, ap, subst, arith, ℕ, List, [], ◌∷◌, ◌++◌, ◌+◌, length, take, slice_get, Some}
+use Rattle.std.proofs.Common.{rules, ◌≡◌, ◌≤◌, ◌∙◌, ap, subst, arith, ℕ, List, [], ◌∷◌, ◌++◌, ◌+◌, length, take, slice_get, Some}
 use Rattle.std.proofs.lemmas.List.{take_all}
 use Rattle.lists.proofs.Parts.{take_next}
-use Rattle.event_ports.specs.declared.lane.Lane.TheVariants.{Flow}
+use Rattle.event_ports.specs.declared.lane.Lane.TheVariants.{Own, Flow}
+use Rattle.evt_types.specs.declared.event.Delivery.{Delivery}
 use Rattle.event_ports.specs.Handed.{LanesPlace, hand_of, links_of}
 use Rattle.event_ports.specs.Lanes.{ArrivesFrom, lanes_read}
-use Rattle.event_ports.proofs.Arrivals.{arrives, arrives_more, arrives_grows, arrives_length}
-use Rattle.event_ports.proofs.Orders.{own_flow}
+use Rattle.event_ports.proofs.Arrivals.{arrives, arrives_more, arrives_grows, arrives_length, flow_after, own_only}
 use Rattle.event_ports.proofs.ReadOrder.{read_more}
 use Rattle.event_ports.proofs.lanes.Lanes.receive_all.Goals as goal
+
+pub loop-place-init : goal.loop-place-init
+loop-place-init c =
+    let arrived : ArrivesFrom (Own ∷ []) (hand_of c.args.self.now) (hand_of c.receive_own.new.self) [] c.receive_own.new.into.items =
+    subst (λ (ds : List Delivery). ArrivesFrom (Own ∷ []) (hand_of c.args.self.now) (hand_of c.receive_own.new.self) ds c.receive_own.new.into.items) c.requires c.receive_own.ensures.arrived in (
+      c.receive_own.ensures.place,
+      c.receive_own.ensures.counts,
+      arrived,
+      c.receive_own.ensures.room,
+      (search rules),
+      c.receive_own.ensures.drained,
+      own_only (hand_of c.args.self.now) (hand_of c.receive_own.new.self) c.receive_own.new.into.items _ arrived,
+      c.receive_own.ensures.shown,
+    )
 
 pub loop-place-preserved : goal.loop-place-preserved
 loop-place-preserved c =
     let was = c.loop-place.invariant in
-    let some = c.receive_some-in-loop-place.ensures in
     let links : List ℕ = links_of c.args.self.now in
-    let At : LanesPlace → Type 0 = λ p. slice_get p.flows.links c.loop-place.place ≡ Some c.link.result in
-    let more : take (c.loop-place.place + 1) links ≡ take c.loop-place.place links ++ c.link.result ∷ [] = take_next links c.loop-place.place c.link.result (subst At was.0 c.link.ensures.at_place) in (
-      some.place ∙ was.0,
-      record { news = some.counts.news ∙ was.1.news; releases = some.counts.releases ∙ was.1.releases },
-      arrives_more (lanes_read (take c.loop-place.place links)) (lanes_read (take (c.loop-place.place + 1) links)) (Flow c.link.result) (hand_of c.args.self.now) (hand_of c.loop-place.self)
-          (hand_of c.receive_some-in-loop-place.new.self) _ _ _ (read_more (take c.loop-place.place links) (take (c.loop-place.place + 1) links) c.link.result more) was.2 some.arrived,
-      some.room,
+    let At : LanesPlace → Type 0 = λ p. slice_get p.flows.links c.loop-place.place ≡ Some c.link-lane.result in
+    let more : take (c.loop-place.place + 1) links ≡ take c.loop-place.place links ++ c.link-lane.result ∷ [] = take_next links c.loop-place.place c.link-lane.result (subst At was.0 c.link-lane.ensures.at_place) in (
+      c.receive_flow.ensures.place ∙ was.0,
+      record { news = c.receive_flow.ensures.counts.news ∙ was.1.news; releases = c.receive_flow.ensures.counts.releases ∙ was.1.releases },
+      arrives_more (lanes_read (take c.loop-place.place links)) (lanes_read (take (c.loop-place.place + 1) links)) (Flow c.link-lane.result) (hand_of c.args.self.now) (hand_of c.loop-place.self)
+          (hand_of c.receive_flow.new.self) _ _ _ (read_more (take c.loop-place.place links) (take (c.loop-place.place + 1) links) c.link-lane.result more) was.2 c.receive_flow.ensures.arrived,
+      c.receive_flow.ensures.room,
       was.4,
-      λ lt. some.others (own_flow c.link.result) ∙ was.5 (omega (arith, lt, arrives_grows _ _ _ _ _ some.arrived)),
+      λ lt. c.receive_flow.ensures.others ∙ was.5 (omega (arith, lt, arrives_grows _ _ _ _ _ c.receive_flow.ensures.arrived)),
+      flow_after (hand_of c.args.self.now) (hand_of c.loop-place.self) (hand_of c.receive_flow.new.self) c.link-lane.result c.min-most.result _ _ _ _ was.3.few was.5 was.6 c.receive_flow.ensures.arrived c.receive_flow.ensures.none c.receive_flow.ensures.others,
+      λ all. c.receive_flow.ensures.shown (was.7 all),
     )
 
 pub returns-clause-arrived : goal.returns-clause-arrived

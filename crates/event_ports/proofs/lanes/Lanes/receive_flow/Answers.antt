@@ -1,5 +1,5 @@
--- What a receipt from a flow lane makes of a port's lanes: it counts no reply.
-use Rattle.std.proofs.Common.{rules, ◌≡◌, ◌≢◌, ◌∙◌, List, [], ◌∷◌, ◌++◌, length, refl, sym, ap, subst}
+-- What receipts from a flow lane make of a port's lanes: they count no reply.
+use Rattle.std.proofs.Common.{rules, ◌≡◌, ◌≢◌, ◌∙◌, List, length, refl, sym, ap, subst}
 use Rattle.evt_types.specs.declared.event.Delivery.{Delivery}
 use Rattle.evt_types.specs.Operation.{is_new_reply, is_release_reply}
 use Rattle.flow_claims.specs.Claims.{lanes_of}
@@ -8,47 +8,103 @@ use Rattle.event_ports.specs.declared.lane.Lane.{Lane}
 use Rattle.event_ports.specs.declared.lane.Lane.TheVariants.{Flow}
 use Rattle.event_ports.specs.Holds.{Gets}
 use Rattle.event_ports.specs.Flows.{FlowPlace, flow_place, hands_of}
-use Rattle.event_ports.specs.Lanes.{said_on, open_on, holding_of}
+use Rattle.event_ports.specs.Lanes.{HasRoomFor, said_on, got_on, open_on}
+use Rattle.event_ports.proofs.Arrivals.{arrives_none, arrives_some, room_less}
+use Rattle.event_ports.proofs.Noting.{noted_are, note_fits}
 use Rattle.event_ports.proofs.Orders.{Notes, each_lane, received_last}
 use Rattle.event_ports.proofs.Counts.{counts_none}
-use Rattle.event_ports.proofs.Calls.{gave_back, same_no_new, idle_received, gets_after, gets_no_answer}
+use Rattle.event_ports.proofs.Calls.{gave_back, same_no_new, idle_received, gets_between, gets_no_answer}
 use Rattle.event_ports.proofs.lanes.Lanes.receive_flow.Goals as goal
+
+pub note-requires : goal.note-requires
+note-requires c =
+    let came = c.receive_some.ensures.lists in
+    note_fits c.args.most _ _ c.args.into.now.items c.receive_some.new.into.items came.came c.requires.room came.array (c.receive_some.ensures.few c.requires.room.few)
+    c.args.self.now.order.items c.args.self.now.order.capacity c.len-from.result (search rules) (search rules) (search rules)
 
 pub invariant_of-self-2-clause-ordered : goal.invariant_of-self-2-clause-ordered
 invariant_of-self-2-clause-ordered c =
+    let came = c.receive_some.ensures.lists in
+    let gets : Gets c.args.lane came.came (hands_of c.args.self.now.flows) (hands_of c.leave.new.self) =
+    gets_between _ (hands_of c.hold.new.self) (hands_of c.receive_some.new.self) _ c.args.lane came.came c.hold.ensures.same came.gets c.leave.ensures.same in
     let before : Lane → List Delivery = open_on c.args.self.now.own (hands_of c.args.self.now.flows) in
-    let after : Lane → List Delivery = open_on c.args.self.now.own (hands_of c.receive.new.self) in
-    let gets : Gets c.args.lane c.in-Some.delivery (hands_of c.args.self.now.flows) (hands_of c.receive.new.self) =
-    gets_after _ (hands_of c.hold.new.self) _ c.args.lane c.in-Some.delivery c.hold.ensures.same c.in-Some.ensures.lists in
+    let after : Lane → List Delivery = open_on c.args.self.now.own (hands_of c.leave.new.self) in
     let others : (l : Lane) → l ≢ Flow c.args.lane → after l ≡ before l =
     each_lane (λ l. l ≢ Flow c.args.lane → after l ≡ before l) (λ ne. refl) (λ j ne. gets.others.held j (λ e. ne (ap Flow e))) in
-    let noted : c.try_push_back.new.self.items ≡ c.args.self.now.order.items ++ holding_of (Flow c.args.lane) c.in-Some.delivery ∷ [] = search rules in
     let To : List Holding → Type 0 = λ xs. Notes xs after in
-    subst To (sym noted) (received_last c.args.self.now.order.items (Flow c.args.lane) c.in-Some.delivery before after gets.held others c.args.self.now.ordered)
+    subst To (sym (noted_are (Flow c.args.lane) c.len-from.result c.args.into.now.items c.receive_some.new.into.items came.came c.args.self.now.order.items c.note.new.order.items came.array (search rules) c.note.ensures.noted))
+    (received_last c.args.self.now.order.items (Flow c.args.lane) came.came before after gets.held others c.args.self.now.ordered)
 
 pub invariant_of-self-2-clause-gave_back : goal.invariant_of-self-2-clause-gave_back
 invariant_of-self-2-clause-gave_back c =
-    gave_back (hands_of c.args.self.now.flows) (hands_of c.receive.new.self)
-    (gets_after _ (hands_of c.hold.new.self) _ c.args.lane c.in-Some.delivery c.hold.ensures.same c.in-Some.ensures.lists).given_back c.args.self.now.gave_back
+    let came = c.receive_some.ensures.lists in
+    let gets : Gets c.args.lane came.came (hands_of c.args.self.now.flows) (hands_of c.leave.new.self) =
+    gets_between _ (hands_of c.hold.new.self) (hands_of c.receive_some.new.self) _ c.args.lane came.came c.hold.ensures.same came.gets c.leave.ensures.same in
+    gave_back (hands_of c.args.self.now.flows) (hands_of c.leave.new.self) gets.given_back c.args.self.now.gave_back
 
 pub invariant_of-self-2-clause-no_new : goal.invariant_of-self-2-clause-no_new
 invariant_of-self-2-clause-no_new c =
-    same_no_new (hands_of c.args.self.now.flows) (hands_of c.receive.new.self)
-    (gets_no_answer _ _ c.args.lane c.in-Some.delivery (gets_after _ (hands_of c.hold.new.self) _ c.args.lane c.in-Some.delivery c.hold.ensures.same c.in-Some.ensures.lists)) c.args.self.now.no_new
+    let came = c.receive_some.ensures.lists in
+    let gets : Gets c.args.lane came.came (hands_of c.args.self.now.flows) (hands_of c.leave.new.self) =
+    gets_between _ (hands_of c.hold.new.self) (hands_of c.receive_some.new.self) _ c.args.lane came.came c.hold.ensures.same came.gets c.leave.ensures.same in
+    same_no_new (hands_of c.args.self.now.flows) (hands_of c.leave.new.self) (gets_no_answer _ _ c.args.lane came.came gets) c.args.self.now.no_new
 
 pub invariant_of-self-2-clause-idle : goal.invariant_of-self-2-clause-idle
 invariant_of-self-2-clause-idle c =
-    idle_received (hands_of c.args.self.now.flows) (hands_of c.hold.new.self) (hands_of c.receive.new.self) c.args.lane c.in-Some.delivery
-    c.hold.ensures.same c.hold.ensures.elsewhere c.in-Some.ensures.lists c.receive.ensures.places c.args.self.now.idle
+    idle_received (hands_of c.args.self.now.flows) (hands_of c.hold.new.self) (hands_of c.receive_some.new.self) (hands_of c.leave.new.self) c.args.lane c.receive_some.ensures.lists.came
+    c.hold.ensures.same c.hold.ensures.elsewhere c.receive_some.ensures.lists.gets c.receive_some.ensures.places c.leave.ensures.same c.leave.ensures.left c.leave.ensures.elsewhere c.args.self.now.idle
 
 pub returns-clause-counts : goal.returns-clause-counts
 returns-clause-counts c =
+    let came = c.receive_some.ensures.lists in
+    let gets : Gets c.args.lane came.came (hands_of c.args.self.now.flows) (hands_of c.leave.new.self) =
+    gets_between _ (hands_of c.hold.new.self) (hands_of c.receive_some.new.self) _ c.args.lane came.came c.hold.ensures.same came.gets c.leave.ensures.same in
     let before = said_on c.args.self.now.own (hands_of c.args.self.now.flows) in
-    let after = said_on c.args.self.now.own (hands_of c.receive.new.self) in
+    let after = said_on c.args.self.now.own (hands_of c.leave.new.self) in
     let n = length (lanes_of (flow_place c.args.self.now.flows).claims) in
-    let m = length (lanes_of (flow_place c.receive.new.self).claims) in
-    let e : m ≡ n = ap (λ (p : FlowPlace). length (lanes_of p.claims)) (c.receive.ensures.place ∙ c.hold.ensures.place) in
-    let gets : Gets c.args.lane c.in-Some.delivery (hands_of c.args.self.now.flows) (hands_of c.receive.new.self) =
-    gets_after _ (hands_of c.hold.new.self) _ c.args.lane c.in-Some.delivery c.hold.ensures.same c.in-Some.ensures.lists in
-    let same : (l : Lane) → after l ≡ before l = each_lane (λ l. after l ≡ before l) refl (λ j. gets_no_answer _ _ c.args.lane c.in-Some.delivery gets j) in
+    let m = length (lanes_of (flow_place c.leave.new.self).claims) in
+    let e : m ≡ n = ap (λ (p : FlowPlace). length (lanes_of p.claims)) (c.leave.ensures.place ∙ c.receive_some.ensures.place ∙ c.hold.ensures.place) in
+    let same : (l : Lane) → after l ≡ before l = each_lane (λ l. after l ≡ before l) refl (λ j. gets_no_answer _ _ c.args.lane came.came gets j) in
+    record { news = counts_none is_new_reply n m before after e same; releases = counts_none is_release_reply n m before after e same }
+
+pub returns-clause-arrived : goal.returns-clause-arrived
+returns-clause-arrived c =
+    let came = c.receive_some.ensures.lists in
+    let gets : Gets c.args.lane came.came (hands_of c.args.self.now.flows) (hands_of c.leave.new.self) =
+    gets_between _ (hands_of c.hold.new.self) (hands_of c.receive_some.new.self) _ c.args.lane came.came c.hold.ensures.same came.gets c.leave.ensures.same in
+    arrives_some (Flow c.args.lane) _ _ c.args.into.now.items c.receive_some.new.into.items came.came
+    (record {
+      said = each_lane (λ l. said_on c.args.self.now.own (hands_of c.leave.new.self) l ≡ said_on c.args.self.now.own (hands_of c.args.self.now.flows) l) refl (λ j. gets_no_answer _ _ c.args.lane came.came gets j);
+      got_here = gets.received;
+      got = each_lane (λ l. l ≢ Flow c.args.lane → got_on c.args.self.now.own (hands_of c.leave.new.self) l ≡ got_on c.args.self.now.own (hands_of c.args.self.now.flows) l) (λ ne. refl) (λ j ne. gets.others.received j (λ e. ne (ap Flow e)));
+      holding = noted_are (Flow c.args.lane) c.len-from.result c.args.into.now.items c.receive_some.new.into.items came.came c.args.self.now.order.items c.note.new.order.items came.array (search rules) c.note.ensures.noted;
+    }) came.array
+
+pub returns-clause-room : goal.returns-clause-room
+returns-clause-room c =
+    let came = c.receive_some.ensures.lists in
+    room_less c.args.most _ c.args.self.now.order.items c.note.new.order.items (Flow c.args.lane) c.args.into.now.items c.receive_some.new.into.items came.came (subst (λ n. HasRoomFor c.args.most n c.args.self.now.order.items c.args.into.now.items) (sym c.note.ensures.room) c.requires.room) (c.receive_some.ensures.few c.requires.room.few)
+    (noted_are (Flow c.args.lane) c.len-from.result c.args.into.now.items c.receive_some.new.into.items came.came c.args.self.now.order.items c.note.new.order.items came.array (search rules) c.note.ensures.noted) came.array
+
+pub returns-then-len-most-clause-arrived : goal.returns-then-len-most-clause-arrived
+returns-then-len-most-clause-arrived c = arrives_none (Flow c.args.lane) _ _ c.args.into.now.items (record { said = λ l. refl; got = λ l. refl; holding = refl })
+
+pub returns-then-not-hold-clause-arrived : goal.returns-then-not-hold-clause-arrived
+returns-then-not-hold-clause-arrived c =
+    let same = c.hold.ensures.same in
+    arrives_none (Flow c.args.lane) _ _ c.args.into.now.items
+    (record {
+      said = each_lane (λ l. said_on c.args.self.now.own (hands_of c.hold.new.self) l ≡ said_on c.args.self.now.own (hands_of c.args.self.now.flows) l) refl same.answered_is;
+      got = each_lane (λ l. got_on c.args.self.now.own (hands_of c.hold.new.self) l ≡ got_on c.args.self.now.own (hands_of c.args.self.now.flows) l) refl same.received;
+      holding = refl;
+    })
+
+pub returns-then-not-hold-clause-counts : goal.returns-then-not-hold-clause-counts
+returns-then-not-hold-clause-counts c =
+    let before = said_on c.args.self.now.own (hands_of c.args.self.now.flows) in
+    let after = said_on c.args.self.now.own (hands_of c.hold.new.self) in
+    let n = length (lanes_of (flow_place c.args.self.now.flows).claims) in
+    let m = length (lanes_of (flow_place c.hold.new.self).claims) in
+    let e : m ≡ n = ap (λ (p : FlowPlace). length (lanes_of p.claims)) c.hold.ensures.place in
+    let same : (l : Lane) → after l ≡ before l = each_lane (λ l. after l ≡ before l) refl c.hold.ensures.same.answered_is in
     record { news = counts_none is_new_reply n m before after e same; releases = counts_none is_release_reply n m before after e same }

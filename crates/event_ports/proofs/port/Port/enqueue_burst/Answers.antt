@@ -2,14 +2,23 @@
 use Rattle.std.proofs.Common.{take, sym, subst}
 use Rattle.event_ports.specs.Lanes.{Hand, SubmitsAll}
 use Rattle.event_ports.specs.Ports.{hand}
-use Rattle.event_ports.proofs.Flushes.{still_stops}
+use Rattle.event_ports.proofs.Flushes.{still_stops, bursts_then}
+use Rattle.event_ports.proofs.IdleLanes.{idle_lanes}
 use Rattle.event_ports.proofs.port.Port.enqueue_burst.Goals as goal
+
+pub invariant_of-self-clause-idle : goal.invariant_of-self-clause-idle
+invariant_of-self-clause-idle c = idle_lanes c.flush.new.self.lanes
 
 pub returns-clause-submitted : goal.returns-clause-submitted
 returns-clause-submitted c =
-    subst (λ (k : Hand). SubmitsAll (take c.submit_burst-answer.result.0 c.args.events.now) (hand c.args.self.now) k) (sym c.flush.ensures.hand) c.submit_burst-answer.ensures.submitted
+    subst (λ (k : Hand). SubmitsAll (take c.submit_burst-answer.result.0 c.args.events.now) (hand c.args.self.now) k) (sym c.flush.ensures.flushed.hands) c.submit_burst-answer.ensures.submitted
 
 pub returns-clause-refused : goal.returns-clause-refused
 returns-clause-refused c =
-    still_stops c.submit_burst-answer.new.self c.flush.new.self c.flush.ensures.credit.0 c.flush.ensures.credit.1 c.flush.ensures.filled c.args.self.now c.args.events.now
+    still_stops c.submit_burst-answer.new.self c.flush.new.self c.flush.ensures.flushed c.args.self.now.desk c.args.events.now
     c.submit_burst-answer.result.0 c.submit_burst-answer.result.1 c.submit_burst-answer.ensures.refused
+
+pub returns-clause-singly : goal.returns-clause-singly
+returns-clause-singly c =
+    bursts_then c.submit_burst-answer.new.self c.flush.new.self c.flush.ensures.flushed c.args.self.now.desk c.args.events.now
+    c.submit_burst-answer.result.0 c.submit_burst-answer.result.1 c.submit_burst-answer.ensures.chain

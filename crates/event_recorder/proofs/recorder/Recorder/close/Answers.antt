@@ -3,7 +3,8 @@ use Rattle.world_laws.specs.Account.{has_event}
 use Rattle.event_answers.specs.declared.report.Report.{Report}
 use Rattle.lists.proofs.Lists.{slice_get-some}
 use Rattle.lists.specs.Lists.{has}
-use Rattle.event_ports.specs.Stop.{LinksAgree}
+use Rattle.event_ports.specs.Lanes.{held_of, pair_in}
+use Rattle.event_ports.specs.Stop.{AreStintsOf, LinksAgree}
 use Rattle.credit_pool.specs.Pockets.{IsPocket}
 use Rattle.credit_pool.specs.Pool.{account, limit_of}
 use Rattle.report_lists.specs.Listed.{waiting_pairs, kept_all}
@@ -22,7 +23,7 @@ use Rattle.credit_pool.specs.declared.account.Account.{Account}
 use Rattle.flow_claims.specs.Claims as claims
 use Rattle.lane_rings.specs.Identity.{far_id}
 use Rattle.lane_rings.specs.declared.far.Far.{Far}
-use Rattle.event_ports.specs.declared.joined.Rest.{Rest as LeftRest}
+use Rattle.event_ports.specs.declared.rest.Rest.{Rest as LeftRest}
 use Rattle.std.proofs.lemmas.List.{length-map}
 use Rattle.transcripts.specs.Standing.{View, places_at, waiting_at}
 use Rattle.event_ports.specs.declared.port.Port.{Port}
@@ -40,7 +41,7 @@ use Rattle.report_lists.proofs.Ends.{as_many_ends}
 use Rattle.report_lists.proofs.Logs as logs
 use Rattle.report_lists.specs.Between.{rest_at}
 use Rattle.transcripts.specs.Standing.{Stands}
-use Rattle.world_laws.specs.Rest.{AreRests, Rest}
+use Rattle.world_laws.specs.Rest.{AreRests, Rest, still_held}
 use Rattle.event_recorder.proofs.Accounts.{credits_come_out}
 use Rattle.event_recorder.proofs.Worlds.{world_of}
 use Rattle.event_recorder.proofs.FlowEnds.{answered_by_ends, held_by_ends, no_new_past, stints_are}
@@ -278,6 +279,10 @@ returns c =
     own_all received_by (λ x. (hand x).got Own) (λ (x : Rest). x.received) (λ near far. refl) nears fars ends rests sorted (length p.ports) as_many are left.received (c.by_number-ports.ensures.numbers ∙ ap (range_with_len 0) n_is) in
     let answered_is : All Answered sorted =
     own_all answered (λ x. (hand x).said Own) (λ (x : Rest). x.answered) (λ near far. refl) nears fars ends rests sorted (length p.ports) as_many are left.answered_is (c.by_number-ports.ensures.numbers ∙ ap (range_with_len 0) n_is) in
+    let Held : Port → Type 0 = λ x. still_held (rest (number_of x)) ≡ map pair_in (held_of Own (hand x).holding) in
+    let still : All Held sorted =
+    own_all held_list (λ x. map pair_in (held_of Own (hand x).holding)) still_held (λ near far. refl) nears fars ends rests sorted (length p.ports) as_many are left.ordered (c.by_number-ports.ensures.numbers ∙ ap (range_with_len 0) n_is) in
+    let stints_is : (claims.seating after.1).finished ≡ joined.stints = joined.finished ∙ ap (λ ps. ps ++ joined.stints) fresh in
     let Linked : Plan → Type 0 = λ x. All (LinksAgree (λ port lane. has lane (flow_links x port))) sorted in
     let linked : Linked p = subst Linked (sym parts.plan) (links_agree d sorted all) in
     let flow_is : length (flow_lanes p) ≡ length ends = ap (λ (x : Plan). length (flow_lanes x)) parts.plan ∙ sym ends_is in
@@ -352,18 +357,21 @@ returns c =
           ∙ or_first (account after.0).set_shut (account seat).set_shut c.into_parts-pool.ensures.unset (sym (ap (λ (v : Account). v.set_shut) joined_account) ∙ c.close-2.ensures.shut saw);
       rest = rest;
       rests = rests_are;
+      sorted = sorted;
+      by_number = subst (λ k. AreByNumber k unsorted sorted) n_is c.by_number-ports.ensures;
+      finished = (claims.seating after.1).finished;
+      stints = subst (AreStintsOf sorted) (sym stints_is) joined.ports_are;
       lanes = record {
         offered = offered_is;
         taken = λ l. logs.taken_at nears fars l ids ∙ ap (λ xs. slice_index_or xs l []) parts.taken_is;
         events = λ l. subst (All (IsAccepted r.log)) (sym (offered_is l)) (serves.events l);
         received = All-permutation Received sorted unsorted same_ports received;
         answered_is = All-permutation Answered sorted unsorted same_ports answered_is;
+        held = All-permutation Held sorted unsorted same_ports still;
         flows = λ j low.
             stints_are pool its_claims before claim sorted after.0 after.1 ends joined fresh ended as_claims p nears fars rests (length p.ports) j are left_is as_many linked (omega (arith, low, flow_is));
       };
       world = world_of p r.log rest rests_are;
-      sorted = sorted;
-      by_number = subst (λ k. AreByNumber k unsorted sorted) n_is c.by_number-ports.ensures;
       waiting = waiting_is;
       kept = kept_is;
       undelivered = c.list_lanes.ensures.undelivered p lanes_count;
@@ -371,5 +379,18 @@ returns c =
       untaken = c.list_lanes.ensures.untaken p lanes_count;
       pockets = pockets_are;
       own = parts.pocket;
+      free = omega (
+        arith,
+        c.close-2.ensures.free,
+        limit_is,
+        ap (λ (v : Account). v.drawn) joined_account,
+        ap (λ (v : Account). v.returned) joined_account,
+        ap (λ (v : Account). v.drawn) parts.account_is,
+        ap (λ (v : Account). v.returned) parts.account_is,
+        joined.drawn,
+        joined.returned,
+        c.args.control.unused.0,
+        c.args.control.unused.1,
+      );
       sum_is = ap (λ m. free + m + its_own + entries_of report) (ap sum pockets_are) ∙ comes_out;
     }

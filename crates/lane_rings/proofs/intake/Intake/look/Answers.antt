@@ -1,4 +1,4 @@
-use Rattle.std.proofs.Common.{◌≡◌, ◌∙◌, List, [], ◌++◌, ap, refl, subst, sym}
+use Rattle.std.proofs.Common.{◌∙◌, ◌++◌, ap, arith, refl, subst, sym}
 use Rattle.std.proofs.lemmas.Bool.{false≢true}
 use mathlib.Core.List.{IsPrefix}
 use Rattle.rtrb.specs.Ring.{known_items, received}
@@ -16,7 +16,7 @@ pub returns-then-is_empty-clause-ahead : goal.returns-then-is_empty-clause-ahead
 returns-then-is_empty-clause-ahead g c = subst (λ xs. IsPrefix (xs ++ known_items c.args.self.now.ring) (inside c.fill.new.self ++ known_items c.fill.new.ring)) (sym (c.is_empty.ensures.0 c.if-is_empty.true)) c.fill.ensures.known
 
 pub returns-then-is_empty-clause-none : goal.returns-then-is_empty-clause-none
-returns-then-is_empty-clause-none g c more e = ap (λ xs. xs ++ known_items c.fill.new.ring) e ∙ c.fill.ensures.none c.args.self.now.room.0 more e
+returns-then-is_empty-clause-none g c more e = ap (λ xs. xs ++ known_items c.fill.new.ring) e ∙ c.fill.ensures.none (omega (arith, c.args.self.now.room)) more e
 
 pub returns-then-is_empty-clause-few : goal.returns-then-is_empty-clause-few
 returns-then-is_empty-clause-few g c e = c.fill.ensures.few
@@ -35,3 +35,9 @@ returns-else-is_empty-clause-few g c e = absurd (false≢true (sym c.if-is_empty
 
 pub returns-else-is_empty-clause-stays : goal.returns-else-is_empty-clause-stays
 returns-else-is_empty-clause-stays g c some = refl
+
+pub returns-then-is_empty-clause-short : goal.returns-then-is_empty-clause-short
+returns-then-is_empty-clause-short g c none few within = c.fill.ensures.short few (omega (arith, within, c.args.self.now.room))
+
+pub returns-else-is_empty-clause-short : goal.returns-else-is_empty-clause-short
+returns-else-is_empty-clause-short g c none few within = absurd (false≢true (sym c.if-is_empty.false ∙ c.is_empty.ensures.1 none))

@@ -1,4 +1,5 @@
-use Rattle.std.proofs.Common.{◌≡◌, ◌<◌, ◌∙◌, List, [], ◌++◌, ap, arith, drop, length, subst, sym, take}
+use Rattle.std.proofs.Common.{◌≡◌, ◌∙◌, [], ◌++◌, ap, arith, drop, length, subst, sym, take}
+use Rattle.std.proofs.lemmas.List.{length-take-le}
 use mathlib.Core.List.{IsPrefix}
 use Rattle.rtrb.specs.Ring.{known_items, received}
 use Rattle.lane_rings.proofs.Fetching.{written_back}
@@ -32,3 +33,10 @@ returns-clause-places g c =
     let value = ap length c.deref_mut.ensures.value in
     let back : take c.args.self.now.places.len (c.pop_some-self.new.places ++ drop (length c.pop_some-self.new.places) c.args.self.now.places.items) ≡ c.pop_some-self.new.places = written_back c.args.self.now.places.len c.pop_some-self.new.places c.args.self.now.places.items (c.pop_some-self.ensures.places ∙ value) (omega (arith, c.args.self.now.places.ok.0)) in
     ap length back ∙ (c.pop_some-self.ensures.places ∙ value)
+
+pub returns-clause-short : goal.returns-clause-short
+returns-clause-short g c few within =
+    let value = ap length c.deref_mut.ensures.value in
+    let back : take c.args.self.now.places.len (c.pop_some-self.new.places ++ drop (length c.pop_some-self.new.places) c.args.self.now.places.items) ≡ c.pop_some-self.new.places = written_back c.args.self.now.places.len c.pop_some-self.new.places c.args.self.now.places.items (c.pop_some-self.ensures.places ∙ value) (omega (arith, c.args.self.now.places.ok.0)) in
+    let long : length (take c.pop_some-self.result c.pop_some-self.new.places) ≡ c.pop_some-self.result = length-take-le c.pop_some-self.result c.pop_some-self.new.places (omega (arith, c.pop_some-self.ensures.few.1, c.pop_some-self.ensures.places)) in
+    c.pop_some-self.ensures.short (omega (arith, few, long, ap (λ xs. length (take c.pop_some-self.result xs)) back)) (omega (arith, within, value))

@@ -16,6 +16,7 @@ returns-in_ok-from_slice-in-Ok-clause-call c =
         ok = rw copied c.in-Ok.ensures.ok;
         few = rw copied c.in-Ok.ensures.few;
         drained = rw copied c.in-Ok.ensures.drained;
+        own_first = rw copied c.in-Ok.ensures.own_first;
         behind = tt;
         settled = c.in-Ok.ensures.settled;
       };
@@ -37,6 +38,7 @@ returns-in-Err-clause-call c =
         ok = tt;
         few = tt;
         drained = tt;
+        own_first = tt;
         behind = c.in-Err.ensures.behind;
         settled = c.in-Err.ensures.settled;
       };

@@ -1,9 +1,0 @@
-use Rattle.std.proofs.Common.{◌≡◌, take}
-use Rattle.credit_pool.specs.Accounts.{Stays}
-use Rattle.event_ports.specs.Lanes.{SubmitsAll}
-use Rattle.event_ports.specs.Ports.{place_of, account_of, hand}
-use Rattle.event_ports.proofs.port.Port.submit_burst.Given as goal
-
-abbrev pub invariant-loop-taken : goal.invariant-loop-taken
-invariant-loop-taken l =
-    (place_of l.self ≡ place_of l.initial.self) × Stays (account_of l.initial.self) (account_of l.self) × SubmitsAll (take l.taken l.events) (hand l.initial.self) (hand l.self)

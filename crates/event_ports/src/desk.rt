@@ -1,0 +1,201 @@
+//! The desk of a port: all that it has. Between two calls of the port nothing that was enqueued is gathered any more; in a call
+//! replies are gathered at the desk, so that several go into their ring by one store.
+
+ghost use Rattle.std.specs.Prelude.{◌≡◌, ◌+◌, ◌<◌, ◌≤◌, false};
+ghost use Rattle.std.specs.Arc.{arc_value};
+ghost use Rattle.credit_pool.specs.Pool.{account, limit_of, IsSeatOf};
+ghost use Rattle.event_ports.specs.Handed.{lanes_place, news_of, releases_of};
+ghost use Rattle.credit_pool.specs.Pockets.{IsPocket};
+
+use crate::fill::fill;
+use crate::lanes::Lanes;
+use credit_pool::{CreditSeat, Credits, Draw, Give};
+use event_answers::Refused;
+use evt_types::{Event, Op, Reply};
+use lane_rings::AnswerFault;
+use std::alloc::Global;
+use std::sync::Arc;
+
+/// What a port has.
+#[derive(Drop)]
+pub(crate) struct Desk {
+    pub(crate) pool: Arc<Credits, Global>,
+    pub(crate) seat: CreditSeat,
+    pub(crate) lanes: Lanes,
+    pub(crate) number: usize,
+    pub(crate) queues: usize,
+    pub(crate) implicit: bool,
+    pub(crate) quantum: u64,
+    pub(crate) threshold: u64,
+    pub(crate) pocket: u64,
+    ghost seat_of: { IsSeatOf (arc_value pool) seat },
+    ghost unset: { (account seat).set_shut ≡ false },
+    ghost quantum_fits: { (0 < quantum) × (quantum ≤ threshold) × (threshold ≤ limit_of (arc_value pool)) },
+    ghost numbered: { (lanes_place lanes).flows.port ≡ number },
+    ghost paid: { IsPocket pocket ((account seat).drawn + releases_of lanes) ((account seat).returned + news_of lanes) },
+}
+
+impl Desk {
+    ghost use Rattle.std.specs.Prelude.{◌≡◌, ◌≢◌, ◌+◌, ◌%◌, ◌^◌, ◌<◌, ◌≤◌, ◌↔◌, IsTrue, IsFalse, IfErr, OnOk, MatchResult};
+    ghost use Rattle.evt_types.specs.declared.event.Op.TheVariants as ops;
+    ghost use Rattle.credit_pool.specs.Accounts.{IsOpen, IsShut, Stays};
+    ghost use Rattle.event_answers.specs.declared.answer.Refused.TheVariants as refusals;
+    ghost use Rattle.event_ports.specs.Lanes.{Rests, Submits, SubmitsTo, lane_for, reply_of};
+    ghost use Rattle.event_ports.specs.declared.lane.Lane.TheVariants as lanes;
+    ghost use Rattle.event_ports.specs.Draws.{HasLooked, Settles};
+    ghost use Rattle.event_ports.specs.Handed.{AllShown};
+    ghost use Rattle.event_ports.specs.Desks.{place_of, account_of, pocket_of, hand, was_filled, SameCredits, HasStocked, HasNoCredit, IsFlushed, Pays, Refuses};
+
+    // Whether the device is shut, by one look at the credits.
+    pub(crate) fn shut_seen(&mut self) -> bool
+        ensures place { place_of self.new ≡ place_of self.old }
+        ensures credit { Stays (account_of self.old) (account_of self.new) }
+        ensures same { Rests (hand self.old) (hand self.new) × SameCredits self.old self.new }
+        ensures seen { IsTrue result ↔ IsTrue (account_of self.new).saw_shut }
+        ensures read { IsFalse result → IsOpen (account_of self.new).last }
+        ensures looked { HasLooked (account_of self.old) (account_of self.new) × (IsTrue result → IsShut (account_of self.new).last) }
+        ensures lanes { self.new.lanes ≡ self.old.lanes }
+    {
+        let (_, shut) = self.pool.look(&mut self.seat);
+        shut
+    }
+
+    // Enqueues an event, which the scheduler sees after the next `flush`.
+    pub(crate) fn submit(&mut self, event: Event) -> Result<(), Refused>
+        ensures place { place_of self.new ≡ place_of self.old }
+        ensures credit { Stays (account_of self.old) (account_of self.new) }
+        ensures submitted { MatchResult result (λ _. SubmitsTo (lane_for event.op (hand self.old).holding) (reply_of event) (hand self.old) (hand self.new)) (λ _. Rests (hand self.old) (hand self.new)) }
+        ensures pays { OnOk result (Pays event.op self.old self.new) }
+        ensures refused { IfErr result (λ e. Refuses self.old event e self.new) }
+        ensures stopped { IsTrue (account_of self.old).saw_shut → event.op ≡ ops.New → result ≡ Err refusals.Stopped }
+    {
+        match event.op {
+            Op::New => self.enqueue_new(event),
+            Op::Forward => self.enqueue_forward(event),
+            Op::Release => self.enqueue_release(event),
+        }
+    }
+
+    // Makes all that was enqueued visible to the scheduler.
+    pub(crate) fn flush(&mut self)
+        ensures flushed { IsFlushed self.old self.new }
+        ensures shown { AllShown self.new.lanes }
+    {
+        self.lanes.flush();
+    }
+
+    fn enqueue_new(&mut self, event: Event) -> Result<(), Refused>
+        requires { event.op ≡ ops.New }
+        ensures place { place_of self.new ≡ place_of self.old }
+        ensures credit { Stays (account_of self.old) (account_of self.new) }
+        ensures submitted { MatchResult result (λ _. Submits lanes.Own (reply_of event) (hand self.old) (hand self.new)) (λ _. Rests (hand self.old) (hand self.new)) }
+        ensures pays { OnOk result (Pays event.op self.old self.new) }
+        ensures refused { IfErr result (λ e. Refuses self.old event e self.new) }
+        ensures stopped { IsTrue (account_of self.old).saw_shut → result ≡ Err refusals.Stopped }
+    {
+        if self.shut_seen() {
+            return Err(Refused::Stopped);
+        }
+        if usize::from(event.queue) >= self.queues {
+            return Err(Refused::BadQueue);
+        }
+        match self.stock() {
+            Ok(()) => self.spend(event),
+            Err(refused) => Err(refused),
+        }
+    }
+
+    // Draws a quantum where the pocket is empty.
+    fn stock(&mut self) -> Result<(), Refused>
+        ensures place { place_of self.new ≡ place_of self.old }
+        ensures credit { Stays (account_of self.old) (account_of self.new) }
+        ensures same { Rests (hand self.old) (hand self.new) }
+        ensures stocked { OnOk result (HasStocked self.old self.new × (0 < pocket_of self.new)) }
+        ensures refused { IfErr result (λ e. HasNoCredit self.old e self.new) }
+    {
+        if self.pocket > 0 {
+            return Ok(());
+        }
+        match fill(&self.pool, &mut self.seat, self.quantum, self.threshold) {
+            Draw::Drawn => {
+                self.pocket = self.quantum;
+                Ok(())
+            }
+            Draw::Shut => Err(Refused::Stopped),
+            Draw::Short { free } => Err(Refused::Backpressure { free }),
+            Draw::Raced { first, second } => Err(Refused::Raced { first, second }),
+        }
+    }
+
+    // Submits a NEW for a credit of the pocket.
+    fn spend(&mut self, event: Event) -> Result<(), Refused>
+        requires new { event.op ≡ ops.New }
+        requires pocket { 0 < pocket_of self.old }
+        ensures place { place_of self.new ≡ place_of self.old }
+        ensures credit { account_of self.new ≡ account_of self.old }
+        ensures submitted { MatchResult result (λ _. Submits lanes.Own (reply_of event) (hand self.old) (hand self.new)) (λ _. Rests (hand self.old) (hand self.new)) }
+        ensures pays { OnOk result (pocket_of self.new + 1 ≡ pocket_of self.old) }
+        ensures refused { IfErr result (λ e. (e ≡ refusals.Full) × was_filled self.new event.op × (pocket_of self.new ≡ pocket_of self.old)) }
+    {
+        match self.lanes.submit(Reply { event }) {
+            Ok(()) => {
+                self.pocket -= 1;
+                Ok(())
+            }
+            Err(_) => Err(Refused::Full),
+        }
+    }
+
+    fn enqueue_forward(&mut self, event: Event) -> Result<(), Refused>
+        requires { event.op ≡ ops.Forward }
+        ensures place { place_of self.new ≡ place_of self.old }
+        ensures credit { Stays (account_of self.old) (account_of self.new) }
+        ensures submitted { MatchResult result (λ _. SubmitsTo (lane_for event.op (hand self.old).holding) (reply_of event) (hand self.old) (hand self.new)) (λ _. Rests (hand self.old) (hand self.new)) }
+        ensures pays { OnOk result (Pays event.op self.old self.new) }
+        ensures refused { IfErr result (λ e. Refuses self.old event e self.new) }
+    {
+        if usize::from(event.queue) >= self.queues {
+            return Err(Refused::BadQueue);
+        }
+        match self.lanes.answer(Reply { event }) {
+            Ok(()) => Ok(()),
+            Err(AnswerFault::NothingHeld) => Err(Refused::NothingHeld),
+            Err(AnswerFault::Full(_)) => Err(Refused::Full),
+        }
+    }
+
+    fn enqueue_release(&mut self, event: Event) -> Result<(), Refused>
+        requires { event.op ≡ ops.Release }
+        ensures place { place_of self.new ≡ place_of self.old }
+        ensures credit { Stays (account_of self.old) (account_of self.new) }
+        ensures submitted { MatchResult result (λ _. SubmitsTo (lane_for event.op (hand self.old).holding) (reply_of event) (hand self.old) (hand self.new)) (λ _. Rests (hand self.old) (hand self.new)) }
+        ensures pays { OnOk result (Pays event.op self.old self.new) }
+        ensures refused { IfErr result (λ e. Refuses self.old event e self.new) }
+    {
+        match self.lanes.answer(Reply { event }) {
+            Ok(()) => {
+                self.pocket = self.pocket.wrapping_add(1);
+                self.settle();
+                Ok(())
+            }
+            Err(AnswerFault::NothingHeld) => Err(Refused::NothingHeld),
+            Err(AnswerFault::Full(_)) => Err(Refused::Full),
+        }
+    }
+
+    // The return rule: of two quanta or more in the pocket, all but one are given back, by one try.
+    pub(crate) fn settle(&mut self)
+        ensures place { place_of self.new ≡ place_of self.old }
+        ensures credit { Stays (account_of self.old) (account_of self.new) }
+        ensures lanes { self.new.lanes ≡ self.old.lanes }
+        ensures settled { Settles (place_of self.old).quantum (pocket_of self.old) (account_of self.old) (pocket_of self.new) (account_of self.new) }
+    {
+        if self.pocket / 2 < self.quantum {
+            return;
+        }
+        let rest = self.pocket - self.quantum;
+        if self.pool.give(&mut self.seat, rest) == Give::Given {
+            self.pocket = self.quantum;
+        }
+    }
+}

@@ -1,0 +1,36 @@
+//! What is left of a port that was taken apart.
+
+ghost use Rattle.std.specs.Prelude.{◌≡◌, []};
+ghost use Rattle.lane_rings.specs.Ends.{hidden_answers};
+
+use crate::lane::Holding;
+use circular_buffer::HeapCircularBuffer;
+use credit_pool::CreditSeat;
+use flow_claims::ClaimSeat;
+use lane_rings::Far;
+
+/// What is left of a port once all its flow lanes were surrendered.
+#[derive(Drop)]
+pub struct Left {
+    pub credit: CreditSeat,
+    pub claim: ClaimSeat,
+    /// The end of the own lane.
+    pub own: Far,
+    /// What is held, in the order of the dequeues.
+    pub held: HeapCircularBuffer<Holding>,
+    pub pocket: u64,
+    pub ghost shown: { hidden_answers own ≡ [] },
+}
+
+/// What is left of a port whose seats were joined to others.
+#[derive(Drop)]
+pub struct Rest {
+    /// The port's number.
+    pub number: usize,
+    /// The end of the own lane.
+    pub own: Far,
+    /// What is held, in the order of the dequeues.
+    pub held: HeapCircularBuffer<Holding>,
+    pub pocket: u64,
+    pub ghost shown: { hidden_answers own ≡ [] },
+}

@@ -105,12 +105,15 @@ fn other_in(alloc: Global, row: &Row) -> Result<Option<&'static str>, RigFault> 
 }
 
 /// What a burst of three new events answers.
+fn burst_of_three(alloc: Global) -> Result<Option<(usize, Option<Refused>)>, RigFault> {
+    let mut rig = Rig::new(alloc, &TIGHT)?;
+    Ok(rig.enqueue_burst(0, &[FIRST.event(); 3]))
+}
+
 #[test]
 fn backpressure_ends_a_burst(rt: HostRuntime) -> Result<(), Fail> {
-    let mut rig = Rig::new(rt.alloc(), &TIGHT)?;
-    let burst = rig.enqueue_burst(0, &[FIRST.event(); 3]);
     let backpressure = Refused::Backpressure { free: 2 };
-    assert_eq!(rt; burst, Some((2, Some(backpressure))));
+    assert_eq!(rt; burst_of_three(rt.alloc())?, Some((2, Some(backpressure))));
     Ok(())
 }
 
@@ -139,10 +142,18 @@ fn worker_of(rig: &Rig) -> Option<(usize, usize)> {
     Some((worker.number(), worker.held()))
 }
 
+/// How many events were accepted as new and are inside, and the worker, after the first event was released.
+fn counted(alloc: Global) -> Result<(u64, usize, Option<(usize, usize)>), RigFault> {
+    let rig = played(alloc, &ONE_QUEUE, &FIRST_EVENT)?;
+    Ok((
+        rig.recorder.accepted_new(),
+        rig.recorder.inside(),
+        worker_of(&rig),
+    ))
+}
+
 #[test]
 fn the_first_event_is_counted(rt: HostRuntime) -> Result<(), Fail> {
-    let rig = played(rt.alloc(), &ONE_QUEUE, &FIRST_EVENT)?;
-    let counts = (rig.recorder.accepted_new(), rig.recorder.inside());
-    assert_eq!(rt; (counts, worker_of(&rig)), ((1, 0), Some((1, 0))));
+    assert_eq!(rt; counted(rt.alloc())?, (1, 0, Some((1, 0))));
     Ok(())
 }

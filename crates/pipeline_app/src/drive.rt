@@ -2,6 +2,7 @@
 
 ghost use Rattle.std.specs.Prelude.{IfOk, IfErr, List, ℕ, Option, OnOk, map, string_bytes, Some};
 ghost use Rattle.play_documents.specs.Command.{AllPortsThere, line_of};
+ghost use Rattle.play_command.specs.Input.{HasRead};
 ghost use Rattle.pipeline_app.specs.Play.{IsRun, HasRun, WritesRun, AfterFault, IsEarlyFault, IsFaultOf};
 
 use crate::rig::Rig;
@@ -39,12 +40,13 @@ fn document_text(alloc: Global, bytes: &[u8]) -> Result<String, AppFault>
 fn played_text<R: Read>(alloc: Global, reader: &mut R) -> Result<String, AppFault>
     ensures run { IfOk result (λ text. HasRun (R.remaining reader.old) (string_bytes text)) }
     ensures fault { IfErr result (IsEarlyFault (R.remaining reader.old)) }
+    ensures reads { HasRead (R.remaining reader.old) (R.remaining reader.new) result }
 {
     let bytes = read_all(alloc, reader)?;
     document_text(alloc, &bytes)
 }
 
-/// Reads a document, plays its script on a device in one thread, and writes the answers, the log and the report. The text
+/// HasRead a document, plays its script on a device in one thread, and writes the answers, the log and the report. The text
 /// is built whole and then written.
 pub fn play<R: Read, W: Write>(
     alloc: Global,
@@ -54,6 +56,7 @@ pub fn play<R: Read, W: Write>(
     ensures ok { OnOk result (WritesRun (R.remaining reader.old) (W.contents writer.old) (W.contents writer.new)) }
     ensures err { IfErr result (AfterFault (R.remaining reader.old) (W.contents writer.old) (W.contents writer.new)) }
     ensures fault { IfErr result (IsFaultOf (R.remaining reader.old)) }
+    ensures reads { HasRead (R.remaining reader.old) (R.remaining reader.new) result }
 {
     let text = played_text(alloc, reader)?;
     write_text(writer, text.as_bytes())

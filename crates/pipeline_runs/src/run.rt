@@ -5,6 +5,7 @@ ghost use Rattle.evt_types.specs.declared.draft.Serving.TheVariants.{Ports};
 ghost use Rattle.pipeline_laws.specs.Pipeline.{IsProper};
 ghost use Rattle.pipeline_laws.specs.RunText.{plain_text, run_text};
 ghost use Rattle.pipeline_laws.specs.Worked.{AnswersAreDue, IsLogOf, logged};
+ghost use Rattle.play_command.specs.Input.{HasRead};
 ghost use Rattle.pipeline_runs.specs.Runs.{AfterFault, HasText, IsEarlyFault, IsFaultOf, IsRunFault, IsRunnable, WritesText, run_fault};
 ghost use Rattle.run_documents.specs.Pipelines.{planned_of};
 
@@ -117,12 +118,13 @@ fn ran_text<R: Threads + Wait + Sync, I: Read, G: Gate>(
     requires { 1 ≤ workers }
     ensures text { IfOk result (λ text. HasText workers (I.remaining reader.old) (string_bytes text)) }
     ensures fault { IfErr result (IsEarlyFault workers (I.remaining reader.old)) }
+    ensures reads { HasRead (I.remaining reader.old) (I.remaining reader.new) result }
 {
     let bytes = read_all(alloc, reader)?;
     document_text(rt, alloc, &bytes, workers, gate)
 }
 
-/// Reads a pipeline's document, runs its trace through the stages with so many workers, each in a thread of its own, and writes what
+/// HasRead a pipeline's document, runs its trace through the stages with so many workers, each in a thread of its own, and writes what
 /// each stage accepted, by flow and level. Whatever the schedule, the text is that of the plain pipeline; it is built whole and then
 /// written. Each worker passes the gate before each event's action.
 pub fn run_trace<R: Threads + Wait + Sync, I: Read, W: Write, G: Gate>(
@@ -137,6 +139,7 @@ pub fn run_trace<R: Threads + Wait + Sync, I: Read, W: Write, G: Gate>(
     ensures ok { OnOk result (WritesText workers (I.remaining reader.old) (W.contents writer.old) (W.contents writer.new)) }
     ensures err { IfErr result (AfterFault workers (I.remaining reader.old) (W.contents writer.old) (W.contents writer.new)) }
     ensures fault { IfErr result (IsFaultOf workers (I.remaining reader.old)) }
+    ensures reads { HasRead (I.remaining reader.old) (I.remaining reader.new) result }
 {
     let text = ran_text(rt, alloc, reader, workers, gate)?;
     write_text(writer, text.as_bytes())

@@ -1,13 +1,10 @@
 -- The lines of a script in turn.
 use Rattle.std.proofs.Common.{◌≡◌, ◌≢◌, ℕ, ◌+◌, ◌-◌, ◌<◌, ◌≤◌, Bool, true, false, cond, eqb, List, [], ◌∷◌, ◌++◌, length, get_or, take, drop, map, Bor, Some, None, Result, Ok, Err, refl, sym, ap, ◌∙◌, append_assoc, append-nil, arith}
 use Rattle.std.specs.List.{slice_split}
-use Rattle.std.specs.Prelude.{count_by}
 use Rattle.std.specs.Str.Lines.{strip_carriage_return}
 use Rattle.std.proofs.lemmas.Bool.{eqb-true, eq-eqb, ne_eqb}
 use Rattle.std.proofs.lemmas.Grind.{common_steps}
-use Rattle.std.proofs.lemmas.List.{at_drop_all, drop_more, length-map}
-use Rattle.std.proofs.lemmas.List.Splits.{length-slice_split}
-use Rattle.std.proofs.lemmas.List.Sums.{count_by-le-length}
+use Rattle.std.proofs.lemmas.List.{at_drop_all, drop_more}
 use Rattle.play_documents.specs.Command.{Line}
 use Rattle.play_documents.specs.Script.{line_command, script_from, script_of, with_command}
 
@@ -53,12 +50,6 @@ stops n (Err m) = refl
 
 abbrev pub texts : List (Bor (List ℕ)) → List (List ℕ)
 texts ls = map (λ l. l.now) ls
-
--- no more lines than bytes, and one
-pub few_lines : (ls : List (Bor (List ℕ))) (text : List ℕ) → texts ls ≡ slice_split (λ b. eqb b 10) text → length ls ≤ length text + 1
-few_lines ls text e =
-    let lines : length ls ≡ count_by (λ b. eqb b 10) text + 1 = sym (length-map ls (λ (l : Bor (List ℕ)). l.now)) ∙ ap length e ∙ length-slice_split (λ b. eqb b 10) text in
-    omega (arith, count_by-le-length (λ b. eqb b 10) text)
 
 module _ (ports : ℕ) (ls : List (Bor (List ℕ))) (i : ℕ) (d : Bor (List ℕ)) (lt : i < length ls) (line : List ℕ) (is : line ≡ strip_carriage_return (get_or ls i d).now) where
   -- an empty line

@@ -95,10 +95,6 @@ fn script_text<'a>(survey: &Survey<'a>) -> &'a str
 fn commands_in(alloc: Global, ports: usize, script: &str) -> Result<Vec<Command>, ReadFault>
     ensures { Gives (λ v. map line_of v.items) result (commands_in ports script.now) }
 {
-    // A script is a part of its document, so it isn't longer.
-    if script.len() > MAX_INPUT {
-        return Err(ReadFault::Memory);
-    }
     match read_script(alloc, ports, script) {
         Ok(commands) => Ok(commands),
         Err(ScriptFault::Memory) => Err(ReadFault::Memory),

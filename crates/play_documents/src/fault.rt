@@ -39,10 +39,10 @@ pub enum DocFault {
     LimitTight,
     /// The script's line of this number, counted from 1, is no command.
     #[error("line {0} of the script is no command")]
-    BadCommand(u32),
+    BadCommand(u64),
     /// The trace's line of this number, counted from 1, is no event.
     #[error("line {0} of the trace is no event")]
-    BadTrace(u32),
+    BadTrace(u64),
 }
 
 /// Why the reading of a document ends without one.

@@ -1,6 +1,6 @@
 //! The reading of a script.
 
-ghost use Rattle.std.specs.Prelude.{◌≡◌, ◌<◌, ◌^◌, length, map, IfOk, option_map, Ok, Err};
+ghost use Rattle.std.specs.Prelude.{◌≡◌, map, IfOk, option_map, Ok, Err};
 ghost use Rattle.play_documents.specs.Command.{line_of};
 ghost use Rattle.play_documents.specs.Script.{command_of, entry_op, line_command, event_line, release_line, dequeue_line, script_of, GivesLines};
 ghost use Rattle.play_documents.specs.declared.script.ScriptFault.TheVariants.{Memory};
@@ -24,7 +24,7 @@ pub enum ScriptFault {
     Memory,
     /// The line of this number, counted from 1, is no command.
     #[error("line {0} is no command")]
-    BadLine(u32),
+    BadLine(u64),
 }
 
 impl From<AllocError> for ScriptFault {
@@ -147,12 +147,11 @@ fn line_command(alloc: Global, ports: usize, line: &str) -> Result<Option<Comman
 
 /// The commands of a script, for so many ports.
 pub fn read_script(alloc: Global, ports: usize, script: &str) -> Result<Vec<Command>, ScriptFault>
-    requires { length script.now < 2 ^ 31 }
     ensures { GivesLines result (script_of ports script.now) }
 {
     let lines = lines(alloc, script)?;
     let mut commands = Vec::new(alloc);
-    let mut number = 0u32;
+    let mut number = 0u64;
     for line in &lines {
         number += 1;
         let line = without_carriage_return(line);

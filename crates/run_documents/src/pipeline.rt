@@ -75,12 +75,7 @@ fn trace_text<'a>(survey: &Survey<'a>) -> &'a str
 fn trace_in(alloc: Global, survey: &Survey) -> Result<Vec<Entry>, ReadFault>
     ensures { Gives (λ v. v.items) result (trace_in (survey_seen survey.now)) }
 {
-    let text = trace_text(survey);
-    // A trace is a part of its document, so it isn't longer.
-    if text.len() > MAX_INPUT {
-        return Err(ReadFault::Memory);
-    }
-    read_trace(alloc, text)
+    read_trace(alloc, trace_text(survey))
 }
 
 /// What the rows say, for so many workers.

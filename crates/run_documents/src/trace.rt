@@ -1,6 +1,6 @@
 //! The reading of a trace.
 
-ghost use Rattle.std.specs.Prelude.{◌≡◌, ◌<◌, ◌^◌, length, map, IfOk};
+ghost use Rattle.std.specs.Prelude.{◌≡◌, map, IfOk};
 ghost use Rattle.play_documents.specs.Document.{Gives};
 ghost use Rattle.run_documents.specs.Trace.{entry_by, entry_in, line_entry, trace_of};
 
@@ -46,12 +46,11 @@ fn line_entry(alloc: Global, line: &str) -> Result<Option<Entry>, AllocError>
 
 /// The events of a trace.
 pub fn read_trace(alloc: Global, text: &str) -> Result<Vec<Entry>, ReadFault>
-    requires { length text.now < 2 ^ 31 }
     ensures { Gives (λ v. v.items) result (trace_of text.now) }
 {
     let lines = lines(alloc, text)?;
     let mut entries = Vec::new(alloc);
-    let mut number = 0u32;
+    let mut number = 0u64;
     for line in &lines {
         number += 1;
         let line = without_carriage_return(line);

@@ -1,10 +1,10 @@
-use Rattle.std.proofs.Common.{◌+◌, map, drop, false-eqb, Err, refl, sym, ap, ◌∙◌, arith}
+use Rattle.std.proofs.Common.{◌+◌, map, drop, false-eqb, Err, length, refl, sym, ap, ◌∙◌, arith}
 use Rattle.std.specs.Prelude.{option_map}
 use Rattle.std.proofs.lemmas.Bool.{eqb-true}
 use Rattle.std.proofs.lemmas.List.{map_push}
 use Rattle.play_documents.specs.Command.{line_of}
 use Rattle.play_documents.specs.Script.{script_from}
-use Rattle.play_documents.proofs.Lines.{texts, with_lines, script-starts, script-skips, script-goes, script-stops, script-ends, few_lines}
+use Rattle.play_documents.proofs.Lines.{texts, with_lines, script-starts, script-skips, script-goes, script-stops, script-ends}
 use Rattle.play_documents.proofs.script.read_script.Goals as goal
 
 pub loop-line-init : goal.loop-line-init
@@ -14,8 +14,7 @@ loop-line-init c =
 
 pub overflow_add-number : goal.overflow_add-number
 overflow_add-number c =
-    let few = few_lines c.deref-line-items.result.now c.args.script.now (ap texts c.deref-line-items.ensures.value ∙ c.in_ok-lines.ensures) in
-    omega (arith, few, c.loop-line.invariant.0)
+    omega (arith, c.loop-line.invariant.0, c.loop-line-test.true, ap length c.deref-line-items.ensures.value, c.in_ok-lines.lines.ok, c.in_ok-lines.lines.small)
 
 pub loop-line-preserved-then-is_empty : goal.loop-line-preserved-then-is_empty
 loop-line-preserved-then-is_empty c =

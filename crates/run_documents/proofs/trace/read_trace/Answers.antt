@@ -1,7 +1,7 @@
-use Rattle.std.proofs.Common.{◌+◌, drop, false-eqb, Err, refl, sym, ap, ◌∙◌, arith}
+use Rattle.std.proofs.Common.{◌+◌, drop, false-eqb, Err, length, refl, sym, ap, ◌∙◌, arith}
 use Rattle.std.proofs.lemmas.Bool.{eqb-true}
 use Rattle.play_documents.specs.declared.fault.DocFault.TheVariants.{BadTrace}
-use Rattle.play_documents.proofs.Lines.{few_lines, texts}
+use Rattle.play_documents.proofs.Lines.{texts}
 use Rattle.run_documents.specs.Trace.{trace_from}
 use Rattle.run_documents.proofs.TraceLines.{with_entries, trace-starts, trace-skips, trace-goes, trace-stops, trace-ends}
 use Rattle.run_documents.proofs.trace.read_trace.Goals as goal
@@ -12,8 +12,7 @@ loop-line-init c =
 
 pub overflow_add-number : goal.overflow_add-number
 overflow_add-number c =
-    let few = few_lines c.deref-line-items.result.now c.args.text.now (ap texts c.deref-line-items.ensures.value ∙ c.in_ok-lines.ensures) in
-    omega (arith, few, c.loop-line.invariant.0)
+    omega (arith, c.loop-line.invariant.0, c.loop-line-test.true, ap length c.deref-line-items.ensures.value, c.in_ok-lines.lines.ok, c.in_ok-lines.lines.small)
 
 pub loop-line-preserved-then-is_empty : goal.loop-line-preserved-then-is_empty
 loop-line-preserved-then-is_empty c =

@@ -19,3 +19,4 @@ pub use laws::{
     every_step_keeps_the_rule, parts_add_up, the_bit_has_its_cause,
 };
 pub use pool::{CreditSeat, Credits, Memory};
+pub use rule::CreditRule;

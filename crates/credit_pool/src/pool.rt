@@ -33,7 +33,7 @@ impl Credits {
     ghost use Rattle.credit_pool.specs.Accounts.{after_draw, after_give, after_join, after_look, after_shut, first_account, free_of, part_of, rest_of, IsOpen, IsShut, Stays};
     ghost use Rattle.credit_pool.specs.Answers.{AnswersDraw, AnswersGive};
     ghost use Rattle.credit_pool.specs.Rule.{Reads};
-    ghost use Rattle.credit_pool.specs.Pool.{account, limit_of, IsSeatOf};
+    ghost use Rattle.credit_pool.specs.Pool.{account, limit_of, pool_id, IsSeatOf};
 
     /// A pool of `limit` credits, at most 2^32, all free, and its first seat, which has all 64 parts.
     pub fn new(alloc: Global, limit: u64) -> Result<(Credits, CreditSeat), Memory>
@@ -44,6 +44,15 @@ impl Credits {
     {
         let (table, seat) = Table::of_words(alloc, &[2 * limit], &limit)?;
         Ok((Credits { table, limit }, CreditSeat { seat }))
+    }
+
+    /// The table of the pool's word, with all seats' accounts. Its rule is `CreditRule`, whose fact holds between any two steps of any
+    /// seats and is `Balanced` at the pool's limit. So the laws, `credits_add_up` and the others, are of this pool at every moment.
+    pub fn table(&self) -> &Table<(), Account, u64, CreditRule, Global>
+        ensures table { result.now.shared.table_id ≡ pool_id self.now }
+        ensures limit { result.now.shared.key ≡ limit_of self.now }
+    {
+        &self.table
     }
 
     /// Gives one of the seat's parts, of which it has two or more, to a new seat with an account of its own. It never refuses.

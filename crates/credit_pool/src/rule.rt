@@ -6,6 +6,7 @@ ghost use Rattle.credit_pool.specs.Steps.{Draws, FetchesOr, Gives, Loads};
 use crate::account::Account;
 use atomic_table::{Join, Play, Split, TableRule};
 
+/// The rule of a pool's table: `Balanced` at the pool's limit, between any two steps of any seats.
 pub struct CreditRule;
 
 impl TableRule<(), Account, u64> for CreditRule {

@@ -4,7 +4,7 @@ ghost use Rattle.std.specs.Prelude.{◌≡◌, ◌^◌, ◌<◌, ◌≤◌, ◌=
 ghost use Rattle.order_parts.specs.History.{entries_of};
 
 use crate::Memory;
-use std::alloc::{AllocError, Global};
+use std::alloc::Global;
 use std::marker::Model;
 
 /// An unanswered event: its queue, its number there, its slot, and its place in an ordered queue's reorder buffer.
@@ -45,7 +45,8 @@ impl History {
     pub fn new(alloc: Global, capacity: usize) -> Result<History, Memory>
         ensures { IfOk result (λ h. h ≡ entries_of [] capacity) }
     {
-        let places = capacity.checked_next_power_of_two().ok_or(AllocError)?;
+        // More places than can be counted are asked for as the most that can be, which no memory has.
+        let places = capacity.checked_next_power_of_two().unwrap_or(usize::MAX);
         let blank = Entry {
             queue: 0,
             number: 0,

@@ -52,12 +52,16 @@ fn two_of(mut ports: Vec<Port>) -> Option<(Port, Port)> {
 /// The scheduler and the ports of a device of the case.
 fn parts_of(alloc: Global, case: Case) -> Result<(Scheduler, Port, Port), BenchFault> {
     let shape = bench_shape(alloc, case)?;
-    let Ok((scheduler, ports, _)) = device(alloc, shape) else {
+    let Ok((scheduler, ports, control)) = device(alloc, shape) else {
         return Err(BenchFault::Device);
     };
+    drop(control);
     match two_of(ports) {
         Some((source, worker)) => Ok((scheduler, source, worker)),
-        None => Err(BenchFault::Device),
+        None => {
+            drop(scheduler);
+            Err(BenchFault::Device)
+        }
     }
 }
 

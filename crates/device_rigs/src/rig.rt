@@ -209,7 +209,10 @@ impl Rig {
     pub fn stop(self, alloc: Global) -> Result<Report, RigFault> {
         match self.try_stop(alloc) {
             Ok(report) => Ok(report),
-            Err((fault, _)) => Err(RigFault::Stop(fault)),
+            Err((fault, rig)) => {
+                drop(rig);
+                Err(RigFault::Stop(fault))
+            }
         }
     }
 
@@ -226,8 +229,18 @@ impl Rig {
                 ports,
                 control,
             }),
-            Err((fault, ..)) => Err(RigFault::Stop(fault)),
-            Ok(_report) => Err(RigFault::Unexpected { place: 0 }),
+            Err((fault, recorder, control, none)) => {
+                drop(recorder);
+                drop(control);
+                drop(none);
+                drop(ports);
+                Err(RigFault::Stop(fault))
+            }
+            Ok(report) => {
+                drop(report);
+                drop(ports);
+                Err(RigFault::Unexpected { place: 0 })
+            }
         }
     }
 }

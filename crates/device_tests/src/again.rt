@@ -196,15 +196,23 @@ fn play_again(rig: &mut Rig, calls: &[Call]) -> Result<(), RigFault> {
 /// A device of the plan after these calls.
 fn played_again(alloc: Global, plan: &Plan, calls: &[Call]) -> Result<Rig, RigFault> {
     let mut rig = rig_again(alloc, plan)?;
-    play_again(&mut rig, calls)?;
-    Ok(rig)
+    match play_again(&mut rig, calls) {
+        Ok(()) => Ok(rig),
+        Err(fault) => {
+            drop(rig);
+            Err(fault)
+        }
+    }
 }
 
 fn stop_again(alloc: Global, rig: Rig) -> Result<Report, RigFault> {
     match rig.try_stop(alloc) {
         Ok(report) => Ok(report),
         Err((StopFault::Memory, rig)) => rig.stop(alloc),
-        Err((fault, _rig)) => Err(RigFault::Stop(fault)),
+        Err((fault, rig)) => {
+            drop(rig);
+            Err(RigFault::Stop(fault))
+        }
     }
 }
 
@@ -215,10 +223,16 @@ fn other_in(alloc: Global, row: &Row, serving: Serving) -> Result<Option<&'stati
         ..row.plan
     };
     let report = stop_again(alloc, played_again(alloc, &plan, row.calls)?)?;
+    let other = other_of(&report, row);
+    drop(report);
+    Ok(other)
+}
+
+fn other_of(report: &Report, row: &Row) -> Option<&'static str> {
     if is_log(&report.log, row.log) {
-        Ok(row.left.other_in(&report))
+        row.left.other_in(report)
     } else {
-        Ok(Some("log"))
+        Some("log")
     }
 }
 
@@ -287,10 +301,20 @@ fn sweeps(
     Ok(is_in && (swept.taken, swept.given) == (1, 1) && is_logged)
 }
 
+/// The same of a new device.
+fn device_sweeps(alloc: Global) -> Result<bool, RigFault> {
+    let (mut scheduler, mut ports, control) = device_again(alloc, &TWO_QUEUES)?;
+    let mut log = Vec::new(alloc);
+    let swept = sweeps(&mut scheduler, &mut ports, &mut log);
+    drop(log);
+    drop(scheduler);
+    drop(ports);
+    drop(control);
+    Ok(swept?)
+}
+
 #[test]
 fn a_scheduler_sweeps_again(rt: HostRuntime) -> Result<(), Fail> {
-    let (mut scheduler, mut ports, _control) = device_again(rt.alloc(), &TWO_QUEUES)?;
-    let mut log = Vec::new(rt.alloc());
-    assert_eq!(rt; sweeps(&mut scheduler, &mut ports, &mut log), Ok(true));
+    assert_eq!(rt; device_sweeps(rt.alloc())?, true);
     Ok(())
 }

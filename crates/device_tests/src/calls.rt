@@ -75,7 +75,8 @@ fn two_of(mut ports: Vec<Port>) -> Option<(Port, Port)> {
 impl Parts {
     /// The parts of a device that nobody shuts.
     fn new(alloc: Global) -> Result<Parts, RigFault> {
-        let (scheduler, ports, _control) = device(alloc, ONE_QUEUE.shape(alloc)?)?;
+        let (scheduler, ports, control) = device(alloc, ONE_QUEUE.shape(alloc)?)?;
+        drop(control);
         match two_of(ports) {
             Some((source, worker)) => Ok(Parts {
                 scheduler,
@@ -83,7 +84,10 @@ impl Parts {
                 worker,
                 log: Vec::new(alloc),
             }),
-            None => Err(RigFault::Unexpected { place: 0 }),
+            None => {
+                drop(scheduler);
+                Err(RigFault::Unexpected { place: 0 })
+            }
         }
     }
 
@@ -149,7 +153,9 @@ fn gives_and_takes(parts: &mut Parts) -> Result<bool, Memory> {
 /// The same of a device that nobody shuts.
 fn passes(alloc: Global) -> Result<bool, RigFault> {
     let mut parts = Parts::new(alloc)?;
-    Ok(gives_and_takes(&mut parts)?)
+    let passed = gives_and_takes(&mut parts);
+    drop(parts);
+    Ok(passed?)
 }
 
 #[test]

@@ -2,7 +2,7 @@
 //! to a stop in between, after which the report must account for each event and each credit.
 
 use crate::steps::ATOMIC;
-use crate::threads::{EVENTS, LIMIT, is_through, report_of};
+use crate::threads::{EVENTS, LIMIT, passes, report_of};
 use device_rigs::{End, Plan, PortPlan, Task, check_stopped};
 use evt_types::Serving;
 use std::alloc::Global;
@@ -52,8 +52,11 @@ const HALF: u64 = EVENTS as u64 / 2;
 fn stops_halfway<R: Threads + Sync>(rt: &R, alloc: Global, end: End) -> Result<bool, Fail> {
     let task = Task { end, ..ALL };
     let report = report_of(rt, alloc, &PLAN, task)?;
-    let entered = check_stopped(alloc, &PLAN, task, &report)?;
-    Ok(report.kept.is_empty() && HALF <= entered && entered < u64::from(EVENTS))
+    let kept_none = report.kept.is_empty();
+    let entered = check_stopped(alloc, &PLAN, task, &report);
+    drop(report);
+    let entered = entered?;
+    Ok(kept_none && HALF <= entered && entered < u64::from(EVENTS))
 }
 
 #[test]
@@ -70,7 +73,6 @@ fn lanes_stopped_at_once(rt: HostRuntime) -> Result<(), Fail> {
 
 #[test]
 fn lanes_pass_all(rt: HostRuntime) -> Result<(), Fail> {
-    let report = report_of(&rt, rt.alloc(), &PLAN, ALL)?;
-    assert!(rt; is_through(rt.alloc(), &PLAN, &report)?);
+    assert!(rt; passes(&rt, rt.alloc(), &PLAN, ALL)?);
     Ok(())
 }

@@ -18,6 +18,11 @@ pub(crate) const ONE_QUEUE: Plan = Plan {
 /// A device of the plan after these calls.
 pub(crate) fn played(alloc: Global, plan: &Plan, calls: &[Call]) -> Result<Rig, RigFault> {
     let mut rig = Rig::new(alloc, plan)?;
-    rig.play(calls)?;
-    Ok(rig)
+    match rig.play(calls) {
+        Ok(()) => Ok(rig),
+        Err(fault) => {
+            drop(rig);
+            Err(fault)
+        }
+    }
 }

@@ -179,9 +179,23 @@ fn other_credits_in(one: &Report, other: &Report) -> Option<&'static str> {
 
 /// The ending of this device.
 fn ending_of(alloc: Global, mut rig: Rig) -> Result<Ending, RigFault> {
-    let said = every_call(alloc, &mut rig)?;
-    let report = rig.stop(alloc)?;
-    Ok(Ending { said, report })
+    match every_call(alloc, &mut rig) {
+        Ok(said) => ending_with(alloc, rig, said),
+        Err(fault) => {
+            drop(rig);
+            Err(RigFault::from(fault))
+        }
+    }
+}
+
+fn ending_with(alloc: Global, rig: Rig, said: Vec<Said>) -> Result<Ending, RigFault> {
+    match rig.stop(alloc) {
+        Ok(report) => Ok(Ending { said, report }),
+        Err(fault) => {
+            drop(said);
+            Err(fault)
+        }
+    }
 }
 
 /// The ending after the row's calls.
@@ -192,14 +206,40 @@ fn plain(alloc: Global, plan: &Plan, row: &Row) -> Result<Ending, RigFault> {
 /// The same after its refused calls too.
 fn after_refusals(alloc: Global, plan: &Plan, row: &Row) -> Result<Ending, RigFault> {
     let mut rig = played(alloc, plan, row.calls)?;
-    rig.play(row.refused)?;
-    ending_of(alloc, rig)
+    match rig.play(row.refused) {
+        Ok(()) => ending_of(alloc, rig),
+        Err(fault) => {
+            drop(rig);
+            Err(fault)
+        }
+    }
 }
 
 /// The same after a stop without ports, which is refused.
 fn after_missing_ports(alloc: Global, plan: &Plan, row: &Row) -> Result<Ending, RigFault> {
     let rig = played(alloc, plan, row.calls)?;
     ending_of(alloc, rig.miss_ports(alloc)?)
+}
+
+/// What is otherwise in this ending than in that of the row's calls alone.
+fn change_in(
+    alloc: Global,
+    plan: &Plan,
+    row: &Row,
+    ending: Ending,
+) -> Result<Option<&'static str>, RigFault> {
+    match plain(alloc, plan, row) {
+        Ok(plain) => {
+            let other = ending.other_in(&plain);
+            drop(plain);
+            drop(ending);
+            Ok(other)
+        }
+        Err(fault) => {
+            drop(ending);
+            Err(fault)
+        }
+    }
 }
 
 /// What the row's refused calls change.
@@ -209,7 +249,8 @@ fn change_of_refusals(alloc: Global, row: &Row) -> Result<Option<&'static str>, 
             serving,
             ..row.plan
         };
-        let other = after_refusals(alloc, &plan, row)?.other_in(&plain(alloc, &plan, row)?);
+        let ending = after_refusals(alloc, &plan, row)?;
+        let other = change_in(alloc, &plan, row, ending)?;
         if other.is_some() {
             return Ok(other);
         }
@@ -224,7 +265,8 @@ fn change_of_missing_ports(alloc: Global, row: &Row) -> Result<Option<&'static s
             serving,
             ..row.plan
         };
-        let other = after_missing_ports(alloc, &plan, row)?.other_in(&plain(alloc, &plan, row)?);
+        let ending = after_missing_ports(alloc, &plan, row)?;
+        let other = change_in(alloc, &plan, row, ending)?;
         if other.is_some() {
             return Ok(other);
         }

@@ -101,13 +101,17 @@ static ROWS: [Row; 2] = [
 fn other_in(alloc: Global, row: &Row) -> Result<Option<&'static str>, RigFault> {
     let rig = played(alloc, &row.plan, row.calls)?;
     let report = rig.stop(alloc)?;
-    Ok(row.left.other_in(&report))
+    let other = row.left.other_in(&report);
+    drop(report);
+    Ok(other)
 }
 
 /// What a burst of three new events answers.
 fn burst_of_three(alloc: Global) -> Result<Option<(usize, Option<Refused>)>, RigFault> {
     let mut rig = Rig::new(alloc, &TIGHT)?;
-    Ok(rig.enqueue_burst(0, &[FIRST.event(); 3]))
+    let answer = rig.enqueue_burst(0, &[FIRST.event(); 3]);
+    drop(rig);
+    Ok(answer)
 }
 
 #[test]
@@ -145,11 +149,10 @@ fn worker_of(rig: &Rig) -> Option<(usize, usize)> {
 /// How many events were accepted as new and are inside, and the worker, after the first event was released.
 fn counted(alloc: Global) -> Result<(u64, usize, Option<(usize, usize)>), RigFault> {
     let rig = played(alloc, &ONE_QUEUE, &FIRST_EVENT)?;
-    Ok((
-        rig.recorder.accepted_new(),
-        rig.recorder.inside(),
-        worker_of(&rig),
-    ))
+    let (accepted, inside) = (rig.recorder.accepted_new(), rig.recorder.inside());
+    let worker = worker_of(&rig);
+    drop(rig);
+    Ok((accepted, inside, worker))
 }
 
 #[test]

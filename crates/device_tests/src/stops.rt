@@ -52,7 +52,11 @@ fn make_parts(alloc: Global) -> Result<Parts, Fail>
             last,
             first,
         }),
-        None => Err(Fail::from("there are two ports")),
+        None => {
+            drop(recorder);
+            drop(control);
+            Err(Fail::from("there are two ports"))
+        }
     }
 }
 
@@ -67,10 +71,20 @@ fn stop_with(
     requires { AreOf recorder control (ports.items ++ first ∷ []) }
 {
     let mut ports = ports;
-    ports.push(first)?;
+    if ports.push(first).is_err() {
+        drop(recorder);
+        drop(control);
+        drop(ports);
+        return Err(Fail::from(StopFault::Memory));
+    }
     match recorder.stop(alloc, control, ports) {
         Ok(report) => Ok(report),
-        Err((fault, ..)) => Err(Fail::from(fault)),
+        Err((fault, recorder, control, ports)) => {
+            drop(recorder);
+            drop(control);
+            drop(ports);
+            Err(Fail::from(fault))
+        }
     }
 }
 
@@ -85,13 +99,28 @@ fn stop_late(alloc: Global, parts: Parts) -> Result<Report, Fail>
         last,
         first,
     } = parts;
-    let ports = Vec::from_array(alloc, [last])?;
+    let Ok(ports) = Vec::from_array(alloc, [last]) else {
+        drop(recorder);
+        drop(control);
+        drop(first);
+        return Err(Fail::from(StopFault::Memory));
+    };
     match recorder.stop(alloc, control, ports) {
         Err((StopFault::Missing { port: 0 }, recorder, control, ports)) => {
             stop_with(alloc, recorder, control, ports, first)
         }
-        Err((fault, ..)) => Err(Fail::from(fault)),
-        Ok(_report) => Err(Fail::from("port 0 isn't there")),
+        Err((fault, recorder, control, ports)) => {
+            drop(recorder);
+            drop(control);
+            drop(ports);
+            drop(first);
+            Err(Fail::from(fault))
+        }
+        Ok(report) => {
+            drop(report);
+            drop(first);
+            Err(Fail::from("port 0 isn't there"))
+        }
     }
 }
 
@@ -105,6 +134,8 @@ const UNUSED: Left = Left {
 #[test]
 fn a_missing_port_is_named(rt: HostRuntime) -> Result<(), Fail> {
     let report = stop_late(rt.alloc(), make_parts(rt.alloc())?)?;
-    assert_eq!(rt; (report.log.len(), UNUSED.other_in(&report)), (0, None));
+    let left = (report.log.len(), UNUSED.other_in(&report));
+    drop(report);
+    assert_eq!(rt; left, (0, None));
     Ok(())
 }

@@ -99,6 +99,14 @@ fn is_shut(rig: &mut Rig) -> Result<(), RigFault> {
     ])
 }
 
+/// A device through which all went is shut.
+fn ends(rig: &mut Rig, task: Task) -> Result<(), RigFault> {
+    match task.end {
+        End::Through => is_shut(rig),
+        End::Seen(_) | End::Unseen(_) => Ok(()),
+    }
+}
+
 /// What is left of a device that is run until it is shut.
 pub(crate) fn report_of<R: Threads + Sync>(
     rt: &R,
@@ -107,10 +115,13 @@ pub(crate) fn report_of<R: Threads + Sync>(
     task: Task,
 ) -> Result<Report, RigFault> {
     let mut rig = run(rt, Rig::new(alloc, plan)?, task)?;
-    if let End::Through = task.end {
-        is_shut(&mut rig)?;
+    match ends(&mut rig, task) {
+        Ok(()) => rig.stop(alloc),
+        Err(fault) => {
+            drop(rig);
+            Err(fault)
+        }
     }
-    rig.stop(alloc)
 }
 
 /// Whether all events went through all queues, by a log in which nothing is wrong, and nothing is left.
@@ -120,29 +131,42 @@ pub(crate) fn is_through(
     report: &Report,
 ) -> Result<bool, AccountFault> {
     let mut checker = Checker::new(alloc, plan.queues, MAX_LANES)?;
-    checker.read(&report.log)?;
+    let is_read = checker.read(&report.log);
     let is_done = checker.is_done() && checker.is_shut() && checker.each_queue_has(EVENTS as usize);
-    let entered = checker.entered() == u64::from(EVENTS) && brought_in(&report.log) == Some(EVENTS);
+    let entered = checker.entered() == u64::from(EVENTS);
+    drop(checker);
+    is_read?;
+    let entered = entered && brought_in(&report.log) == Some(EVENTS);
     Ok(is_done && entered && entry_count(report) == 0 && credits(report) == u64::from(LIMIT))
+}
+
+/// The same of a device that is run with threads.
+pub(crate) fn passes<R: Threads + Sync>(
+    rt: &R,
+    alloc: Global,
+    plan: &Plan,
+    task: Task,
+) -> Result<bool, Fail> {
+    let report = report_of(rt, alloc, plan, task)?;
+    let through = is_through(alloc, plan, &report);
+    drop(report);
+    Ok(through?)
 }
 
 #[test]
 fn short_rings(rt: HostRuntime) -> Result<(), Fail> {
-    let report = report_of(&rt, rt.alloc(), &SHORT_RINGS, ALL)?;
-    assert!(rt; is_through(rt.alloc(), &SHORT_RINGS, &report)?);
+    assert!(rt; passes(&rt, rt.alloc(), &SHORT_RINGS, ALL)?);
     Ok(())
 }
 
 #[test]
 fn long_rings(rt: HostRuntime) -> Result<(), Fail> {
-    let report = report_of(&rt, rt.alloc(), &LONG_RINGS, ALL)?;
-    assert!(rt; is_through(rt.alloc(), &LONG_RINGS, &report)?);
+    assert!(rt; passes(&rt, rt.alloc(), &LONG_RINGS, ALL)?);
     Ok(())
 }
 
 #[test]
 fn flow_lanes(rt: HostRuntime) -> Result<(), Fail> {
-    let report = report_of(&rt, rt.alloc(), &FLOW_LANES, ALL)?;
-    assert!(rt; is_through(rt.alloc(), &FLOW_LANES, &report)?);
+    assert!(rt; passes(&rt, rt.alloc(), &FLOW_LANES, ALL)?);
     Ok(())
 }

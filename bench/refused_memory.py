@@ -98,6 +98,7 @@ RUNS = (
     ("play of first-event", ["play"], *example("first-event")),
     ("play of a second event forwarded first", ["play"], SECOND_FORWARDED_FIRST, ITS_END),
     ("play of ordered-release", ["play"], *example("ordered-release")),
+    ("play of several-forwards", ["play"], *example("several-forwards")),
     ("run of three-stages by ports", RUN, *example("three-stages")),
     ("run of three-stages by flow lanes", RUN, *example("three-stages", 'serving = "flows"\n')),
     ("run of dropping-stages by flow lanes", RUN, *example("dropping-stages")),

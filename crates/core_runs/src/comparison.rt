@@ -5,7 +5,7 @@ use crate::drawn_moves::{Counts, Drawing};
 use crate::fault::RunFault;
 use crate::moves::{Made, Move};
 use crate::pair::Pair;
-use evt_types::{Kind, Serving};
+use evt_types::{Kind, MAX_EXTRAS, Serving};
 use plain_core::PlainTook;
 use std::alloc::Global;
 
@@ -120,12 +120,22 @@ struct Seen {
     given: u32,
     bounced: u32,
     nothing: u32,
+    /// What was added beside an unanswered event was accepted at once, was kept, or was refused; and an event had as many as there
+    /// may be.
+    added: u32,
+    added_kept: u32,
+    not_added: u32,
+    filled: u32,
 }
 
 impl Seen {
     /// Notes what came of a turn.
     fn note(&mut self, step: Move, made: Made) {
+        let adds = step.adds_on().is_some();
         let count = match made {
+            Made::Took(Some(PlainTook::Kept)) if adds => &mut self.added_kept,
+            Made::Took(Some(_)) if adds => &mut self.added,
+            Made::Took(None) if adds => &mut self.not_added,
             Made::Took(Some(PlainTook::Accepted)) => &mut self.accepted,
             Made::Took(Some(PlainTook::Kept)) => &mut self.kept,
             Made::Took(Some(PlainTook::Released)) => &mut self.released,
@@ -139,7 +149,15 @@ impl Seen {
         *count = count.saturating_add(1);
     }
 
-    /// Whether each thing that may happen on the device has happened often: an ordered queue keeps events, and no other does.
+    /// Notes that an event was to be added on a lane on which as many are added now as there may be.
+    fn note_extras(&mut self, extras: usize) {
+        if extras == MAX_EXTRAS {
+            self.filled = self.filled.saturating_add(1);
+        }
+    }
+
+    /// Whether each thing that may happen on the device has happened often: an ordered queue keeps events and what is added beside
+    /// them, and no other does.
     fn is_varied(&self, device: &Device) -> bool {
         let counts = [
             self.accepted,
@@ -149,14 +167,19 @@ impl Seen {
             self.given,
             self.bounced,
             self.nothing,
+            self.not_added,
+            self.filled,
         ];
-        let keeps = if device.has_ordered() {
-            self.kept >= OFTEN
-        } else {
-            self.kept == 0
-        };
-        keeps && counts.iter().all(|count| *count >= OFTEN)
+        counts.iter().all(|count| *count >= OFTEN)
+            && comes_where(device.has_ordered(), self.kept)
+            && comes_where(device.has_ordered(), self.added_kept)
+            && comes_where(device.has_unordered(), self.added)
     }
+}
+
+/// Whether it came often where it may come, and else never.
+fn comes_where(may_come: bool, count: u32) -> bool {
+    if may_come { count >= OFTEN } else { count == 0 }
 }
 
 /// Makes the drawn moves on both cores.
@@ -167,6 +190,9 @@ fn make_drawn(pair: &mut Pair, drawing: &mut Drawing, seen: &mut Seen) -> Result
         }
         let step = drawing.next(turn > TURNS / 2);
         seen.note(step, pair.make(step)?);
+        if let Some(lane) = step.adds_on() {
+            seen.note_extras(pair.extras_len(lane));
+        }
     }
     pair.must_hold_alike()
 }

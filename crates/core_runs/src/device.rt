@@ -62,4 +62,9 @@ impl Device {
     pub(crate) fn has_ordered(&self) -> bool {
         self.queues.iter().any(|(kind, _, _)| kind.is_ordered())
     }
+
+    /// Whether some queue is not ordered.
+    pub(crate) fn has_unordered(&self) -> bool {
+        self.queues.iter().any(|(kind, _, _)| !kind.is_ordered())
+    }
 }

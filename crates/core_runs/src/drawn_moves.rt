@@ -19,6 +19,8 @@ pub(crate) struct Counts {
 pub(crate) struct Drawing {
     random: Pcg32,
     counts: Counts,
+    /// The lane of the last reply, where that was a FORWARD_MORE.
+    adding: Option<usize>,
 }
 
 impl Drawing {
@@ -27,6 +29,7 @@ impl Drawing {
         Drawing {
             random: Pcg32::new(seed, 54),
             counts,
+            adding: None,
         }
     }
 
@@ -62,22 +65,48 @@ impl Drawing {
         }
     }
 
-    /// The operation of a reply: mostly a FORWARD.
+    /// The operation of a reply: mostly one that answers.
     fn op(&mut self) -> Op {
-        match self.below(12) {
+        match self.below(14) {
             0..4 => Op::New,
             4..9 => Op::Forward,
-            _ => Op::Release,
+            9..13 => Op::Release,
+            _ => Op::ForwardMore,
         }
     }
 
-    /// The lane of a reply: a port's own where the reply is a new event, any where it is an answer.
+    /// The lane of a reply: a port's own where the reply is a new event, any where it is not.
     fn lane(&mut self, op: Op) -> usize {
         let Counts { ports, lanes, .. } = self.counts;
         match op {
             Op::New => self.below(ports),
-            Op::Forward | Op::Release => self.below(lanes),
+            Op::Forward | Op::Release | Op::ForwardMore => self.below(lanes),
         }
+    }
+
+    /// The operation and the lane of a reply. After a FORWARD_MORE another one of its lane comes mostly, so that several are added
+    /// beside an event.
+    fn op_and_lane(&mut self) -> (Op, usize) {
+        let adds_again = self.below(5) != 0;
+        match self.adding {
+            Some(lane) if adds_again => (Op::ForwardMore, lane),
+            _ => {
+                let op = self.op();
+                (op, self.lane(op))
+            }
+        }
+    }
+
+    /// A reply.
+    fn reply(&mut self) -> Move {
+        let (op, lane) = self.op_and_lane();
+        self.adding = if op == Op::ForwardMore {
+            Some(lane)
+        } else {
+            None
+        };
+        let packet = self.packet(op);
+        Move::Reply { lane, packet }
     }
 
     /// A move: mostly a reply, or an event to be given; late in the run a shut now and then.
@@ -86,12 +115,7 @@ impl Drawing {
             0..10 if is_late => Move::Shut,
             0..50 => Move::Bounce,
             50..400 => Move::Give,
-            _ => {
-                let op = self.op();
-                let lane = self.lane(op);
-                let packet = self.packet(op);
-                Move::Reply { lane, packet }
-            }
+            _ => self.reply(),
         }
     }
 }

@@ -44,6 +44,16 @@ pub(crate) enum Move {
     NextSweep,
 }
 
+impl Move {
+    /// The lane beside whose oldest event an event comes to be added, if that is what is done.
+    pub(crate) fn adds_on(&self) -> Option<usize> {
+        match *self {
+            Move::Reply { lane, packet } if packet.op == Op::ForwardMore => Some(lane),
+            _ => None,
+        }
+    }
+}
+
 /// What comes of a move, in the plain core's words.
 #[derive(Clone, Copy, Debug, PartialEq, Eq)]
 pub(crate) enum Made {

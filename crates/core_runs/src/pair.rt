@@ -30,6 +30,11 @@ impl Pair {
         self.run.core.shape().lanes()
     }
 
+    /// How many events were added beside the lane's oldest unanswered event.
+    pub(crate) fn extras_len(&self, lane: usize) -> usize {
+        self.plain.core.extras_len(lane)
+    }
+
     /// Both cores make one move. What comes of it must be the same, and what they log, and how many events are inside.
     pub(crate) fn make(&mut self, step: Move) -> Result<Made, RunFault> {
         let steps = self.run.log.len();

@@ -3,7 +3,9 @@
 use crate::device::Device;
 use crate::fault::RunFault;
 use crate::moves::{Made, Move};
-use evt_types::{Delivery, Event, KeptEvent, MAX_LANES, MAX_QUEUES, MAX_SWEEP, Reply, Step};
+use evt_types::{
+    Delivery, Event, KeptEvent, MAX_FORWARDS, MAX_LANES, MAX_QUEUES, MAX_SWEEP, Reply, Step,
+};
 use plain_core::{PlainOffer, PlainTook};
 use sched_core::{Core, Offer, Skips, Took};
 use std::alloc::Global;
@@ -129,7 +131,9 @@ impl Run {
     pub(crate) fn kept(&self, alloc: Global, queue: usize) -> Result<Vec<KeptEvent>, RunFault> {
         let mut kept = Vec::new(alloc);
         if queue < self.core.shape().queues().len() {
-            kept.reserve(self.core.places_len(queue))?;
+            let places = self.core.places_len(queue);
+            let room = places.checked_mul(MAX_FORWARDS);
+            kept.reserve(room.ok_or(RunFault::Memory)?)?;
             self.core.list_kept(queue, &mut kept);
         }
         Ok(kept)

@@ -27,10 +27,12 @@ pub fn entry_count(report: &Report) -> usize {
         .saturating_add(report.untaken.len())
 }
 
-/// How many new events the scheduler hasn't taken.
-pub fn untaken_news(report: &Report) -> usize {
+/// Of how many events that are new or added beside others the scheduler hasn't taken the reply.
+pub fn untaken_entries(report: &Report) -> usize {
     let untaken = report.untaken.iter();
-    untaken.filter(|left| left.event.op == Op::New).count()
+    untaken
+        .filter(|left| left.event.op == Op::New || left.event.op == Op::ForwardMore)
+        .count()
 }
 
 /// How many events that the queue gave are undelivered, held, or forwarded and not taken.

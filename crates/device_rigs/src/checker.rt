@@ -18,6 +18,7 @@ pub struct Checker {
     lanes: Vec<LoggedLane>,
     is_shut: bool,
     entered: u64,
+    added: u64,
 }
 
 impl Checker {
@@ -43,13 +44,35 @@ impl Checker {
             lanes,
             is_shut: false,
             entered: 0,
+            added: 0,
         })
     }
 
     /// Goes over the steps. It ends at the first fault.
     pub fn read(&mut self, log: &[Step]) -> Result<(), Fault> {
         for step in log {
+            self.must_be_prompt_at(step)?;
             self.step(*step)?;
+        }
+        self.must_be_prompt()
+    }
+
+    /// Before each step all must be accepted that was passed on and may be, but where the step accepts it.
+    fn must_be_prompt_at(&mut self, step: &Step) -> Result<(), Fault> {
+        match step {
+            Step::Accept {
+                source: Source::Of { .. },
+                ..
+            } => Ok(()),
+            _ => self.must_be_prompt(),
+        }
+    }
+
+    fn must_be_prompt(&mut self) -> Result<(), Fault> {
+        for queue in &mut self.queues {
+            if !queue.is_prompt() {
+                return Err(Fault::NotPassedOn);
+            }
         }
         Ok(())
     }
@@ -70,6 +93,7 @@ impl Checker {
                 number,
             } => self.give(lane, queue, number),
             Step::Done { lane, outcome } => self.answer(lane, outcome),
+            Step::More { lane, event } => self.add(lane, event),
             Step::Turned { .. } if !self.is_shut => Err(Fault::TurnedEarly),
             Step::Shut if self.is_shut => Err(Fault::ShutTwice),
             Step::Shut => {
@@ -80,7 +104,7 @@ impl Checker {
         }
     }
 
-    /// The event leaves the port that brings it in, or the queue from which it was forwarded.
+    /// The event leaves the port that brings it in, or the queue from which it was passed on.
     fn leave(&mut self, event: Event, source: Source) -> Result<(), Fault> {
         match source {
             Source::New { .. } if self.is_shut => Err(Fault::NewAfterShut),
@@ -113,17 +137,33 @@ impl Checker {
         }
     }
 
-    /// The lane's oldest unanswered event is answered.
-    fn answer(&mut self, lane: usize, outcome: Outcome) -> Result<(), Fault> {
-        let Some(given) = self.lanes.get_mut(lane) else {
+    /// The queue and the number of the lane's oldest unanswered event.
+    fn oldest(&self, lane: usize) -> Result<(usize, u64), Fault> {
+        let Some(given) = self.lanes.get(lane) else {
             return Err(Fault::Unknown);
         };
-        let Some((queue, number)) = given.out.get(given.answered).copied() else {
-            return Err(Fault::NothingUnanswered);
-        };
-        given.answered = given.answered.saturating_add(1);
+        let oldest = given.out.get(given.answered).copied();
+        oldest.ok_or(Fault::NothingUnanswered)
+    }
+
+    /// The lane's oldest unanswered event is answered.
+    fn answer(&mut self, lane: usize, outcome: Outcome) -> Result<(), Fault> {
+        let (queue, number) = self.oldest(lane)?;
+        if let Some(given) = self.lanes.get_mut(lane) {
+            given.answered = given.answered.saturating_add(1);
+        }
         match self.queues.get_mut(queue) {
             Some(queue) => queue.answer(number, outcome),
+            None => Err(Fault::Unknown),
+        }
+    }
+
+    /// The event is added beside the lane's oldest unanswered event.
+    fn add(&mut self, lane: usize, event: Event) -> Result<(), Fault> {
+        let (queue, number) = self.oldest(lane)?;
+        self.added = self.added.saturating_add(1);
+        match self.queues.get_mut(queue) {
+            Some(queue) => queue.add(number, event),
             None => Err(Fault::Unknown),
         }
     }
@@ -158,12 +198,17 @@ impl Checker {
         self.entered
     }
 
+    /// How many events were added beside others.
+    pub fn added(&self) -> u64 {
+        self.added
+    }
+
     /// Whether the device was shut.
     pub fn is_shut(&self) -> bool {
         self.is_shut
     }
 
-    /// Whether each event was given and answered, and each forward accepted.
+    /// Whether each event was given and answered, and all that it was passed on as accepted.
     pub fn is_done(&self) -> bool {
         self.queues.iter().all(|queue| queue.is_done())
     }

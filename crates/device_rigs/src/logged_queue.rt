@@ -1,6 +1,7 @@
 //! What a log has said of one queue.
 
-use evt_types::{Event, Kind, Outcome, QueueDraft};
+use arrayvec::ArrayVec;
+use evt_types::{Event, Kind, MAX_EXTRAS, MAX_FORWARDS, Outcome, QueueDraft};
 use std::alloc::{AllocError, Global};
 
 /// All flows are below this.
@@ -22,12 +23,16 @@ pub enum Fault {
     GivenLate,
     /// Unanswered events of one slot stand on two lanes.
     TwoLanes,
-    /// An answer of a lane on which nothing is unanswered.
+    /// An answer of a lane on which nothing is unanswered, or an event that is added there.
     NothingUnanswered,
-    /// What is accepted isn't what an answer forwarded, or it is accepted a second time.
+    /// More events are added beside one than may be.
+    TooManyAdded,
+    /// What is accepted isn't the next one that its event was passed on as.
     NotForwarded,
-    /// Of an atomic queue's flow and level, or of an ordered queue, a forward is accepted out of order.
+    /// Of an atomic queue's flow and level, or of an ordered queue, what was passed on is accepted out of order.
     ForwardedLate,
+    /// What was passed on isn't accepted as soon as it may be.
+    NotPassedOn,
     /// A NEW is accepted after Shut.
     NewAfterShut,
     /// An event is turned away before Shut.
@@ -39,7 +44,7 @@ pub enum Fault {
 }
 
 /// Appends the item.
-pub fn append<T: Copy>(items: &mut Vec<T>, item: T) -> Result<(), Fault> {
+pub fn append<T: Drop>(items: &mut Vec<T>, item: T) -> Result<(), Fault> {
     match items.push(item) {
         Ok(()) => Ok(()),
         Err(_) => Err(Fault::Memory),
@@ -47,12 +52,22 @@ pub fn append<T: Copy>(items: &mut Vec<T>, item: T) -> Result<(), Fault> {
 }
 
 /// An event that the queue accepted.
-#[derive(Clone, Copy)]
+#[derive(Drop)]
 struct Entry {
     event: Event,
     is_given: bool,
     outcome: Option<Outcome>,
-    is_passed_on: bool,
+    /// What it was passed on as: the events that were added beside it, and then that of its FORWARD.
+    forwards: ArrayVec<Event, MAX_FORWARDS>,
+    /// How many of these were accepted.
+    taken: usize,
+}
+
+impl Entry {
+    /// Whether it was answered, and all that it was passed on as accepted.
+    fn is_through(&self) -> bool {
+        self.outcome.is_some() && self.taken == self.forwards.len()
+    }
 }
 
 /// The lane on which unanswered events of a slot stand, and how many there are.
@@ -71,22 +86,24 @@ pub struct LoggedQueue {
     entries: Vec<Entry>,
     /// The numbers in the order in which they were given.
     hand: Vec<u64>,
-    /// How many of these stand before the next one whose forward may be accepted.
-    passed: usize,
-    /// By flow and level the number that was given last, and that whose forward was accepted last.
+    /// How many of these stand before the first that isn't through.
+    through: usize,
+    /// How many events were passed on and not accepted.
+    due: usize,
+    /// By flow and level the number that was given last, and that from which an event was accepted last.
     last_given: Vec<Option<u64>>,
     last_passed: Vec<Option<u64>>,
     /// By slot.
     holders: Vec<Holder>,
 }
 
-/// A number follows in a list in which numbers must rise; false where it doesn't.
-fn rises(last: &mut [Option<u64>], list: usize, number: u64) -> bool {
+/// A number follows in a list in which numbers must rise, or may also repeat; false where it falls.
+fn follows(last: &mut [Option<u64>], list: usize, number: u64, repeats: bool) -> bool {
     let Some(last) = last.get_mut(list) else {
         return false;
     };
     let is_above = match *last {
-        Some(before) => before < number,
+        Some(before) => before < number || (repeats && before == number),
         None => true,
     };
     *last = Some(number);
@@ -103,7 +120,8 @@ impl LoggedQueue {
             slots,
             entries: Vec::new(alloc),
             hand: Vec::new(alloc),
-            passed: 0,
+            through: 0,
+            due: 0,
             last_given: vec![in alloc; None; LISTS]?,
             last_passed: vec![in alloc; None; LISTS]?,
             holders: vec![in alloc; free; slots]?,
@@ -125,7 +143,8 @@ impl LoggedQueue {
             event,
             is_given: false,
             outcome: None,
-            is_passed_on: false,
+            forwards: ArrayVec::new(),
+            taken: 0,
         };
         append(&mut self.entries, entry)
     }
@@ -142,7 +161,7 @@ impl LoggedQueue {
         let event = entry.event;
         append(&mut self.hand, number)?;
         if let Some(list) = self.list_of(&event) {
-            if !rises(&mut self.last_given, list, number) {
+            if !follows(&mut self.last_given, list, number, false) {
                 return Err(Fault::GivenLate);
             }
         }
@@ -173,6 +192,26 @@ impl LoggedQueue {
         Ok(())
     }
 
+    /// The event of this number, which was given and isn't answered, is passed on as this event too.
+    pub fn add(&mut self, number: u64, event: Event) -> Result<(), Fault> {
+        match self.entries.get(number as usize) {
+            Some(entry) if entry.forwards.len() < MAX_EXTRAS => self.forward(number, event),
+            Some(_) => Err(Fault::TooManyAdded),
+            None => Err(Fault::Unknown),
+        }
+    }
+
+    fn forward(&mut self, number: u64, event: Event) -> Result<(), Fault> {
+        let Some(entry) = self.entries.get_mut(number as usize) else {
+            return Err(Fault::Unknown);
+        };
+        if entry.forwards.try_push(event).is_err() {
+            return Err(Fault::TooManyAdded);
+        }
+        self.due = self.due.saturating_add(1);
+        Ok(())
+    }
+
     /// The event of this number, which was given, is answered.
     pub fn answer(&mut self, number: u64, outcome: Outcome) -> Result<(), Fault> {
         let Some(entry) = self.entries.get_mut(number as usize) else {
@@ -180,6 +219,15 @@ impl LoggedQueue {
         };
         entry.outcome = Some(outcome);
         let flow = entry.event.flow;
+        self.let_go(flow)?;
+        match outcome {
+            Outcome::Forwarded(event) => self.forward(number, event),
+            Outcome::Released => Ok(()),
+        }
+    }
+
+    /// One event fewer of the flow is unanswered.
+    fn let_go(&mut self, flow: u32) -> Result<(), Fault> {
         let Some(slot) = self.slot_of(flow) else {
             return Ok(());
         };
@@ -190,47 +238,82 @@ impl LoggedQueue {
         Ok(())
     }
 
-    /// What the event of this number was forwarded as is accepted.
+    /// The next one that the event of this number was passed on as is accepted.
     pub fn pass_on(&mut self, number: u64, event: Event) -> Result<(), Fault> {
-        let Some(entry) = self.entries.get_mut(number as usize) else {
+        let Some(entry) = self.entries.get(number as usize) else {
             return Err(Fault::Unknown);
         };
-        if entry.is_passed_on || entry.outcome != Some(Outcome::Forwarded(event)) {
+        if entry.forwards.get(entry.taken).copied() != Some(event) {
             return Err(Fault::NotForwarded);
         }
-        entry.is_passed_on = true;
-        let answered = entry.event;
+        let from = entry.event;
         match self.kind {
-            Kind::Atomic => self.pass_by_number(&answered, number),
-            Kind::Ordered => self.pass_by_hand(number),
-            Kind::Parallel => Ok(()),
+            Kind::Atomic => self.pass_by_number(&from, number)?,
+            Kind::Ordered => self.pass_by_hand(number)?,
+            Kind::Parallel => {}
         }
+        self.take(number);
+        Ok(())
     }
 
     fn pass_by_number(&mut self, event: &Event, number: u64) -> Result<(), Fault> {
         let Some(list) = self.list_of(event) else {
             return Ok(());
         };
-        if rises(&mut self.last_passed, list, number) {
+        if follows(&mut self.last_passed, list, number, true) {
             Ok(())
         } else {
             Err(Fault::ForwardedLate)
         }
     }
 
-    /// It stands in the hand-out after the last one whose forward was accepted, and all before it are answered.
+    /// It is answered, and all that was handed out before it is through.
     fn pass_by_hand(&mut self, number: u64) -> Result<(), Fault> {
-        for place in self.passed..self.hand.len() {
-            let handed = self.hand[place];
-            if handed == number {
-                self.passed = place + 1;
-                return Ok(());
-            }
-            if !self.is_answered(handed) {
-                return Err(Fault::ForwardedLate);
-            }
+        self.step_over();
+        if self.hand.get(self.through).copied() == Some(number) && self.is_answered(number) {
+            Ok(())
+        } else {
+            Err(Fault::ForwardedLate)
         }
-        Err(Fault::ForwardedLate)
+    }
+
+    /// Counts the numbers at the front of the hand-out that are through.
+    fn step_over(&mut self) {
+        for place in self.through..self.hand.len() {
+            let number = self.hand.get(place).copied();
+            if !number.is_some_and(|number| self.is_through(number)) {
+                return;
+            }
+            self.through = place + 1;
+        }
+    }
+
+    /// One event more is accepted from this number.
+    fn take(&mut self, number: u64) {
+        if let Some(entry) = self.entries.get_mut(number as usize) {
+            entry.taken = entry.taken.saturating_add(1);
+            self.due = self.due.saturating_sub(1);
+        }
+    }
+
+    /// Whether all is accepted that may be: of an ordered queue's events what the first that isn't through was passed on as may be once
+    /// that is answered, of any other queue's all at once.
+    pub fn is_prompt(&mut self) -> bool {
+        if self.kind != Kind::Ordered {
+            return self.due == 0;
+        }
+        self.step_over();
+        match self.hand.get(self.through) {
+            Some(number) => !self.is_answered(*number),
+            None => true,
+        }
+    }
+
+    fn is_through(&self, number: u64) -> bool {
+        match self.entries.get(number as usize) {
+            Some(entry) => entry.is_through(),
+            None => false,
+        }
     }
 
     fn is_answered(&self, number: u64) -> bool {
@@ -240,13 +323,11 @@ impl LoggedQueue {
         }
     }
 
-    /// Whether each event was given and answered, and each forward accepted.
+    /// Whether each event was given and answered, and all that it was passed on as accepted.
     pub fn is_done(&self) -> bool {
-        self.entries.iter().all(|entry| match entry.outcome {
-            Some(Outcome::Forwarded(_)) => entry.is_given && entry.is_passed_on,
-            Some(Outcome::Released) => entry.is_given,
-            None => false,
-        })
+        self.entries
+            .iter()
+            .all(|entry| entry.is_given && entry.is_through())
     }
 
     /// The event of this number.

@@ -7,7 +7,7 @@ ghost use Rattle.event_recorder.specs.Device.{scheduler_of, site_of};
 use crate::logged_queue::FLOWS;
 use crate::rig::Rig;
 use event_device::{Control, Port, Recorder, Refused};
-use evt_types::{Delivery, Event, Op};
+use evt_types::{Delivery, Event, MAX_EXTRAS, MAX_FORWARDS, Op};
 use std::alloc::AllocError;
 use std::thread::{Threads, join, map_vec, yield_now};
 
@@ -45,7 +45,31 @@ pub struct Task {
     pub events: u32,
     /// The queue after which an event ends.
     pub last: u8,
+    /// How many events a worker adds beside one at the most, up to `MAX_EXTRAS`.
+    pub extras: u64,
     pub end: End,
+}
+
+impl Task {
+    /// The payload of the event that is added at this place beside one of the queue with this payload: no two events have the same.
+    fn added_payload(&self, queue: usize, payload: u64, place: u64) -> u64 {
+        let steps = place.saturating_add(1);
+        payload.saturating_add(steps.saturating_mul(self.payloads_to(queue)))
+    }
+
+    /// A number above the payloads of all events that come to the queue.
+    fn payloads_to(&self, queue: usize) -> u64 {
+        let mut count = u64::from(self.events);
+        for _ in 0..queue {
+            count = count.saturating_mul(MAX_FORWARDS as u64);
+        }
+        count
+    }
+
+    /// A number above the payloads of all events.
+    pub fn payloads(&self) -> u64 {
+        self.payloads_to(usize::from(self.last))
+    }
 }
 
 /// The event that the producer brings in with this payload.
@@ -63,14 +87,36 @@ pub fn event(payload: u32) -> Event {
     }
 }
 
-/// A worker's answer: the event goes to the next queue, and ends after the last.
-fn answer_to(delivery: &Delivery, last: u8) -> Event {
+/// The event goes on to the next queue; none where it ends.
+fn next_queue(delivery: &Delivery, task: &Task) -> Option<u8> {
     let next = delivery.queue.saturating_add(1);
-    if next <= usize::from(last) {
-        delivery.event.forwarded(next as u8, delivery.event.payload)
+    if next <= usize::from(task.last) {
+        Some(next as u8)
     } else {
-        Event::release()
+        None
     }
+}
+
+/// A worker's answer: the event goes to the next queue, and ends after the last.
+fn answer_to(delivery: &Delivery, task: &Task) -> Event {
+    match next_queue(delivery, task) {
+        Some(next) => delivery.event.forwarded(next, delivery.event.payload),
+        None => Event::release(),
+    }
+}
+
+/// The event that a worker adds beside another at this place: it goes to the next queue too. None is added beside most events.
+fn extra_of(delivery: &Delivery, task: &Task, place: u64) -> Option<Event> {
+    let next = next_queue(delivery, task)?;
+    let payload = delivery.event.payload;
+    let count = payload % 16;
+    if count > task.extras || place >= count {
+        return None;
+    }
+    let added = task.added_payload(delivery.queue, payload, place);
+    let mut event = delivery.event.forwarded(next, added);
+    event.op = Op::ForwardMore;
+    Some(event)
 }
 
 /// Enqueues the event, where others may have to make room or to bring credits first, until the device is shut; whether it was taken.
@@ -87,7 +133,8 @@ fn enqueue(port: &mut Port, event: Event) -> bool
                 }
                 yield_now();
             }
-            Err(Refused::Stopped | Refused::BadQueue | Refused::NothingHeld) => return false,
+            Err(Refused::Stopped | Refused::BadQueue | Refused::NothingHeld | Refused::TooMany) =>
+                return false,
         }
     }
     false
@@ -106,9 +153,25 @@ fn produce(port: Port, events: u32) -> Port
     port
 }
 
+/// Adds events beside the oldest that is held, up to the first that is refused: a worker that waits for credits with an event in its
+/// hand might wait for good.
+#[tactic(auto, using(crate::proofs::Whole::same_site))]
+fn add_extras(port: &mut Port, delivery: &Delivery, task: &Task)
+    ensures { site_of port.new ≡ site_of port.old }
+{
+    for place in 0..MAX_EXTRAS as u64 {
+        let Some(extra) = extra_of(delivery, task, place) else {
+            return;
+        };
+        if port.enqueue(extra).is_err() {
+            return;
+        }
+    }
+}
+
 /// Answers all that comes, until the device is shut; what came last then stays unanswered.
 #[tactic(auto, using(crate::proofs::Whole::same_site))]
-fn work(port: Port, last: u8) -> Port
+fn work(port: Port, task: Task) -> Port
     ensures { site_of result ≡ site_of port }
 {
     let mut port = port;
@@ -121,7 +184,8 @@ fn work(port: Port, last: u8) -> Port
             break;
         }
         for delivery in deliveries.iter() {
-            if !enqueue(&mut port, answer_to(delivery, last)) {
+            add_extras(&mut port, delivery, &task);
+            if !enqueue(&mut port, answer_to(delivery, &task)) {
                 return port;
             }
             idle = 0;
@@ -144,7 +208,7 @@ fn serve(port: Port, task: Task) -> Port
     if port.number() == 0 {
         produce(port, task.events)
     } else {
-        work(port, task.last)
+        work(port, task)
     }
 }
 

@@ -1,7 +1,7 @@
 //! Whether the report of a device that was stopped, at whatever moment, accounts for each event and each credit.
 
 use crate::accounts::{
-    all_differ, brought_in, credits, entry_count, left_of, listed, untaken_news,
+    all_differ, brought_in, credits, entry_count, left_of, listed, untaken_entries,
 };
 use crate::checker::Checker;
 use crate::logged_queue::Fault;
@@ -27,7 +27,7 @@ pub enum AccountFault {
     /// An event that a queue gave is neither undelivered nor held nor answered, or is so twice.
     #[error("an event is neither undelivered nor held nor answered")]
     Given,
-    /// Not what the producer brought in was accepted, or not so many events were accepted as were released or are listed.
+    /// Not what the producer brought in was accepted, or not so many events were accepted as new or added as were released or are listed.
     #[error("an event is missing, or there twice or unasked")]
     Count,
     /// An event stands in two places.
@@ -61,7 +61,7 @@ fn untaken_releases(checker: &Checker, report: &Report, last: u8) -> Option<usiz
     }
 }
 
-/// Each event that was accepted as new was released or is listed once, or was released and that not taken.
+/// Each event that was accepted as new or added was released or is listed once, or was released and that not taken.
 fn check_events(
     alloc: Global,
     checker: &Checker,
@@ -73,21 +73,24 @@ fn check_events(
     };
     let mut events = checker.released(alloc)?;
     let left = entry_count(report)
-        .saturating_sub(untaken_news(report))
+        .saturating_sub(untaken_entries(report))
         .saturating_add(releases);
-    let entered = events.len().saturating_add(left) as u64;
-    if checker.entered() != entered || brought_in(&report.log).map(u64::from) != Some(entered) {
+    let all = events.len().saturating_add(left) as u64;
+    let entered = checker.entered();
+    if entered.saturating_add(checker.added()) != all
+        || brought_in(&report.log).map(u64::from) != Some(entered)
+    {
         return Err(AccountFault::Count);
     }
     events.extend_from_slice(&listed(alloc, checker, report)?)?;
-    if all_differ(alloc, &events, task.events as usize)? {
+    if all_differ(alloc, &events, task.payloads() as usize)? {
         Ok(())
     } else {
         Err(AccountFault::Twice)
     }
 }
 
-/// The log is lawful, each event that was accepted as new is accounted for, and each credit is free, in a pocket, or with an event that
+/// The log is lawful, each event that was accepted as new or added is accounted for, and each credit is free, in a pocket, or with an event that
 /// is listed. Returns how many events were accepted as new.
 pub fn check_stopped(
     alloc: Global,

@@ -1,7 +1,7 @@
 //! Devices and tasks that are drawn at random from a seed.
 
 use device_rigs::{End, PortPlan, Task};
-use evt_types::{Kind, QueueDraft};
+use evt_types::{Kind, MAX_EXTRAS, QueueDraft};
 use rand_core::utils::NextWord;
 use rand_pcg::Pcg32;
 use std::alloc::{AllocError, Global};
@@ -66,7 +66,8 @@ impl Drawing {
         }
     }
 
-    /// A run of any length, which is shut after any number of events, before or after the last sweep.
+    /// A run of any length, which is shut after any number of events, before or after the last sweep. Its workers add so many events
+    /// beside one at the most.
     pub fn task(&mut self, last: u8) -> Task {
         let events = self.within(1, MAX_EVENTS);
         let accepted = u64::from(self.within(0, events));
@@ -75,7 +76,12 @@ impl Drawing {
         } else {
             End::Unseen(accepted)
         };
-        Task { events, last, end }
+        Task {
+            events,
+            last,
+            extras: u64::from(self.within(0, MAX_EXTRAS as u32)),
+            end,
+        }
     }
 
     /// How many events may be inside where there are so many workers, and how many credits a port draws at a time. A worker keeps fewer

@@ -1,6 +1,6 @@
 //! The checker finds what is wrong in a log, and nothing in a good one.
 
-use crate::steps::{ATOMIC, FIRST, Logged, ORDERED, PARALLEL, SECOND, log_of};
+use crate::steps::{ATOMIC, FIRST, Logged, MORE, ORDERED, PARALLEL, SECOND, log_of};
 use device_rigs::{Checker, Fault, Sent};
 use evt_types::{Op, QueueDraft};
 use std::alloc::{AllocError, Global};
@@ -37,6 +37,19 @@ const LATE: Sent = Sent {
 
 const UNLIKE: Sent = Sent { payload: 3, ..LATE };
 
+/// What is added beside an event of the atomic queue, for the ordered one.
+const ADDED: Sent = Sent { queue: 1, ..MORE };
+
+/// What is added beside the ordered queue's events, and what the first of them is forwarded as.
+const ADDED_FIRST: Sent = Sent { queue: 2, ..MORE };
+
+const ADDED_SECOND: Sent = Sent {
+    payload: 2,
+    ..ADDED_FIRST
+};
+
+const EARLY: Sent = Sent { payload: 1, ..LATE };
+
 /// A log, and what is wrong in it.
 #[derive(Clone, Copy)]
 struct Row {
@@ -44,7 +57,7 @@ struct Row {
     said: Result<(), Fault>,
 }
 
-static ROWS: [Row; 12] = [
+static ROWS: [Row; 23] = [
     Row {
         log: &[
             Logged::Entered(FIRST),
@@ -147,6 +160,133 @@ static ROWS: [Row; 12] = [
     Row {
         log: &[Logged::Shut, Logged::Shut],
         said: Err(Fault::ShutTwice),
+    },
+    // What is added beside an atomic queue's event is accepted at once, and doesn't answer it.
+    Row {
+        log: &[
+            Logged::Entered(FIRST),
+            Logged::Given(1, 0, 0),
+            Logged::Added(1, ADDED),
+            Logged::PassedOn(0, 0, ADDED),
+            Logged::Added(1, ADDED),
+            Logged::PassedOn(0, 0, ADDED),
+            Logged::Released(1),
+            Logged::Given(2, 1, 0),
+            Logged::Given(1, 1, 1),
+        ],
+        said: Ok(()),
+    },
+    // Beside an ordered queue's event it waits for that, and for the one before.
+    Row {
+        log: &[
+            Logged::Entered(ORDERED_FIRST),
+            Logged::Entered(ORDERED_SECOND),
+            Logged::Given(1, 1, 0),
+            Logged::Given(2, 1, 1),
+            Logged::Added(2, ADDED_SECOND),
+            Logged::Added(1, ADDED_FIRST),
+            Logged::Released(2),
+            Logged::Forwarded(1, EARLY),
+            Logged::PassedOn(1, 0, ADDED_FIRST),
+            Logged::PassedOn(1, 0, EARLY),
+            Logged::PassedOn(1, 1, ADDED_SECOND),
+        ],
+        said: Ok(()),
+    },
+    Row {
+        log: &[
+            Logged::Entered(FIRST),
+            Logged::Given(1, 0, 0),
+            Logged::Released(1),
+            Logged::Added(1, ADDED),
+        ],
+        said: Err(Fault::NothingUnanswered),
+    },
+    Row {
+        log: &[
+            Logged::Entered(ORDERED_FIRST),
+            Logged::Given(1, 1, 0),
+            Logged::Added(1, ADDED_FIRST),
+            Logged::Added(1, ADDED_FIRST),
+            Logged::Added(1, ADDED_FIRST),
+            Logged::Added(1, ADDED_FIRST),
+            Logged::Added(1, ADDED_FIRST),
+        ],
+        said: Err(Fault::TooManyAdded),
+    },
+    // It is accepted while its event is unanswered, or while the one before is.
+    Row {
+        log: &[
+            Logged::Entered(ORDERED_FIRST),
+            Logged::Given(1, 1, 0),
+            Logged::Added(1, ADDED_FIRST),
+            Logged::PassedOn(1, 0, ADDED_FIRST),
+        ],
+        said: Err(Fault::ForwardedLate),
+    },
+    Row {
+        log: &[
+            Logged::Entered(ORDERED_FIRST),
+            Logged::Entered(ORDERED_SECOND),
+            Logged::Given(1, 1, 0),
+            Logged::Given(2, 1, 1),
+            Logged::Added(2, ADDED_SECOND),
+            Logged::Released(2),
+            Logged::PassedOn(1, 1, ADDED_SECOND),
+        ],
+        said: Err(Fault::ForwardedLate),
+    },
+    // The forward is accepted before what was added, or that twice.
+    Row {
+        log: &[
+            Logged::Entered(ORDERED_FIRST),
+            Logged::Given(1, 1, 0),
+            Logged::Added(1, ADDED_FIRST),
+            Logged::Forwarded(1, EARLY),
+            Logged::PassedOn(1, 0, EARLY),
+        ],
+        said: Err(Fault::NotForwarded),
+    },
+    Row {
+        log: &[
+            Logged::Entered(FIRST),
+            Logged::Given(1, 0, 0),
+            Logged::Added(1, ADDED),
+            Logged::PassedOn(0, 0, ADDED),
+            Logged::PassedOn(0, 0, ADDED),
+        ],
+        said: Err(Fault::NotForwarded),
+    },
+    // It isn't accepted at once, or not once its event is released.
+    Row {
+        log: &[
+            Logged::Entered(FIRST),
+            Logged::Given(1, 0, 0),
+            Logged::Added(1, ADDED),
+            Logged::Released(1),
+        ],
+        said: Err(Fault::NotPassedOn),
+    },
+    Row {
+        log: &[
+            Logged::Entered(ORDERED_FIRST),
+            Logged::Given(1, 1, 0),
+            Logged::Added(1, ADDED_FIRST),
+            Logged::Released(1),
+        ],
+        said: Err(Fault::NotPassedOn),
+    },
+    // An event beside which one was added keeps its flow with its lane.
+    Row {
+        log: &[
+            Logged::Entered(FIRST),
+            Logged::Entered(SECOND),
+            Logged::Given(1, 0, 0),
+            Logged::Added(1, ADDED),
+            Logged::PassedOn(0, 0, ADDED),
+            Logged::Given(2, 0, 1),
+        ],
+        said: Err(Fault::TwoLanes),
     },
 ];
 

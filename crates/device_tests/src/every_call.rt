@@ -1,6 +1,6 @@
 //! Every call of a port, and what each answers.
 
-use crate::steps::{FIRST, RELEASE, SECOND};
+use crate::steps::{FIRST, MORE, RELEASE, SECOND};
 use arrayvec::ArrayVec;
 use device_rigs::{Rig, Sent};
 use event_device::{Behind, Refused, Swept};
@@ -31,8 +31,9 @@ fn look(rig: &mut Rig, port: usize, said: &mut Vec<Said>) -> Result<(), AllocErr
 }
 
 /// The event as each operation, and one of another flow.
-static EACH: [Sent; 3] = [
+static EACH: [Sent; 4] = [
     FIRST,
+    MORE,
     Sent {
         op: Op::Forward,
         ..FIRST

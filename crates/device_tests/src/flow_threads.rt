@@ -42,6 +42,7 @@ const PLAN: Plan = Plan {
 const ALL: Task = Task {
     events: EVENTS,
     last: 3,
+    extras: 0,
     end: End::Through,
 };
 

@@ -5,7 +5,7 @@
 
 use crate::every_call::{Said, every_call};
 use crate::plans::{ONE_QUEUE, played};
-use crate::steps::{FIRST, PARALLEL, RELEASE, SECOND, THIRD};
+use crate::steps::{FIRST, MORE, PARALLEL, RELEASE, SECOND, THIRD};
 use device_rigs::{Call, Plan, PortPlan, Rig, RigFault, SOURCE, Sent, WORKER};
 use event_device::{Behind, Refused, Report};
 use evt_types::{Op, Serving};
@@ -59,7 +59,14 @@ const FORWARD_TO_NOWHERE: Sent = Sent {
     payload: 5,
 };
 
-static ROWS: [Row; 5] = [
+const MORE_TO_NOWHERE: Sent = Sent { queue: 9, ..MORE };
+
+const WIDE_WORKER: PortPlan = PortPlan {
+    threshold: 8,
+    ..WORKER
+};
+
+static ROWS: [Row; 9] = [
     Row {
         name: "backpressure",
         plan: Plan {
@@ -98,7 +105,76 @@ static ROWS: [Row; 5] = [
             Call::Enqueue(1, FORWARD_TO_NOWHERE, Err(Refused::BadQueue)),
             Call::Enqueue(0, NEW_TO_NOWHERE, Err(Refused::BadQueue)),
             Call::Enqueue(1, RELEASE, Err(Refused::NothingHeld)),
+            Call::Enqueue(1, MORE, Err(Refused::NothingHeld)),
+            Call::Enqueue(1, MORE_TO_NOWHERE, Err(Refused::BadQueue)),
         ],
+    },
+    // Where the ring is full too, that too many were added is the first cause.
+    Row {
+        name: "four events added beside one",
+        plan: Plan {
+            limit: 8,
+            queues: &[PARALLEL],
+            ports: &[SOURCE, WIDE_WORKER],
+            ..ONE_QUEUE
+        },
+        calls: &[
+            Call::Enqueue(0, FIRST, Ok(())),
+            Call::Sweep(1, 1),
+            Call::Dequeue(1, 4, Ok(&[(0, FIRST)])),
+            Call::Enqueue(1, MORE, Ok(())),
+            Call::Enqueue(1, MORE, Ok(())),
+            Call::Enqueue(1, MORE, Ok(())),
+            Call::Enqueue(1, MORE, Ok(())),
+        ],
+        refused: &[
+            Call::Enqueue(1, MORE, Err(Refused::TooMany)),
+            Call::Enqueue(1, MORE_TO_NOWHERE, Err(Refused::BadQueue)),
+        ],
+    },
+    // Port 0 has drawn all credits.
+    Row {
+        name: "an added event without a credit",
+        plan: ONE_QUEUE,
+        calls: &[
+            Call::Enqueue(0, FIRST, Ok(())),
+            Call::Enqueue(0, SECOND, Ok(())),
+            Call::Enqueue(0, THIRD, Ok(())),
+            Call::Sweep(3, 3),
+            Call::Dequeue(1, 1, Ok(&[(0, FIRST)])),
+        ],
+        refused: &[Call::Enqueue(1, MORE, Err(Refused::Backpressure { free: 0 }))],
+    },
+    // The first one drew two credits, of which one is left.
+    Row {
+        name: "an added event in a full ring",
+        plan: Plan {
+            queues: &[PARALLEL],
+            ports: &[SOURCE, TIGHT],
+            ..ONE_QUEUE
+        },
+        calls: &[
+            Call::Enqueue(0, FIRST, Ok(())),
+            Call::Sweep(1, 1),
+            Call::Dequeue(1, 2, Ok(&[(0, FIRST)])),
+            Call::Enqueue(1, MORE, Ok(())),
+        ],
+        refused: &[
+            Call::Enqueue(1, MORE, Err(Refused::Full)),
+            Call::Enqueue(1, RELEASE, Err(Refused::Full)),
+            Call::Dequeue(1, 1, Err(Behind { released: 0 })),
+        ],
+    },
+    Row {
+        name: "an added event after a shut",
+        plan: ONE_QUEUE,
+        calls: &[
+            Call::Enqueue(0, FIRST, Ok(())),
+            Call::Sweep(1, 1),
+            Call::Dequeue(1, 1, Ok(&[(0, FIRST)])),
+            Call::Shut,
+        ],
+        refused: &[Call::Enqueue(1, MORE, Err(Refused::Stopped))],
     },
     // A port released one of two events, and its reply ring of one place is full.
     Row {

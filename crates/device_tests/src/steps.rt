@@ -59,6 +59,12 @@ pub(crate) const FIFTH: Sent = Sent {
 /// Flow 8's new event.
 pub(crate) const OTHER: Sent = Sent { flow: 8, ..SECOND };
 
+/// What is added beside a held event of flow 7, for queue 0.
+pub(crate) const MORE: Sent = Sent {
+    op: Op::ForwardMore,
+    ..FIRST
+};
+
 pub(crate) const RELEASE: Sent = Sent {
     op: Op::Release,
     queue: 0,
@@ -71,7 +77,7 @@ pub(crate) const RELEASE: Sent = Sent {
 pub(crate) enum Logged {
     /// The event's queue accepts it as a new event of lane 0.
     Entered(Sent),
-    /// The event's queue accepts it as what the event of this queue and number was forwarded as.
+    /// The event's queue accepts it as what the event of this queue and number was passed on as.
     PassedOn(usize, u64, Sent),
     /// The lane is given the event of this queue and number.
     Given(usize, usize, u64),
@@ -79,6 +85,8 @@ pub(crate) enum Logged {
     Forwarded(usize, Sent),
     /// The lane's oldest event is released.
     Released(usize),
+    /// This event is added beside the lane's oldest one.
+    Added(usize, Sent),
     /// A new event of lane 0 is turned away.
     Turned(Sent),
     Shut,
@@ -109,6 +117,10 @@ impl Logged {
             Logged::Released(lane) => Step::Done {
                 lane,
                 outcome: Outcome::Released,
+            },
+            Logged::Added(lane, sent) => Step::More {
+                lane,
+                event: sent.event(),
             },
             Logged::Turned(sent) => Step::Turned {
                 lane: 0,

@@ -2,11 +2,11 @@
 
 use crate::steps::{ATOMIC, FIRST, ORDERED, PARALLEL};
 use device_rigs::{
-    AccountFault, Call, Checker, End, Plan, PortPlan, Rig, RigFault, Task, brought_in, credits,
-    entry_count, run,
+    AccountFault, Call, Checker, End, Plan, PortPlan, Rig, RigFault, Task, brought_in,
+    check_stopped, credits, entry_count, run,
 };
 use event_device::{Refused, Report};
-use evt_types::{MAX_LANES, QueueDraft, Serving};
+use evt_types::{MAX_EXTRAS, MAX_LANES, QueueDraft, Serving, Step};
 use std::alloc::Global;
 use std::test::Fail;
 use std::thread::Threads;
@@ -86,7 +86,14 @@ const FLOW_LANES: Plan = Plan {
 const ALL: Task = Task {
     events: EVENTS,
     last: 2,
+    extras: 0,
     end: End::Through,
+};
+
+/// The same, with events that workers add beside some.
+const ADDING: Task = Task {
+    extras: MAX_EXTRAS as u64,
+    ..ALL
 };
 
 /// Ports 1 to 3 see that the device is shut, and no event may come in.
@@ -168,5 +175,25 @@ fn long_rings(rt: HostRuntime) -> Result<(), Fail> {
 #[test]
 fn flow_lanes(rt: HostRuntime) -> Result<(), Fail> {
     assert!(rt; passes(&rt, rt.alloc(), &FLOW_LANES, ALL)?);
+    Ok(())
+}
+
+/// Whether all events went through a device whose workers added some beside others, and its report accounts for each.
+fn adds<R: Threads + Sync>(rt: &R, alloc: Global, plan: &Plan) -> Result<bool, Fail> {
+    let report = report_of(rt, alloc, plan, ADDING)?;
+    let entered = check_stopped(alloc, plan, ADDING, &report);
+    let has_added = report.log.iter().any(is_more);
+    let is_empty = entry_count(&report) == 0;
+    drop(report);
+    Ok(has_added && is_empty && entered? == u64::from(EVENTS))
+}
+
+fn is_more(step: &Step) -> bool {
+    matches!(step, Step::More { .. })
+}
+
+#[test]
+fn added_events(rt: HostRuntime) -> Result<(), Fail> {
+    assert!(rt; adds(&rt, rt.alloc(), &LONG_RINGS)?);
     Ok(())
 }

@@ -2,16 +2,16 @@
 
 use thiserror::Error;
 
-/// Why an event isn't taken; of several causes the first.
+/// Why an event isn't taken; of several causes the first, in the order that `Port::enqueue` names.
 #[derive(Clone, Copy, Debug, PartialEq, Eq, Error)]
 pub enum Refused {
-    /// The device is shut, and takes no NEW any more.
+    /// The device is shut: it takes no NEW any more, and gives no credits for a FORWARD_MORE.
     #[error("the device is shut and takes no new event")]
     Stopped,
     /// There is no queue of the event's number.
     #[error("there is no queue of the event's number")]
     BadQueue,
-    /// Nothing is held that could be answered.
+    /// Nothing is held that could be answered, or beside which an event could be added.
     #[error("the port holds no event that could be forwarded or released")]
     NothingHeld,
     /// So many credits were free; with a quantum more, more than the port's threshold would be in use.
@@ -23,6 +23,9 @@ pub enum Refused {
     /// The reply ring of the lane had no room.
     #[error("the port's reply ring is full")]
     Full,
+    /// As many events were added beside the oldest event that is held as may be.
+    #[error("as many events were added beside the port's oldest event as may be")]
+    TooMany,
 }
 
 /// A reply ring had no room for all releases that a dequeue makes first; nothing was received.

@@ -18,7 +18,7 @@ pub struct Held {
     pub number: u64,
 }
 
-/// A NEW or a FORWARD that the scheduler has not taken.
+/// A NEW, a FORWARD or a FORWARD_MORE that the scheduler has not taken.
 #[derive(Clone, Copy, Debug, PartialEq, Eq)]
 pub struct Untaken {
     pub lane: usize,
@@ -32,7 +32,8 @@ pub struct Report {
     pub log: Vec<Step>,
     /// The events that wait: queue and number, by both.
     pub waiting: Vec<(usize, u64)>,
-    /// The events that an ordered queue keeps until all that it handed out before is answered, by queue, in hand-out order.
+    /// The events that an ordered queue keeps until all that it handed out before is answered, by queue, in hand-out order; those that
+    /// one event was passed on as in the order in which they were given.
     pub kept: Vec<KeptEvent>,
     /// By lane, oldest first.
     pub undelivered: Vec<Undelivered>,

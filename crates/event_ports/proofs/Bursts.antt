@@ -1,21 +1,16 @@
 -- Several events are submitted, one after the other.
-use Rattle.std.proofs.Common.{◌≡◌, ℕ, zero, suc, ◌+◌, ◌<◌, length, get_or, List, [], ◌∷◌, ◌++◌, take, drop, slice_get, Option, Some, None, refl, sym, ap, ◌∙◌, subst, arith}
+use Rattle.std.proofs.Common.{◌≡◌, ℕ, zero, suc, ◌+◌, ◌<◌, length, get_or, List, [], ◌∷◌, ◌++◌, take, drop, slice_get, Option, Some, refl, sym, ap, ◌∙◌, subst, arith}
 use Rattle.lists.proofs.Lists.{drop-slice_get}
 use Rattle.evt_types.specs.declared.event.Event.{Event}
-use Rattle.evt_types.specs.declared.event.Reply.{Reply}
 use Rattle.event_ports.specs.declared.lane.Lane.{Lane}
 use Rattle.event_ports.specs.Lanes.{Hand, Rests, SubmitsTo, SubmitsAll, lane_for, reply_of}
 use Rattle.event_ports.specs.declared.desk.Desk.{Desk}
 use Rattle.event_ports.specs.Desks.{Enqueues, EnqueuesAll}
-use Rattle.event_ports.proofs.Refusing.{rests_then}
+use Rattle.event_ports.proofs.Refusing.{submits_after}
 use Rattle.event_ports.proofs.Released.{take_next}
 
 pub rests_same : (h : Hand) → Rests h h
 rests_same h = record { said = λ l. refl; got = λ l. refl; holding = refl }
-
-submits_after : (o : Option Lane) (r : Reply) (h k m : Hand) → Rests h k → SubmitsTo o r k m → SubmitsTo o r h m
-submits_after None r h k m a b = b
-submits_after (Some l) r h k m a b = rests_then l r h k m a b
 
 -- one event more
 pub all_more : (es : List Event) (e : Event) (h k m : Hand) → SubmitsAll es h k → SubmitsTo (lane_for e.op k.holding) (reply_of e) k m → SubmitsAll (es ++ e ∷ []) h m

@@ -1,17 +1,19 @@
 -- What several calls on flow lanes, one after the other, make of what a port has of them.
-use Rattle.std.proofs.Common.{◌≡◌, ◌≢◌, ℕ, true, false, List, [], ◌∷◌, ◌++◌, drop, Result, Ok, Err, MatchResult, refl, sym, ap, ◌∙◌, subst, arith, append-nil, count_by}
+use Rattle.std.proofs.Common.{◌≡◌, ◌≢◌, ℕ, ◌||◌, true, false, List, [], ◌∷◌, ◌++◌, drop, Result, Ok, Err, MatchResult, refl, sym, ap, ◌∙◌, subst, arith, append-nil, count_by}
 use Rattle.std.specs.Option.{is_some}
 use mathlib.Core.Logic.{dite}
 use native.Mathlib.Decide.{ℕ_discrete}
+use Rattle.evt_types.specs.Additions.{more_after}
 use Rattle.evt_types.specs.declared.event.Delivery.{Delivery}
 use Rattle.evt_types.specs.declared.event.Op.{Op}
 use Rattle.evt_types.specs.declared.event.Op.TheVariants as ops
 use Rattle.evt_types.specs.declared.event.Reply.{Reply}
-use Rattle.evt_types.specs.Operation.{is_answer, is_answer_op, is_new_op, is_new_reply}
+use Rattle.evt_types.specs.Operation.{is_answer_op, is_more_op, is_more_reply, is_new_op, is_new_reply, needs_held}
 use Rattle.seat_sums.specs.Sums.{count}
 use Rattle.lane_rings.specs.Ends.{answers_among}
-use Rattle.event_ports.specs.Holds.{Hands, stint_in, received_on, answered_on, held_on, Same, Gets, Brings, Says, HaveNoNew, GaveBack, NoneSurrendered}
+use Rattle.event_ports.specs.Holds.{Hands, stint_in, received_on, answered_on, held_on, Same, SameBut, Gets, Brings, Says, HaveNoNew, GaveBack, NoneSurrendered}
 use Rattle.event_ports.proofs.Counts.{count_more}
+use Rattle.event_ports.proofs.Refusals.{no_answer}
 
 -- no lane is held of which nothing is unanswered
 abbrev pub AreIdle : Hands → Type 0
@@ -36,15 +38,31 @@ idle_received h j k m lane ds held elsewhere gets places same left others idle i
     (λ e. subst At (sym e) (left (sym (same.held lane) ∙ ap (held_on m) (sym e) ∙ none)))
     (λ ne. others i ne ∙ places i ∙ elsewhere i ne ∙ idle i (sym (held.held i) ∙ sym (gets.others.held i ne) ∙ sym (same.held i) ∙ none))
 
+-- an event is added beside a held one, and nothing that is held changes
+pub held_added : (h k : Hands) (lane : ℕ) (r : Reply) → is_more_reply r ≡ true → Says lane r h k → (j : ℕ) → held_on k j ≡ held_on h j
+held_added h k lane r more says j =
+    let At : ℕ → Type 0 = λ i. held_on k i ≡ held_on h i in
+    dite (ℕ_discrete j lane)
+    (λ e. subst At (sym e) (says.held ∙ ap (λ n. drop n (held_on h lane)) (no_answer r more)))
+    (λ ne. says.others.held j ne)
+
 pub same_more : (h k m : Hands) → Same h k → Same k m → Same h m
-same_more h k m a b = record { received = λ j. b.received j ∙ a.received j; answered_is = λ j. b.answered_is j ∙ a.answered_is j; held = λ j. b.held j ∙ a.held j; given_back = λ j. b.given_back j ∙ a.given_back j }
+same_more h k m a b = record { received = λ j. b.received j ∙ a.received j; answered_is = λ j. b.answered_is j ∙ a.answered_is j; held = λ j. b.held j ∙ a.held j; extras = λ j. b.extras j ∙ a.extras j; given_back = λ j. b.given_back j ∙ a.given_back j }
+
+-- the other lanes, with a call before that changed none, and with one after
+but_after : (h k m : Hands) (lane : ℕ) → Same h k → SameBut lane k m → SameBut lane h m
+but_after h k m lane a b = record { received = λ j ne. b.received j ne ∙ a.received j; answered_is = λ j ne. b.answered_is j ne ∙ a.answered_is j; held = λ j ne. b.held j ne ∙ a.held j; extras = λ j ne. b.extras j ne ∙ a.extras j }
+
+but_before : (h k m : Hands) (lane : ℕ) → SameBut lane h k → Same k m → SameBut lane h m
+but_before h k m lane a b = record { received = λ j ne. b.received j ∙ a.received j ne; answered_is = λ j ne. b.answered_is j ∙ a.answered_is j ne; held = λ j ne. b.held j ∙ a.held j ne; extras = λ j ne. b.extras j ∙ a.extras j ne }
 
 pub says_after : (h k m : Hands) (lane : ℕ) (r : Reply) → Same h k → Says lane r k m → Says lane r h m
 says_after h k m lane r same says = record {
-  others = record { received = λ j ne. says.others.received j ne ∙ same.received j; answered_is = λ j ne. says.others.answered_is j ne ∙ same.answered_is j; held = λ j ne. says.others.held j ne ∙ same.held j };
+  others = but_after h k m lane same says.others;
   received = says.received ∙ same.received lane;
   answered_is = says.answered_is ∙ ap (λ xs. xs ++ r ∷ []) (same.answered_is lane);
   held = says.held ∙ ap (drop (answers_among (r ∷ []))) (same.held lane);
+  extras = says.extras ∙ ap (λ n. more_after n r) (same.extras lane);
   given_back = λ j. says.given_back j ∙ same.given_back j;
 }
 
@@ -56,28 +74,31 @@ answered_after h k m lane r (Err _) same says = same_more h k m same says
 
 pub gets_after : (h k m : Hands) (lane : ℕ) (ds : List Delivery) → Same h k → Gets lane ds k m → Gets lane ds h m
 gets_after h k m lane ds same gets = record {
-  others = record { received = λ j ne. gets.others.received j ne ∙ same.received j; answered_is = λ j ne. gets.others.answered_is j ne ∙ same.answered_is j; held = λ j ne. gets.others.held j ne ∙ same.held j };
+  others = but_after h k m lane same gets.others;
   received = gets.received ∙ ap (λ r. r ++ ds) (same.received lane);
   answered_is = gets.answered_is ∙ same.answered_is lane;
   held = gets.held ∙ ap (λ r. r ++ ds) (same.held lane);
+  extras = gets.extras ∙ same.extras lane;
   given_back = λ j. gets.given_back j ∙ same.given_back j;
 }
 
 pub says_before : (h k m : Hands) (lane : ℕ) (r : Reply) → Says lane r h k → Same k m → Says lane r h m
 says_before h k m lane r says same = record {
-  others = record { received = λ j ne. same.received j ∙ says.others.received j ne; answered_is = λ j ne. same.answered_is j ∙ says.others.answered_is j ne; held = λ j ne. same.held j ∙ says.others.held j ne };
+  others = but_before h k m lane says.others same;
   received = same.received lane ∙ says.received;
   answered_is = same.answered_is lane ∙ says.answered_is;
   held = same.held lane ∙ says.held;
+  extras = same.extras lane ∙ says.extras;
   given_back = λ j. same.given_back j ∙ says.given_back j;
 }
 
 pub gets_before : (h k m : Hands) (lane : ℕ) (ds : List Delivery) → Gets lane ds h k → Same k m → Gets lane ds h m
 gets_before h k m lane ds gets same = record {
-  others = record { received = λ j ne. same.received j ∙ gets.others.received j ne; answered_is = λ j ne. same.answered_is j ∙ gets.others.answered_is j ne; held = λ j ne. same.held j ∙ gets.others.held j ne };
+  others = but_before h k m lane gets.others same;
   received = same.received lane ∙ gets.received;
   answered_is = same.answered_is lane ∙ gets.answered_is;
   held = same.held lane ∙ gets.held;
+  extras = same.extras lane ∙ gets.extras;
   given_back = λ j. same.given_back j ∙ gets.given_back j;
 }
 
@@ -91,10 +112,11 @@ brings_none lane h ds = record {
   came = [];
   array = sym (append-nil ds);
   gets = record {
-    others = record { received = λ j ne. refl; answered_is = λ j ne. refl; held = λ j ne. refl };
+    others = record { received = λ j ne. refl; answered_is = λ j ne. refl; held = λ j ne. refl; extras = λ j ne. refl };
     received = sym (append-nil (received_on h lane));
     answered_is = refl;
     held = sym (append-nil (held_on h lane));
+    extras = refl;
     given_back = λ j. refl;
   };
 }
@@ -112,14 +134,21 @@ gave_back h k none before j = none j ∙ before j
 pub same_no_new : (h k : Hands) → ((j : ℕ) → answered_on k j ≡ answered_on h j) → HaveNoNew h → HaveNoNew k
 same_no_new h k same none j = ap (count_by is_new_reply) (same j) ∙ none j
 
-is_no_new : (o : Op) → is_answer_op o ≡ true → count (is_new_op o) ≡ 0
+is_no_new : (o : Op) → (is_answer_op o || is_more_op o) ≡ true → count (is_new_op o) ≡ 0
 is_no_new ops.New e = absurd (cc)
 is_no_new ops.Forward e = omega arith
 is_no_new ops.Release e = omega arith
+is_no_new ops.ForwardMore e = omega arith
 
-pub says_no_new : (h k : Hands) (lane : ℕ) (r : Reply) → is_answer r ≡ true → Says lane r h k → HaveNoNew h → HaveNoNew k
-says_no_new h k lane r answers says none j =
+pub more_needs : (o : Op) → is_more_op o ≡ true → (is_answer_op o || is_more_op o) ≡ true
+more_needs ops.New e = absurd (cc)
+more_needs ops.Forward e = refl
+more_needs ops.Release e = refl
+more_needs ops.ForwardMore e = refl
+
+pub says_no_new : (h k : Hands) (lane : ℕ) (r : Reply) → needs_held r ≡ true → Says lane r h k → HaveNoNew h → HaveNoNew k
+says_no_new h k lane r needs says none j =
     let At : ℕ → Type 0 = λ i. count_by is_new_reply (answered_on k i) ≡ 0 in
     dite (ℕ_discrete j lane)
-    (λ e. subst At (sym e) (omega (arith, count_more is_new_reply (answered_on h lane) (answered_on k lane) r says.answered_is, none lane, is_no_new r.event.op answers)))
+    (λ e. subst At (sym e) (omega (arith, count_more is_new_reply (answered_on h lane) (answered_on k lane) r says.answered_is, none lane, is_no_new r.event.op needs)))
     (λ ne. ap (count_by is_new_reply) (says.others.answered_is j ne) ∙ none j)

@@ -10,13 +10,13 @@ use Rattle.credit_pool.specs.declared.answer.Draw.TheVariants as draws
 use Rattle.credit_pool.specs.Accounts.{free_of, in_use, IsOpen, IsShut, Stays}
 use Rattle.event_answers.specs.declared.answer.Behind.{Behind}
 use Rattle.event_answers.specs.declared.answer.Refused.{Refused}
-use Rattle.event_answers.specs.declared.answer.Refused.TheVariants.{Stopped, BadQueue, NothingHeld, Backpressure, Raced, Full}
+use Rattle.event_answers.specs.declared.answer.Refused.TheVariants.{Stopped, BadQueue, NothingHeld, Backpressure, Raced, Full, TooMany}
 use Rattle.event_ports.specs.declared.desk.Desk.{Desk}
 use Rattle.event_ports.specs.declared.lanes.Lanes.{Lanes}
-use Rattle.event_ports.specs.Draws.{HasAsked, HasCredits, HasLooked, SameSums, Settles}
+use Rattle.event_ports.specs.Draws.{FillsWithin, HasAsked, HasCredits, HasDrawn, HasLooked, SameSums, Settles, most_draws}
 use Rattle.event_ports.specs.Handed.{LanesPlace, lanes_place, hand_of, flow_count}
 use Rattle.event_ports.specs.Lanes.{Hand, Releases, Rests, SubmitsTo, counted, lane_for, reply_of}
-use Rattle.event_ports.specs.Desks.{account_of, pocket_of, place_of, hand, was_filled, AsksPool, Bursts, EndsWith, Gathers, GathersUpTo, IsFlushed, MaySpend, Pays, Refuses, StopsAt, SameCredits, Stocks}
+use Rattle.event_ports.specs.Desks.{account_of, pocket_of, place_of, hand, was_filled, AsksPool, Bursts, DrawsPool, EndsWith, Gathers, GathersUpTo, IsFlushed, MaySpend, MaySpendMore, Pays, Refuses, StopsAt, SameCredits, Stocks}
 
 -- a count of replies is one of what was said
 pub same_count : (P : Reply → Bool) (a b : Lanes) → lanes_place b ≡ lanes_place a → hand_of b ≡ hand_of a
@@ -46,8 +46,16 @@ module _ (q r : Desk) (f : IsFlushed q r) where
       subst (λ (k : ℕ). MaySpend p k r) (sym e)
       (subst (λ (w : Account). HasCredits (place_of p).quantum (place_of p).threshold (pocket_of p) (account_of p) n w) (sym f.account) may)
 
+  same_spend_more : (p : Desk) (n m : ℕ) → m ≡ n → MaySpendMore p n q → MaySpendMore p m r
+  same_spend_more p n m e may =
+      subst (λ (k : ℕ). MaySpendMore p k r) (sym e)
+      (subst (λ (w : Account). HasDrawn (place_of p).quantum (place_of p).threshold (pocket_of p) (account_of p) n w) (sym f.account) may)
+
   same_asked : (p : Desk) (answer : Draw) → AsksPool p answer q → AsksPool p answer r
   same_asked p answer asks = subst (λ (w : Account). HasAsked (place_of p).quantum (place_of p).threshold (account_of p) answer w) (sym f.account) asks
+
+  same_drawn : (p : Desk) (answer : Draw) → DrawsPool p answer q → DrawsPool p answer r
+  same_drawn p answer drawn = subst (λ (w : Account). FillsWithin most_draws (place_of p).quantum (place_of p).threshold (account_of p) answer w) (sym f.account) drawn
 
   -- what was paid
   pub still_pays : (p : Desk) (o : Op) → Pays o p q → Pays o p r
@@ -59,6 +67,9 @@ module _ (q r : Desk) (f : IsFlushed q r) where
       let came : ℕ = (pocket_of p + 1) % 2 ^ 64 in
       subst (λ (n : ℕ). Settles (place_of p).quantum came (account_of p) n (account_of r)) (sym f.pocket)
       (subst (λ (w : Account). Settles (place_of p).quantum came (account_of p) (pocket_of q) w) (sym f.account) pays)
+  still_pays p ops.ForwardMore pays =
+      let more : pocket_of r + 1 ≡ pocket_of q + 1 = ap (λ n. n + 1) f.pocket in
+      (same_stocks p (pocket_of q + 1) (pocket_of r + 1) more pays.0, same_spend_more p (pocket_of q + 1) (pocket_of r + 1) more pays.1)
 
   -- a refusal
   pub still_refuses : (p : Desk) (e : Event) (x : Refused) → Refuses p e x q → Refuses p e x r
@@ -66,7 +77,10 @@ module _ (q r : Desk) (f : IsFlushed q r) where
     why.0,
     subst (λ (w : Account). IsTrue w.saw_shut) (sym f.account) why.1,
     same_credits p why.2,
-    ⊎_elim (λ look. inl (subst (λ (w : Account). HasLooked (account_of p) w × IsShut w.last) (sym f.account) look)) (λ draw. inr (draw.0, draw.1, same_asked p draws.Shut draw.2)) why.3,
+    (λ new.
+        ⊎_elim (λ look. inl (subst (λ (w : Account). HasLooked (account_of p) w × IsShut w.last) (sym f.account) look)) (λ draw. inr (draw.0, draw.1, same_asked p draws.Shut draw.2))
+        (why.3 new)),
+    (λ more. let drawn = why.4 more in (drawn.0, drawn.1, drawn.2, same_drawn p draws.Shut drawn.3)),
   )
   still_refuses p e BadQueue why = (
     why.0,
@@ -77,6 +91,7 @@ module _ (q r : Desk) (f : IsFlushed q r) where
     λ old. same_account p (why.5 old),
   )
   still_refuses p e NothingHeld why = (why.0, why.1, why.2, same_credits p why.3, same_account p why.4)
+  still_refuses p e TooMany why = (why.0, why.1, why.2, why.3, same_credits p why.4, same_account p why.5)
   still_refuses p e (Backpressure free) why = (
     why.0,
     why.1,
@@ -85,7 +100,8 @@ module _ (q r : Desk) (f : IsFlushed q r) where
     why.4 ∙ ap (λ (w : Account). free_of w.last) (sym f.account),
     subst (λ (w : Account). (place_of p).threshold < in_use (account_of p).limit w.last + (place_of p).quantum) (sym f.account) why.5,
     same_credits p why.6,
-    same_asked p (draws.Short free) why.7,
+    (λ new. same_asked p (draws.Short free) (why.7 new)),
+    (λ more. ((why.8 more).0, same_drawn p (draws.Short free) (why.8 more).1)),
   )
   still_refuses p e (Raced first second) why = (
     why.0,
@@ -95,16 +111,18 @@ module _ (q r : Desk) (f : IsFlushed q r) where
     ap (λ (w : Account). w.before) f.account ∙ why.4,
     ap (λ (w : Account). w.last) f.account ∙ why.5,
     same_credits p why.6,
-    same_asked p (draws.Raced first second) why.7,
+    (λ new. same_asked p (draws.Raced first second) (why.7 new)),
+    (λ more. ((why.8 more).0, same_drawn p (draws.Raced first second) (why.8 more).1)),
   )
   still_refuses p e Full why = (
     f.filled e.op why.0,
     why.1,
     why.2,
-    λ new. same_stocks p (pocket_of q) (pocket_of r) f.pocket (why.3 new),
-    λ old. same_credits p (why.4 old),
-    λ new. same_spend p (pocket_of q) (pocket_of r) f.pocket (why.5 new),
-    λ old. same_account p (why.6 old),
+    why.3,
+    λ costs. same_stocks p (pocket_of q) (pocket_of r) f.pocket (why.4 costs),
+    λ free. (same_credits p (why.5 free).0, same_account p (why.5 free).1),
+    λ new. same_spend p (pocket_of q) (pocket_of r) f.pocket (why.6 new),
+    λ more. same_spend_more p (pocket_of q) (pocket_of r) f.pocket (why.7 more),
   )
 
   -- a call that enqueued

@@ -1,9 +1,11 @@
 pub mod Places
+pub mod Extras
 pub mod Unanswered
 pub mod Turns
 pub mod Calls
 pub mod Orders
 pub mod Counts
+pub mod Adding
 pub mod Refusals
 pub mod ReadOrder
 pub mod Arrivals

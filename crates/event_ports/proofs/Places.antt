@@ -17,7 +17,7 @@ use Rattle.flow_claims.specs.Open.{start_in}
 use Rattle.flow_claims.specs.Seats.{stint_at}
 use Rattle.flow_claims.specs.Stints.{received_in_all, answered_in_all}
 use Rattle.flow_claims.proofs.Opened.{stays_open}
-use Rattle.event_ports.specs.Holds.{place_at, IsHeldAt, IsPlace, stints_at, received_past, answered_past, received_now, answered_now, held_now, Hands, received_on, answered_on, held_on, Same, SameBut, NoneSurrendered}
+use Rattle.event_ports.specs.Holds.{place_at, IsHeldAt, IsPlace, stints_at, received_past, answered_past, received_now, answered_now, extras_now, held_now, Hands, received_on, answered_on, extras_on, held_on, Same, SameBut, NoneSurrendered}
 
 abbrev pub Stints : Type 0
 Stints = List (Option Stint)
@@ -105,6 +105,7 @@ module _ (links : List ℕ) (v w : Seating) (ss : Stints) (lane : ℕ) (new : Op
         received = λ j ne. ap (λ o. received_past j w.finished ++ received_now w o) (at j ne) ∙ (λ i. received_in_all (past j ne i) ++ (now j ne).0 i);
         answered_is = λ j ne. ap (λ o. answered_past j w.finished ++ answered_now w o) (at j ne) ∙ (λ i. answered_in_all (past j ne i) ++ (now j ne).1 i);
         held = λ j ne. ap held_now (at j ne);
+        extras = λ j ne. ap extras_now (at j ne);
       }
 
   -- the lane's own lists
@@ -117,16 +118,22 @@ module _ (links : List ℕ) (v w : Seating) (ss : Stints) (lane : ℕ) (new : Op
   pub held_here : lane < length ss → held_on (hands w (set ss lane new)) lane ≡ held_now new
   held_here lt = ap held_now (get_or-set_same ss lane new None lt)
 
+  pub extras_here : lane < length ss → extras_on (hands w (set ss lane new)) lane ≡ extras_now new
+  extras_here lt = ap extras_now (get_or-set_same ss lane new None lt)
+
 -- the lane's lists, and those of the others
-pub all_same : (lane : ℕ) (h k : Hands) → SameBut lane h k → received_on k lane ≡ received_on h lane → answered_on k lane ≡ answered_on h lane → held_on k lane ≡ held_on h lane → NoneSurrendered h k → Same h k
-all_same lane h k others received answered held given_back =
+pub all_same : (lane : ℕ) (h k : Hands) → SameBut lane h k → received_on k lane ≡ received_on h lane → answered_on k lane ≡ answered_on h lane → held_on k lane ≡ held_on h lane
+    → extras_on k lane ≡ extras_on h lane → NoneSurrendered h k → Same h k
+all_same lane h k others received answered held extras given_back =
     let Received : ℕ → Type 0 = λ j. received_on k j ≡ received_on h j in
     let Answered : ℕ → Type 0 = λ j. answered_on k j ≡ answered_on h j in
     let Held : ℕ → Type 0 = λ j. held_on k j ≡ held_on h j in
+    let Extras : ℕ → Type 0 = λ j. extras_on k j ≡ extras_on h j in
     record {
       received = λ j. dite (ℕ_discrete j lane) (λ e. subst Received (sym e) received) (λ ne. others.received j ne);
       answered_is = λ j. dite (ℕ_discrete j lane) (λ e. subst Answered (sym e) answered) (λ ne. others.answered_is j ne);
       held = λ j. dite (ℕ_discrete j lane) (λ e. subst Held (sym e) held) (λ ne. others.held j ne);
+      extras = λ j. dite (ℕ_discrete j lane) (λ e. subst Extras (sym e) extras) (λ ne. others.extras j ne);
       given_back = given_back;
     }
 

@@ -1,16 +1,16 @@
 -- What a port refuses, and what it costs, where a call before it changed nothing of that.
-use Rattle.std.proofs.Common.{◌≡◌, ℕ, zero, suc, ◌+◌, ◌<◌, inl, inr, [], ◌∷◌, ◌++◌, drop, Result, Ok, Err, IfErr, OnOk, MatchResult, sym, ap, ◌∙◌, subst, arith}
+use Rattle.std.proofs.Common.{◌≡◌, ℕ, zero, suc, ◌+◌, ◌<◌, Bool, true, false, inl, inr, [], ◌∷◌, ◌++◌, drop, Option, Some, None, Result, Ok, Err, IfErr, OnOk, MatchResult, sym, ap, ◌∙◌, subst, arith}
 use Rattle.evt_types.specs.declared.event.Event.{Event}
 use Rattle.evt_types.specs.declared.event.Op.{Op}
 use Rattle.evt_types.specs.declared.event.Op.TheVariants as ops
 use Rattle.evt_types.specs.declared.event.Reply.{Reply}
+use Rattle.evt_types.specs.Operation.{costs_credit}
 use Rattle.lane_rings.specs.Ends.{answers_among}
 use Rattle.event_answers.specs.declared.answer.Refused.{Refused}
-use Rattle.event_answers.specs.declared.answer.Refused.TheVariants.{Stopped, BadQueue, NothingHeld, Backpressure, Raced, Full}
+use Rattle.event_answers.specs.declared.answer.Refused.TheVariants.{Stopped, BadQueue, NothingHeld, Backpressure, Raced, Full, TooMany}
 use Rattle.event_ports.specs.declared.lane.Lane.{Lane}
-use Rattle.event_ports.specs.declared.lane.Lane.TheVariants.{Own}
 use Rattle.event_ports.specs.declared.desk.Desk.{Desk}
-use Rattle.event_ports.specs.Lanes.{Hand, Rests, Submits}
+use Rattle.event_ports.specs.Lanes.{Hand, Rests, Submits, SubmitsTo, lane_for}
 use Rattle.credit_pool.specs.declared.account.Account.{Account}
 use Rattle.credit_pool.specs.declared.answer.Draw.{Draw}
 use Rattle.credit_pool.specs.declared.answer.Draw.TheVariants as draws
@@ -32,6 +32,14 @@ rests_more h k m a b = record { said = λ l. b.said l ∙ a.said l; got = λ l. 
 pub same_credits : (p k q : Desk) → SameCredits p k → SameCredits k q → SameCredits p q
 same_credits p k q a b = (b.0 ∙ a.0, (b.1.0 ∙ a.1.0, b.1.1 ∙ a.1.1))
 
+-- an operation is one alone
+not_more : (o : Op) → o ≡ ops.New → o ≡ ops.ForwardMore → ⊥
+not_more o new more = absurd (cc)
+
+-- what costs a credit, and doesn't
+costs_none : (b : Bool) → b ≡ true → b ≡ false → ⊥
+costs_none b is none = absurd (cc)
+
 -- the draws of a quantum that was drawn, together
 drew : (n quantum ceiling : ℕ) (v after : Account) → FillsWithin n quantum ceiling v draws.Drawn after → (after.drawn ≡ v.drawn + quantum) × (after.returned ≡ v.returned)
 drew zero quantum ceiling v after none = absurd none
@@ -40,39 +48,71 @@ drew (suc n) quantum ceiling v after (inr (first, second, between, raced, furthe
     let rest = drew n quantum ceiling between after further in
     (rest.0 ∙ ap (λ (w : Account). w.drawn + quantum) raced.5, rest.1 ∙ ap (λ (w : Account). w.returned) raced.5)
 
--- a NEW, after a look that read an open word
-module _ (p k : Desk) (place : place_of k ≡ place_of p) (same : SameCredits p k) (looked : HasLooked (account_of p) (account_of k)) (was_open : IsOpen (account_of k).last) where
-  asked : (answer : Draw) (q : Desk) → FillsWithin most_draws (place_of k).quantum (place_of k).threshold (account_of k) answer (account_of q) → AsksPool p answer q
-  asked answer q filled = record {
-    seen = account_of k;
-    looked = looked;
-    was_open = was_open;
-    asked = subst (λ (x : Place). FillsWithin most_draws x.quantum x.threshold (account_of k) answer (account_of q)) place filled;
-  }
-
-  -- there is no credit for it
-  pub no_credit : (q : Desk) (e : Event) (f : Refused) → e.op ≡ ops.New → e.queue < (place_of p).queues → (account_of k).limit ≡ (account_of p).limit → HasNoCredit k f q → Refuses p e f q
-  no_credit q e Stopped new within limit r = (new, r.0, same_credits p k q same r.1.same, inr (within, sym same.0 ∙ r.1.empty, asked draws.Shut q r.1.asked))
-  no_credit q e BadQueue new within limit r = absurd r
-  no_credit q e NothingHeld new within limit r = absurd r
-  no_credit q e (Backpressure free) new within limit r = (
-    new,
-    within,
-    sym same.0 ∙ r.3.empty,
-    r.0,
-    r.1,
-    omega (arith, r.2, limit, ap (λ (x : Place). x.quantum) place, ap (λ (x : Place). x.threshold) place),
-    same_credits p k q same r.3.same,
-    asked (draws.Short free) q r.3.asked,
+-- a draw after a call that changed no credits
+module _ (p k : Desk) (place : place_of k ≡ place_of p) (same : SameCredits p k) where
+  -- so many credits were there, or were drawn
+  stocks : (m q : Desk) (n : ℕ) → HasStocked k m → account_of q ≡ account_of m → n ≡ pocket_of m → Stocks p n q
+  stocks m q n h account n_is = (
+    (λ some.
+        let s = h.of_pocket (λ z. some (sym same.0 ∙ z)) in
+        let is : account_of q ≡ account_of k = account ∙ s.1 in
+        (n_is ∙ s.0 ∙ same.0, (ap (λ (w : Account). w.drawn) is ∙ same.1.0, ap (λ (w : Account). w.returned) is ∙ same.1.1))),
+    (λ none.
+        let s = h.of_pool (same.0 ∙ none) in
+        let d = drew most_draws (place_of k).quantum (place_of k).threshold (account_of k) (account_of m) s.1 in
+        let quantum : (place_of k).quantum ≡ (place_of p).quantum = ap (λ (x : Place). x.quantum) place in
+        (n_is ∙ s.0 ∙ quantum, ap (λ (w : Account). w.drawn) account ∙ d.0 ∙ (λ i. same.1.0 i + quantum i), ap (λ (w : Account). w.returned) account ∙ d.1 ∙ same.1.1)),
   )
-  no_credit q e (Raced first second) new within limit r =
-      (new, within, sym same.0 ∙ r.3.empty, r.0, r.1, r.2, same_credits p k q same r.3.same, asked (draws.Raced first second) q r.3.asked)
-  no_credit q e Full new within limit r = absurd r
 
-  -- there are these credits for it
-  module _ (m q : Desk) (n : ℕ) (h : HasStocked k m) (account : account_of q ≡ account_of m) (n_is : n ≡ pocket_of m) where
-    may_spend : MaySpend p n q
-    may_spend = record {
+  -- a NEW, after a look that read an open word
+  module _ (looked : HasLooked (account_of p) (account_of k)) (was_open : IsOpen (account_of k).last) where
+    asked : (answer : Draw) (q : Desk) → FillsWithin most_draws (place_of k).quantum (place_of k).threshold (account_of k) answer (account_of q) → AsksPool p answer q
+    asked answer q filled = record {
+      seen = account_of k;
+      looked = looked;
+      was_open = was_open;
+      asked = subst (λ (x : Place). FillsWithin most_draws x.quantum x.threshold (account_of k) answer (account_of q)) place filled;
+    }
+
+    -- there is no credit for it
+    pub no_credit : (q : Desk) (e : Event) (f : Refused) → e.op ≡ ops.New → e.queue < (place_of p).queues → (account_of k).limit ≡ (account_of p).limit → HasNoCredit k f q → Refuses p e f q
+    no_credit q e Stopped new within limit r = (
+      ap costs_credit new,
+      r.0,
+      same_credits p k q same r.1.same,
+      (λ _. inr (within, sym same.0 ∙ r.1.empty, asked draws.Shut q r.1.asked)),
+      (λ more. absurd (not_more e.op new more)),
+    )
+    no_credit q e BadQueue new within limit r = absurd r
+    no_credit q e NothingHeld new within limit r = absurd r
+    no_credit q e (Backpressure free) new within limit r = (
+      ap costs_credit new,
+      within,
+      sym same.0 ∙ r.3.empty,
+      r.0,
+      r.1,
+      omega (arith, r.2, limit, ap (λ (x : Place). x.quantum) place, ap (λ (x : Place). x.threshold) place),
+      same_credits p k q same r.3.same,
+      (λ _. asked (draws.Short free) q r.3.asked),
+      (λ more. absurd (not_more e.op new more)),
+    )
+    no_credit q e (Raced first second) new within limit r = (
+      ap costs_credit new,
+      within,
+      sym same.0 ∙ r.3.empty,
+      r.0,
+      r.1,
+      r.2,
+      same_credits p k q same r.3.same,
+      (λ _. asked (draws.Raced first second) q r.3.asked),
+      (λ more. absurd (not_more e.op new more)),
+    )
+    no_credit q e Full new within limit r = absurd r
+    no_credit q e TooMany new within limit r = absurd r
+
+    -- there are these credits for it
+    may_spend : (m q : Desk) (n : ℕ) → HasStocked k m → account_of q ≡ account_of m → n ≡ pocket_of m → MaySpend p n q
+    may_spend m q n h account n_is = record {
       seen = account_of k;
       looked = looked;
       was_open = was_open;
@@ -85,38 +125,26 @@ module _ (p k : Desk) (place : place_of k ≡ place_of p) (same : SameCredits p 
           );
     }
 
-    stocks : Stocks p n q
-    stocks = (
-      (λ some.
-          let s = h.of_pocket (λ z. some (sym same.0 ∙ z)) in
-          let is : account_of q ≡ account_of k = account ∙ s.1 in
-          (n_is ∙ s.0 ∙ same.0, (ap (λ (w : Account). w.drawn) is ∙ same.1.0, ap (λ (w : Account). w.returned) is ∙ same.1.1))),
-      (λ none.
-          let s = h.of_pool (same.0 ∙ none) in
-          let d = drew most_draws (place_of k).quantum (place_of k).threshold (account_of k) (account_of m) s.1 in
-          let quantum : (place_of k).quantum ≡ (place_of p).quantum = ap (λ (x : Place). x.quantum) place in
-          (n_is ∙ s.0 ∙ quantum, ap (λ (w : Account). w.drawn) account ∙ d.0 ∙ (λ i. same.1.0 i + quantum i), ap (λ (w : Account). w.returned) account ∙ d.1 ∙ same.1.1)),
-    )
+    pub pays_new : (m q : Desk) (o : Op) (result : Result (Unit {0}) Refused) → o ≡ ops.New → HasStocked k m → account_of q ≡ account_of m → OnOk result (pocket_of q + 1 ≡ pocket_of m)
+        → OnOk result (Pays o p q)
+    pays_new m q o (Ok _) new h account pays =
+        subst (λ (x : Op). Pays x p q) (sym new) (stocks m q (pocket_of q + 1) h account pays, may_spend m q (pocket_of q + 1) h account pays)
+    pays_new m q o (Err x) new h account pays = pays
 
-  pub pays_new : (m q : Desk) (o : Op) (result : Result (Unit {0}) Refused) → o ≡ ops.New → HasStocked k m → account_of q ≡ account_of m → OnOk result (pocket_of q + 1 ≡ pocket_of m)
-      → OnOk result (Pays o p q)
-  pays_new m q o (Ok _) new h account pays =
-      subst (λ (x : Op). Pays x p q) (sym new) (stocks m q (pocket_of q + 1) h account pays, may_spend m q (pocket_of q + 1) h account pays)
-  pays_new m q o (Err x) new h account pays = pays
-
-  pub refuses_full : (m q : Desk) (e : Event) (result : Result (Unit {0}) Refused) → e.op ≡ ops.New → e.queue < (place_of p).queues → HasStocked k m → account_of q ≡ account_of m
-      → IfErr result (λ x. (x ≡ Full) × was_filled q e.op × (pocket_of q ≡ pocket_of m)) → IfErr result (λ x. Refuses p e x q)
-  refuses_full m q e (Ok _) new within h account full = full
-  refuses_full m q e (Err x) new within h account full =
-      subst (λ (y : Refused). Refuses p e y q) (sym full.0) (
-        full.1,
-        (λ other. absurd (other new)),
-        (λ _. within),
-        (λ _. stocks m q (pocket_of q) h account full.2),
-        (λ other. absurd (other new)),
-        (λ _. may_spend m q (pocket_of q) h account full.2),
-        (λ other. absurd (other new)),
-      )
+    pub refuses_full : (m q : Desk) (e : Event) (result : Result (Unit {0}) Refused) → e.op ≡ ops.New → e.queue < (place_of p).queues → HasStocked k m → account_of q ≡ account_of m
+        → IfErr result (λ x. (x ≡ Full) × was_filled q e.op × (pocket_of q ≡ pocket_of m)) → IfErr result (λ x. Refuses p e x q)
+    refuses_full m q e (Ok _) new within h account full = full
+    refuses_full m q e (Err x) new within h account full =
+        subst (λ (y : Refused). Refuses p e y q) (sym full.0) (
+          full.1,
+          (λ other. absurd (other new)),
+          (λ _. within),
+          (λ more. absurd (not_more e.op new more)),
+          (λ _. stocks m q (pocket_of q) h account full.2),
+          (λ none. absurd (costs_none (costs_credit e.op) (ap costs_credit new) none)),
+          (λ _. may_spend m q (pocket_of q) h account full.2),
+          (λ more. absurd (not_more e.op new more)),
+        )
 
 -- two refusals that are one answer
 refusal_in : Result (Unit {0}) Refused → Refused → Refused
@@ -127,8 +155,13 @@ pub same_refusal : (x y : Refused) → ◌≡◌ {A = Result (Unit {0}) Refused}
 unfolding refusal_in
 same_refusal x y e = ap (λ (r : Result (Unit {0}) Refused). refusal_in r x) e
 
--- a reply to the own lane, after calls that submitted nothing
-pub own_after : (result : Result (Unit {0}) Refused) (r : Reply) (h j k m : Hand) → Rests h j → Rests j k → MatchResult result (λ _. Submits Own r k m) (λ _. Rests k m)
-    → MatchResult result (λ _. Submits Own r h m) (λ _. Rests h m)
-own_after (Ok done) r h j k m a b is = rests_then Own r h j m a (rests_then Own r j k m b is)
-own_after (Err e) r h j k m a b is = rests_more h j m a (rests_more j k m b is)
+-- a reply after calls that submitted nothing
+pub submits_after : (o : Option Lane) (r : Reply) (h k m : Hand) → Rests h k → SubmitsTo o r k m → SubmitsTo o r h m
+submits_after None r h k m a b = b
+submits_after (Some l) r h k m a b = rests_then l r h k m a b
+
+pub submitted_after : (result : Result (Unit {0}) Refused) (o : Op) (r : Reply) (h k m : Hand) → Rests h k → MatchResult result (λ _. SubmitsTo (lane_for o k.holding) r k m) (λ _. Rests k m)
+    → MatchResult result (λ _. SubmitsTo (lane_for o h.holding) r h m) (λ _. Rests h m)
+submitted_after (Ok done) o r h k m a is =
+    subst (λ (l : Option Lane). SubmitsTo l r h m) (ap (lane_for o) a.holding) (submits_after (lane_for o k.holding) r h k m a is)
+submitted_after (Err e) o r h k m a is = rests_more h k m a is

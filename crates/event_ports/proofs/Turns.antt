@@ -1,6 +1,6 @@
 -- What a call on one flow lane makes of what a port has of all of them.
 use Rattle.std.proofs.Common.{◌≡◌, ◌≢◌, ℕ, suc, ◌<◌, Bool, true, false, List, [], ◌∷◌, ◌++◌, length, drop, set, Option, Some, None, Result, Ok, Err, All, MatchResult, refl, sym, ap, ◌∙◌, subst, arith, append-nil, append_assoc}
-use Rattle.std.proofs.lemmas.List.{length-set, get_or-set_other, get_or-set_same}
+use Rattle.std.proofs.lemmas.List.{length-set, get_or-set_other}
 use Rattle.std.proofs.lemmas.Option.{none-some}
 use Rattle.std.proofs.lemmas.List.Elements.{All-push}
 use mathlib.Core.Logic.{dite}
@@ -8,9 +8,8 @@ use native.Mathlib.Decide.{ℕ_discrete, dec_le}
 use Rattle.lists.specs.Lists.{has}
 use Rattle.evt_types.specs.declared.event.Delivery.{Delivery}
 use Rattle.evt_types.specs.declared.event.Reply.{Reply}
-use Rattle.std.specs.Option.{is_some}
 use Rattle.lane_rings.specs.Ends.{answered, answers_among, unanswered, Comes}
-use Rattle.lane_rings.specs.Identity.{LaneId, far_id}
+use Rattle.evt_types.specs.Additions.{extras_of, more_after}
 use Rattle.flow_claims.specs.declared.claim.Stint.{Stint}
 use Rattle.flow_claims.specs.declared.claims.Claims.{Claims}
 use Rattle.flow_claims.specs.declared.claims.ClaimSeat.{ClaimSeat}
@@ -22,9 +21,10 @@ use Rattle.flow_claims.specs.Open.{IsOpen, received_so_far, answered_so_far}
 use Rattle.flow_claims.specs.Seats.{stint_at, find_lane, IsPorts}
 use Rattle.flow_claims.specs.Stints.{left_in, received_in, answered_in}
 use Rattle.flow_claims.proofs.Held.{nothing_held}
-use Rattle.event_ports.specs.Holds.{place_at, IsHeldAt, AreFlows, stints_at, received_past, answered_past, left_past, surrendered_past, left_on, LeavesFree, received_now, answered_now, held_now, Hands, received_on, answered_on, IsFilledBy, Flushed, Kept, Same, SameBut, Gets, Brings, Says}
+use Rattle.event_ports.specs.Holds.{place_at, IsHeldAt, AreFlows, stints_at, received_past, answered_past, left_past, surrendered_past, left_on, LeavesFree, received_now, answered_now, extras_now, held_now, Hands, received_on, answered_on, extras_on, Kept, Same, SameBut, Gets, Brings, Says}
+use Rattle.event_ports.proofs.Extras.{extras_push, none_extra}
 use Rattle.event_ports.proofs.Unanswered.{left_here, left_other, surrendered, none_surrendered, others_surrendered}
-use Rattle.event_ports.proofs.Places.{Stints, hands, each_place, moved, free_place, held_place, past_places, past_more, other_stints, same_now, same_but, received_here, answered_here, held_here, all_same}
+use Rattle.event_ports.proofs.Places.{Stints, hands, each_place, moved, free_place, held_place, past_places, past_more, other_stints, same_but, received_here, answered_here, extras_here, held_here, all_same}
 
 module _ (claims : Claims) (links : List ℕ) where
   ports_stay : (seat after : ClaimSeat) → KeepsPort seat after → IsPorts (port_of seat) (seating seat) → IsPorts (port_of after) (seating after)
@@ -112,19 +112,8 @@ module _ (claims : Claims) (links : List ℕ) where
       all_same lane (hands v ss) (hands w (set ss lane new)) (same_but links v w ss lane new others (λ j ne. ap (stints_at j) finished) are.each)
       (received_here links v w ss lane new within ∙ (λ i. received_past lane (finished i) ++ received i) ∙ sym (ap (λ o. received_past lane v.finished ++ received_now v o) free))
       (answered_here links v w ss lane new within ∙ (λ i. answered_past lane (finished i) ++ answered i) ∙ sym (ap (λ o. answered_past lane v.finished ++ answered_now v o) free))
-      (held_here links v w ss lane new within ∙ held ∙ sym (ap held_now free)) (λ j. ap (surrendered_past j) finished)
-
-  -- a claim that was refused
-  pub refused_same : (seat after : ClaimSeat) (ss : Stints) → AreFlows claims seat ss links → (seating after).held ≡ (seating seat).held → (seating after).finished ≡ (seating seat).finished
-      → Same (hands (seating seat) ss) (hands (seating after) ss)
-  refused_same seat after ss are held finished =
-      let now = λ (j : ℕ). same_now links (seating seat) (seating after) j (place_at ss j) (are.each j) (ap (find_lane j) held) in
-      record {
-        received = λ j i. received_past j (finished i) ++ (now j).0 i;
-        answered_is = λ j i. answered_past j (finished i) ++ (now j).1 i;
-        held = λ j. refl;
-        given_back = λ j. ap (surrendered_past j) finished;
-      }
+      (held_here links v w ss lane new within ∙ held ∙ sym (ap held_now free)) (extras_here links v w ss lane new within ∙ none_extra stint.far held ∙ sym (ap extras_now free))
+      (λ j. ap (surrendered_past j) finished)
 
   -- after the end of a stint, but for what is held
   module _ (seat after : ClaimSeat) (ss : Stints) (lane : ℕ) (stint : Stint) (gone : Bool) (are : AreFlows claims seat ss links) (ends : EndsStint claims gone stint seat after) (at : place_at ss lane ≡ Some stint) (lt : lane < length (lanes_of claims)) where
@@ -178,6 +167,7 @@ module _ (claims : Claims) (links : List ℕ) where
     left_same gives none =
         all_same lane (hands (seating seat) ss) (hands (seating after) (set ss lane None)) ended_but ended_received ended_answered
         (held_here links (seating seat) (seating after) ss lane None within ∙ sym none ∙ sym (ap held_now at))
+        (extras_here links (seating seat) (seating after) ss lane None within ∙ sym (none_extra stint.far none) ∙ sym (ap extras_now at))
         (none_surrendered (seating seat).finished (seating after).finished ends.piece.0 lane ends.piece.1 its_lane (ends.piece.2.surrendered_is ∙ gives))
 
   -- after a call through the stint's end
@@ -208,82 +198,55 @@ module _ (claims : Claims) (links : List ℕ) where
     same_answered : answered_so_far (seating seat) new ≡ answered_so_far (seating seat) stint → answered_on (hands (seating seat) (set ss lane (Some new))) lane ≡ answered_on (hands (seating seat) ss) lane
     same_answered e = answered_is [] (e ∙ sym (append-nil (answered_so_far (seating seat) stint))) ∙ append-nil (answered_on (hands (seating seat) ss) lane)
 
+    same_extras : answered new.far ≡ answered stint.far → extras_on (hands (seating seat) (set ss lane (Some new))) lane ≡ extras_on (hands (seating seat) ss) lane
+    same_extras e = extras_here links (seating seat) (seating seat) ss lane (Some new) inside ∙ ap extras_of e ∙ sym (ap extras_now at)
+
     pub turn_same : received_so_far (seating seat) new ≡ received_so_far (seating seat) stint → answered_so_far (seating seat) new ≡ answered_so_far (seating seat) stint
-        → unanswered new.far ≡ unanswered stint.far → Same (hands (seating seat) ss) (hands (seating seat) (set ss lane (Some new)))
-    turn_same r a u =
+        → unanswered new.far ≡ unanswered stint.far → answered new.far ≡ answered stint.far → Same (hands (seating seat) ss) (hands (seating seat) (set ss lane (Some new)))
+    turn_same r a u all =
         all_same lane (hands (seating seat) ss) (hands (seating seat) (set ss lane (Some new))) but (same_received r) (same_answered a)
-        (held_here links (seating seat) (seating seat) ss lane (Some new) inside ∙ u ∙ sym (ap held_now at)) (λ j. refl)
+        (held_here links (seating seat) (seating seat) ss lane (Some new) inside ∙ u ∙ sym (ap held_now at)) (same_extras all) (λ j. refl)
 
     pub turn_gets : (ds : List Delivery) → received_so_far (seating seat) new ≡ received_so_far (seating seat) stint ++ ds → answered_so_far (seating seat) new ≡ answered_so_far (seating seat) stint
-        → unanswered new.far ≡ unanswered stint.far ++ ds → Gets lane ds (hands (seating seat) ss) (hands (seating seat) (set ss lane (Some new)))
-    turn_gets ds r a u = record {
+        → unanswered new.far ≡ unanswered stint.far ++ ds → answered new.far ≡ answered stint.far → Gets lane ds (hands (seating seat) ss) (hands (seating seat) (set ss lane (Some new)))
+    turn_gets ds r a u all = record {
       others = but;
       received = received_is ds r;
       answered_is = same_answered a;
       held = held_here links (seating seat) (seating seat) ss lane (Some new) inside ∙ u ∙ sym (ap (λ o. held_now o ++ ds) at);
+      extras = same_extras all;
       given_back = λ j. refl;
     }
 
     pub turn_says : (reply : Reply) → received_so_far (seating seat) new ≡ received_so_far (seating seat) stint → answered_so_far (seating seat) new ≡ answered_so_far (seating seat) stint ++ reply ∷ []
-        → unanswered new.far ≡ drop (answers_among (reply ∷ [])) (unanswered stint.far) → Says lane reply (hands (seating seat) ss) (hands (seating seat) (set ss lane (Some new)))
-    turn_says reply r a u = record {
+        → unanswered new.far ≡ drop (answers_among (reply ∷ [])) (unanswered stint.far) → answered new.far ≡ answered stint.far ++ reply ∷ []
+        → Says lane reply (hands (seating seat) ss) (hands (seating seat) (set ss lane (Some new)))
+    turn_says reply r a u all = record {
       others = but;
       received = same_received r;
       answered_is = answered_is (reply ∷ []) a;
       held = held_here links (seating seat) (seating seat) ss lane (Some new) inside ∙ u ∙ sym (ap (λ o. drop (answers_among (reply ∷ [])) (held_now o)) at);
+      extras = extras_here links (seating seat) (seating seat) ss lane (Some new) inside ∙ ap extras_of all ∙ extras_push (answered stint.far) reply
+          ∙ sym (ap (λ o. more_after (extras_now o) reply) at);
       given_back = λ j. refl;
-    }
-
-    filled_still : far_id new.far ≡ far_id stint.far → answered new.far ≡ answered stint.far → IsFilledBy (Some stint) → IsFilledBy (Some new)
-    filled_still id a filled = omega (arith, ap (λ (l : LaneId). l.room) id, ap length a, filled)
-
-    turn_filled : far_id new.far ≡ far_id stint.far → answered new.far ≡ answered stint.far → (j : ℕ) → IsFilledBy (place_at ss j) → IsFilledBy (place_at (set ss lane (Some new)) j)
-    turn_filled id a j filled =
-        let Here : ℕ → Type 0 = λ i. IsFilledBy (place_at (set ss lane (Some new)) i) in
-        let Was : ℕ → Type 0 = λ i. IsFilledBy (place_at ss i) in
-        dite (ℕ_discrete j lane)
-        (λ e. subst Here (sym e) (subst IsFilledBy (sym (get_or-set_same ss lane (Some new) None inside)) (filled_still id a (subst IsFilledBy at (subst Was e filled)))))
-        (λ ne. subst IsFilledBy (sym (get_or-set_other ss lane j (Some new) None ne)) filled)
-
-    turn_places : (j : ℕ) → is_some (place_at (set ss lane (Some new)) j) ≡ is_some (place_at ss j)
-    turn_places j =
-        let Here : ℕ → Type 0 = λ i. is_some (place_at (set ss lane (Some new)) i) ≡ is_some (place_at ss i) in
-        dite (ℕ_discrete j lane)
-        (λ e. subst Here (sym e) (ap is_some (get_or-set_same ss lane (Some new) None inside) ∙ sym (ap is_some at)))
-        (λ ne. ap is_some (get_or-set_other ss lane j (Some new) None ne))
-
-    -- a flush: `Stint::flush` in its own words
-    pub turn_flushed : (far_id new.far ≡ far_id stint.far) × (answered new.far ≡ answered stint.far) × (unanswered new.far ≡ unanswered stint.far)
-        → ((v : Seating) → (received_so_far v new ≡ received_so_far v stint) × (answered_so_far v new ≡ answered_so_far v stint))
-        → Flushed (hands (seating seat) ss) (hands (seating seat) (set ss lane (Some new)))
-    turn_flushed far so_far = record {
-      same = turn_same (so_far (seating seat)).0 (so_far (seating seat)).1 far.2;
-      places = turn_places;
-      filled = turn_filled far.0 far.1;
     }
 
     -- receipts: `Stint::receive_some` in its own words
     pub brought : (old into : List Delivery) → IsOpen (seating seat) stint → Comes stint.far old new.far into
         → ((v : Seating) → IsOpen v stint → (c : Comes stint.far old new.far into) → received_so_far v new ≡ received_so_far v stint ++ c.came)
-        → ((v : Seating) → answered_so_far v new ≡ answered_so_far v stint)
+        → ((v : Seating) → answered_so_far v new ≡ answered_so_far v stint) → answered new.far ≡ answered stint.far
         → Brings lane (hands (seating seat) ss) old (hands (seating seat) (set ss lane (Some new))) into
-    brought old into is c received answered = record { came = c.came; array = c.array; gets = turn_gets c.came (received (seating seat) is c) (answered (seating seat)) c.held }
+    brought old into is c received so_far all = record { came = c.came; array = c.array; gets = turn_gets c.came (received (seating seat) is c) (so_far (seating seat)) c.held all }
 
     -- an answer: `Stint::stage` in its own words
     pub answered_lists : {E : Type 0} (reply : Reply) (result : Result (Unit {0}) E) → IsOpen (seating seat) stint
         → MatchResult result (λ _. unanswered new.far ≡ drop (answers_among (reply ∷ [])) (unanswered stint.far)) (λ _. unanswered new.far ≡ unanswered stint.far)
         → ((v : Seating) → IsOpen v stint → MatchResult result (λ _. answered_so_far v new ≡ answered_so_far v stint ++ reply ∷ []) (λ _. answered_so_far v new ≡ answered_so_far v stint))
         → ((v : Seating) → received_so_far v new ≡ received_so_far v stint)
+        → MatchResult result (λ _. answered new.far ≡ answered stint.far ++ reply ∷ []) (λ _. answered new.far ≡ answered stint.far)
         → MatchResult result (λ _. Says lane reply (hands (seating seat) ss) (hands (seating seat) (set ss lane (Some new)))) (λ _. Same (hands (seating seat) ss) (hands (seating seat) (set ss lane (Some new))))
-    answered_lists reply (Ok _) is held answered received = turn_says reply (received (seating seat)) (answered (seating seat) is) held
-    answered_lists reply (Err _) is held answered received = turn_same (received (seating seat)) (answered (seating seat) is) held
-
-leaves_more : (h k m : Hands) → LeavesFree h k → LeavesFree k m → LeavesFree h m
-leaves_more h k m a b j none = ((b j (a j none).0).0, (b j (a j none).0).1 ∙ (a j none).1)
-
--- what is kept twice is kept
-pub kept_more : (h k m : Hands) → Kept h k → Kept k m → Kept h m
-kept_more h k m a b = record { received = λ j. b.received j ∙ a.received j; answered_is = λ j. b.answered_is j ∙ a.answered_is j; left = λ j. b.left j ∙ a.left j; free = leaves_more h k m a.free b.free }
+    answered_lists reply (Ok _) is held so_far received all = turn_says reply (received (seating seat)) (so_far (seating seat) is) held all
+    answered_lists reply (Err _) is held so_far received all = turn_same (received (seating seat)) (so_far (seating seat) is) held all
 
 pub all_kept : (lane : ℕ) (h k : Hands) → SameBut lane h k → received_on k lane ≡ received_on h lane → answered_on k lane ≡ answered_on h lane → ((j : ℕ) → left_on k j ≡ left_on h j) → LeavesFree h k → Kept h k
 all_kept lane h k others received answered left free =

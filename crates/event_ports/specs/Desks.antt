@@ -1,5 +1,5 @@
 -- What a clause sees of a desk, which is a port whose replies may not all be in the rings yet, and why it refuses.
-use Rattle.std.specs.Prelude.{◌≡◌, ◌≢◌, ℕ, ◌+◌, ◌%◌, ◌^◌, ◌<◌, ◌≤◌, ◌⊎◌, Bool, List, [], ◌∷◌, length, take, slice_get, if◌then◌else◌, Option, IsTrue}
+use Rattle.std.specs.Prelude.{◌≡◌, ◌≢◌, ℕ, ◌+◌, ◌%◌, ◌^◌, ◌<◌, ◌≤◌, ◌⊎◌, Bool, List, [], ◌∷◌, length, take, slice_get, if◌then◌else◌, Option, IsFalse, IsTrue}
 use Rattle.std.specs.Prelude.Option.{Some, None}
 use Rattle.std.specs.Arc.{arc_value}
 use Rattle.std.specs.Option.{is_some}
@@ -7,20 +7,22 @@ use Rattle.evt_types.specs.declared.event.Delivery.{Delivery}
 use Rattle.evt_types.specs.declared.event.Event.{Event}
 use Rattle.evt_types.specs.declared.event.Op.{Op}
 use Rattle.evt_types.specs.declared.event.Op.TheVariants as ops
+use Rattle.evt_types.specs.declared.event.TheConstants.{MAX_EXTRAS}
+use Rattle.evt_types.specs.Operation.{costs_credit}
 use Rattle.credit_pool.specs.declared.account.Account.{Account}
 use Rattle.credit_pool.specs.declared.pool.Credits.{Credits}
 use Rattle.credit_pool.specs.Accounts.{free_of, in_use, IsOpen, IsShut, Stays}
 use Rattle.credit_pool.specs.Pool.{account}
 use Rattle.event_answers.specs.declared.answer.Refused.{Refused}
-use Rattle.event_answers.specs.declared.answer.Refused.TheVariants.{Stopped, BadQueue, NothingHeld, Backpressure, Raced, Full}
+use Rattle.event_answers.specs.declared.answer.Refused.TheVariants.{Stopped, BadQueue, NothingHeld, Backpressure, Raced, Full, TooMany}
 use Rattle.credit_pool.specs.declared.answer.Draw.{Draw}
 use Rattle.credit_pool.specs.declared.answer.Draw.TheVariants as draws
 use Rattle.flow_claims.specs.Seats.{stint_at}
 use Rattle.event_ports.specs.declared.desk.Desk.{Desk}
 use Rattle.event_ports.specs.Flows.{hands_of}
-use Rattle.event_ports.specs.Lanes.{Hand, Rests, SubmitsAll, SubmitsTo, lane_for, reply_of}
-use Rattle.event_ports.specs.Handed.{LanesPlace, lanes_place, seen_own, hand_of, news_of, releases_of, IsFilled}
-use Rattle.event_ports.specs.Draws.{FillsWithin, HasAsked, HasCredits, HasLooked, SameSums, Settles, most_draws}
+use Rattle.event_ports.specs.Lanes.{Hand, Rests, SubmitsAll, SubmitsTo, TakesMore, extras_in, lane_for, reply_of}
+use Rattle.event_ports.specs.Handed.{LanesPlace, lanes_place, seen_own, hand_of, mores_of, news_of, releases_of, IsFilled}
+use Rattle.event_ports.specs.Draws.{FillsWithin, HasAsked, HasCredits, HasDrawn, HasLooked, SameSums, Settles, most_draws}
 
 -- what never changes of it
 pub record Place : Type 0 where
@@ -62,9 +64,12 @@ seen_by p = seen_own p.lanes
 abbrev pub links : Desk → List ℕ
 links p = (place_of p).lanes.flows.links
 
--- how many NEWs and RELEASEs it submitted, over all its lanes
+-- how many NEWs, FORWARD_MOREs and RELEASEs it submitted, over all its lanes
 abbrev pub news_by : Desk → ℕ
 news_by p = news_of p.lanes
+
+abbrev pub mores_by : Desk → ℕ
+mores_by p = mores_of p.lanes
 
 abbrev pub releases_by : Desk → ℕ
 releases_by p = releases_of p.lanes
@@ -91,47 +96,62 @@ AsksPool p answer q = HasAsked (place_of p).quantum (place_of p).threshold (acco
 abbrev pub MaySpend : Desk → ℕ → Desk → Type 0
 MaySpend p credits q = HasCredits (place_of p).quantum (place_of p).threshold (pocket_of p) (account_of p) credits (account_of q)
 
--- what an event that is taken costs: a NEW one credit of the pocket, a FORWARD nothing, and a RELEASE brings one, before the return rule
+-- a FORWARD_MORE asked for a quantum, without a look before, and was answered this
+abbrev pub DrawsPool : Desk → Draw → Desk → Type 0
+DrawsPool p answer q = FillsWithin most_draws (place_of p).quantum (place_of p).threshold (account_of p) answer (account_of q)
+
+-- a FORWARD_MORE had so many credits to spend
+abbrev pub MaySpendMore : Desk → ℕ → Desk → Type 0
+MaySpendMore p credits q = HasDrawn (place_of p).quantum (place_of p).threshold (pocket_of p) (account_of p) credits (account_of q)
+
+-- What an event that is taken costs: a NEW or FORWARD_MORE one credit of the pocket, a FORWARD nothing, and a RELEASE brings one, before
+-- the return rule.
 abbrev pub Pays : Op → Desk → Desk → Type 0
 Pays ops.New p q = Stocks p (pocket_of q + 1) q × MaySpend p (pocket_of q + 1) q
 Pays ops.Forward p q = SameCredits p q × (account_of q ≡ account_of p)
 Pays ops.Release p q = Settles (place_of p).quantum ((pocket_of p + 1) % 2 ^ 64) (account_of p) (pocket_of q) (account_of q)
+Pays ops.ForwardMore p q = Stocks p (pocket_of q + 1) q × MaySpendMore p (pocket_of q + 1) q
 
 -- Why an event was refused, and what becomes of the credits: the port before, the event, the refusal and the port after.
 -- Of the causes that an operation can have the first is answered, so those before it don't hold. What was read of the credits is
--- the seat's account: a NEW reads the word once, and then draws where the pocket is empty; an answer reads nothing.
+-- the seat's account: a NEW reads the word once, and then draws where the pocket is empty; an answer reads nothing. The causes of a
+-- FORWARD_MORE come in this order: its queue, nothing held, too many, those of its draws, which it makes where the pocket is empty
+-- and with no look before, and last the full ring.
 abbrev pub Refuses : Desk → Event → Refused → Desk → Type 0
 Refuses p e Stopped q =
-    (e.op ≡ ops.New) × IsTrue (account_of q).saw_shut × SameCredits p q
-    × ((HasLooked (account_of p) (account_of q) × IsShut (account_of q).last) ⊎ ((e.queue < (place_of p).queues) × (pocket_of p ≡ 0) × AsksPool p draws.Shut q))
+    IsTrue (costs_credit e.op) × IsTrue (account_of q).saw_shut × SameCredits p q
+    × (e.op ≡ ops.New → (HasLooked (account_of p) (account_of q) × IsShut (account_of q).last) ⊎ ((e.queue < (place_of p).queues) × (pocket_of p ≡ 0) × AsksPool p draws.Shut q))
+    × (e.op ≡ ops.ForwardMore → (e.queue < (place_of p).queues) × TakesMore (hand p) × (pocket_of p ≡ 0) × DrawsPool p draws.Shut q)
 Refuses p e BadQueue q =
     (e.op ≢ ops.Release) × ((place_of p).queues ≤ e.queue) × (e.op ≡ ops.New → IsOpen (account_of q).last) × SameCredits p q
     × (e.op ≡ ops.New → HasLooked (account_of p) (account_of q)) × (e.op ≢ ops.New → account_of q ≡ account_of p)
 Refuses p e NothingHeld q =
-    (e.op ≢ ops.New) × (e.op ≡ ops.Forward → e.queue < (place_of p).queues) × ((hand p).holding ≡ []) × SameCredits p q × (account_of q ≡ account_of p)
+    (e.op ≢ ops.New) × (e.op ≢ ops.Release → e.queue < (place_of p).queues) × ((hand p).holding ≡ []) × SameCredits p q × (account_of q ≡ account_of p)
+Refuses p e TooMany q =
+    (e.op ≡ ops.ForwardMore) × (e.queue < (place_of p).queues) × ((hand p).holding ≢ []) × (MAX_EXTRAS ≤ extras_in (hand p)) × SameCredits p q × (account_of q ≡ account_of p)
 Refuses p e (Backpressure free) q =
-    (e.op ≡ ops.New) × (e.queue < (place_of p).queues) × (pocket_of p ≡ 0) × IsOpen (account_of q).last × (free ≡ free_of (account_of q).last)
-    × ((place_of p).threshold < in_use (account_of p).limit (account_of q).last + (place_of p).quantum) × SameCredits p q × AsksPool p (draws.Short free) q
+    IsTrue (costs_credit e.op) × (e.queue < (place_of p).queues) × (pocket_of p ≡ 0) × IsOpen (account_of q).last × (free ≡ free_of (account_of q).last)
+    × ((place_of p).threshold < in_use (account_of p).limit (account_of q).last + (place_of p).quantum) × SameCredits p q
+    × (e.op ≡ ops.New → AsksPool p (draws.Short free) q) × (e.op ≡ ops.ForwardMore → TakesMore (hand p) × DrawsPool p (draws.Short free) q)
 Refuses p e (Raced first second) q =
-    (e.op ≡ ops.New) × (e.queue < (place_of p).queues) × (pocket_of p ≡ 0) × (first ≢ second) × ((account_of q).before ≡ first) × ((account_of q).last ≡ second) × SameCredits p q
-    × AsksPool p (draws.Raced first second) q
+    IsTrue (costs_credit e.op) × (e.queue < (place_of p).queues) × (pocket_of p ≡ 0) × (first ≢ second) × ((account_of q).before ≡ first) × ((account_of q).last ≡ second)
+    × SameCredits p q × (e.op ≡ ops.New → AsksPool p (draws.Raced first second) q) × (e.op ≡ ops.ForwardMore → TakesMore (hand p) × DrawsPool p (draws.Raced first second) q)
 Refuses p e Full q =
-    was_filled q e.op × (e.op ≢ ops.New → (hand p).holding ≢ []) × (e.op ≢ ops.Release → e.queue < (place_of p).queues)
-    × (e.op ≡ ops.New → Stocks p (pocket_of q) q) × (e.op ≢ ops.New → SameCredits p q)
-    × (e.op ≡ ops.New → MaySpend p (pocket_of q) q) × (e.op ≢ ops.New → account_of q ≡ account_of p)
+    was_filled q e.op × (e.op ≢ ops.New → (hand p).holding ≢ []) × (e.op ≢ ops.Release → e.queue < (place_of p).queues) × (e.op ≡ ops.ForwardMore → TakesMore (hand p))
+    × (IsTrue (costs_credit e.op) → Stocks p (pocket_of q) q) × (IsFalse (costs_credit e.op) → SameCredits p q × (account_of q ≡ account_of p))
+    × (e.op ≡ ops.New → MaySpend p (pocket_of q) q) × (e.op ≡ ops.ForwardMore → MaySpendMore p (pocket_of q) q)
 
 -- the pocket was empty, draws of a quantum were answered so, and nothing was drawn
 pub record DrewNone (p : Desk) (answer : Draw) (q : Desk) : Type 0 where
   pub empty : pocket_of p ≡ 0
-  pub asked : FillsWithin most_draws (place_of p).quantum (place_of p).threshold (account_of p) answer (account_of q)
+  pub asked : DrawsPool p answer q
   pub same : SameCredits p q
 
 -- the credits of the pocket, or where that was empty a quantum that was drawn
-pub record HasStocked (p q : Desk) : Type 0 where
-  pub of_pocket : pocket_of p ≢ 0 → (pocket_of q ≡ pocket_of p) × (account_of q ≡ account_of p)
-  pub of_pool : pocket_of p ≡ 0 → (pocket_of q ≡ (place_of p).quantum) × FillsWithin most_draws (place_of p).quantum (place_of p).threshold (account_of p) draws.Drawn (account_of q)
+abbrev pub HasStocked : Desk → Desk → Type 0
+HasStocked p q = MaySpendMore p (pocket_of q) q
 
--- why there is no credit for a NEW that found the word open: the pocket is empty, and this is what the draws answered
+-- why there is no credit for an event that costs one: the pocket is empty, and this is what the draws answered
 abbrev pub HasNoCredit : Desk → Refused → Desk → Type 0
 HasNoCredit p Stopped q = IsTrue (account_of q).saw_shut × DrewNone p draws.Shut q
 HasNoCredit p BadQueue q = ⊥
@@ -142,6 +162,7 @@ HasNoCredit p (Backpressure free) q =
 HasNoCredit p (Raced first second) q =
     (first ≢ second) × ((account_of q).before ≡ first) × ((account_of q).last ≡ second) × DrewNone p (draws.Raced first second) q
 HasNoCredit p Full q = ⊥
+HasNoCredit p TooMany q = ⊥
 
 -- the port has a stint of the flow lane open
 abbrev pub holds_flow : Desk → ℕ → Bool

@@ -56,6 +56,11 @@ pub record HasCredits (quantum ceiling pocket : ℕ) (v : Account) (credits : �
   pub of_pocket : pocket ≢ 0 → (credits ≡ pocket) × (after ≡ seen)
   pub of_pool : pocket ≡ 0 → (credits ≡ quantum) × FillsWithin most_draws quantum ceiling seen Drawn after
 
+-- There are credits, with no look before: those of the pocket, and nothing was read, or where that was empty a quantum that was drawn.
+pub record HasDrawn (quantum ceiling pocket : ℕ) (v : Account) (credits : ℕ) (after : Account) : Type 0 where
+  pub of_pocket : pocket ≢ 0 → (credits ≡ pocket) × (after ≡ v)
+  pub of_pool : pocket ≡ 0 → (credits ≡ quantum) × FillsWithin most_draws quantum ceiling v Drawn after
+
 -- what a return of all but a quantum leaves in the pocket
 abbrev pub left_after : Give → ℕ → ℕ → ℕ
 left_after gives.Given quantum came = quantum

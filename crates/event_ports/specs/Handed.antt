@@ -1,7 +1,7 @@
 -- What a clause sees of a port's lanes.
 use Rattle.std.specs.Prelude.{◌≡◌, ◌≢◌, ◌+◌, ◌<◌, ℕ, true, List, [], length, Option}
 use Rattle.lists.specs.Lists.{has}
-use Rattle.evt_types.specs.Operation.{is_new_reply, is_release_reply}
+use Rattle.evt_types.specs.Operation.{is_more_reply, is_new_reply, is_release_reply}
 use Rattle.evt_types.specs.declared.event.Delivery.{Delivery}
 use Rattle.evt_types.specs.declared.event.Reply.{Reply}
 use Rattle.seat_sums.specs.Sums.{count}
@@ -54,9 +54,12 @@ abbrev pub IsReadable : LanesPlace → Lane → Type 0
 IsReadable p Own = Unit {0}
 IsReadable p (Flow j) = (j < flow_count p) × (has j p.flows.links ≡ true)
 
--- how many NEWs and RELEASEs were submitted, over all lanes
+-- how many NEWs, FORWARD_MOREs and RELEASEs were submitted, over all lanes
 abbrev pub news_of : Lanes → ℕ
 news_of a = counted is_new_reply (flow_count (lanes_place a)) (hand_of a).said
+
+abbrev pub mores_of : Lanes → ℕ
+mores_of a = counted is_more_reply (flow_count (lanes_place a)) (hand_of a).said
 
 abbrev pub releases_of : Lanes → ℕ
 releases_of a = counted is_release_reply (flow_count (lanes_place a)) (hand_of a).said
@@ -64,10 +67,12 @@ releases_of a = counted is_release_reply (flow_count (lanes_place a)) (hand_of a
 -- one reply more was submitted, or none
 pub record CountsOne (r : Reply) (a b : Lanes) : Type 0 where
   pub news : news_of b ≡ news_of a + count (is_new_reply r)
+  pub mores : mores_of b ≡ mores_of a + count (is_more_reply r)
   pub releases : releases_of b ≡ releases_of a + count (is_release_reply r)
 
 pub record CountsNone (a b : Lanes) : Type 0 where
   pub news : news_of b ≡ news_of a
+  pub mores : mores_of b ≡ mores_of a
   pub releases : releases_of b ≡ releases_of a
 
 -- as many replies were given to the lane as its reply ring has room for

@@ -3,6 +3,7 @@ use Rattle.std.specs.Prelude.{◌≡◌, ◌≢◌, ℕ, ◌<◌, ◌≤◌, ◌
 use Rattle.std.specs.Prelude.Option.{Some, None}
 use Rattle.std.specs.Option.{ForNone, ForSome, is_some}
 use Rattle.lists.specs.Lists.{has}
+use Rattle.evt_types.specs.Additions.{extras_of, more_after}
 use Rattle.evt_types.specs.Operation.{is_new_reply}
 use Rattle.evt_types.specs.declared.event.Delivery.{Delivery}
 use Rattle.evt_types.specs.declared.event.Reply.{Reply}
@@ -84,6 +85,11 @@ abbrev pub held_now : Option Stint → List Delivery
 held_now None = []
 held_now (Some stint) = unanswered stint.far
 
+-- how many events were added beside the oldest that is unanswered of it: by the lane's end, so with all that was given before the stint
+abbrev pub extras_now : Option Stint → ℕ
+extras_now None = 0
+extras_now (Some stint) = extras_of (answered stint.far)
+
 -- what was answered in it and is not in the ring yet
 abbrev pub hidden_in : Option Stint → List Reply
 hidden_in None = []
@@ -110,6 +116,13 @@ answered_on h lane = answered_past lane h.view.finished ++ answered_now h.view (
 
 abbrev pub held_on : Hands → ℕ → List Delivery
 held_on h lane = held_now (stint_in h lane)
+
+abbrev pub extras_on : Hands → ℕ → ℕ
+extras_on h lane = extras_now (stint_in h lane)
+
+-- What was added beside held events the port added: a stint begins with nothing unanswered, and so with nothing that was added.
+pub record AddedAll (h : Hands) : Type 0 where
+  pub each : (lane : ℕ) → extras_on h lane ≡ extras_of (answered_on h lane)
 
 -- what was left unanswered of the lane, and what is held of it
 abbrev pub left_on : Hands → ℕ → List Delivery
@@ -145,6 +158,7 @@ pub record Same (h k : Hands) : Type 0 where
   pub received : (lane : ℕ) → received_on k lane ≡ received_on h lane
   pub answered_is : (lane : ℕ) → answered_on k lane ≡ answered_on h lane
   pub held : (lane : ℕ) → held_on k lane ≡ held_on h lane
+  pub extras : (lane : ℕ) → extras_on k lane ≡ extras_on h lane
   pub given_back : NoneSurrendered h k
 
 -- What was answered was made visible, and no more.
@@ -165,6 +179,7 @@ pub record SameBut (lane : ℕ) (h k : Hands) : Type 0 where
   pub received : (j : ℕ) → j ≢ lane → received_on k j ≡ received_on h j
   pub answered_is : (j : ℕ) → j ≢ lane → answered_on k j ≡ answered_on h j
   pub held : (j : ℕ) → j ≢ lane → held_on k j ≡ held_on h j
+  pub extras : (j : ℕ) → j ≢ lane → extras_on k j ≡ extras_on h j
 
 -- deliveries came from the lane
 pub record Gets (lane : ℕ) (ds : List Delivery) (h k : Hands) : Type 0 where
@@ -172,6 +187,7 @@ pub record Gets (lane : ℕ) (ds : List Delivery) (h k : Hands) : Type 0 where
   pub received : received_on k lane ≡ received_on h lane ++ ds
   pub answered_is : answered_on k lane ≡ answered_on h lane
   pub held : held_on k lane ≡ held_on h lane ++ ds
+  pub extras : extras_on k lane ≡ extras_on h lane
   pub given_back : NoneSurrendered h k
 
 -- and stand behind what was in the array
@@ -186,6 +202,7 @@ pub record Says (lane : ℕ) (r : Reply) (h k : Hands) : Type 0 where
   pub received : received_on k lane ≡ received_on h lane
   pub answered_is : answered_on k lane ≡ answered_on h lane ++ r ∷ []
   pub held : held_on k lane ≡ drop (answers_among (r ∷ [])) (held_on h lane)
+  pub extras : extras_on k lane ≡ more_after (extras_on h lane) r
   pub given_back : NoneSurrendered h k
 
 -- What a seat that holds no lane has of the lanes is what the port had; the lanes that it held were surrendered, and what it held of them is left.

@@ -1,18 +1,20 @@
 -- What a port received, answered and holds: lane by lane, and in the order in which it dequeued.
-use Rattle.std.specs.Prelude.{◌≡◌, ◌≢◌, ℕ, ◌+◌, ◌≤◌, ◌==◌, Bool, true, false, List, [], ◌∷◌, ◌++◌, length, map, filter, take, drop, Option, All, count_by, sum_by}
+use Rattle.std.specs.Prelude.{◌≡◌, ◌≢◌, ℕ, ◌+◌, ◌<◌, ◌≤◌, ◌==◌, Bool, true, false, List, [], ◌∷◌, ◌++◌, length, map, filter, take, drop, Option, All, count_by, sum_by}
 use Rattle.std.specs.Prelude.Option.{Some, None}
 use Rattle.std.specs.List.{range_with_len}
 use Rattle.lists.specs.Lists.{has}
+use Rattle.evt_types.specs.Additions.{extras_of}
 use Rattle.evt_types.specs.Event.{pair_of, release_event}
 use Rattle.evt_types.specs.declared.event.Delivery.{Delivery}
 use Rattle.evt_types.specs.declared.event.Event.{Event}
 use Rattle.evt_types.specs.declared.event.Op.{Op}
 use Rattle.evt_types.specs.declared.event.Op.TheVariants as ops
 use Rattle.evt_types.specs.declared.event.Reply.{Reply}
+use Rattle.evt_types.specs.declared.event.TheConstants.{MAX_EXTRAS}
 use Rattle.lane_rings.specs.Ends.{received_by, answered, answers_among, unanswered}
 use Rattle.lane_rings.specs.Identity.{far_id}
 use Rattle.lane_rings.specs.declared.far.AnswerFault.{AnswerFault}
-use Rattle.lane_rings.specs.declared.far.AnswerFault.TheVariants.{NothingHeld, Full}
+use Rattle.lane_rings.specs.declared.far.AnswerFault.TheVariants.{NothingHeld, Full, TooMany}
 use Rattle.lane_rings.specs.declared.far.Far.{Far}
 use Rattle.flow_claims.specs.declared.seating.Past.{Past}
 use Rattle.event_ports.specs.declared.lane.Lane.{Lane}
@@ -76,13 +78,27 @@ pub record Hand : Type 0 where
   pub got : Lane → List Delivery
   pub holding : List Holding
 
+-- how many events were added to the lane since the last answer to it
+abbrev pub extras_to : Option Lane → Hand → ℕ
+extras_to None h = 0
+extras_to (Some l) h = extras_of (h.said l)
+
+-- How many events were added beside the oldest that is held: those that the port added to its lane since its last answer there. What
+-- other ports added to a flow lane before doesn't count: each answered all that it held of the lane before it gave that back.
+abbrev pub extras_in : Hand → ℕ
+extras_in h = extras_to (first_lane h.holding) h
+
+-- something is held, and beside the oldest one event more may be added
+abbrev pub TakesMore : Hand → Type 0
+TakesMore h = (h.holding ≢ []) × (extras_in h < MAX_EXTRAS)
+
 -- nothing was submitted or received
 pub record Rests (h k : Hand) : Type 0 where
   pub said : (l : Lane) → k.said l ≡ h.said l
   pub got : (l : Lane) → k.got l ≡ h.got l
   pub holding : k.holding ≡ h.holding
 
--- the reply was submitted to the lane; an answer is to the oldest that is held
+-- the reply was submitted to the lane; an answer is to the oldest that is held, and nothing else ends what is held
 pub record Submits (lane : Lane) (r : Reply) (h k : Hand) : Type 0 where
   pub said_here : k.said lane ≡ h.said lane ++ r ∷ []
   pub said : (l : Lane) → l ≢ lane → k.said l ≡ h.said l
@@ -93,11 +109,13 @@ abbrev pub SubmitsTo : Option Lane → Reply → Hand → Hand → Type 0
 SubmitsTo None r h k = ⊥
 SubmitsTo (Some l) r h k = Submits l r h k
 
--- the lane to which a reply goes: a NEW to the port's own, an answer to that from which the answered event came
+-- the lane to which a reply goes: a NEW to the port's own, an answer to that from which the answered event came, and so what is added
+-- beside that
 abbrev pub lane_for : Op → List Holding → Option Lane
 lane_for ops.New xs = Some Own
 lane_for ops.Forward xs = first_lane xs
 lane_for ops.Release xs = first_lane xs
+lane_for ops.ForwardMore xs = first_lane xs
 
 -- these were submitted, one after the other
 abbrev pub SubmitsAll : List Event → Hand → Hand → Type 0
@@ -201,4 +219,5 @@ IsFilledAt own h (Some (Flow j)) = IsFilledBy (stint_in h j)
 -- why an answer is refused: nothing is held, or the ring of the oldest's lane is full
 abbrev pub RefusesFirst : Far → Hands → List Holding → Reply → AnswerFault → Type 0
 RefusesFirst own h xs r NothingHeld = xs ≡ []
+RefusesFirst own h xs r TooMany = ⊥
 RefusesFirst own h xs r (Full back) = (back ≡ r) × (xs ≢ []) × IsFilledAt own h (first_lane xs)

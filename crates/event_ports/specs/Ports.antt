@@ -31,9 +31,12 @@ seen_by p = desks.seen_by p.desk
 abbrev pub links : Port → List ℕ
 links p = desks.links p.desk
 
--- how many NEWs and RELEASEs it submitted, over all its lanes
+-- how many NEWs, FORWARD_MOREs and RELEASEs it submitted, over all its lanes
 abbrev pub news_by : Port → ℕ
 news_by p = desks.news_by p.desk
+
+abbrev pub mores_by : Port → ℕ
+mores_by p = desks.mores_by p.desk
 
 abbrev pub releases_by : Port → ℕ
 releases_by p = desks.releases_by p.desk
@@ -46,7 +49,8 @@ was_filled p o = desks.was_filled p.desk o
 abbrev pub SameCredits : Port → Port → Type 0
 SameCredits p q = desks.SameCredits p.desk q.desk
 
--- what an event that is taken costs: a NEW one credit of the pocket, a FORWARD nothing, and a RELEASE brings one, before the return rule
+-- What an event that is taken costs: a NEW or FORWARD_MORE one credit of the pocket, a FORWARD nothing, and a RELEASE brings one, before
+-- the return rule.
 abbrev pub Pays : Op → Port → Port → Type 0
 Pays o p q = desks.Pays o p.desk q.desk
 

@@ -15,7 +15,7 @@ use Rattle.event_ports.specs.declared.port.Port.{Port}
 use Rattle.event_ports.specs.Holds.{answered_past, left_past, AreLinked}
 use Rattle.event_ports.specs.Handed.{flow_count}
 use Rattle.event_ports.specs.Lanes.{AreOf, IsEndOf, pair_in, held_of}
-use Rattle.event_ports.specs.Ports.{place_of, account_of, pocket_of, hand, links, news_by, releases_by}
+use Rattle.event_ports.specs.Ports.{place_of, account_of, pocket_of, hand, links, mores_by, news_by, releases_by}
 use Rattle.event_ports.specs.declared.rest.Rest.{Rest}
 use Rattle.event_ports.specs.declared.lane.Lane.TheVariants.{Own, Flow}
 use Rattle.credit_pool.specs.declared.pool.Credits.{Credits}
@@ -87,9 +87,9 @@ pub record IsPortOf (pool : Credits) (claims : Claims) (p : Port) : Type 0 where
   pub pool_is : (place_of p).pool ≡ pool
   pub claims_are : (place_of p).lanes.flows.claims ≡ claims
 
--- what the port drew and what it released paid for what it returned and its NEWs, and the rest is in its pocket
+-- what the port drew and what it released paid for what it returned, its NEWs and its FORWARD_MOREs, and the rest is in its pocket
 abbrev pub IsPaid : Port → Type 0
-IsPaid p = IsPocket (pocket_of p) ((account_of p).drawn + releases_by p) ((account_of p).returned + news_by p)
+IsPaid p = IsPocket (pocket_of p) ((account_of p).drawn + releases_by p) ((account_of p).returned + news_by p + mores_by p)
 
 -- all that the port holds is of its own lane or of a flow lane that is there
 abbrev pub IsCounted : Port → Type 0

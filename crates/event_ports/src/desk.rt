@@ -4,14 +4,14 @@
 ghost use Rattle.std.specs.Prelude.{◌≡◌, ◌+◌, ◌<◌, ◌≤◌, false};
 ghost use Rattle.std.specs.Arc.{arc_value};
 ghost use Rattle.credit_pool.specs.Pool.{account, limit_of, IsSeatOf};
-ghost use Rattle.event_ports.specs.Handed.{lanes_place, news_of, releases_of};
+ghost use Rattle.event_ports.specs.Handed.{lanes_place, mores_of, news_of, releases_of};
 ghost use Rattle.credit_pool.specs.Pockets.{IsPocket};
 
 use crate::fill::fill;
 use crate::lanes::Lanes;
 use credit_pool::{CreditSeat, Credits, Draw, Give};
 use event_answers::Refused;
-use evt_types::{Event, Op, Reply};
+use evt_types::{Event, MAX_EXTRAS, Op, Reply};
 use lane_rings::AnswerFault;
 use std::alloc::Global;
 use std::sync::Arc;
@@ -32,16 +32,16 @@ pub(crate) struct Desk {
     ghost unset: { (account seat).set_shut ≡ false },
     ghost quantum_fits: { (0 < quantum) × (quantum ≤ threshold) × (threshold ≤ limit_of (arc_value pool)) },
     ghost numbered: { (lanes_place lanes).flows.port ≡ number },
-    ghost paid: { IsPocket pocket ((account seat).drawn + releases_of lanes) ((account seat).returned + news_of lanes) },
+    ghost paid: { IsPocket pocket ((account seat).drawn + releases_of lanes) ((account seat).returned + news_of lanes + mores_of lanes) },
 }
 
 impl Desk {
-    ghost use Rattle.std.specs.Prelude.{◌≡◌, ◌≢◌, ◌+◌, ◌%◌, ◌^◌, ◌<◌, ◌≤◌, ◌↔◌, IsTrue, IsFalse, IfErr, OnOk, MatchResult};
+    ghost use Rattle.std.specs.Prelude.{◌≡◌, ◌≢◌, ◌+◌, ◌%◌, ◌^◌, ◌<◌, ◌≤◌, ◌↔◌, true, IsTrue, IsFalse, IfErr, OnOk, MatchResult};
+    ghost use Rattle.evt_types.specs.Operation.{costs_credit};
     ghost use Rattle.evt_types.specs.declared.event.Op.TheVariants as ops;
     ghost use Rattle.credit_pool.specs.Accounts.{IsOpen, IsShut, Stays};
     ghost use Rattle.event_answers.specs.declared.answer.Refused.TheVariants as refusals;
-    ghost use Rattle.event_ports.specs.Lanes.{Rests, Submits, SubmitsTo, lane_for, reply_of};
-    ghost use Rattle.event_ports.specs.declared.lane.Lane.TheVariants as lanes;
+    ghost use Rattle.event_ports.specs.Lanes.{Rests, SubmitsTo, TakesMore, lane_for, reply_of};
     ghost use Rattle.event_ports.specs.Draws.{HasLooked, Settles};
     ghost use Rattle.event_ports.specs.Handed.{AllShown};
     ghost use Rattle.event_ports.specs.Desks.{place_of, account_of, pocket_of, hand, was_filled, SameCredits, HasStocked, HasNoCredit, IsFlushed, Pays, Refuses};
@@ -73,6 +73,7 @@ impl Desk {
             Op::New => self.enqueue_new(event),
             Op::Forward => self.enqueue_forward(event),
             Op::Release => self.enqueue_release(event),
+            Op::ForwardMore => self.enqueue_more(event),
         }
     }
 
@@ -88,7 +89,7 @@ impl Desk {
         requires { event.op ≡ ops.New }
         ensures place { place_of self.new ≡ place_of self.old }
         ensures credit { Stays (account_of self.old) (account_of self.new) }
-        ensures submitted { MatchResult result (λ _. Submits lanes.Own (reply_of event) (hand self.old) (hand self.new)) (λ _. Rests (hand self.old) (hand self.new)) }
+        ensures submitted { MatchResult result (λ _. SubmitsTo (lane_for event.op (hand self.old).holding) (reply_of event) (hand self.old) (hand self.new)) (λ _. Rests (hand self.old) (hand self.new)) }
         ensures pays { OnOk result (Pays event.op self.old self.new) }
         ensures refused { IfErr result (λ e. Refuses self.old event e self.new) }
         ensures stopped { IsTrue (account_of self.old).saw_shut → result ≡ Err refusals.Stopped }
@@ -127,13 +128,14 @@ impl Desk {
         }
     }
 
-    // Submits a NEW for a credit of the pocket.
+    // Submits a NEW or FORWARD_MORE for a credit of the pocket.
     fn spend(&mut self, event: Event) -> Result<(), Refused>
-        requires new { event.op ≡ ops.New }
+        requires costs { costs_credit event.op ≡ true }
+        requires takes { event.op ≡ ops.ForwardMore → TakesMore (hand self.old) }
         requires pocket { 0 < pocket_of self.old }
         ensures place { place_of self.new ≡ place_of self.old }
         ensures credit { account_of self.new ≡ account_of self.old }
-        ensures submitted { MatchResult result (λ _. Submits lanes.Own (reply_of event) (hand self.old) (hand self.new)) (λ _. Rests (hand self.old) (hand self.new)) }
+        ensures submitted { MatchResult result (λ _. SubmitsTo (lane_for event.op (hand self.old).holding) (reply_of event) (hand self.old) (hand self.new)) (λ _. Rests (hand self.old) (hand self.new)) }
         ensures pays { OnOk result (pocket_of self.new + 1 ≡ pocket_of self.old) }
         ensures refused { IfErr result (λ e. (e ≡ refusals.Full) × was_filled self.new event.op × (pocket_of self.new ≡ pocket_of self.old)) }
     {
@@ -160,6 +162,7 @@ impl Desk {
         match self.lanes.answer(Reply { event }) {
             Ok(()) => Ok(()),
             Err(AnswerFault::NothingHeld) => Err(Refused::NothingHeld),
+            Err(AnswerFault::TooMany) => Err(Refused::TooMany),
             Err(AnswerFault::Full(_)) => Err(Refused::Full),
         }
     }
@@ -179,7 +182,32 @@ impl Desk {
                 Ok(())
             }
             Err(AnswerFault::NothingHeld) => Err(Refused::NothingHeld),
+            Err(AnswerFault::TooMany) => Err(Refused::TooMany),
             Err(AnswerFault::Full(_)) => Err(Refused::Full),
+        }
+    }
+
+    // The credit is there before the event is submitted, and is drawn only where the event may be added.
+    fn enqueue_more(&mut self, event: Event) -> Result<(), Refused>
+        requires { event.op ≡ ops.ForwardMore }
+        ensures place { place_of self.new ≡ place_of self.old }
+        ensures credit { Stays (account_of self.old) (account_of self.new) }
+        ensures submitted { MatchResult result (λ _. SubmitsTo (lane_for event.op (hand self.old).holding) (reply_of event) (hand self.old) (hand self.new)) (λ _. Rests (hand self.old) (hand self.new)) }
+        ensures pays { OnOk result (Pays event.op self.old self.new) }
+        ensures refused { IfErr result (λ e. Refuses self.old event e self.new) }
+    {
+        if usize::from(event.queue) >= self.queues {
+            return Err(Refused::BadQueue);
+        }
+        let Some(extras) = self.lanes.extras() else {
+            return Err(Refused::NothingHeld);
+        };
+        if extras >= MAX_EXTRAS {
+            return Err(Refused::TooMany);
+        }
+        match self.stock() {
+            Ok(()) => self.spend(event),
+            Err(refused) => Err(refused),
         }
     }
 

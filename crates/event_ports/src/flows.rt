@@ -27,10 +27,11 @@ impl FlowLanes {
     ghost use Rattle.std.specs.Prelude.{◌≡◌, ◌≢◌, ℕ, ◌<◌, ◌≤◌, [], ◌++◌, true, false, length, slice_get, replicate, All, IfOk, IfErr, MatchOption, MatchResult};
     ghost use Rattle.std.specs.Option.{is_some};
     ghost use Rattle.lists.specs.Lists.{has};
-    ghost use Rattle.evt_types.specs.Operation.{is_answer};
+    ghost use Rattle.evt_types.specs.Operation.{is_more_reply};
+    ghost use Rattle.evt_types.specs.declared.event.TheConstants.{MAX_EXTRAS};
     ghost use Rattle.flow_claims.specs.Claims.{seating, port_of, lanes_of, IsSeatOf};
     ghost use Rattle.flow_claims.specs.Seats.{HoldsNone};
-    ghost use Rattle.event_ports.specs.Holds.{IsFilledBy, AreLinked, Brings, Flushed, NoneHidden, Same, Kept, Says, Ends, AreEmpty, hidden_in, stint_in, held_on};
+    ghost use Rattle.event_ports.specs.Holds.{IsFilledBy, AreLinked, Brings, Flushed, NoneHidden, Same, Kept, Says, Ends, AreEmpty, extras_on, hidden_in, stint_in, held_on};
     ghost use Rattle.event_ports.specs.Flows.{hands_of, flow_place, touched_of};
 
     /// The flow lanes of a port whose seat has no stint, with a place for each.
@@ -116,11 +117,22 @@ impl FlowLanes {
         stint.receive_some(most, into);
     }
 
-    /// Answers the oldest delivery that is held of the lane. The scheduler sees it after the next `flush`.
+    /// How many events were added beside the oldest delivery that is held of the lane; 0 where the lane isn't held.
+    pub(crate) fn extras(&self, lane: usize) -> usize
+        requires { lane < length (lanes_of (flow_place self.now).claims) }
+        ensures { result ≡ extras_on (hands_of self.now) lane }
+    {
+        match &self.stints[lane] {
+            Some(stint) => stint.extras(),
+            None => 0,
+        }
+    }
+
+    /// Answers the oldest delivery that is held of the lane, or adds an event beside it. The scheduler sees it after the next `flush`.
     pub(crate) fn answer(&mut self, lane: usize, reply: Reply) -> Result<(), AnswerFault>
         requires exists { lane < length (lanes_of (flow_place self.old).claims) }
-        requires answer { is_answer reply ≡ true }
         requires held { held_on (hands_of self.old) lane ≢ [] }
+        requires few { is_more_reply reply ≡ true → extras_on (hands_of self.old) lane < MAX_EXTRAS }
         ensures place { flow_place self.new ≡ flow_place self.old }
         ensures lists { MatchResult result (λ _. Says lane reply (hands_of self.old) (hands_of self.new)) (λ _. Same (hands_of self.old) (hands_of self.new)) }
         ensures places { (j : ℕ) → is_some (stint_in (hands_of self.new) j) ≡ is_some (stint_in (hands_of self.old) j) }
@@ -174,8 +186,8 @@ impl FlowLanes {
     fn answer_at(&mut self, lane: usize, reply: Reply) -> Result<(), AnswerFault>
         requires touched { touched_of self.old ≡ Some lane }
         requires exists { lane < length (lanes_of (flow_place self.old).claims) }
-        requires answer { is_answer reply ≡ true }
         requires held { held_on (hands_of self.old) lane ≢ [] }
+        requires few { is_more_reply reply ≡ true → extras_on (hands_of self.old) lane < MAX_EXTRAS }
         ensures place { flow_place self.new ≡ flow_place self.old }
         ensures lists { MatchResult result (λ _. Says lane reply (hands_of self.old) (hands_of self.new)) (λ _. Same (hands_of self.old) (hands_of self.new)) }
         ensures places { (j : ℕ) → is_some (stint_in (hands_of self.new) j) ≡ is_some (stint_in (hands_of self.old) j) }

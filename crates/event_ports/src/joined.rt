@@ -11,7 +11,7 @@ ghost use Rattle.flow_claims.specs.Seats.{HoldsNone};
 ghost use Rattle.event_ports.specs.declared.lane.Lane.TheVariants as lanes;
 ghost use Rattle.credit_pool.specs.Pockets.{IsPocket};
 ghost use Rattle.event_ports.specs.Lanes.{held_of, pair_in};
-ghost use Rattle.event_ports.specs.Ports.{place_of, account_of, pocket_of, hand, news_by, releases_by};
+ghost use Rattle.event_ports.specs.Ports.{place_of, account_of, pocket_of, hand, mores_by, news_by, releases_by};
 ghost use Rattle.event_ports.specs.Stop.{Joins, IsPortOf, IsPaid, IsCounted, IsJoined, AreLeft};
 
 use crate::port::Port;
@@ -40,7 +40,7 @@ pub fn join_port(
     ensures within { length (hand port).holding ≤ (place_of port).lanes.depth }
     ensures counted { IsCounted port }
     ensures ordered { map pair_in (held_of lanes.Own (hand port).holding) ≡ held_list result.2.own }
-    ensures paid { (result.2.pocket ≡ pocket_of port) × IsPocket result.2.pocket ((account_of port).drawn + releases_by port) ((account_of port).returned + news_by port) }
+    ensures paid { (result.2.pocket ≡ pocket_of port) × IsPocket result.2.pocket ((account_of port).drawn + releases_by port) ((account_of port).returned + news_by port + mores_by port) }
 {
     let number = port.number();
     let _ = port.held();

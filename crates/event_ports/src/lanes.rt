@@ -3,7 +3,7 @@
 ghost use Rattle.std.specs.Prelude.{◌≡◌, ◌≤◌, ◌+◌, ℕ, [], ◌++◌, false, drop, length, map};
 ghost use Rattle.std.specs.Option.{is_some};
 ghost use Rattle.lane_rings.specs.Identity.{far_id};
-ghost use Rattle.event_ports.specs.Holds.{HaveNoNew, GaveBack, held_on, stint_in};
+ghost use Rattle.event_ports.specs.Holds.{AddedAll, HaveNoNew, GaveBack, held_on, stint_in};
 ghost use Rattle.event_ports.specs.Lanes.{AreOrdered, holding_of};
 ghost use Rattle.event_ports.specs.Flows.{hands_of};
 
@@ -11,7 +11,7 @@ use crate::flows::FlowLanes;
 use crate::lane::{Holding, Lane};
 use arrayvec::ArrayVec;
 use circular_buffer::HeapCircularBuffer;
-use evt_types::{Delivery, Reply};
+use evt_types::{Delivery, Op, Reply};
 use flow_claims::ClaimSeat;
 use lane_rings::{AnswerFault, Far};
 
@@ -26,14 +26,18 @@ pub(crate) struct Lanes {
     ghost ordered: { AreOrdered own (hands_of flows) order.items },
     ghost gave_back: { GaveBack (hands_of flows) },
     ghost no_new: { HaveNoNew (hands_of flows) },
+    ghost added: { AddedAll (hands_of flows) },
     ghost idle: { (j : ℕ) → held_on (hands_of flows) j ≡ [] → is_some (stint_in (hands_of flows) j) ≡ false },
 }
 
 impl Lanes {
-    ghost use Rattle.std.specs.Prelude.{◌≡◌, ℕ, ◌<◌, ◌≤◌, [], ◌∷◌, true, length, map, count_by, Some, IfErr, MatchResult};
-    ghost use Rattle.evt_types.specs.Operation.{is_answer, is_new_reply};
-    ghost use Rattle.event_ports.specs.Lanes.{Rests, Submits, SubmitsTo, Arrives, ArrivesFrom, HasRoomFor, IsEmptyHand, IsEndOf, AreOf, first_lane, lane_for, held_of, holding_of, pair_in};
-    ghost use Rattle.event_ports.specs.Handed.{IsReadable, lanes_place, flow_count, links_of, seen_own, hand_of, news_of, releases_of, CountsOne, CountsNone, IsFilled, RefusesOldest, AllShown, OwnFirst};
+    ghost use Rattle.std.specs.Prelude.{◌≡◌, ◌≢◌, ℕ, ◌<◌, ◌≤◌, [], ◌∷◌, true, length, map, count_by, Some, IfErr, MatchOption, MatchResult};
+    ghost use Rattle.evt_types.specs.Additions.{extras_of};
+    ghost use Rattle.evt_types.specs.Operation.{costs_credit, is_answer, is_more_reply, is_new_reply};
+    ghost use Rattle.evt_types.specs.declared.event.Op.TheVariants as ops;
+    ghost use Rattle.evt_types.specs.declared.event.TheConstants.{MAX_EXTRAS};
+    ghost use Rattle.event_ports.specs.Lanes.{Rests, Submits, SubmitsTo, Arrives, ArrivesFrom, HasRoomFor, IsEmptyHand, IsEndOf, AreOf, TakesMore, extras_in, first_lane, lane_for, held_of, holding_of, pair_in};
+    ghost use Rattle.event_ports.specs.Handed.{IsReadable, lanes_place, flow_count, links_of, seen_own, hand_of, mores_of, news_of, releases_of, CountsOne, CountsNone, IsFilled, RefusesOldest, AllShown, OwnFirst};
     ghost use Rattle.lane_rings.specs.Ends.{received_by, answered, hidden_answers, held_list};
     ghost use Rattle.evt_types.specs.declared.event.Op.{Op};
     ghost use Rattle.flow_claims.specs.Claims.{seating, port_of, IsSeatOf};
@@ -50,7 +54,7 @@ impl Lanes {
         requires order { (order.items ≡ []) × (order.capacity ≡ (far_id own).depth) × (order.capacity ≤ 64) }
         ensures place { lanes_place result ≡ record { own = far_id own; flows = flow_place flows; depth = order.capacity } }
         ensures empty { IsEmptyHand (hand_of result) }
-        ensures none { (news_of result ≡ 0) × (releases_of result ≡ 0) }
+        ensures none { (news_of result ≡ 0) × (mores_of result ≡ 0) × (releases_of result ≡ 0) }
         ensures shown { AllShown result }
     {
         Lanes { own, flows, order }
@@ -64,8 +68,41 @@ impl Lanes {
         self.order.len()
     }
 
-    /// Submits a NEW to the port's own lane. The scheduler sees it after the next `flush`.
+    // The lane from which the oldest delivery that is held came.
+    fn first(&self) -> Option<Lane>
+        ensures { result ≡ first_lane (hand_of self.now).holding }
+    {
+        let oldest = self.order.front()?;
+        Some(oldest.lane)
+    }
+
+    /// How many events were added beside the oldest delivery that is held; `None` where nothing is held.
+    pub(crate) fn extras(&self) -> Option<usize>
+        ensures { MatchOption result ((hand_of self.now).holding ≡ []) (λ n. ((hand_of self.now).holding ≢ []) × (n ≡ extras_in (hand_of self.now))) }
+    {
+        match self.first()? {
+            Lane::Own => Some(self.own.extras()),
+            Lane::Flow(lane) => Some(self.flows.extras(lane)),
+        }
+    }
+
+    /// Submits what costs a credit: a NEW to the port's own lane, and an event that is added beside the oldest delivery that is held to
+    /// the lane from which that came. The scheduler sees it after the next `flush`.
     pub(crate) fn submit(&mut self, reply: Reply) -> Result<(), AnswerFault>
+        requires costs { costs_credit reply.event.op ≡ true }
+        requires takes { reply.event.op ≡ ops.ForwardMore → TakesMore (hand_of self.old) }
+        ensures place { lanes_place self.new ≡ lanes_place self.old }
+        ensures submitted { MatchResult result (λ _. SubmitsTo (lane_for reply.event.op (hand_of self.old).holding) reply (hand_of self.old) (hand_of self.new)) (λ _. Rests (hand_of self.old) (hand_of self.new)) }
+        ensures counts { MatchResult result (λ _. CountsOne reply self.old self.new) (λ _. CountsNone self.old self.new) }
+        ensures refused { IfErr result (λ e. (e ≡ AnswerFault.Full reply) × IsFilled self.new (lane_for reply.event.op (hand_of self.new).holding)) }
+    {
+        match reply.event.op {
+            Op::New => self.submit_new(reply),
+            _ => self.add(reply),
+        }
+    }
+
+    fn submit_new(&mut self, reply: Reply) -> Result<(), AnswerFault>
         requires { is_new_reply reply ≡ true }
         ensures place { lanes_place self.new ≡ lanes_place self.old }
         ensures submitted { MatchResult result (λ _. Submits lanes.Own reply (hand_of self.old) (hand_of self.new)) (λ _. Rests (hand_of self.old) (hand_of self.new)) }
@@ -73,6 +110,48 @@ impl Lanes {
         ensures refused { IfErr result (λ e. (e ≡ AnswerFault.Full reply) × IsFilled self.new (Some lanes.Own)) }
     {
         self.own.stage(reply)
+    }
+
+    // Adds an event beside the oldest delivery that is held.
+    fn add(&mut self, reply: Reply) -> Result<(), AnswerFault>
+        requires more { is_more_reply reply ≡ true }
+        requires takes { TakesMore (hand_of self.old) }
+        ensures place { lanes_place self.new ≡ lanes_place self.old }
+        ensures submitted { MatchResult result (λ _. SubmitsTo (first_lane (hand_of self.old).holding) reply (hand_of self.old) (hand_of self.new)) (λ _. Rests (hand_of self.old) (hand_of self.new)) }
+        ensures counts { MatchResult result (λ _. CountsOne reply self.old self.new) (λ _. CountsNone self.old self.new) }
+        ensures refused { IfErr result (λ e. (e ≡ AnswerFault.Full reply) × IsFilled self.new (first_lane (hand_of self.new).holding)) }
+    {
+        let Some(lane) = self.first() else {
+            return Err(AnswerFault::NothingHeld);
+        };
+        match lane {
+            Lane::Own => self.add_own(reply),
+            Lane::Flow(lane) => self.add_flow(lane, reply),
+        }
+    }
+
+    fn add_own(&mut self, reply: Reply) -> Result<(), AnswerFault>
+        requires more { is_more_reply reply ≡ true }
+        requires oldest { first_lane (hand_of self.old).holding ≡ Some lanes.Own }
+        requires few { extras_of ((hand_of self.old).said lanes.Own) < MAX_EXTRAS }
+        ensures place { lanes_place self.new ≡ lanes_place self.old }
+        ensures submitted { MatchResult result (λ _. Submits lanes.Own reply (hand_of self.old) (hand_of self.new)) (λ _. Rests (hand_of self.old) (hand_of self.new)) }
+        ensures counts { MatchResult result (λ _. CountsOne reply self.old self.new) (λ _. CountsNone self.old self.new) }
+        ensures refused { IfErr result (λ e. (e ≡ AnswerFault.Full reply) × IsFilled self.new (Some lanes.Own)) }
+    {
+        self.own.stage(reply)
+    }
+
+    fn add_flow(&mut self, lane: usize, reply: Reply) -> Result<(), AnswerFault>
+        requires more { is_more_reply reply ≡ true }
+        requires oldest { first_lane (hand_of self.old).holding ≡ Some (lanes.Flow lane) }
+        requires few { extras_of ((hand_of self.old).said (lanes.Flow lane)) < MAX_EXTRAS }
+        ensures place { lanes_place self.new ≡ lanes_place self.old }
+        ensures submitted { MatchResult result (λ _. Submits (lanes.Flow lane) reply (hand_of self.old) (hand_of self.new)) (λ _. Rests (hand_of self.old) (hand_of self.new)) }
+        ensures counts { MatchResult result (λ _. CountsOne reply self.old self.new) (λ _. CountsNone self.old self.new) }
+        ensures refused { IfErr result (λ e. (e ≡ AnswerFault.Full reply) × IsFilled self.new (Some (lanes.Flow lane))) }
+    {
+        self.flows.answer(lane, reply)
     }
 
     /// Answers the oldest delivery that is held, to the lane from which it came. The scheduler sees it after the next `flush`.
@@ -83,9 +162,8 @@ impl Lanes {
         ensures counts { MatchResult result (λ _. CountsOne reply self.old self.new) (λ _. CountsNone self.old self.new) }
         ensures refused { IfErr result (RefusesOldest self.new reply) }
     {
-        let lane = match self.order.front() {
-            Some(oldest) => oldest.lane,
-            None => return Err(AnswerFault::NothingHeld),
+        let Some(lane) = self.first() else {
+            return Err(AnswerFault::NothingHeld);
         };
         match lane {
             Lane::Own => self.answer_own(reply),

@@ -13,7 +13,7 @@ ghost use Rattle.event_ports.specs.declared.lane.Lane.TheVariants as lanes;
 ghost use Rattle.event_ports.specs.Holds.{AreLinked};
 ghost use Rattle.event_ports.specs.Lanes.{IsEmptyHand, IsEndOf, held_of, pair_in};
 ghost use Rattle.credit_pool.specs.Pockets.{IsPocket};
-ghost use Rattle.event_ports.specs.Ports.{place_of, account_of, pocket_of, hand, links, news_by, releases_by};
+ghost use Rattle.event_ports.specs.Ports.{place_of, account_of, pocket_of, hand, links, mores_by, news_by, releases_by};
 ghost use Rattle.event_ports.specs.Stop.{IsCounted};
 ghost use Rattle.event_ports.specs.Parts.{FitTogether, AreFresh, place_by};
 
@@ -117,7 +117,7 @@ impl Port {
         ensures held { result.held.items ≡ (hand self).holding }
         ensures counted { IsCounted self }
         ensures ordered { map pair_in (held_of lanes.Own (hand self).holding) ≡ held_list result.own }
-        ensures paid { (result.pocket ≡ pocket_of self) × IsPocket result.pocket ((account_of self).drawn + releases_by self) ((account_of self).returned + news_by self) }
+        ensures paid { (result.pocket ≡ pocket_of self) × IsPocket result.pocket ((account_of self).drawn + releases_by self) ((account_of self).returned + news_by self + mores_by self) }
     {
         let Port { desk } = self;
         let Desk {

@@ -58,7 +58,12 @@ impl Port {
     }
 
     /// Enqueues an event: a NEW to the port's own lane, for one credit; a FORWARD or RELEASE as the answer to the oldest delivery
-    /// that is held, to the lane from which that came. A refused event changes nothing that was submitted or is held.
+    /// that is held, to the lane from which that came; a FORWARD_MORE to the same lane, for one credit, and that delivery stays held.
+    /// A refused event changes nothing that was submitted or is held.
+    ///
+    /// The causes of a refusal in their order: of a NEW `Stopped`, `BadQueue`, `Backpressure` or `Raced`, `Full`; of an answer
+    /// `BadQueue`, `NothingHeld`, `Full`; of a FORWARD_MORE `BadQueue`, `NothingHeld`, `TooMany`, then with an empty pocket `Stopped`,
+    /// `Backpressure` or `Raced`, and `Full`. What was drawn before a `Full` stays in the pocket.
     pub fn enqueue(&mut self, event: Event) -> Result<(), Refused>
         ensures place { place_of self.new ≡ place_of self.old }
         ensures credit { Stays (account_of self.old) (account_of self.new) }

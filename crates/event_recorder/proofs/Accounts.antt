@@ -7,12 +7,12 @@ use Rattle.credit_pool.specs.Pockets.{IsPocket}
 use Rattle.event_answers.specs.declared.report.Report.{Report}
 use Rattle.event_ports.specs.Handed.{flow_count}
 use Rattle.event_ports.specs.Lanes.{counted, held_of, pair_in}
-use Rattle.event_ports.specs.Ports.{account_of, hand, news_by, place_of, pocket_of, releases_by}
+use Rattle.event_ports.specs.Ports.{account_of, hand, mores_by, news_by, place_of, pocket_of, releases_by}
 use Rattle.event_ports.specs.Stop.{IsPaid, flows_in}
 use Rattle.event_ports.specs.declared.lane.Lane.TheVariants.{Own}
 use Rattle.event_ports.specs.declared.port.Port.{Port}
 use Rattle.evt_types.specs.Event.{pair_of}
-use Rattle.evt_types.specs.Operation.{is_new_reply, is_release_reply}
+use Rattle.evt_types.specs.Operation.{is_more_reply, is_new_reply, is_release_reply}
 use Rattle.evt_types.specs.Plan.{Plan, lanes, lanes_of, queues}
 use Rattle.evt_types.specs.declared.event.Event.{Event}
 use Rattle.evt_types.specs.declared.event.KeptEvent.{KeptEvent}
@@ -137,9 +137,9 @@ entries_left p T rest sorted x is all_held =
 
 -- With all pockets taken together, the sums of a device: what came into the pockets and the pool went out of them or is there.
 balance : (T : List Step) (sorted : List Port) (free own back limit : ℕ) → ArePaid T sorted free own back limit
-    → (k : ℕ) × (free + sum (map pocket_of sorted) + own + 2 ^ 64 * k + sum_by news_by sorted ≡ limit + sum_by releases_by sorted + turned_count T)
+    → (k : ℕ) × (free + sum (map pocket_of sorted) + own + 2 ^ 64 * k + sum_by news_by sorted + sum_by mores_by sorted ≡ limit + sum_by releases_by sorted + turned_count T)
 balance T sorted free own back limit paid =
-    let ports = pockets_lack pocket_of (λ q. (account_of q).drawn + releases_by q) (λ q. (account_of q).returned + news_by q) sorted paid.ports in
+    let ports = pockets_lack pocket_of (λ q. (account_of q).drawn + releases_by q) (λ q. (account_of q).returned + news_by q + mores_by q) sorted paid.ports in
     let scheduler = pocket_lacks own (turned_count T) back paid.scheduler in (
       ports.0 + scheduler.0,
       omega (
@@ -149,6 +149,7 @@ balance T sorted free own back limit paid =
         paid.pool,
         sum-map pocket_of sorted,
         sum_plus (λ q. (account_of q).drawn) releases_by sorted,
+        sum_plus (λ q. (account_of q).returned + news_by q) mores_by sorted,
         sum_plus (λ q. (account_of q).returned) news_by sorted,
       ),
     )
@@ -159,9 +160,10 @@ pub credits_come_out : (p : Plan) (T : List Step) (nears : List Near) (owns ends
 credits_come_out p T nears owns ends sorted x free own back limit rests near_count far_count are paid is =
     let rest = rest_at nears (owns ++ ends) in
     let news = submitted is_new_reply p nears owns ends sorted near_count far_count are in
+    let mores = submitted is_more_reply p nears owns ends sorted near_count far_count are in
     let releases = submitted is_release_reply p nears owns ends sorted near_count far_count are in
     let all_held = held_in_all p nears owns ends sorted near_count far_count are in
     let entries = entries_left p T rest sorted x is all_held in
     let sums = balance T sorted free own back limit paid in
-    let settled = account_settles p T rest (free + sum (map pocket_of sorted) + own + 2 ^ 64 * sums.0) limit rests (omega (arith, sums.1, news, releases)) in
+    let settled = account_settles p T rest (free + sum (map pocket_of sorted) + own + 2 ^ 64 * sums.0) limit rests (omega (arith, sums.1, news, mores, releases)) in
     omega (arith, settled, entries, paid.small)

@@ -13,7 +13,7 @@ use Rattle.evt_types.specs.declared.step.Outcome.{Outcome}
 use Rattle.evt_types.specs.declared.step.Outcome.TheVariants.{Forwarded, Released}
 use Rattle.evt_types.specs.declared.step.Source.TheVariants.{New, Of}
 use Rattle.evt_types.specs.declared.step.Step.{Step}
-use Rattle.evt_types.specs.declared.step.Step.TheVariants.{Accept, Give, Done, Turned, Bounced, Shut}
+use Rattle.evt_types.specs.declared.step.Step.TheVariants.{Accept, Give, Done, More, Turned, Bounced, Shut}
 use Rattle.event_scheduler.specs.Taking.{entered_as, entered_by, turned_by}
 use Rattle.lists.proofs.Lists.{list_any-none}
 use Rattle.lists.proofs.Sums.{sum_agree, sum_of_none}
@@ -21,11 +21,11 @@ use Rattle.sched_core.specs.Taken.{is_passed_on, took_by, took_of}
 use Rattle.sched_core.specs.declared.take.Took.TheVariants as tooks
 use Rattle.transcripts.proofs.ByLane.{sum_plus, sum_hit}
 use Rattle.transcripts.proofs.Pushes.{accepted_in-same, accepted_in-other}
-use Rattle.transcripts.proofs.Replies.{accepts_of-of}
+use Rattle.transcripts.proofs.Replies.{accepts_of-of, added_of-of}
 use Rattle.transcripts.proofs.ViewTells.{entries_is}
 use Rattle.transcripts.specs.Lawful.{IsFormed}
 use Rattle.transcripts.specs.Replies.{new_count, turned_count}
-use Rattle.transcripts.specs.Standing.{View, Stands, accepts_of, answer_steps, entries_of, oldest_at, steps_by, steps_of}
+use Rattle.transcripts.specs.Standing.{View, Stands, accepts_of, added_of, answer_steps, more_steps, entries_of, oldest_at, steps_by, steps_of}
 use Rattle.transcripts.specs.Transcript.{accepted, accepted_in, entries, has_shut, is_from_of, is_new, is_shut, is_turned}
 
 -- ---- counts of a list
@@ -42,6 +42,7 @@ of_is_not_turned : (s : Step) → is_from_of s ≡ true → is_turned s ≡ fals
 of_is_not_turned (Accept q e c) h = refl
 of_is_not_turned (Give l q n) h = refl
 of_is_not_turned (Done l o) h = refl
+of_is_not_turned (More l e) h = refl
 of_is_not_turned (Turned l e) h = absurd (false≢true h)
 of_is_not_turned (Bounced l) h = refl
 of_is_not_turned Shut h = refl
@@ -51,6 +52,7 @@ of_is_not_new (Accept q e (Of r n)) h = refl
 of_is_not_new (Accept q e (New l)) h = absurd (false≢true h)
 of_is_not_new (Give l q n) h = refl
 of_is_not_new (Done l o) h = refl
+of_is_not_new (More l e) h = refl
 of_is_not_new (Turned l e) h = refl
 of_is_not_new (Bounced l) h = refl
 of_is_not_new Shut h = refl
@@ -59,6 +61,7 @@ of_is_not_shut : (s : Step) → is_from_of s ≡ true → is_shut s ≡ false
 of_is_not_shut (Accept q e c) h = refl
 of_is_not_shut (Give l q n) h = refl
 of_is_not_shut (Done l o) h = refl
+of_is_not_shut (More l e) h = refl
 of_is_not_shut (Turned l e) h = refl
 of_is_not_shut (Bounced l) h = refl
 of_is_not_shut Shut h = absurd (false≢true h)
@@ -69,6 +72,21 @@ accepts v l o = accepts_of v (oldest_at v l) o
 answer_turns_none : (v : View) (l : ℕ) (o : Outcome) → turned_count (answer_steps v l o) ≡ 0
 answer_turns_none v l o =
     omega (arith, count-append is_turned (Done l o ∷ []) (accepts v l o), count-none is_turned (accepts v l o) (All-weaker (λ s. is_from_of s ≡ true) (λ s. is_turned s ≡ false) of_is_not_turned (accepts v l o) (accepts_of-of v (oldest_at v l) o)))
+
+abbrev added : View → ℕ → Event → List Step
+added v l e = added_of v (oldest_at v l) e
+
+more_turns_none : (v : View) (l : ℕ) (e : Event) → turned_count (more_steps v l e) ≡ 0
+more_turns_none v l e =
+    omega (arith, count-append is_turned (More l e ∷ []) (added v l e), count-none is_turned (added v l e) (All-weaker (λ s. is_from_of s ≡ true) (λ s. is_turned s ≡ false) of_is_not_turned (added v l e) (added_of-of v (oldest_at v l) e)))
+
+more_enters_none : (v : View) (l : ℕ) (e : Event) → new_count (more_steps v l e) ≡ 0
+more_enters_none v l e =
+    omega (arith, count-append is_new (More l e ∷ []) (added v l e), count-none is_new (added v l e) (All-weaker (λ s. is_from_of s ≡ true) (λ s. is_new s ≡ false) of_is_not_new (added v l e) (added_of-of v (oldest_at v l) e)))
+
+more_shuts_none : (v : View) (l : ℕ) (e : Event) → has_shut (more_steps v l e) ≡ false
+more_shuts_none v l e =
+    list_any-none is_shut (added v l e) (All-weaker (λ s. is_from_of s ≡ true) (λ s. is_shut s ≡ false) of_is_not_shut (added v l e) (added_of-of v (oldest_at v l) e))
 
 answer_enters_none : (v : View) (l : ℕ) (o : Outcome) → new_count (answer_steps v l o) ≡ 0
 answer_enters_none v l o =
@@ -92,6 +110,7 @@ turns_by : (o : Op) (v : View) (l : ℕ) (e : Event) → turned_count (steps_by 
 turns_by ops.New v l e = new_turns v.shut l e
 turns_by ops.Forward v l e = answer_turns_none v l (Forwarded e) ∙ sym (passed_turns_none (is_passed_on (oldest_at v l) (steps_of v l e)))
 turns_by ops.Release v l e = answer_turns_none v l Released
+turns_by ops.ForwardMore v l e = more_turns_none v l e ∙ sym (passed_turns_none (is_passed_on (oldest_at v l) (steps_of v l e)))
 
 -- the credit of what a reply's steps turn away
 pub reply_turns : (v : View) (l : ℕ) (e : Event) → turned_count (steps_of v l e) ≡ turned_by (took_of v l e)
@@ -105,6 +124,7 @@ enters_by : (o : Op) (v : View) (l : ℕ) (e : Event) → new_count (steps_by o 
 enters_by ops.New v l e = new_enters v.shut l e
 enters_by ops.Forward v l e = answer_enters_none v l (Forwarded e)
 enters_by ops.Release v l e = answer_enters_none v l Released
+enters_by ops.ForwardMore v l e = more_enters_none v l e
 
 -- how many events a reply's steps accept as new
 pub reply_enters : (v : View) (l : ℕ) (e : Event) → new_count (steps_of v l e) ≡ entered_by e.op (took_of v l e)
@@ -118,6 +138,7 @@ shuts_none_by : (o : Op) (v : View) (l : ℕ) (e : Event) → has_shut (steps_by
 shuts_none_by ops.New v l e = new_shuts_none v.shut l e
 shuts_none_by ops.Forward v l e = answer_shuts_none v l (Forwarded e)
 shuts_none_by ops.Release v l e = answer_shuts_none v l Released
+shuts_none_by ops.ForwardMore v l e = more_shuts_none v l e
 
 -- no reply shuts the device
 pub reply_shuts_none : (v : View) (l : ℕ) (e : Event) → has_shut (steps_of v l e) ≡ false
@@ -139,6 +160,7 @@ new_entry p (Accept q e (New l)) formed =
 new_entry p (Accept q e (Of r n)) formed = omega arith
 new_entry p (Give l q n) formed = omega arith
 new_entry p (Done l o) formed = omega arith
+new_entry p (More l e) formed = omega arith
 new_entry p (Turned l e) formed = omega arith
 new_entry p (Bounced l) formed = omega arith
 new_entry p Shut formed = omega arith

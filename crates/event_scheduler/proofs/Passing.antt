@@ -15,7 +15,7 @@ use Rattle.evt_types.specs.Fault.{IsWithinLimits}
 use Rattle.evt_types.specs.Plan.{Plan, lanes, lanes_of, queues}
 use Rattle.evt_types.specs.declared.shape.TheConstants.{MAX_LANES, MAX_QUEUES, MAX_SWEEP}
 use Rattle.evt_types.specs.declared.step.Step.{Step}
-use Rattle.evt_types.specs.declared.step.Step.TheVariants.{Accept, Bounced, Done, Give, Shut, Turned}
+use Rattle.evt_types.specs.declared.step.Step.TheVariants.{Accept, Bounced, Done, Give, More, Shut, Turned}
 use Rattle.lists.proofs.Sums.{sum_changed}
 use Rattle.sched_core.specs.Offered.{numbered_in}
 use Rattle.sched_core.specs.Skipped.{nothing_passed}
@@ -107,6 +107,7 @@ long_step v (Give l q n) h = (length-set v.given q _ ∙ h.0, h.1)
 long_step v (Bounced l) h = (h.0, length-set v.bounced l true ∙ h.1)
 long_step v (Accept q e c) h = h
 long_step v (Done l o) h = h
+long_step v (More l e) h = h
 long_step v (Turned l e) h = h
 long_step v Shut h = h
 

@@ -12,7 +12,7 @@ use Rattle.evt_types.specs.Fault.{IsWithinLimits}
 use Rattle.evt_types.specs.Plan.{lanes_of}
 use Rattle.evt_types.specs.declared.shape.TheConstants.{MAX_LANES}
 use Rattle.evt_types.specs.declared.step.Step.{Step}
-use Rattle.evt_types.specs.declared.step.Step.TheVariants.{Accept, Bounced, Done, Give, Shut, Turned}
+use Rattle.evt_types.specs.declared.step.Step.TheVariants.{Accept, Bounced, Done, Give, More, Shut, Turned}
 use Rattle.lists.proofs.Lists.{eqb_is, eqb_other}
 use Rattle.transcripts.proofs.WholeStands.{shape_after}
 use Rattle.transcripts.specs.Choice.{Passed, has_bounced}
@@ -34,6 +34,7 @@ stays_passed v (Bounced m) l within long passed = by_place (cases_eq l m)
     by_place (inr other) = get_or-set_other v.bounced m l true false other ∙ passed
 stays_passed v (Accept q e c) l within long passed = passed
 stays_passed v (Done m o) l within long passed = passed
+stays_passed v (More m e) l within long passed = passed
 stays_passed v (Turned m e) l within long passed = passed
 stays_passed v Shut l within long passed = passed
 
@@ -42,6 +43,7 @@ quiet_gift s past (Give m q n) l passed gift = (not_ready (passed_by past) l m p
 quiet_gift s past (Bounced m) l passed gift = (refl, not_ready (passed_by past) l m passed gift.2.fits.ready)
 quiet_gift s past (Accept q e c) l passed gift = absurd gift
 quiet_gift s past (Done m o) l passed gift = absurd gift
+quiet_gift s past (More m e) l passed gift = absurd gift
 quiet_gift s past (Turned m e) l passed gift = absurd gift
 quiet_gift s past Shut l passed gift = absurd gift
 
@@ -71,6 +73,7 @@ follow s past (Bounced m) xs limits gift gifts =
 follow s past (Give m q n) xs limits gift gifts = none (Give m q n) xs (λ l. refl)
 follow s past (Accept q e c) xs limits gift gifts = absurd gift
 follow s past (Done m o) xs limits gift gifts = absurd gift
+follow s past (More m e) xs limits gift gifts = absurd gift
 follow s past (Turned m e) xs limits gift gifts = absurd gift
 follow s past Shut xs limits gift gifts = absurd gift
 

@@ -11,7 +11,7 @@ use Rattle.credit_pool.specs.Accounts.{after_look}
 use Rattle.credit_pool.specs.declared.account.Account.{Account}
 use Rattle.evt_types.specs.Plan.{Plan, lanes_of}
 use Rattle.evt_types.specs.declared.step.Step.{Step}
-use Rattle.evt_types.specs.declared.step.Step.TheVariants.{Accept, Bounced, Done, Give, Shut, Turned}
+use Rattle.evt_types.specs.declared.step.Step.TheVariants.{Accept, Bounced, Done, Give, More, Shut, Turned}
 use Rattle.transcripts.proofs.WholeStands.{shut_is}
 use Rattle.transcripts.specs.Choice.{HasNoChoice, IsChoice}
 use Rattle.transcripts.specs.Standing.{after}
@@ -29,6 +29,7 @@ gift_same s t past (Bounced l) core site offers gift = (
 )
 gift_same s t past (Accept q e c) core site offers gift = absurd gift
 gift_same s t past (Done l o) core site offers gift = absurd gift
+gift_same s t past (More l e) core site offers gift = absurd gift
 gift_same s t past (Turned l e) core site offers gift = absurd gift
 gift_same s t past Shut core site offers gift = absurd gift
 

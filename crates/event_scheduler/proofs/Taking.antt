@@ -130,6 +130,7 @@ room_by : (o : Op) (v : View) (l : ℕ) (e : Event) (n : ℕ) → may_take_by o 
 room_by ops.New v l e n may fits few = new_room v.shut v e n refl (and_second (nat_lt l (length v.shape.ports)) _ may) fits few
 room_by ops.Forward v l e n may fits few = omega (arith, fits)
 room_by ops.Release v l e n may fits few = omega (arith, fits)
+room_by ops.ForwardMore v l e n may fits few = omega (arith, fits)
 
 entered_fits : (v : View) (l : ℕ) (e : Event) (n : ℕ) (T : List Step) → may_take v l e ≡ true → n < 2 ^ 64 → Stands T v → n ≡ new_count T → n + entered_by e.op (took_of v l e) < 2 ^ 64
 entered_fits v l e n T may fits stands is = room_by e.op v l e n may fits (omega (arith, is, new_fits v T stands))

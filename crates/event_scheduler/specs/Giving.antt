@@ -4,7 +4,7 @@ use Rattle.event_scheduler.specs.Scheduler.{Runs, Sight, depth_at, offered_at}
 use Rattle.evt_types.specs.Plan.{Plan, lanes, queues}
 use Rattle.evt_types.specs.declared.event.Numbered.{Numbered}
 use Rattle.evt_types.specs.declared.step.Step.{Step}
-use Rattle.evt_types.specs.declared.step.Step.TheVariants.{Accept, Give, Done, Turned, Bounced, Shut}
+use Rattle.evt_types.specs.declared.step.Step.TheVariants.{Accept, Give, Done, More, Turned, Bounced, Shut}
 use Rattle.sched_core.specs.Skipped.{nothing_passed}
 use Rattle.sched_core.specs.declared.offer.Offer.{Offer}
 use Rattle.transcripts.specs.Choice.{HasNoChoice, IsChoice, Passed, has_bounced}
@@ -16,6 +16,7 @@ is_bounced (Bounced l) = true
 is_bounced (Accept q e c) = false
 is_bounced (Give l q n) = false
 is_bounced (Done l o) = false
+is_bounced (More l e) = false
 is_bounced (Turned l e) = false
 is_bounced Shut = false
 
@@ -25,6 +26,7 @@ passed_step v (Give l q n) = record v { given = slice_set v.given q (slice_index
 passed_step v (Bounced l) = record v { bounced = slice_set v.bounced l true }
 passed_step v (Accept q e c) = v
 passed_step v (Done l o) = v
+passed_step v (More l e) = v
 passed_step v (Turned l e) = v
 passed_step v Shut = v
 
@@ -43,6 +45,7 @@ IsGift s past (Give l q n) = (w : Numbered) × (w.number ≡ n) × IsChoiceAfter
 IsGift s past (Bounced l) = (q : ℕ) × (w : Numbered) × IsChoiceAfter s.core past l q w × (depth_at s l ≤ length (offered_at s l) + length (out past l))
 IsGift s past (Accept q e c) = ⊥
 IsGift s past (Done l o) = ⊥
+IsGift s past (More l e) = ⊥
 IsGift s past (Turned l e) = ⊥
 IsGift s past Shut = ⊥
 
@@ -57,6 +60,7 @@ is_given_on l (Give m q n) = m == l
 is_given_on l (Bounced m) = false
 is_given_on l (Accept q e c) = false
 is_given_on l (Done m o) = false
+is_given_on l (More m e) = false
 is_given_on l (Turned m e) = false
 is_given_on l Shut = false
 
@@ -65,6 +69,7 @@ is_refused_on l (Bounced m) = m == l
 is_refused_on l (Give m q n) = false
 is_refused_on l (Accept q e c) = false
 is_refused_on l (Done m o) = false
+is_refused_on l (More m e) = false
 is_refused_on l (Turned m e) = false
 is_refused_on l Shut = false
 

@@ -31,6 +31,7 @@ abbrev pub entered_by : Op → Took → ℕ
 entered_by ops.New t = entered_as t
 entered_by ops.Forward t = 0
 entered_by ops.Release t = 0
+entered_by ops.ForwardMore t = 0
 
 -- of some replies, each a lane with its event, those of the lane
 abbrev pub reply_from : ℕ → ℕ × Event → Option Reply

@@ -1,3 +1,4 @@
+pub mod Additions
 pub mod Events
 pub mod FlowLanes
 pub mod Limits

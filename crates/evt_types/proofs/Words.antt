@@ -4,14 +4,15 @@ use Rattle.evt_types.specs.declared.event.Event.{Event}
 use Rattle.evt_types.specs.declared.event.Kind.{Kind}
 use Rattle.evt_types.specs.declared.event.Kind.TheVariants.{Ordered, Atomic, Parallel}
 use Rattle.evt_types.specs.declared.event.Op.{Op}
-use Rattle.evt_types.specs.declared.event.Op.TheVariants.{New, Forward, Release}
+use Rattle.evt_types.specs.declared.event.Op.TheVariants.{New, Forward, Release, ForwardMore}
 use Rattle.evt_types.specs.Word.{Fits, op_code, kind_code, word_of}
 use Rattle.evt_types.proofs.Events.{SameFields, same_event}
 
-op_code_small : (o : Op) → op_code o < 3
+op_code_small : (o : Op) → op_code o < 4
 op_code_small New = omega arith
 op_code_small Forward = omega arith
 op_code_small Release = omega arith
+op_code_small ForwardMore = omega arith
 
 kind_code_small : (k : Kind) → kind_code k < 3
 kind_code_small Ordered = omega arith
@@ -22,12 +23,19 @@ same_op : (a b : Op) → op_code a ≡ op_code b → a ≡ b
 same_op New New e = refl
 same_op New Forward e = absurd (omega arith)
 same_op New Release e = absurd (omega arith)
+same_op New ForwardMore e = absurd (omega arith)
 same_op Forward New e = absurd (omega arith)
 same_op Forward Forward e = refl
 same_op Forward Release e = absurd (omega arith)
+same_op Forward ForwardMore e = absurd (omega arith)
 same_op Release New e = absurd (omega arith)
 same_op Release Forward e = absurd (omega arith)
 same_op Release Release e = refl
+same_op Release ForwardMore e = absurd (omega arith)
+same_op ForwardMore New e = absurd (omega arith)
+same_op ForwardMore Forward e = absurd (omega arith)
+same_op ForwardMore Release e = absurd (omega arith)
+same_op ForwardMore ForwardMore e = refl
 
 same_kind : (a b : Kind) → kind_code a ≡ kind_code b → a ≡ b
 same_kind Ordered Ordered e = refl
@@ -46,7 +54,7 @@ digits f s t o k q r i = f + 2 ^ 20 * (s + 2 ^ 8 * (t + 2 ^ 4 * (o + 2 ^ 2 * (2 
 
 -- each digit, from the number
 digits_back :
-    (w f s t o k q r i : ℕ) → f < 2 ^ 20 → s < 2 ^ 8 → t < 2 ^ 4 → o < 3 → k < 3 → q < 2 ^ 8 → r < 2 ^ 8 → i < 2 ^ 8 → w ≡ digits f s t o k q r i
+    (w f s t o k q r i : ℕ) → f < 2 ^ 20 → s < 2 ^ 8 → t < 2 ^ 4 → o < 4 → k < 3 → q < 2 ^ 8 → r < 2 ^ 8 → i < 2 ^ 8 → w ≡ digits f s t o k q r i
     → (w / 2 ^ 0 % 2 ^ 20 ≡ f) × (w / 2 ^ 20 % 2 ^ 8 ≡ s) × (w / 2 ^ 28 % 2 ^ 4 ≡ t) × (w / 2 ^ 32 % 2 ^ 2 ≡ o)
     × (w / 2 ^ 38 % 2 ^ 2 ≡ k) × (w / 2 ^ 40 % 2 ^ 8 ≡ q) × (w / 2 ^ 48 % 2 ^ 8 ≡ r) × (w / 2 ^ 56 % 2 ^ 8 ≡ i)
 digits_back w f s t o k q r i hf hs ht ho hk hq hr hi e =

@@ -1,3 +1,4 @@
+pub mod Additions
 pub mod Event
 pub mod Fault
 pub mod Operation

@@ -5,13 +5,14 @@ use Rattle.evt_types.specs.declared.event.Event.{Event}
 use Rattle.evt_types.specs.declared.event.Kind.{Kind}
 use Rattle.evt_types.specs.declared.event.Kind.TheVariants.{Ordered, Atomic, Parallel}
 use Rattle.evt_types.specs.declared.event.Op.{Op}
-use Rattle.evt_types.specs.declared.event.Op.TheVariants.{New, Forward, Release}
+use Rattle.evt_types.specs.declared.event.Op.TheVariants.{New, Forward, Release, ForwardMore}
 
 -- the code of an operation
 abbrev pub op_code : Op → ℕ
 op_code New = 0
 op_code Forward = 1
 op_code Release = 2
+op_code ForwardMore = 3
 
 -- the code of a scheduling type
 abbrev pub kind_code : Kind → ℕ

@@ -8,12 +8,13 @@ use crate::event::{Kind, Op};
 /// The code of an operation.
 pub(crate) fn op_code(op: Op) -> u64
     ensures value { result ≡ words.op_code op }
-    ensures small { result < 3 }
+    ensures small { result < 4 }
 {
     match op {
         Op::New => 0,
         Op::Forward => 1,
         Op::Release => 2,
+        Op::ForwardMore => 3,
     }
 }
 

@@ -9,6 +9,10 @@ use thiserror::Error;
 pub const MAX_FLOWS: u32 = 1 << 20;
 /// How many event types there are.
 pub const MAX_EVENT_TYPES: u8 = 16;
+/// How many events may be added beside one that is held.
+pub const MAX_EXTRAS: usize = 4;
+/// How many events an event may be passed on as: those that were added beside it, and its FORWARD.
+pub const MAX_FORWARDS: usize = MAX_EXTRAS + 1;
 /// How many priorities a level has.
 const LEVEL_PRIORITIES: u8 = 64;
 
@@ -22,6 +26,9 @@ pub enum Op {
     Forward,
     /// Ends the handling of the oldest event that the port holds.
     Release,
+    /// Adds an event beside the oldest event that the port holds, which stays held. It costs a credit, as a NEW does; what was added
+    /// goes to its queue where that event's FORWARD goes, or would go, and before it.
+    ForwardMore,
 }
 
 /// The scheduling type of a queue.
@@ -214,7 +221,7 @@ pub struct Numbered {
 }
 
 /// An event that an ordered queue keeps until all before it is answered, with the queue and the number of the event that was
-/// forwarded as it.
+/// passed on as it.
 #[derive(Clone, Copy, Debug, PartialEq, Eq, Default)]
 pub struct KeptEvent {
     pub queue: usize,

@@ -13,7 +13,8 @@ mod word;
 
 pub use draft::{Draft, PortDraft, QueueDraft, Serving};
 pub use event::{
-    Delivery, Event, EventFault, KeptEvent, Kind, MAX_EVENT_TYPES, MAX_FLOWS, Numbered, Op, Reply,
+    Delivery, Event, EventFault, KeptEvent, Kind, MAX_EVENT_TYPES, MAX_EXTRAS, MAX_FLOWS,
+    MAX_FORWARDS, Numbered, Op, Reply,
 };
 pub use flows::{FLOW_DEPTH, FlowLane};
 pub use shape::{

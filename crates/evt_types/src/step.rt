@@ -7,7 +7,7 @@ use crate::event::Event;
 pub enum Source {
     /// A NEW of the lane.
     New { lane: usize },
-    /// A FORWARD that answers the event of this number of the queue.
+    /// A FORWARD or FORWARD_MORE of the holder of the event of this number of the queue.
     Of { queue: usize, number: u64 },
 }
 
@@ -37,6 +37,11 @@ pub enum Step {
     Done {
         lane: usize,
         outcome: Outcome,
+    },
+    /// An event was added beside the lane's oldest unanswered event, which stays unanswered.
+    More {
+        lane: usize,
+        event: Event,
     },
     /// A NEW of the lane was turned away, since the device is shut.
     Turned {

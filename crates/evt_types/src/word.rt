@@ -12,9 +12,6 @@ pub enum WordFault {
     /// A reserved bit is set.
     #[error("a reserved bit of the event word is set")]
     ReservedBits,
-    /// No operation has the code.
-    #[error("the event word's operation is unknown")]
-    UnknownOp,
     /// No scheduling type has the code.
     #[error("the event word's scheduling type is unknown")]
     UnknownKind,
@@ -30,15 +27,15 @@ fn bits(word: u64, from: u32, width: u32) -> u64
 }
 
 /// The operation of a code.
-fn op_of(code: u64) -> Option<Op>
-    ensures found { IfSome result (λ op. code ≡ words.op_code op) }
-    ensures unknown { IsNone result ↔ (3 ≤ code) }
+fn op_of(code: u64) -> Op
+    requires { code < 4 }
+    ensures { code ≡ words.op_code result }
 {
     match code {
-        0 => Some(Op::New),
-        1 => Some(Op::Forward),
-        2 => Some(Op::Release),
-        _ => None,
+        0 => Op::New,
+        1 => Op::Forward,
+        2 => Op::Release,
+        _ => Op::ForwardMore,
     }
 }
 
@@ -66,13 +63,12 @@ impl Event {
         ensures found { IfOk result (λ r. (word ≡ word_of r.0 r.1) × (r.0.payload ≡ payload)) }
         ensures only { (e : Event) (k : Kind) → Fits e → word ≡ word_of e k → payload ≡ e.payload → result ≡ Ok (e, k) }
         ensures reserved { (result ≡ Err WordFault.ReservedBits) ↔ (word / 2 ^ 34 % 16 ≢ 0) }
-        ensures op { (result ≡ Err WordFault.UnknownOp) ↔ ((word / 2 ^ 34 % 16 ≡ 0) × (word / 2 ^ 32 % 4 ≡ 3)) }
-        ensures kind { (result ≡ Err WordFault.UnknownKind) ↔ ((word / 2 ^ 34 % 16 ≡ 0) × (word / 2 ^ 32 % 4 ≢ 3) × (word / 2 ^ 38 % 4 ≡ 3)) }
+        ensures kind { (result ≡ Err WordFault.UnknownKind) ↔ ((word / 2 ^ 34 % 16 ≡ 0) × (word / 2 ^ 38 % 4 ≡ 3)) }
     {
         if bits(word, 34, 4) != 0 {
             return Err(WordFault::ReservedBits);
         }
-        let op = op_of(bits(word, 32, 2)).ok_or(WordFault::UnknownOp)?;
+        let op = op_of(bits(word, 32, 2));
         let kind = kind_of(bits(word, 38, 2)).ok_or(WordFault::UnknownKind)?;
         let event = Event {
             flow: bits(word, 0, 20) as u32,

@@ -1,15 +1,17 @@
 -- What a call through a held lane's end does to the end, as `Far` says it.
-use Rattle.std.specs.Prelude.{◌≡◌, ◌↔◌, true, [], ◌∷◌, ◌++◌, drop, Option, Result, IfErr, IfNone, MatchOption, MatchResult}
+use Rattle.std.specs.Prelude.{◌≡◌, ◌≢◌, ◌≤◌, ◌↔◌, true, [], ◌∷◌, ◌++◌, drop, Option, Result, IfErr, IfNone, MatchOption, MatchResult}
 use Rattle.std.specs.Prelude.Option.{Some}
 use Rattle.std.specs.Prelude.Result.{Err}
-use Rattle.evt_types.specs.Operation.{is_answer}
+use Rattle.evt_types.specs.Additions.{extras_of}
+use Rattle.evt_types.specs.Operation.{is_more_reply, needs_held}
 use Rattle.evt_types.specs.declared.event.Delivery.{Delivery}
 use Rattle.evt_types.specs.declared.event.Reply.{Reply}
+use Rattle.evt_types.specs.declared.event.TheConstants.{MAX_EXTRAS}
 use Rattle.lane_rings.specs.Ends.{received_by, seen_deliveries, next_delivery, answered, hidden_answers, answers_among, unanswered}
 use Rattle.lane_rings.specs.Identity.{far_id}
 use Rattle.lane_rings.specs.Refusal.{RefusesAnswer}
 use Rattle.lane_rings.specs.declared.far.AnswerFault.{AnswerFault}
-use Rattle.lane_rings.specs.declared.far.AnswerFault.TheVariants.{NothingHeld}
+use Rattle.lane_rings.specs.declared.far.AnswerFault.TheVariants.{NothingHeld, TooMany}
 use Rattle.lane_rings.specs.declared.far.Far.{Far}
 
 -- what `Far::receive` answered, and what it left
@@ -27,5 +29,6 @@ pub record AnswersWith (before : Far) (reply : Reply) (result : Result (Unit {0}
   pub received : (received_by after ≡ received_by before) × (seen_deliveries after ≡ seen_deliveries before)
   pub answered_is : MatchResult result (λ _. answered after ≡ answered before ++ reply ∷ []) (λ _. answered after ≡ answered before)
   pub held : MatchResult result (λ _. unanswered after ≡ drop (answers_among (reply ∷ [])) (unanswered before)) (λ _. unanswered after ≡ unanswered before)
-  pub nothing_held : (result ≡ Err NothingHeld) ↔ ((is_answer reply ≡ true) × (unanswered before ≡ []))
+  pub nothing_held : (result ≡ Err NothingHeld) ↔ ((needs_held reply ≡ true) × (unanswered before ≡ []))
+  pub too_many : (result ≡ Err TooMany) ↔ ((is_more_reply reply ≡ true) × (unanswered before ≢ []) × (MAX_EXTRAS ≤ extras_of (answered before)))
   pub refused : IfErr result (RefusesAnswer before reply)

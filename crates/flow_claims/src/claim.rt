@@ -3,7 +3,7 @@
 ghost use Rattle.std.specs.Prelude.{◌+◌, ◌<◌, ◌^◌};
 
 use arrayvec::ArrayVec;
-use evt_types::{Delivery, Reply};
+use evt_types::{Delivery, MAX_EXTRAS, Reply};
 use lane_rings::{AnswerFault, Far};
 
 /// A lane that a port holds, with the lane's end.
@@ -31,7 +31,8 @@ pub enum Claim {
 
 impl Stint {
     ghost use Rattle.std.specs.Prelude.{◌≡◌, ◌<◌, ◌≤◌, [], ◌∷◌, ◌++◌, length, MatchOption, MatchResult};
-    ghost use Rattle.lane_rings.specs.Ends.{answered, unanswered, hidden_answers, seen_deliveries, Comes};
+    ghost use Rattle.evt_types.specs.Additions.{AreBeside, extras_of};
+    ghost use Rattle.lane_rings.specs.Ends.{received_by, answered, unanswered, hidden_answers, seen_deliveries, Comes};
     ghost use Rattle.lane_rings.specs.Identity.{far_id};
     ghost use Rattle.flow_claims.specs.declared.seating.Seating.{Seating};
     ghost use Rattle.flow_claims.specs.Holder.{Receives, AnswersWith};
@@ -102,5 +103,14 @@ impl Stint {
         ensures so_far { (v : Seating) → (received_so_far v self.new ≡ received_so_far v self.old) × (answered_so_far v self.new ≡ answered_so_far v self.old) }
     {
         self.far.flush();
+    }
+
+    /// `Far::extras` of the lane's end.
+    pub fn extras(&self) -> usize
+        ensures value { result ≡ extras_of (answered self.now.far) }
+        ensures few { result ≤ MAX_EXTRAS }
+        ensures beside { AreBeside (length (received_by self.now.far)) (answered self.now.far) }
+    {
+        self.far.extras()
     }
 }

@@ -1,7 +1,9 @@
 //! The holder's end of a lane.
 
 ghost use Rattle.std.specs.Prelude.{◌≡◌, ◌≤◌, ◌+◌, [], ◌++◌, length, count_by, map, drop};
-ghost use Rattle.evt_types.specs.Operation.{is_answer};
+ghost use Rattle.evt_types.specs.Additions.{AreBeside, extras_of};
+ghost use Rattle.evt_types.specs.Operation.{is_answer, is_more_reply, needs_held};
+ghost use Rattle.evt_types.specs.declared.event.TheConstants.{MAX_EXTRAS};
 ghost use Rattle.rtrb.specs.Ring.{consumer_capacity, known_items, SameConsumer};
 ghost use Rattle.evt_types.specs.Event.{pair_of};
 ghost use Rattle.lane_rings.specs.Intakes.{handed};
@@ -12,30 +14,38 @@ use crate::intake::Intake;
 use crate::outlet::Outlet;
 use arrayvec::ArrayVec;
 use circular_buffer::HeapCircularBuffer;
-use evt_types::{Delivery, Op, Reply};
+use evt_types::{Delivery, MAX_EXTRAS, Op, Reply};
 use thiserror::Error;
 
 /// Why a reply is refused; of two causes the first.
 #[derive(Clone, Copy, Debug, PartialEq, Eq, Error)]
 pub enum AnswerFault {
-    /// A FORWARD or RELEASE where nothing that was received is unanswered.
+    /// A FORWARD, RELEASE or FORWARD_MORE where nothing that was received is unanswered.
     #[error("no received event is unanswered")]
     NothingHeld,
+    /// A FORWARD_MORE where `MAX_EXTRAS` events were added beside the oldest already.
+    #[error("too many events were added beside the oldest")]
+    TooMany,
     /// The ring had no room. The reply comes back as it was.
     #[error("the reply ring is full")]
     Full(Reply),
 }
 
-/// The holder's end of a lane: it receives deliveries and answers. It knows which deliveries it has not answered.
+/// The holder's end of a lane: it receives deliveries and answers. It knows which deliveries it has not answered, and how many events
+/// it added beside the oldest of them.
 #[derive(Drop)]
 pub struct Far {
     pub(crate) deliveries: Intake<Delivery>,
     pub(crate) replies: Outlet<Reply>,
     pub(crate) history: HeapCircularBuffer<(usize, u64)>,
+    pub(crate) extras: usize,
     pub ghost fewer: { count_by is_answer (put_in replies) ≤ length (handed deliveries) },
     ghost history_is: { history.items ≡ map pair_of (drop (count_by is_answer (put_in replies)) (handed deliveries)) },
     ghost room: { history.capacity ≡ consumer_capacity deliveries.ring },
     ghost all_received: { inside deliveries.pocket ≡ [] },
+    ghost extras_are: { extras ≡ extras_of (put_in replies) },
+    ghost extras_few: { extras ≤ MAX_EXTRAS },
+    pub ghost beside: { AreBeside (length (handed deliveries)) (put_in replies) },
 }
 
 /// Whether the reply ends the handling of a delivered event.
@@ -43,8 +53,28 @@ pub(crate) fn is_answering(reply: &Reply) -> bool
     ensures { result ≡ is_answer reply.now }
 {
     match reply.event.op {
-        Op::New => false,
+        Op::New | Op::ForwardMore => false,
         Op::Forward | Op::Release => true,
+    }
+}
+
+/// Whether the reply needs an event that is held: it answers the oldest, or adds beside it.
+fn is_about_held(reply: &Reply) -> bool
+    ensures { result ≡ needs_held reply.now }
+{
+    match reply.event.op {
+        Op::New => false,
+        Op::Forward | Op::Release | Op::ForwardMore => true,
+    }
+}
+
+/// Whether the reply adds an event beside the oldest that is held.
+fn is_adding(reply: &Reply) -> bool
+    ensures { result ≡ is_more_reply reply.now }
+{
+    match reply.event.op {
+        Op::New | Op::Forward | Op::Release => false,
+        Op::ForwardMore => true,
     }
 }
 
@@ -70,7 +100,7 @@ fn hand_out(
 
 impl Far {
     ghost use Rattle.std.specs.Prelude.{◌≡◌, ◌≢◌, ◌<◌, ◌≤◌, ◌↔◌, ◌+◌, true, false, List, [], ◌∷◌, ◌++◌, length, drop, slice_get, IsTrue, OnOk, IfErr, IfNone, MatchOption, MatchResult};
-    ghost use Rattle.evt_types.specs.Operation.{is_answer};
+    ghost use Rattle.evt_types.specs.Operation.{is_answer, is_more_reply, needs_held};
     ghost use mathlib.Core.List.{IsPrefix};
     ghost use Rattle.lane_rings.specs.Ends.{received_by, seen_deliveries, next_delivery, answered, hidden_answers, answers_among, unanswered, held_list, Comes};
     ghost use Rattle.lane_rings.specs.Identity.{far_id};
@@ -115,8 +145,9 @@ impl Far {
         hand_out(&mut self.deliveries, &mut self.history, into);
     }
 
-    /// Puts a reply into the ring, where the scheduler sees it. A FORWARD or RELEASE answers the oldest delivery that is held. `Full`
-    /// never comes before as many replies were given as the ring has room for. A refused answer changes nothing.
+    /// Puts a reply into the ring, where the scheduler sees it. A FORWARD or RELEASE answers the oldest delivery that is held; a
+    /// FORWARD_MORE adds an event beside it, of which there may be `MAX_EXTRAS`. `Full` never comes before as many replies were given
+    /// as the ring has room for. A refused answer changes nothing.
     pub fn answer(&mut self, reply: Reply) -> Result<(), AnswerFault>
         ensures lane { far_id self.new ≡ far_id self.old }
         ensures received { (received_by self.new ≡ received_by self.old) × (seen_deliveries self.new ≡ seen_deliveries self.old) }
@@ -126,7 +157,8 @@ impl Far {
         ensures held { MatchResult result
             (λ _. unanswered self.new ≡ drop (answers_among (reply ∷ [])) (unanswered self.old))
             (λ _. unanswered self.new ≡ unanswered self.old) }
-        ensures nothing_held { (result ≡ Err AnswerFault.NothingHeld) ↔ ((is_answer reply ≡ true) × (unanswered self.old ≡ [])) }
+        ensures nothing_held { (result ≡ Err AnswerFault.NothingHeld) ↔ ((needs_held reply ≡ true) × (unanswered self.old ≡ [])) }
+        ensures too_many { (result ≡ Err AnswerFault.TooMany) ↔ ((is_more_reply reply ≡ true) × (unanswered self.old ≢ []) × (MAX_EXTRAS ≤ extras_of (answered self.old))) }
         ensures refused { IfErr result (RefusesAnswer self.old reply) }
         ensures shown { hidden_answers self.new ≡ [] }
     {
@@ -146,18 +178,26 @@ impl Far {
         ensures held { MatchResult result
             (λ _. unanswered self.new ≡ drop (answers_among (reply ∷ [])) (unanswered self.old))
             (λ _. unanswered self.new ≡ unanswered self.old) }
-        ensures nothing_held { (result ≡ Err AnswerFault.NothingHeld) ↔ ((is_answer reply ≡ true) × (unanswered self.old ≡ [])) }
+        ensures nothing_held { (result ≡ Err AnswerFault.NothingHeld) ↔ ((needs_held reply ≡ true) × (unanswered self.old ≡ [])) }
+        ensures too_many { (result ≡ Err AnswerFault.TooMany) ↔ ((is_more_reply reply ≡ true) × (unanswered self.old ≢ []) × (MAX_EXTRAS ≤ extras_of (answered self.old))) }
         ensures refused { IfErr result (RefusesAnswer self.old reply) }
     {
-        let ends = is_answering(&reply);
-        if ends && self.history.is_empty() {
+        if is_about_held(&reply) && self.history.is_empty() {
             return Err(AnswerFault::NothingHeld);
         }
+        let adds = is_adding(&reply);
+        if adds && self.extras >= MAX_EXTRAS {
+            return Err(AnswerFault::TooMany);
+        }
+        let ends = is_answering(&reply);
         if let Err(back) = self.replies.put(reply) {
             return Err(AnswerFault::Full(back));
         }
         if ends {
             self.history.pop_front();
+            self.extras = 0;
+        } else if adds {
+            self.extras += 1;
         }
         Ok(())
     }
@@ -178,6 +218,16 @@ impl Far {
         ensures fewer { answers_among (answered self.now) ≤ length (received_by self.now) }
     {
         self.history.len()
+    }
+
+    /// How many events were added beside the oldest delivery that is held: the FORWARD_MOREs since the last FORWARD or RELEASE.
+    /// Each was given while something was held, and with fewer than `MAX_EXTRAS` beside it.
+    pub fn extras(&self) -> usize
+        ensures value { result ≡ extras_of (answered self.now) }
+        ensures few { result ≤ MAX_EXTRAS }
+        ensures beside { AreBeside (length (received_by self.now)) (answered self.now) }
+    {
+        self.extras
     }
 
     /// Whether as many deliveries are held as the lane's depth allows; where not, `receive` may be called.

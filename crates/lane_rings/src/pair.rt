@@ -1,6 +1,7 @@
 //! A lane is made as a pair of ends, and is at rest once both are in one hand.
 
 ghost use Rattle.std.specs.Prelude.{◌≡◌, ◌+◌, ◌≤◌, [], ◌++◌, length, max, IfOk};
+ghost use Rattle.evt_types.specs.Additions.{AreBeside};
 ghost use Rattle.lane_rings.specs.Ends.{offered, hidden_offers, taken, seen_replies, fetched_replies, received_by, seen_deliveries, answered, hidden_answers, answers_among, held_list};
 ghost use Rattle.lane_rings.specs.Identity.{near_id, far_id};
 ghost use Rattle.lane_rings.specs.Intakes.{ahead, handed};
@@ -72,6 +73,7 @@ pub fn lane(alloc: Global, depth: usize, replies: usize) -> Result<(Near, Far), 
         deliveries: receipts,
         replies: answers,
         history,
+        extras: 0,
     };
     Ok((near, far))
 }
@@ -86,6 +88,7 @@ pub fn beside(near: Near, far: Far) -> Beside
     ensures fetched { length (untaken result) ≤ (near_id near).room + length (fetched_replies near) }
     ensures held { still_held result ≡ held_list far }
     ensures fewer { answers_among (answered far) ≤ length (received_by far) }
+    ensures beside { AreBeside (length (received_by far)) (answered far) }
 {
     let Near {
         deliveries: mut offers,
@@ -95,6 +98,7 @@ pub fn beside(near: Near, far: Far) -> Beside
         deliveries: mut receipts,
         replies: mut answers,
         history,
+        extras: _,
     } = far;
     // First each producer, which then knows how many slots are free, and so how many items are left.
     offers.ring.slots_beside(&mut receipts.ring);

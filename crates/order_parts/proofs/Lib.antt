@@ -1,4 +1,9 @@
+pub mod Changes
+pub mod Fields
 pub mod HeldSlots
 pub mod Holds
+pub mod Kept
+pub mod Oldest
 pub mod Places
 pub mod Rings
+pub mod Rows

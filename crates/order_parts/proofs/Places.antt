@@ -1,45 +1,89 @@
 -- The places, read off the fields.
-use Rattle.std.proofs.Common.{◌≡◌, ℕ, true, not, List, [], ◌∷◌, ◌++◌, map, refl, ap, sym, ◌∙◌, Option, Some, None, zero, suc, slice_get, slice_set, slice_index_or, option_to_list, IsTrue}
-use Rattle.std.proofs.lemmas.Option.{same_Some}
+use Rattle.std.proofs.Common.{◌≡◌, ◌≢◌, ℕ, ◌<◌, true, not, List, [], ◌∷◌, ◌++◌, length, refl, ap, ap₂, sym, ◌∙◌, Option, Some, None, zero, suc, slice_get, slice_set, slice_index_or, option_to_list, IsTrue, arith}
+use Rattle.std.proofs.lemmas.Option.{same_Some, none-some}
 use Rattle.evt_types.specs.Place.{Place}
 use Rattle.evt_types.specs.declared.event.Event.{Event}
-use Rattle.order_parts.specs.Reorder.{place_of, oldest_answered, is_open, is_answered, forwards_of, resolved, open_place}
+use Rattle.order_parts.specs.Reorder.{place_of, places_by, oldest_answered, is_open, is_answered, open_place}
 use Rattle.order_parts.specs.declared.reorder.Answer.{Answer}
 use Rattle.order_parts.specs.declared.reorder.Answer.TheVariants.{Awaited, Resolved}
 use Rattle.order_parts.specs.declared.reorder.Handed.{Handed}
 
--- the oldest place is unresolved
-pub oldest_awaited : (xs : List Handed) (h : Handed) → slice_get xs 0 ≡ Some h → h.answer ≡ Awaited → oldest_answered (map place_of xs) ≡ None
-oldest_awaited [] h e a = refl
-oldest_awaited (x ∷ xs) h e a =
-    let awaited : x.answer ≡ Awaited = ap (λ (k : Handed). k.answer) (same_Some x h e) ∙ a in
-    rw awaited refl
+-- which events were added at each place: how many of those in its row
+abbrev pub Rows : Type 0
+Rows = ℕ → ℕ → List Event
 
--- an unresolved place was forwarded as nothing yet
-no_forwards : (a : Answer) → IsTrue (not (is_answered a)) → forwards_of a ≡ []
-no_forwards Awaited o = refl
-no_forwards (Resolved e) o = cc
+-- ---- the places one by one
 
--- the place of these fields, resolved
-pub resolved_place : (x : Handed) (e : Option Event) → IsTrue (not (is_answered x.answer)) → place_of (record { number = x.number; answer = Resolved e }) ≡ resolved (place_of x) e
-resolved_place x e o =
-    ap (λ (fs : List Event). let y : Place = record { number = x.number; answered = true; forwards = fs ++ option_to_list e } in y) (sym (no_forwards x.answer o))
+pub places_length : (row : Rows) (hs : List Handed) → length (places_by row hs) ≡ length hs
+places_length row [] = refl
+places_length row (h ∷ hs) = ap suc (places_length (λ i. row (suc i)) hs)
 
--- the places after a write of the answer of one that is unresolved
-pub resolve_at : (xs : List Handed) (i : ℕ) (h : Handed) (e : Option Event) → slice_get xs i ≡ Some h → IsTrue (is_open (slice_get (map place_of xs) i)) → map place_of (slice_set xs i (record { number = h.number; answer = Resolved e })) ≡ slice_set (map place_of xs) i (resolved (slice_index_or (map place_of xs) i (open_place 0)) e)
-resolve_at [] i h e q o = refl
-resolve_at (x ∷ xs) zero h e q o =
-    ap (λ (k : Handed). place_of (record { number = k.number; answer = Resolved e }) ∷ map place_of xs) (sym (same_Some x h q))
-    ∙ ap (λ (y : Place). y ∷ map place_of xs) (resolved_place x e o)
-resolve_at (x ∷ xs) (suc i) h e q o = ap (λ (ys : List Place). place_of x ∷ ys) (resolve_at xs i h e q o)
+pub place_there : (row : Rows) (hs : List Handed) (i : ℕ) (h : Handed) → slice_get hs i ≡ Some h → slice_get (places_by row hs) i ≡ Some (place_of (row i h.added) h)
+place_there row [] i h there = absurd (none-some h there)
+place_there row (x ∷ hs) zero h there = ap (λ (y : Handed). Some (place_of (row 0 y.added) y)) (same_Some x h there)
+place_there row (x ∷ hs) (suc i) h there = place_there (λ k. row (suc k)) hs i h there
 
--- where nothing is read, no place is unresolved
-pub none_open : (xs : List Handed) (i : ℕ) → slice_get xs i ≡ None → IsTrue (is_open (slice_get (map place_of xs) i)) → ⊥
-none_open [] i q o = cc
-none_open (x ∷ xs) zero q o = cc
-none_open (x ∷ xs) (suc i) q o = none_open xs i q o
+pub no_place : (row : Rows) (hs : List Handed) (i : ℕ) → slice_get hs i ≡ None → slice_get (places_by row hs) i ≡ None
+no_place row [] i none = refl
+no_place row (x ∷ hs) zero none = absurd (none-some x (sym none))
+no_place row (x ∷ hs) (suc i) none = no_place (λ k. row (suc k)) hs i none
 
-pub place_none : (xs : List Handed) (i : ℕ) (d : Place) → slice_get xs i ≡ None → slice_index_or (map place_of xs) i d ≡ d
-place_none [] i d e = refl
-place_none (x ∷ xs) zero d e = absurd cc
-place_none (x ∷ xs) (suc i) d e = place_none xs i d e
+pub place_none : (row : Rows) (hs : List Handed) (i : ℕ) (d : Place) → slice_get hs i ≡ None → slice_index_or (places_by row hs) i d ≡ d
+place_none row [] i d none = refl
+place_none row (x ∷ hs) zero d none = absurd (none-some x (sym none))
+place_none row (x ∷ hs) (suc i) d none = place_none (λ k. row (suc k)) hs i d none
+
+-- ---- what a change of the fields leaves of the places
+
+-- other rows with the same events
+pub places_stay : (row other : Rows) (hs : List Handed) → ((k : ℕ) (y : Handed) → slice_get hs k ≡ Some y → other k y.added ≡ row k y.added) → places_by other hs ≡ places_by row hs
+places_stay row other [] same = refl
+places_stay row other (h ∷ hs) same =
+    ap₂ (λ (es : List Event) (ps : List Place). place_of es h ∷ ps) (same 0 h refl) (places_stay (λ i. row (suc i)) (λ i. other (suc i)) hs (λ k y there. same (suc k) y there))
+
+-- a write to one place, and to its row alone
+pub places_set : (row other : Rows) (hs : List Handed) (i : ℕ) (h : Handed) (x : Place) → i < length hs
+    → ((k : ℕ) (y : Handed) → slice_get hs k ≡ Some y → k ≢ i → other k y.added ≡ row k y.added)
+    → place_of (other i h.added) h ≡ x → places_by other (slice_set hs i h) ≡ slice_set (places_by row hs) i x
+places_set row other [] i h x within same is = refl
+places_set row other (y ∷ hs) zero h x within same is =
+    ap₂ (λ (p : Place) (ps : List Place). p ∷ ps) is (places_stay (λ k. row (suc k)) (λ k. other (suc k)) hs (λ k z there. same (suc k) z there (λ e. absurd (omega (arith, e)))))
+places_set row other (y ∷ hs) (suc i) h x within same is =
+    ap₂ (λ (es : List Event) (ps : List Place). place_of es y ∷ ps) (same 0 y refl (λ e. absurd (omega (arith, e))))
+    (places_set (λ k. row (suc k)) (λ k. other (suc k)) hs i h x (omega (arith, within)) (λ k z there apart. same (suc k) z there (λ e. apart (omega (arith, e)))) is)
+
+-- a place more, to which nothing was added
+pub places_push : (row : Rows) (hs : List Handed) (n : ℕ) → ((i : ℕ) → row i 0 ≡ []) → places_by row (hs ++ record { number = n; added = 0; answer = Awaited } ∷ []) ≡ places_by row hs ++ open_place n ∷ []
+places_push row [] n none = ap (λ (es : List Event). place_of es (record { number = n; added = 0; answer = Awaited }) ∷ []) (none 0)
+places_push row (h ∷ hs) n none = ap (λ (ps : List Place). place_of (row 0 h.added) h ∷ ps) (places_push (λ i. row (suc i)) hs n (λ i. none (suc i)))
+
+-- ---- the oldest place
+
+pub oldest_none : (row : Rows) (hs : List Handed) → slice_get hs 0 ≡ None → oldest_answered (places_by row hs) ≡ None
+oldest_none row [] none = refl
+oldest_none row (x ∷ hs) none = absurd (none-some x (sym none))
+
+-- it is unresolved
+pub oldest_awaited : (row : Rows) (hs : List Handed) (h : Handed) → slice_get hs 0 ≡ Some h → h.answer ≡ Awaited → oldest_answered (places_by row hs) ≡ None
+oldest_awaited row [] h there awaited = refl
+oldest_awaited row (x ∷ hs) h there awaited =
+    let still : x.answer ≡ Awaited = ap (λ (y : Handed). y.answer) (same_Some x h there) ∙ awaited in
+    rw still refl
+
+-- it is resolved
+pub oldest_resolved : (row : Rows) (hs : List Handed) (h : Handed) (e : Option Event) → slice_get hs 0 ≡ Some h → h.answer ≡ Resolved e
+    → oldest_answered (places_by row hs) ≡ Some (record { number = h.number; answered = true; forwards = row 0 h.added ++ option_to_list e })
+oldest_resolved row [] h e there resolved = absurd (none-some h there)
+oldest_resolved row (x ∷ hs) h e there resolved =
+    let same : x ≡ h = same_Some x h there in
+    rw same (rw resolved refl)
+
+-- ---- an open place
+
+-- the place of these fields is unresolved
+pub answer_open : (es : List Event) (h : Handed) → IsTrue (is_open (Some (place_of es h))) → h.answer ≡ Awaited
+answer_open es h = answer_awaited h.answer
+  where
+    answer_awaited : (a : Answer) → IsTrue (not (is_answered a)) → a ≡ Awaited
+    answer_awaited Awaited o = refl
+    answer_awaited (Resolved e) o = absurd cc

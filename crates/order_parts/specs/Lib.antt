@@ -3,3 +3,4 @@ pub mod History
 pub mod Pins
 pub mod Reorder
 pub mod Ring
+pub mod Rows

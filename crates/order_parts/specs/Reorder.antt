@@ -1,8 +1,10 @@
 -- The reorder buffer of an ordered queue: a place for each open number, in hand-out order.
-use Rattle.std.specs.Prelude.{ℕ, ◌+◌, ◌-◌, ◌%◌, ◌^◌, Bool, true, false, not, List, [], ◌∷◌, ◌++◌, length, map, drop, slice_get, slice_set, slice_index_or, Option, Some, None, option_to_list, if◌then◌else◌}
+use Rattle.std.specs.Prelude.{ℕ, suc, ◌≡◌, ◌+◌, ◌-◌, ◌*◌, ◌%◌, ◌^◌, ◌≤◌, Bool, true, false, not, nat_lt, List, [], ◌∷◌, ◌++◌, length, map, take, drop, slice_get, slice_set, slice_index_or, Option, Some, None, option_to_list, if◌then◌else◌}
+use Rattle.arrayvec.specs.ArrayVec.{ArrayVec}
 use Rattle.evt_types.specs.Place.{Place}
 use Rattle.evt_types.specs.declared.event.Event.{Event}
 use Rattle.evt_types.specs.declared.event.Numbered.{Numbered}
+use Rattle.evt_types.specs.declared.event.TheConstants.{MAX_EXTRAS, MAX_FORWARDS}
 use Rattle.order_parts.specs.declared.reorder.Answer.{Answer}
 use Rattle.order_parts.specs.declared.reorder.Answer.TheVariants.{Awaited, Resolved}
 use Rattle.order_parts.specs.declared.reorder.Handed.{Handed}
@@ -12,6 +14,11 @@ pub record Reordering : Type 0 where
   pub first : ℕ
   pub places : List Place
   pub depth : ℕ
+
+-- a place has no more events than an event may be passed on as; while it is unanswered, no more than may be added
+pub record HasFew (x : Place) : Type 0 where
+  pub few : length x.forwards ≤ MAX_FORWARDS
+  pub fewer : x.answered ≡ false → length x.forwards ≤ MAX_EXTRAS
 
 -- ---- how the fields hold a place
 
@@ -23,8 +30,26 @@ abbrev pub forwards_of : Answer → List Event
 forwards_of Awaited = []
 forwards_of (Resolved e) = option_to_list e
 
-abbrev pub place_of : Handed → Place
-place_of h = record { number = h.number; answered = is_answered h.answer; forwards = forwards_of h.answer }
+-- the place of these fields, beside whose event these were added
+abbrev pub place_of : List Event → Handed → Place
+place_of added h = record { number = h.number; answered = is_answered h.answer; forwards = added ++ forwards_of h.answer }
+
+-- the places, where `row i n` is what the first n events in the row of the i-th place are
+abbrev pub places_by : (ℕ → ℕ → List Event) → List Handed → List Place
+places_by row [] = []
+places_by row (h ∷ hs) = place_of (row 0 h.added) h ∷ places_by (λ i. row (suc i)) hs
+
+-- where a row that is below 2 * n is, around the end of n rows
+unfoldable pub wrapped : ℕ → ℕ → ℕ
+wrapped n row = if nat_lt row n then row else (row - n)
+
+-- the first m events of a row
+unfoldable pub in_row : List Event → ℕ → ℕ → List Event
+in_row extras row m = take m (drop (MAX_EXTRAS * row) extras)
+
+-- the rows of the places, of which the oldest has the row `first`
+abbrev pub rows_from : List Event → ℕ → ℕ → ℕ → ℕ → List Event
+rows_from extras n first i m = in_row extras (wrapped n (first + i)) m
 
 -- ---- the calls
 
@@ -59,9 +84,20 @@ abbrev pub is_open : Option Place → Bool
 is_open None = false
 is_open (Some x) = not x.answered
 
--- the place is answered, by a forward as the event or by a release
+-- the place is answered, by a forward as the event or by a release; what was added stays before it
 abbrev pub resolved : Place → Option Event → Place
 resolved x e = record { number = x.number; answered = true; forwards = x.forwards ++ option_to_list e }
+
+-- the place of this number; where there is none, an open one without events
+abbrev pub place_or_open : Reordering → ℕ → Place
+place_or_open r p = slice_index_or r.places (index_of r p) (open_place 0)
+
+-- an event more was added beside the event of the place
+abbrev pub with_added : Place → Event → Place
+with_added x e = record { number = x.number; answered = x.answered; forwards = x.forwards ++ e ∷ [] }
+
+abbrev pub after_add : Reordering → ℕ → Event → Reordering
+after_add r p e = record r { places = slice_set r.places (index_of r p) (with_added (place_or_open r p) e) }
 
 abbrev pub after_resolve : Reordering → ℕ → Option Event → Reordering
 after_resolve r p e =
@@ -76,13 +112,21 @@ abbrev pub oldest_answered : List Place → Option Place
 oldest_answered [] = None
 oldest_answered (x ∷ xs) = if x.answered then Some x else None
 
--- the place that left with an event's number and what the event was forwarded as
-abbrev pub left : ℕ × Option Event → Place
-left r = record { number = r.0; answered = true; forwards = option_to_list r.1 }
+-- the place that left with an event's number and what the event was passed on as
+abbrev pub left : ℕ × ArrayVec Event → Place
+left r = record { number = r.0; answered = true; forwards = r.1.items }
+
+-- the same, where nothing was added
+abbrev pub left_plain : ℕ × Option Event → Place
+left_plain r = record { number = r.0; answered = true; forwards = option_to_list r.1 }
+
+-- the place behind the oldest is the first
+abbrev pub without_oldest : Reordering → Reordering
+without_oldest r = record r { first = number_of r 1; places = drop 1 r.places }
 
 abbrev pub after_leaving : Reordering → Option Place → Reordering
 after_leaving r None = r
-after_leaving r (Some x) = record r { first = number_of r 1; places = drop 1 r.places }
+after_leaving r (Some x) = without_oldest r
 
 -- it leaves, and the place behind it is the first
 abbrev pub after_leave : Reordering → Reordering

@@ -1,11 +1,12 @@
 //! The reorder buffer of an ordered queue.
 
-ghost use Rattle.std.specs.Prelude.{◌≡◌, ◌+◌, ◌%◌, ◌^◌, ◌<◌, ◌≤◌, length, nat_lt, slice_index_or, option_map, option_to_list, IfOk, IsTrue};
-ghost use Rattle.order_parts.specs.Reorder.{empty, after_hand, next_number, place_at, is_open, after_resolve, kept_of, left, oldest_answered, after_leave, open_place, place_of};
+ghost use Rattle.std.specs.Prelude.{◌≡◌, ◌+◌, ◌*◌, ◌%◌, ◌^◌, ◌<◌, ◌≤◌, ◌++◌, All, MatchOption, Some, length, nat_lt, slice_get, slice_index_or, option_map, option_to_list, IfOk, IsTrue};
+ghost use Rattle.order_parts.specs.Reorder.{HasFew, after_add, after_hand, after_leave, after_resolve, empty, forwards_of, is_open, kept_of, left, left_plain, next_number, oldest_answered, open_place, place_at, place_or_open, without_oldest, wrapped};
 
 use crate::Memory;
+use arrayvec::ArrayVec;
 use circular_buffer::HeapCircularBuffer;
-use evt_types::{Event, Numbered};
+use evt_types::{Event, MAX_EXTRAS, MAX_FORWARDS, Numbered};
 use std::alloc::Global;
 use std::marker::Model;
 
@@ -16,10 +17,11 @@ enum Answer {
     Resolved(Option<Event>),
 }
 
-/// A place: the number of the event that was handed out, and its answer.
+/// A place: the number of the event that was handed out, how many events were added beside it, and its answer.
 #[derive(Clone, Copy, Debug)]
 struct Handed {
     number: u64,
+    added: usize,
     answer: Answer,
 }
 
@@ -29,28 +31,53 @@ struct Handed {
 pub struct Reorder {
     ring: HeapCircularBuffer<Handed>,
     first: u64,
+    /// A row of `MAX_EXTRAS` for the events that were added at each place; the rows turn with the ring. They stand apart,
+    /// so that a place to which nothing is added costs no more than its count.
+    extras: Vec<Event>,
+    /// The row of the oldest place.
+    first_row: usize,
 }
 
 impl Model for Reorder {
-    ghost use Rattle.std.specs.Prelude.{map};
-    ghost use Rattle.order_parts.specs.Reorder.{Reordering, place_of};
+    ghost use Rattle.order_parts.specs.Reorder.{Reordering, places_by, rows_from};
 
     ghost Value = { Reordering };
 
-    ghost view = { λ a. record { first = a.first; places = map place_of a.ring.items; depth = a.ring.capacity } };
+    ghost use Rattle.order_parts.specs.Rows.{HasRows};
+
+    ghost view = { λ a. record { first = a.first; places = places_by (rows_from a.extras.items a.ring.capacity a.first_row) a.ring.items; depth = a.ring.capacity } };
+
+    ghost invariant = { HasRows };
 }
 
-/// What the place keeps, under its event's number.
-fn kept_in(handed: &Handed) -> Option<Numbered>
-    ensures { option_to_list result ≡ kept_of (place_of handed.now) }
+/// Where a row that is less than twice around is.
+fn around(row: usize, rows: usize) -> usize
+    ensures { result ≡ wrapped rows row }
 {
-    match handed.answer {
-        Answer::Resolved(Some(event)) => Some(Numbered {
-            number: handed.number,
-            event,
-        }),
-        Answer::Resolved(None) | Answer::Awaited => None,
+    if row < rows { row } else { row - rows }
+}
+
+/// What the answer forwards.
+fn forward_in(answer: Answer) -> Option<Event>
+    ensures { option_to_list result ≡ forwards_of answer }
+{
+    match answer {
+        Answer::Resolved(forward) => forward,
+        Answer::Awaited => None,
     }
+}
+
+/// The events that were added, and the forward behind them.
+fn passed_on(added: &[Event], forward: Option<Event>) -> ArrayVec<Event, MAX_FORWARDS>
+    requires { length added.now ≤ MAX_EXTRAS }
+    ensures { result.items ≡ added.now ++ option_to_list forward }
+{
+    let mut events = ArrayVec::new();
+    let _ = events.try_extend_from_slice(added);
+    if let Some(event) = forward {
+        events.push(event);
+    }
+    events
 }
 
 impl Reorder {
@@ -59,13 +86,22 @@ impl Reorder {
         ensures { IfOk result (λ r. r ≡ empty depth) }
     {
         let ring = HeapCircularBuffer::with_capacity(alloc, depth)?;
-        Ok(Reorder { ring, first: 0 })
+        // More events than can be counted are asked for as the most that can be, which no memory has.
+        let room = depth.checked_mul(MAX_EXTRAS).unwrap_or(usize::MAX);
+        let extras = vec![in alloc; Event::default(); room]?;
+        Ok(Reorder {
+            ring,
+            first: 0,
+            extras,
+            first_row: 0,
+        })
     }
 
     /// Whether there is room for a place more.
     pub fn room(&self) -> bool
         ensures value { result ≡ nat_lt (length self.now.places) self.now.depth }
         ensures within { (length self.now.places ≤ self.now.depth) × (self.now.depth < 2 ^ 63) }
+        ensures few { All HasFew self.now.places }
     {
         self.ring.len() < self.ring.capacity()
     }
@@ -77,14 +113,37 @@ impl Reorder {
         self.ring.len()
     }
 
-    /// What the place at this index, counted from the oldest, keeps: its event's number, with what that was forwarded as.
-    pub fn kept_at(&self, index: usize) -> Option<Numbered>
-        ensures { option_to_list result ≡ kept_of (slice_index_or self.now.places index (open_place 0)) }
+    /// How many events the place at this index, counted from the oldest, keeps.
+    pub fn kept_count(&self, index: usize) -> usize
+        ensures value { result ≡ length (slice_index_or self.now.places index (open_place 0)).forwards }
+        ensures within { result ≤ MAX_FORWARDS }
     {
         match self.ring.get(index) {
-            Some(handed) => kept_in(handed),
-            None => None,
+            Some(handed) => match forward_in(handed.answer) {
+                Some(_) => handed.added + 1,
+                None => handed.added,
+            },
+            None => 0,
         }
+    }
+
+    /// The `nth` event that the place at this index, counted from the oldest, keeps, under the number of the place's event:
+    /// those that were added come first, in order, and then what that was forwarded as.
+    pub fn kept_at(&self, index: usize, nth: usize) -> Option<Numbered>
+        ensures { result ≡ slice_get (kept_of (slice_index_or self.now.places index (open_place 0))) nth }
+    {
+        let handed = self.ring.get(index)?;
+        let number = handed.number;
+        if nth < handed.added {
+            let row = around(self.first_row + index, self.ring.capacity());
+            let event = self.extras[MAX_EXTRAS * row + nth];
+            return Some(Numbered { number, event });
+        }
+        if nth > handed.added {
+            return None;
+        }
+        let event = forward_in(handed.answer)?;
+        Some(Numbered { number, event })
     }
 
     /// An event is handed out: it gets the next place, whose number is the answer.
@@ -96,9 +155,25 @@ impl Reorder {
         let place = self.first.wrapping_add(self.ring.len() as u64);
         self.ring.push_back(Handed {
             number,
+            added: 0,
             answer: Answer::Awaited,
         });
         place
+    }
+
+    /// An event is added beside that of the place, which stays unanswered: it goes behind those that were added before.
+    pub fn add(&mut self, place: u64, event: Event)
+        requires open { IsTrue (is_open (place_at self.old place)) }
+        requires room { length (place_or_open self.old place).forwards < MAX_EXTRAS }
+        ensures { self.new ≡ after_add self.old place event }
+    {
+        let index = place.wrapping_sub(self.first) as usize;
+        let rows = self.ring.capacity();
+        if let Some(handed) = self.ring.get_mut(index) {
+            let row = around(self.first_row + index, rows);
+            self.extras[MAX_EXTRAS * row + handed.added] = event;
+            handed.added += 1;
+        }
     }
 
     /// The event of the place is answered, by a forward or by its release.
@@ -112,8 +187,9 @@ impl Reorder {
         }
     }
 
-    /// The oldest place leaves, where it is resolved: its event's number, and what it was forwarded as.
-    pub fn leave(&mut self) -> Option<(u64, Option<Event>)>
+    /// The oldest place leaves, where it is resolved: its event's number, and what it was passed on as, in order: the events
+    /// that were added, and then the forward.
+    pub fn leave(&mut self) -> Option<(u64, ArrayVec<Event, MAX_FORWARDS>)>
         ensures value { option_map left result ≡ oldest_answered self.old.places }
         ensures rest { self.new ≡ after_leave self.old }
     {
@@ -121,10 +197,39 @@ impl Reorder {
         match oldest.answer {
             Answer::Awaited => None,
             Answer::Resolved(forward) => {
-                self.ring.pop_front();
-                self.first = self.first.wrapping_add(1);
-                Some((oldest.number, forward))
+                let row = MAX_EXTRAS * self.first_row;
+                let events = passed_on(&self.extras[row..row + oldest.added], forward);
+                self.advance();
+                Some((oldest.number, events))
             }
         }
+    }
+
+    /// The quick way to `leave`, which serves in any case, for a place to which nothing was added: either it does as that
+    /// would, or it gives nothing and changes nothing. So where this gives nothing, the oldest place may still leave.
+    pub fn leave_plain(&mut self) -> Option<(u64, Option<Event>)>
+        ensures { MatchOption result (self.new ≡ self.old) (λ r. (oldest_answered self.old.places ≡ Some (left_plain r)) × (self.new ≡ after_leave self.old)) }
+    {
+        let plain = self.ring.front().copied()?;
+        if plain.added > 0 {
+            return None;
+        }
+        match plain.answer {
+            Answer::Awaited => None,
+            Answer::Resolved(forward) => {
+                self.advance();
+                Some((plain.number, forward))
+            }
+        }
+    }
+
+    /// The oldest place leaves.
+    fn advance(&mut self)
+        requires { 0 < length self.old.places }
+        ensures { self.new ≡ without_oldest self.old }
+    {
+        self.ring.pop_front();
+        self.first = self.first.wrapping_add(1);
+        self.first_row = around(self.first_row + 1, self.ring.capacity());
     }
 }

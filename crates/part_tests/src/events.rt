@@ -45,6 +45,11 @@ const RELEASE: Fields = Fields {
     ..ZERO
 };
 
+const FORWARD_MORE: Fields = Fields {
+    op: Op::ForwardMore,
+    ..ZERO
+};
+
 const PLAIN: Fields = Fields {
     flow: 7,
     priority: 128,
@@ -63,11 +68,12 @@ const LARGEST: Fields = Fields {
 };
 
 /// Events, each with its queue's scheduling type, and the words of both.
-static WORDS: [(Fields, Kind, u64); 4] = [
+static WORDS: [(Fields, Kind, u64); 5] = [
     (PLAIN, Kind::Atomic, 0x0080_0040_0000_0007),
     (LARGEST, Kind::Parallel, 0x00ff_ff82_ffff_ffff),
     (ZERO, Kind::Ordered, 0),
     (RELEASE, Kind::Ordered, 0x0000_0002_0000_0000),
+    (FORWARD_MORE, Kind::Ordered, 0x0000_0003_0000_0000),
 ];
 
 #[test]
@@ -80,9 +86,8 @@ fn words_of_events(rt: HostRuntime) -> Result<(), Fail> {
     Ok(())
 }
 
-static WRONG_WORDS: [(u64, WordFault); 3] = [
+static WRONG_WORDS: [(u64, WordFault); 2] = [
     (0x0000_0004_0000_0000, WordFault::ReservedBits),
-    (0x0000_0003_0000_0000, WordFault::UnknownOp),
     (0x0000_00c0_0000_0000, WordFault::UnknownKind),
 ];
 

@@ -3,9 +3,9 @@
 ghost use Rattle.std.specs.Prelude.{◌≡◌, ◌<◌, ◌≤◌, [], replicate, IfOk};
 ghost use Rattle.order_parts.specs.History.{entries_of};
 ghost use Rattle.order_parts.specs.Pins.{free};
-ghost use Rattle.order_parts.specs.Reorder.{empty};
+ghost use Rattle.order_parts.specs.Reorder.{after_leave, empty};
 
-use evt_types::{Event, Op};
+use evt_types::{Event, Numbered, Op};
 use order_parts::{Entry, History, Memory, Pins, Reorder};
 use place_set::Places;
 use std::alloc::Global;
@@ -39,17 +39,30 @@ fn history_of(alloc: Global, capacity: usize) -> Result<History, Memory>
     }
 }
 
-/// An event as a port forwards it.
-const FORWARD: Event = Event {
-    flow: 7,
-    sub_type: 0,
-    event_type: 0,
-    op: Op::Forward,
-    queue: 1,
-    priority: 128,
-    impl_opaque: 0,
-    payload: 1,
-};
+/// An event for another queue, of this operation and payload.
+macro_rules! event_of {
+    ($op:ident, $payload:literal) => {
+        Event {
+            flow: 7,
+            sub_type: 0,
+            event_type: 0,
+            op: Op::$op,
+            queue: 1,
+            priority: 128,
+            impl_opaque: 0,
+            payload: $payload,
+        }
+    };
+}
+
+/// An event as a port forwards it, and events that it adds.
+const FORWARD: Event = event_of!(Forward, 1);
+
+const FIRST: Event = event_of!(ForwardMore, 10);
+
+const SECOND: Event = event_of!(ForwardMore, 11);
+
+const THIRD: Event = event_of!(ForwardMore, 12);
 
 #[test]
 fn a_slot_is_free_once_all_are_answered(rt: HostRuntime) -> Result<(), Fail> {
@@ -86,16 +99,96 @@ fn a_held_slot_stands_on_its_lane(rt: HostRuntime) -> Result<(), Fail> {
     Ok(())
 }
 
+/// Whether a place leaves that had this number and was passed on as these events, or none leaves.
+fn leaves(reorder: &mut Reorder, wanted: Option<(u64, &[Event])>) -> bool
+    ensures { reorder.new ≡ after_leave reorder.old }
+{
+    match (reorder.leave(), wanted) {
+        (Some((number, events)), Some((other, all))) => {
+            number == other && events.as_slice() == all
+        }
+        (None, None) => true,
+        _ => false,
+    }
+}
+
 #[test]
 fn the_oldest_place_leaves_first(rt: HostRuntime) -> Result<(), Fail> {
     let mut reorder = reorder_of(rt.alloc(), 2)?;
     let handed = (reorder.hand(5), reorder.hand(6), reorder.room());
     reorder.resolve(1, None);
-    let early = reorder.leave();
+    let early = leaves(&mut reorder, None);
     reorder.resolve(0, None);
-    let left = [early, reorder.leave(), reorder.leave(), reorder.leave()];
-    assert_eq!(rt; handed, (0, 1, false));
-    assert_eq!(rt; left, [None, Some((5, None)), Some((6, None)), None]);
+    let left = [
+        early,
+        leaves(&mut reorder, Some((5, &[]))),
+        leaves(&mut reorder, Some((6, &[]))),
+        leaves(&mut reorder, None),
+    ];
+    assert_eq!(rt; (handed, left), ((0, 1, false), [true; 4]));
+    Ok(())
+}
+
+#[test]
+fn added_events_leave_before_the_forward(rt: HostRuntime) -> Result<(), Fail> {
+    let mut reorder = reorder_of(rt.alloc(), 1)?;
+    reorder.hand(5);
+    reorder.add(0, FIRST);
+    reorder.add(0, SECOND);
+    let early = leaves(&mut reorder, None);
+    reorder.resolve(0, Some(FORWARD));
+    let kept = (
+        reorder.kept_count(0),
+        reorder.kept_at(0, 1),
+        reorder.kept_at(0, 3),
+    );
+    let all = leaves(&mut reorder, Some((5, &[FIRST, SECOND, FORWARD])));
+    let second = Numbered {
+        number: 5,
+        event: SECOND,
+    };
+    assert_eq!(rt; (kept, [early, all]), ((3, Some(second), None), [true; 2]));
+    Ok(())
+}
+
+/// What is added to places in turn leaves with its own place, and the ring has room for more of it then.
+#[test]
+fn each_place_keeps_what_was_added_to_it(rt: HostRuntime) -> Result<(), Fail> {
+    let mut reorder = reorder_of(rt.alloc(), 2)?;
+    reorder.hand(5);
+    reorder.hand(6);
+    reorder.add(1, FIRST);
+    reorder.add(0, SECOND);
+    reorder.add(1, THIRD);
+    reorder.resolve(0, None);
+    let oldest = leaves(&mut reorder, Some((5, &[SECOND])));
+    reorder.hand(7);
+    reorder.add(2, FIRST);
+    reorder.add(1, SECOND);
+    reorder.resolve(1, None);
+    let left = leaves(&mut reorder, Some((6, &[FIRST, THIRD, SECOND])));
+    reorder.resolve(2, Some(FORWARD));
+    let last = leaves(&mut reorder, Some((7, &[FIRST, FORWARD])));
+    assert_eq!(rt; [oldest, left, last], [true; 3]);
+    Ok(())
+}
+
+/// The quick way out is for a place to which nothing was added.
+#[test]
+fn a_plain_place_leaves_quickly(rt: HostRuntime) -> Result<(), Fail> {
+    let mut reorder = reorder_of(rt.alloc(), 2)?;
+    reorder.hand(5);
+    reorder.hand(6);
+    reorder.add(0, FIRST);
+    reorder.resolve(0, None);
+    reorder.resolve(1, Some(FORWARD));
+    let early = reorder.leave_plain();
+    let oldest = leaves(&mut reorder, Some((5, &[FIRST])));
+    let plain = reorder.leave_plain();
+    assert_eq!(rt;
+        (early, oldest, plain),
+        (None, true, Some((6, Some(FORWARD))))
+    );
     Ok(())
 }
 
@@ -138,16 +231,18 @@ fn places_wrap_round_the_ring(rt: HostRuntime) -> Result<(), Fail> {
     let mut reorder = turned_twice(rt.alloc())?;
     let handed = [reorder.hand(16), reorder.hand(17)];
     reorder.resolve(7, Some(FORWARD));
-    let early = reorder.leave();
+    let early = leaves(&mut reorder, None);
     reorder.resolve(6, None);
-    let oldest = reorder.leave();
+    let oldest = leaves(&mut reorder, Some((16, &[])));
     let last = (reorder.hand(18), reorder.hand(19), reorder.room());
-    let left = [early, oldest, reorder.leave(), reorder.leave()];
+    let left = [
+        early,
+        oldest,
+        leaves(&mut reorder, Some((17, &[FORWARD]))),
+        leaves(&mut reorder, None),
+    ];
     assert_eq!(rt; (handed, last), ([6, 7], (8, 9, false)));
-    assert_eq!(rt;
-        left,
-        [None, Some((16, None)), Some((17, Some(FORWARD))), None]
-    );
+    assert_eq!(rt; left, [true; 4]);
     Ok(())
 }
 
@@ -175,7 +270,7 @@ fn the_oldest_entry_is_popped(rt: HostRuntime) -> Result<(), Fail> {
 fn nothing_fits_without_room(rt: HostRuntime) -> Result<(), Fail> {
     let mut reorder = reorder_of(rt.alloc(), 0)?;
     let mut history = history_of(rt.alloc(), 0)?;
-    assert_eq!(rt; (reorder.room(), reorder.leave()), (false, None));
+    assert_eq!(rt; (reorder.room(), leaves(&mut reorder, None)), (false, true));
     let both = (history.is_full(), history.is_empty());
     assert_eq!(rt; (both, history.pop()), ((true, true), None));
     assert_eq!(rt; pins_of(rt.alloc(), 0)?.slots(), 0);

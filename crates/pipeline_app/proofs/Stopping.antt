@@ -20,7 +20,7 @@ use Rattle.event_recorder.specs.Recorder.{Recorded}
 use Rattle.evt_types.specs.declared.draft.QueueDraft.{QueueDraft}
 use Rattle.evt_types.specs.declared.step.Source.TheVariants.{New, Of}
 use Rattle.evt_types.specs.declared.step.Step.{Step}
-use Rattle.evt_types.specs.declared.step.Step.TheVariants.{Accept, Give, Done, Turned, Bounced, Shut}
+use Rattle.evt_types.specs.declared.step.Step.TheVariants.{Accept, Give, Done, More, Turned, Bounced, Shut}
 use Rattle.play_documents.specs.Command.{Line}
 use Rattle.play_text.specs.Text.{IsInRange}
 use Rattle.play_text.specs.declared.answer.Answer.{Answer}
@@ -115,6 +115,7 @@ formed_in_range p (Accept q e (New l)) h = h.entry.queue
 formed_in_range p (Accept q e (Of r n)) h = h.entry.queue
 formed_in_range p (Give l q n) h = tt
 formed_in_range p (Done l o) h = tt
+formed_in_range p (More l e) h = tt
 formed_in_range p (Turned l e) h = tt
 formed_in_range p (Bounced l) h = tt
 formed_in_range p Shut h = tt

@@ -10,7 +10,7 @@ use Rattle.evt_types.specs.declared.step.Outcome.{Outcome}
 use Rattle.evt_types.specs.declared.step.Outcome.TheVariants.{Forwarded, Released}
 use Rattle.evt_types.specs.declared.step.Source.TheVariants.{New, Of}
 use Rattle.evt_types.specs.declared.step.Step.{Step}
-use Rattle.evt_types.specs.declared.step.Step.TheVariants.{Accept, Give, Done, Turned, Bounced, Shut}
+use Rattle.evt_types.specs.declared.step.Step.TheVariants.{Accept, Give, Done, More, Turned, Bounced, Shut}
 use Rattle.lists.proofs.Lists.{eqb_is, eqb_other, eqb_same, filter_map-agree}
 use Rattle.lists.proofs.Parts.{then, filter_map_twice}
 use Rattle.pipeline_laws.proofs.Finished.{Through, accepted_is_due}
@@ -103,6 +103,7 @@ accepted_first p actions trace T lawful t =
         cond-false (q == 0) (Some e) None (eqb_other q 0 (λ same. omega arith))
     by_step (Give l q n) there = refl
     by_step (Done l o) there = refl
+    by_step (More l e) there = refl
     by_step (Turned l e) there = refl
     by_step (Bounced l) there = refl
     by_step Shut there = refl
@@ -139,6 +140,7 @@ accepted_next p actions trace T k lawful t =
             apart same = false≢true (sym other ∙ (ap (λ m. m == k) same ∙ eqb_same k))
     by_step (Give l q n) there = refl
     by_step (Done l o) there = refl
+    by_step (More l e) there = refl
     by_step (Turned l e) there = refl
     by_step (Bounced l) there = refl
     by_step Shut there = refl

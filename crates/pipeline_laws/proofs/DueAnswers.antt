@@ -1,14 +1,15 @@
 -- That all answers are due, step by step.
-use Rattle.std.proofs.Common.{◌≡◌, ℕ, zero, suc, ◌+◌, ◌<◌, ◌≤◌, List, [], ◌∷◌, ◌++◌, length, map, take, drop, get_or, Option, Some, None, slice_get, refl, sym, ap, ◌∙◌, subst, arith, append-nil, append_assoc}
+use Rattle.std.proofs.Common.{◌≡◌, ℕ, zero, suc, ◌+◌, ◌<◌, ◌≤◌, false, List, [], ◌∷◌, ◌++◌, length, map, take, drop, get_or, Option, Some, None, slice_get, refl, sym, ap, ◌∙◌, subst, arith, append-nil, append_assoc}
 use Rattle.std.specs.List.{cons_option}
 use Rattle.std.specs.Option.{option_map}
+use Rattle.std.proofs.lemmas.Bool.{false≢true}
 use Rattle.std.proofs.lemmas.List.{take_at, take_more, take-append-le, take-append-drop, length-map, map-append}
 use Rattle.std.proofs.lemmas.List.Elements.{All-weaker}
 use Rattle.std.proofs.lemmas.Option.{same_Some, slice_get-map}
 use Rattle.evt_types.specs.Plan.{Plan}
 use Rattle.evt_types.specs.declared.step.Outcome.{Outcome}
 use Rattle.evt_types.specs.declared.step.Step.{Step}
-use Rattle.evt_types.specs.declared.step.Step.TheVariants.{Accept, Give, Done, Turned, Bounced, Shut}
+use Rattle.evt_types.specs.declared.step.Step.TheVariants.{Accept, Give, Done, More, Turned, Bounced, Shut}
 use Rattle.lists.proofs.Lists.{map_agree}
 use Rattle.pipeline_laws.specs.Past.{IsDueAfter, due_next, due_to}
 use Rattle.pipeline_laws.specs.Worked.{AnswersAreDue, answer_to, due}
@@ -18,7 +19,8 @@ use Rattle.transcripts.proofs.Origins.{prefix_at, prefix_grows, prefix_next}
 use Rattle.transcripts.proofs.Pushes.{HasEvent, answer_of_is, answer_of-same, answers-none, answers-push, answers-some, event_at-more, next_pair-some, out-push}
 use Rattle.transcripts.specs.Allowed.{Allowed, AllowedAfter}
 use Rattle.transcripts.specs.Lawful.{IsPrefix}
-use Rattle.transcripts.specs.Transcript.{answer_of, answers, given_to, next_pair, out}
+use Rattle.transcripts.specs.Laws.{AddsNone}
+use Rattle.transcripts.specs.Transcript.{answer_of, answers, given_to, is_more, next_pair, out}
 
 -- ---- one step more
 
@@ -80,9 +82,10 @@ due_more p actions P s f a h is l = by_answer (answer_of l s) refl
         (prefix_grows (answers P l ++ o ∷ []) (map (due actions P) (out P l)) (map (due actions (P ++ s ∷ [])) (cons_option (given_to l s) []))
         (prefix_next (answers P l) (map (due actions P) (out P l)) o (h l) (next_due actions P l pair.0 pair.1 ∙ ap (λ u. Some u) (sym due_now)))))
 
--- and only such a step does
-pub due_needs : (p : Plan) (actions : List Action) (P : List Step) (s : Step) → Facts p P → Allowed p P s → AnswersAreDue actions (P ++ s ∷ []) → IsDueAfter actions P s
-due_needs p actions P (Done l o) f a h =
+-- and only such a step does, or one that adds an event
+pub due_needs : (p : Plan) (actions : List Action) (P : List Step) (s : Step) → Facts p P → Allowed p P s → is_more s ≡ false → AnswersAreDue actions (P ++ s ∷ [])
+    → IsDueAfter actions P s
+due_needs p actions P (Done l o) f a adds h =
     let pair = next_pair-some P l a.needs in
     let dues : map (due actions (P ++ Done l o ∷ [])) (out (P ++ Done l o ∷ []) l) ≡ map (due actions P) (out P l) =
     due_grows p actions P (Done l o) l f ∙ append-nil (map (due actions P) (out P l)) in
@@ -90,11 +93,22 @@ due_needs p actions P (Done l o) f a h =
     subst (λ os. IsPrefix os (map (due actions P) (out P l))) (answers-some P l (Done l o) o (answer_of-same l o))
     (subst (IsPrefix (answers (P ++ Done l o ∷ []) l)) dues (h l)) in
     same_Some o (due_next actions P l) (sym (prefix_at (answers P l) (map (due actions P) (out P l)) o longer) ∙ next_due actions P l pair.0 pair.1)
-due_needs p actions P (Accept q e s) f a h = tt
-due_needs p actions P (Give l q n) f a h = tt
-due_needs p actions P (Turned l e) f a h = tt
-due_needs p actions P (Bounced l) f a h = tt
-due_needs p actions P Shut f a h = tt
+due_needs p actions P (Accept q e s) f a adds h = tt
+due_needs p actions P (Give l q n) f a adds h = tt
+due_needs p actions P (More l e) f a adds h = false≢true (sym adds)
+due_needs p actions P (Turned l e) f a adds h = tt
+due_needs p actions P (Bounced l) f a adds h = tt
+due_needs p actions P Shut f a adds h = tt
+
+-- a step that is due adds no event
+pub due_adds_none : (actions : List Action) (P : List Step) (s : Step) → IsDueAfter actions P s → is_more s ≡ false
+due_adds_none actions P (Accept q e s) is = refl
+due_adds_none actions P (Give l q n) is = refl
+due_adds_none actions P (Done l o) is = refl
+due_adds_none actions P (More l e) is = absurd is
+due_adds_none actions P (Turned l e) is = refl
+due_adds_none actions P (Bounced l) is = refl
+due_adds_none actions P Shut is = refl
 
 -- ---- fronts
 
@@ -119,10 +133,10 @@ AllowedAfter-drop p past (s ∷ T) (suc k) all =
     subst (λ P. AllowedAfter p P (drop k T)) (append_assoc past (s ∷ []) (take k T)) (AllowedAfter-drop p (past ++ s ∷ []) T k all.1)
 
 -- a step that isn't due shows in the whole
-pub strays : (p : Plan) (actions : List Action) (T : List Step) (k : ℕ) (d : Step) → AllowedAfter p [] T → k < length T → AnswersAreDue actions T
+pub strays : (p : Plan) (actions : List Action) (T : List Step) (k : ℕ) (d : Step) → AllowedAfter p [] T → k < length T → AddsNone T → AnswersAreDue actions T
     → IsDueAfter actions (take k T) (get_or T k d)
-strays p actions T k d all lt h =
-    due_needs p actions (take k T) (get_or T k d) (Facts-allowed p (take k T) (AllowedAfter-take p [] T k all)) (AllowedAfter-at p [] T k d lt all)
+strays p actions T k d all lt adds_none h =
+    due_needs p actions (take k T) (get_or T k d) (Facts-allowed p (take k T) (AllowedAfter-take p [] T k all)) (AllowedAfter-at p [] T k d lt all) (adds_none k d lt)
     (subst (AnswersAreDue actions) (take_more T k d lt)
     (due_front p actions (take (k + 1) T) (drop (k + 1) T) (Facts-allowed p (take (k + 1) T) (AllowedAfter-take p [] T (k + 1) all))
     (AllowedAfter-drop p [] T (k + 1) all) (subst (AnswersAreDue actions) (sym (take-append-drop (k + 1) T)) h)))

@@ -12,7 +12,7 @@ use Rattle.evt_types.specs.declared.event.Event.{Event}
 use Rattle.evt_types.specs.declared.step.Outcome.TheVariants.{Forwarded}
 use Rattle.evt_types.specs.declared.step.Source.TheVariants.{New, Of}
 use Rattle.evt_types.specs.declared.step.Step.{Step}
-use Rattle.evt_types.specs.declared.step.Step.TheVariants.{Accept, Give, Done, Turned, Bounced, Shut}
+use Rattle.evt_types.specs.declared.step.Step.TheVariants.{Accept, Give, Done, More, Turned, Bounced, Shut}
 use Rattle.lists.specs.Lists.{has}
 use Rattle.lists.proofs.Lists.{All-has, slice_get-some}
 use Rattle.lists.proofs.Parts.{count_by-cons}
@@ -26,11 +26,13 @@ use Rattle.transcripts.proofs.Pushes.{is_pair_is, length-kept, length-unanswered
 use Rattle.transcripts.proofs.Waits.{waits_if}
 use Rattle.transcripts.proofs.Whole.{Known, Known-allowed, steps-Lawful}
 use Rattle.transcripts.specs.Lawful.{Lawful}
+use Rattle.transcripts.specs.Laws.{AddsNone}
 use Rattle.transcripts.specs.Replies.{new_count}
 use Rattle.transcripts.specs.Transcript.{accepted, answers, forwards, hand, inside, is_new, is_pair, kept, kept_of, out, sent, sent_for, source_in, sources, taken, taken_in, unanswered, waiting}
 
 pub record Through (p : Plan) (actions : List Action) (trace : List Entry) (T : List Step) : Type 0 where
   pub known : Known p T
+  pub adds_none : AddsNone T
   pub sent : Sent p T
   -- each lane answered all that it was given, as is due
   pub answered : (l : ℕ) → answers T l ≡ map (due actions T) (out T l)
@@ -107,6 +109,7 @@ news_counted (s ∷ T) = omega (arith, one (new_in s) (filter_map new_in T), by_
     by_step (Accept q e (Of r n)) = refl
     by_step (Give l q n) = refl
     by_step (Done l o) = refl
+    by_step (More l e) = refl
     by_step (Turned l e) = refl
     by_step (Bounced l) = refl
     by_step Shut = refl
@@ -118,7 +121,8 @@ through p actions trace T lawful worked finished =
     let known = Known-allowed p T steps in
     record {
       known = known;
-      sent = Sent-allowed p T steps;
+      adds_none = worked.adds_none;
+      sent = Sent-allowed p T worked.adds_none steps;
       answered = λ l. all_answered p actions T l known worked.answers finished.none_inside;
       handed = λ q n. all_handed p T q n finished.none_inside;
       taken = λ q n. all_taken p T q n finished.none_inside;

@@ -7,7 +7,7 @@ use Rattle.evt_types.specs.declared.step.Outcome.{Outcome}
 use Rattle.evt_types.specs.declared.step.Outcome.TheVariants.{Forwarded}
 use Rattle.evt_types.specs.declared.step.Source.{Source}
 use Rattle.evt_types.specs.declared.step.Step.{Step}
-use Rattle.evt_types.specs.declared.step.Step.TheVariants.{Accept, Give, Done, Turned, Bounced, Shut}
+use Rattle.evt_types.specs.declared.step.Step.TheVariants.{Accept, Give, Done, More, Turned, Bounced, Shut}
 use Rattle.pipeline_laws.specs.Past.{Follows, row, rows}
 use Rattle.pipeline_laws.specs.declared.past.Past.{Past}
 use Rattle.std.specs.declared.alloc.Global.{Global}
@@ -113,6 +113,10 @@ follows_quiet T past s f accepts gives answers_none = record {
   given = λ l. f.given l ∙ sym (out-none T l s (gives l));
   answered = λ l. f.answered l ∙ sym (ap length (answers-none T l s (answers_none l)));
 }
+
+pub follows_more : (T : List Step) (past : Past) (s : Step) (l : ℕ) (e : Event) → s ≡ More l e → Follows T past → Follows (T ++ s ∷ []) past
+follows_more T past s l e is f =
+    subst (λ t. Follows (T ++ t ∷ []) past) (sym is) (follows_quiet T past (More l e) f (λ q. refl) (λ m. refl) (λ m. refl))
 
 pub follows_turned : (T : List Step) (past : Past) (s : Step) (l : ℕ) (e : Event) → s ≡ Turned l e → Follows T past → Follows (T ++ s ∷ []) past
 follows_turned T past s l e is f =

@@ -1,11 +1,12 @@
--- From what threads promise of their ports to what the transcript shows: the answers are due, and the trace came in first.
+-- From what threads promise of their ports to what the transcript shows: the answers are due, no event was added, and the trace came in
+-- first.
 use Rattle.std.proofs.Common.{◌≡◌, ℕ, zero, suc, ◌<◌, ◌≤◌, Bool, true, false, cond, ◌==◌, List, [], ◌∷◌, ◌++◌, map, filter_map, get_or, All, Contains, Option, Some, None, ◌⊎◌, inl, inr, ⊎_elim, refl, sym, ap, ◌∙◌, subst, arith, append-nil}
 use Rattle.std.specs.List.{cons_option}
 use Rattle.std.proofs.lemmas.Bool.{cases_eq, cases_lt, false≢true, cond-true, cond-false}
 use Rattle.std.proofs.lemmas.List.Elements.{All-contains, All-contains_itself, All-head, All-map, All-tail, All-weaker, Contains-append_left, filter_map-append}
 use Rattle.std.proofs.lemmas.Option.{none-some}
 use Rattle.evt_types.specs.Event.{pair_of}
-use Rattle.evt_types.specs.Operation.{is_new_op, is_new_reply}
+use Rattle.evt_types.specs.Operation.{is_more_op, is_new_op, is_new_reply}
 use Rattle.evt_types.specs.Plan.{Plan, lanes_of}
 use Rattle.evt_types.specs.declared.event.Delivery.{Delivery}
 use Rattle.evt_types.specs.declared.event.Event.{Event}
@@ -16,7 +17,7 @@ use Rattle.evt_types.specs.declared.step.Outcome.{Outcome}
 use Rattle.evt_types.specs.declared.step.Outcome.TheVariants.{Forwarded, Released}
 use Rattle.evt_types.specs.declared.step.Source.TheVariants.{New, Of}
 use Rattle.evt_types.specs.declared.step.Step.{Step}
-use Rattle.evt_types.specs.declared.step.Step.TheVariants.{Accept, Give, Done, Turned, Bounced, Shut}
+use Rattle.evt_types.specs.declared.step.Step.TheVariants.{Accept, Give, Done, More, Turned, Bounced, Shut}
 use Rattle.lists.proofs.Lists.{All-front, eqb_other, eqb_same, filter_map-agree, filter_map-none}
 use Rattle.lists.proofs.Parts.{then, filter_map_twice}
 use Rattle.pipeline_laws.proofs.Members.{into_filter_map, prefix_filter_map, prefix_map, prefix_then}
@@ -25,9 +26,10 @@ use Rattle.pipeline_laws.specs.Worked.{AnswersAreDue, IsWorked, answer_at, answe
 use Rattle.pipeline_laws.specs.declared.stage.Action.{Action}
 use Rattle.pipeline_laws.specs.declared.stage.Entry.{Entry}
 use Rattle.transcripts.proofs.Whole.{Known-allowed, steps-Lawful}
-use Rattle.transcripts.specs.Lawful.{IsFormed, IsNewEntry, IsPrefix, Lawful, since_shut, until_shut}
+use Rattle.transcripts.specs.Lawful.{IsAddition, IsFormed, IsNewEntry, IsPrefix, Lawful, since_shut, until_shut}
+use Rattle.transcripts.specs.Laws.{AddsNone}
 use Rattle.transcripts.specs.Replies.{Said, replies_in, said, said_by, said_in}
-use Rattle.transcripts.specs.Transcript.{answer_of, answers, event_at, is_new, is_shut, is_turned, out}
+use Rattle.transcripts.specs.Transcript.{answer_of, answers, event_at, is_more, is_new, is_shut, is_turned, out}
 
 -- ---- what is said, as an answer and as a NEW
 
@@ -37,6 +39,7 @@ outcome_by ops.New o = None
 outcome_by ops.Forward None = None
 outcome_by ops.Forward (Some e) = Some (Forwarded e)
 outcome_by ops.Release o = Some Released
+outcome_by ops.ForwardMore o = None
 
 abbrev outcome_said : Said → Option Outcome
 outcome_said x = outcome_by x.op x.event
@@ -46,6 +49,7 @@ abbrev new_by : Op → Option Event → Option Event
 new_by ops.New o = o
 new_by ops.Forward o = None
 new_by ops.Release o = None
+new_by ops.ForwardMore o = None
 
 abbrev new_said : Said → Option Event
 new_said x = new_by x.op x.event
@@ -61,17 +65,18 @@ answers_said T l =
     one true Released = refl
     one false o = refl
 
-    no_answer : (b : Bool) (e : Event) → ◌≡◌ {A = Option Outcome} None (then outcome_said (cond b (Some (said_by ops.New e)) None))
-    no_answer true e = refl
-    no_answer false e = refl
+    no_answer : (b : Bool) (x : Said) → outcome_said x ≡ None → ◌≡◌ {A = Option Outcome} None (then outcome_said (cond b (Some x) None))
+    no_answer true x h = sym h
+    no_answer false x h = refl
 
     by_step : (s : Step) → answer_of l s ≡ then outcome_said (said_in l s)
-    by_step (Accept q e (New m)) = no_answer (m == l) e
+    by_step (Accept q e (New m)) = no_answer (m == l) (said_by ops.New e) refl
     by_step (Accept q e (Of r n)) = refl
     by_step (Give m q n) = refl
     by_step (Done m (Forwarded e)) = one (m == l) (Forwarded e)
     by_step (Done m Released) = one (m == l) Released
-    by_step (Turned m e) = no_answer (m == l) e
+    by_step (More m e) = no_answer (m == l) (said_by ops.ForwardMore e) refl
+    by_step (Turned m e) = no_answer (m == l) (said_by ops.New e) refl
     by_step (Bounced m) = refl
     by_step Shut = refl
 
@@ -86,6 +91,7 @@ no_lane_answers p T l lawful past = filter_map-none (answer_of l) T (All-weaker 
     by_step (Done m o) formed =
         let lane : m < lanes_of p = formed.0 in
         ⊎_elim (λ same. absurd (omega arith)) (λ other. cond-false (m == l) (Some o) None (eqb_other m l other)) (cases_eq m l)
+    by_step (More m e) formed = refl
     by_step (Turned m e) formed = refl
     by_step (Bounced m) formed = refl
     by_step Shut formed = refl
@@ -140,6 +146,50 @@ promised_answers p actions trace T ports lawful are promises l = by_lane l (are 
         (prefix_then (replies_in T 0) (map said (ports 0).submitted) (map said_new trace) lane.taken promises.producer))
     by_lane (suc m) lane (inl lt) = worker_answers actions T (suc m) (ports (suc m)) lane (promises.workers (suc m) (omega arith) lt)
 
+-- ---- what was added
+
+-- what is said is no FORWARD_MORE
+abbrev SaysNoMore : Said → Type 0
+SaysNoMore x = is_more_op x.op ≡ false
+
+-- where no lane says one, no event is added
+says_none_adds_none : (p : Plan) (T : List Step) → Lawful p T → ((l : ℕ) → l < lanes_of p → All SaysNoMore (replies_in T l)) → AddsNone T
+unfolding replies_in
+says_none_adds_none p T lawful says = All-weaker (Contains T) (λ s. is_more s ≡ false) by_step T (All-contains_itself T)
+  where
+    by_step : (s : Step) → Contains T s → is_more s ≡ false
+    by_step (Accept q e s) there = refl
+    by_step (Give l q n) there = refl
+    by_step (Done l o) there = refl
+    by_step (More l e) there =
+        let formed : (l < lanes_of p) × IsAddition p e = All-contains (IsFormed p) T (More l e) lawful.formed there in
+        All-contains SaysNoMore (replies_in T l) (said_by ops.ForwardMore e) (says l formed.0)
+        (into_filter_map (said_in l) T (More l e) (said_by ops.ForwardMore e) there (cond-true (l == l) (Some (said_by ops.ForwardMore e)) None (eqb_same l)))
+    by_step (Turned l e) there = refl
+    by_step (Bounced l) there = refl
+    by_step Shut there = refl
+
+promised_adds : (p : Plan) (actions : List Action) (trace : List Entry) (T : List Step) (ports : ℕ → PortLists) → Lawful p T
+    → ((l : ℕ) → IsLane T l (ports l)) → KeepPromises p actions trace ports → AddsNone T
+promised_adds p actions trace T ports lawful are promises = says_none_adds_none p T lawful by_lane
+  where
+    front : (l : ℕ) (xs : List Said) → IsPrefix (map said (ports l).submitted) xs → All SaysNoMore xs → All SaysNoMore (replies_in T l)
+    front l xs promised all =
+        let says = prefix_then (replies_in T l) (map said (ports l).submitted) xs (are l).taken promised in
+        All-front SaysNoMore (replies_in T l) says.0 (subst (All SaysNoMore) (sym says.1) all)
+
+    answers_none : (o : Outcome) → is_more_op (said_outcome o).op ≡ false
+    answers_none (Forwarded e) = refl
+    answers_none Released = refl
+
+    by_lane : (l : ℕ) → l < lanes_of p → All SaysNoMore (replies_in T l)
+    by_lane zero lt =
+        front 0 (map said_new trace) promises.producer (All-map SaysNoMore said_new trace (λ k d within. refl))
+    by_lane (suc l) lt =
+        front (suc l) (map (said_to actions) (ports (suc l)).received) (promises.workers (suc l) (omega arith) lt)
+        (All-map SaysNoMore (said_to actions) (ports (suc l)).received
+        (λ k d within. answers_none (answer_at actions (get_or (ports (suc l)).received k d).queue (get_or (ports (suc l)).received k d).event)))
+
 -- ---- what came in
 
 -- the transcript says no NEW of a lane but the first
@@ -170,6 +220,7 @@ shut_split (s ∷ T) closed = by_test (is_shut s) refl closed (shut_split T)
     not_new (Accept q e (Of r n)) h = refl
     not_new (Give l q n) h = refl
     not_new (Done l o) h = refl
+    not_new (More l e) h = refl
     not_new (Turned l e) h = refl
     not_new (Bounced l) h = refl
     not_new Shut h = refl
@@ -179,6 +230,7 @@ shut_split (s ∷ T) closed = by_test (is_shut s) refl closed (shut_split T)
     shut_not_new (Accept q e c) h = absurd (false≢true h)
     shut_not_new (Give l q n) h = absurd (false≢true h)
     shut_not_new (Done l o) h = absurd (false≢true h)
+    shut_not_new (More l e) h = absurd (false≢true h)
     shut_not_new (Turned l e) h = absurd (false≢true h)
     shut_not_new (Bounced l) h = absurd (false≢true h)
 
@@ -203,10 +255,9 @@ front_news p T front rest lawful first split unturned =
     (unturned k d lt))
     ∙ sym (filter_map_twice new_said (said_in 0) front)
   where
-    none : (b : Bool) (o : Outcome) → ◌≡◌ {A = Option Event} None (then new_said (cond b (Some (said_outcome o)) None))
-    none true (Forwarded e) = refl
-    none true Released = refl
-    none false o = refl
+    none : (b : Bool) (x : Said) → new_said x ≡ None → ◌≡◌ {A = Option Event} None (then new_said (cond b (Some x) None))
+    none true x h = sym h
+    none false x h = refl
 
     by_step : (s : Step) → Contains T s → is_turned s ≡ false → new_in s ≡ then new_said (said_in 0 s)
     by_step (Accept q e (New l)) there h =
@@ -214,8 +265,9 @@ front_news p T front rest lawful first split unturned =
         sym (ap (then new_said) (cond-true (l == 0) (Some (said_by ops.New e)) None test))
     by_step (Accept q e (Of r n)) there h = refl
     by_step (Give l q n) there h = refl
-    by_step (Done l (Forwarded e)) there h = none (l == 0) (Forwarded e)
-    by_step (Done l Released) there h = none (l == 0) Released
+    by_step (Done l (Forwarded e)) there h = none (l == 0) (said_outcome (Forwarded e)) refl
+    by_step (Done l Released) there h = none (l == 0) (said_outcome Released) refl
+    by_step (More l e) there h = none (l == 0) (said_by ops.ForwardMore e) refl
     by_step (Turned l e) there h = absurd (false≢true (sym h))
     by_step (Bounced l) there h = refl
     by_step Shut there h = refl
@@ -258,11 +310,13 @@ promised_first p trace T ports lawful taken producer others =
     no_new ops.New e h = absurd (false≢true (sym h))
     no_new ops.Forward e h = refl
     no_new ops.Release e h = refl
+    no_new ops.ForwardMore e h = refl
 
 pub promised_worked : (p : Plan) (actions : List Action) (trace : List Entry) (T : List Step) (ports : ℕ → PortLists) → Lawful p T
     → ((l : ℕ) → IsLane T l (ports l)) → KeepPromises p actions trace ports → IsWorked actions trace T
 promised_worked p actions trace T ports lawful are promises = record {
   answers = promised_answers p actions trace T ports lawful are promises;
+  adds_none = promised_adds p actions trace T ports lawful are promises;
   newcomers =
       first_news p trace T (map said (ports 0).submitted) lawful
       (λ l pos lt. let front = prefix_then (replies_in T l) (map said (ports l).submitted) (map (said_to actions) (ports l).received) (are l).taken (promises.workers l pos lt) in

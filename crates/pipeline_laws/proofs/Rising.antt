@@ -1,4 +1,5 @@
--- Of one flow and level of an ordered or an atomic queue, the numbers from which events were accepted rise.
+-- Where no event was added beside another: of one flow and level of an ordered or an atomic queue, the numbers from which events were
+-- accepted rise.
 use Rattle.std.proofs.Common.{◌≡◌, ℕ, ◌<◌, Bool, true, false, cond, ◌&&◌, ◌==◌, List, length, filter, filter_map, AllPairs, Option, Some, None, sym, ap, ◌∙◌, subst, arith}
 use Rattle.std.proofs.lemmas.Bool.{false≢true, cond-true, cond-false, and_parts, and_from}
 use Rattle.std.proofs.lemmas.List.{take_all}
@@ -16,6 +17,7 @@ use Rattle.transcripts.proofs.Rising.{kind_is_one}
 use Rattle.transcripts.proofs.Sources.{sources_follow, sources_rise}
 use Rattle.transcripts.proofs.Waits.{entered-rises}
 use Rattle.transcripts.specs.Lawful.{KeepsFlow, Lawful, is_of_level, keeps_some, keeps_with}
+use Rattle.transcripts.specs.Laws.{AddsNone}
 use Rattle.transcripts.specs.Transcript.{entered, event_at, given, hand, named, named_at, sources}
 
 -- whether the number's event is of this flow and level
@@ -49,13 +51,13 @@ both_keep p T k f c m n atomic first second = by_events (event_at T k m) (event_
         ∙ (cond-false (is_ordered (queue_of p k).kind) true (is_atomic (queue_of p k).kind && (d.flow == e.flow)) (kind_is_one (queue_of p k).kind atomic)
         ∙ and_from (is_atomic (queue_of p k).kind) (d.flow == e.flow) atomic flows)
 
-pub atomic_rises : (p : Plan) (T : List Step) (k f c : ℕ) → Lawful p T → is_atomic (queue_of p k).kind ≡ true
+pub atomic_rises : (p : Plan) (T : List Step) (k f c : ℕ) → Lawful p T → AddsNone T → is_atomic (queue_of p k).kind ≡ true
     → AllPairs (λ m n. m < n) (filter (is_at T k f c) (sources T k))
-atomic_rises p T k f c lawful atomic =
+atomic_rises p T k f c lawful adds_none atomic =
     AllPairs-weaker_all (λ n. is_at T k f c n ≡ true) (λ m n. keeps_with p T k m n ≡ true → m < n) (λ m n. m < n) (filter (is_at T k f c) (sources T k))
     (filter_passes (is_at T k f c) (sources T k))
     (λ m n h i rises. rises (both_keep p T k f c m n atomic h i))
-    (AllPairs-filter (λ m n. keeps_with p T k m n ≡ true → m < n) (is_at T k f c) (sources T k) (sources_rise p T k atomic lawful))
+    (AllPairs-filter (λ m n. keeps_with p T k m n ≡ true → m < n) (is_at T k f c) (sources T k) (sources_rise p T k atomic adds_none lawful))
 
 -- ---- an ordered queue
 
@@ -84,10 +86,10 @@ stands_at_level T k f c n h = by_event (event_at T k n) h
     by_event (Some d) i =
         (d, cond-true (level_of d == c) (Some (record { number = n; event = d })) None ((and_parts (d.flow == f) (level_of d == c) i).1))
 
-pub ordered_rises : (p : Plan) (T : List Step) (k f c : ℕ) → Lawful p T → is_ordered (queue_of p k).kind ≡ true
+pub ordered_rises : (p : Plan) (T : List Step) (k f c : ℕ) → Lawful p T → AddsNone T → is_ordered (queue_of p k).kind ≡ true
     → AllPairs (λ m n. m < n) (filter (is_at T k f c) (sources T k))
-ordered_rises p T k f c lawful ordered =
-    let follow = sources_follow p T k ordered lawful in
+ordered_rises p T k f c lawful adds_none ordered =
+    let follow = sources_follow p T k ordered adds_none lawful in
     let pairs = AllPairs-from_given (λ (v w : Numbered). v.number < w.number) (at_level T k c) (hand T k) (given_rise p T k c lawful ordered) in
     AllPairs-weaker_all (λ n. is_at T k f c n ≡ true) Pairs (λ m n. m < n) (filter (is_at T k f c) (sources T k)) (filter_passes (is_at T k f c) (sources T k))
     (λ m n h i less. let first = stands_at_level T k f c m h in

@@ -1,23 +1,25 @@
--- What was sent is what the lanes answered: a forwarded event stands among some lane's answers, at the place at which its pair was given.
-use Rattle.std.proofs.Common.{◌≡◌, ℕ, ◌<◌, ◌≤◌, true, List, [], ◌∷◌, ◌++◌, length, All, Contains, Option, Some, None, slice_get, ◌⊎◌, inl, inr, ⊎_elim, refl, sym, ap, ◌∙◌, subst, arith, append-nil}
+-- Where no event was added beside another, what was sent is what the lanes answered: a forwarded event stands among some lane's answers,
+-- at the place at which its pair was given.
+use Rattle.std.proofs.Common.{◌≡◌, ℕ, ◌<◌, ◌≤◌, true, false, List, [], ◌∷◌, ◌++◌, length, All, Contains, Option, Some, None, slice_get, ◌⊎◌, inl, inr, ⊎_elim, refl, sym, ap, ◌∙◌, subst, arith, append-nil}
 use Rattle.std.specs.List.{cons_option}
-use Rattle.std.proofs.lemmas.Bool.{cases_lt}
+use Rattle.std.proofs.lemmas.Bool.{cases_lt, false≢true}
 use Rattle.std.proofs.lemmas.List.{length_push}
 use Rattle.std.proofs.lemmas.List.Elements.{All-nil, All-weaker, Contains-append_left, Contains-push}
 use Rattle.std.proofs.lemmas.Option.{none-some, same_Some, slice_get_within, slice_get_past}
 use Rattle.evt_types.specs.Plan.{Plan}
 use Rattle.evt_types.specs.declared.event.Event.{Event}
 use Rattle.evt_types.specs.declared.step.Outcome.{Outcome}
-use Rattle.evt_types.specs.declared.step.Outcome.TheVariants.{Forwarded, Released}
+use Rattle.evt_types.specs.declared.step.Outcome.TheVariants.{Forwarded}
 use Rattle.evt_types.specs.declared.step.Step.{Step}
-use Rattle.evt_types.specs.declared.step.Step.TheVariants.{Accept, Give, Done, Turned, Bounced, Shut}
+use Rattle.evt_types.specs.declared.step.Step.TheVariants.{Done}
 use Rattle.lists.specs.Lists.{has}
-use Rattle.lists.proofs.Lists.{All-option, has-Contains, slice_get-append_left, slice_get-last}
+use Rattle.lists.proofs.Lists.{All-front, All-last, All-option, has-Contains, slice_get-append_left, slice_get-last}
 use Rattle.pipeline_laws.proofs.Members.{from_filter_map, into_filter_map, slice_get-Contains}
 use Rattle.transcripts.proofs.Facts.{Facts, Facts-none, Facts-push, AllowedAfter_keeps}
-use Rattle.transcripts.proofs.Pushes.{answer_of_is, answer_of-same, answers-push, answers-some, given_of_is, given_to-same, out-push, out-none, sent-push, sent-some}
+use Rattle.transcripts.proofs.Pushes.{answer_of_is, answer_of-same, answers-push, answers-some, given_of_is, given_to-same, out-push, out-none, sends_is, sent-push, sent-some}
 use Rattle.transcripts.specs.Allowed.{Allowed, AllowedAfter}
-use Rattle.transcripts.specs.Transcript.{answer_of, answers, given_of, given_to, hand, next_pair, out, sends, sent, with_event}
+use Rattle.transcripts.specs.Laws.{AddsNone}
+use Rattle.transcripts.specs.Transcript.{answer_of, answers, given_of, given_to, hand, is_more, next_pair, out, sends, sent, with_event}
 
 -- the event was the answer of a lane at the place where it was given the pair
 abbrev pub IsAnswered : List Step → ℕ × ℕ → Event → Type 0
@@ -28,22 +30,13 @@ pub record Sent (p : Plan) (T : List Step) : Type 0 where
   pub from : All (λ (y : (ℕ × ℕ) × Event). IsAnswered T y.0 y.1) (sent T)
   pub to : (l i : ℕ) (x : ℕ × ℕ) (e : Event) → slice_get (out T l) i ≡ Some x → slice_get (answers T l) i ≡ Some (Forwarded e) → Contains (sent T) (x, e)
 
--- ---- what a step sends
+-- ---- what a step sends that adds no event
 
-sends_is : (P : List Step) (s : Step) (y : (ℕ × ℕ) × Event) → sends P s ≡ Some y → (l : ℕ) × (s ≡ Done l (Forwarded y.1)) × (next_pair P l ≡ Some y.0)
-sends_is P (Done l (Forwarded d)) y h = by_pair (next_pair P l) refl h
-  where
-    by_pair : (o : Option (ℕ × ℕ)) → next_pair P l ≡ o → with_event d o ≡ Some y → (m : ℕ) × (Done l (Forwarded d) ≡ Done m (Forwarded y.1)) × (next_pair P m ≡ Some y.0)
-    by_pair None is k = absurd (none-some y k)
-    by_pair (Some x) is k =
-        let same : (x, d) ≡ y = same_Some (x, d) y k in
-        (l, ap (λ (z : (ℕ × ℕ) × Event). Done l (Forwarded z.1)) same, is ∙ ap (λ (z : (ℕ × ℕ) × Event). Some z.0) same)
-sends_is P (Done l Released) y h = absurd (none-some y h)
-sends_is P (Accept q e s) y h = absurd (none-some y h)
-sends_is P (Give l q n) y h = absurd (none-some y h)
-sends_is P (Turned l e) y h = absurd (none-some y h)
-sends_is P (Bounced l) y h = absurd (none-some y h)
-sends_is P Shut y h = absurd (none-some y h)
+answer_sent : (P : List Step) (s : Step) (x : ℕ × ℕ) (e : Event) → is_more s ≡ false → sends P s ≡ Some (x, e)
+    → (l : ℕ) × (s ≡ Done l (Forwarded e)) × (next_pair P l ≡ Some x)
+answer_sent P s x e adds h =
+    let sending = sends_is P s x e h in
+    ⊎_elim (λ is. (sending.lane, is, sending.next)) (λ is. absurd (false≢true (sym adds ∙ ap is_more is))) sending.is
 
 -- ---- one step more
 
@@ -88,8 +81,8 @@ Sent-none p = record {
   to = λ l i x e given answered. absurd (none-some x given);
 }
 
-Sent-push : (p : Plan) (P : List Step) (s : Step) → Sent p P → Allowed p P s → Sent p (P ++ s ∷ [])
-Sent-push p P s h a = record {
+Sent-push : (p : Plan) (P : List Step) (s : Step) → is_more s ≡ false → Sent p P → Allowed p P s → Sent p (P ++ s ∷ [])
+Sent-push p P s adds h a = record {
   facts = Facts-push p P s h.facts a;
   from =
       rw (sent-push P s) (All-option (λ (y : (ℕ × ℕ) × Event). IsAnswered (P ++ s ∷ []) y.0 y.1) (sent P) (sends P s)
@@ -100,7 +93,7 @@ Sent-push p P s h a = record {
   where
     new : (y : (ℕ × ℕ) × Event) → sends P s ≡ Some y → IsAnswered (P ++ s ∷ []) y.0 y.1
     new y e =
-        let done = sends_is P s y e in
+        let done = answer_sent P s y.0 y.1 adds e in
         let answered : answer_of done.0 s ≡ Some (Forwarded y.1) = ap (answer_of done.0) done.1 ∙ answer_of-same done.0 (Forwarded y.1) in (
           done.0,
           length (answers P done.0),
@@ -130,8 +123,13 @@ Sent-push p P s h a = record {
             let sending : sends P s ≡ Some (x, e) = ap (sends P) k.1 ∙ ap (with_event e) next in
             subst (λ ys. Contains ys (x, e)) (sym (sent-some P s (x, e) sending)) (Contains-push (sent P) (x, e))
 
-pub Sent-allowed : (p : Plan) (T : List Step) → AllowedAfter p [] T → Sent p T
-Sent-allowed p T all = AllowedAfter_keeps p (Sent p) (Sent-push p) [] T (Sent-none p) all
+pub Sent-allowed : (p : Plan) (T : List Step) → AddsNone T → AllowedAfter p [] T → Sent p T
+Sent-allowed p T adds_none all = AllowedAfter_keeps p (λ P. AddsNone P → Sent p P) push [] T (λ none. Sent-none p) all adds_none
+  where
+    push : (P : List Step) (s : Step) → (AddsNone P → Sent p P) → Allowed p P s → AddsNone (P ++ s ∷ []) → Sent p (P ++ s ∷ [])
+    push P s h a none =
+        Sent-push p P s (All-last (λ t. is_more t ≡ false) P s none)
+        (h (All-front (λ t. is_more t ≡ false) P (s ∷ []) none)) a
 
 -- ---- a number that was handed out was given to a lane
 

@@ -28,6 +28,7 @@ use Rattle.pipeline_laws.specs.declared.stage.Entry.{Entry}
 use Rattle.transcripts.proofs.Facts.{given_is_accepted}
 use Rattle.transcripts.proofs.Pushes.{source_in_is}
 use Rattle.transcripts.specs.Lawful.{Lawful}
+use Rattle.transcripts.specs.Laws.{AddsNone}
 use Rattle.transcripts.specs.Transcript.{accepted, event_at, hand, source_in, sources}
 
 -- ---- the numbers from which they come, by flow and level
@@ -66,16 +67,16 @@ goer_is_source p actions trace T k n t there lt goes =
     let next = there_is (next_of actions T k n) goes in
     due_is_accepted p actions trace T k n next.0 t there lt (forward_is (due actions T (k, n)) next.0 next.1)
 
-keeps_sorted : (p : Plan) (actions : List Action) (T : List Step) (k f c : ℕ) → Lawful p T → IsStaged p actions → k + 1 < length actions
+keeps_sorted : (p : Plan) (actions : List Action) (T : List Step) (k f c : ℕ) → Lawful p T → AddsNone T → IsStaged p actions → k + 1 < length actions
     → AllPairs (λ m n. m < n) (filter (is_at T k f c) (sources T k))
-keeps_sorted p actions T k f c lawful staged inner =
-    ⊎_elim (ordered_rises p T k f c lawful) (atomic_rises p T k f c lawful)
+keeps_sorted p actions T k f c lawful adds_none staged inner =
+    ⊎_elim (ordered_rises p T k f c lawful adds_none) (atomic_rises p T k f c lawful adds_none)
     (or_cases (is_ordered (queue_of p k).kind) (is_atomic (queue_of p k).kind) (staged.kinds k inner))
 
 same_numbers : (p : Plan) (actions : List Action) (trace : List Entry) (T : List Step) (k f c : ℕ) → Lawful p T → Through p actions trace T → IsStaged p actions
     → k + 1 < length actions → filter (is_at T k f c) (sources T k) ≡ filter (going actions T k) (numbers_of T k f c)
 same_numbers p actions trace T k f c lawful t staged inner =
-    same_rising (filter (is_at T k f c) (sources T k)) (filter (going actions T k) (numbers_of T k f c)) (keeps_sorted p actions T k f c lawful staged inner)
+    same_rising (filter (is_at T k f c) (sources T k)) (filter (going actions T k) (numbers_of T k f c)) (keeps_sorted p actions T k f c lawful t.adds_none staged inner)
     (AllPairs-filter (λ m n. m < n) (going actions T k) (numbers_of T k f c)
     (AllPairs-filter (λ m n. m < n) (is_at T k f c) (range_with_len 0 (length (accepted T k))) (range_rises (length (accepted T k)))))
     forth back

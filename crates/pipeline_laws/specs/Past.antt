@@ -4,7 +4,7 @@ use Rattle.evt_types.specs.declared.event.Event.{Event}
 use Rattle.evt_types.specs.declared.step.Outcome.{Outcome}
 use Rattle.evt_types.specs.declared.step.Outcome.TheVariants.{Released}
 use Rattle.evt_types.specs.declared.step.Step.{Step}
-use Rattle.evt_types.specs.declared.step.Step.TheVariants.{Accept, Give, Done, Turned, Bounced, Shut}
+use Rattle.evt_types.specs.declared.step.Step.TheVariants.{Accept, Give, Done, More, Turned, Bounced, Shut}
 use Rattle.pipeline_laws.specs.Worked.{answer_to, due}
 use Rattle.pipeline_laws.specs.declared.past.Past.{Past}
 use Rattle.pipeline_laws.specs.declared.stage.Action.{Action}
@@ -48,11 +48,12 @@ due_to actions T (Some x) = due actions T x
 abbrev pub due_next : List Action → List Step → ℕ → Outcome
 due_next actions T l = due_to actions T (next_pair T l)
 
--- the step after T, where it is an answer, is the one that is due
+-- the step after T, where it is an answer, is the one that is due; an added event never is
 abbrev pub IsDueAfter : List Action → List Step → Step → Type 0
 IsDueAfter actions T (Done l o) = o ≡ due_next actions T l
 IsDueAfter actions T (Accept q e s) = Unit {0}
 IsDueAfter actions T (Give l q n) = Unit {0}
+IsDueAfter actions T (More l e) = ⊥
 IsDueAfter actions T (Turned l e) = Unit {0}
 IsDueAfter actions T (Bounced l) = Unit {0}
 IsDueAfter actions T Shut = Unit {0}
@@ -68,6 +69,7 @@ abbrev pub HasPlace : Past → Step → Type 0
 HasPlace past (Accept q e s) = q < length past.accepted.items
 HasPlace past (Give l q n) = l < length past.given.items
 HasPlace past (Done l o) = HasUnanswered past l
+HasPlace past (More l e) = Unit {0}
 HasPlace past (Turned l e) = Unit {0}
 HasPlace past (Bounced l) = Unit {0}
 HasPlace past Shut = Unit {0}

@@ -1,5 +1,5 @@
 -- What a transcript shows of a pipeline whose stages are queues: that each answer is its stage's action of the event that it answers,
--- that the whole trace went through, and what each stage accepted.
+-- that the stages add no events, that the whole trace went through, and what each stage accepted.
 use Rattle.std.specs.Prelude.{ℕ, ◌≡◌, ◌+◌, ◌<◌, Bool, true, ◌&&◌, ◌||◌, ◌==◌, nat_lt, List, length, map, filter, filter_map, slice_index_or, Option, Some, None, if◌then◌else◌}
 use Rattle.std.proofs.Common.{lit<}
 use Rattle.evt_types.specs.Event.{forwarded_event}
@@ -10,12 +10,13 @@ use Rattle.evt_types.specs.declared.step.Outcome.{Outcome}
 use Rattle.evt_types.specs.declared.step.Outcome.TheVariants.{Forwarded, Released}
 use Rattle.evt_types.specs.declared.step.Source.TheVariants.{New, Of}
 use Rattle.evt_types.specs.declared.step.Step.{Step}
-use Rattle.evt_types.specs.declared.step.Step.TheVariants.{Accept, Give, Done, Turned, Bounced, Shut}
+use Rattle.evt_types.specs.declared.step.Step.TheVariants.{Accept, Give, Done, More, Turned, Bounced, Shut}
 use Rattle.pipeline_laws.specs.Pipeline.{acted}
 use Rattle.pipeline_laws.specs.declared.stage.Action.{Action}
 use Rattle.pipeline_laws.specs.declared.stage.Action.TheVariants.{Pass}
 use Rattle.pipeline_laws.specs.declared.stage.Entry.{Entry}
 use Rattle.transcripts.specs.Lawful.{IsPrefix, Lawful}
+use Rattle.transcripts.specs.Laws.{AddsNone}
 use Rattle.transcripts.specs.Replies.{new_count}
 use Rattle.transcripts.specs.Transcript.{accepted, answers, event_at, inside, out}
 
@@ -68,6 +69,7 @@ new_in (Accept q e (New l)) = Some e
 new_in (Accept q e (Of r n)) = None
 new_in (Give l q n) = None
 new_in (Done l o) = None
+new_in (More l e) = None
 new_in (Turned l e) = None
 new_in (Bounced l) = None
 new_in Shut = None
@@ -76,9 +78,10 @@ new_in Shut = None
 unfoldable pub newcomers : List Step → List Event
 newcomers T = filter_map new_in T
 
--- a pipeline has worked: the answers are due, and what came in is the front of the trace
+-- a pipeline has worked: the answers are due, no event was added beside another, and what came in is the front of the trace
 pub record IsWorked (actions : List Action) (trace : List Entry) (T : List Step) : Type 0 where
   pub answers : AnswersAreDue actions T
+  pub adds_none : AddsNone T
   pub newcomers : IsPrefix (newcomers T) (map new_event trace)
 
 -- ---- the log of a device

@@ -3,6 +3,7 @@
 ghost use Rattle.std.specs.Prelude.{◌≡◌, ◌≤◌, ◌↔◌, true, All, IfOk, length};
 ghost use Rattle.pipeline_laws.specs.Pipeline.{IsProper};
 ghost use Rattle.pipeline_laws.specs.Worked.{AnswersAreDue, IsLogOf};
+ghost use Rattle.transcripts.specs.Laws.{AddsNone};
 
 use crate::past::Past;
 use crate::stage::Action;
@@ -10,7 +11,7 @@ use evt_types::Step;
 use std::alloc::{AllocError, Global};
 
 /// Whether each answer of the log, which is that of a device with so many queues and lanes, is its stage's action of the event that it
-/// answers.
+/// answers, and no event was added beside another.
 pub fn answers_are_due(
     alloc: Global,
     queues: usize,
@@ -21,7 +22,7 @@ pub fn answers_are_due(
     requires actions { All IsProper actions.now }
     requires few { length actions.now ≤ 255 }
     requires log { IsLogOf queues lanes log.now }
-    ensures { IfOk result (λ b. (b ≡ true) ↔ AnswersAreDue actions.now log.now) }
+    ensures { IfOk result (λ b. (b ≡ true) ↔ (AddsNone log.now × AnswersAreDue actions.now log.now)) }
 {
     let mut past = Past::new(alloc, queues, lanes)?;
     for step in log {

@@ -12,8 +12,9 @@ ghost use Rattle.pipeline_laws.specs.declared.stage.Entry.{Entry};
 ghost use Rattle.transcripts.specs.Lawful.{IsPrefix, Lawful};
 ghost use Rattle.transcripts.specs.Replies.{replies_in, said};
 
-/// Where a lawful transcript has for each answer its stage's action of the event that it answers, where the whole trace is accepted and
-/// nothing is inside, each stage, flow and level has accepted the plain pipeline's payloads, in their order.
+/// Where a lawful transcript has for each answer its stage's action of the event that it answers, where no event was added beside
+/// another, the whole trace is accepted and nothing is inside, each stage, flow and level has accepted the plain pipeline's payloads, in
+/// their order.
 pub fn finished_run_is_plain()
     ensures { (p : Plan) (actions : List Action) (trace : List Entry) (T : List Step) → Lawful p T → IsStaged p actions → IsWorked actions trace T
         → IsFinished p trace T → (k f c : ℕ) → k < length actions → logged T k f c ≡ plain actions trace k f c }
@@ -26,7 +27,8 @@ pub fn finished_text_is_plain()
 {}
 
 /// Whatever the schedule: where port 0 submits the trace and each other port answers what it receives by its stage's action, a lawful
-/// transcript's answers are due, and what came in is the front of the trace. It may be the transcript of any moment.
+/// transcript's answers are due, no event was added beside another, and what came in is the front of the trace. It may be the transcript
+/// of any moment.
 pub fn promised_log_is_worked()
     ensures { (p : Plan) (actions : List Action) (trace : List Entry) (T : List Step) (ports : ℕ → PortLists) → Lawful p T
         → ((l : ℕ) → IsLane T l (ports l)) → KeepPromises p actions trace ports → IsWorked actions trace T }

@@ -111,7 +111,7 @@ impl Past {
         }
     }
 
-    /// Reads one step more, and tells whether it is due, where it is an answer.
+    /// Reads one step more, and tells whether it is due, where it is an answer. An added event never is.
     pub(crate) fn follow(&mut self, actions: &[Action], step: &Step) -> Result<bool, AllocError>
         requires actions { All IsProper actions.now }
         requires few { length actions.now ≤ 255 }
@@ -138,6 +138,7 @@ impl Past {
                 self.answered[*lane] += 1;
                 Ok(is_same(outcome, &owed))
             }
+            Step::More { .. } => Ok(false),
             Step::Turned { .. } => Ok(true),
             Step::Bounced { .. } => Ok(true),
             Step::Shut => Ok(true),

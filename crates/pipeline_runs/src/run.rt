@@ -5,6 +5,7 @@ ghost use Rattle.evt_types.specs.declared.draft.Serving.TheVariants.{Ports};
 ghost use Rattle.pipeline_laws.specs.Pipeline.{IsProper};
 ghost use Rattle.pipeline_laws.specs.RunText.{plain_text, run_text};
 ghost use Rattle.pipeline_laws.specs.Worked.{AnswersAreDue, IsLogOf, logged};
+ghost use Rattle.transcripts.specs.Laws.{AddsNone};
 ghost use Rattle.play_command.specs.Input.{HasRead};
 ghost use Rattle.pipeline_runs.specs.Runs.{AfterFault, HasText, IsEarlyFault, IsFaultOf, IsRunFault, IsRunnable, WritesText, run_fault};
 ghost use Rattle.run_documents.specs.Pipelines.{planned_of};
@@ -28,7 +29,7 @@ fn log_text(alloc: Global, stages: usize, log: &[Step]) -> Result<String, AllocE
     Ok(text)
 }
 
-/// Whether each answer of the log is its stage's action. Where the ports serve the workers' promises say so; where flow lanes change
+/// Whether each answer of the log is its stage's action, and no event was added beside another. Where the ports serve the workers' promises say so; where flow lanes change
 /// hands the log itself is looked through.
 fn is_worked(
     alloc: Global,
@@ -41,8 +42,8 @@ fn is_worked(
     requires actions { All IsProper actions.now }
     requires few { length actions.now ≤ 255 }
     requires log { IsLogOf queues lanes log.now }
-    requires promised { serving ≡ Ports → AnswersAreDue actions.now log.now }
-    ensures due { IfOk result (λ b. (b ≡ true) ↔ AnswersAreDue actions.now log.now) }
+    requires promised { serving ≡ Ports → AddsNone log.now × AnswersAreDue actions.now log.now }
+    ensures due { IfOk result (λ b. (b ≡ true) ↔ (AddsNone log.now × AnswersAreDue actions.now log.now)) }
     ensures ports { serving ≡ Ports → IfOk result (λ b. b ≡ true) }
 {
     match serving {

@@ -141,11 +141,13 @@ module _ (actions : List Action) where
   lane_first ops.New x e = absurd (false≢true e)
   lane_first ops.Forward x e = refl
   lane_first ops.Release x e = refl
+  lane_first ops.ForwardMore x e = absurd (false≢true e)
 
   no_new : (o : Op) → is_answer_op o ≡ true → is_new_op o ≡ false
   no_new ops.New e = absurd (false≢true e)
   no_new ops.Forward e = refl
   no_new ops.Release e = refl
+  no_new ops.ForwardMore e = absurd (false≢true e)
 
   -- an answer to any lane is no NEW to its own
   no_news_more : (l : Lane) (r : Reply) (h k : Hand) → is_new_reply r ≡ false → Submits l r h k → All (λ (x : Reply). is_new_reply x ≡ false) (h.said Own)

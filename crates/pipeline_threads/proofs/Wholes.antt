@@ -41,7 +41,8 @@ module _ (p : Plan) (actions : List Action) (trace : List Entry) (before after :
         answers = λ serving.
             let alone = none_linked ran.device after.ports.items (length p.ports) ran.ports_are (ap (λ (x : Plan). x.serving) ran.plan ∙ serving) in
             let keep = kept_promises ran.device actions trace h.rest p after.ports.items (length p.ports) ran.ports_are (own_lanes p serving) alone own run.promised in
-            (promised_worked p actions trace T (lists_at h.rest) lawful known keep).answers;
+            let worked = promised_worked p actions trace T (lists_at h.rest) lawful known keep in
+            (worked.adds_none, worked.answers);
         newcomers = promised_first p trace T (lists_at h.rest) lawful (λ l. (known l).taken) producer others;
         finished = subst (λ (x : Plan). IsFinished x trace T) plan run.done;
       })

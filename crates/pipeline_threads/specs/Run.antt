@@ -15,6 +15,7 @@ use Rattle.pipeline_threads.specs.Ports.{HasWorked, IsIdle, ReturnsProducer, lis
 use Rattle.pipeline_threads.specs.declared.engine.Engine.{Engine}
 use Rattle.std.specs.List.{range_with_len}
 use Rattle.transcripts.specs.Lawful.{IsPrefix, Lawful}
+use Rattle.transcripts.specs.Laws.{AddsNone}
 
 -- port 0 kept the producer's promise, each other port a worker's
 abbrev pub ArePromised : List Action → List Entry → List Port → Type 0
@@ -58,9 +59,9 @@ pub record HasRun (actions : List Action) (trace : List Entry) (before after : E
   pub done : IsDone trace after.recorder
 
 -- The log is lawful, what came in is the front of the trace, and all of that went through; where the device serves by ports each answer
--- is its stage's action.
+-- is its stage's action, and no event was added beside another.
 pub record IsRunLog (p : Plan) (actions : List Action) (trace : List Entry) (T : List Step) : Type 0 where
   pub lawful : Lawful p T
-  pub answers : p.serving ≡ Ports → AnswersAreDue actions T
+  pub answers : p.serving ≡ Ports → AddsNone T × AnswersAreDue actions T
   pub newcomers : IsPrefix (newcomers T) (map new_event trace)
   pub finished : IsFinished p trace T

@@ -6,6 +6,7 @@ ghost use Rattle.evt_types.specs.declared.draft.Serving.TheVariants.{Ports};
 ghost use Rattle.pipeline_laws.specs.Pipeline.{IsProper};
 ghost use Rattle.pipeline_laws.specs.Worked.{AnswersAreDue, IsFinished, IsStaged, new_event, newcomers};
 ghost use Rattle.transcripts.specs.Lawful.{IsPrefix, Lawful};
+ghost use Rattle.transcripts.specs.Laws.{AddsNone};
 
 use crate::engine::Engine;
 use crate::fault::RunFault;
@@ -21,7 +22,7 @@ use std::thread::Threads;
 /// Runs the trace through the pipeline whose stages are the queues, on a device of this configuration: port 0 brings the events in, each
 /// other port carries out the stages' actions, each in a thread of its own, and the scheduler runs in this one. The report is that of
 /// the stop; whatever the schedule was, its log is that of a finished run. Where the device serves by ports, each answer in it is its
-/// stage's action of the event that it answers.
+/// stage's action of the event that it answers, and no event was added beside another.
 pub fn run_pipeline<R: Threads + Wait + Sync, G: Gate>(
     rt: &R,
     alloc: Global,
@@ -35,7 +36,7 @@ pub fn run_pipeline<R: Threads + Wait + Sync, G: Gate>(
     requires workers { 1 < length shape.ports }
     requires producer { (port_of shape 0).links ≡ [] }
     ensures lawful { IfOk result (λ report. Lawful shape report.log.items) }
-    ensures answers { shape.serving ≡ Ports → IfOk result (λ report. AnswersAreDue actions.now report.log.items) }
+    ensures answers { shape.serving ≡ Ports → IfOk result (λ report. AddsNone report.log.items × AnswersAreDue actions.now report.log.items) }
     ensures newcomers { IfOk result (λ report. IsPrefix (newcomers report.log.items) (map new_event trace.now)) }
     ensures finished { IfOk result (λ report. IsFinished shape trace.now report.log.items) }
 {

@@ -124,7 +124,7 @@ impl PlainCore {
     fn load(&self, lane: usize) -> usize {
         self.handed
             .iter()
-            .filter(|out| out.lane == lane && !out.is_answered())
+            .filter(|out| out.lane == lane && !out.is_answered)
             .count()
     }
 
@@ -134,6 +134,6 @@ impl PlainCore {
         self.handed
             .iter()
             .filter(|out| out.queue == offer.queue && out.lane != offer.lane)
-            .all(|out| out.is_answered() || out.event.flow.checked_rem(slots) != slot)
+            .all(|out| out.is_answered || out.event.flow.checked_rem(slots) != slot)
     }
 }

@@ -3,36 +3,31 @@
 ghost use Rattle.std.specs.Prelude.{◌<◌};
 
 use crate::offer::PlainOffer;
-use evt_types::{Event, KeptEvent, Outcome, QueueDraft, Shape, Step};
+use evt_types::{Event, KeptEvent, QueueDraft, Shape, Step};
 use level_queues::Levels;
 use std::alloc::{AllocError, Global};
 
 /// How many levels a queue has.
 pub(crate) const LEVELS: usize = 4;
 
-/// An event that was handed out, its answer, and whether what it was forwarded as was accepted since.
-#[derive(Clone, Copy)]
+/// An event that was handed out, and whether it is answered.
+#[derive(Drop)]
 pub(crate) struct HandOut {
     pub(crate) lane: usize,
     pub(crate) queue: usize,
     pub(crate) number: u64,
     pub(crate) event: Event,
-    pub(crate) answer: Option<Outcome>,
-    pub(crate) is_passed_on: bool,
+    pub(crate) is_answered: bool,
+    /// What it was passed on as: the events that were added beside it, and then that of its FORWARD.
+    pub(crate) forwards: Vec<Event>,
+    /// How many of these were accepted since.
+    pub(crate) accepted: usize,
 }
 
 impl HandOut {
-    /// Whether it is answered.
-    pub(crate) fn is_answered(&self) -> bool {
-        self.answer.is_some()
-    }
-
-    /// What it was forwarded as, where that is not accepted yet.
-    pub(crate) fn kept(&self) -> Option<Event> {
-        match self.answer {
-            Some(Outcome::Forwarded(event)) if !self.is_passed_on => Some(event),
-            _ => None,
-        }
+    /// What it was passed on as and is not accepted yet.
+    pub(crate) fn kept(&self) -> &[Event] {
+        self.forwards.get(self.accepted..).unwrap_or(&[])
     }
 }
 
@@ -99,6 +94,18 @@ fn waiting_len(levels: &Levels) -> usize {
     count
 }
 
+/// Appends what the hand-out keeps.
+fn list_kept_of(out: &HandOut, list: &mut Vec<KeptEvent>) -> Result<(), AllocError> {
+    for event in out.kept() {
+        list.push(KeptEvent {
+            queue: out.queue,
+            number: out.number,
+            event: *event,
+        })?;
+    }
+    Ok(())
+}
+
 impl PlainCore {
     /// A core in which nothing has happened.
     pub fn new(alloc: Global, shape: Shape) -> Result<PlainCore, AllocError> {
@@ -121,7 +128,7 @@ impl PlainCore {
     pub fn inside(&self) -> usize {
         let waiting = self.waiting.iter().map(waiting_len);
         let waiting = waiting.fold(0usize, |sum, count| sum.saturating_add(count));
-        let unanswered = self.handed.iter().filter(|out| !out.is_answered()).count();
+        let unanswered = self.handed.iter().filter(|out| !out.is_answered).count();
         waiting
             .saturating_add(self.kept_len())
             .saturating_add(unanswered)
@@ -157,17 +164,11 @@ impl PlainCore {
         false
     }
 
-    /// The queue's kept events in hand-out order, each under the queue and the number of the event that it was forwarded from.
+    /// The queue's kept events in hand-out order, each under the queue and the number of the event that it comes from.
     pub fn list_kept(&self, queue: usize) -> Result<Vec<KeptEvent>, AllocError> {
         let mut list = Vec::new(self.alloc);
         for out in self.handed.iter().filter(|out| out.queue == queue) {
-            if let Some(event) = out.kept() {
-                list.push(KeptEvent {
-                    queue,
-                    number: out.number,
-                    event,
-                })?;
-            }
+            list_kept_of(out, &mut list)?;
         }
         Ok(list)
     }
@@ -177,7 +178,7 @@ impl PlainCore {
         self.handed
             .iter()
             .filter(|out| out.queue == queue)
-            .skip_while(|out| out.is_answered())
+            .skip_while(|out| out.is_answered)
             .count()
     }
 
@@ -199,8 +200,9 @@ impl PlainCore {
             queue,
             number,
             event,
-            answer: None,
-            is_passed_on: false,
+            is_answered: false,
+            forwards: Vec::new(self.alloc),
+            accepted: 0,
         })?;
         if let Some(levels) = self.waiting.get_mut(queue) {
             take_out(levels, event.level(), number);
@@ -229,10 +231,8 @@ impl PlainCore {
 
     /// How many events are kept.
     pub(crate) fn kept_len(&self) -> usize {
-        self.handed
-            .iter()
-            .filter(|out| out.kept().is_some())
-            .count()
+        let kept = self.handed.iter().map(|out| out.kept().len());
+        kept.fold(0usize, |sum, count| sum.saturating_add(count))
     }
 
     /// What was asked for of the queue, if it is there.

@@ -45,7 +45,7 @@ line_of (commands.Dequeue p max) = Dequeue p max
 line_of commands.Sweep = Sweep
 line_of commands.Shut = Shut
 
--- the fields of a NEW or a FORWARD, and of a RELEASE
+-- the fields of a NEW, a FORWARD or a FORWARD_MORE, and of a RELEASE
 abbrev pub event_fields : Op → ℕ → ℕ → ℕ → ℕ → Fields
 event_fields op queue flow priority payload =
     record { flow = flow; sub_type = 0; event_type = 0; op = op; queue = queue; priority = priority; impl_opaque = 0; payload = payload }

@@ -19,9 +19,12 @@ infixl 10 ◌>>=◌
 abbrev pub ◌>>=◌ : {A B : Type 0} → Option A → (A → Option B) → Option B
 o >>= f = option_and_then f o
 
--- `new P Q FLOW PRIO PAYLOAD` and `fwd P Q FLOW PRIO PAYLOAD`
+-- `new P Q FLOW PRIO PAYLOAD`, and the same with `fwd` and with `more`
 abbrev pub entry_op : List ℕ → Option Op
-entry_op name = if is_text name (codes "new") then Some ops.New else if is_text name (codes "fwd") then Some ops.Forward else None
+entry_op name =
+    if is_text name (codes "new") then Some ops.New
+    else if is_text name (codes "fwd") then Some ops.Forward
+    else if is_text name (codes "more") then Some ops.ForwardMore else None
 
 unfoldable pub event_line : Op → ℕ → List ℕ → List ℕ → List ℕ → List ℕ → List ℕ → Option Line
 event_line op ports p q flow prio payload = do

@@ -51,12 +51,14 @@ fn entry_op(name: &str) -> Option<Op>
         Some(Op::New)
     } else if name == "fwd" {
         Some(Op::Forward)
+    } else if name == "more" {
+        Some(Op::ForwardMore)
     } else {
         None
     }
 }
 
-/// A NEW or a FORWARD by the port, of these words.
+/// A NEW, a FORWARD or a FORWARD_MORE by the port, of these words.
 #[tactic(auto, unfolding(crate::specs::Script::event_line))]
 fn event_command(
     op: Op,

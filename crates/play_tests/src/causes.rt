@@ -41,12 +41,12 @@ fn documents_say_their_causes(rt: HostRuntime) -> Result<(), Fail> {
 
 #[test]
 fn events_say_their_causes(rt: HostRuntime) -> Result<(), Fail> {
-    let (flow, op) = (EventFault::FlowTooLarge, WordFault::UnknownOp);
+    let (flow, kind) = (EventFault::FlowTooLarge, WordFault::UnknownKind);
     says(&rt, rt.alloc(), &flow, "the flow has more than 20 bits")?;
     says(
         &rt,
         rt.alloc(),
-        &op,
-        "the event word's operation is unknown",
+        &kind,
+        "the event word's scheduling type is unknown",
     )
 }

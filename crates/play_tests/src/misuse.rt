@@ -1,8 +1,8 @@
 //! A refused call changes nothing: a script with it and the script without it are written alike, but for the line that answers it.
 //!
-//! No line of an answer, of the log or of the report counts calls, so that the two texts are compared whole. Only a NEW that is
-//! refused as `Full` may change credits: where its port's pocket is empty it has drawn a quantum. Here that pocket holds a credit
-//! each time. The reply ring of a flow lane has room for all that is given of it, so that what is held of the port's own lane
+//! No line of an answer, of the log or of the report counts calls, so that the two texts are compared whole. Only a NEW or
+//! FORWARD_MORE that is refused as `Full` may change credits: where its port's pocket is empty it has drawn a quantum. Here that
+//! pocket holds a credit each time. The reply ring of a flow lane has room for all that is given of it, so that what is held of the port's own lane
 //! meets `Full`, whichever way the device is served.
 
 use pipeline_app::play;
@@ -38,6 +38,7 @@ const PORTS: &str =
 
 /// Each kind of call on each port, after the call that is refused.
 const REST: &str = "sweep\ndeq 0 2\ndeq 1 2\ndeq 2 2\n\
+    more 0 2 7 128 111\nmore 1 0 7 128 112\nmore 2 2 7 128 113\n\
     fwd 0 2 7 128 101\nfwd 1 2 7 128 102\nfwd 2 2 7 128 103\nrel 0\nrel 1\nrel 2\n\
     new 0 0 7 128 104\nnew 1 0 5 64 105\nnew 2 2 5 128 106\nsweep\ndeq 0 4\ndeq 1 4\ndeq 2 4\n\
     rel 0\nfwd 1 0 6 0 107\nrel 2\nsweep\nshut\n\
@@ -80,6 +81,19 @@ const FULL_OF_NEW: &str = "new 0 0 7 128 1\nnew 0 1 7 128 2\nnew 0 2 7 128 3\n";
 const HELD_AND_FULL: &str =
     "new 0 1 7 128 1\nsweep\ndeq 1 4\nnew 1 0 7 128 2\nnew 1 1 7 128 3\nnew 1 2 7 128 4\n";
 
+/// Port 1 holds an event beside which it has added as many as it may.
+const HELD_AND_FOUR_ADDED: &str =
+    "new 0 1 7 128 1\nsweep\ndeq 1 4\nmore 1 0 7 128 2\nmore 1 1 7 128 3\nmore 1 2 7 128 4\nsweep\n\
+    more 1 0 7 128 5\n";
+
+/// Port 1 holds an event and no credit, and port 0 has drawn all.
+const HELD_AND_DRAWN: &str =
+    "new 0 1 7 128 1\nsweep\ndeq 1 4\nnew 0 0 7 128 2\nnew 0 0 7 128 3\nnew 0 2 7 128 4\nsweep\n\
+    new 0 2 7 128 5\nnew 0 0 5 128 6\nnew 0 0 5 128 7\nsweep\n";
+
+/// Port 1 holds an event and no credit, and the device is shut.
+const HELD_AND_SHUT: &str = "new 0 1 7 128 1\nsweep\ndeq 1 4\nshut\n";
+
 /// Port 1 held four events, and its reply ring is full of answers to three.
 const FULL_OF_ANSWERS: &str =
     "new 0 1 7 128 1\nnew 0 1 7 128 2\nsweep\nnew 0 1 7 128 3\nnew 0 1 7 128 4\nsweep\n\
@@ -95,7 +109,7 @@ const SHUT: &str = "new 0 0 7 128 1\nnew 0 0 7 128 2\nshut\n";
 
 const SHUT_AND_SWEPT: &str = "new 0 0 7 128 1\nsweep\nnew 0 0 7 128 2\nshut\nsweep\n";
 
-static ROWS: [Row; 30] = [
+static ROWS: [Row; 39] = [
     Row {
         setup: SPENT,
         refused: "new 0 0 7 128 9",
@@ -221,6 +235,51 @@ static ROWS: [Row; 30] = [
         setup: FULL_OF_ANSWERS,
         refused: "rel 1",
         answer: "rel 1: Full",
+    },
+    Row {
+        setup: "",
+        refused: "more 0 0 7 128 9",
+        answer: "more 0: NothingHeld",
+    },
+    Row {
+        setup: GIVEN,
+        refused: "more 1 0 7 128 9",
+        answer: "more 1: NothingHeld",
+    },
+    Row {
+        setup: ANSWERED,
+        refused: "more 1 0 7 128 9",
+        answer: "more 1: NothingHeld",
+    },
+    Row {
+        setup: "",
+        refused: "more 2 4 7 128 9",
+        answer: "more 2: BadQueue",
+    },
+    Row {
+        setup: HELD_AND_FOUR_ADDED,
+        refused: "more 1 4 7 128 9",
+        answer: "more 1: BadQueue",
+    },
+    Row {
+        setup: HELD_AND_FOUR_ADDED,
+        refused: "more 1 0 7 128 9",
+        answer: "more 1: TooMany",
+    },
+    Row {
+        setup: HELD_AND_DRAWN,
+        refused: "more 1 0 7 128 9",
+        answer: "more 1: Backpressure free=0",
+    },
+    Row {
+        setup: HELD_AND_FULL,
+        refused: "more 1 0 7 128 9",
+        answer: "more 1: Full",
+    },
+    Row {
+        setup: HELD_AND_SHUT,
+        refused: "more 1 0 7 128 9",
+        answer: "more 1: Stopped",
     },
     // A dequeue that can release none of what is held.
     Row {

@@ -10,7 +10,7 @@ use Rattle.evt_types.specs.declared.draft.QueueDraft.{QueueDraft}
 use Rattle.evt_types.specs.declared.event.Event.{Event}
 use Rattle.evt_types.specs.declared.step.Source.{Source}
 use Rattle.evt_types.specs.declared.step.Step.{Step}
-use Rattle.evt_types.specs.declared.step.Step.TheVariants.{Accept, Give, Done, Turned, Bounced, Shut}
+use Rattle.evt_types.specs.declared.step.Step.TheVariants.{Accept, Give, Done, More, Turned, Bounced, Shut}
 use Rattle.play_text.specs.Text.{IsInRange, count_of, counts_after, number_after, lines_after, step_line}
 
 -- there is a count for each of n queues, of what it accepted in the past
@@ -68,6 +68,7 @@ pub Counts-step : (n : ℕ) (counts : List ℕ) (past : List Step) (s : Step) �
 Counts-step n counts past (Accept r e src) h i = Counts-accept n counts past r e src h i
 Counts-step n counts past (Give l r m) h i = Counts-same n counts past (Give l r m) h (λ q. refl)
 Counts-step n counts past (Done l o) h i = Counts-same n counts past (Done l o) h (λ q. refl)
+Counts-step n counts past (More l e) h i = Counts-same n counts past (More l e) h (λ q. refl)
 Counts-step n counts past (Turned l e) h i = Counts-same n counts past (Turned l e) h (λ q. refl)
 Counts-step n counts past (Bounced l) h i = Counts-same n counts past (Bounced l) h (λ q. refl)
 Counts-step n counts past Shut h i = Counts-same n counts past Shut h (λ q. refl)
@@ -77,6 +78,7 @@ pub Counts-number : (n : ℕ) (counts : List ℕ) (past : List Step) (s : Step) 
 Counts-number n counts past (Accept r e src) h i = h.each r i
 Counts-number n counts past (Give l r m) h i = refl
 Counts-number n counts past (Done l o) h i = refl
+Counts-number n counts past (More l e) h i = refl
 Counts-number n counts past (Turned l e) h i = refl
 Counts-number n counts past (Bounced l) h i = refl
 Counts-number n counts past Shut h i = refl

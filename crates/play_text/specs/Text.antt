@@ -15,10 +15,10 @@ use Rattle.evt_types.specs.declared.step.Outcome.TheVariants.{Forwarded, Release
 use Rattle.evt_types.specs.declared.step.Source.{Source}
 use Rattle.evt_types.specs.declared.step.Source.TheVariants.{New, Of}
 use Rattle.evt_types.specs.declared.step.Step.{Step}
-use Rattle.evt_types.specs.declared.step.Step.TheVariants.{Accept, Give, Done, Turned, Bounced, Shut}
+use Rattle.evt_types.specs.declared.step.Step.TheVariants.{Accept, Give, Done, More, Turned, Bounced, Shut}
 use Rattle.event_answers.specs.declared.answer.Behind.{Behind}
 use Rattle.event_answers.specs.declared.answer.Refused.{Refused}
-use Rattle.event_answers.specs.declared.answer.Refused.TheVariants.{Stopped, BadQueue, NothingHeld, Backpressure, Raced, Full}
+use Rattle.event_answers.specs.declared.answer.Refused.TheVariants.{Stopped, BadQueue, NothingHeld, TooMany, Backpressure, Raced, Full}
 use Rattle.event_answers.specs.declared.answer.Swept.{Swept}
 use Rattle.event_answers.specs.declared.report.Held.{Held}
 use Rattle.event_answers.specs.declared.report.Report.{Report}
@@ -47,12 +47,14 @@ abbrev pub op_name : Op → List ℕ
 op_name ops.New = codes "new"
 op_name ops.Forward = codes "fwd"
 op_name ops.Release = codes "rel"
+op_name ops.ForwardMore = codes "more"
 
 -- why an event wasn't taken; the words that a race found are not told
 abbrev pub refusal_text : Refused → List ℕ
 refusal_text Stopped = codes "Stopped"
 refusal_text BadQueue = codes "BadQueue"
 refusal_text NothingHeld = codes "NothingHeld"
+refusal_text TooMany = codes "TooMany"
 refusal_text (Backpressure free) = codes "Backpressure free=" ++ decimal free
 refusal_text (Raced first second) = codes "Raced"
 refusal_text Full = codes "Full"
@@ -100,6 +102,7 @@ abbrev pub step_line : List QueueDraft → ℕ → Step → List ℕ
 step_line qs n (Accept queue e source) = accept_line qs queue n e source
 step_line qs n (Give lane queue number) = codes "give l" ++ decimal lane ++ codes " " ++ place_text queue number ++ codes "\n"
 step_line qs n (Done lane outcome) = codes "done l" ++ decimal lane ++ codes " " ++ done_text qs outcome
+step_line qs n (More lane e) = codes "more l" ++ decimal lane ++ codes " " ++ event_text qs e ++ codes "\n"
 step_line qs n (Turned lane e) = codes "turned l" ++ decimal lane ++ codes " " ++ event_text qs e ++ codes "\n"
 step_line qs n (Bounced lane) = codes "bounced l" ++ decimal lane ++ codes "\n"
 step_line qs n Shut = codes "shut\n"
@@ -109,6 +112,7 @@ abbrev pub number_after : List Step → Step → ℕ
 number_after past (Accept queue e source) = length (accepted past queue)
 number_after past (Give lane queue number) = 0
 number_after past (Done lane outcome) = 0
+number_after past (More lane e) = 0
 number_after past (Turned lane e) = 0
 number_after past (Bounced lane) = 0
 number_after past Shut = 0
@@ -165,6 +169,7 @@ abbrev pub IsInRange : ℕ → Step → Type 0
 IsInRange n (Accept queue e source) = queue < n
 IsInRange n (Give lane queue number) = Unit {0}
 IsInRange n (Done lane outcome) = Unit {0}
+IsInRange n (More lane e) = Unit {0}
 IsInRange n (Turned lane e) = Unit {0}
 IsInRange n (Bounced lane) = Unit {0}
 IsInRange n Shut = Unit {0}
@@ -174,6 +179,7 @@ abbrev pub count_of : List ℕ → Step → ℕ
 count_of counts (Accept queue e source) = slice_index counts queue
 count_of counts (Give lane queue number) = 0
 count_of counts (Done lane outcome) = 0
+count_of counts (More lane e) = 0
 count_of counts (Turned lane e) = 0
 count_of counts (Bounced lane) = 0
 count_of counts Shut = 0
@@ -183,6 +189,7 @@ abbrev pub counts_after : List ℕ → Step → List ℕ
 counts_after counts (Accept queue e source) = slice_set counts queue (slice_index counts queue + 1)
 counts_after counts (Give lane queue number) = counts
 counts_after counts (Done lane outcome) = counts
+counts_after counts (More lane e) = counts
 counts_after counts (Turned lane e) = counts
 counts_after counts (Bounced lane) = counts
 counts_after counts Shut = counts

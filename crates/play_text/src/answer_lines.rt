@@ -16,6 +16,7 @@ fn write_op(op: Op, out: &mut String) -> Result<(), AllocError>
         Op::New => out.push_str("new"),
         Op::Forward => out.push_str("fwd"),
         Op::Release => out.push_str("rel"),
+        Op::ForwardMore => out.push_str("more"),
     }
 }
 
@@ -26,6 +27,7 @@ fn write_refusal(refused: Refused, out: &mut String) -> Result<(), AllocError>
         Refused::Stopped => out.push_str("Stopped"),
         Refused::BadQueue => out.push_str("BadQueue"),
         Refused::NothingHeld => out.push_str("NothingHeld"),
+        Refused::TooMany => out.push_str("TooMany"),
         Refused::Backpressure { free } => write!(out, "Backpressure free={free}"),
         Refused::Raced { .. } => out.push_str("Raced"),
         Refused::Full => out.push_str("Full"),

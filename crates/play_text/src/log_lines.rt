@@ -70,6 +70,11 @@ fn write_step(
             write!(out, "done l{lane} ")?;
             write_done(queues, outcome, out)
         }
+        Step::More { lane, event } => {
+            write!(out, "more l{lane} ")?;
+            write_event(queues, event, out)?;
+            out.push_str("\n")
+        }
         Step::Turned { lane, event } => {
             write!(out, "turned l{lane} ")?;
             write_event(queues, event, out)?;
@@ -110,6 +115,7 @@ impl Counts {
             }
             Step::Give { .. }
             | Step::Done { .. }
+            | Step::More { .. }
             | Step::Turned { .. }
             | Step::Bounced { .. }
             | Step::Shut => 0,

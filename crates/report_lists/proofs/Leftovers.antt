@@ -9,6 +9,7 @@ use Rattle.std.proofs.lemmas.List.Sums.{count_by-le-length, sum_by-cons}
 use Rattle.std.proofs.lemmas.Option.{slice_get_past}
 use Rattle.event_answers.specs.declared.report.Undelivered.{Undelivered}
 use Rattle.event_answers.specs.declared.report.Untaken.{Untaken}
+use Rattle.evt_types.proofs.Additions.{beside-none}
 use Rattle.evt_types.specs.Operation.{is_release_op}
 use Rattle.evt_types.specs.declared.event.Event.{Event}
 use Rattle.evt_types.specs.declared.event.Op.{Op}
@@ -31,6 +32,7 @@ listed_by : (l : ℕ) (o : Op) (e : Event) (xs : List Untaken) → length (cons_
 listed_by l ops.New e xs = omega arith
 listed_by l ops.Forward e xs = omega arith
 listed_by l ops.Release e xs = omega arith
+listed_by l ops.ForwardMore e xs = omega arith
 
 pub untaken_count : (l : ℕ) (replies : List Reply) → length (filter_map (untaken_of l) replies) ≡ count_by has_event replies
 untaken_count l [] = refl
@@ -87,7 +89,7 @@ listed_more nears fars n l us vs ts ss a b turn listed more_us more_ts at_rest =
 -- ---- all lanes
 
 nothing_rests : IsAtRest no_rest
-nothing_rests = record { received = refl; answered = refl; fewer = omega arith }
+nothing_rests = record { received = refl; answered = refl; fewer = omega arith; beside = beside-none 0 }
 
 -- a lane that isn't there is at rest
 pub all_rest : (nears : List Near) (fars : List Far) (l : ℕ) → ((k : ℕ) → k < length nears → IsAtRest (rest_at nears fars k)) → IsAtRest (rest_at nears fars l)

@@ -82,6 +82,7 @@ rests_are p T nears fars lawful short gave took lanes rests own =
             received = (rests l).received;
             answered = (rests l).answered;
             fewer = (rests l).fewer;
+            beside = (rests l).beside;
           };
       own = λ l past. no_new nears fars l (λ far is. own l far past is);
       short = short;

@@ -1,5 +1,6 @@
 -- The lists of a lane at rest, by its two ends.
 use Rattle.std.specs.Prelude.{ℕ, ◌≡◌, ◌≤◌, List, [], ◌++◌, length, drop, count_by, slice_get, Option, Some, None}
+use Rattle.evt_types.specs.Additions.{AreBeside}
 use Rattle.evt_types.specs.Operation.{is_answer}
 use Rattle.lane_rings.specs.Ends.{offered, taken, received_by, answered}
 use Rattle.lane_rings.specs.declared.far.Far.{Far}
@@ -37,3 +38,4 @@ pub record IsAtRest (r : Rest) : Type 0 where
   pub received : r.offered ≡ r.received ++ r.undelivered
   pub answered : r.answered ≡ r.taken ++ r.untaken
   pub fewer : count_by is_answer r.answered ≤ length r.received
+  pub beside : AreBeside (length r.received) r.answered

@@ -22,8 +22,9 @@ abbrev pub untaken_by : Op → ℕ → Event → Option Untaken
 untaken_by ops.New l e = Some (record { lane = l; event = e })
 untaken_by ops.Forward l e = Some (record { lane = l; event = e })
 untaken_by ops.Release l e = None
+untaken_by ops.ForwardMore l e = Some (record { lane = l; event = e })
 
--- a NEW or FORWARD that wasn't taken
+-- a NEW, FORWARD or FORWARD_MORE that wasn't taken
 abbrev pub untaken_of : ℕ → Reply → Option Untaken
 untaken_of l r = untaken_by r.event.op l r.event
 

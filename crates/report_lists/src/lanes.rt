@@ -34,7 +34,7 @@ fn untaken(lane: usize, reply: Reply) -> Option<Untaken>
 {
     let event = reply.event;
     match event.op {
-        Op::New | Op::Forward => Some(Untaken { lane, event }),
+        Op::New | Op::Forward | Op::ForwardMore => Some(Untaken { lane, event }),
         Op::Release => None,
     }
 }

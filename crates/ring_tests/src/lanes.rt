@@ -35,6 +35,8 @@ enum Call {
     IsFull(bool),
     /// How many deliveries are held, and which of them is the oldest.
     Holds(usize, Option<u64>),
+    /// How many events were added beside the oldest.
+    Extras(usize),
 }
 
 /// What becomes of a reply.
@@ -42,6 +44,7 @@ enum Call {
 enum Said {
     Given,
     NothingHeld,
+    TooMany,
     Full,
 }
 
@@ -57,7 +60,7 @@ struct Row {
     held: &'static [u64],
 }
 
-static ROWS: [Row; 5] = [
+static ROWS: [Row; 6] = [
     Row {
         name: "each call once",
         depth: 1,
@@ -126,6 +129,48 @@ static ROWS: [Row; 5] = [
         ],
         undelivered: &[],
         untaken: &[(Op::Forward, 5)],
+        held: &[1],
+    },
+    // What is added leaves the oldest held; an answer ends it, and more may be added beside the next.
+    Row {
+        name: "added beside the oldest",
+        depth: 2,
+        replies: 6,
+        calls: &[
+            Call::Answer(Op::ForwardMore, 0, Said::NothingHeld),
+            Call::Extras(0),
+            Call::Offer(0, true),
+            Call::Receive(Some(0)),
+            Call::Offer(1, true),
+            Call::Receive(Some(1)),
+            Call::Answer(Op::ForwardMore, 1, Said::Given),
+            Call::StageReply(Op::ForwardMore, 2, Said::Given),
+            Call::FlushReplies,
+            Call::Answer(Op::ForwardMore, 3, Said::Given),
+            Call::Extras(3),
+            Call::Answer(Op::ForwardMore, 4, Said::Given),
+            Call::Answer(Op::ForwardMore, 5, Said::TooMany),
+            Call::Extras(4),
+            Call::Holds(2, Some(0)),
+            Call::Answer(Op::Forward, 6, Said::Given),
+            Call::Extras(0),
+            Call::Holds(1, Some(1)),
+            Call::Answer(Op::ForwardMore, 7, Said::Given),
+            Call::Answer(Op::ForwardMore, 8, Said::Full),
+            Call::Extras(1),
+            Call::Take(Some((Op::ForwardMore, 1))),
+            Call::Answer(Op::New, 9, Said::Given),
+            Call::Extras(1),
+        ],
+        undelivered: &[],
+        untaken: &[
+            (Op::ForwardMore, 2),
+            (Op::ForwardMore, 3),
+            (Op::ForwardMore, 4),
+            (Op::Forward, 6),
+            (Op::ForwardMore, 7),
+            (Op::New, 9),
+        ],
         held: &[1],
     },
     // What is gathered isn't seen before the flush, and takes places of the ring; no more is received than may be held.
@@ -212,6 +257,7 @@ fn answers(far: &mut Far, reply: Reply, gathers: bool, said: Said) -> bool
     let wanted = match said {
         Said::Given => Ok(()),
         Said::NothingHeld => Err(AnswerFault::NothingHeld),
+        Said::TooMany => Err(AnswerFault::TooMany),
         Said::Full => Err(AnswerFault::Full(reply)),
     };
     let answer = if gathers {
@@ -272,6 +318,7 @@ fn make_far(far: &mut Far, call: Call) -> bool
         }
         Call::IsFull(wanted) => far.is_full() == wanted,
         Call::Holds(count, oldest) => holds(far, count, oldest),
+        Call::Extras(count) => far.extras() == count,
         _ => true,
     }
 }

@@ -9,34 +9,60 @@ use evt_types::{Op, Reply};
 use lane_rings::{AnswerFault, Far, Near, beside, lane};
 use std::test::Fail;
 
+/// Why a reply is refused.
+#[derive(Clone, Copy)]
+enum Cause {
+    NothingHeld,
+    TooMany,
+    Full,
+}
+
 /// A lane when a reply is refused. Its deliveries are known by their numbers; number 9 is offered and not received.
 #[derive(Clone, Copy)]
 struct Row {
     name: &'static str,
+    /// How many replies the ring has room for.
+    room: usize,
     received: &'static [u64],
     given: &'static [Op],
     held: &'static [u64],
+    /// How many events were added beside the oldest that is held.
+    extras: usize,
     refused: Op,
-    /// Whether the ring is full; else nothing is held.
-    is_full: bool,
+    cause: Cause,
     /// What is held once number 9 was received and the refused reply was accepted.
     left: &'static [u64],
 }
 
-/// How many deliveries may be held, and how many replies the ring has room for.
+/// How many deliveries may be held.
 const DEPTH: usize = 3;
 
-const ROOM: usize = 2;
+/// Room for two replies, and nothing added.
+const PLAIN: Row = Row {
+    name: "",
+    room: 2,
+    received: &[],
+    given: &[],
+    held: &[],
+    extras: 0,
+    refused: Op::New,
+    cause: Cause::Full,
+    left: &[],
+};
 
-static ROWS: [Row; 13] = [
+/// As many events as may be added beside one.
+const FOUR: &[Op] = &[Op::ForwardMore; 4];
+
+static ROWS: [Row; 22] = [
     Row {
         name: "forward, nothing received",
         received: &[],
         given: &[],
         held: &[],
         refused: Op::Forward,
-        is_full: false,
+        cause: Cause::NothingHeld,
         left: &[],
+        ..PLAIN
     },
     Row {
         name: "release, nothing received",
@@ -44,8 +70,9 @@ static ROWS: [Row; 13] = [
         given: &[],
         held: &[],
         refused: Op::Release,
-        is_full: false,
+        cause: Cause::NothingHeld,
         left: &[],
+        ..PLAIN
     },
     Row {
         name: "forward, all answered",
@@ -53,8 +80,9 @@ static ROWS: [Row; 13] = [
         given: &[Op::Forward],
         held: &[],
         refused: Op::Forward,
-        is_full: false,
+        cause: Cause::NothingHeld,
         left: &[],
+        ..PLAIN
     },
     Row {
         name: "release, all answered",
@@ -62,8 +90,9 @@ static ROWS: [Row; 13] = [
         given: &[Op::Release],
         held: &[],
         refused: Op::Release,
-        is_full: false,
+        cause: Cause::NothingHeld,
         left: &[],
+        ..PLAIN
     },
     // Where the ring is full too, that nothing is held is the first cause.
     Row {
@@ -72,8 +101,9 @@ static ROWS: [Row; 13] = [
         given: &[Op::New, Op::New],
         held: &[],
         refused: Op::Forward,
-        is_full: false,
+        cause: Cause::NothingHeld,
         left: &[],
+        ..PLAIN
     },
     Row {
         name: "release, all answered and no room",
@@ -81,8 +111,9 @@ static ROWS: [Row; 13] = [
         given: &[Op::Forward, Op::Release],
         held: &[],
         refused: Op::Release,
-        is_full: false,
+        cause: Cause::NothingHeld,
         left: &[],
+        ..PLAIN
     },
     Row {
         name: "new, nothing received and no room",
@@ -90,8 +121,9 @@ static ROWS: [Row; 13] = [
         given: &[Op::New, Op::New],
         held: &[],
         refused: Op::New,
-        is_full: true,
+        cause: Cause::Full,
         left: &[9],
+        ..PLAIN
     },
     Row {
         name: "new, all answered and no room",
@@ -99,8 +131,9 @@ static ROWS: [Row; 13] = [
         given: &[Op::Release, Op::Forward],
         held: &[],
         refused: Op::New,
-        is_full: true,
+        cause: Cause::Full,
         left: &[9],
+        ..PLAIN
     },
     Row {
         name: "new, one held and no room",
@@ -108,8 +141,9 @@ static ROWS: [Row; 13] = [
         given: &[Op::Forward, Op::New],
         held: &[1],
         refused: Op::New,
-        is_full: true,
+        cause: Cause::Full,
         left: &[1, 9],
+        ..PLAIN
     },
     Row {
         name: "forward, two held and no room",
@@ -117,8 +151,9 @@ static ROWS: [Row; 13] = [
         given: &[Op::New, Op::New],
         held: &[0, 1],
         refused: Op::Forward,
-        is_full: true,
+        cause: Cause::Full,
         left: &[1, 9],
+        ..PLAIN
     },
     Row {
         name: "forward, one held and no room",
@@ -126,8 +161,9 @@ static ROWS: [Row; 13] = [
         given: &[Op::New, Op::Release],
         held: &[1],
         refused: Op::Forward,
-        is_full: true,
+        cause: Cause::Full,
         left: &[9],
+        ..PLAIN
     },
     Row {
         name: "release, two held and no room",
@@ -135,8 +171,9 @@ static ROWS: [Row; 13] = [
         given: &[Op::New, Op::New],
         held: &[0, 1],
         refused: Op::Release,
-        is_full: true,
+        cause: Cause::Full,
         left: &[1, 9],
+        ..PLAIN
     },
     Row {
         name: "release, one held and no room",
@@ -144,7 +181,111 @@ static ROWS: [Row; 13] = [
         given: &[Op::Forward, Op::New],
         held: &[1],
         refused: Op::Release,
-        is_full: true,
+        cause: Cause::Full,
+        left: &[9],
+        ..PLAIN
+    },
+    Row {
+        name: "addition, nothing received",
+        received: &[],
+        given: &[],
+        held: &[],
+        refused: Op::ForwardMore,
+        cause: Cause::NothingHeld,
+        left: &[9],
+        ..PLAIN
+    },
+    Row {
+        name: "addition, all answered",
+        received: &[0],
+        given: &[Op::ForwardMore, Op::Forward],
+        held: &[],
+        refused: Op::ForwardMore,
+        cause: Cause::NothingHeld,
+        left: &[9],
+        ..PLAIN
+    },
+    Row {
+        name: "addition, nothing received and no room",
+        received: &[],
+        given: &[Op::New, Op::New],
+        held: &[],
+        refused: Op::ForwardMore,
+        cause: Cause::NothingHeld,
+        left: &[9],
+        ..PLAIN
+    },
+    Row {
+        name: "addition, one held and no room",
+        received: &[0],
+        given: &[Op::New, Op::New],
+        held: &[0],
+        refused: Op::ForwardMore,
+        cause: Cause::Full,
+        left: &[0, 9],
+        ..PLAIN
+    },
+    Row {
+        name: "addition, two added and no room",
+        received: &[0, 1],
+        given: &[Op::ForwardMore, Op::ForwardMore],
+        held: &[0, 1],
+        extras: 2,
+        refused: Op::ForwardMore,
+        cause: Cause::Full,
+        left: &[0, 1, 9],
+        ..PLAIN
+    },
+    Row {
+        name: "release, four added and no room",
+        room: 4,
+        received: &[0],
+        given: FOUR,
+        held: &[0],
+        extras: 4,
+        refused: Op::Release,
+        cause: Cause::Full,
+        left: &[9],
+    },
+    Row {
+        name: "addition, four added",
+        room: 5,
+        received: &[0],
+        given: FOUR,
+        held: &[0],
+        extras: 4,
+        refused: Op::ForwardMore,
+        cause: Cause::TooMany,
+        left: &[9],
+    },
+    // Where the ring is full too, that too many were added is the first cause.
+    Row {
+        name: "addition, four added and no room",
+        room: 4,
+        received: &[0],
+        given: FOUR,
+        held: &[0],
+        extras: 4,
+        refused: Op::ForwardMore,
+        cause: Cause::TooMany,
+        left: &[9],
+    },
+    Row {
+        name: "addition, four added beside the second and no room",
+        room: 6,
+        received: &[0, 1],
+        given: &[
+            Op::ForwardMore,
+            Op::Release,
+            Op::ForwardMore,
+            Op::ForwardMore,
+            Op::ForwardMore,
+            Op::ForwardMore,
+        ],
+        held: &[1],
+        extras: 4,
+        refused: Op::ForwardMore,
+        cause: Cause::TooMany,
         left: &[9],
     },
 ];
@@ -214,9 +355,12 @@ fn turn(near: &mut Near, far: &mut Far, count: u64) -> bool
     true
 }
 
-/// Whether this is held, and what is next in the ring of deliveries is not received.
-fn holds_all(far: &Far, numbers: &[u64]) -> bool {
-    holds(far, numbers.len(), numbers.first().copied()) && !far.is_full()
+/// Whether as much is held as the row says, with as much added beside the oldest, and what is next in the ring of deliveries is not
+/// received.
+fn stands(far: &Far, row: &Row) -> bool {
+    holds(far, row.held.len(), row.held.first().copied())
+        && far.extras() == row.extras
+        && !far.is_full()
 }
 
 /// Whether the row's reply is refused for its cause, and what is held is the same before and after.
@@ -224,12 +368,26 @@ fn refuses(far: &mut Far, row: &Row, gathers: bool) -> bool
     ensures { far_id far.new ≡ far_id far.old }
 {
     let refused = reply(row.refused, 7);
-    let cause = if row.is_full {
-        AnswerFault::Full(refused)
-    } else {
-        AnswerFault::NothingHeld
+    let cause = match row.cause {
+        Cause::NothingHeld => AnswerFault::NothingHeld,
+        Cause::TooMany => AnswerFault::TooMany,
+        Cause::Full => AnswerFault::Full(refused),
     };
-    holds_all(far, row.held) && say(far, refused, gathers) == Err(cause) && holds_all(far, row.held)
+    stands(far, row) && say(far, refused, gathers) == Err(cause) && stands(far, row)
+}
+
+/// Where no more may be added beside the oldest that is held, that is released; whether the release is taken.
+fn makes_way(near: &mut Near, far: &mut Far, row: &Row) -> bool
+    ensures near { near_id near.new ≡ near_id near.old }
+    ensures far { far_id far.new ≡ far_id far.old }
+{
+    match row.cause {
+        Cause::TooMany => {
+            let answered = far.answer(reply(Op::Release, 6));
+            answered == Ok(()) && far.extras() == 0 && near.take() == Some(reply(Op::Release, 6))
+        }
+        Cause::NothingHeld | Cause::Full => true,
+    }
 }
 
 /// Whether number 9 is received now, and the reply that was refused is accepted and is all that is taken.
@@ -237,7 +395,7 @@ fn goes_on(near: &mut Near, far: &mut Far, row: &Row) -> bool
     ensures near { near_id near.new ≡ near_id near.old }
     ensures far { far_id far.new ≡ far_id far.old }
 {
-    if far.is_full() || far.receive() != Some(delivery(9)) {
+    if far.is_full() || far.receive() != Some(delivery(9)) || !makes_way(near, far, row) {
         return false;
     }
     let answered = far.answer(reply(row.refused, 7));
@@ -282,7 +440,7 @@ fn a_refused_reply_changes_nothing(rt: HostRuntime) -> Result<(), Fail> {
     for row in &ROWS {
         for turns in 0..4 {
             for gathers in [false, true] {
-                let (near, far) = lane(rt.alloc(), DEPTH, ROOM)?;
+                let (near, far) = lane(rt.alloc(), DEPTH, row.room)?;
                 let name = row.name;
                 assert!(rt;
                     plays(near, far, row, turns, gathers),

@@ -7,7 +7,7 @@ use Rattle.pipeline_laws.specs.Example.{entry_with, example_plan}
 use Rattle.pipeline_laws.specs.Worked.{IsLogOf, new_event}
 use Rattle.run_tests.specs.Logs.{log_with}
 use Rattle.transcripts.proofs.Whole.{Lawful-steps}
-use Rattle.transcripts.specs.Transcript.{accepted, out, answers, unanswered, ended, sent, forwards, hand, waiting, taken, sources, kept, open_of, inside}
+use Rattle.transcripts.specs.Transcript.{accepted, out, answers, unanswered, ended, extras, sent, forwards, hand, waiting, taken, sources, kept, open_of, inside}
 use Rattle.worked_logs.proofs.Sound.{StepsLawful-test}
 use Rattle.worked_logs.specs.Check.{is_lawful}
 
@@ -19,7 +19,7 @@ entry_is fits =
 
 -- the test passes, since the accepted event is the forwarded one
 passes : (payload : ℕ) → is_lawful example_plan (log_with payload) ≡ true
-unfolding accepted out answers unanswered ended sent forwards hand waiting taken sources kept open_of inside bound_of depth_of flow_lanes lanes_of serves
+unfolding accepted out answers unanswered ended extras sent forwards hand waiting taken sources kept open_of inside bound_of depth_of flow_lanes lanes_of serves
 passes payload = rw (eq-eqb payload payload refl) refl
 
 pub is_log : (payload : ℕ) → IsLogOf 2 2 (log_with payload)

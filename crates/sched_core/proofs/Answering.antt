@@ -1,5 +1,5 @@
 -- A core after an answer: its view, and that what holds of each core holds of it.
-use Rattle.std.proofs.Common.{◌≡◌, ℕ, ◌+◌, ◌-◌, ◌<◌, ◌≤◌, ◌^◌, Bool, true, false, cond, ◌&&◌, List, [], ◌∷◌, length, map, drop, set, get_or, All, Option, Some, None, is_some, option_to_list, IsTrue, sum_by, slice_get, ◌⊎◌, inl, inr, refl, sym, ap, ◌∙◌, subst, arith}
+use Rattle.std.proofs.Common.{◌≡◌, ℕ, ◌+◌, ◌-◌, ◌<◌, ◌≤◌, ◌^◌, Bool, true, false, cond, ◌&&◌, List, [], ◌∷◌, length, map, drop, set, get_or, All, Option, Some, None, Vec, Global, is_some, option_to_list, IsTrue, sum_by, slice_get, ◌⊎◌, inl, inr, refl, sym, ap, ◌∙◌, subst, arith}
 use Rattle.std.proofs.lemmas.Bool.{cases_Bool, cond-true, cond-false, lt-ltb}
 use Rattle.std.proofs.lemmas.List.{length-set, length-drop, length-map, map-set, drop-map, get_or-map, set-get_or}
 use Rattle.std.proofs.lemmas.List.Elements.{All-head}
@@ -22,7 +22,7 @@ use Rattle.sched_core.proofs.Pinned.{oldest_known as known_of, oldest_pinned as 
 use Rattle.sched_core.specs.Answered.{places_answered, after_answer}
 use Rattle.sched_core.specs.Inner.{held_of}
 use Rattle.parked_queue.specs.Waits.{waits_at}
-use Rattle.sched_core.specs.Ordered.{ArePlaces, IsOrder, StandsIn, entry_at, entries_at, kept_of, order_at, outcome_of, places_in}
+use Rattle.sched_core.specs.Ordered.{ArePlaces, IsOrder, StandsIn, added_beside, entry_at, entries_at, kept_of, order_at, outcome_of, places_in}
 use Rattle.sched_core.specs.Orders.{is_restoring, resolved_in}
 use Rattle.sched_core.specs.Pinned.{ArePins, pins_at, pin_in, with_pin}
 use Rattle.sched_core.specs.View.{waiting_in, next_in, unanswered_in, entries_in, view_in, IsCore}
@@ -127,7 +127,7 @@ resolved_orders rs y f = set rs y.queue (resolved_in (order_at rs y.queue) y.pla
 
 record IsResolved (a : Inside) (i : ℕ) (y : Entry) (f : Option Event) (b : Bool) : Type 0 where
   restoring : is_restoring (order_at a.orders y.queue) ≡ b
-  places : ArePlaces a.shape a.queues (resolved_orders a.orders y f) (set (map entries_in a.lanes) i (drop 1 (entries_at (map entries_in a.lanes) i)))
+  places : ArePlaces a.shape a.queues (resolved_orders a.orders y f) (set (map entries_in a.lanes) i (drop 1 (entries_at (map entries_in a.lanes) i))) (set a.extras.items i 0)
   kept : kept_of (resolved_in (order_at a.orders y.queue) y.place f).places ≡ kept_of (order_at a.orders y.queue).places + kept_more b f
   shown : (resolved_in (order_at a.orders y.queue) y.place f).places ≡ cond b (map (answer_place y.number (outcome_of f)) (order_at a.orders y.queue).places) (order_at a.orders y.queue).places
 
@@ -152,13 +152,14 @@ resolved_by a i y f core h oldest there named = by_kind (is_ordered (queue_of a.
         let restoring : is_restoring r ≡ true = restoring_is a.shape r y.queue core.limits there depth ∙ ordered in
         let now : resolved_in r y.place f ≡ after_resolve r y.place f = cond-true (is_restoring r) (after_resolve r y.place f) r restoring in
         let order : IsOrder a.shape (kept_room (queue_of a.shape y.queue)) (waits_at a.queues y.queue) r = core.places.each y.queue there in
-        let stands : StandsIn r y = core.places.held i 0 y oldest ordered in
+        let most : ℕ = added_beside a.extras.items i 0 in
+        let stands : StandsIn r y most = core.places.held i 0 y oldest ordered in
         record {
           restoring = restoring;
-          places = subst (λ s. ArePlaces a.shape a.queues (set a.orders y.queue s) (set us i (drop 1 (entries_at us i)))) (sym now)
-              (answered_place a.shape a.queues a.orders us i y f core.places lane oldest ordered named);
-          kept = ap (λ (s : Reordering). kept_of s.places) now ∙ (resolve_keeps a.shape (kept_room (queue_of a.shape y.queue)) (waits_at a.queues y.queue) r y f order stands ∙ ap (λ n. kept_of r.places + n) (more_kept f));
-          shown = ap (λ (s : Reordering). s.places) now ∙ resolve_answers a.shape (kept_room (queue_of a.shape y.queue)) (waits_at a.queues y.queue) r y f order stands;
+          places = subst (λ s. ArePlaces a.shape a.queues (set a.orders y.queue s) (set us i (drop 1 (entries_at us i))) (set a.extras.items i 0)) (sym now)
+              (answered_place a.shape a.queues a.orders us a.extras.items i y f core.places lane oldest ordered named);
+          kept = ap (λ (s : Reordering). kept_of s.places) now ∙ (resolve_keeps a.shape (kept_room (queue_of a.shape y.queue)) (waits_at a.queues y.queue) r y most f order stands ∙ ap (λ n. kept_of r.places + n) (more_kept f));
+          shown = ap (λ (s : Reordering). s.places) now ∙ resolve_answers a.shape (kept_room (queue_of a.shape y.queue)) (waits_at a.queues y.queue) r y most f order stands;
         }
     by_kind false plain =
         let restoring : is_restoring r ≡ false = restoring_is a.shape r y.queue core.limits there depth ∙ plain in
@@ -166,19 +167,19 @@ resolved_by a i y f core h oldest there named = by_kind (is_ordered (queue_of a.
         let count = core.places.count in
         record {
           restoring = restoring;
-          places = subst (λ rs. ArePlaces a.shape a.queues rs (set us i (drop 1 (entries_at us i)))) (sym (ap (set a.orders y.queue) now ∙ set-get_or a.orders y.queue (empty 0)))
-              (answered_plain a.shape a.queues a.orders us i core.places lane);
+          places = subst (λ rs. ArePlaces a.shape a.queues rs (set us i (drop 1 (entries_at us i))) (set a.extras.items i 0)) (sym (ap (set a.orders y.queue) now ∙ set-get_or a.orders y.queue (empty 0)))
+              (answered_plain a.shape a.queues a.orders us a.extras.items i core.places lane);
           kept = ap (λ (s : Reordering). kept_of s.places) now ∙ omega arith;
           shown = ap (λ (s : Reordering). s.places) now;
         }
 
-pub core_answers : (a : Inside) (i : ℕ) (old new : Entries) (y : Entry) (f : Option Event) (ps : List (List Pin)) (n m : ℕ) → IsCore a → i < length a.lanes → old ≡ get_or a.lanes i old
-    → slice_get old.entries 0 ≡ Some y → new.entries ≡ drop 1 old.entries → new.capacity ≡ old.capacity
+pub core_answers : (a : Inside) (i : ℕ) (old new : Entries) (y : Entry) (f : Option Event) (es : Vec ℕ Global) (ps : List (List Pin)) (n m : ℕ) → IsCore a → i < length a.lanes → old ≡ get_or a.lanes i old
+    → slice_get old.entries 0 ≡ Some y → new.entries ≡ drop 1 old.entries → new.capacity ≡ old.capacity → es.items ≡ set a.extras.items i 0
     → ((e : Event) → f ≡ Some e → e.queue < length a.shape.queues) → entries_of (view_in a) + length (option_to_list f) ≤ 2 ^ 63
     → ps ≡ with_pin a.pins y.queue y.slot (unpinned (pin_in a.pins y.queue y.slot))
     → n + 1 ≡ a.inside + kept_more (is_restoring (order_at a.orders y.queue)) f → m ≡ a.entries + kept_more (is_restoring (order_at a.orders y.queue)) f
-    → IsCore (record { shape = a.shape; queues = a.queues; orders = resolved_orders a.orders y f; lanes = set a.lanes i new; pins = ps; links = a.links; ahead = a.ahead; slot_lanes = a.slot_lanes; bound = a.bound; inside = n; entries = m; shut = a.shut })
-core_answers a i old new y f ps n m core h is oldest items capacity named few unpins counted entered =
+    → IsCore (record { shape = a.shape; queues = a.queues; orders = resolved_orders a.orders y f; lanes = set a.lanes i new; extras = es; pins = ps; links = a.links; ahead = a.ahead; slot_lanes = a.slot_lanes; bound = a.bound; inside = n; entries = m; shut = a.shut })
+core_answers a i old new y f es ps n m core h is oldest items capacity cleared named few unpins counted entered =
     let r : Reordering = order_at a.orders y.queue in
     let there : y.queue < length a.shape.queues = oldest_known a i old y core h is oldest in
     let done = resolved_by a i y f core h (oldest_entry a.lanes i old y h is oldest) there named in
@@ -189,7 +190,7 @@ core_answers a i old new y f ps n m core h is oldest items capacity named few un
     let less : length (unanswered_in new) + 1 ≡ length (unanswered_in old) = answered_length old new y oldest items in
     let held = held_sum a.lanes i old new h is in
     let count = core.places.count in
-    let keeps = kept_after a (record { shape = a.shape; queues = a.queues; orders = resolved_orders a.orders y f; lanes = set a.lanes i new; pins = ps; links = a.links; ahead = a.ahead; slot_lanes = a.slot_lanes; bound = a.bound; inside = n; entries = m; shut = a.shut }) y.queue (resolved_in r y.place f) refl (omega arith) in
+    let keeps = kept_after a (record { shape = a.shape; queues = a.queues; orders = resolved_orders a.orders y f; lanes = set a.lanes i new; extras = es; pins = ps; links = a.links; ahead = a.ahead; slot_lanes = a.slot_lanes; bound = a.bound; inside = n; entries = m; shut = a.shut }) y.queue (resolved_in r y.place f) refl (omega arith) in
     let more = done.kept in
     let inside = core.inside in
     let within = core.within in
@@ -199,6 +200,7 @@ core_answers a i old new y f ps n m core h is oldest items capacity named few un
       limits = core.limits;
       queues = core.queues;
       lanes = length-set a.lanes i new ∙ core.lanes;
+      extras = ap length cleared ∙ (length-set a.extras.items i 0 ∙ core.extras);
       sound = core.sound;
       slots = core.slots;
       room = room_set a.shape a.lanes i old new h is capacity core.room;
@@ -215,7 +217,9 @@ core_answers a i old new y f ps n m core h is oldest items capacity named few un
       links = core.links;
       ahead = core.ahead;
       slot_lanes = core.slot_lanes;
-      places = subst (ArePlaces a.shape a.queues (resolved_orders a.orders y f)) (sym popped) done.places;
+      places =
+          subst (ArePlaces a.shape a.queues (resolved_orders a.orders y f) (map entries_in (set a.lanes i new))) (sym cleared)
+          (subst (λ us. ArePlaces a.shape a.queues (resolved_orders a.orders y f) us (set a.extras.items i 0)) (sym popped) done.places);
     }
 
 -- it may be resolved
@@ -223,7 +227,7 @@ pub resolve_is_open : (a : Inside) (i : ℕ) (old : Entries) (y : Entry) → IsC
     → is_restoring (order_at a.orders y.queue) ≡ true → IsTrue (is_open (place_at (order_at a.orders y.queue) y.place))
 resolve_is_open a i old y core h is oldest restoring =
     let there : y.queue < length a.shape.queues = oldest_known a i old y core h is oldest in
-    answer_is_open a.shape a.queues a.orders (map entries_in a.lanes) i 0 y core.places (oldest_entry a.lanes i old y h is oldest)
+    answer_is_open a.shape a.queues a.orders (map entries_in a.lanes) a.extras.items i 0 y core.places (oldest_entry a.lanes i old y h is oldest)
     (sym (restoring_is a.shape (order_at a.orders y.queue) y.queue core.limits there (core.places.each y.queue there).room) ∙ restoring)
 
 -- something is inside
@@ -238,13 +242,13 @@ some_inside a i old y core h is oldest =
 
 -- ---- its view
 
-pub view_answers : (a : Inside) (i : ℕ) (old new : Entries) (y : Entry) (f : Option Event) (o : Outcome) (ps : List (List Pin)) (n m : ℕ) → IsCore a → i < length a.lanes → old ≡ get_or a.lanes i old
-    → slice_get old.entries 0 ≡ Some y → new.entries ≡ drop 1 old.entries → ((e : Event) → f ≡ Some e → e.queue < length a.shape.queues) → outcome_of f ≡ o
-    → view_in (record { shape = a.shape; queues = a.queues; orders = resolved_orders a.orders y f; lanes = set a.lanes i new; pins = ps; links = a.links; ahead = a.ahead; slot_lanes = a.slot_lanes; bound = a.bound; inside = n; entries = m; shut = a.shut }) ≡ after_answer (view_in a) i o
-view_answers a i old new y f o ps n m core h is oldest items named same =
-    same_parts a.shape (map waiting_in a.queues) _ (map next_in a.queues) _ _ _ _ _ a.shut refl refl
+pub view_answers : (a : Inside) (i : ℕ) (old new : Entries) (y : Entry) (f : Option Event) (o : Outcome) (es : Vec ℕ Global) (ps : List (List Pin)) (n m : ℕ) → IsCore a → i < length a.lanes → old ≡ get_or a.lanes i old
+    → slice_get old.entries 0 ≡ Some y → new.entries ≡ drop 1 old.entries → es.items ≡ set a.extras.items i 0 → ((e : Event) → f ≡ Some e → e.queue < length a.shape.queues) → outcome_of f ≡ o
+    → view_in (record { shape = a.shape; queues = a.queues; orders = resolved_orders a.orders y f; lanes = set a.lanes i new; extras = es; pins = ps; links = a.links; ahead = a.ahead; slot_lanes = a.slot_lanes; bound = a.bound; inside = n; entries = m; shut = a.shut }) ≡ after_answer (view_in a) i o
+view_answers a i old new y f o es ps n m core h is oldest items cleared named same =
+    same_parts a.shape (map waiting_in a.queues) _ (map next_in a.queues) _ _ _ _ _ _ _ a.shut refl refl
     (map-set places_in a.orders y.queue (resolved_in r y.place f) ∙ (by_kind (is_ordered (queue_of a.shape y.queue).kind) refl done.shown ∙ sym (ap (λ x. places_answered (view_in a) x o) (first_here a i old y h is oldest))))
-    (lanes_answered a i old new h is items)
+    (lanes_answered a i old new h is items) cleared
   where
     r : Reordering
     r = order_at a.orders y.queue

@@ -66,6 +66,13 @@ kept_after a b q new is h = ap (λ rs. sum_by kept_of (map places_in rs) + kept_
 pub places_here : (a : Inside) (q : ℕ) → IsCore a → q < length a.shape.queues → places_at (view_in a) q ≡ (order_at a.orders q).places
 places_here a q core h = let count = core.places.count in get_or-map places_in a.orders q (empty 0) [] (omega arith)
 
+pub places_there : (a : Inside) (v : View) (q : ℕ) → IsCore a → view_in a ≡ v → q < length v.shape.queues → q < length v.places
+places_there a v q core same h =
+    let long : length v.places ≡ length a.orders = ap (λ (u : View). length u.places) (sym same) ∙ length-map a.orders places_in in
+    let queues : length v.shape.queues ≡ length a.shape.queues = ap (λ (u : View). length u.shape.queues) (sym same) in
+    let count = core.places.count in
+    omega arith
+
 pub waiting_here : (a : Inside) (i : ℕ) (old : Waits) → i < length a.queues → old ≡ get_or a.queues i old → waiting_at (view_in a) i ≡ old.waiting
 waiting_here a i old h is = get_or-map waiting_in a.queues i old [] h ∙ ap waiting_in (sym is)
 
@@ -135,7 +142,7 @@ waits_here_is qs i old h is = get_or_default qs i (no_waits 1 0) old h ∙ sym i
 
 pub core_accepts : (a : Inside) (i : ℕ) (old new : Waits) (e : Event) → IsCore a → inside_of (view_in a) < bound_of a.shape → entries_of (view_in a) < 2 ^ 63 → i < length a.queues → old ≡ get_or a.queues i old
     → new ≡ with_event old e → AreWaits new
-    → IsCore (record { shape = a.shape; queues = set a.queues i new; orders = a.orders; lanes = a.lanes; pins = a.pins; links = a.links; ahead = a.ahead; slot_lanes = a.slot_lanes; bound = a.bound; inside = a.inside + 1; entries = a.entries + 1; shut = a.shut })
+    → IsCore (record { shape = a.shape; queues = set a.queues i new; orders = a.orders; lanes = a.lanes; extras = a.extras; pins = a.pins; links = a.links; ahead = a.ahead; slot_lanes = a.slot_lanes; bound = a.bound; inside = a.inside + 1; entries = a.entries + 1; shut = a.shut })
 core_accepts a i old new e core fits fewer h is value waits =
     let more : length new.waiting ≡ length old.waiting + 1 = ap (λ (q : Waits). length q.waiting) value ∙ length_push old.waiting (record { number = old.next; event = e }) in
     let next : new.next ≡ old.next + 1 = ap (λ (q : Waits). q.next) value in
@@ -149,6 +156,7 @@ core_accepts a i old new e core fits fewer h is value waits =
       limits = core.limits;
       queues = length-set a.queues i new ∙ core.queues;
       lanes = core.lanes;
+      extras = core.extras;
       sound = All-set (IsQueueOf (bound_of a.shape)) a.queues i new (record { room = ap (λ (q : Waits). q.room) value ∙ (queue_here a i old core h is).room; waits = waits }) core.sound;
       slots = slots_set a.shape a.queues i old new h is (ap (λ (q : Waits). q.slots) value) core.slots;
       room = core.room;
@@ -162,28 +170,37 @@ core_accepts a i old new e core fits fewer h is value waits =
       links = core.links;
       ahead = core.ahead;
       slot_lanes = core.slot_lanes;
-      places = subst (λ q. ArePlaces a.shape (set a.queues i q) a.orders (map entries_in a.lanes)) (ap (λ q. with_event q e) (waits_here_is a.queues i old h is) ∙ sym value)
-          (accepted_places a.shape a.queues a.orders (map entries_in a.lanes) i e core.places (omega arith));
+      places = subst (λ q. ArePlaces a.shape (set a.queues i q) a.orders (map entries_in a.lanes) a.extras.items) (ap (λ q. with_event q e) (waits_here_is a.queues i old h is) ∙ sym value)
+          (accepted_places a.shape a.queues a.orders (map entries_in a.lanes) a.extras.items i e core.places (omega arith));
     }
 
 -- two views of one shape with the same parts
-pub same_parts : (p : Plan) (w w' : List (List Numbered)) (n n' : List ℕ) (r r' : List (List Place)) (u u' : List (List Held)) (b : Bool) → w ≡ w' → n ≡ n' → r ≡ r' → u ≡ u'
-    → ◌≡◌ {A = View} (record { shape = p; waiting = w; next = n; places = r; unanswered = u; shut = b }) (record { shape = p; waiting = w'; next = n'; places = r'; unanswered = u'; shut = b })
-same_parts p w w' n n' r r' u u' b e f g h = cc
+pub same_parts : (p : Plan) (w w' : List (List Numbered)) (n n' : List ℕ) (r r' : List (List Place)) (u u' : List (List Held)) (x x' : List ℕ) (b : Bool) → w ≡ w' → n ≡ n' → r ≡ r' → u ≡ u' → x ≡ x'
+    → ◌≡◌ {A = View} (record { shape = p; waiting = w; next = n; places = r; unanswered = u; extras = x; shut = b }) (record { shape = p; waiting = w'; next = n'; places = r'; unanswered = u'; extras = x'; shut = b })
+same_parts p w w' n n' r r' u u' x x' b e f g h i = cc
 
--- the same with the same places
-pub same_view : (p : Plan) (w w' : List (List Numbered)) (n n' : List ℕ) (r : List (List Place)) (u u' : List (List Held)) (b : Bool) → w ≡ w' → n ≡ n' → u ≡ u'
-    → ◌≡◌ {A = View} (record { shape = p; waiting = w; next = n; places = r; unanswered = u; shut = b }) (record { shape = p; waiting = w'; next = n'; places = r; unanswered = u'; shut = b })
-same_view p w w' n n' r u u' b e f g = cc
+-- the same with the same places and counts
+pub same_view : (p : Plan) (w w' : List (List Numbered)) (n n' : List ℕ) (r : List (List Place)) (u u' : List (List Held)) (x : List ℕ) (b : Bool) → w ≡ w' → n ≡ n' → u ≡ u'
+    → ◌≡◌ {A = View} (record { shape = p; waiting = w; next = n; places = r; unanswered = u; extras = x; shut = b }) (record { shape = p; waiting = w'; next = n'; places = r; unanswered = u'; extras = x; shut = b })
+same_view p w w' n n' r u u' x b e f g = cc
 
 pub view_accepts : (a : Inside) (i : ℕ) (old new : Waits) (e : Event) → i < length a.queues → old ≡ get_or a.queues i old → new ≡ with_event old e
-    → view_in (record { shape = a.shape; queues = set a.queues i new; orders = a.orders; lanes = a.lanes; pins = a.pins; links = a.links; ahead = a.ahead; slot_lanes = a.slot_lanes; bound = a.bound; inside = a.inside + 1; entries = a.entries + 1; shut = a.shut }) ≡ after_accept (view_in a) i e
+    → view_in (record { shape = a.shape; queues = set a.queues i new; orders = a.orders; lanes = a.lanes; extras = a.extras; pins = a.pins; links = a.links; ahead = a.ahead; slot_lanes = a.slot_lanes; bound = a.bound; inside = a.inside + 1; entries = a.entries + 1; shut = a.shut }) ≡ after_accept (view_in a) i e
 view_accepts a i old new e h is value =
-    same_view a.shape _ _ _ _ (map places_in a.orders) (map unanswered_in a.lanes) _ a.shut
+    same_view a.shape _ _ _ _ (map places_in a.orders) (map unanswered_in a.lanes) _ a.extras.items a.shut
     (map-set waiting_in a.queues i new ∙ ap (set (map waiting_in a.queues) i)
     (ap (λ (q : Waits). q.waiting) value ∙ sym (ap (λ ws. ws ++ record { number = next_at (view_in a) i; event = e } ∷ []) (waiting_here a i old h is) ∙ ap (λ n. old.waiting ++ record { number = n; event = e } ∷ []) (next_here a i old h is))))
     (map-set next_in a.queues i new ∙ ap (set (map next_in a.queues) i) (ap (λ (q : Waits). q.next) value ∙ sym (ap (λ n. n + 1) (next_here a i old h is))))
     refl
+
+-- one event more is inside, and one more accepted
+pub accept_counts : (a : Inside) (i : ℕ) (old new : Waits) (e : Event) (v : View) → IsCore a → view_in a ≡ v → inside_of (view_in a) < bound_of a.shape → entries_of (view_in a) < 2 ^ 63 → i < length a.queues → old ≡ get_or a.queues i old
+    → new ≡ with_event old e → AreWaits new
+    → (inside_of (view_in (record { shape = a.shape; queues = set a.queues i new; orders = a.orders; lanes = a.lanes; extras = a.extras; pins = a.pins; links = a.links; ahead = a.ahead; slot_lanes = a.slot_lanes; bound = a.bound; inside = a.inside + 1; entries = a.entries + 1; shut = a.shut })) ≡ inside_of v + 1)
+    × (entries_of (view_in (record { shape = a.shape; queues = set a.queues i new; orders = a.orders; lanes = a.lanes; extras = a.extras; pins = a.pins; links = a.links; ahead = a.ahead; slot_lanes = a.slot_lanes; bound = a.bound; inside = a.inside + 1; entries = a.entries + 1; shut = a.shut })) ≡ entries_of v + 1)
+accept_counts a i old new e v core same fits fewer h is value waits =
+    let after = core_accepts a i old new e core fits fewer h is value waits in
+    (sym after.inside ∙ ap (λ n. n + 1) (core.inside ∙ ap inside_of same), sym after.entries ∙ ap (λ n. n + 1) (core.entries ∙ ap entries_of same))
 
 -- ---- what the conditions say
 
@@ -208,7 +225,7 @@ only_event a i old w core h is waits k d lt same =
     let other : event_in old.waiting u.number ≡ Some u.event = event_in_at old.waiting k d rises lt in
     same_Some u.event w.event (sym other ∙ (ap (event_in old.waiting) same ∙ mine))
 
--- no more events are kept than the ordered queues have places
+-- the ordered queues have no more places than this
 pub few_kept : (p : Plan) → IsWithinLimits p → sum_by kept_room p.queues ≤ MAX_QUEUES * MAX_ORDER
 few_kept p limits =
     let all : sum_by kept_room p.queues ≤ length p.queues * MAX_ORDER = sum_by-le kept_room MAX_ORDER p.queues (λ k d h. by_kind (get_or p.queues k d) (limits.orders k d h) (cases_Bool (is_ordered (get_or p.queues k d).kind))) in

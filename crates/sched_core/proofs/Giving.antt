@@ -73,7 +73,7 @@ offer_place a v l i w core same offered = by_kind (cases_Bool (is_ordered (queue
         ap (λ n. (n == 0) || nat_lt (length r.places) n) none
 
 record IsHanded (a : Inside) (l i : ℕ) (w : Numbered) (y : Entry) (b : Bool) : Type 0 where
-  places : ArePlaces a.shape (set a.queues i (without_number (waits_at a.queues i) w.number)) (handed_orders a.orders i w.number) (set (map entries_in a.lanes) l (entries_at (map entries_in a.lanes) l ++ y ∷ []))
+  places : ArePlaces a.shape (set a.queues i (without_number (waits_at a.queues i) w.number)) (handed_orders a.orders i w.number) (set (map entries_in a.lanes) l (entries_at (map entries_in a.lanes) l ++ y ∷ [])) a.extras.items
   kept : kept_of (handed (order_at a.orders i) w.number).places ≡ kept_of (order_at a.orders i).places
   shown : (handed (order_at a.orders i) w.number).places ≡ cond b ((order_at a.orders i).places ++ open_place w.number ∷ []) (order_at a.orders i).places
 
@@ -103,10 +103,10 @@ handed_by a l i w y core offer waits below k queue number place = by_kind (is_or
         let room : length r.places < r.depth = omega (arith, ap length (places_here a i core offer.queue), offer.places ordered, depth, cond-true (is_ordered (queue_of a.shape i).kind) (queue_of a.shape i).order 0 ordered) in
         record {
           places =
-              subst (λ s. ArePlaces a.shape (set a.queues i (without_number (waits_at a.queues i) w.number)) (set a.orders i s) (set us l (entries_at us l ++ y ∷ []))) (sym now)
-              (subst (λ n. ArePlaces a.shape (set a.queues i (without_number (waits_at a.queues i) n)) (set a.orders i (after_hand r n)) (set us l (entries_at us l ++ y ∷ []))) number
-              (subst (λ q. ArePlaces a.shape (set a.queues q (without_number (waits_at a.queues q) y.number)) (set a.orders q (after_hand (order_at a.orders q) y.number)) (set us l (entries_at us l ++ y ∷ []))) queue
-              (given_place a.shape a.queues a.orders us l w y core.places (at_queue (λ q. q < length a.shape.queues) offer.queue) lane (at_queue (λ q. Contains (waits_at a.queues q).waiting w) waits) number
+              subst (λ s. ArePlaces a.shape (set a.queues i (without_number (waits_at a.queues i) w.number)) (set a.orders i s) (set us l (entries_at us l ++ y ∷ [])) a.extras.items) (sym now)
+              (subst (λ n. ArePlaces a.shape (set a.queues i (without_number (waits_at a.queues i) n)) (set a.orders i (after_hand r n)) (set us l (entries_at us l ++ y ∷ [])) a.extras.items) number
+              (subst (λ q. ArePlaces a.shape (set a.queues q (without_number (waits_at a.queues q) y.number)) (set a.orders q (after_hand (order_at a.orders q) y.number)) (set us l (entries_at us l ++ y ∷ [])) a.extras.items) queue
+              (given_place a.shape a.queues a.orders us a.extras.items l w y core.places (at_queue (λ q. q < length a.shape.queues) offer.queue) lane (at_queue (λ q. Contains (waits_at a.queues q).waiting w) waits) number
               (at_queue (λ q. w.number < (waits_at a.queues q).next) below) (at_queue (λ q. length (order_at a.orders q).places < (order_at a.orders q).depth) room) (at_queue (λ q. y.place ≡ next_number (order_at a.orders q)) (place restoring)))));
           kept = ap (λ (s : Reordering). kept_of s.places) now ∙ (sum_by-append (λ (x : Place). length x.forwards) r.places (open_place w.number ∷ []) ∙ omega arith);
           shown = ap (λ (s : Reordering). s.places) now;
@@ -116,10 +116,10 @@ handed_by a l i w y core offer waits below k queue number place = by_kind (is_or
         let now : handed r w.number ≡ r = cond-false (is_restoring r) (after_hand r w.number) r restoring in
         record {
           places =
-              subst (λ rs. ArePlaces a.shape (set a.queues i (without_number (waits_at a.queues i) w.number)) rs (set us l (entries_at us l ++ y ∷ []))) (sym (ap (set a.orders i) now ∙ set-get_or a.orders i (empty 0)))
-              (subst (λ n. ArePlaces a.shape (set a.queues i (without_number (waits_at a.queues i) n)) a.orders (set us l (entries_at us l ++ y ∷ []))) number
-              (subst (λ q. ArePlaces a.shape (set a.queues q (without_number (waits_at a.queues q) y.number)) a.orders (set us l (entries_at us l ++ y ∷ []))) queue
-              (given_plain a.shape a.queues a.orders us l y core.places (at_queue (λ q. q < length a.shape.queues) offer.queue) lane (at_queue (λ q. is_ordered (queue_of a.shape q).kind ≡ false) plain))));
+              subst (λ rs. ArePlaces a.shape (set a.queues i (without_number (waits_at a.queues i) w.number)) rs (set us l (entries_at us l ++ y ∷ [])) a.extras.items) (sym (ap (set a.orders i) now ∙ set-get_or a.orders i (empty 0)))
+              (subst (λ n. ArePlaces a.shape (set a.queues i (without_number (waits_at a.queues i) n)) a.orders (set us l (entries_at us l ++ y ∷ [])) a.extras.items) number
+              (subst (λ q. ArePlaces a.shape (set a.queues q (without_number (waits_at a.queues q) y.number)) a.orders (set us l (entries_at us l ++ y ∷ [])) a.extras.items) queue
+              (given_plain a.shape a.queues a.orders us a.extras.items l y core.places (at_queue (λ q. q < length a.shape.queues) offer.queue) lane (at_queue (λ q. is_ordered (queue_of a.shape q).kind ≡ false) plain))));
           kept = ap (λ (s : Reordering). kept_of s.places) now;
           shown = ap (λ (s : Reordering). s.places) now;
         }
@@ -131,7 +131,7 @@ pub core_gives : (a : Inside) (i l : ℕ) (old new : Waits) (holder held : Entri
     → new ≡ without_number old w.number → AreWaits new → held.entries ≡ holder.entries ++ y ∷ [] → held.capacity ≡ holder.capacity
     → y.queue ≡ i → y.number ≡ w.number → y.slot ≡ slot_of a.shape i w.event.flow → (is_restoring (order_at a.orders i) ≡ true → y.place ≡ next_number (order_at a.orders i))
     → ps ≡ with_pin a.pins i y.slot (pinned (pin_in a.pins i y.slot) l)
-    → IsCore (record { shape = a.shape; queues = set a.queues i new; orders = handed_orders a.orders i w.number; lanes = set a.lanes l held; pins = ps; links = a.links; ahead = a.ahead; slot_lanes = a.slot_lanes; bound = a.bound; inside = a.inside; entries = a.entries; shut = a.shut })
+    → IsCore (record { shape = a.shape; queues = set a.queues i new; orders = handed_orders a.orders i w.number; lanes = set a.lanes l held; extras = a.extras; pins = ps; links = a.links; ahead = a.ahead; slot_lanes = a.slot_lanes; bound = a.bound; inside = a.inside; entries = a.entries; shut = a.shut })
 core_gives a i l old new holder held w y ps core offer h is k here waits value sound_new given room queue number slot place pins =
     let sound = queue_here a i old core h is in
     let same : waits_at a.queues i ≡ old = waits_here_is a.queues i old h is in
@@ -142,7 +142,7 @@ core_gives a i l old new holder held w y ps core offer h is k here waits value s
     let done = handed_by a l i w y core offer (subst (λ (q : Waits). Contains q.waiting w) (sym same) waits) (subst (λ (q : Waits). w.number < q.next) (sym same) below) k queue number place in
     let count = core.places.count in
     let there = offer.queue in
-    let keeps = kept_after a (record { shape = a.shape; queues = set a.queues i new; orders = handed_orders a.orders i w.number; lanes = set a.lanes l held; pins = ps; links = a.links; ahead = a.ahead; slot_lanes = a.slot_lanes; bound = a.bound; inside = a.inside; entries = a.entries; shut = a.shut }) i (handed (order_at a.orders i) w.number) refl (omega arith) in
+    let keeps = kept_after a (record { shape = a.shape; queues = set a.queues i new; orders = handed_orders a.orders i w.number; lanes = set a.lanes l held; extras = a.extras; pins = ps; links = a.links; ahead = a.ahead; slot_lanes = a.slot_lanes; bound = a.bound; inside = a.inside; entries = a.entries; shut = a.shut }) i (handed (order_at a.orders i) w.number) refl (omega arith) in
     let still = done.kept in
     let in_queues = waiting_sum a.queues i old new h is in
     let numbers = next_sum a.queues i old new h is in
@@ -155,6 +155,7 @@ core_gives a i l old new holder held w y ps core offer h is k here waits value s
       limits = core.limits;
       queues = length-set a.queues i new ∙ core.queues;
       lanes = length-set a.lanes l held ∙ core.lanes;
+      extras = core.extras;
       sound = All-set (IsQueueOf (bound_of a.shape)) a.queues i new (record { room = ap (λ (q : Waits). q.room) value ∙ sound.room; waits = sound_new }) core.sound;
       slots = slots_set a.shape a.queues i old new h is (ap (λ (q : Waits). q.slots) value) core.slots;
       room = room_set a.shape a.lanes l holder held k here room core.room;
@@ -172,8 +173,8 @@ core_gives a i l old new holder held w y ps core offer h is k here waits value s
       ahead = core.ahead;
       slot_lanes = core.slot_lanes;
       places =
-          subst (λ q. ArePlaces a.shape (set a.queues i q) (handed_orders a.orders i w.number) (map entries_in (set a.lanes l held))) (ap (λ q. without_number q w.number) same ∙ sym value)
-          (subst (ArePlaces a.shape (set a.queues i (without_number (waits_at a.queues i) w.number)) (handed_orders a.orders i w.number))
+          subst (λ q. ArePlaces a.shape (set a.queues i q) (handed_orders a.orders i w.number) (map entries_in (set a.lanes l held)) a.extras.items) (ap (λ q. without_number q w.number) same ∙ sym value)
+          (subst (λ us. ArePlaces a.shape (set a.queues i (without_number (waits_at a.queues i) w.number)) (handed_orders a.orders i w.number) us a.extras.items)
           (sym (map-set entries_in a.lanes l held ∙ ap (set (map entries_in a.lanes) l) (given ∙ sym (ap (λ ys. ys ++ y ∷ []) (entries_here a.lanes l holder k here))))) done.places);
     }
   where
@@ -192,17 +193,18 @@ pub view_gives : (a : Inside) (i l : ℕ) (old new : Waits) (holder held : Entri
     → i < length a.queues → old ≡ get_or a.queues i old → l < length a.lanes → holder ≡ get_or a.lanes l holder → Contains old.waiting w
     → new ≡ without_number old w.number → held.entries ≡ holder.entries ++ y ∷ [] → held_of y ≡ record { queue = i; number = w.number; slot = slot_of a.shape i w.event.flow }
     → (is_restoring (order_at a.orders i) ≡ true → y.place ≡ next_number (order_at a.orders i))
-    → view_in (record { shape = a.shape; queues = set a.queues i new; orders = handed_orders a.orders i w.number; lanes = set a.lanes l held; pins = ps; links = a.links; ahead = a.ahead; slot_lanes = a.slot_lanes; bound = a.bound; inside = a.inside; entries = a.entries; shut = a.shut }) ≡ after_give (view_in a) l i w.number
+    → view_in (record { shape = a.shape; queues = set a.queues i new; orders = handed_orders a.orders i w.number; lanes = set a.lanes l held; extras = a.extras; pins = ps; links = a.links; ahead = a.ahead; slot_lanes = a.slot_lanes; bound = a.bound; inside = a.inside; entries = a.entries; shut = a.shut }) ≡ after_give (view_in a) l i w.number
 view_gives a i l old new holder held w y ps core offer h is k here waits value given entry place =
     let n : ℕ = w.number in
     let v : View = view_in a in
     let found : event_in (waiting_at v i) n ≡ Some w.event = ap (λ ws. event_in ws n) (waiting_here a i old h is) ∙ event_in_some old.waiting w sound.waits.rising waits in
-    same_parts a.shape _ _ _ _ _ _ _ _ a.shut
+    same_parts a.shape _ _ _ _ _ _ _ _ a.extras.items a.extras.items a.shut
     (map-set waiting_in a.queues i new ∙ ap (set (map waiting_in a.queues) i) (ap (λ (q : Waits). q.waiting) value ∙ sym (ap (filter (λ (u : Numbered). not (u.number == n))) (waiting_here a i old h is))))
     (map-set next_in a.queues i new ∙ (ap (set (map next_in a.queues) i) (ap (λ (q : Waits). q.next) value ∙ sym (next_here a i old h is)) ∙ set-get_or (map next_in a.queues) i 0))
     (map-set places_in a.orders i (handed r n) ∙ by_kind (is_ordered (queue_of a.shape i).kind) refl done.shown)
     (lanes_given a l holder held y k here given
     ∙ ap (λ x. set (map unanswered_in a.lanes) l (unanswered_at v l ++ x ∷ [])) (entry ∙ ap (λ s. record { queue = i; number = n; slot = s }) (sym (ap (slot_in v i) found))))
+    refl
   where
     r : Reordering
     r = order_at a.orders i

@@ -23,7 +23,7 @@ abbrev pub left_orders : List Reordering → ℕ → List Reordering
 left_orders rs q = set rs q (after_leave (order_at rs q))
 
 abbrev pub with_orders : Inside → List Reordering → ℕ → ℕ → Inside
-with_orders a rs n m = record { shape = a.shape; queues = a.queues; orders = rs; lanes = a.lanes; pins = a.pins; links = a.links; ahead = a.ahead; slot_lanes = a.slot_lanes; bound = a.bound; inside = n; entries = m; shut = a.shut }
+with_orders a rs n m = record { shape = a.shape; queues = a.queues; orders = rs; lanes = a.lanes; extras = a.extras; pins = a.pins; links = a.links; ahead = a.ahead; slot_lanes = a.slot_lanes; bound = a.bound; inside = n; entries = m; shut = a.shut }
 
 kept_left : (r : Reordering) (x : Place) → oldest_answered r.places ≡ Some x → kept_of (after_leave r).places + length x.forwards ≡ kept_of r.places
 kept_left r x e =
@@ -47,6 +47,7 @@ core_leaves a q n m x core h e counted entered =
       limits = core.limits;
       queues = core.queues;
       lanes = core.lanes;
+      extras = core.extras;
       sound = core.sound;
       slots = core.slots;
       room = core.room;
@@ -60,13 +61,13 @@ core_leaves a q n m x core h e counted entered =
       links = core.links;
       ahead = core.ahead;
       slot_lanes = core.slot_lanes;
-      places = left_places a.shape a.queues a.orders (map entries_in a.lanes) q core.places h;
+      places = left_places a.shape a.queues a.orders (map entries_in a.lanes) a.extras.items q core.places h;
     }
 
 pub view_left : (a : Inside) (q n m : ℕ) → IsCore a → q < length a.shape.queues → view_in (with_orders a (left_orders a.orders q) n m) ≡ view_leaves (view_in a) q
 view_left a q n m core h =
-    same_parts a.shape (map waiting_in a.queues) _ (map next_in a.queues) _ _ _ (map unanswered_in a.lanes) _ a.shut refl refl
-    (map-set places_in a.orders q (after_leave r) ∙ ap (set (map places_in a.orders) q) (by_oldest (oldest_answered r.places) ∙ sym (ap (λ xs. rest_behind xs (oldest_answered xs)) (places_here a q core h)))) refl
+    same_parts a.shape (map waiting_in a.queues) _ (map next_in a.queues) _ _ _ (map unanswered_in a.lanes) _ a.extras.items _ a.shut refl refl
+    (map-set places_in a.orders q (after_leave r) ∙ ap (set (map places_in a.orders) q) (by_oldest (oldest_answered r.places) ∙ sym (ap (λ xs. rest_behind xs (oldest_answered xs)) (places_here a q core h)))) refl refl
   where
     r : Reordering
     r = order_at a.orders q
@@ -76,9 +77,12 @@ view_left a q n m core h =
     by_oldest (Some x) = refl
 
 -- what leaves
+pub leaving_named : (a : Inside) (q : ℕ) (x : Place) → IsCore a → q < length a.shape.queues → oldest_answered (order_at a.orders q).places ≡ Some x → All (λ (e : Event). e.queue < length a.shape.queues) x.forwards
+leaving_named a q x core h oldest = (leaving_keeps a.shape a.queues a.orders (map entries_in a.lanes) a.extras.items q x core.places h oldest).named
+
 pub leaving_one : (a : Inside) (q : ℕ) (x : Place) → IsCore a → q < length a.shape.queues → oldest_answered (order_at a.orders q).places ≡ Some x → (e : Event) → x.forwards ≡ e ∷ [] → e.queue < length a.shape.queues
 leaving_one a q x core h oldest e is =
-    All-head (λ (d : Event). d.queue < length a.shape.queues) e [] (subst (All (λ (d : Event). d.queue < length a.shape.queues)) is (leaving_keeps a.shape a.queues a.orders (map entries_in a.lanes) q x core.places h oldest).1)
+    All-head (λ (d : Event). d.queue < length a.shape.queues) e [] (subst (All (λ (d : Event). d.queue < length a.shape.queues)) is (leaving_named a q x core h oldest))
 
 -- what leaves was counted
 pub left_counts : (a : Inside) (q : ℕ) (x : Place) → IsCore a → q < length a.shape.queues → oldest_answered (order_at a.orders q).places ≡ Some x → (length x.forwards ≤ a.inside) × (length x.forwards ≤ a.entries)
@@ -91,10 +95,10 @@ left_counts a q x core h e =
     let entries = core.entries in
     (omega arith, omega arith)
 
--- an event that left is counted no more
+-- events that left are counted no more
 pub left_room : (a : Inside) (q n m : ℕ) (x : Place) → IsCore a → q < length a.shape.queues → oldest_answered (order_at a.orders q).places ≡ Some x → n + length x.forwards ≡ a.inside → m + length x.forwards ≡ a.entries
-    → 0 < length x.forwards → (inside_of (view_in (with_orders a (left_orders a.orders q) n m)) < bound_of a.shape) × (entries_of (view_in (with_orders a (left_orders a.orders q) n m)) < 2 ^ 63)
-left_room a q n m x core h e counted entered some =
+    → (inside_of (view_in (with_orders a (left_orders a.orders q) n m)) + length x.forwards ≤ bound_of a.shape) × (entries_of (view_in (with_orders a (left_orders a.orders q) n m)) + length x.forwards ≤ 2 ^ 63)
+left_room a q n m x core h e counted entered =
     let after = core_leaves a q n m x core h e counted entered in
     let inside = after.inside in
     let entries = after.entries in
@@ -103,6 +107,13 @@ left_room a q n m x core h e counted entered some =
     let was = core.inside in
     let had = core.entries in
     (omega arith, omega arith)
+
+-- one event at least
+pub left_some : (a : Inside) (q n m : ℕ) (x : Place) → IsCore a → q < length a.shape.queues → oldest_answered (order_at a.orders q).places ≡ Some x → n + length x.forwards ≡ a.inside → m + length x.forwards ≡ a.entries
+    → 0 < length x.forwards → (inside_of (view_in (with_orders a (left_orders a.orders q) n m)) < bound_of a.shape) × (entries_of (view_in (with_orders a (left_orders a.orders q) n m)) < 2 ^ 63)
+left_some a q n m x core h e counted entered some =
+    let room = left_room a q n m x core h e counted entered in
+    (omega (arith, room.0), omega (arith, room.1))
 
 pub each_some : (o : Option Event) (P : Event → Type 0) → ((e : Event) → o ≡ Some e → P e) → IfSome o P
 each_some None P holds = tt

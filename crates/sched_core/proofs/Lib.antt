@@ -1,3 +1,6 @@
+pub mod Accepting
+pub mod Added
+pub mod Adding
 pub mod Answering
 pub mod Buffers
 pub mod Cores

@@ -1,7 +1,7 @@
 -- A core in which nothing has happened.
-use Rattle.std.proofs.Common.{◌≡◌, ℕ, ◌+◌, ◌<◌, ◌≤◌, ◌^◌, false, true, Bool, cond, List, [], ◌∷◌, ◌++◌, length, map, All, get_or, Option, Vec, Global, ◌⊎◌, inl, inr, refl, sym, ap, ◌∙◌, subst, arith}
+use Rattle.std.proofs.Common.{◌≡◌, ℕ, ◌+◌, ◌<◌, ◌≤◌, ◌^◌, false, true, Bool, cond, List, [], ◌∷◌, ◌++◌, length, map, replicate, All, get_or, Option, Vec, Global, ◌⊎◌, inl, inr, refl, sym, ap, ◌∙◌, subst, arith}
 use Rattle.std.proofs.lemmas.Bool.{cases_lt}
-use Rattle.std.proofs.lemmas.List.{get_or-map, length-map, length_push, get_or_append_left, get_or_push, map-append}
+use Rattle.std.proofs.lemmas.List.{get_or-map, get_or-replicate, length-map, length-replicate, length_push, get_or_append_left, get_or_push, map-append}
 use Rattle.std.proofs.lemmas.List.Elements.{All-nil, All-push, All-map, All-weaker}
 use Rattle.std.proofs.lemmas.List.FromFn.{fill_by_all, length-map-range_with_len}
 use Rattle.std.proofs.lemmas.List.Sums.{sum-map}
@@ -13,7 +13,7 @@ use Rattle.evt_types.specs.Fault.{IsWithinLimits}
 use Rattle.evt_types.specs.Plan.{Plan, level_of, kept_room, lanes_of, depth_of, bound_of, queue_of, is_atomic}
 use Rattle.evt_types.specs.Place.{Place}
 use Rattle.transcripts.specs.Standing.{view_of, places}
-use Rattle.transcripts.specs.Transcript.{Held, waiting, accepted, unanswered_slots}
+use Rattle.transcripts.specs.Transcript.{Held, waiting, accepted, extras, unanswered_slots}
 use Rattle.evt_types.specs.declared.draft.QueueDraft.{QueueDraft}
 use Rattle.evt_types.specs.declared.event.Numbered.{Numbered}
 use Rattle.order_parts.specs.Pins.{Pin}
@@ -119,9 +119,9 @@ fresh_order p q h = get_or-map (λ (d : QueueDraft). empty (kept_room d)) p.queu
 nothing_held : (ls : List Entries) (p : Plan) (n : ℕ) → AreEmptyLanes p n ls → sum_by (λ (xs : List Held). length xs) (map unanswered_in ls) ≡ 0
 nothing_held ls p n empty = sum_of_map (λ (xs : List Held). length xs) unanswered_in ls ∙ sum_of_none (λ x. length (unanswered_in x)) ls (All-weaker IsBare (λ (l : Entries). length (unanswered_in l) ≡ 0) (λ l e. ap (λ (ys : List Entry). length (map held_of ys)) e) ls empty.empty)
 
-pub core_new : (p : Plan) (qs : List Waits) (ls : List Entries) (ps : List (List Pin)) (ks hs : Vec Places Global) (os : Vec (Option ℕ) Global) → IsWithinLimits p → bound_of p < 2 ^ 64 → AreEmptyQueues p (length p.queues) qs → AreEmptyLanes p (lanes_of p) ls → AreFreePins p (length p.queues) ps → AreLinks p (length p.queues) ks.items → AreAhead p (length p.queues) hs.items → AreSlotLanes p (slot_lane_count p) os.items
-    → IsCore (record { shape = p; queues = qs; orders = new_orders p; lanes = ls; pins = ps; links = ks; ahead = hs; slot_lanes = os; bound = bound_of p; inside = 0; entries = 0; shut = false })
-core_new p qs ls ps ks hs os limits small queues lanes pins links ahead slot_lanes =
+pub core_new : (p : Plan) (qs : List Waits) (ls : List Entries) (es : Vec ℕ Global) (ps : List (List Pin)) (ks hs : Vec Places Global) (os : Vec (Option ℕ) Global) → IsWithinLimits p → bound_of p < 2 ^ 64 → AreEmptyQueues p (length p.queues) qs → AreEmptyLanes p (lanes_of p) ls → es.items ≡ replicate (lanes_of p) 0 → AreFreePins p (length p.queues) ps → AreLinks p (length p.queues) ks.items → AreAhead p (length p.queues) hs.items → AreSlotLanes p (slot_lane_count p) os.items
+    → IsCore (record { shape = p; queues = qs; orders = new_orders p; lanes = ls; extras = es; pins = ps; links = ks; ahead = hs; slot_lanes = os; bound = bound_of p; inside = 0; entries = 0; shut = false })
+core_new p qs ls es ps ks hs os limits small queues lanes none pins links ahead slot_lanes =
     let waits = nothing_waits p qs (length p.queues) queues in
     let numbers = nothing_numbered p qs (length p.queues) queues in
     let kept = nothing_kept p in
@@ -132,6 +132,7 @@ core_new p qs ls ps ks hs os limits small queues lanes pins links ahead slot_lan
       small = small;
       queues = queues.count;
       lanes = lanes.count;
+      extras = ap length none ∙ length-replicate (lanes_of p) 0;
       sound = λ k d lt. empty_is_queue p k _ limits (omega (arith, lt, queues.count)) (queues.empty k d lt);
       slots = λ k d lt. ap (λ (x : Waits). x.slots) (queues.empty k d lt);
       room = lanes.room;
@@ -144,18 +145,19 @@ core_new p qs ls ps ks hs os limits small queues lanes pins links ahead slot_lan
       ahead = ahead;
       slot_lanes = slot_lanes;
       places =
-          new_places p qs (new_orders p) (map entries_in ls) queues.count (length-map p.queues (λ (q : QueueDraft). empty (kept_room q))) (fresh_order p) (λ q h. order_small p q limits.orders h)
+          new_places p qs (new_orders p) (map entries_in ls) es.items queues.count (length-map p.queues (λ (q : QueueDraft). empty (kept_room q))) (fresh_order p) (λ q h. order_small p q limits.orders h)
           (All-map (λ (ys : List Entry). ys ≡ []) entries_in ls lanes.empty);
     }
 
-pub view_new : (p : Plan) (qs : List Waits) (ls : List Entries) (ps : List (List Pin)) (ks hs : Vec Places Global) (os : Vec (Option ℕ) Global) → AreEmptyQueues p (length p.queues) qs → AreEmptyLanes p (lanes_of p) ls → view_in (record { shape = p; queues = qs; orders = new_orders p; lanes = ls; pins = ps; links = ks; ahead = hs; slot_lanes = os; bound = bound_of p; inside = 0; entries = 0; shut = false }) ≡ view_of p []
-unfolding view_of
-view_new p qs ls ps ks hs os queues lanes =
-    same_parts p _ _ _ _ _ _ _ _ false
+pub view_new : (p : Plan) (qs : List Waits) (ls : List Entries) (es : Vec ℕ Global) (ps : List (List Pin)) (ks hs : Vec Places Global) (os : Vec (Option ℕ) Global) → AreEmptyQueues p (length p.queues) qs → AreEmptyLanes p (lanes_of p) ls → es.items ≡ replicate (lanes_of p) 0 → view_in (record { shape = p; queues = qs; orders = new_orders p; lanes = ls; extras = es; pins = ps; links = ks; ahead = hs; slot_lanes = os; bound = bound_of p; inside = 0; entries = 0; shut = false }) ≡ view_of p []
+unfolding view_of extras
+view_new p qs ls es ps ks hs os queues lanes none =
+    same_parts p _ _ _ _ _ _ _ _ _ _ false
     (fill_by_all (waiting []) (map waiting_in qs) (length p.queues) [] (length-map qs waiting_in ∙ queues.count) (λ k h. get_or_empty k h ∙ sym (waiting_at_none k)))
     (fill_by_all (λ q. length (accepted [] q)) (map next_in qs) (length p.queues) 0 (length-map qs next_in ∙ queues.count) (λ k h. get_or_zero k h ∙ sym (ap length (accepted_at_none k))))
     (fill_by_all (places p []) (map places_in (new_orders p)) (length p.queues) [] (long places_in) (λ k h. no_places p k [] (subst (λ n. k < n) (sym (long places_in)) h) ∙ sym (places_at_none p k)))
     (fill_by_all (unanswered_slots p []) (map unanswered_in ls) (lanes_of p) [] (length-map ls unanswered_in ∙ lanes.count) (λ k h. none_held k h ∙ sym (unanswered_at_none p k)))
+    (fill_by_all (λ l. length (extras [] l)) es.items (lanes_of p) 0 (ap length none ∙ length-replicate (lanes_of p) 0) (λ k h. ap (λ xs. get_or xs k 0) none ∙ get_or-replicate (lanes_of p) k 0 0 h))
   where
     long : (f : Reordering → List Place) → length (map f (new_orders p)) ≡ length p.queues
     long f = length-map (new_orders p) f ∙ length-map p.queues (λ (q : QueueDraft). empty (kept_room q))

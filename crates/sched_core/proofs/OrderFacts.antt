@@ -9,16 +9,16 @@ use Rattle.evt_types.specs.declared.draft.QueueDraft.{QueueDraft}
 use Rattle.evt_types.specs.declared.event.Kind.TheVariants.{Parallel}
 use Rattle.order_parts.specs.Reorder.{Reordering, empty, oldest_answered}
 use Rattle.order_parts.specs.declared.history.Entry.{Entry}
-use Rattle.sched_core.specs.Ordered.{ArePlaces, IsOrder, KeepsOne, IsGivenOf, order_at, entries_at, entry_at, places_in}
+use Rattle.sched_core.specs.Ordered.{ArePlaces, IsOrder, KeepsFew, IsGivenOf, order_at, entries_at, entry_at, places_in}
 use Rattle.parked_queue.specs.Waits.{Waits, waits_at}
 use Rattle.sched_core.proofs.Ordered.{leaving_is}
 
 -- ---- nothing has happened
 
-pub new_places : (p : Plan) (ws : List Waits) (rs : List Reordering) (us : List (List Entry)) → length ws ≡ length p.queues → length rs ≡ length p.queues
+pub new_places : (p : Plan) (ws : List Waits) (rs : List Reordering) (us : List (List Entry)) (es : List ℕ) → length ws ≡ length p.queues → length rs ≡ length p.queues
     → ((q : ℕ) → q < length p.queues → order_at rs q ≡ empty (kept_room (queue_of p q))) → ((q : ℕ) → q < length p.queues → kept_room (queue_of p q) < 2 ^ 64)
-    → All (λ (ys : List Entry). ys ≡ []) us → ArePlaces p ws rs us
-new_places p ws rs us queues count fresh small bare =
+    → All (λ (ys : List Entry). ys ≡ []) us → ArePlaces p ws rs us es
+new_places p ws rs us es queues count fresh small bare =
     record {
       queues = queues;
       count = count;
@@ -37,7 +37,7 @@ new_places p ws rs us queues count fresh small bare =
           distinct = λ i j d ij within. absurd (omega arith);
           below = All-nil (λ (x : Place). x.number < w.next);
           given = All-nil (IsGivenOf w);
-          keeps = All-nil (KeepsOne p);
+          keeps = All-nil (KeepsFew p);
         }
 
     bare_at : (xs : List (List Entry)) → All (λ (ys : List Entry). ys ≡ []) xs → (l : ℕ) → entries_at xs l ≡ []
@@ -64,11 +64,11 @@ order_small p q limits h = by_kind (cases_Bool (is_ordered (queue_of p q).kind))
 -- ---- the buffers and the view
 
 -- what a place that leaves keeps
-pub leaving_keeps : (p : Plan) (ws : List Waits) (rs : List Reordering) (us : List (List Entry)) (q : ℕ) (x : Place) → ArePlaces p ws rs us → q < length p.queues
-    → oldest_answered (order_at rs q).places ≡ Some x → KeepsOne p x
-leaving_keeps p ws rs us q x a h e =
+pub leaving_keeps : (p : Plan) (ws : List Waits) (rs : List Reordering) (us : List (List Entry)) (es : List ℕ) (q : ℕ) (x : Place) → ArePlaces p ws rs us es → q < length p.queues
+    → oldest_answered (order_at rs q).places ≡ Some x → KeepsFew p x
+leaving_keeps p ws rs us es q x a h e =
     let is = leaving_is (order_at rs q).places x e in
-    All-head (KeepsOne p) x (drop 1 (order_at rs q).places) (subst (All (KeepsOne p)) is.0 (a.each q h).keeps)
+    All-head (KeepsFew p) x (drop 1 (order_at rs q).places) (subst (All (KeepsFew p)) is.0 (a.each q h).keeps)
 
 -- ---- the view's places after a small move
 

@@ -1,22 +1,22 @@
 -- The reorder buffer of one queue after a small move, and the place of an unanswered event in it.
 use Rattle.std.proofs.Common.{◌≡◌, ◌≢◌, ℕ, zero, suc, ◌+◌, ◌<◌, ◌≤◌, ◌^◌, true, false, not, ◌==◌, List, [], ◌∷◌, ◌++◌, length, map, drop, set, get_or, filter, sum_by, All, Contains, Option, Some, None, slice_get, option_to_list, IsTrue, ◌⊎◌, inl, inr, refl, sym, ap, ◌∙◌, subst, arith}
 use Rattle.std.proofs.lemmas.Bool.{cases_Bool, false≢true, cond-true, cond-false}
-use Rattle.std.proofs.lemmas.List.{length-set, length_push, length-drop}
-use Rattle.std.proofs.lemmas.List.Elements.{All-nil, All-cons, All-push, All-set, All-weaker, All-filter, All-drop, filter_passes}
+use Rattle.std.proofs.lemmas.List.{length-append, length-set, length_push, length-drop}
+use Rattle.std.proofs.lemmas.List.Elements.{All-nil, All-append, All-push, All-set, All-weaker, All-filter, All-drop, filter_passes}
 use Rattle.std.proofs.lemmas.List.Quantifiers.{all_pairs_push}
 use Rattle.std.proofs.lemmas.List.Sums.{sum_by-set}
 use Rattle.std.proofs.lemmas.Nat.{mod_below}
 use Rattle.std.proofs.lemmas.Option.{none-some, same_Some, slice_get_within, get_or_from_slice_get}
-use Rattle.lists.proofs.Lists.{AllPairs-drop, slice_get-append_left, slice_get-last, eqb_same}
+use Rattle.lists.proofs.Lists.{AllPairs-drop, All-slice_get, slice_get-append_left, slice_get-last, eqb_same}
 use Rattle.transcripts.proofs.PlaceFacts.{answer_at}
 use Rattle.evt_types.specs.Plan.{Plan}
 use Rattle.evt_types.specs.Place.{Place}
 use Rattle.transcripts.specs.Standing.{answer_place, events_of}
 use Rattle.evt_types.specs.declared.event.Event.{Event}
 use Rattle.evt_types.specs.declared.event.Numbered.{Numbered}
-use Rattle.order_parts.specs.Reorder.{Reordering, next_number, open_place, place_at, is_open, index_of, resolved, after_hand, after_resolve, after_leave, after_leaving, oldest_answered}
+use Rattle.order_parts.specs.Reorder.{Reordering, next_number, number_of, open_place, place_at, is_open, index_of, resolved, after_hand, after_resolve, after_leave, after_leaving, oldest_answered}
 use Rattle.order_parts.specs.declared.history.Entry.{Entry}
-use Rattle.sched_core.specs.Ordered.{IsOrder, IsGivenOf, KeepsOne, StandsAt, StandsIn, outcome_of, kept_of}
+use Rattle.sched_core.specs.Ordered.{IsOrder, IsGivenOf, KeepsFew, StandsAt, StandsIn, outcome_of, kept_of}
 use Rattle.parked_queue.specs.Waits.{Waits, with_event, without_number}
 use Rattle.sched_core.proofs.PlaceNumbers.{back_of, counted_on}
 use Rattle.lists.proofs.Writes.{slice_get-set_other, slice_get-drop_one, AllPairs-set_like}
@@ -80,111 +80,175 @@ order_hands p depth w r v o waits lt room =
       distinct = all_pairs_push (λ (x y : Place). x.number ≢ y.number) r.places (open_place v.number) o.distinct (λ k d h same. apart k d h (sym same));
       below = All-push (λ (x : Place). x.number < w.next) r.places (open_place v.number) o.below lt;
       given = All-push (IsGivenOf (without_number w v.number)) r.places (open_place v.number) given (gone v.number w.waiting);
-      keeps = All-push (KeepsOne p) r.places (open_place v.number) o.keeps (omega arith, All-nil (λ (e : Event). e.queue < length p.queues));
+      keeps = All-push (KeepsFew p) r.places (open_place v.number) o.keeps (record { few = record { few = omega arith; fewer = λ waits. omega arith }; named = All-nil (λ (e : Event). e.queue < length p.queues) });
     }
 
-pub stands_hands : (r : Reordering) (y : Entry) (n : ℕ) → StandsIn r y → StandsIn (after_hand r n) y
-stands_hands r y n (k, at) =
-    (k, record { place = at.place; there = slice_get-append_left r.places (open_place n ∷ []) k (slice_get_within r.places k (open_place y.number) at.there) ∙ at.there })
+pub stands_hands : (r : Reordering) (y : Entry) (n most : ℕ) → StandsIn r y most → StandsIn (after_hand r n) y most
+stands_hands r y n most s =
+    let at = s.stands in
+    record {
+      index = s.index;
+      stands =
+          record {
+            shown = at.shown;
+            place = at.place;
+            there = slice_get-append_left r.places (open_place n ∷ []) s.index (slice_get_within r.places s.index at.shown at.there) ∙ at.there;
+            number = at.number;
+            waits = at.waits;
+          };
+      few = s.few;
+    }
 
-pub stands_new : (r : Reordering) (y : Entry) → y.place ≡ next_number r → StandsIn (after_hand r y.number) y
-stands_new r y is = (length r.places, record { place = is; there = slice_get-last r.places (open_place y.number) })
+pub stands_new : (r : Reordering) (y : Entry) (most : ℕ) → y.place ≡ next_number r → StandsIn (after_hand r y.number) y most
+stands_new r y most is =
+    record {
+      index = length r.places;
+      stands = record { shown = open_place y.number; place = is; there = slice_get-last r.places (open_place y.number); number = refl; waits = refl };
+      few = omega arith;
+    }
 
--- ---- an event is answered
+-- ---- the place of an unanswered event
 
--- the place of an event that is answered
-abbrev pub closed_place : ℕ → Option Event → Place
-closed_place n f = record { number = n; answered = true; forwards = option_to_list f }
-
-abbrev pub with_places : Reordering → List Place → Reordering
-with_places r xs = record r { places = xs }
+-- it keeps no more than a higher bound says
+pub stands_more : (r : Reordering) (y : Entry) (m n : ℕ) → m ≤ n → StandsIn r y m → StandsIn r y n
+stands_more r y m n le s = let few = s.few in record { index = s.index; stands = s.stands; few = omega arith }
 
 -- the place's number is counted back to where it stands
 pub index_is : (p : Plan) (depth : ℕ) (w : Waits) (r : Reordering) (y : Entry) (k : ℕ) → IsOrder p depth w r → StandsAt r y k → index_of r y.place ≡ k
 index_is p depth w r y k o at =
-    let lt : k < length r.places = slice_get_within r.places k (open_place y.number) at.there in
+    let lt : k < length r.places = slice_get_within r.places k at.shown at.there in
     let within = o.within in
     let small = o.small in
     ap (index_of r) at.place ∙ back_of r.first k o.first (omega arith)
 
-pub is_there : (p : Plan) (depth : ℕ) (w : Waits) (r : Reordering) (y : Entry) → IsOrder p depth w r → StandsIn r y → place_at r y.place ≡ Some (open_place y.number)
-is_there p depth w r y o (k, at) = ap (slice_get r.places) (index_is p depth w r y k o at) ∙ at.there
+pub is_there : (p : Plan) (depth : ℕ) (w : Waits) (r : Reordering) (y : Entry) (k : ℕ) → IsOrder p depth w r → (at : StandsAt r y k) → place_at r y.place ≡ Some at.shown
+is_there p depth w r y k o at = ap (slice_get r.places) (index_is p depth w r y k o at) ∙ at.there
+
+pub shown_is : (r : Reordering) (y : Entry) (k : ℕ) (d : Place) → (at : StandsAt r y k) → get_or r.places k d ≡ at.shown
+shown_is r y k d at = get_or_from_slice_get r.places k at.shown d at.there
+
+pub shown_keeps : (p : Plan) (depth : ℕ) (w : Waits) (r : Reordering) (y : Entry) (k : ℕ) → IsOrder p depth w r → (at : StandsAt r y k) → KeepsFew p at.shown
+shown_keeps p depth w r y k o at = All-slice_get (KeepsFew p) r.places k at.shown o.keeps at.there
+
+-- ---- what is in the place changes
+
+abbrev pub with_places : Reordering → List Place → Reordering
+with_places r xs = record r { places = xs }
+
+-- the place keeps its number, and few events
+pub order_writes : (p : Plan) (depth : ℕ) (w : Waits) (r : Reordering) (y : Entry) (k : ℕ) (x : Place) → IsOrder p depth w r → (at : StandsAt r y k) → x.number ≡ at.shown.number
+    → KeepsFew p x → IsOrder p depth w (with_places r (set r.places k x))
+order_writes p depth w r y k x o at same keeps =
+    record {
+      room = o.room;
+      small = o.small;
+      within = subst (λ n. n ≤ r.depth) (sym (length-set r.places k x)) o.within;
+      first = o.first;
+      distinct = AllPairs-set_like (λ (z : Place). z.number) (λ m n. m ≢ n) r.places k x (open_place 0) lt number o.distinct;
+      below = All-set (λ (z : Place). z.number < w.next) r.places k x (subst (λ n. n < w.next) (sym number) (o.below k (open_place 0) lt)) o.below;
+      given = All-set (IsGivenOf w) r.places k x (subst (λ n. All (λ (v : Numbered). v.number ≢ n) w.waiting) (sym number) (o.given k (open_place 0) lt)) o.given;
+      keeps = All-set (KeepsFew p) r.places k x keeps o.keeps;
+    }
+  where
+    lt : k < length r.places
+    lt = slice_get_within r.places k at.shown at.there
+
+    number : x.number ≡ (get_or r.places k (open_place 0)).number
+    number = same ∙ sym (ap (λ (z : Place). z.number) (shown_is r y k (open_place 0) at))
+
+-- how many events are kept more
+pub writes_keep : (r : Reordering) (y : Entry) (k n : ℕ) (x : Place) → (at : StandsAt r y k) → length x.forwards ≡ length at.shown.forwards + n
+    → kept_of (set r.places k x) ≡ kept_of r.places + n
+writes_keep r y k n x at more =
+    let size : Place → ℕ = λ z. length z.forwards in
+    let was : length (get_or r.places k (open_place 0)).forwards ≡ length at.shown.forwards = ap size (shown_is r y k (open_place 0) at) in
+    let change : sum_by size (set r.places k x) + length (get_or r.places k (open_place 0)).forwards ≡ sum_by size r.places + length x.forwards =
+    sum_by-set size r.places k x (open_place 0) (slice_get_within r.places k at.shown at.there) in
+    omega arith
+
+-- the others' places stay where they are
+pub stands_written : (r : Reordering) (y z : Entry) (k most : ℕ) (x : Place) → StandsAt r y k → z.number ≢ y.number → StandsIn r z most → StandsIn (with_places r (set r.places k x)) z most
+stands_written r y z k most x at differs s =
+    let is = s.stands in
+    record {
+      index = s.index;
+      stands =
+          record {
+            shown = is.shown;
+            place = is.place;
+            there = slice_get-set_other r.places k s.index x apart ∙ is.there;
+            number = is.number;
+            waits = is.waits;
+          };
+      few = s.few;
+    }
+  where
+    apart : s.index ≢ k
+    apart same =
+        let one : s.stands.shown ≡ at.shown = same_Some s.stands.shown at.shown (sym s.stands.there ∙ (ap (slice_get r.places) same ∙ at.there)) in
+        differs (sym s.stands.number ∙ (ap (λ (x : Place). x.number) one ∙ at.number))
+
+-- ---- an event is answered
 
 -- it may be resolved
-pub may_resolve : (p : Plan) (depth : ℕ) (w : Waits) (r : Reordering) (y : Entry) → IsOrder p depth w r → StandsIn r y → IsTrue (is_open (place_at r y.place))
-may_resolve p depth w r y o stands = subst (λ x. IsTrue (is_open x)) (sym (is_there p depth w r y o stands)) refl
+pub may_resolve : (p : Plan) (depth : ℕ) (w : Waits) (r : Reordering) (y : Entry) (most : ℕ) → IsOrder p depth w r → StandsIn r y most → IsTrue (is_open (place_at r y.place))
+may_resolve p depth w r y most o s = subst (λ x. IsTrue (is_open x)) (sym (is_there p depth w r y s.index o s.stands)) (ap not s.stands.waits)
 
-pub resolve_is : (p : Plan) (depth : ℕ) (w : Waits) (r : Reordering) (y : Entry) (k : ℕ) (f : Option Event) → IsOrder p depth w r → StandsAt r y k
-    → after_resolve r y.place f ≡ with_places r (set r.places k (closed_place y.number f))
+resolve_is : (p : Plan) (depth : ℕ) (w : Waits) (r : Reordering) (y : Entry) (k : ℕ) (f : Option Event) → IsOrder p depth w r → (at : StandsAt r y k)
+    → after_resolve r y.place f ≡ with_places r (set r.places k (resolved at.shown f))
 resolve_is p depth w r y k f o at =
     ap (λ i. with_places r (set r.places i (resolved (get_or r.places i (open_place 0)) f))) (index_is p depth w r y k o at)
-    ∙ ap (λ x. with_places r (set r.places k (resolved x f))) (get_or_from_slice_get r.places k (open_place y.number) (open_place 0) at.there)
+    ∙ ap (λ x. with_places r (set r.places k (resolved x f))) (shown_is r y k (open_place 0) at)
 
 -- the answer is one of the event's place alone
-pub resolve_answers : (p : Plan) (depth : ℕ) (w : Waits) (r : Reordering) (y : Entry) (f : Option Event) → IsOrder p depth w r → StandsIn r y
+pub resolve_answers : (p : Plan) (depth : ℕ) (w : Waits) (r : Reordering) (y : Entry) (most : ℕ) (f : Option Event) → IsOrder p depth w r → StandsIn r y most
     → (after_resolve r y.place f).places ≡ map (answer_place y.number (outcome_of f)) r.places
-resolve_answers p depth w r y f o (k, at) =
-    let here : get_or r.places k (open_place 0) ≡ open_place y.number = get_or_from_slice_get r.places k (open_place y.number) (open_place 0) at.there in
-    ap (λ (s : Reordering). s.places) (resolve_is p depth w r y k f o at)
-    ∙ sym (answer_at r.places k y.number (outcome_of f) (open_place 0) o.distinct (slice_get_within r.places k (open_place y.number) at.there) (ap (λ (x : Place). x.number) here)
-    ∙ (ap (λ (x : Place). set r.places k (record { number = y.number; answered = true; forwards = x.forwards ++ events_of (outcome_of f) })) here
-    ∙ ap (λ es. set r.places k (record { number = y.number; answered = true; forwards = es })) (events_are f)))
+resolve_answers p depth w r y most f o s =
+    let k : ℕ = s.index in
+    let x : Place = s.stands.shown in
+    let here : get_or r.places k (open_place 0) ≡ x = shown_is r y k (open_place 0) s.stands in
+    ap (λ (q : Reordering). q.places) (resolve_is p depth w r y k f o s.stands)
+    ∙ sym (answer_at r.places k y.number (outcome_of f) (open_place 0) o.distinct (slice_get_within r.places k x s.stands.there) (ap (λ (z : Place). z.number) here ∙ s.stands.number)
+    ∙ (ap (λ (z : Place). set r.places k (record { number = y.number; answered = true; forwards = z.forwards ++ events_of (outcome_of f) })) here
+    ∙ (ap (λ es. set r.places k (record { number = y.number; answered = true; forwards = x.forwards ++ es })) (events_are f)
+    ∙ ap (λ n. set r.places k (record { number = n; answered = true; forwards = x.forwards ++ option_to_list f })) (sym s.stands.number))))
   where
     events_are : (g : Option Event) → events_of (outcome_of g) ≡ option_to_list g
     events_are None = refl
     events_are (Some e) = refl
 
 -- what is kept more
-pub resolve_keeps : (p : Plan) (depth : ℕ) (w : Waits) (r : Reordering) (y : Entry) (f : Option Event) → IsOrder p depth w r → StandsIn r y
+pub resolve_keeps : (p : Plan) (depth : ℕ) (w : Waits) (r : Reordering) (y : Entry) (most : ℕ) (f : Option Event) → IsOrder p depth w r → StandsIn r y most
     → kept_of (after_resolve r y.place f).places ≡ kept_of r.places + length (option_to_list f)
-resolve_keeps p depth w r y f o (k, at) =
-    let size : Place → ℕ = λ x. length x.forwards in
-    let here : get_or r.places k (open_place 0) ≡ open_place y.number = get_or_from_slice_get r.places k (open_place y.number) (open_place 0) at.there in
-    let none : length (get_or r.places k (open_place 0)).forwards ≡ 0 = ap (λ (x : Place). length x.forwards) here in
-    let change : sum_by size (set r.places k (closed_place y.number f)) + length (get_or r.places k (open_place 0)).forwards ≡ sum_by size r.places + length (option_to_list f) =
-    sum_by-set size r.places k (closed_place y.number f) (open_place 0) (slice_get_within r.places k (open_place y.number) at.there) in
-    ap (λ (s : Reordering). kept_of s.places) (resolve_is p depth w r y k f o at) ∙ omega arith
+resolve_keeps p depth w r y most f o s =
+    ap (λ (q : Reordering). kept_of q.places) (resolve_is p depth w r y s.index f o s.stands)
+    ∙ writes_keep r y s.index (length (option_to_list f)) (resolved s.stands.shown f) s.stands (length-append s.stands.shown.forwards (option_to_list f))
 
-pub order_answers : (p : Plan) (depth : ℕ) (w : Waits) (r : Reordering) (y : Entry) (f : Option Event) → IsOrder p depth w r → StandsIn r y
+pub order_answers : (p : Plan) (depth : ℕ) (w : Waits) (r : Reordering) (y : Entry) (most : ℕ) (f : Option Event) → IsOrder p depth w r → StandsIn r y most
     → ((e : Event) → f ≡ Some e → e.queue < length p.queues) → IsOrder p depth w (after_resolve r y.place f)
-order_answers p depth w r y f o (k, at) named = subst (IsOrder p depth w) (sym (resolve_is p depth w r y k f o at)) written
+order_answers p depth w r y most f o s named =
+    subst (IsOrder p depth w) (sym (resolve_is p depth w r y s.index f o s.stands)) (order_writes p depth w r y s.index (resolved s.stands.shown f) o s.stands refl (keeps f named))
   where
-    x : Place
-    x = closed_place y.number f
+    es : List Event
+    es = s.stands.shown.forwards
 
-    lt : k < length r.places
-    lt = slice_get_within r.places k (open_place y.number) at.there
+    had : KeepsFew p s.stands.shown
+    had = shown_keeps p depth w r y s.index o s.stands
 
-    here : get_or r.places k (open_place 0) ≡ open_place y.number
-    here = get_or_from_slice_get r.places k (open_place y.number) (open_place 0) at.there
+    keeps : (g : Option Event) → ((e : Event) → g ≡ Some e → e.queue < length p.queues) → KeepsFew p (resolved s.stands.shown g)
+    keeps None known =
+        let few = had.few.few in
+        let long = length-append es [] in
+        record { few = record { few = omega arith; fewer = λ waits. absurd (false≢true (sym waits)) }; named = All-append (λ (e : Event). e.queue < length p.queues) es [] had.named (All-nil (λ (e : Event). e.queue < length p.queues)) }
+    keeps (Some e) known =
+        let few = had.few.fewer s.stands.waits in
+        let long = length-append es (e ∷ []) in
+        record { few = record { few = omega arith; fewer = λ waits. absurd (false≢true (sym waits)) }; named = All-push (λ (d : Event). d.queue < length p.queues) es e had.named (known e refl) }
 
-    keeps : (g : Option Event) → ((e : Event) → g ≡ Some e → e.queue < length p.queues) → KeepsOne p (closed_place y.number g)
-    keeps None known = (omega arith, All-nil (λ (e : Event). e.queue < length p.queues))
-    keeps (Some e) known = (omega arith, All-cons (λ (d : Event). d.queue < length p.queues) e [] (known e refl) (All-nil (λ (d : Event). d.queue < length p.queues)))
-
-    written : IsOrder p depth w (with_places r (set r.places k x))
-    written =
-        record {
-          room = o.room;
-          small = o.small;
-          within = subst (λ n. n ≤ r.depth) (sym (length-set r.places k x)) o.within;
-          first = o.first;
-          distinct = AllPairs-set_like (λ (z : Place). z.number) (λ m n. m ≢ n) r.places k x (open_place 0) lt (sym (ap (λ (z : Place). z.number) here)) o.distinct;
-          below = All-set (λ (z : Place). z.number < w.next) r.places k x (subst (λ (z : Place). z.number < w.next) here (o.below k (open_place 0) lt)) o.below;
-          given = All-set (IsGivenOf w) r.places k x (subst (IsGivenOf w) here (o.given k (open_place 0) lt)) o.given;
-          keeps = All-set (KeepsOne p) r.places k x (keeps f named) o.keeps;
-        }
-
--- the others' places stay where they are
-pub stands_answers : (p : Plan) (depth : ℕ) (w : Waits) (r : Reordering) (y z : Entry) (f : Option Event) → IsOrder p depth w r → StandsIn r y → z.number ≢ y.number
-    → StandsIn r z → StandsIn (after_resolve r y.place f) z
-stands_answers p depth w r y z f o (k, at) differs (j, is) =
-    subst (λ s. StandsIn s z) (sym (resolve_is p depth w r y k f o at))
-    (j, record { place = is.place; there = slice_get-set_other r.places k j (closed_place y.number f) other ∙ is.there })
-  where
-    other : j ≢ k
-    other same =
-        differs (ap (λ (x : Place). x.number) (same_Some (open_place z.number) (open_place y.number) (sym is.there ∙ (ap (slice_get r.places) same ∙ at.there))))
+pub stands_answers : (p : Plan) (depth : ℕ) (w : Waits) (r : Reordering) (y z : Entry) (most other : ℕ) (f : Option Event) → IsOrder p depth w r → StandsIn r y most → z.number ≢ y.number
+    → StandsIn r z other → StandsIn (after_resolve r y.place f) z other
+stands_answers p depth w r y z most other f o s differs is =
+    subst (λ q. StandsIn q z other) (sym (resolve_is p depth w r y s.index f o s.stands)) (stands_written r y z s.index other (resolved s.stands.shown f) s.stands differs is)
 
 -- ---- the oldest place leaves
 
@@ -213,26 +277,38 @@ order_leaves p depth w r o = by_oldest (oldest_answered r.places)
           distinct = AllPairs-drop (λ (y z : Place). y.number ≢ z.number) 1 r.places o.distinct;
           below = All-drop (λ (y : Place). y.number < w.next) 1 r.places o.below;
           given = All-drop (IsGivenOf w) 1 r.places o.given;
-          keeps = All-drop (KeepsOne p) 1 r.places o.keeps;
+          keeps = All-drop (KeepsFew p) 1 r.places o.keeps;
         }
 
 -- an open place is nearer the front by one
-pub stands_leaves : (r : Reordering) (y : Entry) → StandsIn r y → StandsIn (after_leave r) y
-stands_leaves r y (k, at) = by_oldest (oldest_answered r.places) refl
+pub stands_leaves : (r : Reordering) (y : Entry) (most : ℕ) → StandsIn r y most → StandsIn (after_leave r) y most
+stands_leaves r y most s = by_oldest (oldest_answered r.places) refl
   where
     heads : (xs : List Place) (x z : Place) → xs ≡ x ∷ drop 1 xs → slice_get xs 0 ≡ Some z → x ≡ z
     heads [] x z e first = absurd (none-some z first)
     heads (v ∷ xs) x z e first = cc
 
-    no_place : (x : Place) → oldest_answered r.places ≡ Some x → slice_get r.places 0 ≡ Some (open_place y.number) → ⊥
+    no_place : (x : Place) → oldest_answered r.places ≡ Some x → slice_get r.places 0 ≡ Some s.stands.shown → ⊥
     no_place x e first =
         let is = leaving_is r.places x e in
-        false≢true (sym (ap (λ (z : Place). z.answered) (heads r.places x (open_place y.number) is.0 first)) ∙ is.1)
+        false≢true (sym s.stands.waits ∙ (ap (λ (z : Place). z.answered) (sym (heads r.places x s.stands.shown is.0 first)) ∙ is.1))
 
-    by_place : (x : Place) → oldest_answered r.places ≡ Some x → (j : ℕ) → StandsAt r y j → StandsIn (after_leaving r (Some x)) y
-    by_place x e zero is = absurd (no_place x e is.there)
-    by_place x e (suc j) is = (j, record { place = is.place ∙ sym (counted_on r.first j); there = slice_get-drop_one r.places j ∙ is.there })
+    by_place : (x : Place) → oldest_answered r.places ≡ Some x → (k : ℕ) → s.index ≡ k → StandsIn (after_leaving r (Some x)) y most
+    by_place x e zero is = absurd (no_place x e (ap (slice_get r.places) (sym is) ∙ s.stands.there))
+    by_place x e (suc k) is =
+        record {
+          index = k;
+          stands =
+              record {
+                shown = s.stands.shown;
+                place = s.stands.place ∙ (ap (number_of r) is ∙ sym (counted_on r.first k));
+                there = slice_get-drop_one r.places k ∙ (ap (slice_get r.places) (sym is) ∙ s.stands.there);
+                number = s.stands.number;
+                waits = s.stands.waits;
+              };
+          few = s.few;
+        }
 
-    by_oldest : (x : Option Place) → oldest_answered r.places ≡ x → StandsIn (after_leaving r x) y
-    by_oldest None e = (k, at)
-    by_oldest (Some x) e = by_place x e k at
+    by_oldest : (x : Option Place) → oldest_answered r.places ≡ x → StandsIn (after_leaving r x) y most
+    by_oldest None e = s
+    by_oldest (Some x) e = by_place x e s.index refl

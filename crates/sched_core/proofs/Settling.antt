@@ -1,10 +1,11 @@
 -- The answered places at a queue's front leave one after the other.
-use Rattle.std.proofs.Common.{◌≡◌, ℕ, ◌+◌, ◌<◌, ◌≤◌, Bool, true, false, ◌&&◌, ◌||◌, ◌==◌, List, [], ◌∷◌, ◌++◌, length, drop, set, get_or, flat_map, Some, None, Vec, Global, vec_len, vec_capacity, refl, sym, ap, ◌∙◌, subst, arith, append_assoc, append-nil}
+use Rattle.std.proofs.Common.{◌≡◌, ℕ, ◌+◌, ◌<◌, ◌≤◌, Bool, true, false, not, ◌&&◌, ◌||◌, ◌==◌, List, [], ◌∷◌, ◌++◌, length, drop, set, get_or, flat_map, Some, None, Vec, Global, vec_len, vec_capacity, ◌⊎◌, inl, inr, refl, sym, ap, ◌∙◌, subst, arith, append_assoc, append-nil}
 use Rattle.std.specs.List.{list_any}
-use Rattle.std.proofs.lemmas.Bool.{cond-true, cond-false}
-use Rattle.std.proofs.lemmas.List.{length-append, length-set, get_or-set_same}
+use Rattle.std.proofs.lemmas.Bool.{and_right, cases_Bool, cond-true, cond-false}
+use Rattle.std.proofs.lemmas.List.{length-append, length-map, length-set, get_or-set_same, set-get_or}
 use Rattle.std.proofs.lemmas.List.Sums.{take_while-cons, fold-append}
-use Rattle.lists.proofs.Lists.{list_any-append, eqb_same, or-false}
+use Rattle.std.proofs.lemmas.Option.{none-some}
+use Rattle.lists.proofs.Lists.{list_any-append, eqb_same, eqb_other, or-false}
 use Rattle.evt_types.specs.Plan.{queue_of, is_ordered}
 use Rattle.transcripts.specs.Standing.{View, places_at, oldest_at, leaving, staying, accepts_from, accepts_of, answered_places, answer_steps, events_of, after, after_step, after_accept, places_after}
 use Rattle.evt_types.specs.Place.{Place}
@@ -14,8 +15,9 @@ use Rattle.evt_types.specs.declared.step.Outcome.{Outcome}
 use Rattle.evt_types.specs.declared.step.Source.TheVariants.{Of}
 use Rattle.evt_types.specs.declared.step.Step.{Step}
 use Rattle.evt_types.specs.declared.step.Step.TheVariants.{Accept, Done}
-use Rattle.order_parts.specs.Reorder.{oldest_answered, left}
-use Rattle.sched_core.specs.Settling.{with_places_at, leaving_steps, flush_steps, flushed, after_leaving_of, answered_view, IsOnTheWay}
+use Rattle.order_parts.specs.Reorder.{oldest_answered, left_plain}
+use Rattle.transcripts.proofs.WholeStands.{shape_after}
+use Rattle.sched_core.specs.Settling.{with_places_at, leaving_steps, flush_steps, flushed, after_leaving_of, answered_view, IsOnTheWay, IsPassedOn}
 use Rattle.sched_core.specs.Answered.{after_answer, after_leave, places_answered, rest_behind}
 use Rattle.sched_core.specs.Taken.{is_accept_of}
 use Rattle.lists.proofs.Writes.{set-set}
@@ -31,7 +33,7 @@ staying-cons x xs done = ap (λ (ys : List Place). drop (length ys) (x ∷ xs)) 
 
 -- ---- accepting changes no place
 
-after-append : (v : View) (ss ts : List Step) → after v (ss ++ ts) ≡ after (after v ss) ts
+pub after-append : (v : View) (ss ts : List Step) → after v (ss ++ ts) ≡ after (after v ss) ts
 after-append v ss ts = fold-append after_step v ss ts
 
 -- it makes the same of a view with other places
@@ -81,6 +83,23 @@ flushed-turn v q x h e =
     ∙ (after-append (with_places_at v q (staying (places_at u q))) ss (flush_steps u q) ∙ ap (λ w. after w (flush_steps u q)) (sym other)))
 
 -- ---- no place leaves any more
+
+leaving_none : (xs : List Place) → oldest_answered xs ≡ None → leaving xs ≡ []
+leaving_none [] e = refl
+leaving_none (x ∷ xs) e = by_case (cases_Bool x.answered)
+  where
+    by_case : (x.answered ≡ true) ⊎ (x.answered ≡ false) → leaving (x ∷ xs) ≡ []
+    by_case (inl done) = absurd (none-some x (sym e ∙ cond-true x.answered (Some x) None done))
+    by_case (inr waits) = take_while-cons (λ (y : Place). y.answered) x xs ∙ cond-false x.answered (x ∷ leaving xs) [] waits
+
+flush_none : (v : View) (q : ℕ) → oldest_answered (places_at v q) ≡ None → flush_steps v q ≡ []
+flush_none v q e = ap (flat_map (λ (x : Place). accepts_from q x.number x.forwards)) (leaving_none (places_at v q) e)
+
+flushed_none : (v : View) (q : ℕ) → oldest_answered (places_at v q) ≡ None → flushed v q ≡ v
+flushed_none v q e =
+    let stays : staying (places_at v q) ≡ places_at v q = ap (λ (ys : List Place). drop (length ys) (places_at v q)) (leaving_none (places_at v q) e) in
+    ap (after (with_places_at v q (staying (places_at v q)))) (flush_none v q e)
+    ∙ (ap (with_places_at v q) stays ∙ ap (λ (ps : List (List Place)). record v { places = ps }) (set-get_or v.places q []))
 
 -- ---- the lane's oldest event is answered
 
@@ -136,8 +155,18 @@ after_answer_is v l h o oldest ordered =
 
 -- ---- whether an event is passed on
 
-pub passed_one : (q mine n : ℕ) (e : Event) → list_any (is_accept_of q mine) (accepts_from q n (e ∷ [])) ≡ (n == mine)
-passed_one q mine n e = ap (λ b. (b && (n == mine)) || false) (eqb_same q) ∙ or-false (n == mine)
+tells_one : (q mine n : ℕ) (e : Event) → list_any (is_accept_of q mine) (accepts_from q n (e ∷ [])) ≡ (n == mine)
+tells_one q mine n e = ap (λ b. (b && (n == mine)) || false) (eqb_same q) ∙ or-false (n == mine)
+
+tells_some : (q mine n : ℕ) (es : List Event) → list_any (is_accept_of q mine) (accepts_from q n es) ≡ ((n == mine) && not (length es == 0))
+tells_some q mine n [] = sym (and_right (n == mine) false refl)
+tells_some q mine n (e ∷ es) =
+    ap (λ b. (b && (n == mine)) || list_any (is_accept_of q mine) (accepts_from q n es)) (eqb_same q)
+    ∙ (by_rest (n == mine) (tells_some q mine n es) ∙ ap (λ b. (n == mine) && not b) (sym (eqb_other (length (e ∷ es)) 0 (λ none. absurd (omega (arith, none))))))
+  where
+    by_rest : (b : Bool) → list_any (is_accept_of q mine) (accepts_from q n es) ≡ (b && not (length es == 0)) → (b || list_any (is_accept_of q mine) (accepts_from q n es)) ≡ (b && true)
+    by_rest true rest = refl
+    by_rest false rest = rest
 
 pub passed_turn : (v : View) (q mine : ℕ) (x : Place) → q < length v.places → oldest_answered (places_at v q) ≡ Some x
     → list_any (is_accept_of q mine) (flush_steps v q)
@@ -166,21 +195,54 @@ way-turn q mine start first v log passed x way h e =
     or_assoc true b c = refl
     or_assoc false b c = refl
 
--- one that was released
-pub way-released : (q mine : ℕ) (start : View) (first : List Step) (v : View) (log : List Step) (passed : Bool) (n : ℕ) → IsOnTheWay q mine start first v log passed
-    → q < length v.places → oldest_answered (places_at v q) ≡ Some (left (n, None)) → IsOnTheWay q mine start first (with_places_at v q (drop 1 (places_at v q))) log passed
-way-released q mine start first v log passed n way h e =
-    subst (IsOnTheWay q mine start first (with_places_at v q (drop 1 (places_at v q))) log) (or-false passed)
-    (subst (λ ss. IsOnTheWay q mine start first (with_places_at v q (drop 1 (places_at v q))) ss (passed || false)) (append-nil log)
-    (way-turn q mine start first v log passed (left (n, None)) way h e))
+-- ---- one place leaves, and what it was passed on as is accepted
 
--- one that was forwarded
-pub way-forwarded : (q mine : ℕ) (start : View) (first : List Step) (v : View) (log : List Step) (passed : Bool) (n : ℕ) (d : Event)
-    → IsOnTheWay q mine start first v log passed → q < length v.places → oldest_answered (places_at v q) ≡ Some (left (n, Some d))
-    → IsOnTheWay q mine start first (after_accept (with_places_at v q (drop 1 (places_at v q))) d.queue d) (log ++ Accept d.queue d (Of q n) ∷ []) (passed || (n == mine))
-way-forwarded q mine start first v log passed n d way h e =
-    subst (λ b. IsOnTheWay q mine start first (after_accept (with_places_at v q (drop 1 (places_at v q))) d.queue d) (log ++ Accept d.queue d (Of q n) ∷ []) (passed || b))
-    (passed_one q mine n d) (way-turn q mine start first v log passed (left (n, Some d)) way h e)
+-- there is room for it in the log
+pub room_for : (v : View) (q long most : ℕ) (x : Place) → q < length v.places → oldest_answered (places_at v q) ≡ Some x → long + length (flush_steps v q) ≤ most → long + length x.forwards ≤ most
+room_for v q long most x h oldest room =
+    let turn : length (flush_steps v q) ≡ length (accepts_from q x.number x.forwards) + length (flush_steps (after_leaving_of v q x) q) =
+    ap length (flush_steps-turn v q x h oldest) ∙ length-append (accepts_from q x.number x.forwards) (flush_steps (after_leaving_of v q x) q) in
+    let same : length (accepts_from q x.number x.forwards) ≡ length x.forwards = length-map x.forwards (λ (e : Event). Accept e.queue e (Of q x.number)) in
+    omega arith
+
+left_is : (v u : View) (q : ℕ) (x : Place) → oldest_answered (places_at v q) ≡ Some x → u ≡ after_leave v q → u ≡ with_places_at v q (drop 1 (places_at v q))
+left_is v u q x oldest is = is ∙ ap (λ o. with_places_at v q (rest_behind (places_at v q) o)) oldest
+
+-- as nothing
+pub passed_none : (q mine n : ℕ) (v u : View) (log : List Step) → oldest_answered (places_at v q) ≡ Some (left_plain (n, None)) → u ≡ after_leave v q → IsPassedOn q mine v log u log false
+passed_none q mine n v u log oldest is =
+    record { place = left_plain (n, None); oldest = oldest; view = left_is v u q (left_plain (n, None)) oldest is; steps = sym (append-nil log); passes = refl }
+
+-- as one event
+pub passed_one : (q mine n : ℕ) (e : Event) (v u w : View) (log new : List Step) → oldest_answered (places_at v q) ≡ Some (left_plain (n, Some e)) → u ≡ after_leave v q → w ≡ after_accept u e.queue e
+    → new ≡ log ++ Accept e.queue e (Of q n) ∷ [] → IsPassedOn q mine v log w new (n == mine)
+passed_one q mine n e v u w log new oldest is accepted logged =
+    record {
+      place = left_plain (n, Some e);
+      oldest = oldest;
+      view = accepted ∙ ap (λ x. after_accept x e.queue e) (left_is v u q (left_plain (n, Some e)) oldest is);
+      steps = logged;
+      passes = sym (tells_one q mine n e);
+    }
+
+-- as some
+pub passed_some : (q mine : ℕ) (x : Place) (v u w : View) (log new : List Step) → oldest_answered (places_at v q) ≡ Some x → u ≡ after_leave v q → w ≡ after u (accepts_from q x.number x.forwards)
+    → new ≡ log ++ accepts_from q x.number x.forwards → IsPassedOn q mine v log w new ((x.number == mine) && not (length x.forwards == 0))
+passed_some q mine x v u w log new oldest is accepted logged =
+    record {
+      place = x;
+      oldest = oldest;
+      view = accepted ∙ ap (λ y. after y (accepts_from q x.number x.forwards)) (left_is v u q x oldest is);
+      steps = logged;
+      passes = sym (tells_some q mine x.number x.forwards);
+    }
+
+-- fewer places are left
+pub fewer_places : (q mine : ℕ) (v w : View) (log new : List Step) (passed : Bool) → q < length v.places → IsPassedOn q mine v log w new passed → length (places_at w q) < length (places_at v q)
+fewer_places q mine v w log new passed h turn =
+    let is : places_at v q ≡ turn.place ∷ drop 1 (places_at v q) = (leaving_is (places_at v q) turn.place turn.oldest).0 in
+    let left : places_at w q ≡ drop 1 (places_at v q) = ap (λ u. places_at u q) turn.view ∙ places_left v q turn.place h in
+    omega (arith, ap length is, ap length left)
 
 -- ---- one turn of the loop
 
@@ -191,40 +253,45 @@ pub record IsSettling (q mine : ℕ) (start : View) (first : Vec Step Global) (v
   pub there : q < length v.places
   pub room : vec_capacity log ≡ vec_capacity first
 
-pub settles_released : (q mine : ℕ) (start : View) (first : Vec Step Global) (v u : View) (log : Vec Step Global) (passed : Bool) (n : ℕ) → IsSettling q mine start first v log passed
-    → oldest_answered (places_at v q) ≡ Some (left (n, None)) → u ≡ after_leave v q → IsSettling q mine start first u log passed
-settles_released q mine start first v u log passed n s oldest is =
-    let same : u ≡ with_places_at v q (drop 1 (places_at v q)) = is ∙ ap (λ o. with_places_at v q (rest_behind (places_at v q) o)) oldest in
-    subst (λ w. IsSettling q mine start first w log passed) (sym same)
-    (record {
-      way = way-released q mine start first.items v log.items passed n s.way s.there oldest;
-      shape = s.shape;
-      there = subst (λ k. q < k) (sym (length-set v.places q (drop 1 (places_at v q)))) s.there;
-      room = s.room;
-    })
-
-pub settles_forwarded : (q mine : ℕ) (start : View) (first : Vec Step Global) (v u w : View) (log new : Vec Step Global) (passed : Bool) (n : ℕ) (d : Event) → IsSettling q mine start first v log passed
-    → oldest_answered (places_at v q) ≡ Some (left (n, Some d)) → u ≡ after_leave v q → w ≡ after_accept u d.queue d → new.items ≡ log.items ++ Accept d.queue d (Of q n) ∷ [] → vec_capacity new ≡ vec_capacity log
-    → IsSettling q mine start first w new (passed || (n == mine))
-settles_forwarded q mine start first v u w log new passed n d s oldest is accepted logged room =
-    let same : w ≡ after_accept (with_places_at v q (drop 1 (places_at v q))) d.queue d =
-    accepted ∙ ap (λ x. after_accept x d.queue d) (is ∙ ap (λ o. with_places_at v q (rest_behind (places_at v q) o)) oldest) in
-    let way = way-forwarded q mine start first.items v log.items passed n d s.way s.there oldest in
+pub settles_turn : (q mine : ℕ) (start : View) (first : Vec Step Global) (v w : View) (log new : Vec Step Global) (passed now : Bool) → IsSettling q mine start first v log passed
+    → IsPassedOn q mine v log.items w new.items now → vec_capacity new ≡ vec_capacity log → IsSettling q mine start first w new (passed || now)
+settles_turn q mine start first v w log new passed now s turn room =
+    let x : Place = turn.place in
+    let ss : List Step = accepts_from q x.number x.forwards in
     record {
-      way = subst (λ ss. IsOnTheWay q mine start first.items w ss (passed || (n == mine))) (sym logged) (subst (λ x. IsOnTheWay q mine start first.items x (log.items ++ Accept d.queue d (Of q n) ∷ []) (passed || (n == mine))) (sym same) way);
-      shape = ap (λ (x : View). x.shape) same ∙ s.shape;
-      there = subst (λ (x : View). q < length x.places) (sym same) (subst (λ k. q < k) (sym (length-set v.places q (drop 1 (places_at v q)))) s.there);
+      way =
+          subst (λ b. IsOnTheWay q mine start first.items w new.items (passed || b)) (sym turn.passes)
+          (subst (λ ts. IsOnTheWay q mine start first.items w ts (passed || list_any (is_accept_of q mine) ss)) (sym turn.steps)
+          (subst (λ u. IsOnTheWay q mine start first.items u (log.items ++ ss) (passed || list_any (is_accept_of q mine) ss)) (sym turn.view)
+          (way-turn q mine start first.items v log.items passed x s.way s.there turn.oldest)));
+      shape = ap (λ (u : View). u.shape) turn.view ∙ (shape_after (with_places_at v q (drop 1 (places_at v q))) ss ∙ s.shape);
+      there = subst (λ (u : View). q < length u.places) (sym turn.view) (subst (λ n. q < n) (sym (places_count v q x)) s.there);
       room = room ∙ s.room;
     }
 
--- there is room for what is accepted
-pub room_left : (q mine : ℕ) (start : View) (first : Vec Step Global) (v : View) (log : Vec Step Global) (passed : Bool) (n : ℕ) (d : Event) → IsSettling q mine start first v log passed
-    → oldest_answered (places_at v q) ≡ Some (left (n, Some d)) → vec_len first + length (flush_steps start q) ≤ vec_capacity first → vec_len log < vec_capacity log
-room_left q mine start first v log passed n d s oldest room =
-    let turn : length (flush_steps v q) ≡ length (flush_steps (after_leaving_of v q (left (n, Some d))) q) + 1 = ap length (flush_steps-turn v q (left (n, Some d)) s.there oldest) ∙ omega arith in
+-- there is room for what is still to come
+pub room_left : (q mine : ℕ) (start : View) (first : Vec Step Global) (v : View) (log : Vec Step Global) (passed : Bool) → IsSettling q mine start first v log passed
+    → vec_len first + length (flush_steps start q) ≤ vec_capacity first → vec_len log + length (flush_steps v q) ≤ vec_capacity log
+room_left q mine start first v log passed s room =
     let all : length log.items + length (flush_steps v q) ≡ length first.items + length (flush_steps start q) =
     sym (length-append log.items (flush_steps v q)) ∙ (ap length s.way.steps ∙ length-append first.items (flush_steps start q)) in
     let long = log.ok.0 in
     let before = first.ok.0 in
     let same = s.room in
     omega arith
+
+-- once no place leaves any more, all is as it is to be
+pub record IsAtEnd (q mine : ℕ) (start : View) (first : List Step) (v : View) (log : List Step) (passed : Bool) : Type 0 where
+  pub view : v ≡ flushed start q
+  pub steps : log ≡ first ++ flush_steps start q
+  pub passes : passed ≡ list_any (is_accept_of q mine) (flush_steps start q)
+
+pub way_ends : (q mine : ℕ) (start : View) (first : List Step) (v : View) (log : List Step) (passed : Bool) → IsOnTheWay q mine start first v log passed → oldest_answered (places_at v q) ≡ None
+    → IsAtEnd q mine start first v log passed
+way_ends q mine start first v log passed way none =
+    let ends = flush_none v q none in
+    record {
+      view = sym (flushed_none v q none) ∙ way.view;
+      steps = sym (ap (λ ss. log ++ ss) ends ∙ append-nil log) ∙ way.steps;
+      passes = sym (ap (λ ss. passed || list_any (is_accept_of q mine) ss) ends ∙ or-false passed) ∙ way.passes;
+    }

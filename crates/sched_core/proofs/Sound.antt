@@ -2,6 +2,7 @@
 use Rattle.std.proofs.Common.{◌<◌, ◌≤◌, length, map, subst, sym, ◌∙◌, arith}
 use Rattle.std.proofs.lemmas.List.{length-map}
 use Rattle.evt_types.specs.Place.{Place}
+use Rattle.evt_types.specs.declared.event.TheConstants.{MAX_FORWARDS}
 use Rattle.evt_types.specs.Plan.{kept_room, queue_of}
 use Rattle.sched_core.specs.Ordered.{places_in}
 use Rattle.sched_core.specs.View.{IsCore, unanswered_in, view_in}
@@ -17,7 +18,7 @@ core_sound a core =
     record {
       long = length-map a.orders places_in ∙ core.places.count;
       differ = λ q h. subst (AllPairs Differ) (sym (places_here a q core h)) (core.places.each q h).distinct;
-      one = λ q h. subst (All (λ (x : Place). length x.forwards ≤ 1)) (sym (places_here a q core h)) (λ k d lt. ((core.places.each q h).keeps k d lt).0);
+      few = λ q h. subst (All (λ (x : Place). length x.forwards ≤ MAX_FORWARDS)) (sym (places_here a q core h)) (λ k d lt. ((core.places.each q h).keeps k d lt).few.few);
       fit = λ q h.
           let room = core.places.each q h in
           subst (λ xs. length xs ≤ kept_room (queue_of a.shape q)) (sym (places_here a q core h)) (omega (arith, room.room, room.within));

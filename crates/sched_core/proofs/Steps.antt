@@ -1,17 +1,22 @@
 -- The steps of a reply and of a shut, and what they make of a core's view.
-use Rattle.std.proofs.Common.{◌≡◌, ℕ, ◌+◌, ◌<◌, ◌≤◌, Bool, true, false, cond, List, [], ◌∷◌, ◌++◌, length, Some, refl, sym, ap, ◌∙◌, subst, arith, append-nil, append_assoc}
+use Rattle.std.proofs.Common.{◌≡◌, ℕ, ◌+◌, ◌<◌, ◌≤◌, Bool, true, false, cond, ◌&&◌, ◌||◌, ◌==◌, List, [], ◌∷◌, ◌++◌, length, Some, refl, sym, ap, ◌∙◌, subst, arith, append-nil, append_assoc}
+use Rattle.std.proofs.lemmas.Bool.{cond-true, cond-false}
 use Rattle.std.proofs.lemmas.List.{length-append}
 use Rattle.transcripts.proofs.WholeStands.{stands_shut}
 use Rattle.evt_types.specs.Plan.{queue_of, is_ordered}
-use Rattle.transcripts.specs.Standing.{View, Stands, oldest_at, answer_steps, events_of, accepts_from, after}
+use Rattle.transcripts.specs.Standing.{View, Stands, oldest_at, added_of, answer_steps, more_steps, events_of, accepts_from, after, after_accept, after_more}
 use Rattle.transcripts.specs.Transcript.{Held}
 use Rattle.evt_types.specs.declared.step.Outcome.{Outcome}
 use Rattle.evt_types.specs.declared.step.Step.{Step}
-use Rattle.evt_types.specs.declared.step.Step.TheVariants.{Done, Shut}
+use Rattle.evt_types.specs.declared.event.Event.{Event}
+use Rattle.evt_types.specs.declared.step.Source.TheVariants.{Of}
+use Rattle.evt_types.specs.declared.step.Step.TheVariants.{Accept, Done, More, Shut}
 use Rattle.sched_core.proofs.Settling.{after_answer-ordered, after_answer-plain, after_answer_is, answer_steps-ordered, answer_steps-plain}
 use Rattle.sched_core.specs.Answered.{after_answer}
 use Rattle.sched_core.specs.Settling.{flush_steps, flushed}
 use Rattle.sched_core.specs.Shutting.{shut_steps}
+use Rattle.sched_core.specs.Taken.{is_passed_on}
+use Rattle.lists.proofs.Lists.{eqb_same}
 
 -- ---- an answer to an ordered queue's event
 
@@ -49,6 +54,56 @@ module _ (v u : View) (l : ℕ) (h : Held) (o : Outcome) (oldest : oldest_at v l
       let long : length mid ≡ length old + 1 = ap length done ∙ length-append old (Done l o ∷ []) in
       let all : length (answer_steps v l o) ≡ length (accepts_from h.queue h.number (events_of o)) + 1 = ap length (answer_steps-plain v l h o oldest plain) ∙ omega arith in
       omega arith
+
+-- ---- an event is added
+
+module _ (v : View) (l : ℕ) (h : Held) (e : Event) (oldest : oldest_at v l ≡ Some h) where
+  -- beside one of an ordered queue
+  more_steps-ordered : is_ordered (queue_of v.shape h.queue).kind ≡ true → more_steps v l e ≡ More l e ∷ []
+  more_steps-ordered ordered =
+      ap (λ x. More l e ∷ added_of v x e) oldest
+      ∙ ap (λ ss. More l e ∷ ss) (cond-true (is_ordered (queue_of v.shape h.queue).kind) [] (accepts_from h.queue h.number (e ∷ [])) ordered)
+
+  -- beside one of another queue
+  more_steps-plain : is_ordered (queue_of v.shape h.queue).kind ≡ false → more_steps v l e ≡ More l e ∷ Accept e.queue e (Of h.queue h.number) ∷ []
+  more_steps-plain plain =
+      ap (λ x. More l e ∷ added_of v x e) oldest
+      ∙ ap (λ ss. More l e ∷ ss) (cond-false (is_ordered (queue_of v.shape h.queue).kind) [] (accepts_from h.queue h.number (e ∷ [])) plain)
+
+  -- it is logged, and then it is accepted, where nothing keeps it
+  pub more_view-ordered : is_ordered (queue_of v.shape h.queue).kind ≡ true → (w : View) → w ≡ after_more v l e → w ≡ after v (more_steps v l e)
+  more_view-ordered ordered w is = is ∙ sym (ap (after v) (more_steps-ordered ordered))
+
+  pub more_view-plain : is_ordered (queue_of v.shape h.queue).kind ≡ false → (u w : View) → u ≡ after_more v l e → w ≡ after_accept u e.queue e → w ≡ after v (more_steps v l e)
+  more_view-plain plain u w is accepted = accepted ∙ (ap (λ x. after_accept x e.queue e) is ∙ sym (ap (after v) (more_steps-plain plain)))
+
+  pub more_log-ordered : is_ordered (queue_of v.shape h.queue).kind ≡ true → (old new : List Step) → new ≡ old ++ More l e ∷ [] → new ≡ old ++ more_steps v l e
+  more_log-ordered ordered old new logged = logged ∙ ap (λ ss. old ++ ss) (sym (more_steps-ordered ordered))
+
+  pub more_log-plain : is_ordered (queue_of v.shape h.queue).kind ≡ false → (old mid new : List Step) → mid ≡ old ++ More l e ∷ [] → new ≡ mid ++ Accept e.queue e (Of h.queue h.number) ∷ [] → new ≡ old ++ more_steps v l e
+  more_log-plain plain old mid new logged accepted =
+      accepted
+      ∙ (ap (λ ss. ss ++ Accept e.queue e (Of h.queue h.number) ∷ []) logged
+      ∙ (append_assoc old (More l e ∷ []) (Accept e.queue e (Of h.queue h.number) ∷ []) ∙ ap (λ ss. old ++ ss) (sym (more_steps-plain plain))))
+
+  pub more_room : (long n : ℕ) → long + length (more_steps v l e) ≤ n → long < n
+  more_room long n room = omega arith
+
+  pub more_room-plain : is_ordered (queue_of v.shape h.queue).kind ≡ false → (old mid : List Step) (n : ℕ) → mid ≡ old ++ More l e ∷ [] → length old + length (more_steps v l e) ≤ n → length mid < n
+  more_room-plain plain old mid n logged room =
+      let long : length mid ≡ length old + 1 = ap length logged ∙ length-append old (More l e ∷ []) in
+      let all : length (more_steps v l e) ≡ 2 = ap length (more_steps-plain plain) in
+      omega arith
+
+  -- what becomes of it
+  pub more_kept : is_ordered (queue_of v.shape h.queue).kind ≡ true → is_passed_on (oldest_at v l) (more_steps v l e) ≡ false
+  more_kept ordered = ap (λ x. is_passed_on x (more_steps v l e)) oldest ∙ ap (is_passed_on (Some h)) (more_steps-ordered ordered)
+
+  pub more_accepted : is_ordered (queue_of v.shape h.queue).kind ≡ false → is_passed_on (oldest_at v l) (more_steps v l e) ≡ true
+  more_accepted plain =
+      ap (λ x. is_passed_on x (more_steps v l e)) oldest
+      ∙ (ap (is_passed_on (Some h)) (more_steps-plain plain)
+      ∙ (ap (λ b. (b && (h.number == h.number)) || false) (eqb_same h.queue) ∙ ap (λ b. b || false) (eqb_same h.number)))
 
 -- ---- a shut
 

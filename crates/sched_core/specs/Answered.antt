@@ -15,7 +15,12 @@ places_answered v (Some h) o =
 
 -- the lane's oldest event is answered, and nothing has left yet
 abbrev pub after_answer : View → ℕ → Outcome → View
-after_answer v l o = record v { places = places_answered v (oldest_at v l) o; unanswered = slice_set v.unanswered l (drop 1 (unanswered_at v l)) }
+after_answer v l o =
+    record v {
+      places = places_answered v (oldest_at v l) o;
+      unanswered = slice_set v.unanswered l (drop 1 (unanswered_at v l));
+      extras = slice_set v.extras l 0;
+    }
 
 -- the oldest place left, where it is answered
 abbrev pub rest_behind : List Place → Option Place → List Place

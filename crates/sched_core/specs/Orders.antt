@@ -1,7 +1,7 @@
 -- The reorder buffers of a device's queues: one of a queue that restores no order has no places, and no room for any.
 use Rattle.std.specs.Prelude.{ℕ, ◌≡◌, ◌<◌, Bool, ◌==◌, ◌||◌, length, nat_lt, Option, Some, None, All, if◌then◌else◌}
 use Rattle.evt_types.specs.declared.event.Event.{Event}
-use Rattle.order_parts.specs.Reorder.{Reordering, empty, after_hand, after_resolve}
+use Rattle.order_parts.specs.Reorder.{Reordering, empty, after_hand, after_add, after_resolve}
 use Rattle.sched_core.specs.declared.orders.AllOrders.TheInside.{Inside}
 
 -- what is seen of a queue's buffer
@@ -25,9 +25,12 @@ is_restoring r = nat_lt 0 r.depth
 abbrev pub has_place : Reordering → Bool
 has_place r = r.depth == 0 || nat_lt (length r.places) r.depth
 
--- an event more was handed out, and an event answered
+-- an event more was handed out, an event was added beside one, and an event answered
 abbrev pub handed : Reordering → ℕ → Reordering
 handed r n = if is_restoring r then after_hand r n else r
+
+abbrev pub added_in : Reordering → ℕ → Event → Reordering
+added_in r place e = if is_restoring r then after_add r place e else r
 
 abbrev pub resolved_in : Reordering → ℕ → Option Event → Reordering
 resolved_in r place e = if is_restoring r then after_resolve r place e else r

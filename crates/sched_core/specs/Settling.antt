@@ -1,12 +1,13 @@
 -- What an answer of an ordered queue's event sets free: the answered places at the front leave, one after the other, and
--- what they were forwarded as is accepted.
-use Rattle.std.specs.Prelude.{ℕ, ◌≡◌, Bool, ◌||◌, List, ◌++◌, drop, flat_map, slice_set}
+-- what they were passed on as is accepted.
+use Rattle.std.specs.Prelude.{ℕ, ◌≡◌, Bool, ◌||◌, List, ◌++◌, drop, flat_map, slice_set, Some}
 use Rattle.std.specs.List.{list_any}
 use Rattle.transcripts.specs.Standing.{View, places_at, unanswered_at, answered_places, leaving, staying, accepts_from, after}
 use Rattle.evt_types.specs.Place.{Place}
 use Rattle.transcripts.specs.Transcript.{Held}
 use Rattle.evt_types.specs.declared.step.Outcome.{Outcome}
 use Rattle.evt_types.specs.declared.step.Step.{Step}
+use Rattle.order_parts.specs.Reorder.{oldest_answered}
 use Rattle.sched_core.specs.Taken.{is_accept_of}
 
 abbrev pub with_places_at : View → ℕ → List Place → View
@@ -30,7 +31,19 @@ after_leaving_of v q x = after (with_places_at v q (drop 1 (places_at v q))) (ac
 -- once the lane's oldest event is answered, and before a place leaves
 abbrev pub answered_view : View → ℕ → Held → Outcome → View
 answered_view v l h o =
-    record v { places = slice_set v.places h.queue (answered_places v h.queue h.number o); unanswered = slice_set v.unanswered l (drop 1 (unanswered_at v l)) }
+    record v {
+      places = slice_set v.places h.queue (answered_places v h.queue h.number o);
+      unanswered = slice_set v.unanswered l (drop 1 (unanswered_at v l));
+      extras = slice_set v.extras l 0;
+    }
+
+-- One place left the queue's front, and what its event was passed on as is accepted: whether that is something, and of the number.
+pub record IsPassedOn (q mine : ℕ) (v : View) (log : List Step) (w : View) (new : List Step) (passed : Bool) : Type 0 where
+  pub place : Place
+  pub oldest : oldest_answered (places_at v q) ≡ Some place
+  pub view : w ≡ after_leaving_of v q place
+  pub steps : new ≡ log ++ accepts_from q place.number place.forwards
+  pub passes : passed ≡ list_any (is_accept_of q mine) (accepts_from q place.number place.forwards)
 
 -- Places have left since the view and the log were those of the start: what is still to come makes the same of both, and
 -- whether the event of this number was passed on is told by what came and what is to come.

@@ -8,7 +8,7 @@ use Rattle.evt_types.specs.declared.event.Op.{Op}
 use Rattle.evt_types.specs.declared.event.Op.TheVariants as ops
 use Rattle.evt_types.specs.declared.step.Source.TheVariants.{New, Of}
 use Rattle.evt_types.specs.declared.step.Step.{Step}
-use Rattle.evt_types.specs.declared.step.Step.TheVariants.{Accept, Give, Done, Turned, Bounced, Shut}
+use Rattle.evt_types.specs.declared.step.Step.TheVariants.{Accept, Give, Done, More, Turned, Bounced, Shut}
 use Rattle.sched_core.specs.declared.take.Took.{Took}
 use Rattle.sched_core.specs.declared.take.Took.TheVariants as tooks
 
@@ -18,11 +18,12 @@ is_accept_of q n (Accept r e (Of s m)) = is_pair q n (s, m)
 is_accept_of q n (Accept r e (New l)) = false
 is_accept_of q n (Give l r m) = false
 is_accept_of q n (Done l o) = false
+is_accept_of q n (More l e) = false
 is_accept_of q n (Turned l e) = false
 is_accept_of q n (Bounced l) = false
 is_accept_of q n Shut = false
 
--- whether the answered event's forward is accepted by the steps
+-- whether what the lane's oldest event was passed on as is accepted by the steps
 abbrev pub is_passed_on : Option Held → List Step → Bool
 is_passed_on None steps = false
 is_passed_on (Some h) steps = list_any (is_accept_of h.queue h.number) steps
@@ -31,6 +32,7 @@ abbrev pub took_by : Op → View → ℕ → Event → Took
 took_by ops.New v l e = if v.shut then tooks.Turned else tooks.Accepted
 took_by ops.Forward v l e = if is_passed_on (oldest_at v l) (steps_of v l e) then tooks.Accepted else tooks.Kept
 took_by ops.Release v l e = tooks.Released
+took_by ops.ForwardMore v l e = if is_passed_on (oldest_at v l) (steps_of v l e) then tooks.Accepted else tooks.Kept
 
 -- what becomes of the lane's reply with this event
 abbrev pub took_of : View → ℕ → Event → Took

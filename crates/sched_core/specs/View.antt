@@ -37,6 +37,7 @@ view_in a =
       next = map next_in a.queues;
       places = map places_in a.orders;
       unanswered = map unanswered_in a.lanes;
+      extras = a.extras.items;
       shut = a.shut;
     }
 
@@ -46,6 +47,7 @@ pub record IsCore (a : Inside) : Type 0 where
   pub limits : IsWithinLimits a.shape
   pub queues : length a.queues ≡ length a.shape.queues
   pub lanes : length a.lanes ≡ lanes_of a.shape
+  pub extras : length a.extras.items ≡ lanes_of a.shape
   pub sound : All (IsQueueOf (bound_of a.shape)) a.queues
   pub slots : HaveSlots a.shape a.queues
   pub room : HaveRoom a.shape a.lanes
@@ -59,4 +61,4 @@ pub record IsCore (a : Inside) : Type 0 where
   pub links : AreLinks a.shape (length a.shape.queues) a.links.items
   pub ahead : AreAhead a.shape (length a.shape.queues) a.ahead.items
   pub slot_lanes : AreSlotLanes a.shape (slot_lane_count a.shape) a.slot_lanes.items
-  pub places : ArePlaces a.shape a.queues a.orders (map entries_in a.lanes)
+  pub places : ArePlaces a.shape a.queues a.orders (map entries_in a.lanes) a.extras.items

@@ -1,16 +1,12 @@
-//! Events are accepted and answered, and what an ordered queue kept leaves it.
+//! Events are accepted, added and answered.
 
-ghost use Rattle.std.specs.Prelude.{◌≡◌, ◌+◌, ◌<◌, ◌≤◌, ◌^◌, true, false, [], ◌∷◌, ◌++◌, length, Some, All, IfSome, option_map, option_to_list, vec_len, vec_capacity};
-ghost use Rattle.std.specs.List.{list_any};
+ghost use Rattle.std.specs.Prelude.{◌≡◌, ◌+◌, ◌<◌, ◌≤◌, ◌^◌, true, false, [], ◌∷◌, ◌++◌, length, Some, All, vec_len, vec_capacity};
 ghost use Rattle.evt_types.specs.Plan.{bound_of, lanes_of, queue_of, is_ordered};
-ghost use Rattle.transcripts.specs.Standing.{inside_of, entries_of, may_answer, oldest_at, places_at, events_of, after_accept};
+ghost use Rattle.transcripts.specs.Standing.{inside_of, entries_of, may_add, may_answer, oldest_at, events_of, accepts_from, after, after_accept, after_more};
 ghost use Rattle.evt_types.specs.declared.event.Event.{Event as EventValue};
-ghost use Rattle.order_parts.specs.Reorder.{left, oldest_answered};
 ghost use Rattle.sched_core.specs.Inner.{held_of};
 ghost use Rattle.sched_core.specs.Ordered.{outcome_of};
-ghost use Rattle.sched_core.specs.Answered.{after_answer, after_leave};
-ghost use Rattle.sched_core.specs.Settling.{flush_steps, flushed};
-ghost use Rattle.sched_core.specs.Taken.{is_accept_of};
+ghost use Rattle.sched_core.specs.Answered.{after_answer};
 
 use crate::state::Core;
 use evt_types::{Event, Outcome, Source, Step};
@@ -26,17 +22,6 @@ fn forward_of(outcome: Outcome) -> Option<Event>
     }
 }
 
-/// How many events these are.
-fn count_of(forward: Option<Event>) -> usize
-    ensures value { result ≡ length (option_to_list forward) }
-    ensures few { result ≤ 1 }
-{
-    match forward {
-        Some(_) => 1,
-        None => 0,
-    }
-}
-
 impl Core {
     /// The event waits in its queue, under the next number.
     #[inline(always)]
@@ -46,6 +31,7 @@ impl Core {
         requires entries { entries_of self.old < 2 ^ 63 }
         requires room { vec_len log.old < vec_capacity log.old }
         ensures view { self.new ≡ after_accept self.old event.queue event }
+        ensures counts { (inside_of self.new ≡ inside_of self.old + 1) × (entries_of self.new ≡ entries_of self.old + 1) }
         ensures logged { log.new.items ≡ log.old.items ++ Step.Accept event.queue event source ∷ [] }
         ensures room { vec_capacity log.new ≡ vec_capacity log.old }
     {
@@ -58,6 +44,51 @@ impl Core {
             event,
             source,
         });
+    }
+
+    /// The events wait in their queues one after the other: what the queue's event of this number was passed on as.
+    pub(crate) fn accept_all(
+        &mut self,
+        queue: usize,
+        number: u64,
+        events: &[Event],
+        log: &mut Vec<Step>,
+    )
+        requires named { All (λ (e : EventValue). e.queue < length self.old.shape.queues) events.now }
+        requires inside { inside_of self.old + length events.now ≤ bound_of self.old.shape }
+        requires entries { entries_of self.old + length events.now ≤ 2 ^ 63 }
+        requires room { vec_len log.old + length events.now ≤ vec_capacity log.old }
+        ensures view { self.new ≡ after self.old (accepts_from queue number events.now) }
+        ensures logged { log.new.items ≡ log.old.items ++ accepts_from queue number events.now }
+        ensures room { vec_capacity log.new ≡ vec_capacity log.old }
+    {
+        for event in events {
+            self.accept(*event, Source::Of { queue, number }, log);
+        }
+    }
+
+    /// The event is added beside the lane's oldest unanswered one. An ordered queue's event keeps it in its place.
+    pub(crate) fn add(&mut self, lane: usize, event: Event, log: &mut Vec<Step>) -> Entry
+        requires lane { lane < lanes_of self.old.shape }
+        requires may { may_add self.old lane event.queue ≡ true }
+        requires room { vec_len log.old < vec_capacity log.old }
+        ensures oldest { oldest_at self.old lane ≡ Some (held_of result) }
+        ensures queue { result.queue < length self.old.shape.queues }
+        ensures view { self.new ≡ after_more self.old lane event }
+        ensures logged { log.new.items ≡ log.old.items ++ Step.More lane event ∷ [] }
+        ensures inside { is_ordered (queue_of self.old.shape result.queue).kind ≡ false → inside_of self.new < bound_of self.old.shape }
+        ensures entries { is_ordered (queue_of self.old.shape result.queue).kind ≡ false → entries_of self.new < 2 ^ 63 }
+        ensures room { vec_capacity log.new ≡ vec_capacity log.old }
+    {
+        let entry = self.lanes.oldest(lane);
+        self.extras[lane] += 1;
+        let kept = self.orders.add(entry.queue, entry.place, event);
+        if kept {
+            self.inside += 1;
+            self.entries += 1;
+        }
+        log.push_reserved(Step::More { lane, event });
+        entry
     }
 
     /// The lane's oldest unanswered event is answered so. What an ordered queue's event is forwarded as is kept at first.
@@ -77,6 +108,7 @@ impl Core {
         ensures room { vec_capacity log.new ≡ vec_capacity log.old }
     {
         let entry = self.lanes.pop(lane);
+        self.extras[lane] = 0;
         self.pins.unpin(entry.queue, entry.slot);
         let kept = self
             .orders
@@ -88,44 +120,5 @@ impl Core {
         }
         log.push_reserved(Step::Done { lane, outcome });
         entry
-    }
-
-    /// The oldest place of the queue leaves, where it is answered: its event's number, and what it was forwarded as.
-    fn leave(&mut self, queue: usize) -> Option<(u64, Option<Event>)>
-        requires queue { queue < length self.old.shape.queues }
-        ensures value { option_map left result ≡ oldest_answered (places_at self.old queue) }
-        ensures view { self.new ≡ after_leave self.old queue }
-        ensures named { IfSome result (λ x. IfSome x.1 (λ e. e.queue < length self.old.shape.queues)) }
-        ensures inside { IfSome result (λ x. IfSome x.1 (λ e. inside_of self.new < bound_of self.old.shape)) }
-        ensures entries { IfSome result (λ x. IfSome x.1 (λ e. entries_of self.new < 2 ^ 63)) }
-    {
-        let left = self.orders.leave(queue)?;
-        let forwarded = count_of(left.1);
-        self.inside -= forwarded;
-        self.entries -= forwarded as u64;
-        Some(left)
-    }
-
-    /// The answered places leave from the oldest on, and what they were forwarded as is accepted: whether that of the number
-    /// is among it.
-    #[cold]
-    pub(crate) fn settle(&mut self, queue: usize, answered: u64, log: &mut Vec<Step>) -> bool
-        requires queue { queue < length self.old.shape.queues }
-        requires room { vec_len log.old + length (flush_steps self.old queue) ≤ vec_capacity log.old }
-        ensures view { self.new ≡ flushed self.old queue }
-        ensures logged { log.new.items ≡ log.old.items ++ flush_steps self.old queue }
-        ensures passed { result ≡ list_any (is_accept_of queue answered) (flush_steps self.old queue) }
-        ensures room { vec_capacity log.new ≡ vec_capacity log.old }
-    {
-        // The use of a field makes known what holds of each core.
-        let _ = &self.shape;
-        let mut passed = false;
-        while let Some((number, forward)) = self.leave(queue) {
-            if let Some(event) = forward {
-                passed |= number == answered;
-                self.accept(event, Source::Of { queue, number }, log);
-            }
-        }
-        passed
     }
 }

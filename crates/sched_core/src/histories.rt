@@ -93,6 +93,15 @@ impl Histories {
         }
     }
 
+    /// The lane's oldest event, which stays.
+    pub fn oldest(&self, lane: usize) -> Entry
+        requires there { lane < length self.now }
+        requires some { 0 < length (lane_in self.now lane).entries }
+        ensures { slice_get (lane_in self.now lane).entries 0 ≡ Some result }
+    {
+        self.lanes[lane].oldest().unwrap()
+    }
+
     /// Takes out the lane's oldest event.
     pub fn pop(&mut self, lane: usize) -> Entry
         requires there { lane < length self.old }

@@ -12,6 +12,7 @@ mod orders;
 mod pins;
 mod propose;
 mod queues;
+mod settle;
 mod shut;
 mod skips;
 mod slot_lanes;

@@ -1,6 +1,7 @@
 //! A core in which nothing has happened.
 
-ghost use Rattle.std.specs.Prelude.{◌≡◌, ◌<◌, ◌≤◌, [], length, IfOk, IfErr};
+ghost use Rattle.std.specs.Prelude.{◌≡◌, ◌<◌, ◌≤◌, [], length, replicate, IfOk, IfErr};
+ghost use Rattle.evt_types.specs.Plan.{lanes_of};
 ghost use Rattle.transcripts.specs.Standing.{Stands, view_of};
 ghost use Rattle.sched_core.specs.Links.{AreLinks, AreLinksOf};
 ghost use Rattle.sched_core.specs.Service.{AreAhead, AreAheadOf};
@@ -72,6 +73,13 @@ fn all_ahead(alloc: Global, shape: &Shape) -> Result<Vec<Places>, AllocError>
     Ok(ahead)
 }
 
+/// For each lane how many events were added beside its oldest unanswered one: none.
+fn no_extras(alloc: Global, shape: &Shape) -> Result<Vec<usize>, AllocError>
+    ensures { IfOk result (λ es. es.items ≡ replicate (lanes_of shape.now) 0) }
+{
+    vec![in alloc; 0; shape.lanes()]
+}
+
 impl Core {
     /// A core that holds nothing. Where memory lacks the configuration comes back.
     pub fn new(alloc: Global, shape: Shape) -> Result<Core, (Memory, Shape)>
@@ -87,6 +95,10 @@ impl Core {
         };
         let lanes = match Histories::new(alloc, &shape) {
             Ok(lanes) => lanes,
+            Err(memory) => return Err((memory, shape)),
+        };
+        let extras = match no_extras(alloc, &shape) {
+            Ok(extras) => extras,
             Err(memory) => return Err((memory, shape)),
         };
         let orders = match AllOrders::new(alloc, shape.queues()) {
@@ -116,6 +128,7 @@ impl Core {
             queues,
             orders,
             lanes,
+            extras,
             pins,
             links,
             ahead,

@@ -1,12 +1,13 @@
 //! The reorder buffers of a device's queues.
 
-ghost use Rattle.std.specs.Prelude.{◌≡◌, ◌<◌, ◌^◌, ◌&&◌, true, length, map, slice_set, slice_index_or, is_some, option_map, option_to_list, IfOk, IsTrue};
-ghost use Rattle.order_parts.specs.Reorder.{empty, next_number, place_at, is_open, after_resolve, kept_of, left, oldest_answered, after_leave, open_place};
-ghost use Rattle.sched_core.specs.Orders.{IsBuffer, is_restoring, has_place, handed, resolved_in};
+ghost use Rattle.std.specs.Prelude.{◌≡◌, ◌<◌, ◌≤◌, ◌^◌, ◌&&◌, true, length, map, slice_get, slice_set, slice_index_or, is_some, option_map, Some, IfNone, IfOk, IfSome, IsTrue};
+ghost use Rattle.order_parts.specs.Reorder.{empty, next_number, place_at, place_or_open, is_open, kept_of, left, left_plain, oldest_answered, after_leave, open_place};
+ghost use Rattle.sched_core.specs.Orders.{IsBuffer, is_restoring, has_place, handed, added_in, resolved_in};
 ghost use Rattle.sched_core.specs.Ordered.{order_at};
 ghost use Rattle.evt_types.specs.Plan as plans;
 
-use evt_types::{Event, Numbered, QueueDraft};
+use arrayvec::ArrayVec;
+use evt_types::{Event, MAX_EXTRAS, MAX_FORWARDS, Numbered, QueueDraft};
 use order_parts::Reorder;
 use std::alloc::{AllocError, Global};
 use std::marker::Model;
@@ -29,7 +30,7 @@ impl Model for AllOrders {
     ghost invariant = { AreOrders };
 }
 
-/// How many events the queue may keep: none where it restores no order.
+/// How many places the queue has: none where it restores no order.
 pub fn kept_room(queue: &QueueDraft) -> usize
     ensures value { result ≡ plans.kept_room queue.now }
     ensures small { result < 2 ^ 32 }
@@ -87,6 +88,23 @@ impl AllOrders {
         }
     }
 
+    /// The event is added beside that of the place, which is unanswered: whether it is kept there.
+    pub fn add(&mut self, queue: usize, place: u64, event: Event) -> bool
+        requires there { queue < length self.old }
+        requires open { is_restoring (order_at self.old queue) ≡ true → IsTrue (is_open (place_at (order_at self.old queue) place)) }
+        requires room { is_restoring (order_at self.old queue) ≡ true → length (place_or_open (order_at self.old queue) place).forwards < MAX_EXTRAS }
+        ensures kept { result ≡ is_restoring (order_at self.old queue) }
+        ensures added { self.new ≡ slice_set self.old queue (added_in (order_at self.old queue) place event) }
+    {
+        match &mut self.queues[queue] {
+            Some(order) => {
+                order.add(place, event);
+                true
+            }
+            None => false,
+        }
+    }
+
     /// The event of the place is answered, by a forward or by its release: whether the forward is kept.
     pub fn resolve(&mut self, queue: usize, place: u64, forward: Option<Event>) -> bool
         requires there { queue < length self.old }
@@ -103,14 +121,28 @@ impl AllOrders {
         }
     }
 
-    /// The queue's oldest place leaves, where it is answered: its event's number, and what it was forwarded as.
-    pub fn leave(&mut self, queue: usize) -> Option<(u64, Option<Event>)>
+    /// The queue's oldest place leaves, where it is answered: its event's number, and what it was passed on as.
+    pub fn leave(&mut self, queue: usize) -> Option<(u64, ArrayVec<Event, MAX_FORWARDS>)>
         requires { queue < length self.old }
         ensures value { option_map left result ≡ oldest_answered (order_at self.old queue).places }
         ensures rest { self.new ≡ slice_set self.old queue (after_leave (order_at self.old queue)) }
     {
         match &mut self.queues[queue] {
             Some(order) => order.leave(),
+            None => None,
+        }
+    }
+
+    /// The queue's oldest place leaves, where it is answered and nothing was added to it: its event's number, and what it was
+    /// forwarded as. Where it gives nothing it may be that an event was added.
+    pub fn leave_plain(&mut self, queue: usize) -> Option<(u64, Option<Event>)>
+        requires { queue < length self.old }
+        ensures value { IfSome result (λ x. oldest_answered (order_at self.old queue).places ≡ Some (left_plain x)) }
+        ensures rest { IfSome result (λ x. self.new ≡ slice_set self.old queue (after_leave (order_at self.old queue))) }
+        ensures same { IfNone result (self.new ≡ self.old) }
+    {
+        match &mut self.queues[queue] {
+            Some(order) => order.leave_plain(),
             None => None,
         }
     }
@@ -126,13 +158,25 @@ impl AllOrders {
         }
     }
 
-    /// What the place at this index, counted from the oldest, keeps: its event's number, with what that was forwarded as.
-    pub fn kept_at(&self, queue: usize, index: usize) -> Option<Numbered>
+    /// How many events the place at this index, counted from the oldest, keeps.
+    pub fn kept_count(&self, queue: usize, index: usize) -> usize
         requires { queue < length self.now }
-        ensures { option_to_list result ≡ kept_of (slice_index_or (order_at self.now queue).places index (open_place 0)) }
+        ensures value { result ≡ length (slice_index_or (order_at self.now queue).places index (open_place 0)).forwards }
+        ensures within { result ≤ MAX_FORWARDS }
     {
         match &self.queues[queue] {
-            Some(order) => order.kept_at(index),
+            Some(order) => order.kept_count(index),
+            None => 0,
+        }
+    }
+
+    /// The nth event that the place at this index keeps, under its event's number.
+    pub fn kept_at(&self, queue: usize, index: usize, nth: usize) -> Option<Numbered>
+        requires { queue < length self.now }
+        ensures { result ≡ slice_get (kept_of (slice_index_or (order_at self.now queue).places index (open_place 0))) nth }
+    {
+        match &self.queues[queue] {
+            Some(order) => order.kept_at(index, nth),
             None => None,
         }
     }

@@ -1,18 +1,19 @@
 //! What the core holds, and what can be read of it.
 
-ghost use Rattle.std.specs.Prelude.{◌≡◌, ◌+◌, ◌<◌, ◌≤◌, ◌++◌, List, length, map, sum_by, vec_len, vec_capacity};
-ghost use Rattle.transcripts.specs.Standing.{Stands, inside_of, kept_at, kept_event, kept_in, places_at, waiting_at};
+ghost use Rattle.std.specs.Prelude.{◌≡◌, ◌+◌, ◌*◌, ◌<◌, ◌≤◌, ◌++◌, List, length, map, slice_index_or, sum_by, vec_len, vec_capacity};
+ghost use Rattle.transcripts.specs.Standing.{Stands, inside_of, kept_at, kept_event, kept_in, kept_in_place, places_at, waiting_at};
 ghost use Rattle.transcripts.specs.Sweep.{IsSweep, Sweeping, sweep_room, sweep_steps};
 ghost use Rattle.transcripts.specs.Transcript as transcripts;
 ghost use Rattle.transcripts.specs.Transcript.{kept_events, pairs_of};
 ghost use Rattle.evt_types.specs.Plan as plans;
+ghost use Rattle.order_parts.specs.Reorder.{open_place};
 ghost use Rattle.evt_types.specs.declared.step.Step.{Step as StepValue};
 
 use crate::histories::Histories;
 use crate::orders::{AllOrders, kept_room};
 use crate::pins::AllPins;
 use crate::queues::AllQueues;
-use evt_types::{KeptEvent, MAX_QUEUES, QueueDraft, Shape};
+use evt_types::{KeptEvent, MAX_FORWARDS, MAX_QUEUES, QueueDraft, Shape};
 use place_set::Places;
 use std::alloc::AllocError;
 use std::marker::Model;
@@ -27,6 +28,8 @@ pub struct Core {
     pub(crate) queues: AllQueues,
     pub(crate) orders: AllOrders,
     pub(crate) lanes: Histories,
+    /// For each lane how many events were added beside its oldest unanswered event.
+    pub(crate) extras: Vec<usize>,
     pub(crate) pins: AllPins,
     /// For each queue the ports' lanes that serve it.
     pub(crate) links: Vec<Places>,
@@ -56,7 +59,7 @@ impl Model for Core {
     ghost invariant = { IsCore };
 }
 
-/// How many events all queues may keep.
+/// How many places all queues have: each may keep several events.
 fn all_kept_room(queues: &[QueueDraft]) -> usize
     requires { length queues.now ≤ MAX_QUEUES }
     ensures { result ≡ sum_by plans.kept_room queues.now }
@@ -80,16 +83,16 @@ impl Core {
         self.inside
     }
 
-    /// Room in a log that is enough for one sweep: the shut step, for each reply taken its answer and one event accepted,
-    /// the events that were kept, each event given, and each lane whose ring was full.
+    /// Room in a log that is enough for one sweep: the shut step, for each reply taken an answer or an added event and one event
+    /// accepted, the events that were kept, each event given, and each lane whose ring was full.
     pub fn log_room(&self) -> usize
         ensures value { result ≡ sweep_room self.now.shape }
-        ensures kept { kept_in self.now ≤ sum_by plans.kept_room self.now.shape.queues }
+        ensures kept { kept_in self.now ≤ MAX_FORWARDS * sum_by plans.kept_room self.now.shape.queues }
         ensures fits { (T : List StepValue) (s : Sweeping) → Stands T self.now → IsSweep self.now s → length (sweep_steps self.now s) ≤ result }
     {
         let sweep = self.shape.sweep() as usize;
         let queues = self.shape.queues();
-        let kept = all_kept_room(queues);
+        let kept = MAX_FORWARDS * all_kept_room(queues);
         let lanes = self.shape.lanes();
         1 + 2 * sweep * lanes + kept + sweep * queues.len() + lanes
     }
@@ -121,17 +124,30 @@ impl Core {
         self.orders.len(queue)
     }
 
-    /// Appends the queue's kept events in hand-out order, each under the queue and the number of the event that it was forwarded from.
+    /// Appends the queue's kept events in hand-out order, each under the queue and the number of the event that it was passed on from.
     pub fn list_kept(&self, queue: usize, into: &mut Vec<KeptEvent>)
         requires queue { queue < length self.now.shape.queues }
-        requires room { vec_len into.old + length (places_at self.now queue) ≤ vec_capacity into.old }
+        requires room { vec_len into.old + MAX_FORWARDS * length (places_at self.now queue) ≤ vec_capacity into.old }
         ensures kept { into.new.items ≡ into.old.items ++ map (kept_event queue) (kept_at self.now queue) }
-        ensures few { vec_len into.new ≤ vec_len into.old + length (places_at self.now queue) }
+        ensures few { vec_len into.new ≤ vec_len into.old + MAX_FORWARDS * length (places_at self.now queue) }
         ensures model { (T : List StepValue) → Stands T self.now → into.new.items ≡ into.old.items ++ kept_events T queue }
         ensures room { vec_capacity into.new ≡ vec_capacity into.old }
     {
         for index in 0..self.orders.len(queue) {
-            if let Some(kept) = self.orders.kept_at(queue, index) {
+            self.list_place(queue, index, into);
+        }
+    }
+
+    /// Appends what the queue's place at this index, counted from the oldest, keeps.
+    fn list_place(&self, queue: usize, index: usize, into: &mut Vec<KeptEvent>)
+        requires queue { queue < length self.now.shape.queues }
+        requires room { vec_len into.old + MAX_FORWARDS ≤ vec_capacity into.old }
+        ensures kept { into.new.items ≡ into.old.items ++ map (kept_event queue) (kept_in_place (slice_index_or (places_at self.now queue) index (open_place 0))) }
+        ensures few { vec_len into.new ≤ vec_len into.old + MAX_FORWARDS }
+        ensures room { vec_capacity into.new ≡ vec_capacity into.old }
+    {
+        for nth in 0..self.orders.kept_count(queue, index) {
+            if let Some(kept) = self.orders.kept_at(queue, index, nth) {
                 into.push_reserved(KeptEvent {
                     queue,
                     number: kept.number,

@@ -2,12 +2,12 @@
 
 ghost use Rattle.std.specs.Prelude.{◌≡◌, ◌+◌, ◌<◌, ◌≤◌, nat_lt, ◌&&◌, true, List, ◌++◌, length, vec_len, vec_capacity};
 ghost use Rattle.evt_types.specs.Plan.{is_ordered, lanes_of, queue_of};
-ghost use Rattle.transcripts.specs.Standing.{Stands, AreStepsOf, may_be_taken, may_take, may_enter, may_answer, may_forward, answer_steps, steps_by, steps_of, after, kept_in};
+ghost use Rattle.transcripts.specs.Standing.{Stands, AreStepsOf, may_be_taken, may_take, may_enter, may_answer, may_forward, may_add, answer_steps, steps_by, steps_of, after, kept_in};
 ghost use Rattle.evt_types.specs.declared.step.Step.{Step as StepValue};
 ghost use Rattle.sched_core.specs.Taken.{took_by, took_of};
 
 use crate::state::Core;
-use evt_types::{Event, Op, Outcome, Reply, Source, Step};
+use evt_types::{Event, MAX_EXTRAS, Op, Outcome, Reply, Source, Step};
 use order_parts::Entry;
 
 /// What became of a reply.
@@ -15,7 +15,7 @@ use order_parts::Entry;
 pub enum Took {
     /// Its event waits in its queue.
     Accepted,
-    /// Its event is kept until all that was handed out before is answered.
+    /// Its event is kept until all that was handed out before is answered, and the event that it was passed on from.
     Kept,
     /// The event that it answers is done with.
     Released,
@@ -27,9 +27,10 @@ pub enum Took {
 const MAX_ENTRIES: u64 = 1 << 63;
 
 impl Core {
-    /// Whether the lane's reply may be taken now: it is an answer and the lane has something to answer, or a NEW of a port's own
-    /// lane and, unless the core is shut, there is room for it; and the queue that it names is there. Whether or not, its steps would
-    /// be two at most beside the kept events that it lets go.
+    /// Whether the lane's reply may be taken now: it is an answer and the lane has something to answer, or it adds an event beside one
+    /// that the lane has, as one of few, and there is room for it; or a NEW of a port's own lane and, unless the core is shut, there is
+    /// room for it; and the queue that it names is there. Whether or not, its steps would be two at most beside the kept events that it
+    /// lets go.
     pub fn takes(&self, lane: usize, reply: &Reply) -> bool
         requires lane { lane < lanes_of self.now.shape }
         ensures value { result ≡ may_take self.now lane reply.now.event }
@@ -42,6 +43,7 @@ impl Core {
             Op::New => self.may_bring(lane, queue),
             Op::Forward => self.may_forward(lane, queue),
             Op::Release => self.may_answer(lane),
+            Op::ForwardMore => self.may_add(lane, queue),
         }
     }
 
@@ -58,6 +60,14 @@ impl Core {
     {
         queue < self.queues.len()
             && (self.inside < self.bound && self.entries < MAX_ENTRIES || self.shut)
+    }
+
+    /// Whether an event for the queue may be added beside the lane's oldest.
+    fn may_add(&self, lane: usize, queue: usize) -> bool
+        requires { lane < lanes_of self.now.shape }
+        ensures { result ≡ may_add self.now lane queue }
+    {
+        self.may_forward(lane, queue) && self.extras[lane] < MAX_EXTRAS && self.inside < self.bound
     }
 
     /// Whether the lane has something to answer, and the queue may accept what it is forwarded as.
@@ -101,6 +111,7 @@ impl Core {
             Op::New => self.take_new(lane, reply.event, log),
             Op::Forward => self.take_forward(lane, reply.event, log),
             Op::Release => self.take_release(lane, log),
+            Op::ForwardMore => self.take_more(lane, reply.event, log),
         }
     }
 
@@ -124,7 +135,7 @@ impl Core {
     }
 
     /// The lane's oldest unanswered event is done with, and what it is forwarded as waits in its queue. An ordered queue
-    /// keeps it until all that it handed out before is answered.
+    /// keeps it, with what was added beside it, until all that it handed out before is answered.
     #[inline(always)]
     fn take_forward(&mut self, lane: usize, event: Event, log: &mut Vec<Step>) -> Took
         requires op { event.op ≡ Op.Forward }
@@ -163,5 +174,26 @@ impl Core {
             self.settle(queue, number, log);
         }
         Took::Released
+    }
+
+    /// The event is added beside the lane's oldest unanswered one. An ordered queue's event keeps it in its place; beside any other
+    /// it waits in its queue at once.
+    #[cold]
+    fn take_more(&mut self, lane: usize, event: Event, log: &mut Vec<Step>) -> Took
+        requires op { event.op ≡ Op.ForwardMore }
+        requires lane { lane < lanes_of self.old.shape }
+        requires takes { may_add self.old lane event.queue ≡ true }
+        requires room { vec_len log.old + length (steps_by Op.ForwardMore self.old lane event) ≤ vec_capacity log.old }
+        ensures view { self.new ≡ after self.old (steps_by Op.ForwardMore self.old lane event) }
+        ensures logged { log.new.items ≡ log.old.items ++ steps_by Op.ForwardMore self.old lane event }
+        ensures took { result ≡ took_by Op.ForwardMore self.old lane event }
+        ensures room { vec_capacity log.new ≡ vec_capacity log.old }
+    {
+        let Entry { queue, number, .. } = self.add(lane, event, log);
+        if self.restores_order(queue) {
+            return Took::Kept;
+        }
+        self.accept(event, Source::Of { queue, number }, log);
+        Took::Accepted
     }
 }

@@ -1,49 +1,47 @@
--- What an answer makes of a queue: of what its numbers were forwarded as, of its places and of its overdue events.
-use Rattle.std.proofs.Common.{◌≡◌, ◌≢◌, ℕ, true, false, cond, ◌==◌, List, [], ◌∷◌, ◌++◌, length, map, drop, take_while, flat_map, get_or, All, Option, Some, None, ◌⊎◌, inl, inr, refl, sym, ap, ◌∙◌, subst, arith, append-nil}
+-- What an answer makes of a queue: of what its numbers were passed on as, of its places and of its overdue events.
+use Rattle.std.proofs.Common.{◌≡◌, ◌≢◌, ℕ, ◌<◌, ◌≤◌, true, false, cond, ◌==◌, List, [], ◌∷◌, ◌++◌, length, map, drop, take_while, flat_map, get_or, All, Option, Some, None, ◌⊎◌, inl, inr, ⊎_elim, refl, sym, ap, ◌∙◌, subst}
 use Rattle.std.proofs.lemmas.Bool.{cases_eq, false≢true, cond-true, cond-false}
 use Rattle.std.proofs.lemmas.List.Elements.{All-nil, All-head, All-weaker}
-use Rattle.std.proofs.lemmas.Option.{none-some, same_Some, cond_some}
+use Rattle.std.proofs.lemmas.List.{drop-append-le}
+use Rattle.std.proofs.lemmas.Option.{cond_some}
 use Rattle.evt_types.specs.Plan.{Plan, queue_of, is_ordered}
 use Rattle.lists.specs.Lists.{has}
-use Rattle.transcripts.specs.Transcript.{unanswered, next_pair, is_pair, is_answered, with_event, sends, sent, sent_for, forwards, hand, taken, kept_of, open_of}
+use Rattle.transcripts.specs.Transcript.{unanswered, next_pair, is_pair, is_answered, sends, sent, sent_for, forwards, given_of, hand, taken_in, taken, kept_of, open_of}
 use Rattle.lists.specs.Lists.{from_first}
-use Rattle.transcripts.specs.Lawful.{IsSettled, IsOutcome}
+use Rattle.transcripts.specs.Lawful.{IsFormed, IsSettled}
 use Rattle.transcripts.specs.Allowed.{Allowed, AllowedAfter}
 use Rattle.evt_types.specs.Place.{Place}
 use Rattle.transcripts.specs.Standing.{place_at, places, events_of, answer_place, leaving, staying, accepts_from}
+use Rattle.evt_types.specs.Operation.{passes_on}
 use Rattle.evt_types.specs.declared.event.Event.{Event}
 use Rattle.evt_types.specs.declared.step.Outcome.{Outcome}
-use Rattle.evt_types.specs.declared.step.Outcome.TheVariants.{Forwarded, Released}
+use Rattle.evt_types.specs.declared.step.Outcome.TheVariants.{Forwarded}
 use Rattle.evt_types.specs.declared.step.Source.TheVariants.{Of}
 use Rattle.evt_types.specs.declared.step.Step.{Step}
-use Rattle.evt_types.specs.declared.step.Step.TheVariants.{Accept, Give, Done, Turned, Bounced, Shut}
+use Rattle.evt_types.specs.declared.step.Step.TheVariants.{Accept, Done, More}
 use Rattle.transcripts.proofs.Account.{taken_allowed}
-use Rattle.transcripts.proofs.Facts.{Facts, AllowedAfter_keeps, next_pair_is_given}
-use Rattle.lists.proofs.Lists.{eqb_same, eqb_other, map_agree, from_first-agree, All-option, All-weaker_all}
+use Rattle.transcripts.proofs.Facts.{AllowedAfter_keeps, next_pair_is_given}
+use Rattle.lists.proofs.Lists.{eqb_same, eqb_other, map_agree, from_first-agree, All-has, All-option, All-weaker_all}
 use Rattle.lists.proofs.Fronts.{tag, tagged, front_passes, front-map, rest-map, front_after, rest_after, has_each, has_front, tagged-append, tagged_agree, tagged_none, tagged_nil, tagged_single, map-tagged, flat_map-map}
 use Rattle.transcripts.proofs.Overdue.{overdue, late_ordered, late_plain, overdue_stays, settled_overdue, untaken, open_untaken}
-use Rattle.transcripts.proofs.Pushes.{is_pair-queue, is_pair-number, hand-none, taken-none, forwards-none, forwards-some, forwards-other, forwards-sends, is_answered-more, is_answered-same, is_answered-other, unanswered-next}
-use Rattle.transcripts.proofs.Sources.{Single-allowed}
+use Rattle.transcripts.proofs.Pushes.{Sends, sends_is, done_forwards, done_forwards_other, is_pair-queue, is_pair-number, hand-none, taken-none, forwards-none, forwards-sends, is_answered-more, is_answered-same, is_answered-other, unanswered-next}
+use Rattle.transcripts.proofs.Once.{Single-allowed}
 use Rattle.transcripts.proofs.Whole.{Known-allowed}
 
--- ---- what is forwarded
+-- ---- what is passed on
 
--- a forwarded event's queue is there
+-- an event that is passed on names a queue that is there
 abbrev pub IsForward : Plan → Event → Type 0
-IsForward p e = IsOutcome p (Forwarded e)
+IsForward p e = (e.queue < length p.queues) × (passes_on e.op ≡ true)
 
-sends_is : (P : List Step) (s : Step) (y : (ℕ × ℕ) × Event) → sends P s ≡ Some y → (l : ℕ) × (s ≡ Done l (Forwarded y.1))
-sends_is P (Done l (Forwarded d)) y h = by_case (next_pair P l) h
+sends_formed : (p : Plan) (P : List Step) (s : Step) (x : ℕ × ℕ) (e : Event) → Sends P s x e → IsFormed p s → IsForward p e
+sends_formed p P s x e sending formed = ⊎_elim done more sending.is
   where
-    by_case : (o : Option (ℕ × ℕ)) → with_event d o ≡ Some y → (m : ℕ) × (Done l (Forwarded d) ≡ Done m (Forwarded y.1))
-    by_case None k = absurd (none-some y k)
-    by_case (Some x) k = (l, ap (λ (z : (ℕ × ℕ) × Event). Done l (Forwarded z.1)) (same_Some (x, d) y k))
-sends_is P (Done l Released) y h = absurd (none-some y h)
-sends_is P (Accept q d s) y h = absurd (none-some y h)
-sends_is P (Give l q n) y h = absurd (none-some y h)
-sends_is P (Turned l d) y h = absurd (none-some y h)
-sends_is P (Bounced l) y h = absurd (none-some y h)
-sends_is P Shut y h = absurd (none-some y h)
+    done : s ≡ Done sending.lane (Forwarded e) → IsForward p e
+    done is = let form = (subst (IsFormed p) is formed).1 in (form.0, ap passes_on form.1)
+
+    more : s ≡ More sending.lane e → IsForward p e
+    more is = let form = (subst (IsFormed p) is formed).1 in (form.0, ap passes_on form.1)
 
 abbrev AreForwards : Plan → List Step → Type 0
 AreForwards p T = (q n : ℕ) → All (IsForward p) (forwards T q n)
@@ -54,8 +52,7 @@ forwards_push p P s h a q n = by_case (sends P s) refl
     by_case : (o : Option ((ℕ × ℕ) × Event)) → sends P s ≡ o → All (IsForward p) (forwards (P ++ s ∷ []) q n)
     by_case None e = subst (All (IsForward p)) (sym (forwards-none P q n s e)) (h q n)
     by_case (Some y) e =
-        let done = sends_is P s y e in
-        let formed : IsForward p y.1 = (subst (Allowed p P) done.1 a).formed.1 in
+        let formed : IsForward p y.1 = sends_formed p P s y.0 y.1 (sends_is P s y.0 y.1 e) a.formed in
         subst (All (IsForward p)) (sym (forwards-sends P q n s y e))
         (All-option (IsForward p) (forwards P q n) (sent_for q n y) (h q n)
         (λ d k. subst (IsForward p) ((cond_some (is_pair q n y.0) y.1 d k).1) formed))
@@ -67,16 +64,6 @@ forwards_none p q n = All-nil (IsForward p)
 pub forwards_formed : (p : Plan) (T : List Step) → AllowedAfter p [] T → (q n : ℕ) → All (IsForward p) (forwards T q n)
 forwards_formed p T all = AllowedAfter_keeps p (AreForwards p) (forwards_push p) [] T (forwards_none p) all
 
-pub done_forwards : (P : List Step) (l : ℕ) (o : Outcome) (x : ℕ × ℕ) → next_pair P l ≡ Some x
-    → forwards (P ++ Done l o ∷ []) x.0 x.1 ≡ forwards P x.0 x.1 ++ events_of o
-done_forwards P l (Forwarded e) x next = forwards-some P x.0 x.1 (Done l (Forwarded e)) e (ap (with_event e) next)
-done_forwards P l Released x next = forwards-none P x.0 x.1 (Done l Released) refl ∙ sym (append-nil (forwards P x.0 x.1))
-
-pub done_forwards_other : (P : List Step) (l : ℕ) (o : Outcome) (x : ℕ × ℕ) (q n : ℕ) → next_pair P l ≡ Some x → is_pair q n x ≡ false
-    → forwards (P ++ Done l o ∷ []) q n ≡ forwards P q n
-done_forwards_other P l (Forwarded e) x q n next other = forwards-other P q n (Done l (Forwarded e)) x e (ap (with_event e) next) other
-done_forwards_other P l Released x q n next other = forwards-none P q n (Done l Released) refl
-
 done_kept_other : (P : List Step) (l : ℕ) (o : Outcome) (x : ℕ × ℕ) (q n : ℕ) → next_pair P l ≡ Some x → is_pair q n x ≡ false
     → kept_of (P ++ Done l o ∷ []) q n ≡ kept_of P q n
 done_kept_other P l o x q n next other =
@@ -85,12 +72,12 @@ done_kept_other P l o x q n next other =
 
 -- ---- places
 
-place_same : (P T : List Step) (q n : ℕ) → is_answered T q n ≡ is_answered P q n → forwards T q n ≡ forwards P q n → place_at T q n ≡ place_at P q n
+pub place_same : (P T : List Step) (q n : ℕ) → is_answered T q n ≡ is_answered P q n → forwards T q n ≡ forwards P q n → place_at T q n ≡ place_at P q n
 place_same P T q n e f =
     ap (λ b. record { number = n; answered = b; forwards = forwards T q n }) e ∙ ap
     (λ es. record { number = n; answered = is_answered P q n; forwards = es }) f
 
--- the places of a queue of which nothing is given, answered or forwarded
+-- the places of a queue of which nothing is given, answered or passed on
 pub places_stay : (p : Plan) (P T : List Step) (q : ℕ) → hand T q ≡ hand P q → ((n : ℕ) → is_answered T q n ≡ is_answered P q n)
     → ((n : ℕ) → forwards T q n ≡ forwards P q n) → places p T q ≡ places p P q
 unfolding open_of
@@ -137,7 +124,7 @@ answer_place_is P l o x m next = by_number (cases_eq m x.1)
         cond-false (m == x.1) new (place_at P x.0 m) (eqb_other m x.1 differs)
         ∙ sym (place_same P T x.0 m (is_answered-other P x.0 m (Done l o) x next other) (done_forwards_other P l o x x.0 m next other))
 
-map_twice : {X Y : Type 0} (f : X → Y) (g : ℕ → X) (ns : List ℕ) → map f (map g ns) ≡ map (λ n. f (g n)) ns
+pub map_twice : {X Y : Type 0} (f : X → Y) (g : ℕ → X) (ns : List ℕ) → map f (map g ns) ≡ map (λ n. f (g n)) ns
 map_twice f g [] = refl
 map_twice f g (n ∷ ns) = ap (λ ys. f (g n) ∷ ys) (map_twice f g ns)
 
@@ -185,19 +172,32 @@ leaving_accepts p P l o x next ordered =
 
 -- ---- the overdue events, where none were before
 
-was_open : (p : Plan) (P : List Step) (l : ℕ) (x : ℕ × ℕ) → AllowedAfter p [] P → next_pair P l ≡ Some x → is_answered P x.0 x.1 ≡ false
+pub was_open : (p : Plan) (P : List Step) (l : ℕ) (x : ℕ × ℕ) → AllowedAfter p [] P → next_pair P l ≡ Some x → is_answered P x.0 x.1 ≡ false
 was_open p P l x all next =
     All-head (λ (z : ℕ × ℕ). is_answered P z.0 z.1 ≡ false) x (drop 1 (unanswered P l))
     (subst (All (λ (z : ℕ × ℕ). is_answered P z.0 z.1 ≡ false)) (unanswered-next P l x next) ((Single-allowed p P all).once.unended l))
 
-answered_kept : (p : Plan) (P : List Step) (l : ℕ) (o : Outcome) (x : ℕ × ℕ) → AllowedAfter p [] P → next_pair P l ≡ Some x
-    → kept_of (P ++ Done l o ∷ []) x.0 x.1 ≡ events_of o
-answered_kept p P l o x all next =
-    let none : forwards P x.0 x.1 ≡ [] = (Single-allowed p P all).once.unsent x.0 x.1 (was_open p P l x all next) in
-    let untaken_yet : length (taken P x.0 x.1) ≡ 0 = omega (arith, taken_allowed p P all x.0 x.1, ap length none) in
-    ap (λ es. drop (length es) (forwards (P ++ Done l o ∷ []) x.0 x.1)) (taken-none P x.0 x.1 (Done l o) refl)
-    ∙ (ap (λ k. drop k (forwards (P ++ Done l o ∷ []) x.0 x.1)) untaken_yet
-    ∙ (done_forwards P l o x next ∙ ap (λ es. es ++ events_of o) none))
+-- what a step adds to what a number is passed on as is kept behind the rest
+pub kept_grows : (P : List Step) (s : Step) (q n : ℕ) (es : List Event) → length (taken P q n) ≤ length (forwards P q n) → taken_in q n s ≡ None
+    → forwards (P ++ s ∷ []) q n ≡ forwards P q n ++ es → kept_of (P ++ s ∷ []) q n ≡ kept_of P q n ++ es
+kept_grows P s q n es fewer none more =
+    ap (λ ds. drop (length ds) (forwards (P ++ s ∷ []) q n)) (taken-none P q n s none)
+    ∙ (ap (drop (length (taken P q n))) more ∙ drop-append-le (length (taken P q n)) (forwards P q n) es fewer)
+
+-- where no order is restored and nothing is overdue: what a step adds to what is kept of one number
+pub plain_overdue : (p : Plan) (P : List Step) (s : Step) (x : ℕ × ℕ) (es : List Event) → AllowedAfter p [] P → IsSettled p P
+    → has x.1 (hand P x.0) ≡ true → is_ordered (queue_of p x.0).kind ≡ false → given_of x.0 s ≡ None
+    → kept_of (P ++ s ∷ []) x.0 x.1 ≡ kept_of P x.0 x.1 ++ es
+    → ((n : ℕ) → is_pair x.0 n x ≡ false → kept_of (P ++ s ∷ []) x.0 n ≡ kept_of P x.0 n)
+    → overdue p (P ++ s ∷ []) x.0 ≡ tag x.1 es
+plain_overdue p P s x es all settled given plain no_give here others =
+    let T : List Step = P ++ s ∷ [] in
+    let none : All (λ n. kept_of P x.0 n ≡ []) (hand P x.0) =
+    tagged_nil (kept_of P x.0) (hand P x.0) (ap (tagged (kept_of P x.0)) (sym (late_plain p P x.0 plain)) ∙ settled_overdue p P settled x.0) in
+    ap (tagged (kept_of T x.0)) (late_plain p T x.0 plain ∙ hand-none P x.0 s no_give)
+    ∙ tagged_single (kept_of T x.0) (hand P x.0) x.1 es ((Single-allowed p P all).facts.once x.0) given
+    (here ∙ ap (λ ds. ds ++ es) (All-has (λ n. kept_of P x.0 n ≡ []) x.1 (hand P x.0) none given))
+    (λ k d lt differs. others (get_or (hand P x.0) k d) (is_pair-number x.0 (get_or (hand P x.0) k d) x (λ e. differs (sym e))) ∙ none k d lt)
 
 pub done_overdue_other : (p : Plan) (P : List Step) (l : ℕ) (o : Outcome) (x : ℕ × ℕ) (q : ℕ) → IsSettled p P → next_pair P l ≡ Some x → x.0 ≢ q
     → overdue p (P ++ Done l o ∷ []) q ≡ []
@@ -210,16 +210,11 @@ done_overdue_other p P l o x q settled next differs =
 pub done_overdue_plain : (p : Plan) (P : List Step) (l : ℕ) (o : Outcome) (x : ℕ × ℕ) → AllowedAfter p [] P → IsSettled p P → next_pair P l ≡ Some x
     → is_ordered (queue_of p x.0).kind ≡ false → overdue p (P ++ Done l o ∷ []) x.0 ≡ tag x.1 (events_of o)
 done_overdue_plain p P l o x all settled next plain =
-    let T : List Step = P ++ Done l o ∷ [] in
-    let f : Facts p P = (Single-allowed p P all).facts in
-    let none : All (λ n. kept_of P x.0 n ≡ []) (hand P x.0) =
-    tagged_nil (kept_of P x.0) (hand P x.0) (ap (tagged (kept_of P x.0)) (sym (late_plain p P x.0 plain)) ∙ settled_overdue p P settled x.0) in
-    ap (tagged (kept_of T x.0)) (late_plain p T x.0 plain ∙ hand-none P x.0 (Done l o) refl)
-    ∙ tagged_single (kept_of T x.0) (hand P x.0) x.1 (events_of o) (f.once x.0) (next_pair_is_given p P l x f next) (answered_kept p P l o x all next)
-    (λ k d lt differs. done_kept_other P l o x x.0 (get_or (hand P x.0) k d) next
-    (is_pair-number x.0 (get_or (hand P x.0) k d) x (λ e. differs (sym e))) ∙ none k d lt)
+    plain_overdue p P (Done l o) x (events_of o) all settled (next_pair_is_given p P l x (Single-allowed p P all).facts next) plain refl
+    (kept_grows P (Done l o) x.0 x.1 (events_of o) (taken_allowed p P all x.0 x.1) refl (done_forwards P l o x next))
+    (λ n other. done_kept_other P l o x x.0 n next other)
 
--- of an ordered queue, what the places that leave were forwarded as
+-- of an ordered queue, what the places that leave were passed on as
 pub done_overdue_ordered : (p : Plan) (P : List Step) (l : ℕ) (o : Outcome) (x : ℕ × ℕ) → AllowedAfter p [] P → IsSettled p P → next_pair P l ≡ Some x
     → is_ordered (queue_of p x.0).kind ≡ true
     → overdue p (P ++ Done l o ∷ []) x.0 ≡ tagged (forwards (P ++ Done l o ∷ []) x.0)

@@ -5,17 +5,17 @@ use Rattle.std.proofs.Common.{refl, sym, ap, ◌∙◌, arith}
 use Rattle.std.proofs.lemmas.List.Elements.{All-head, All-tail}
 use Rattle.std.proofs.lemmas.List.Sums.{sum_by-cons}
 use Rattle.transcripts.proofs.Account.{HasLane}
-use Rattle.transcripts.proofs.Replies.{said_of, said_in-new, said_in-new_other, said_in-turned, said_in-turned_other, said_in-done, said_in-done_other}
+use Rattle.transcripts.proofs.Replies.{said_of, said_in-new, said_in-new_other, said_in-turned, said_in-turned_other, said_in-done, said_in-done_other, said_in-more, said_in-more_other}
 use Rattle.lists.proofs.Sums.{sum_agree, sum_changed}
 use Rattle.evt_types.specs.Plan.{Plan, lanes, lanes_of}
-use Rattle.transcripts.specs.Replies.{Said, said_by, said_in, replies_in, new_count, turned_count, release_count}
-use Rattle.evt_types.specs.Operation.{is_new_op, is_release_op}
-use Rattle.transcripts.specs.Transcript.{is_new, is_turned, is_release}
+use Rattle.transcripts.specs.Replies.{Said, said_by, said_in, replies_in, new_count, turned_count, release_count, more_count}
+use Rattle.evt_types.specs.Operation.{is_new_op, is_release_op, is_more_op}
+use Rattle.transcripts.specs.Transcript.{is_new, is_turned, is_release, is_more}
 use Rattle.evt_types.specs.declared.event.Op.TheVariants as ops
 use Rattle.evt_types.specs.declared.step.Outcome.TheVariants.{Forwarded, Released}
 use Rattle.evt_types.specs.declared.step.Source.TheVariants.{New, Of}
 use Rattle.evt_types.specs.declared.step.Step.{Step}
-use Rattle.evt_types.specs.declared.step.Step.TheVariants.{Accept, Give, Done, Turned, Bounced, Shut}
+use Rattle.evt_types.specs.declared.step.Step.TheVariants.{Accept, Give, Done, More, Turned, Bounced, Shut}
 
 -- ---- sums
 
@@ -46,6 +46,7 @@ step_weight w (Accept q e (New l)) = w (said_by ops.New e)
 step_weight w (Accept q e (Of r n)) = 0
 step_weight w (Give l q n) = 0
 step_weight w (Done l o) = w (said_of o)
+step_weight w (More l e) = w (said_by ops.ForwardMore e)
 step_weight w (Turned l e) = w (said_by ops.New e)
 step_weight w (Bounced l) = 0
 step_weight w Shut = 0
@@ -63,6 +64,8 @@ one_step p w (Accept q e (Of r n)) there = sum_zero (λ m. 0) (lanes p) (λ k d 
 one_step p w (Give l q n) there = sum_zero (λ m. 0) (lanes p) (λ k d l. refl)
 one_step p w (Done l o) there =
     sum_hit (λ m. weight_if w (said_in m (Done l o))) (lanes_of p) l (w (said_of o)) there (ap (weight_if w) (said_in-done l o)) (λ m other. ap (weight_if w) (said_in-done_other m l o (λ same. other (sym same))))
+one_step p w (More l e) there =
+    sum_hit (λ m. weight_if w (said_in m (More l e))) (lanes_of p) l (w (said_by ops.ForwardMore e)) there (ap (weight_if w) (said_in-more l e)) (λ m other. ap (weight_if w) (said_in-more_other m l e (λ same. other (sym same))))
 one_step p w (Turned l e) there =
     sum_hit (λ m. weight_if w (said_in m (Turned l e))) (lanes_of p) l (w (said_by ops.New e)) there (ap (weight_if w) (said_in-turned l e)) (λ m other. ap (weight_if w) (said_in-turned_other m l e (λ same. other (sym same))))
 one_step p w (Bounced l) there = sum_zero (λ m. 0) (lanes p) (λ k d l. refl)
@@ -78,7 +81,7 @@ replies_sum p w (s ∷ T) there =
     let split = sum_agree (λ l. sum_by w (replies_in (s ∷ T) l)) (λ l. weight_if w (said_in l s) + sum_by w (replies_in T l)) (lanes p) (λ k d l. weight_cons w (said_in (slice_index_or (lanes p) k d) s) (replies_in T (slice_index_or (lanes p) k d))) in
     omega (arith, split, sum_plus (λ l. weight_if w (said_in l s)) (λ l. sum_by w (replies_in T l)) (lanes p), one_step p w s (All-head (HasLane p) s T there), replies_sum p w T (All-tail (HasLane p) s T there), sum_by-cons (step_weight w) s T)
 
--- ---- NEWs and RELEASEs
+-- ---- NEWs, RELEASEs and FORWARD_MOREs
 
 abbrev pub is_new_said : Said → Bool
 is_new_said x = is_new_op x.op
@@ -86,12 +89,16 @@ is_new_said x = is_new_op x.op
 abbrev pub is_release_said : Said → Bool
 is_release_said x = is_release_op x.op
 
+abbrev pub is_more_said : Said → Bool
+is_more_said x = is_more_op x.op
+
 news_weight : (s : Step) → step_weight (λ x. cond (is_new_said x) 1 0) s ≡ cond (is_new s) 1 0 + cond (is_turned s) 1 0
 news_weight (Accept q e (New l)) = refl
 news_weight (Accept q e (Of r n)) = refl
 news_weight (Give l q n) = refl
 news_weight (Done l (Forwarded e)) = refl
 news_weight (Done l Released) = refl
+news_weight (More l e) = refl
 news_weight (Turned l e) = refl
 news_weight (Bounced l) = refl
 news_weight Shut = refl
@@ -102,9 +109,21 @@ releases_weight (Accept q e (Of r n)) = refl
 releases_weight (Give l q n) = refl
 releases_weight (Done l (Forwarded e)) = refl
 releases_weight (Done l Released) = refl
+releases_weight (More l e) = refl
 releases_weight (Turned l e) = refl
 releases_weight (Bounced l) = refl
 releases_weight Shut = refl
+
+mores_weight : (s : Step) → step_weight (λ x. cond (is_more_said x) 1 0) s ≡ cond (is_more s) 1 0
+mores_weight (Accept q e (New l)) = refl
+mores_weight (Accept q e (Of r n)) = refl
+mores_weight (Give l q n) = refl
+mores_weight (Done l (Forwarded e)) = refl
+mores_weight (Done l Released) = refl
+mores_weight (More l e) = refl
+mores_weight (Turned l e) = refl
+mores_weight (Bounced l) = refl
+mores_weight Shut = refl
 
 -- the NEWs of all lanes were accepted or turned away
 pub news_by_lane : (p : Plan) (T : List Step) → All (HasLane p) T → sum_by (λ l. count_by is_new_said (replies_in T l)) (lanes p) ≡ new_count T + turned_count T
@@ -115,3 +134,8 @@ news_by_lane p T there =
 pub releases_by_lane : (p : Plan) (T : List Step) → All (HasLane p) T → sum_by (λ l. count_by is_release_said (replies_in T l)) (lanes p) ≡ release_count T
 releases_by_lane p T there =
     replies_sum p (λ x. cond (is_release_said x) 1 0) T there ∙ sum_agree (step_weight (λ x. cond (is_release_said x) 1 0)) (λ s. cond (is_release s) 1 0) T (λ k d l. releases_weight (slice_index_or T k d))
+
+-- the FORWARD_MOREs of all lanes
+pub mores_by_lane : (p : Plan) (T : List Step) → All (HasLane p) T → sum_by (λ l. count_by is_more_said (replies_in T l)) (lanes p) ≡ more_count T
+mores_by_lane p T there =
+    replies_sum p (λ x. cond (is_more_said x) 1 0) T there ∙ sum_agree (step_weight (λ x. cond (is_more_said x) 1 0)) (λ s. cond (is_more s) 1 0) T (λ k d l. mores_weight (slice_index_or T k d))

@@ -11,11 +11,11 @@ use Rattle.evt_types.specs.declared.step.Outcome.TheVariants.{Forwarded, Release
 use Rattle.evt_types.specs.declared.step.Source.{Source}
 use Rattle.evt_types.specs.declared.step.Source.TheVariants.{New, Of}
 use Rattle.evt_types.specs.declared.step.Step.{Step}
-use Rattle.evt_types.specs.declared.step.Step.TheVariants.{Accept, Give, Done, Turned, Bounced, Shut}
+use Rattle.evt_types.specs.declared.step.Step.TheVariants.{Accept, Give, Done, More, Turned, Bounced, Shut}
 use Rattle.lists.proofs.Sums.{sum_same, sum_changed, sum_of_none}
 use Rattle.transcripts.proofs.Facts.{Facts, Facts-none, Facts-push, AllowedAfter_keeps, gives_accepted}
 use Rattle.transcripts.proofs.Insides.{kept_sum, kept_same, kept_given, kept_one_less, kept_more_le}
-use Rattle.transcripts.proofs.Pushes.{accepted_in-same, accepted_in-other, accepted-some, accepted-none, next_pair-some}
+use Rattle.transcripts.proofs.Pushes.{accepted_in-same, accepted_in-other, accepted-some, accepted-none, next_pair-some, sending_done, sending_more}
 use Rattle.transcripts.proofs.ViewTells.{entries_is}
 use Rattle.transcripts.proofs.Whole.{steps-Lawful}
 
@@ -81,8 +81,18 @@ entries_push p P (Give l q n) f a =
 entries_push p P (Done l (Forwarded e)) f a =
     let s = Done l (Forwarded e) in
     let next = next_pair-some P l a.needs in
-    omega (arith, entries_are p P, entries_are p (P ++ s ∷ []), accepted_same p P s (λ r. refl), kept_more_le p P l next.0 e f next.1)
+    omega (arith, entries_are p P, entries_are p (P ++ s ∷ []), accepted_same p P s (λ r. refl), kept_more_le p P s next.0 e f (sending_done P l next.0 e next.1))
 entries_push p P (Done l Released) f a = entries_still p P (Done l Released) (λ r. refl) (kept_same p P (Done l Released) (λ r. refl) refl (λ r n. refl))
+entries_push p P (More l e) f a =
+    let s = More l e in
+    let next = next_pair-some P l a.needs.beside in
+    omega (
+      arith,
+      entries_are p P,
+      entries_are p (P ++ s ∷ []),
+      accepted_same p P s (λ r. refl),
+      kept_more_le p P s next.0 e f (sending_more P l next.0 e next.1),
+    )
 entries_push p P (Turned l e) f a = entries_still p P (Turned l e) (λ r. refl) (kept_same p P (Turned l e) (λ r. refl) refl (λ r n. refl))
 entries_push p P (Bounced l) f a = entries_still p P (Bounced l) (λ r. refl) (kept_same p P (Bounced l) (λ r. refl) refl (λ r n. refl))
 entries_push p P Shut f a = entries_still p P Shut (λ r. refl) (kept_same p P Shut (λ r. refl) refl (λ r n. refl))

@@ -6,7 +6,7 @@
 --     answers      the lane has at most as many answers as it was given pairs
 --     queues       the queue of each pair that the lane was given is there
 --     out          and its number is in that queue's hand
---     ended, sent  each pair that was answered, or forwarded, is in its queue's hand
+--     ended, sent  each pair that was answered, or passed on, is in its queue's hand
 --     sources      each number from which an event was accepted is in hand T q
 use Rattle.std.proofs.Common.{◌≡◌, ◌≢◌, ℕ, zero, suc, ◌<◌, ◌≤◌, true, false, List, [], ◌∷◌, ◌++◌, length, take, All, AllPairs, Option, Some, None, slice_get, ◌⊎◌, inl, inr, ⊎_elim, refl, sym, ap, ◌∙◌, subst, arith, append_assoc, append-nil, get_or}
 use Rattle.std.specs.List.{cons_option}
@@ -22,7 +22,7 @@ use Rattle.evt_types.specs.declared.step.Outcome.{Outcome}
 use Rattle.evt_types.specs.declared.event.Event.{Event}
 use Rattle.evt_types.specs.declared.step.Step.{Step}
 use Rattle.lists.proofs.Lists.{filter_map-none, list_any-none, has-more, has-last, All-has, All-slice_get, All-option, AllPairs-option, All-differs, option_length}
-use Rattle.transcripts.proofs.Pushes.{HasEvent, given_to_is, answer_of_is, given_of_is, source_in_is, ends_is, sends_ends, given_of-same, sent_for-other, is_pair_is, accepted-length_more, out-push, answers-push, answers-none, hand-push, hand-some, sources-push, ended-push, sent-push, length-unanswered}
+use Rattle.transcripts.proofs.Pushes.{HasEvent, given_to_is, answer_of_is, given_of_is, source_in_is, ends_is, sends_is, given_of-same, sent_for-other, is_pair_is, accepted-length_more, out-push, answers-push, answers-none, hand-push, hand-some, sources-push, ended-push, sent-push, length-unanswered}
 use Rattle.transcripts.proofs.Waits.{waiting_is_accepted, waiting_is_not_given}
 
 -- ---- steps that are allowed one after another
@@ -95,7 +95,7 @@ other_pair T q n x h k =
     (false≢true (sym h ∙ (ap (λ m. has m (hand T q)) (sym parts.1) ∙ (ap (λ r. has x.1 (hand T r)) (sym parts.0) ∙ k))))) (λ other. other)
     (cases_Bool (is_pair q n x))
 
--- a number that isn't in hand was neither answered nor forwarded
+-- a number that isn't in hand was neither answered nor passed on
 pub not_answered : (p : Plan) (T : List Step) (q n : ℕ) → Facts p T → has n (hand T q) ≡ false → is_answered T q n ≡ false
 not_answered p T q n f h =
     list_any-none (is_pair q n) (ended T) (All-weaker (IsGiven T) (λ x. is_pair q n x ≡ false) (λ x k. other_pair T q n x h k) (ended T) f.ended)
@@ -106,7 +106,7 @@ no_forwards p T q n f h =
     filter_map-none (sent_for q n) (sent T) (All-weaker (λ (y : (ℕ × ℕ) × Event). has y.0.1 (hand T y.0.0) ≡ true) (λ y. sent_for q n y ≡ None)
     (λ y k. sent_for-other q n y.0 y.1 (other_pair T q n y.0 h k)) (sent T) f.sent)
 
--- what was forwarded from a number has it in hand
+-- what was passed on from a number has it in hand
 pub forwarded_is_given : (p : Plan) (T : List Step) (q n k : ℕ) (e : Event) → Facts p T → slice_get (forwards T q n) k ≡ Some e
     → has n (hand T q) ≡ true
 forwarded_is_given p T q n k e f h =
@@ -175,7 +175,7 @@ Facts-push p P s f a = record {
   sent =
       rw (sent-push P s) (All-option (λ (y : (ℕ × ℕ) × Event). has y.0.1 (hand (P ++ s ∷ []) y.0.0) ≡ true) (sent P) (sends P s)
       (All-weaker (λ (y : (ℕ × ℕ) × Event). has y.0.1 (hand P y.0.0) ≡ true) (λ y. has y.0.1 (hand (P ++ s ∷ []) y.0.0) ≡ true)
-      (λ y h. hand_more P y.0.0 y.0.1 s h) (sent P) f.sent) (λ y e. new_ended y.0 (sends_ends P s y.0 y.1 e)));
+      (λ y h. hand_more P y.0.0 y.0.1 s h) (sent P) f.sent) new_sent);
   sources =
       λ q. rw (sources-push P q s) (All-option (λ n. has n (hand (P ++ s ∷ []) q) ≡ true) (sources P q) (source_in q s)
       (All-weaker (λ n. has n (hand P q) ≡ true) (λ n. has n (hand (P ++ s ∷ []) q) ≡ true) (λ n h. hand_more P q n s h) (sources P q) (f.sources q))
@@ -199,6 +199,10 @@ Facts-push p P s f a = record {
 
     new_ended : (x : ℕ × ℕ) → ends P s ≡ Some x → has x.1 (hand (P ++ s ∷ []) x.0) ≡ true
     new_ended x e = let done = ends_is P s x e in hand_more P x.0 x.1 s (next_pair_is_given p P done.0 x f done.3)
+
+    new_sent : (y : (ℕ × ℕ) × Event) → sends P s ≡ Some y → has y.0.1 (hand (P ++ s ∷ []) y.0.0) ≡ true
+    new_sent y e =
+        let sending = sends_is P s y.0 y.1 e in hand_more P y.0.0 y.0.1 s (next_pair_is_given p P sending.lane y.0 f sending.next)
 
     new_source : (q n : ℕ) → source_in q s ≡ Some n → has n (hand (P ++ s ∷ []) q) ≡ true
     new_source q n e =

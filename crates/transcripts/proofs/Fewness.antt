@@ -1,19 +1,21 @@
--- How many steps a reply takes: two at most beside the kept events that leave. And how many events are kept: no more than the
--- ordered queues have places.
-use Rattle.std.proofs.Common.{◌≡◌, ◌≢◌, ℕ, suc, ◌+◌, ◌<◌, ◌≤◌, Bool, true, false, cond, ◌==◌, List, [], ◌∷◌, ◌++◌, length, map, drop, set, flat_map, get_or, All, AllPairs, Contains, Option, Some, None, sum_by, ◌⊎◌, inl, inr, refl, sym, ap, ◌∙◌, arith}
+-- How many steps a reply takes: two at most beside the kept events that leave. And how many events are kept: no more than five for
+-- each place of the ordered queues.
+use Rattle.std.proofs.Common.{◌≡◌, ◌≢◌, ℕ, suc, ◌+◌, ◌*◌, ◌<◌, ◌≤◌, Bool, true, false, cond, ◌==◌, List, [], ◌∷◌, ◌++◌, length, map, drop, set, flat_map, get_or, All, AllPairs, Contains, Option, Some, None, sum_by, ◌⊎◌, inl, inr, refl, sym, ap, ◌∙◌, arith}
 use Rattle.std.specs.List.{prefix_len}
-use Rattle.std.proofs.lemmas.Bool.{cases_Bool, cases_eq, cond-true, cond-false, false≢true}
-use Rattle.std.proofs.lemmas.List.{length-append, length-map, length-take-le}
+use Rattle.std.proofs.lemmas.Bool.{cases_eq, cond-true, cond-false, false≢true}
+use Rattle.std.proofs.lemmas.List.{length-append, length_push, length-map, length-take-le}
 use Rattle.std.proofs.lemmas.List.Concat.{length-flat_map}
 use Rattle.std.proofs.lemmas.List.Elements.{All-head, All-tail}
 use Rattle.std.proofs.lemmas.List.FromFn.{length-map-range_with_len}
 use Rattle.std.proofs.lemmas.List.Sums.{prefix_len-le-length, sum_by-cons, sum_by-le, sum_by-set, sum_by-take-drop}
 use Rattle.std.proofs.lemmas.Option.{slice_get_within, get_or_from_slice_get}
 use Rattle.evt_types.specs.Plan.{queue_of, lanes_of, is_ordered, kept_room}
-use Rattle.transcripts.specs.Standing.{View, Stands, view_of, places, places_at, unanswered_at, oldest_at, kept_in, events_of, answer_place, answered_places, leaving, staying, accepts_from, accepts_of, answer_steps, steps_by, steps_of, places_after, after_done, after_step, after}
+use Rattle.transcripts.specs.Standing.{View, Stands, view_of, places, places_at, unanswered_at, oldest_at, kept_in, events_of, answer_place, answered_places, leaving, staying, accepts_from, accepts_of, answer_steps, more_steps, added_of, add_to_place, steps_by, steps_of, places_after, places_with, after_done, after_more, after_step, after}
 use Rattle.evt_types.specs.Place.{Place}
 use Rattle.transcripts.specs.Transcript.{Held, is_from_of}
+use Rattle.evt_types.specs.declared.draft.QueueDraft.{QueueDraft}
 use Rattle.evt_types.specs.declared.event.Event.{Event}
+use Rattle.evt_types.specs.declared.event.TheConstants.{MAX_FORWARDS}
 use Rattle.evt_types.specs.declared.event.Kind.TheVariants.{Parallel}
 use Rattle.evt_types.specs.declared.event.Op.{Op}
 use Rattle.evt_types.specs.declared.event.Op.TheVariants as ops
@@ -21,11 +23,12 @@ use Rattle.evt_types.specs.declared.step.Outcome.{Outcome}
 use Rattle.evt_types.specs.declared.step.Outcome.TheVariants.{Forwarded, Released}
 use Rattle.evt_types.specs.declared.step.Source.TheVariants.{New, Of}
 use Rattle.evt_types.specs.declared.step.Step.{Step}
-use Rattle.evt_types.specs.declared.step.Step.TheVariants.{Accept, Give, Done, Turned, Bounced, Shut}
+use Rattle.evt_types.specs.declared.step.Step.TheVariants.{Accept, Give, Done, More, Turned, Bounced, Shut}
 use Rattle.transcripts.proofs.AnsweredPlaces.{places_plain}
 use Rattle.lists.proofs.Lists.{eqb_same, eqb_other}
-use Rattle.transcripts.proofs.PlaceFacts.{Differ, answer_none, places_differ, place_forwards, places_fit, held_has_place}
-use Rattle.transcripts.proofs.Replies.{accepts_of-of}
+use Rattle.transcripts.proofs.PlaceFacts.{Differ, answer_none, add_none, places_differ, place_forwards, places_fit, held_has_place}
+use Rattle.transcripts.proofs.Pushes.{events_few}
+use Rattle.transcripts.proofs.Replies.{accepts_of-of, added_of-of}
 use Rattle.lists.proofs.Sums.{sum_agree}
 use Rattle.transcripts.proofs.WholeStands.{places_is}
 
@@ -41,7 +44,14 @@ sums_below f g d e (x ∷ xs) (y ∷ ys) same below =
     let here : f x ≤ g y = below 0 (omega arith) in
     omega (arith, sum_by-cons f x xs, sum_by-cons g y ys)
 
--- ---- what places were forwarded as
+-- each term a number of times
+sum_times : {X : Type 0} (c : ℕ) (f : X → ℕ) (xs : List X) → sum_by (λ x. c * f x) xs ≡ c * sum_by f xs
+sum_times c f [] = omega arith
+sum_times c f (x ∷ xs) =
+    let both : c * sum_by f (x ∷ xs) ≡ c * (f x + sum_by f xs) = ap (λ n. c * n) (sum_by-cons f x xs) in
+    omega (arith, sum_by-cons (λ y. c * f y) x xs, both, sum_times c f xs)
+
+-- ---- what places were passed on as
 
 abbrev sent_as : Place → ℕ
 sent_as x = length x.forwards
@@ -56,15 +66,11 @@ left_and_stayed ps =
     let same : length (leaving ps) ≡ k = length-take-le k ps (prefix_len-le-length (λ (x : Place). x.answered) ps) in
     ap (λ n. sent_by (leaving ps) + sent_by (drop n ps)) same ∙ sum_by-take-drop sent_as ps k
 
--- an event is accepted for each that the places were forwarded as
+-- an event is accepted for each that the places were passed on as
 accepts_count : (q : ℕ) (ps : List Place) → length (flat_map (λ (x : Place). accepts_from q x.number x.forwards) ps) ≡ sent_by ps
 accepts_count q ps =
     length-flat_map (λ (x : Place). accepts_from q x.number x.forwards) ps
     ∙ sum_agree (λ (x : Place). length (accepts_from q x.number x.forwards)) sent_as ps (λ k d lt. length-map (get_or ps k d).forwards _)
-
-events_few : (o : Outcome) → length (events_of o) ≤ 1
-events_few (Forwarded e) = omega arith
-events_few Released = omega arith
 
 -- of places with different numbers an answer adds one event at most
 answered_few : (n : ℕ) (o : Outcome) (ps : List Place) → AllPairs Differ ps → sent_by (map (answer_place n o) ps) ≤ sent_by ps + 1
@@ -95,13 +101,42 @@ answered_few n o (x ∷ ps) differ =
         let first : answer_place n o x ≡ x = cond-false (x.number == n) new x (eqb_other x.number n other) in
         omega (arith, sum_by-cons sent_as (answer_place n o x) rest, ap sent_as first, more, sum_by-cons sent_as x ps)
 
+-- and so does an addition
+added_few : (n : ℕ) (e : Event) (ps : List Place) → AllPairs Differ ps → sent_by (map (add_to_place n e) ps) ≤ sent_by ps + 1
+added_few n e [] differ = omega arith
+added_few n e (x ∷ ps) differ =
+    by_number (added_few n e ps (λ i j d lt within. differ (suc i) (suc j) d (omega arith) (omega arith))) (cases_eq x.number n)
+  where
+    new : Place
+    new = record { number = n; answered = x.answered; forwards = x.forwards ++ e ∷ [] }
+
+    rest : List Place
+    rest = map (add_to_place n e) ps
+
+    by_number : sent_by rest ≤ sent_by ps + 1 → (x.number ≡ n) ⊎ (x.number ≢ n) → sent_by (map (add_to_place n e) (x ∷ ps)) ≤ sent_by (x ∷ ps) + 1
+    by_number more (inl same) =
+        let first : add_to_place n e x ≡ new = cond-true (x.number == n) new x (ap (λ m. m == n) same ∙ eqb_same n) in
+        let others : rest ≡ ps = add_none ps n e (λ k d lt is. differ 0 (suc k) d (omega arith) (omega arith) (same ∙ sym is)) in
+        omega (
+          arith,
+          sum_by-cons sent_as (add_to_place n e x) rest,
+          ap sent_as first,
+          ap sent_by others,
+          length_push x.forwards e,
+          sum_by-cons sent_as x ps,
+        )
+    by_number more (inr other) =
+        let first : add_to_place n e x ≡ x = cond-false (x.number == n) new x (eqb_other x.number n other) in
+        omega (arith, sum_by-cons sent_as (add_to_place n e x) rest, ap sent_as first, more, sum_by-cons sent_as x ps)
+
 -- ---- what is kept
 
--- an event that is accepted from a forward leaves the places as they are
+-- an event that was passed on and is accepted leaves the places as they are
 accept_keeps : (v : View) (s : Step) → is_from_of s ≡ true → (after_step v s).places ≡ v.places
 accept_keeps v (Accept q e c) h = refl
 accept_keeps v (Give l q n) h = absurd (false≢true h)
 accept_keeps v (Done l o) h = absurd (false≢true h)
+accept_keeps v (More l e) h = absurd (false≢true h)
 accept_keeps v (Turned l e) h = refl
 accept_keeps v (Bounced l) h = refl
 accept_keeps v Shut h = refl
@@ -114,21 +149,24 @@ accepts_keep v (s ∷ steps) all =
 
 -- ---- what the bounds need of a view
 
--- An ordered queue has no more places than its order, of different numbers, each forwarded once at most; another has none. What a
--- lane's oldest event is to answer is of a queue that is there.
+-- An ordered queue has no more places than its order, of different numbers, each passed on as five events at most; another has none.
+-- What a lane's oldest event is to answer is of a queue that is there.
 pub record AreSound (v : View) : Type 0 where
   pub long : length v.places ≡ length v.shape.queues
   pub differ : (q : ℕ) → q < length v.shape.queues → AllPairs Differ (places_at v q)
-  pub one : (q : ℕ) → q < length v.shape.queues → All (λ (x : Place). length x.forwards ≤ 1) (places_at v q)
+  pub few : (q : ℕ) → q < length v.shape.queues → All (λ (x : Place). length x.forwards ≤ MAX_FORWARDS) (places_at v q)
   pub fit : (q : ℕ) → q < length v.shape.queues → length (places_at v q) ≤ kept_room (queue_of v.shape q)
   pub there : (l : ℕ) (h : Held) → l < lanes_of v.shape → is_ordered (queue_of v.shape h.queue).kind ≡ true → oldest_at v l ≡ Some h → h.queue < length v.shape.queues
 
--- no more events are kept than the ordered queues have places
-pub sound_kept : (v : View) → AreSound v → kept_in v ≤ sum_by kept_room v.shape.queues
+-- no more events are kept than five for each place of the ordered queues
+pub sound_kept : (v : View) → AreSound v → kept_in v ≤ MAX_FORWARDS * sum_by kept_room v.shape.queues
 sound_kept v sound =
-    sums_below sent_by kept_room [] (record { kind = Parallel; priority = 0; slots = 0; order = 0; single = false }) v.places v.shape.queues sound.long
+    let most : kept_in v ≤ sum_by (λ (q : QueueDraft). MAX_FORWARDS * kept_room q) v.shape.queues =
+    sums_below sent_by (λ (q : QueueDraft). MAX_FORWARDS * kept_room q) []
+    (record { kind = Parallel; priority = 0; slots = 0; order = 0; single = false }) v.places v.shape.queues sound.long
     (λ q lt. let there : q < length v.shape.queues = omega (arith, sound.long) in
-    omega (arith, sum_by-le sent_as 1 (places_at v q) (sound.one q there), sound.fit q there))
+    omega (arith, sum_by-le sent_as MAX_FORWARDS (places_at v q) (sound.few q there), sound.fit q there)) in
+    omega (arith, most, sum_times MAX_FORWARDS kept_room v.shape.queues)
 
 -- ---- the steps of a reply
 
@@ -172,6 +210,32 @@ answer_few v l o sound lane =
         by_kind true ordered = restored h is ordered
         by_kind false plain = omega (arith, length-map (events_of o) (λ (e : Event). Accept e.queue e (Of h.queue h.number)), events_few o)
 
+-- an event is added: it goes into a place, or it is accepted
+more_few : (v : View) (l : ℕ) (e : Event) → AreSound v → l < lanes_of v.shape
+    → length (more_steps v l e) + kept_in (after v (more_steps v l e)) ≤ kept_in v + 2
+more_few v l e sound lane =
+    omega (
+      arith,
+      ap (sum_by sent_by) (accepts_keep (after_more v l e) (added_of v (oldest_at v l) e) (added_of-of v (oldest_at v l) e)),
+      by_oldest (oldest_at v l) refl,
+    )
+  where
+    by_oldest : (h : Option Held) → oldest_at v l ≡ h → length (added_of v h e) + sum_by sent_by (places_with v h e) ≤ kept_in v + 1
+    by_oldest None is = omega arith
+    by_oldest (Some h) is = by_kind (is_ordered (queue_of v.shape h.queue).kind) refl
+      where
+        by_kind : (b : Bool) → is_ordered (queue_of v.shape h.queue).kind ≡ b → length (cond b [] (accepts_from h.queue h.number (e ∷ [])))
+            + sum_by sent_by (cond b (set v.places h.queue (map (add_to_place h.number e) (places_at v h.queue))) v.places) ≤ kept_in v + 1
+        by_kind true ordered =
+            let there : h.queue < length v.shape.queues = sound.there l h lane ordered is in
+            let grown : List Place = map (add_to_place h.number e) (places_at v h.queue) in
+            omega (
+              arith,
+              sum_by-set sent_by v.places h.queue grown [] (omega (arith, sound.long)),
+              added_few h.number e (places_at v h.queue) (sound.differ h.queue there),
+            )
+        by_kind false plain = omega arith
+
 reply_few : (v : View) (l : ℕ) (e : Event) → AreSound v → l < lanes_of v.shape → (o : Op)
     → length (steps_by o v l e) + kept_in (after v (steps_by o v l e)) ≤ kept_in v + 2
 reply_few v l e sound lane ops.New = by_shut v.shut
@@ -183,6 +247,7 @@ reply_few v l e sound lane ops.New = by_shut v.shut
     by_shut false = omega arith
 reply_few v l e sound lane ops.Forward = answer_few v l (Forwarded e) sound lane
 reply_few v l e sound lane ops.Release = answer_few v l Released sound lane
+reply_few v l e sound lane ops.ForwardMore = more_few v l e sound lane
 
 -- the steps of a reply and the events that are kept after them are two at most beside those that were kept
 pub sound_steps : (v : View) (l : ℕ) (e : Event) → AreSound v → l < lanes_of v.shape
@@ -206,14 +271,14 @@ stands_sound v T stands =
     record {
       long = places_long v T stands;
       differ = λ q h. places_differ v T q stands h;
-      one = λ q h k d lt. (place_forwards v T q stands h k d lt).0;
+      few = λ q h k d lt. (place_forwards v T q stands h k d lt).0;
       fit = λ q h. stands_fit v T q stands h (is_ordered (queue_of v.shape q).kind) refl;
       there = λ l h lane ordered is.
           let oldest : Contains (unanswered_at v l) h = (0, slice_get_within (unanswered_at v l) 0 h is, get_or_from_slice_get (unanswered_at v l) 0 h h is) in
           (held_has_place v T l h stands lane oldest ordered).0;
     }
 
-pub kept_fit : (v : View) (T : List Step) → Stands T v → kept_in v ≤ sum_by kept_room v.shape.queues
+pub kept_fit : (v : View) (T : List Step) → Stands T v → kept_in v ≤ MAX_FORWARDS * sum_by kept_room v.shape.queues
 kept_fit v T stands = sound_kept v (stands_sound v T stands)
 
 pub steps_fit : (v : View) (T : List Step) (l : ℕ) (e : Event) → Stands T v → l < lanes_of v.shape

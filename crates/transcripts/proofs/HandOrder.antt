@@ -1,7 +1,7 @@
--- The order of a hand-out: the numbers from which events were accepted never step back in it, and of a front that is answered
--- nothing is kept.
-use Rattle.std.proofs.Common.{◌≡◌, ◌≢◌, ℕ, zero, suc, ◌<◌, Bool, true, false, ◌||◌, ◌==◌, List, [], ◌∷◌, take, take_while, get_or, All, AllPairs, Contains, Some, slice_get, ◌⊎◌, inl, inr, sym, ap, ◌∙◌, subst, arith}
-use Rattle.std.proofs.lemmas.Bool.{cases_Bool, false≢true, cond-true, cond-false}
+-- The order of a hand-out: the numbers from which events were accepted never step back in it, they step forward where no event was
+-- added, and of a front that is answered nothing is kept.
+use Rattle.std.proofs.Common.{◌≡◌, ◌≢◌, ℕ, zero, suc, ◌<◌, ◌≤◌, Bool, true, false, ◌||◌, ◌==◌, List, [], ◌∷◌, take, take_while, get_or, All, AllPairs, Contains, Some, slice_get, ◌⊎◌, inl, inr, ⊎_elim, sym, ap, ◌∙◌, subst, arith}
+use Rattle.std.proofs.lemmas.Bool.{cases_Bool, cases_eq, false≢true, cond-true, cond-false}
 use Rattle.std.proofs.lemmas.List.Elements.{All-nil, All-cons, All-head, All-tail, All-weaker, All-take}
 use Rattle.std.proofs.lemmas.List.Sums.{take_while-cons}
 use Rattle.std.proofs.lemmas.Option.{none-some, same_Some, slice_get_within, get_or_from_slice_get}
@@ -10,12 +10,14 @@ use Rattle.lists.specs.Lists.{has}
 use Rattle.transcripts.specs.Transcript.{hand, sources, kept_of, is_answered}
 use Rattle.lists.specs.Lists.{upto}
 use Rattle.transcripts.specs.Lawful.{Lawful}
-use Rattle.transcripts.specs.Laws.{IsAnsweredTo, KeepsNoneTo, NeverStepsBack}
+use Rattle.transcripts.specs.Laws.{AddsNone, IsAnsweredTo, KeepsNoneTo, NeverStepsBack, StepsForward}
 use Rattle.evt_types.specs.declared.step.Step.{Step}
 use Rattle.lists.proofs.Lists.{eqb_same, eqb_other, has-Contains}
 use Rattle.lists.proofs.Fronts.{tagged_nil}
+use Rattle.lists.proofs.Once.{once_place}
 use Rattle.transcripts.proofs.Overdue.{late_of, late_ordered, late_plain, settled_overdue}
-use Rattle.transcripts.proofs.Sources.{Single-allowed, accepted_once}
+use Rattle.transcripts.proofs.Once.{Single-allowed}
+use Rattle.transcripts.proofs.Sources.{accepted_once}
 use Rattle.transcripts.proofs.Whole.{Known-allowed, steps-Lawful}
 
 -- ---- lists
@@ -57,11 +59,37 @@ sources_handed p T q h =
     All-weaker (λ n. has n (hand T q) ≡ true) (Contains (hand T q)) (has-Contains (hand T q)) (sources T q)
     ((Single-allowed p T (steps-Lawful p T h).steps).facts.sources q)
 
+-- of two sources the later one stands no earlier in the hand-out
+in_hand_order : (p : Plan) (T : List Step) (q : ℕ) → is_ordered (queue_of p q).kind ≡ true → Lawful p T
+    → AllPairs (λ m n. has m (upto n (hand T q)) ≡ true) (sources T q)
+in_hand_order p T q ordered h = ((Known-allowed p T (steps-Lawful p T h).steps).order.ordered q ordered).order
+
+hand_once : (p : Plan) (T : List Step) (q : ℕ) → Lawful p T → AllPairs (λ m n. m ≢ n) (hand T q)
+hand_once p T q h = (Single-allowed p T (steps-Lawful p T h).steps).facts.once q
+
 pub sources_in_hand_order : (p : Plan) (T : List Step) (q : ℕ) → is_ordered (queue_of p q).kind ≡ true → Lawful p T → NeverStepsBack T q
-sources_in_hand_order p T q ordered h a b d lt within i j at_m at_n =
-    let all = (steps-Lawful p T h).steps in
-    before_it (get_or (sources T q) a d) (get_or (sources T q) b d) i j (hand T q) (accepted_once p T q h a b d lt within)
-    ((Single-allowed p T all).facts.once q) (((Known-allowed p T all).order.ordered q ordered).order a b d lt within) at_m at_n
+sources_in_hand_order p T q ordered h a b d lt within i j at_m at_n = ⊎_elim same before (cases_eq m n)
+  where
+    m : ℕ
+    m = get_or (sources T q) a d
+
+    n : ℕ
+    n = get_or (sources T q) b d
+
+    same : m ≡ n → i ≤ j
+    same e =
+        let one : i ≡ j = once_place (hand T q) n i j (hand_once p T q h) (at_m ∙ ap Some e) at_n in
+        omega arith
+
+    before : m ≢ n → i ≤ j
+    before apart =
+        let less : i < j = before_it m n i j (hand T q) apart (hand_once p T q h) (in_hand_order p T q ordered h a b d lt within) at_m at_n in
+        omega arith
+
+pub sources_step_forward : (p : Plan) (T : List Step) (q : ℕ) → is_ordered (queue_of p q).kind ≡ true → AddsNone T → Lawful p T → StepsForward T q
+sources_step_forward p T q ordered adds h a b d lt within i j at_m at_n =
+    before_it (get_or (sources T q) a d) (get_or (sources T q) b d) i j (hand T q) (accepted_once p T q adds h a b d lt within) (hand_once p T q h)
+    (in_hand_order p T q ordered h a b d lt within) at_m at_n
 
 pub answered_keeps_none : (p : Plan) (T : List Step) (q k : ℕ) → Lawful p T → IsAnsweredTo T q k → KeepsNoneTo T q k
 answered_keeps_none p T q k h answered = by_kind (cases_Bool (is_ordered (queue_of p q).kind))

@@ -7,14 +7,14 @@ use Rattle.std.proofs.lemmas.List.{length_push, length-drop}
 use Rattle.std.proofs.lemmas.Option.{slice_get_within}
 use Rattle.lists.proofs.Lists.{eqb_other, filter-all}
 use Rattle.transcripts.proofs.Facts.{Facts, no_forwards, forwarded_is_given, next_pair_is_given, next_pair-queue, gives_accepted}
-use Rattle.transcripts.proofs.Pushes.{accepted_in-same, accepted_in-other, given_to-same, given_to-other, answer_of-other, given_of-same, given_of-other, is_pair-queue, is_pair-number, taken_in-same, taken_in-other, taken-some, taken-none, hand-none, forwards-none, forwards-some, forwards-other, kept_of-none, kept-none, kept-gives, length-kept, unanswered-none, unanswered-gives, unanswered-done, next_pair-some}
+use Rattle.transcripts.proofs.Pushes.{accepted_in-same, accepted_in-other, given_to-same, given_to-other, answer_of-other, given_of-same, given_of-other, is_pair-queue, is_pair-number, taken_in-same, taken_in-other, taken-some, taken-none, hand-none, forwards-none, forwards-some, forwards-other, sending_done, sending_more, sends_as, sends_gives, sends_takes, Sends, kept_of-none, kept-none, kept-gives, length-kept, unanswered-none, unanswered-gives, unanswered-done, next_pair-some}
 use Rattle.lists.proofs.Sums.{sum_agree, sum_same, sum_changed, sum_changed_in}
 use Rattle.transcripts.proofs.Waits.{waiting-none, waiting-gives, waiting-accepts, waiting-rises}
 use Rattle.transcripts.specs.Allowed.{Allowed, MayAcceptOf, MayGiveNumber}
 use Rattle.transcripts.specs.Lawful.{IsForwardEntry, IsHandOver}
 use Rattle.evt_types.specs.Plan.{Plan, lanes, queues, lanes_of, bound_of}
 use Rattle.lists.specs.Lists.{has}
-use Rattle.transcripts.specs.Transcript.{accepted, accepted_in, given_to, answers, answer_of, unanswered, next_pair, with_event, sends, forwards, given_of, hand, waiting, taken, taken_in, is_pair, kept_of, kept, inside}
+use Rattle.transcripts.specs.Transcript.{accepted, accepted_in, given_to, answers, answer_of, unanswered, sends, forwards, given_of, hand, waiting, taken, taken_in, is_pair, kept_of, kept, inside}
 use Rattle.evt_types.specs.declared.event.Event.{Event}
 use Rattle.evt_types.specs.declared.event.Numbered.{Numbered}
 use Rattle.evt_types.specs.declared.step.Outcome.{Outcome}
@@ -22,7 +22,7 @@ use Rattle.evt_types.specs.declared.step.Outcome.TheVariants.{Forwarded, Release
 use Rattle.evt_types.specs.declared.step.Source.{Source}
 use Rattle.evt_types.specs.declared.step.Source.TheVariants.{New, Of}
 use Rattle.evt_types.specs.declared.step.Step.{Step}
-use Rattle.evt_types.specs.declared.step.Step.TheVariants.{Accept, Give, Done, Turned, Bounced, Shut}
+use Rattle.evt_types.specs.declared.step.Step.TheVariants.{Accept, Give, Done, More, Turned, Bounced, Shut}
 
 -- ---- the three sums
 
@@ -110,7 +110,7 @@ kept_changed p P s q n x y f given there none here same =
     sum_changed (λ r. length (kept P r)) (λ r. length (kept (P ++ s ∷ []) r)) (length p.queues) q x y there in_queue
     (λ r other. sym (kept_length_same P r s (none r) (λ m. same r m (is_pair-queue r m (q, n) (λ e. other (sym e))))))
 
--- a forward is accepted
+-- what was passed on is accepted
 pub kept_one_less : (p : Plan) (P : List Step) (r n q : ℕ) (e : Event) → Facts p P → slice_get (forwards P q n) (length (taken P q n)) ≡ Some e → q < length p.queues → kept_sum p P + 0 ≡ kept_sum p (P ++ Accept r e (Of q n) ∷ []) + 1
 kept_one_less p P r n q e f next there =
     let s = Accept r e (Of q n) in
@@ -121,30 +121,30 @@ kept_one_less p P r n q e f next there =
     kept_changed p P s q n 0 1 f (forwarded_is_given p P q n (length (taken P q n)) e f next) there (λ k. refl) here
     (λ k m other. kept_of-none P k m s refl (taken_in-other r q n k m e other))
 
--- A pair is answered by a forward: y is 0 where no more were taken than forwarded, else it may be 1.
-kept_forwarded : (p : Plan) (P : List Step) (l y : ℕ) (x : ℕ × ℕ) (e : Event) → Facts p P → next_pair P l ≡ Some x → length (kept_of P x.0 x.1) + 1 ≡ length (kept_of (P ++ Done l (Forwarded e) ∷ []) x.0 x.1) + y → kept_sum p P + 1 ≡ kept_sum p (P ++ Done l (Forwarded e) ∷ []) + y
-kept_forwarded p P l y x e f next here =
-    let s = Done l (Forwarded e) in
-    kept_changed p P s x.0 x.1 1 y f (next_pair_is_given p P l x f next) (next_pair-queue p P l x f next) (λ k. refl) here
-    (λ k m other. ap (λ es. drop (length es) (forwards (P ++ s ∷ []) k m)) (taken-none P k m s refl) ∙ ap (drop (length (taken P k m))) (forwards-other P k m s x e (ap (with_event e) next) other))
+-- A pair is passed on: y is 0 where no more were taken than passed on, else it may be 1.
+kept_passed : (p : Plan) (P : List Step) (s : Step) (y : ℕ) (x : ℕ × ℕ) (e : Event) → Facts p P → Sends P s x e → length (kept_of P x.0 x.1) + 1 ≡ length (kept_of (P ++ s ∷ []) x.0 x.1) + y → kept_sum p P + 1 ≡ kept_sum p (P ++ s ∷ []) + y
+kept_passed p P s y x e f sending here =
+    kept_changed p P s x.0 x.1 1 y f (next_pair_is_given p P sending.lane x f sending.next) (next_pair-queue p P sending.lane x f sending.next)
+    (sends_gives P s x e sending) here
+    (λ k m other. ap (λ es. drop (length es) (forwards (P ++ s ∷ []) k m)) (taken-none P k m s (sends_takes P s x e sending k m))
+    ∙ ap (drop (length (taken P k m))) (forwards-other P k m s x e (sends_as P s x e sending) other))
 
-forwarded_length : (P : List Step) (l : ℕ) (x : ℕ × ℕ) (e : Event) → next_pair P l ≡ Some x → length (kept_of (P ++ Done l (Forwarded e) ∷ []) x.0 x.1) ≡ length (forwards P x.0 x.1) + 1 - length (taken P x.0 x.1)
-forwarded_length P l x e next =
-    let s = Done l (Forwarded e) in
+passed_length : (P : List Step) (s : Step) (x : ℕ × ℕ) (e : Event) → Sends P s x e → length (kept_of (P ++ s ∷ []) x.0 x.1) ≡ length (forwards P x.0 x.1) + 1 - length (taken P x.0 x.1)
+passed_length P s x e sending =
     length-drop (length (taken (P ++ s ∷ []) x.0 x.1)) (forwards (P ++ s ∷ []) x.0 x.1)
-    ∙ (ap (λ k. k - length (taken (P ++ s ∷ []) x.0 x.1)) (ap length (forwards-some P x.0 x.1 s e (ap (with_event e) next)) ∙ length_push (forwards P x.0 x.1) e)
-    ∙ ap (λ k. length (forwards P x.0 x.1) + 1 - k) (ap length (taken-none P x.0 x.1 s refl)))
+    ∙ (ap (λ k. k - length (taken (P ++ s ∷ []) x.0 x.1)) (ap length (forwards-some P x.0 x.1 s e (sends_as P s x e sending)) ∙ length_push (forwards P x.0 x.1) e)
+    ∙ ap (λ k. length (forwards P x.0 x.1) + 1 - k) (ap length (taken-none P x.0 x.1 s (sends_takes P s x e sending x.0 x.1))))
 
-kept_one_more : (p : Plan) (P : List Step) (l : ℕ) (x : ℕ × ℕ) (e : Event) → Facts p P → length (taken P x.0 x.1) ≤ length (forwards P x.0 x.1) → next_pair P l ≡ Some x → kept_sum p P + 1 ≡ kept_sum p (P ++ Done l (Forwarded e) ∷ []) + 0
-kept_one_more p P l x e f fewer next =
-    kept_forwarded p P l 0 x e f next (omega (arith, length-drop (length (taken P x.0 x.1)) (forwards P x.0 x.1), forwarded_length P l x e next))
+kept_one_more : (p : Plan) (P : List Step) (s : Step) (x : ℕ × ℕ) (e : Event) → Facts p P → length (taken P x.0 x.1) ≤ length (forwards P x.0 x.1) → Sends P s x e → kept_sum p P + 1 ≡ kept_sum p (P ++ s ∷ []) + 0
+kept_one_more p P s x e f fewer sending =
+    kept_passed p P s 0 x e f sending (omega (arith, length-drop (length (taken P x.0 x.1)) (forwards P x.0 x.1), passed_length P s x e sending, fewer))
 
-pub kept_more_le : (p : Plan) (P : List Step) (l : ℕ) (x : ℕ × ℕ) (e : Event) → Facts p P → next_pair P l ≡ Some x → kept_sum p (P ++ Done l (Forwarded e) ∷ []) ≤ kept_sum p P + 1
-kept_more_le p P l x e f next =
-    let most : length (kept_of (P ++ Done l (Forwarded e) ∷ []) x.0 x.1) ≤ length (kept_of P x.0 x.1) + 1 =
-    omega (arith, length-drop (length (taken P x.0 x.1)) (forwards P x.0 x.1), forwarded_length P l x e next)
+pub kept_more_le : (p : Plan) (P : List Step) (s : Step) (x : ℕ × ℕ) (e : Event) → Facts p P → Sends P s x e → kept_sum p (P ++ s ∷ []) ≤ kept_sum p P + 1
+kept_more_le p P s x e f sending =
+    let most : length (kept_of (P ++ s ∷ []) x.0 x.1) ≤ length (kept_of P x.0 x.1) + 1 =
+    omega (arith, length-drop (length (taken P x.0 x.1)) (forwards P x.0 x.1), passed_length P s x e sending)
     in
-    omega (arith, kept_forwarded p P l (length (kept_of P x.0 x.1) + 1 - length (kept_of (P ++ Done l (Forwarded e) ∷ []) x.0 x.1)) x e f next (omega arith))
+    omega (arith, kept_passed p P s (length (kept_of P x.0 x.1) + 1 - length (kept_of (P ++ s ∷ []) x.0 x.1)) x e f sending (omega arith))
 
 -- ---- unanswered
 
@@ -179,7 +179,7 @@ inside_new p P q e l f there =
     let s = Accept q e (New l) in
     omega (arith, inside_is p P, inside_is p (P ++ s ∷ []), waiting_one_more p P q e (New l) (f.given q) there, kept_same p P s (λ r. refl) refl (λ r n. refl), unanswered_same p P s (λ m. refl) (λ m. refl))
 
--- a forward that is accepted was kept and waits
+-- an event that was passed on and is accepted was kept and waits
 pub inside_of : (p : Plan) (P : List Step) (q : ℕ) (e : Event) (r n : ℕ) → Facts p P → IsForwardEntry p q e r → MayAcceptOf p P e r n → inside p (P ++ Accept q e (Of r n) ∷ []) ≡ inside p P
 inside_of p P q e r n f form may =
     let s = Accept q e (Of r n) in
@@ -205,14 +205,27 @@ pub inside_forward : (p : Plan) (P : List Step) (l : ℕ) (e : Event) → Facts 
 inside_forward p P l e f fewer there some =
     let s = Done l (Forwarded e) in
     let next = next_pair-some P l some in
-    omega (arith, inside_is p P, inside_is p (P ++ s ∷ []), waiting_same p P s (λ q. refl) (λ q. refl), kept_one_more p P l next.0 e f (fewer next.0.0 next.0.1) next.1, unanswered_one_less p P l (Forwarded e) f some there)
+    omega (arith, inside_is p P, inside_is p (P ++ s ∷ []), waiting_same p P s (λ q. refl) (λ q. refl), kept_one_more p P s next.0 e f (fewer next.0.0 next.0.1) (sending_done P l next.0 e next.1), unanswered_one_less p P l (Forwarded e) f some there)
 
 -- the same as far as it needs no other fact: it adds nothing
 pub inside_forward_le : (p : Plan) (P : List Step) (l : ℕ) (e : Event) → Facts p P → l < lanes_of p → 0 < length (unanswered P l) → inside p (P ++ Done l (Forwarded e) ∷ []) ≤ inside p P
 inside_forward_le p P l e f there some =
     let s = Done l (Forwarded e) in
     let next = next_pair-some P l some in
-    omega (arith, inside_is p P, inside_is p (P ++ s ∷ []), waiting_same p P s (λ q. refl) (λ q. refl), kept_more_le p P l next.0 e f next.1, unanswered_one_less p P l (Forwarded e) f some there)
+    omega (arith, inside_is p P, inside_is p (P ++ s ∷ []), waiting_same p P s (λ q. refl) (λ q. refl), kept_more_le p P s next.0 e f (sending_done P l next.0 e next.1), unanswered_one_less p P l (Forwarded e) f some there)
+
+-- an event that is added is kept beside the unanswered one
+pub inside_added : (p : Plan) (P : List Step) (l : ℕ) (e : Event) → Facts p P → ((q n : ℕ) → length (taken P q n) ≤ length (forwards P q n)) → 0 < length (unanswered P l) → inside p (P ++ More l e ∷ []) ≡ inside p P + 1
+inside_added p P l e f fewer some =
+    let s = More l e in
+    let next = next_pair-some P l some in
+    omega (arith, inside_is p P, inside_is p (P ++ s ∷ []), waiting_same p P s (λ q. refl) (λ q. refl), kept_one_more p P s next.0 e f (fewer next.0.0 next.0.1) (sending_more P l next.0 e next.1), unanswered_same p P s (λ m. refl) (λ m. refl))
+
+pub inside_added_le : (p : Plan) (P : List Step) (l : ℕ) (e : Event) → Facts p P → 0 < length (unanswered P l) → inside p (P ++ More l e ∷ []) ≤ inside p P + 1
+inside_added_le p P l e f some =
+    let s = More l e in
+    let next = next_pair-some P l some in
+    omega (arith, inside_is p P, inside_is p (P ++ s ∷ []), waiting_same p P s (λ q. refl) (λ q. refl), kept_more_le p P s next.0 e f (sending_more P l next.0 e next.1), unanswered_same p P s (λ m. refl) (λ m. refl))
 
 -- a step that brings nothing to any list
 inside_still : (p : Plan) (P : List Step) (s : Step) → ((q : ℕ) → accepted_in q s ≡ None) → ((q : ℕ) → given_of q s ≡ None) → sends P s ≡ None → ((q n : ℕ) → taken_in q n s ≡ None) → ((l : ℕ) → answer_of l s ≡ None) → ((l : ℕ) → given_to l s ≡ None) → inside p (P ++ s ∷ []) ≡ inside p P
@@ -237,10 +250,14 @@ inside_more p P (Accept q e (Of r n)) f h a = omega (arith, inside_of p P q e r 
 inside_more p P (Give l q n) f h a = omega (arith, inside_give p P l q n f a.formed a.needs)
 inside_more p P (Done l (Forwarded e)) f h a = omega (arith, inside_forward_le p P l e f a.formed.0 a.needs)
 inside_more p P (Done l Released) f h a = omega (arith, inside_release p P l f a.formed.0 a.needs)
+inside_more p P (More l e) f h a = omega (arith, a.needs.room, inside_added_le p P l e f a.needs.beside)
 inside_more p P (Turned l e) f h a = omega (arith, inside_turned p P l e)
 inside_more p P (Bounced l) f h a = omega (arith, inside_bounced p P l)
 inside_more p P Shut f h a = omega (arith, inside_shut p P)
 
--- a NEW within the bound had room before
+-- a NEW within the bound, or an event that was added within it, had room before
 pub inside_needs : (p : Plan) (P : List Step) (q : ℕ) (e : Event) (l : ℕ) → Facts p P → q < length p.queues → inside p (P ++ Accept q e (New l) ∷ []) ≤ bound_of p → inside p P < bound_of p
 inside_needs p P q e l f there h = omega (arith, inside_new p P q e l f there)
+
+pub added_needs : (p : Plan) (P : List Step) (l : ℕ) (e : Event) → Facts p P → ((q n : ℕ) → length (taken P q n) ≤ length (forwards P q n)) → 0 < length (unanswered P l) → inside p (P ++ More l e ∷ []) ≤ bound_of p → inside p P < bound_of p
+added_needs p P l e f fewer some h = omega (arith, inside_added p P l e f fewer some)

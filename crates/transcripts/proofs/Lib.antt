@@ -1,14 +1,17 @@
 pub mod Account
+pub mod AddedPlaces
 pub mod Alones
 pub mod AnsweredPlaces
 pub mod ByLane
 pub mod Entries
+pub mod Extras
 pub mod Facts
 pub mod Fewness
 pub mod FlowAlone
 pub mod Flows
 pub mod HandOrder
 pub mod Insides
+pub mod Once
 pub mod OneAnswer
 pub mod Orders
 pub mod Origins

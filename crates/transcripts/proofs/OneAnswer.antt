@@ -1,4 +1,4 @@
--- The steps of a reply are one list alone: after an answer what is overdue is accepted, in its order, and nothing else.
+-- The steps of a reply are one list alone: after an answer or an addition what is overdue is accepted, in its order, and nothing else.
 use Rattle.std.proofs.Common.{◌≡◌, ◌≢◌, ℕ, ◌≤◌, true, false, List, [], ◌∷◌, ◌++◌, length, map, take_while, All, Some, ◌⊎◌, inl, inr, ⊎_elim, refl, sym, ap, ◌∙◌, subst, arith, append_assoc, append-nil}
 use Rattle.std.proofs.lemmas.Bool.{cases_Bool, cases_eq, false≢true, false_from_ne_true}
 use Rattle.std.proofs.lemmas.List.Elements.{All-nil, All-cons, All-head, All-tail, All-weaker, All-contains}
@@ -11,18 +11,18 @@ use Rattle.evt_types.specs.declared.step.Outcome.{Outcome}
 use Rattle.evt_types.specs.declared.step.Outcome.TheVariants.{Forwarded, Released}
 use Rattle.evt_types.specs.declared.step.Source.TheVariants.{New, Of}
 use Rattle.evt_types.specs.declared.step.Step.{Step}
-use Rattle.evt_types.specs.declared.step.Step.TheVariants.{Accept, Give, Done, Turned, Bounced, Shut}
+use Rattle.evt_types.specs.declared.step.Step.TheVariants.{Accept, Give, Done, More, Turned, Bounced, Shut}
 use Rattle.lists.specs.Lists.{has, upto, from_first}
 use Rattle.lists.proofs.Fronts.{First, front_and_rest, front_or_rest, upto_apart, upto_rest, All-tagged_at}
 use Rattle.lists.proofs.Lists.{All-has, drop-slice_get, has-last, has-more, upto-more}
 use Rattle.transcripts.specs.Allowed.{Allowed, AllowedAfter, MayAcceptOf}
 use Rattle.transcripts.specs.Lawful.{Lawful, IsSettled}
-use Rattle.transcripts.specs.Standing.{AreAnswer, AreStepsBy, AreStepsOf}
+use Rattle.transcripts.specs.Standing.{AreLed, AreStepsBy, AreStepsOf}
 use Rattle.transcripts.specs.Transcript.{forwards, hand, is_answered, is_from_of, is_pair, kept_of, next_pair, source_in, sources, taken}
 use Rattle.transcripts.proofs.AnsweredPlaces.{accept_from}
 use Rattle.transcripts.proofs.Facts.{Facts, Facts-allowed, forwarded_is_given}
 use Rattle.transcripts.proofs.Overdue.{late_of, overdue, late_ordered, late_plain, late_stays, settled_overdue}
-use Rattle.transcripts.proofs.Pending.{Pending, pending_next, answered_pending, first_of_overdue}
+use Rattle.transcripts.proofs.Pending.{Pending, pending_next, answered_pending, added_pending, first_of_overdue}
 use Rattle.transcripts.proofs.Pushes.{hand-none, is_answered-none, is_pair_is, is_pair-number, kept_of-none, next_pair-some, source_in-same, sources-push, sources-some, taken_in-other}
 use Rattle.transcripts.proofs.Whole.{steps-Lawful}
 
@@ -76,7 +76,7 @@ may_is_due p P q n e f may = record {
         (⊎_elim (λ front. front) (λ rest. absurd (not_open ordered rest)) (front_or_rest (is_answered P q) n (hand P q) given))
     by_kind (inr plain) = subst (λ ns. has n ns ≡ true) (sym (late_plain p P q plain)) given
 
--- ---- an Accept from a forward
+-- ---- an Accept of what was passed on
 
 record FromOf (s : Step) : Type 0 where
   pub into : ℕ
@@ -90,6 +90,7 @@ from_of_is (Accept r e (Of q n)) h = record { into = r; event = e; queue = q; nu
 from_of_is (Accept r e (New l)) h = absurd (false≢true h)
 from_of_is (Give l q n) h = absurd (false≢true h)
 from_of_is (Done l o) h = absurd (false≢true h)
+from_of_is (More l e) h = absurd (false≢true h)
 from_of_is (Turned l e) h = absurd (false≢true h)
 from_of_is (Bounced l) h = absurd (false≢true h)
 from_of_is Shut h = absurd (false≢true h)
@@ -223,7 +224,7 @@ first_is_taken p P S q r n k d x rest h e may from all end =
         ∙ (ap (λ (c : Event). Accept c.queue c (Of k n)) event ∙ (ap (λ a. Accept (x.1).queue x.1 (Of a n)) same
         ∙ ap (λ a. Accept (x.1).queue x.1 (Of q a)) is))
 
--- Where only forwards are accepted and the end is settled, what is overdue is accepted, in its order.
+-- Where only what was passed on is accepted and the end is settled, what is overdue is accepted, in its order.
 pending_only : (p : Plan) (q : ℕ) (xs : List (ℕ × Event)) (P S : List Step) → Pending p P q → overdue p P q ≡ xs
     → All (λ s. is_from_of s ≡ true) S → AllowedAfter p P S → IsSettled p (P ++ S) → S ≡ map (accept_from q) xs
 pending_only p q [] P [] h e from all end = refl
@@ -250,36 +251,51 @@ pending_only p q (x ∷ rest) P (s ∷ S) h e from all end =
 
 -- ---- the steps of a reply
 
-abbrev answer_list : Plan → List Step → ℕ → Outcome → ℕ → List Step
-answer_list p T l o q = Done l o ∷ map (accept_from q) (overdue p (T ++ Done l o ∷ []) q)
+-- led by the step s, and then what is overdue in the queue
+abbrev led_list : Plan → List Step → Step → ℕ → List Step
+led_list p T s q = s ∷ map (accept_from q) (overdue p (T ++ s ∷ []) q)
 
--- the pair that is answered, and the steps by it
-answer_is : (p : Plan) (T : List Step) (l : ℕ) (o : Outcome) (steps : List Step) → AreAnswer l o steps → Lawful p (T ++ steps)
-    → (x : ℕ × ℕ) × (next_pair T l ≡ Some x) × (steps ≡ answer_list p T l o x.0)
-answer_is p T l o steps form lawful =
-    let all = steps-Lawful p (T ++ Done l o ∷ form.0) (subst (λ S. Lawful p (T ++ S)) form.1 lawful) in
-    let parts = AllowedAfter-split p [] T (Done l o ∷ form.0) all.steps in
-    let may : Allowed p T (Done l o) = parts.1.0 in
-    let next = next_pair-some T l may.needs in
-    let pending = answered_pending p T l o next.0 parts.0 (may.prompt refl) next.1 may in (
-      next.0,
-      next.1,
-      form.1 ∙ ap (λ S. Done l o ∷ S) (pending_only p next.0.0 (overdue p (T ++ Done l o ∷ []) next.0.0) (T ++ Done l o ∷ []) form.0 pending refl
-          form.2 parts.1.1 (subst (IsSettled p) (sym (append_assoc T (Done l o ∷ []) form.0)) all.end)),
+-- where the step s is allowed, the lane has a pair to answer, and what is then overdue is of that pair's queue
+abbrev Leads : Plan → List Step → ℕ → Step → Type 0
+Leads p T l s = AllowedAfter p [] T → Allowed p T s → (x : ℕ × ℕ) × (next_pair T l ≡ Some x) × Pending p (T ++ s ∷ []) x.0
+
+done_leads : (p : Plan) (T : List Step) (l : ℕ) (o : Outcome) → Leads p T l (Done l o)
+done_leads p T l o all may =
+    let next = next_pair-some T l may.needs in (next.0, next.1, answered_pending p T l o next.0 all (may.prompt refl) next.1 may)
+
+more_leads : (p : Plan) (T : List Step) (l : ℕ) (e : Event) → Leads p T l (More l e)
+more_leads p T l e all may =
+    let next = next_pair-some T l may.needs.beside in (next.0, next.1, added_pending p T l e next.0 all (may.prompt refl) next.1 may)
+
+-- the pair, and the steps by it
+led_is : (p : Plan) (T : List Step) (l : ℕ) (s : Step) (steps : List Step) → Leads p T l s → AreLed s steps → Lawful p (T ++ steps)
+    → (x : ℕ × ℕ) × (next_pair T l ≡ Some x) × (steps ≡ led_list p T s x.0)
+led_is p T l s steps leads form lawful =
+    let all = steps-Lawful p (T ++ s ∷ form.0) (subst (λ S. Lawful p (T ++ S)) form.1 lawful) in
+    let parts = AllowedAfter-split p [] T (s ∷ form.0) all.steps in
+    let here = leads parts.0 parts.1.0 in (
+      here.0,
+      here.1,
+      form.1 ∙ ap (λ S. s ∷ S) (pending_only p here.0.0 (overdue p (T ++ s ∷ []) here.0.0) (T ++ s ∷ []) form.0 here.2 refl
+          form.2 parts.1.1 (subst (IsSettled p) (sym (append_assoc T (s ∷ []) form.0)) all.end)),
     )
 
-answers_are_one : (p : Plan) (T : List Step) (l : ℕ) (o : Outcome) (xs ys : List Step) → AreAnswer l o xs → Lawful p (T ++ xs) → AreAnswer l o ys
+led_are_one : (p : Plan) (T : List Step) (l : ℕ) (s : Step) (xs ys : List Step) → Leads p T l s → AreLed s xs → Lawful p (T ++ xs) → AreLed s ys
     → Lawful p (T ++ ys) → xs ≡ ys
-answers_are_one p T l o xs ys form_x lawful_x form_y lawful_y =
-    let by_x = answer_is p T l o xs form_x lawful_x in
-    let by_y = answer_is p T l o ys form_y lawful_y in
-    by_x.2 ∙ (ap (λ (x : ℕ × ℕ). answer_list p T l o x.0) (same_Some by_x.0 by_y.0 (sym by_x.1 ∙ by_y.1)) ∙ sym by_y.2)
+led_are_one p T l s xs ys leads form_x lawful_x form_y lawful_y =
+    let by_x = led_is p T l s xs leads form_x lawful_x in
+    let by_y = led_is p T l s ys leads form_y lawful_y in
+    by_x.2 ∙ (ap (λ (x : ℕ × ℕ). led_list p T s x.0) (same_Some by_x.0 by_y.0 (sym by_x.1 ∙ by_y.1)) ∙ sym by_y.2)
 
 steps_by_one : (o : Op) (p : Plan) (T : List Step) (l : ℕ) (e : Event) (xs ys : List Step) → AreStepsBy o T l e xs → Lawful p (T ++ xs)
     → AreStepsBy o T l e ys → Lawful p (T ++ ys) → xs ≡ ys
 steps_by_one ops.New p T l e xs ys form_x lawful_x form_y lawful_y = form_x ∙ sym form_y
-steps_by_one ops.Forward p T l e xs ys form_x lawful_x form_y lawful_y = answers_are_one p T l (Forwarded e) xs ys form_x lawful_x form_y lawful_y
-steps_by_one ops.Release p T l e xs ys form_x lawful_x form_y lawful_y = answers_are_one p T l Released xs ys form_x lawful_x form_y lawful_y
+steps_by_one ops.Forward p T l e xs ys form_x lawful_x form_y lawful_y =
+    led_are_one p T l (Done l (Forwarded e)) xs ys (done_leads p T l (Forwarded e)) form_x lawful_x form_y lawful_y
+steps_by_one ops.Release p T l e xs ys form_x lawful_x form_y lawful_y =
+    led_are_one p T l (Done l Released) xs ys (done_leads p T l Released) form_x lawful_x form_y lawful_y
+steps_by_one ops.ForwardMore p T l e xs ys form_x lawful_x form_y lawful_y =
+    led_are_one p T l (More l e) xs ys (more_leads p T l e) form_x lawful_x form_y lawful_y
 
 pub steps_are_one : (p : Plan) (T : List Step) (l : ℕ) (e : Event) (xs ys : List Step) → Lawful p T → AreStepsOf p T l e xs → AreStepsOf p T l e ys
     → xs ≡ ys

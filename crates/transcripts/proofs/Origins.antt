@@ -1,6 +1,7 @@
--- (origin), step by step: what was accepted from a number stays a prefix of what it was forwarded as.
-use Rattle.std.proofs.Common.{◌≡◌, ℕ, List, [], ◌∷◌, ◌++◌, length, Option, Some, None, slice_get, filter_map, refl, sym, ap, ◌∙◌, subst, append_assoc}
+-- (origin), step by step: what was accepted from a number stays a prefix of what it was passed on as.
+use Rattle.std.proofs.Common.{◌≡◌, ℕ, ◌≤◌, List, [], ◌∷◌, ◌++◌, length, Option, Some, None, slice_get, filter_map, refl, sym, ap, ◌∙◌, subst, arith, append_assoc}
 use Rattle.std.specs.List.{cons_option}
+use Rattle.std.proofs.lemmas.List.{length-append}
 use Rattle.std.proofs.lemmas.Option.{none-some, same_Some}
 use Rattle.evt_types.specs.Plan.{Plan}
 use Rattle.transcripts.specs.Transcript.{sends, sent_for, forwards, taken_in, taken}
@@ -54,3 +55,7 @@ origin_needs P q r n e h =
       forwards-none P r n
           (Accept q e (Of r n)) refl,
     ) at (h r n))
+
+-- no more was accepted from a number than it was passed on as
+pub origin_fewer : (T : List Step) → HasOrigin T → (q n : ℕ) → length (taken T q n) ≤ length (forwards T q n)
+origin_fewer T h q n = let front = h q n in omega (arith, ap length front.1, length-append (taken T q n) front.0)

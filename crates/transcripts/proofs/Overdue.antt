@@ -150,7 +150,7 @@ settled_stays p P s f none no_end no_send no_take settled =
     overdue_settled p (P ++ s ∷ []) (λ q. subst (AllPairs (λ m n. m ≢ n)) (sym (hand-none P q s (none q))) (f.once q))
     (λ q. overdue-none p P q s (none q) no_end no_send (no_take q) ∙ settled_overdue p P settled q)
 
--- an event that is given: its number has no forwards
+-- an event that is given: its number wasn't passed on
 pub settled_give : (p : Plan) (P : List Step) (l q n : ℕ) → Facts p P → has n (hand P q) ≡ false → IsSettled p P → Facts p (P ++ Give l q n ∷ [])
     → IsSettled p (P ++ Give l q n ∷ [])
 settled_give p P l q n f fresh settled after = overdue_settled p T after.once (λ r. by_queue r (cases_eq q r))
@@ -247,7 +247,7 @@ open_untaken T q n once order h =
     (sources T q) order.answered source in
     false≢true (sym first.2 ∙ All-contains (λ m. is_answered T q m ≡ true) (upto n (hand T q)) first.0 all first.1))
 
--- a settled ordered queue keeps what its open numbers were forwarded as
+-- a settled ordered queue keeps what its open numbers were passed on as
 pub kept_is_open : (p : Plan) (T : List Step) (q : ℕ) → is_ordered (queue_of p q).kind ≡ true → Facts p T → IsInHandOrder T q → IsSettled p T
     → kept T q ≡ tagged (forwards T q) (open_of T q)
 kept_is_open p T q ordered f order settled =

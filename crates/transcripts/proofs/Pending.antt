@@ -1,10 +1,10 @@
--- The forwards that an answer leaves to accept: each may be accepted after those before it, and then nothing is overdue.
-use Rattle.std.proofs.Common.{◌≡◌, ◌≢◌, ℕ, ◌<◌, ◌≤◌, true, false, List, [], ◌∷◌, ◌++◌, length, map, take_while, get_or, All, Some, ⊎_elim, refl, sym, ap, ◌∙◌, subst, arith, append_assoc, append-nil}
+-- The events that an answer or an addition leaves to accept: each may be accepted after those before it, and then nothing is overdue.
+use Rattle.std.proofs.Common.{◌≡◌, ◌≢◌, ℕ, ◌<◌, ◌≤◌, true, false, List, [], ◌∷◌, ◌++◌, length, map, take_while, get_or, All, Some, None, ⊎_elim, refl, sym, ap, ◌∙◌, subst, arith, append_assoc, append-nil}
 use Rattle.std.proofs.lemmas.Bool.{cases_eq, false≢true}
 use Rattle.std.proofs.lemmas.List.Elements.{All-nil, All-head, All-tail, All-push, All-weaker, All-drop}
 use Rattle.evt_types.specs.Plan.{Plan, queue_of, is_atomic, is_ordered}
 use Rattle.lists.specs.Lists.{has}
-use Rattle.transcripts.specs.Transcript.{event_at, next_pair, is_answered, forwards, hand, taken, sources, kept_of, open_of}
+use Rattle.transcripts.specs.Transcript.{accepted_in, event_at, source_in, next_pair, is_answered, forwards, hand, taken, sources, kept_of, open_of}
 use Rattle.lists.specs.Lists.{upto, from_first}
 use Rattle.transcripts.specs.Lawful.{IsSettled, keeps_some, keeps_with}
 use Rattle.transcripts.specs.Allowed.{Allowed, AllowedAfter}
@@ -14,7 +14,8 @@ use Rattle.evt_types.specs.declared.step.Outcome.{Outcome}
 use Rattle.evt_types.specs.declared.step.Outcome.TheVariants.{Forwarded, Released}
 use Rattle.evt_types.specs.declared.step.Source.TheVariants.{Of}
 use Rattle.evt_types.specs.declared.step.Step.{Step}
-use Rattle.evt_types.specs.declared.step.Step.TheVariants.{Done}
+use Rattle.evt_types.specs.declared.step.Step.TheVariants.{Done, More}
+use Rattle.transcripts.proofs.AddedPlaces.{more_overdue_other, more_overdue_plain, more_overdue_ordered}
 use Rattle.transcripts.proofs.AnsweredPlaces.{IsForward, forwards_formed, accept_from, done_overdue_other, done_overdue_plain, done_overdue_ordered}
 use Rattle.transcripts.proofs.Facts.{Facts, Facts-allowed, AllowedAfter-push, next_pair-queue}
 use Rattle.lists.proofs.Lists.{slice_get-drop, upto-more}
@@ -25,7 +26,7 @@ use Rattle.transcripts.proofs.Rising.{kind_is_one, next_rises}
 use Rattle.transcripts.proofs.Whole.{Known-allowed}
 use Rattle.transcripts.proofs.WholeViews.{view_accept}
 
--- the number's forward comes after those that were accepted
+-- what the number is passed on as comes after what was accepted
 abbrev Follows : List Step → ℕ → ℕ → Type 0
 Follows P q n = All (λ m. has m (upto n (hand P q)) ≡ true) (sources P q)
 
@@ -166,6 +167,19 @@ pending_all p q (x ∷ rest) P h e =
           (more.view ∙ ap (view_of p) same);
     }
 
+-- a step that accepts nothing leaves what was accepted in its order
+rises_stays : (p : Plan) (P : List Step) (s : Step) (q n : ℕ) → source_in q s ≡ None → accepted_in q s ≡ None → RisesTo p P q n
+    → RisesTo p (P ++ s ∷ []) q n
+rises_stays p P s q n no_source no_accept rises =
+    subst (All (λ m. keeps_with p (P ++ s ∷ []) q m n ≡ true → m ≤ n)) (sym (sources-none P q s no_source))
+    (All-weaker (λ m. keeps_with p P q m n ≡ true → m ≤ n) (λ m. keeps_with p (P ++ s ∷ []) q m n ≡ true → m ≤ n)
+    (λ m low keeps. low (sym (same_keeps m) ∙ keeps)) (sources P q) rises)
+  where
+    same_keeps : (m : ℕ) → keeps_with p (P ++ s ∷ []) q m n ≡ keeps_with p P q m n
+    same_keeps m =
+        ap (λ a. keeps_some p q a (event_at (P ++ s ∷ []) q n)) (event_at-none P q m s no_accept)
+        ∙ ap (keeps_some p q (event_at P q m)) (event_at-none P q n s no_accept)
+
 -- ---- after an answer
 
 length_events : (n : ℕ) (o : Outcome) → length (tag n (events_of o)) ≤ 1
@@ -211,7 +225,7 @@ answered_pending p P l o x all settled next may = record {
     leaves : List ℕ
     leaves = take_while (is_answered T q) left
 
-    -- a number from which a forward was accepted stands before the open ones
+    -- a number from which an event was accepted stands before the open ones
     before_open : is_ordered (queue_of p q).kind ≡ true → (m n : ℕ) → has m (sources P q) ≡ true → has n left ≡ true → has m (hand P q) ≡ true
         → has m (upto n (hand P q)) ≡ true
     before_open ordered m n source in' m_in =
@@ -229,12 +243,38 @@ answered_pending p P l o x all settled next may = record {
     each_follows : is_ordered (queue_of p q).kind ≡ true → All (Follows T q) leaves
     each_follows ordered = All-weaker (λ n. has n leaves ≡ true) (Follows T q) (λ n in'. follows_now ordered n in') leaves (has_each leaves)
 
-    same_keeps : (m n : ℕ) → keeps_with p T q m n ≡ keeps_with p P q m n
-    same_keeps m n =
-        ap (λ a. keeps_some p q a (event_at T q n)) (event_at-none P q m s refl) ∙ ap (keeps_some p q (event_at P q m)) (event_at-none P q n s refl)
+    rises_now : is_atomic (queue_of p q).kind ≡ true → RisesTo p T q x.1
+    rises_now atomic = rises_stays p P s q x.1 refl refl (next_rises p P l x all next atomic)
+
+-- ---- after an addition
+
+pub added_pending : (p : Plan) (P : List Step) (l : ℕ) (e : Event) (x : ℕ × ℕ) → AllowedAfter p [] P → IsSettled p P → next_pair P l ≡ Some x
+    → Allowed p P (More l e) → Pending p (P ++ More l e ∷ []) x.0
+added_pending p P l e x all settled next may = record {
+  allowed = after_it;
+  there = next_pair-queue p P l x (facts_at p P all) next;
+  others = λ r differs. more_overdue_other p P l e x r settled next (λ same. differs (sym same));
+  forms = All-tagged_items (IsForward p) (kept_of T q) (late_of p T q)
+      (λ n. All-drop (IsForward p) (length (taken T q n)) (forwards T q n) (forwards_formed p T after_it q n));
+  follows = λ ordered. subst (All (λ (y : ℕ × Event). Follows T q y.0)) (sym (more_overdue_ordered p P l e x all settled next ordered))
+      (All-nil (λ (y : ℕ × Event). Follows T q y.0));
+  rises = λ atomic. subst (All (λ (y : ℕ × Event). RisesTo p T q y.0))
+      (sym (more_overdue_plain p P l e x all settled next (kind_is_one (queue_of p q).kind atomic)))
+      (All-tag (RisesTo p T q) x.1 (e ∷ []) (rises_now atomic));
+  one = λ plain. subst (λ (ys : List (ℕ × Event)). length ys ≤ 1) (sym (more_overdue_plain p P l e x all settled next plain)) (omega arith);
+}
+  where
+    q : ℕ
+    q = x.0
+
+    s : Step
+    s = More l e
+
+    T : List Step
+    T = P ++ s ∷ []
+
+    after_it : AllowedAfter p [] T
+    after_it = AllowedAfter-push p [] P s all may
 
     rises_now : is_atomic (queue_of p q).kind ≡ true → RisesTo p T q x.1
-    rises_now atomic =
-        subst (All (λ m. keeps_with p T q m x.1 ≡ true → m ≤ x.1)) (sym (sources-none P q s refl))
-        (All-weaker (λ m. keeps_with p P q m x.1 ≡ true → m ≤ x.1) (λ m. keeps_with p T q m x.1 ≡ true → m ≤ x.1)
-        (λ m low keeps. low (sym (same_keeps m x.1) ∙ keeps)) (sources P q) (next_rises p P l x all next atomic))
+    rises_now atomic = rises_stays p P s q x.1 refl refl (next_rises p P l x all next atomic)

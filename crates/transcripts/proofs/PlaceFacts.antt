@@ -1,5 +1,5 @@
--- What holds of the places of an ordered queue wherever a core stands: they have different numbers, the first waits for its answer,
--- a place that waits was forwarded as nothing and any other as one event at most, and each unanswered event has one that waits.
+-- What holds of the places of an ordered queue wherever a core stands: they have different numbers, each was passed on as five events at
+-- most and as four where it waits for its answer, and each unanswered event has one that waits.
 use Rattle.std.proofs.Common.{◌≡◌, ◌≢◌, ℕ, zero, suc, ◌+◌, ◌<◌, ◌≤◌, true, false, ◌==◌, List, [], ◌∷◌, ◌++◌, length, map, set, take_while, get_or, All, AllPairs, Contains, ⊎_elim, refl, sym, ap, ◌∙◌, subst, arith}
 use Rattle.std.proofs.lemmas.Bool.{false≢true, cond-true, cond-false, cond_both}
 use Rattle.std.proofs.lemmas.List.{length-append, length-map, get_or-append-add}
@@ -7,17 +7,19 @@ use Rattle.std.proofs.lemmas.List.Elements.{All-nil, All-head, All-tail, All-con
 use Rattle.transcripts.specs.Allowed.{AllowedAfter}
 use Rattle.evt_types.specs.Plan.{Plan, queue_of, lanes_of, is_ordered}
 use Rattle.lists.specs.Lists.{has}
-use Rattle.transcripts.specs.Standing.{View, Stands, places, place_at, places_at, unanswered_at, events_of, answer_place}
+use Rattle.transcripts.specs.Standing.{View, Stands, places, place_at, places_at, unanswered_at, events_of, answer_place, add_to_place}
 use Rattle.evt_types.specs.Place.{Place}
 use Rattle.transcripts.specs.Transcript.{out, answers, unanswered, unanswered_slots, Held, held_at, hand, is_answered, forwards, open_of}
 use Rattle.lists.specs.Lists.{from_first}
+use Rattle.evt_types.specs.declared.event.Event.{Event}
+use Rattle.evt_types.specs.declared.event.TheConstants.{MAX_EXTRAS, MAX_FORWARDS}
 use Rattle.evt_types.specs.declared.step.Outcome.{Outcome}
 use Rattle.evt_types.specs.declared.step.Step.{Step}
 use Rattle.transcripts.proofs.AnsweredPlaces.{places_ordered}
 use Rattle.transcripts.proofs.Facts.{IsGiven, Facts}
 use Rattle.lists.proofs.Lists.{eqb_same, eqb_other, has-Contains}
 use Rattle.lists.proofs.Fronts.{front_and_rest, front_or_rest, front_passes}
-use Rattle.transcripts.proofs.Sources.{Once, Single-allowed}
+use Rattle.transcripts.proofs.Once.{Single, Single-allowed}
 use Rattle.transcripts.proofs.Whole.{Known-allowed, steps-Lawful}
 use Rattle.transcripts.proofs.WholeStands.{places_is, unanswered_is}
 
@@ -67,16 +69,43 @@ answer_at (x ∷ ps) (suc i) n o d differ within is =
     (record { number = n; answered = true; forwards = x.forwards ++ events_of o }) x (eqb_other x.number n apart))
     ∙ ap (λ ys. x ∷ ys) (answer_at ps i n o d (λ j k e lt in'. differ (suc j) (suc k) e (omega arith) (omega arith)) (omega arith) is)
 
+-- ---- one event is added
+
+-- an event that is added to a number that no place has changes none
+pub add_none : (ps : List Place) (n : ℕ) (e : Event) → All (λ (y : Place). y.number ≢ n) ps → map (add_to_place n e) ps ≡ ps
+add_none [] n e all = refl
+add_none (y ∷ ps) n e all =
+    ap (λ z. z ∷ map (add_to_place n e) ps) (cond-false (y.number == n)
+    (record { number = n; answered = y.answered; forwards = y.forwards ++ e ∷ [] }) y
+    (eqb_other y.number n (All-head (λ (z : Place). z.number ≢ n) y ps all)))
+    ∙ ap (λ zs. y ∷ zs) (add_none ps n e (All-tail (λ (z : Place). z.number ≢ n) y ps all))
+
+-- of places with different numbers it changes the one of its number alone
+pub add_at : (ps : List Place) (i n : ℕ) (e : Event) (d : Place) → AllPairs Differ ps → i < length ps → (get_or ps i d).number ≡ n
+    → map (add_to_place n e) ps
+    ≡ set ps i (record { number = n; answered = (get_or ps i d).answered; forwards = (get_or ps i d).forwards ++ e ∷ [] })
+add_at [] i n e d differ within is = absurd (omega arith)
+add_at (x ∷ ps) zero n e d differ within is =
+    ap (λ y. y ∷ map (add_to_place n e) ps) (cond-true (x.number == n)
+    (record { number = n; answered = x.answered; forwards = x.forwards ++ e ∷ [] }) x (ap (λ m. m == n) is ∙ eqb_same n))
+    ∙ ap (λ ys. record { number = n; answered = x.answered; forwards = x.forwards ++ e ∷ [] } ∷ ys)
+    (add_none ps n e (λ k c lt same. differ 0 (suc k) c (omega arith) (omega arith) (is ∙ sym same)))
+add_at (x ∷ ps) (suc i) n e d differ within is =
+    let apart : x.number ≢ n = λ same. differ 0 (suc i) d (omega arith) (omega arith) (same ∙ sym is) in
+    ap (λ y. y ∷ map (add_to_place n e) ps) (cond-false (x.number == n)
+    (record { number = n; answered = x.answered; forwards = x.forwards ++ e ∷ [] }) x (eqb_other x.number n apart))
+    ∙ ap (λ ys. x ∷ ys) (add_at ps i n e d (λ j k c lt in'. differ (suc j) (suc k) c (omega arith) (omega arith)) (omega arith) is)
+
 -- ---- the places of a lawful transcript
 
 allowed_of : (v : View) (T : List Step) → Stands T v → AllowedAfter v.shape [] T
 allowed_of v T stands = (steps-Lawful v.shape T stands.lawful).steps
 
-once_of : (v : View) (T : List Step) → Stands T v → Once T
-once_of v T stands = (Single-allowed v.shape T (allowed_of v T stands)).once
+single_of : (v : View) (T : List Step) → Stands T v → Single v.shape T
+single_of v T stands = Single-allowed v.shape T (allowed_of v T stands)
 
 facts_of : (v : View) (T : List Step) → Stands T v → Facts v.shape T
-facts_of v T stands = (Single-allowed v.shape T (allowed_of v T stands)).facts
+facts_of v T stands = (single_of v T stands).facts
 
 -- what holds of each open number's place holds of each place
 each_place : (p : Plan) (T : List Step) (q : ℕ) (P : Place → Type 0) → ((n : ℕ) → P (place_at T q n)) → All P (places p T q)
@@ -106,14 +135,21 @@ places_differ v T q stands h =
     (cond_both (is_ordered (queue_of v.shape q).kind) (map (place_at T q) (open_of T q)) [] (AllPairs Differ)
     (λ _. places_once T q (open_of T q) (open_once T q ((facts_of v T stands).once q))) (λ _ i j d lt within. absurd (omega arith)))
 
--- a place has one event at most, and none while it waits for its answer
+-- a number that waits for its answer was passed on as four events at most
+unanswered_few : (p : Plan) (T : List Step) (q n : ℕ) → Single p T → is_answered T q n ≡ false → length (forwards T q n) ≤ MAX_EXTRAS
+unanswered_few p T q n known waits =
+    ⊎_elim (λ none. omega (arith, ap length none))
+    (λ held. omega (arith, ap length (known.once.first held.0 (q, n) held.1), known.extras.few held.0)) (known.once.unsent q n waits)
+
+-- a place has five events at most, and four while it waits for its answer
 pub place_forwards : (v : View) (T : List Step) (q : ℕ) → Stands T v → q < length v.shape.queues
-    → All (λ (x : Place). (length x.forwards ≤ 1) × (x.answered ≡ false → x.forwards ≡ [])) (places_at v q)
+    → All (λ (x : Place). (length x.forwards ≤ MAX_FORWARDS) × (x.answered ≡ false → length x.forwards ≤ MAX_EXTRAS)) (places_at v q)
 place_forwards v T q stands h =
-    let once : Once T = once_of v T stands in
-    subst (All (λ (x : Place). (length x.forwards ≤ 1) × (x.answered ≡ false → x.forwards ≡ []))) (sym (places_is v T q stands h))
-    (each_place v.shape T q (λ (x : Place). (length x.forwards ≤ 1) × (x.answered ≡ false → x.forwards ≡ []))
-    (λ n. (once.one q n, λ waits. once.unsent q n waits)))
+    let known : Single v.shape T = single_of v T stands in
+    subst (All (λ (x : Place). (length x.forwards ≤ MAX_FORWARDS) × (x.answered ≡ false → length x.forwards ≤ MAX_EXTRAS)))
+    (sym (places_is v T q stands h))
+    (each_place v.shape T q (λ (x : Place). (length x.forwards ≤ MAX_FORWARDS) × (x.answered ≡ false → length x.forwards ≤ MAX_EXTRAS))
+    (λ n. (known.once.few q n, λ waits. unanswered_few v.shape T q n known waits)))
 
 -- no ordered queue has more places than its order
 pub places_fit : (v : View) (T : List Step) (q : ℕ) → Stands T v → q < length v.shape.queues → is_ordered (queue_of v.shape q).kind ≡ true
@@ -131,20 +167,23 @@ held_given : (p : Plan) (T : List Step) (l : ℕ) → Facts p T → All (IsGiven
 unfolding unanswered
 held_given p T l f = All-drop (IsGiven T) (length (answers T l)) (out T l) (f.out l)
 
+-- a place of the number waits for its answer
+pub record HasOpenPlace (ps : List Place) (n : ℕ) : Type 0 where
+  pub place : Place
+  pub there : Contains ps place
+  pub number : place.number ≡ n
+  pub waits : place.answered ≡ false
+
 -- an event that a lane holds of an ordered queue has a place there that waits for its answer
 pub held_has_place : (v : View) (T : List Step) (l : ℕ) (h : Held) → Stands T v → l < lanes_of v.shape → Contains (unanswered_at v l) h
     → is_ordered (queue_of v.shape h.queue).kind ≡ true
-    → (h.queue < length v.shape.queues) × Contains (places_at v h.queue) (record { number = h.number; answered = false; forwards = [] })
+    → (h.queue < length v.shape.queues) × HasOpenPlace (places_at v h.queue) h.number
 unfolding open_of
 held_has_place v T l h stands lane holds ordered = All-contains P (unanswered_slots v.shape T l) h each
     (subst (λ hs. Contains hs h) (unanswered_is v T l stands lane) holds) ordered
   where
     P : Held → Type 0
-    P k = is_ordered (queue_of v.shape k.queue).kind ≡ true
-        → (k.queue < length v.shape.queues) × Contains (places_at v k.queue) (record { number = k.number; answered = false; forwards = [] })
-
-    once : Once T
-    once = once_of v T stands
+    P k = is_ordered (queue_of v.shape k.queue).kind ≡ true → (k.queue < length v.shape.queues) × HasOpenPlace (places_at v k.queue) k.number
 
     f : Facts v.shape T
     f = facts_of v T stands
@@ -157,21 +196,20 @@ held_has_place v T l h stands lane holds ordered = All-contains P (unanswered_sl
         (front_passes (is_answered T x.0) (hand T x.0)) (has-Contains (take_while (is_answered T x.0) (hand T x.0)) x.1 front))))
         (λ rest. rest) (front_or_rest (is_answered T x.0) x.1 (hand T x.0) in')
 
-    place_is : (x : ℕ × ℕ) → is_answered T x.0 x.1 ≡ false → place_at T x.0 x.1 ≡ record { number = x.1; answered = false; forwards = [] }
-    place_is x waits =
-        ap (λ b. record { number = x.1; answered = b; forwards = forwards T x.0 x.1 }) waits
-        ∙ ap (λ es. record { number = x.1; answered = false; forwards = es }) (once.unsent x.0 x.1 waits)
-
     pair : (x : ℕ × ℕ) → x.0 < length v.shape.queues → is_answered T x.0 x.1 ≡ false → has x.1 (hand T x.0) ≡ true → P (held_at v.shape T x)
     pair x there waits in' is = (
       there,
-      subst (λ ps. Contains ps (record { number = x.1; answered = false; forwards = [] }))
-          (sym (places_is v T x.0 stands there ∙ places_ordered v.shape T x.0 is))
-          (subst (Contains (map (place_at T x.0) (open_of T x.0))) (place_is x waits)
-          (Contains-map (place_at T x.0) (open_of T x.0) x.1 (has-Contains (open_of T x.0) x.1 (is_open x waits in')))),
+      record {
+        place = place_at T x.0 x.1;
+        there = subst (λ ps. Contains ps (place_at T x.0 x.1)) (sym (places_is v T x.0 stands there ∙ places_ordered v.shape T x.0 is))
+            (Contains-map (place_at T x.0) (open_of T x.0) x.1 (has-Contains (open_of T x.0) x.1 (is_open x waits in')));
+        number = refl;
+        waits = waits;
+      },
     )
 
     each : All P (unanswered_slots v.shape T l)
     each =
         All-map P (held_at v.shape T) (unanswered T l)
-        (λ k d lt. pair (get_or (unanswered T l) k d) (held_queues v.shape T l f k d lt) (once.unended l k d lt) (held_given v.shape T l f k d lt))
+        (λ k d lt. pair (get_or (unanswered T l) k d) (held_queues v.shape T l f k d lt) ((single_of v T stands).once.unended l k d lt)
+        (held_given v.shape T l f k d lt))

@@ -1,22 +1,24 @@
 -- What one more step makes of each word of a transcript: its new value at the steps that change it, and that it stays at the
 -- others. (Where a step is a constructor's, the premise that it brings nothing to a word is proved by `refl`.)
-use Rattle.std.proofs.Common.{◌≡◌, ◌≢◌, ℕ, ◌+◌, ◌-◌, ◌<◌, ◌≤◌, true, false, ◌||◌, ◌==◌, List, [], ◌∷◌, ◌++◌, length, map, drop, get_or, All, Option, Some, None, slice_get, filter_map, flat_map, sum_by, refl, sym, ap, ◌∙◌, arith, append-nil}
+use Rattle.std.proofs.Common.{◌≡◌, ◌≢◌, ℕ, ◌+◌, ◌-◌, ◌<◌, ◌≤◌, true, false, ◌||◌, ◌==◌, List, [], ◌∷◌, ◌++◌, length, map, drop, get_or, All, Option, Some, None, slice_get, filter_map, flat_map, sum_by, ◌⊎◌, inl, inr, ⊎_elim, refl, sym, ap, ◌∙◌, arith, append-nil}
 use Rattle.std.specs.List.{list_any, cons_option}
-use Rattle.std.proofs.lemmas.Bool.{or_left, or_right, and_from, and_left, and_right, and_parts, cond-true, cond-false}
+use Rattle.std.proofs.lemmas.Bool.{cases_lt, or_left, or_right, and_from, and_left, and_right, and_parts, cond-true, cond-false}
 use Rattle.std.proofs.lemmas.List.{length-append, length-drop, map-append, drop-map, drop_all, length-map}
 use Rattle.std.proofs.lemmas.List.Concat.{flat_map-append, length-flat_map}
 use Rattle.std.proofs.lemmas.List.Elements.{filter_map-append, All-weaker}
-use Rattle.std.proofs.lemmas.Option.{none-some, same_Some, cond_some}
+use Rattle.std.proofs.lemmas.List.Sums.{fold-append}
+use Rattle.std.proofs.lemmas.Option.{none-some, same_Some, cond_some, slice_get_within}
 use Rattle.evt_types.specs.Plan.{Plan}
-use Rattle.transcripts.specs.Transcript.{accepted_in, accepted, numbered, entered, event_at, slot_if, slot_at, given_to, out, answer_of, answers, unanswered, Held, held_at, unanswered_slots, next_pair, ends, ended, is_pair, is_answered, with_event, sends, sent, sent_for, forwards, given_of, hand, taken_in, taken, source_in, sources, kept_of, kept, open_of, is_shut, has_shut}
+use Rattle.transcripts.specs.Transcript.{accepted_in, accepted, numbered, entered, event_at, slot_if, slot_at, given_to, out, answer_of, answers, unanswered, Held, held_at, unanswered_slots, next_pair, ends, ended, is_pair, is_answered, with_event, sends, sent, sent_for, forwards, add_more, extras, given_of, hand, taken_in, taken, source_in, sources, kept_of, kept, open_of, is_shut, has_shut}
 use Rattle.lists.specs.Lists.{from_first}
+use Rattle.transcripts.specs.Standing.{events_of}
 use Rattle.evt_types.specs.declared.event.Event.{Event}
 use Rattle.evt_types.specs.declared.step.Outcome.{Outcome}
 use Rattle.evt_types.specs.declared.step.Outcome.TheVariants.{Forwarded, Released}
 use Rattle.evt_types.specs.declared.step.Source.{Source}
 use Rattle.evt_types.specs.declared.step.Source.TheVariants.{New, Of}
 use Rattle.evt_types.specs.declared.step.Step.{Step}
-use Rattle.evt_types.specs.declared.step.Step.TheVariants.{Accept, Give, Done, Turned, Bounced, Shut}
+use Rattle.evt_types.specs.declared.step.Step.TheVariants.{Accept, Give, Done, More, Turned, Bounced, Shut}
 use Rattle.lists.proofs.Lists.{eqb_same, eqb_other, eqb_is, filter_map-push, more_some, more_none, map_agree, with_past-push, list_any-append, list_any-push, or-false, slice_get-append_left, drop-slice_get, slice_get-some, drop_more_items, flat_map-agree, from_first-agree, from_first_le, from_first-push}
 
 -- ---- what a step brings to a word
@@ -79,6 +81,7 @@ accepted_in_is q (Accept r d c) e h =
     let parts = cond_some (r == q) d e h in (c, ap (λ k. Accept k d c) (eqb_is r q parts.0) ∙ ap (λ f. Accept q f c) parts.1)
 accepted_in_is q (Give l r n) e h = absurd (none-some e h)
 accepted_in_is q (Done l o) e h = absurd (none-some e h)
+accepted_in_is q (More l d) e h = absurd (none-some e h)
 accepted_in_is q (Turned l d) e h = absurd (none-some e h)
 accepted_in_is q (Bounced l) e h = absurd (none-some e h)
 accepted_in_is q Shut e h = absurd (none-some e h)
@@ -88,6 +91,7 @@ given_to_is l (Give m q n) x h =
     let parts = cond_some {A = ℕ × ℕ} (m == l) (q, n) x h in ap (λ k. Give k q n) (eqb_is m l parts.0) ∙ ap (λ (y : ℕ × ℕ). Give l y.0 y.1) parts.1
 given_to_is l (Accept q e c) x h = absurd (none-some x h)
 given_to_is l (Done m o) x h = absurd (none-some x h)
+given_to_is l (More m d) x h = absurd (none-some x h)
 given_to_is l (Turned m d) x h = absurd (none-some x h)
 given_to_is l (Bounced m) x h = absurd (none-some x h)
 given_to_is l Shut x h = absurd (none-some x h)
@@ -96,6 +100,7 @@ pub answer_of_is : (l : ℕ) (s : Step) (o : Outcome) → answer_of l s ≡ Some
 answer_of_is l (Done m d) o h = let parts = cond_some (m == l) d o h in ap (λ k. Done k d) (eqb_is m l parts.0) ∙ ap (Done l) parts.1
 answer_of_is l (Accept q e c) o h = absurd (none-some o h)
 answer_of_is l (Give m q n) o h = absurd (none-some o h)
+answer_of_is l (More m d) o h = absurd (none-some o h)
 answer_of_is l (Turned m d) o h = absurd (none-some o h)
 answer_of_is l (Bounced m) o h = absurd (none-some o h)
 answer_of_is l Shut o h = absurd (none-some o h)
@@ -104,6 +109,7 @@ pub given_of_is : (q : ℕ) (s : Step) (n : ℕ) → given_of q s ≡ Some n →
 given_of_is q (Give l r m) n h = let parts = cond_some (r == q) m n h in (l, ap (λ k. Give l k m) (eqb_is r q parts.0) ∙ ap (Give l q) parts.1)
 given_of_is q (Accept r e c) n h = absurd (none-some n h)
 given_of_is q (Done l o) n h = absurd (none-some n h)
+given_of_is q (More l d) n h = absurd (none-some n h)
 given_of_is q (Turned l d) n h = absurd (none-some n h)
 given_of_is q (Bounced l) n h = absurd (none-some n h)
 given_of_is q Shut n h = absurd (none-some n h)
@@ -114,6 +120,7 @@ source_in_is q (Accept r e (Of k m)) n h =
 source_in_is q (Accept r e (New l)) n h = absurd (none-some n h)
 source_in_is q (Give l r m) n h = absurd (none-some n h)
 source_in_is q (Done l o) n h = absurd (none-some n h)
+source_in_is q (More l d) n h = absurd (none-some n h)
 source_in_is q (Turned l d) n h = absurd (none-some n h)
 source_in_is q (Bounced l) n h = absurd (none-some n h)
 source_in_is q Shut n h = absurd (none-some n h)
@@ -126,6 +133,7 @@ taken_in_is q n (Accept r d (Of k m)) e h =
 taken_in_is q n (Accept r d (New l)) e h = absurd (none-some e h)
 taken_in_is q n (Give l r m) e h = absurd (none-some e h)
 taken_in_is q n (Done l o) e h = absurd (none-some e h)
+taken_in_is q n (More l d) e h = absurd (none-some e h)
 taken_in_is q n (Turned l d) e h = absurd (none-some e h)
 taken_in_is q n (Bounced l) e h = absurd (none-some e h)
 taken_in_is q n Shut e h = absurd (none-some e h)
@@ -134,23 +142,49 @@ pub ends_is : (P : List Step) (s : Step) (x : ℕ × ℕ) → ends P s ≡ Some 
 ends_is P (Done l o) x h = (l, o, refl, h)
 ends_is P (Accept q e c) x h = absurd (none-some x h)
 ends_is P (Give l q n) x h = absurd (none-some x h)
+ends_is P (More l d) x h = absurd (none-some x h)
 ends_is P (Turned l d) x h = absurd (none-some x h)
 ends_is P (Bounced l) x h = absurd (none-some x h)
 ends_is P Shut x h = absurd (none-some x h)
 
--- a step that forwards an event sends it for the pair that it ends
-pub sends_ends : (P : List Step) (s : Step) (x : ℕ × ℕ) (e : Event) → sends P s ≡ Some (x, e) → ends P s ≡ Some x
-sends_ends P (Done l (Forwarded d)) x e h = by_case (next_pair P l) h
-  where
-    by_case : (o : Option (ℕ × ℕ)) → with_event d o ≡ Some (x, e) → o ≡ Some x
-    by_case None k = absurd (none-some (x, e) k)
-    by_case (Some y) k = ap (λ z. Some z.0) (same_Some (y, d) (x, e) k)
-sends_ends P (Done l Released) x e h = absurd (none-some (x, e) h)
-sends_ends P (Accept q d s) x e h = absurd (none-some (x, e) h)
-sends_ends P (Give l q n) x e h = absurd (none-some (x, e) h)
-sends_ends P (Turned l d) x e h = absurd (none-some (x, e) h)
-sends_ends P (Bounced l) x e h = absurd (none-some (x, e) h)
-sends_ends P Shut x e h = absurd (none-some (x, e) h)
+-- A step that passes the event e on, from the pair that the lane answers next: the lane's FORWARD, or an addition.
+pub record Sends (P : List Step) (s : Step) (x : ℕ × ℕ) (e : Event) : Type 0 where
+  pub lane : ℕ
+  pub next : next_pair P lane ≡ Some x
+  pub is : (s ≡ Done lane (Forwarded e)) ⊎ (s ≡ More lane e)
+
+with_event_is : (d : Event) (o : Option (ℕ × ℕ)) (x : ℕ × ℕ) (e : Event) → with_event d o ≡ Some (x, e) → (o ≡ Some x) × (d ≡ e)
+with_event_is d None x e h = absurd (none-some (x, e) h)
+with_event_is d (Some y) x e h =
+    let same : ◌≡◌ {A = (ℕ × ℕ) × Event} (y, d) (x, e) = same_Some (y, d) (x, e) h in
+    (ap (λ (z : (ℕ × ℕ) × Event). Some z.0) same, ap (λ (z : (ℕ × ℕ) × Event). z.1) same)
+
+pub sends_is : (P : List Step) (s : Step) (x : ℕ × ℕ) (e : Event) → sends P s ≡ Some (x, e) → Sends P s x e
+sends_is P (Done l (Forwarded d)) x e h =
+    let parts = with_event_is d (next_pair P l) x e h in record { lane = l; next = parts.0; is = inl (ap (λ c. Done l (Forwarded c)) parts.1) }
+sends_is P (More l d) x e h = let parts = with_event_is d (next_pair P l) x e h in record { lane = l; next = parts.0; is = inr (ap (More l) parts.1) }
+sends_is P (Done l Released) x e h = absurd (none-some (x, e) h)
+sends_is P (Accept q d s) x e h = absurd (none-some (x, e) h)
+sends_is P (Give l q n) x e h = absurd (none-some (x, e) h)
+sends_is P (Turned l d) x e h = absurd (none-some (x, e) h)
+sends_is P (Bounced l) x e h = absurd (none-some (x, e) h)
+sends_is P Shut x e h = absurd (none-some (x, e) h)
+
+pub sending_done : (P : List Step) (l : ℕ) (x : ℕ × ℕ) (e : Event) → next_pair P l ≡ Some x → Sends P (Done l (Forwarded e)) x e
+sending_done P l x e next = record { lane = l; next = next; is = inl refl }
+
+pub sending_more : (P : List Step) (l : ℕ) (x : ℕ × ℕ) (e : Event) → next_pair P l ≡ Some x → Sends P (More l e) x e
+sending_more P l x e next = record { lane = l; next = next; is = inr refl }
+
+pub sends_as : (P : List Step) (s : Step) (x : ℕ × ℕ) (e : Event) → Sends P s x e → sends P s ≡ Some (x, e)
+sends_as P s x e h = ⊎_elim (λ is. ap (sends P) is ∙ ap (with_event e) h.next) (λ is. ap (sends P) is ∙ ap (with_event e) h.next) h.is
+
+-- it neither gives nor accepts
+pub sends_gives : (P : List Step) (s : Step) (x : ℕ × ℕ) (e : Event) → Sends P s x e → (q : ℕ) → given_of q s ≡ None
+sends_gives P s x e h q = ⊎_elim (λ is. ap (given_of q) is) (λ is. ap (given_of q) is) h.is
+
+pub sends_takes : (P : List Step) (s : Step) (x : ℕ × ℕ) (e : Event) → Sends P s x e → (q n : ℕ) → taken_in q n s ≡ None
+sends_takes P s x e h q n = ⊎_elim (λ is. ap (taken_in q n) is) (λ is. ap (taken_in q n) is) h.is
 
 -- ---- accepted, out, answers, hand, taken, sources
 
@@ -252,7 +286,7 @@ pub forwards-none : (P : List Step) (q n : ℕ) (s : Step) → sends P s ≡ Non
 unfolding forwards
 forwards-none P q n s h = ap (filter_map (sent_for q n)) (sent-none P s h)
 
--- at a step that forwards an event
+-- at a step that passes an event on
 pub forwards-sends : (P : List Step) (q n : ℕ) (s : Step) (y : (ℕ × ℕ) × Event) → sends P s ≡ Some y
     → forwards (P ++ s ∷ []) q n ≡ forwards P q n ++ cons_option (sent_for q n y) []
 unfolding forwards
@@ -272,6 +306,48 @@ pub forwards-push : (P : List Step) (q n : ℕ) (s : Step) → forwards (P ++ s 
     (cons_option (sends P s) [])
 unfolding forwards
 forwards-push P q n s = ap (filter_map (sent_for q n)) (sent-push P s) ∙ filter_map-append (sent_for q n) (sent P) (cons_option (sends P s) [])
+
+-- at an answer, and at an addition
+pub done_forwards : (P : List Step) (l : ℕ) (o : Outcome) (x : ℕ × ℕ) → next_pair P l ≡ Some x
+    → forwards (P ++ Done l o ∷ []) x.0 x.1 ≡ forwards P x.0 x.1 ++ events_of o
+done_forwards P l (Forwarded e) x next = forwards-some P x.0 x.1 (Done l (Forwarded e)) e (ap (with_event e) next)
+done_forwards P l Released x next = forwards-none P x.0 x.1 (Done l Released) refl ∙ sym (append-nil (forwards P x.0 x.1))
+
+pub done_forwards_other : (P : List Step) (l : ℕ) (o : Outcome) (x : ℕ × ℕ) (q n : ℕ) → next_pair P l ≡ Some x → is_pair q n x ≡ false
+    → forwards (P ++ Done l o ∷ []) q n ≡ forwards P q n
+done_forwards_other P l (Forwarded e) x q n next other = forwards-other P q n (Done l (Forwarded e)) x e (ap (with_event e) next) other
+done_forwards_other P l Released x q n next other = forwards-none P q n (Done l Released) refl
+
+pub more_forwards : (P : List Step) (l : ℕ) (e : Event) (x : ℕ × ℕ) → next_pair P l ≡ Some x
+    → forwards (P ++ More l e ∷ []) x.0 x.1 ≡ forwards P x.0 x.1 ++ e ∷ []
+more_forwards P l e x next = forwards-some P x.0 x.1 (More l e) e (ap (with_event e) next)
+
+pub more_forwards_other : (P : List Step) (l : ℕ) (e : Event) (x : ℕ × ℕ) (q n : ℕ) → next_pair P l ≡ Some x → is_pair q n x ≡ false
+    → forwards (P ++ More l e ∷ []) q n ≡ forwards P q n
+more_forwards_other P l e x q n next other = forwards-other P q n (More l e) x e (ap (with_event e) next) other
+
+-- an answer passes on one event at most
+pub events_few : (o : Outcome) → length (events_of o) ≤ 1
+events_few (Forwarded e) = omega arith
+events_few Released = omega arith
+
+-- ---- extras
+
+pub extras-push : (P : List Step) (l : ℕ) (s : Step) → extras (P ++ s ∷ []) l ≡ add_more l (extras P l) s
+unfolding extras
+extras-push P l s = fold-append (add_more l) [] P (s ∷ [])
+
+pub extras-more : (P : List Step) (l : ℕ) (e : Event) → extras (P ++ More l e ∷ []) l ≡ extras P l ++ e ∷ []
+extras-more P l e = extras-push P l (More l e) ∙ cond-true (l == l) (extras P l ++ e ∷ []) (extras P l) (eqb_same l)
+
+pub extras-more_other : (P : List Step) (l m : ℕ) (e : Event) → m ≢ l → extras (P ++ More m e ∷ []) l ≡ extras P l
+extras-more_other P l m e h = extras-push P l (More m e) ∙ cond-false (m == l) (extras P l ++ e ∷ []) (extras P l) (eqb_other m l h)
+
+pub extras-done : (P : List Step) (l : ℕ) (o : Outcome) → extras (P ++ Done l o ∷ []) l ≡ []
+extras-done P l o = extras-push P l (Done l o) ∙ cond-true (l == l) [] (extras P l) (eqb_same l)
+
+pub extras-done_other : (P : List Step) (l m : ℕ) (o : Outcome) → m ≢ l → extras (P ++ Done m o ∷ []) l ≡ extras P l
+extras-done_other P l m o h = extras-push P l (Done m o) ∙ cond-false (m == l) [] (extras P l) (eqb_other m l h)
 
 -- ---- is_answered
 
@@ -328,6 +404,11 @@ unanswered-done P l o h =
     unanswered-push P l (Done l o) h ∙ (ap (λ a. drop (length (cons_option a [])) (unanswered P l ++ [])) (answer_of-same l o)
     ∙ ap (drop 1) (append-nil (unanswered P l)))
 
+-- a lane that answered all that it was given
+all_answered : (P : List Step) (l : ℕ) → length (out P l) ≤ length (answers P l) → unanswered P l ≡ []
+unfolding unanswered
+all_answered P l past = drop_all (length (answers P l)) (out P l) past
+
 -- ---- next_pair
 
 pub length-unanswered : (P : List Step) (l : ℕ) → length (unanswered P l) ≡ length (out P l) - length (answers P l)
@@ -345,6 +426,36 @@ unanswered-next P l x h =
   where
     first : (xs ys : List (ℕ × ℕ)) → xs ≡ x ∷ ys → xs ≡ x ∷ drop 1 xs
     first xs ys e = rw e
+
+-- it stays the next where the step answers none of the lane's
+pub next_pair-stays : (P : List Step) (l : ℕ) (s : Step) (x : ℕ × ℕ) → answer_of l s ≡ None → next_pair P l ≡ Some x → next_pair (P ++ s ∷ []) l ≡ Some x
+next_pair-stays P l s x none next =
+    ap (λ es. slice_get (out (P ++ s ∷ []) l) (length es)) (answers-none P l s none)
+    ∙ (ap (λ xs. slice_get xs (length (answers P l))) (out-push P l s)
+    ∙ (slice_get-append_left (out P l) (cons_option (given_to l s) []) (length (answers P l))
+    (slice_get_within (out P l) (length (answers P l)) x next) ∙ next))
+
+-- and it was the next before, or nothing was unanswered and the step gives it
+pub next_pair-was : (P : List Step) (l : ℕ) (s : Step) (x : ℕ × ℕ) → length (answers P l) ≤ length (out P l) → answer_of l s ≡ None
+    → next_pair (P ++ s ∷ []) l ≡ Some x → (next_pair P l ≡ Some x) ⊎ ((unanswered P l ≡ []) × (given_to l s ≡ Some x))
+next_pair-was P l s x fewer none next = ⊎_elim old new (cases_lt (length (answers P l)) (length (out P l)))
+  where
+    old : length (answers P l) < length (out P l) → (next_pair P l ≡ Some x) ⊎ ((unanswered P l ≡ []) × (given_to l s ≡ Some x))
+    old some =
+        let was = slice_get-some (out P l) (length (answers P l)) some in
+        inl (was.1 ∙ (sym (next_pair-stays P l s was.0 none was.1) ∙ next))
+
+    given_is : (o : Option (ℕ × ℕ)) (ys : List (ℕ × ℕ)) → cons_option o [] ≡ x ∷ ys → o ≡ Some x
+    given_is None ys e = cc
+    given_is (Some y) ys e = cc
+
+    new : length (out P l) ≤ length (answers P l) → (next_pair P l ≡ Some x) ⊎ ((unanswered P l ≡ []) × (given_to l s ≡ Some x))
+    new past =
+        let empty : unanswered P l ≡ [] = all_answered P l past in
+        let left : unanswered (P ++ s ∷ []) l ≡ cons_option (given_to l s) [] =
+        unanswered-push P l s fewer ∙ (ap (λ o. drop (length (cons_option o [])) (unanswered P l ++ cons_option (given_to l s) [])) none
+        ∙ ap (λ xs. xs ++ cons_option (given_to l s) []) empty) in
+        inr (empty, given_is (given_to l s) (drop 1 (unanswered (P ++ s ∷ []) l)) (sym left ∙ unanswered-next (P ++ s ∷ []) l x next))
 
 -- ---- numbers, events and slots of accepted events
 
@@ -396,7 +507,7 @@ pub kept_of-none : (P : List Step) (q n : ℕ) (s : Step) → sends P s ≡ None
 kept_of-none P q n s h k =
     ap (λ es. drop (length es) (forwards (P ++ s ∷ []) q n)) (taken-none P q n s k) ∙ ap (drop (length (taken P q n))) (forwards-none P q n s h)
 
--- no event is kept of a number that wasn't forwarded
+-- no event is kept of a number that wasn't passed on
 pub kept_of-nil : (P : List Step) (q n : ℕ) → forwards P q n ≡ [] → kept_of P q n ≡ []
 kept_of-nil P q n h = ap (drop (length (taken P q n))) h ∙ drop_all (length (taken P q n)) [] (omega arith)
 
@@ -408,7 +519,7 @@ kept-none P q s h j k =
     ∙ flat_map-agree (λ n. map (λ e. (n, e)) (kept_of (P ++ s ∷ []) q n)) (λ n. map (λ e. (n, e)) (kept_of P q n)) (hand P q)
     (λ i d _. ap (map (λ e. (get_or (hand P q) i d, e))) (kept_of-none P q (get_or (hand P q) i d) s j (k (get_or (hand P q) i d))))
 
--- a number that is given, and that nothing was forwarded from
+-- a number that is given, and that wasn't passed on
 pub kept-gives : (P : List Step) (q : ℕ) (s : Step) (n : ℕ) → given_of q s ≡ Some n → sends P s ≡ None → ((m : ℕ) → taken_in q m s ≡ None)
     → forwards P q n ≡ [] → kept (P ++ s ∷ []) q ≡ kept P q
 unfolding kept

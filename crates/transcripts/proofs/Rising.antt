@@ -1,12 +1,12 @@
 -- An atomic queue's events of one flow and level are answered in the order of their numbers: they are given so, and those that are
--- unanswered at a time stand on one lane. So a forward that is accepted at its answer comes from no lower number than those before it.
+-- unanswered at a time stand on one lane. So an event that is accepted as it is passed on comes from no lower number than those before it.
 use Rattle.std.proofs.Common.{◌≡◌, ◌≢◌, ℕ, zero, suc, ◌+◌, ◌<◌, ◌≤◌, Bool, true, false, cond, ◌&&◌, ◌==◌, List, [], ◌∷◌, ◌++◌, length, map, drop, get_or, filter, All, AllPairs, Contains, Option, Some, None, slice_get, filter_map, ◌⊎◌, inl, inr, ⊎_elim, refl, sym, eq-eqb, ap, ◌∙◌, subst, arith, append-nil}
 use Rattle.std.specs.List.{cons_option}
 use Rattle.std.proofs.lemmas.Bool.{cases_Bool, cases_eq, false≢true, and_from, and_parts}
 use Rattle.std.proofs.lemmas.List.{length-append, get_or_append_left, get_or-append-add, get_or_default}
 use Rattle.std.proofs.lemmas.List.Elements.{All-nil, All-cons, All-drop, All-head, All-tail, All-weaker, Contains-append_right}
 use Rattle.std.proofs.lemmas.List.Kept.{AllPairs-filter}
-use Rattle.std.proofs.lemmas.Option.{none-some}
+use Rattle.std.proofs.lemmas.Option.{none-some, same_Some}
 use Rattle.evt_types.specs.Plan.{Plan, queue_of, level_of, slot_of, is_atomic, is_ordered}
 use Rattle.lists.specs.Lists.{has}
 use Rattle.transcripts.specs.Transcript.{accepted, accepted_in, entered, event_at, slot_at, slot_if, given_to, out, answer_of, answers, unanswered, Held, held_at, unanswered_slots, next_pair, ends, is_pair, is_answered, hand, waiting, named, named_at, given, taken, source_in, sources}
@@ -17,13 +17,14 @@ use Rattle.evt_types.specs.declared.event.Kind.{Kind}
 use Rattle.evt_types.specs.declared.event.Kind.TheVariants.{Ordered, Atomic, Parallel}
 use Rattle.evt_types.specs.declared.event.Numbered.{Numbered}
 use Rattle.evt_types.specs.declared.step.Outcome.{Outcome}
+use Rattle.evt_types.specs.declared.step.Outcome.TheVariants.{Released}
 use Rattle.evt_types.specs.declared.step.Step.{Step}
-use Rattle.evt_types.specs.declared.step.Step.TheVariants.{Accept, Give, Done, Turned, Bounced, Shut}
+use Rattle.evt_types.specs.declared.step.Step.TheVariants.{Accept, Give, Done, More, Turned, Bounced, Shut}
 use Rattle.transcripts.proofs.Facts.{IsGiven, Facts, AllowedAfter-push, AllowedAfter_keeps, given_is_accepted, next_pair_is_given, not_answered}
 use Rattle.transcripts.proofs.Flows.{key-flow}
 use Rattle.lists.proofs.Lists.{eqb_same, eqb_is, All-option, All-weaker_all, AllPairs-option, AllPairs-drop, AllPairs-weaker_all, Contains-filter, has-Contains, slice_get-some}
-use Rattle.transcripts.proofs.Pushes.{given_to_is, answer_of-same, source_in_is, is_pair_is, event_at-none, event_at-more, unanswered-push, unanswered-next, next_pair-some, done_count, sources-push, is_answered-more, is_answered-none, is_answered-other, ends_is}
-use Rattle.transcripts.proofs.Sources.{Once, Single-allowed}
+use Rattle.transcripts.proofs.Pushes.{given_to_is, answer_of-same, answer_of-other, answer_of_is, source_in_is, is_pair_is, event_at-none, event_at-more, unanswered-push, unanswered-next, next_pair-some, next_pair-stays, done_count, sources-push, is_answered-more, is_answered-none, is_answered-same, is_answered-other, ends_is}
+use Rattle.transcripts.proofs.Once.{Once, Single-allowed}
 use Rattle.transcripts.proofs.Waits.{entered-rises, waiting_at}
 use Rattle.transcripts.proofs.Whole.{Known, Known-allowed}
 
@@ -104,11 +105,15 @@ Rises p T x y = x.0 ≡ y.0 → is_atomic (queue_of p y.0).kind ≡ true → kee
 abbrev IsNotPassed : Plan → List Step → ℕ × ℕ → Type 0
 IsNotPassed p T y = (m : ℕ) → is_atomic (queue_of p y.0).kind ≡ true → is_answered T y.0 m ≡ true → keeps_with p T y.0 m y.1 ≡ true → m ≤ y.1
 
+-- the number is answered, or it is a lane's turn to answer it
+abbrev IsSource : List Step → ℕ → ℕ → Type 0
+IsSource T q m = (is_answered T q m ≡ true) ⊎ ((l : ℕ) × (next_pair T l ≡ Some (q, m)))
+
 pub record Rising (p : Plan) (T : List Step) : Type 0 where
   pub allowed : AllowedAfter p [] T
   pub lanes : (l : ℕ) → AllPairs (Rises p T) (unanswered T l)
   pub answered : (l : ℕ) → All (IsNotPassed p T) (unanswered T l)
-  pub sources : (q : ℕ) → All (λ m. is_answered T q m ≡ true) (sources T q)
+  pub sources : (q : ℕ) → All (IsSource T q) (sources T q)
 
 Rising-none : (p : Plan) → Rising p []
 unfolding unanswered out answers sources
@@ -193,9 +198,8 @@ Rising-push p P s h a = record {
       (AllPairs-weaker_all (IsGiven P) (Rises p P) (Rises p T) (unanswered P l) (unanswered_is_given p P l f) rises_stays (h.lanes l)) (new_last l)));
   answered = λ l. rw (more l) (passed s refl l);
   sources =
-      λ q. rw (sources-push P q s) (All-option (λ m. is_answered T q m ≡ true) (sources P q) (source_in q s)
-      (All-weaker (λ m. is_answered P q m ≡ true) (λ m. is_answered T q m ≡ true) (λ m k. is_answered-more P q m s k) (sources P q) (h.sources q))
-      (new_source q));
+      λ q. rw (sources-push P q s) (All-option (IsSource T q) (sources P q) (source_in q s)
+      (All-weaker (IsSource P q) (IsSource T q) (λ m k. source_stays q m k) (sources P q) (h.sources q)) (new_source q));
 }
   where
     T : List Step
@@ -287,32 +291,63 @@ Rising-push p P s h a = record {
     passed (Accept q e c) is l = left l (λ m. ap (answer_of m) is) (ap (ends P) is)
     passed (Give m q n) is l = left l (λ k. ap (answer_of k) is) (ap (ends P) is)
     passed (Done m o) is l = answers_one m o is l
+    passed (More m e) is l = left l (λ k. ap (answer_of k) is) (ap (ends P) is)
     passed (Turned m e) is l = left l (λ k. ap (answer_of k) is) (ap (ends P) is)
     passed (Bounced m) is l = left l (λ k. ap (answer_of k) is) (ap (ends P) is)
     passed Shut is l = left l (λ k. ap (answer_of k) is) (ap (ends P) is)
 
-    new_source : (q n : ℕ) → source_in q s ≡ Some n → is_answered T q n ≡ true
+    source_stays : (q m : ℕ) → IsSource P q m → IsSource T q m
+    source_stays q m (inl done) = inl (is_answered-more P q m s done)
+    source_stays q m (inr held) = by_answer (answer_of held.0 s) refl
+      where
+        by_answer : (o : Option Outcome) → answer_of held.0 s ≡ o → IsSource T q m
+        by_answer None e = inr (held.0, next_pair-stays P held.0 s (q, m) e held.1)
+        by_answer (Some o) e = inl (is_answered-same P q m s (ap (ends P) (answer_of_is held.0 s o e) ∙ held.1))
+
+    new_source : (q n : ℕ) → source_in q s ≡ Some n → IsSource T q n
     new_source q n e =
         let accept = source_in_is q s n e in
         let may : MayAcceptOf p P accept.1 q n = (subst (Allowed p P) accept.2 a).needs in
         let once : Once P = (Single-allowed p P h.allowed).once in
-        is_answered-more P q n s
-        (⊎_elim (λ yes. yes) (λ no. absurd (none-some accept.1
-        (ap (λ es. slice_get es (length (taken P q n))) (sym (once.unsent q n no)) ∙ may.origin)))
-        (cases_Bool (is_answered P q n)))
+        source_stays q n
+        (⊎_elim (λ yes. inl yes) (λ no. ⊎_elim
+        (λ none. absurd (none-some accept.1 (ap (λ es. slice_get es (length (taken P q n))) (sym none) ∙ may.origin)))
+        (λ held. inr held) (once.unsent q n no)) (cases_Bool (is_answered P q n)))
 
 Rising-allowed : (p : Plan) (T : List Step) → AllowedAfter p [] T → Rising p T
 Rising-allowed p T all = AllowedAfter_keeps p (Rising p) (Rising-push p) [] T (Rising-none p) all
 
 -- ---- what follows
 
--- a forward from an atomic queue's pair that the lane answers next may be accepted once it is answered: it comes from no lower number
+-- what an atomic queue's pair that the lane answers next is passed on as may be accepted: it comes from no lower number
 pub next_rises : (p : Plan) (T : List Step) (l : ℕ) (x : ℕ × ℕ) → AllowedAfter p [] T → next_pair T l ≡ Some x
     → is_atomic (queue_of p x.0).kind ≡ true
     → All (λ m. keeps_with p T x.0 m x.1 ≡ true → m ≤ x.1) (sources T x.0)
-next_rises p T l x all next atomic =
-    let h = Rising-allowed p T all in
-    let not : IsNotPassed p T x = All-head (IsNotPassed p T) x (drop 1 (unanswered T l))
-    (subst (All (IsNotPassed p T)) (unanswered-next T l x next) (h.answered l)) in
-    All-weaker (λ m. is_answered T x.0 m ≡ true) (λ m. keeps_with p T x.0 m x.1 ≡ true → m ≤ x.1) (λ m done keeps. not m atomic done keeps)
-    (sources T x.0) (h.sources x.0)
+next_rises p T l x all next atomic = All-weaker (IsSource T x.0) (λ m. keeps_with p T x.0 m x.1 ≡ true → m ≤ x.1) low (sources T x.0) (h.sources x.0)
+  where
+    h : Rising p T
+    h = Rising-allowed p T all
+
+    first : unanswered T l ≡ x ∷ drop 1 (unanswered T l)
+    first = unanswered-next T l x next
+
+    not : IsNotPassed p T x
+    not = All-head (IsNotPassed p T) x (drop 1 (unanswered T l)) (subst (All (IsNotPassed p T)) first (h.answered l))
+
+    -- another lane's turn to answer: its pair comes no later than this one
+    other_turn : (k m : ℕ) → k ≢ l → next_pair T k ≡ Some (x.0, m) → Rises p T (x.0, m) x
+    other_turn k m differs at_k =
+        let left : All (Rises p T (x.0, m)) (unanswered T l) =
+        subst (λ c. All (Rises p T (x.0, m)) (drop c (unanswered T l))) (ap (λ o. length (cons_option o [])) (answer_of-other l k Released differs))
+        (ended_rises p T k Released (x.0, m) h at_k l) in
+        All-head (Rises p T (x.0, m)) x (drop 1 (unanswered T l)) (subst (All (Rises p T (x.0, m))) first left)
+
+    low : (m : ℕ) → IsSource T x.0 m → keeps_with p T x.0 m x.1 ≡ true → m ≤ x.1
+    low m (inl done) keeps = not m atomic done keeps
+    low m (inr held) keeps = by_lane (cases_eq held.0 l)
+      where
+        by_lane : (held.0 ≡ l) ⊎ (held.0 ≢ l) → m ≤ x.1
+        by_lane (inl same) =
+            let this : ◌≡◌ {A = ℕ × ℕ} (x.0, m) x = same_Some (x.0, m) x (sym held.1 ∙ (ap (next_pair T) same ∙ next)) in
+            omega (arith, ap (λ (y : ℕ × ℕ). y.1) this)
+        by_lane (inr differs) = other_turn held.0 m differs held.1 refl atomic keeps

@@ -8,7 +8,7 @@ use Rattle.transcripts.specs.Lawful.{until_shut, since_shut, IsClosed}
 use Rattle.transcripts.specs.Allowed.{Needs}
 use Rattle.evt_types.specs.declared.step.Source.TheVariants.{New, Of}
 use Rattle.evt_types.specs.declared.step.Step.{Step}
-use Rattle.evt_types.specs.declared.step.Step.TheVariants.{Accept, Give, Done, Turned, Bounced, Shut}
+use Rattle.evt_types.specs.declared.step.Step.TheVariants.{Accept, Give, Done, More, Turned, Bounced, Shut}
 use Rattle.lists.proofs.Lists.{All-last}
 
 -- ---- the steps before the first Shut, and those after it
@@ -59,6 +59,7 @@ after_shut p P (Accept q e (New l)) h needs = absurd (false≢true (sym needs.cl
 after_shut p P (Accept q e (Of r n)) h needs = (refl, refl)
 after_shut p P (Give l q n) h needs = (refl, refl)
 after_shut p P (Done l o) h needs = (refl, refl)
+after_shut p P (More l e) h needs = (refl, refl)
 after_shut p P (Turned l e) h needs = (refl, refl)
 after_shut p P (Bounced l) h needs = (refl, refl)
 after_shut p P Shut h needs = absurd (false≢true (sym needs ∙ h))
@@ -67,6 +68,7 @@ before_shut : (p : Plan) (P : List Step) (s : Step) → has_shut P ≡ false →
 before_shut p P (Accept q e c) h needs = refl
 before_shut p P (Give l q n) h needs = refl
 before_shut p P (Done l o) h needs = refl
+before_shut p P (More l e) h needs = refl
 before_shut p P (Turned l e) h needs = absurd (false≢true (sym h ∙ needs))
 before_shut p P (Bounced l) h needs = refl
 before_shut p P Shut h needs = refl

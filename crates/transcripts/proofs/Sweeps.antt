@@ -4,8 +4,9 @@ use Rattle.std.proofs.lemmas.List.{length-append}
 use Rattle.std.proofs.lemmas.List.Elements.{All-nil, All-cons, All-head, All-tail}
 use Rattle.evt_types.specs.Plan.{Plan, kept_room, lanes_of}
 use Rattle.evt_types.specs.declared.event.Event.{Event}
+use Rattle.evt_types.specs.declared.event.TheConstants.{MAX_FORWARDS}
 use Rattle.evt_types.specs.declared.step.Step.{Step}
-use Rattle.evt_types.specs.declared.step.Step.TheVariants.{Accept, Give, Done, Turned, Bounced, Shut}
+use Rattle.evt_types.specs.declared.step.Step.TheVariants.{Accept, Give, Done, More, Turned, Bounced, Shut}
 use Rattle.lists.proofs.Sums.{length_by_keys}
 use Rattle.transcripts.specs.Standing.{View, Stands, steps_of, after, kept_in}
 use Rattle.transcripts.specs.Sweep.{IsOffered, IsSweep, MayBeTaken, Sweeping, bounced_lane, given_queue, replies_steps, sweep_room, sweep_steps}
@@ -39,6 +40,7 @@ offered_parts p (Give l q n ∷ steps) all = omega (arith, offered_parts p steps
 offered_parts p (Bounced l ∷ steps) all = omega (arith, offered_parts p steps (All-tail (IsOffered p) (Bounced l) steps all))
 offered_parts p (Accept q e s ∷ steps) all = absurd (All-head (IsOffered p) (Accept q e s) steps all)
 offered_parts p (Done l o ∷ steps) all = absurd (All-head (IsOffered p) (Done l o) steps all)
+offered_parts p (More l e ∷ steps) all = absurd (All-head (IsOffered p) (More l e) steps all)
 offered_parts p (Turned l e ∷ steps) all = absurd (All-head (IsOffered p) (Turned l e) steps all)
 offered_parts p (Shut ∷ steps) all = absurd (All-head (IsOffered p) Shut steps all)
 
@@ -50,6 +52,7 @@ queues_there p (Give l q n ∷ steps) all =
 queues_there p (Bounced l ∷ steps) all = queues_there p steps (All-tail (IsOffered p) (Bounced l) steps all)
 queues_there p (Accept q e s ∷ steps) all = absurd (All-head (IsOffered p) (Accept q e s) steps all)
 queues_there p (Done l o ∷ steps) all = absurd (All-head (IsOffered p) (Done l o) steps all)
+queues_there p (More l e ∷ steps) all = absurd (All-head (IsOffered p) (More l e) steps all)
 queues_there p (Turned l e ∷ steps) all = absurd (All-head (IsOffered p) (Turned l e) steps all)
 queues_there p (Shut ∷ steps) all = absurd (All-head (IsOffered p) Shut steps all)
 
@@ -61,6 +64,7 @@ full_there p (Bounced l ∷ steps) all =
     (full_there p steps (All-tail (IsOffered p) (Bounced l) steps all))
 full_there p (Accept q e s ∷ steps) all = absurd (All-head (IsOffered p) (Accept q e s) steps all)
 full_there p (Done l o ∷ steps) all = absurd (All-head (IsOffered p) (Done l o) steps all)
+full_there p (More l e ∷ steps) all = absurd (All-head (IsOffered p) (More l e) steps all)
 full_there p (Turned l e ∷ steps) all = absurd (All-head (IsOffered p) (Turned l e) steps all)
 full_there p (Shut ∷ steps) all = absurd (All-head (IsOffered p) Shut steps all)
 
@@ -84,7 +88,7 @@ sweep_fits v T s stands sweep =
     let short = shut_short v s.shut sweep.shut in
     let taking : length (replies_steps (after v s.shut) s.taken) ≤ kept_in (after v s.shut) + 2 * length s.taken =
     replies_fit (after v s.shut) (T ++ s.shut) s.taken (shut_stands v T s.shut stands sweep.shut) sweep.taken in
-    let kept : kept_in v ≤ sum_by kept_room v.shape.queues = kept_fit v T stands in
+    let kept : kept_in v ≤ MAX_FORWARDS * sum_by kept_room v.shape.queues = kept_fit v T stands in
     let taken : length s.taken ≤ lanes_of v.shape * v.shape.sweep =
     length_by_keys (λ (r : ℕ × Event). r.0) (lanes_of v.shape) v.shape.sweep s.taken
     (lanes_there (after v s.shut) (lanes_of v.shape) s.taken (ap lanes_of (shape_after v s.shut)) sweep.taken) sweep.few_taken in

@@ -5,17 +5,18 @@ use Rattle.std.proofs.lemmas.List.{map-append}
 use Rattle.evt_types.specs.Plan.{Plan, queue_of, lanes_of, bound_of, is_ordered, queues}
 use Rattle.evt_types.specs.declared.event.Event.{Event}
 use Rattle.evt_types.specs.declared.event.Op.{Op}
+use Rattle.evt_types.specs.declared.event.TheConstants.{MAX_EXTRAS}
 use Rattle.evt_types.specs.declared.event.Op.TheVariants as ops
 use Rattle.evt_types.specs.declared.step.Step.{Step}
 use Rattle.transcripts.specs.Lawful.{Lawful}
-use Rattle.transcripts.specs.Standing.{View, Stands, view_of, places, place_at, kept_in, inside_of, entries_of, may_enter, may_answer, may_forward, may_take_by, may_take, may_enter_at, may_answer_at, may_forward_at, may_be_taken_by, may_be_taken, kept_in_place, kept_under, kept_at}
-use Rattle.transcripts.specs.Transcript.{accepted, inside, entries, kept, forwards, open_of, has_shut}
+use Rattle.transcripts.specs.Standing.{View, Stands, view_of, places, place_at, kept_in, inside_of, entries_of, extras_at, may_enter, may_answer, may_forward, may_add, may_take_by, may_take, may_enter_at, may_answer_at, may_forward_at, may_add_at, may_be_taken_by, may_be_taken, kept_in_place, kept_under, kept_at}
+use Rattle.transcripts.specs.Transcript.{accepted, inside, entries, extras, kept, forwards, open_of, has_shut}
 use Rattle.transcripts.proofs.AnsweredPlaces.{places_ordered, places_plain}
 use Rattle.lists.proofs.Fronts.{tag, tagged}
 use Rattle.transcripts.proofs.Overdue.{kept_plain, kept_is_open, settled_overdue}
 use Rattle.lists.proofs.Sums.{sum_of_map}
 use Rattle.transcripts.proofs.Whole.{Known-allowed, steps-Lawful}
-use Rattle.transcripts.proofs.WholeStands.{facts_of, kept_of_view, inside_is, shut_is, places_is, unanswered_count}
+use Rattle.transcripts.proofs.WholeStands.{facts_of, kept_of_view, inside_is, shut_is, places_is, unanswered_count, extras_count}
 
 -- ---- how many
 
@@ -44,10 +45,17 @@ may_forward_is v T l q stands lane =
     ap (λ b. b && (nat_lt q (length v.shape.queues) && nat_lt (entries_of v) (2 ^ 63))) (may_answer_is v T l stands lane)
     ∙ ap (λ n. may_answer_at T l && (nat_lt q (length v.shape.queues) && nat_lt n (2 ^ 63))) (entries_is v T stands)
 
+may_add_is : (v : View) (T : List Step) (l q : ℕ) → Stands T v → l < lanes_of v.shape → may_add v l q ≡ may_add_at v.shape T l q
+may_add_is v T l q stands lane =
+    ap (λ b. b && (nat_lt (extras_at v l) MAX_EXTRAS && nat_lt (inside_of v) (bound_of v.shape))) (may_forward_is v T l q stands lane)
+    ∙ (ap (λ n. may_forward_at v.shape T l q && (nat_lt n MAX_EXTRAS && nat_lt (inside_of v) (bound_of v.shape))) (extras_count v T l stands lane)
+    ∙ ap (λ n. may_forward_at v.shape T l q && (nat_lt (length (extras T l)) MAX_EXTRAS && nat_lt n (bound_of v.shape))) (inside_is v T stands))
+
 may_take_by_is : (o : Op) (v : View) (T : List Step) (l : ℕ) (e : Event) → Stands T v → l < lanes_of v.shape → may_take_by o v l e ≡ may_be_taken_by o v.shape T l e
 may_take_by_is ops.New v T l e stands lane = ap (λ b. nat_lt l (length v.shape.ports) && b) (may_enter_is v T e.queue stands)
 may_take_by_is ops.Forward v T l e stands lane = may_forward_is v T l e.queue stands lane
 may_take_by_is ops.Release v T l e stands lane = may_answer_is v T l stands lane
+may_take_by_is ops.ForwardMore v T l e stands lane = may_add_is v T l e.queue stands lane
 
 pub may_take_is : (v : View) (T : List Step) (l : ℕ) (e : Event) → Stands T v → l < lanes_of v.shape → may_take v l e ≡ may_be_taken v.shape T l e
 may_take_is v T l e stands lane = may_take_by_is e.op v T l e stands lane

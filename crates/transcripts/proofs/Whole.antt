@@ -7,21 +7,22 @@ use Rattle.std.proofs.lemmas.List.Elements.{All-nil, All-cons}
 use Rattle.evt_types.specs.Plan.{Plan, bound_of, queues, lanes, queue_of, level_of, depth_of, is_atomic, is_ordered}
 use Rattle.lists.specs.Lists.{has}
 use Rattle.transcripts.specs.Transcript.{accepted, out, answers, unanswered, sent, forwards, hand, waiting, taken, sources, kept, open_of, inside}
-use Rattle.transcripts.specs.Lawful.{IsFormed, AnswersWhatItHas, GivesOnce, IsLinked, HasRoom, is_of_flow, is_of_level, KeepsFlow, IsAlone, keeps_order, KeepsOrder, HasOrigin, IsClosed, IsSettled, Lawful}
-use Rattle.transcripts.specs.Allowed.{Allowed, StepsLawful, AllowedAfter, Needs, MayGiveNumber, MayAcceptOf}
+use Rattle.transcripts.specs.Lawful.{IsFormed, AnswersWhatItHas, AddsFew, GivesOnce, IsLinked, HasRoom, is_of_flow, is_of_level, KeepsFlow, IsAlone, keeps_order, KeepsOrder, HasOrigin, IsClosed, IsSettled, Lawful}
+use Rattle.transcripts.specs.Allowed.{Allowed, StepsLawful, AllowedAfter, Needs, MayGiveNumber, MayAcceptOf, MayAdd}
 use Rattle.evt_types.specs.declared.event.Event.{Event}
 use Rattle.evt_types.specs.declared.event.Numbered.{Numbered}
 use Rattle.evt_types.specs.declared.step.Source.TheVariants.{New, Of}
 use Rattle.evt_types.specs.declared.step.Step.{Step}
-use Rattle.evt_types.specs.declared.step.Step.TheVariants.{Accept, Give, Done, Turned, Bounced, Shut}
+use Rattle.evt_types.specs.declared.step.Step.TheVariants.{Accept, Give, Done, More, Turned, Bounced, Shut}
 use Rattle.lists.proofs.Lists.{eqb_same}
 use Rattle.transcripts.proofs.Waits.{waiting_is_not_given}
 use Rattle.transcripts.proofs.Facts.{Facts, Facts-none, Facts-push, AllowedAfter-push, AllowedAfter-take, AllowedAfter-at, AllowedAfter_keeps}
+use Rattle.transcripts.proofs.Extras.{extras_none, extras_more, few_needs, beside_needs}
 use Rattle.transcripts.proofs.Alones.{alone_more, alone_needs}
 use Rattle.transcripts.proofs.Flows.{IsKey, InOrder, key-flow, key-level, flow_more, flow_needs}
-use Rattle.transcripts.proofs.Insides.{inside_more, inside_needs}
+use Rattle.transcripts.proofs.Insides.{inside_more, inside_needs, added_needs}
 use Rattle.transcripts.proofs.Orders.{order_more, order_needs, answered_needs, rises_needs, source_is_given}
-use Rattle.transcripts.proofs.Origins.{origin_more, origin_needs}
+use Rattle.transcripts.proofs.Origins.{origin_more, origin_needs, origin_fewer}
 use Rattle.transcripts.proofs.Rooms.{done_needs, once_more, once_needs, linked_more, linked_needs, lanes_more, lanes_needs, places_more, places_needs}
 use Rattle.transcripts.proofs.Shuts.{closed_more, new_needs, shut_needs, turned_needs}
 
@@ -29,6 +30,7 @@ use Rattle.transcripts.proofs.Shuts.{closed_more, new_needs, shut_needs, turned_
 
 pub record Known (p : Plan) (T : List Step) : Type 0 where
   pub facts : Facts p T
+  pub extras : AddsFew T
   pub origin : HasOrigin T
   pub flow : (q : ℕ) (key : Numbered → Bool) → IsKey p q key → InOrder key T q
   pub alone : IsAlone p T
@@ -57,6 +59,7 @@ pub Known-none : (p : Plan) → Known p []
 unfolding waiting unanswered accepted hand out answers taken forwards sent sources open_of
 Known-none p = record {
   facts = Facts-none p;
+  extras = extras_none;
   origin = λ q n. ([], refl);
   flow = λ q key is. refl;
   alone = λ q atomic l m apart k d lt. absurd (omega arith);
@@ -74,6 +77,7 @@ Known-none p = record {
 pub Known-push : (p : Plan) (P : List Step) (s : Step) → Known p P → Allowed p P s → Known p (P ++ s ∷ [])
 Known-push p P s h a = record {
   facts = Facts-push p P s h.facts a;
+  extras = extras_more p P s h.facts h.extras a.needs;
   origin = origin_more p P s h.origin a.needs;
   flow = λ q key is. flow_more p P s q key h.facts is (h.flow q key is) a.needs;
   alone = alone_more p P s h.facts h.alone a;
@@ -92,6 +96,7 @@ Known-allowed p T all = AllowedAfter_keeps p (Known p) (Known-push p) [] T (Know
 
 pub record Clauses (p : Plan) (T : List Step) : Type 0 where
   pub answers : AnswersWhatItHas T
+  pub extras : AddsFew T
   pub once : GivesOnce T
   pub linked : IsLinked p T
   pub room : HasRoom p T
@@ -104,6 +109,7 @@ pub record Clauses (p : Plan) (T : List Step) : Type 0 where
 clauses_known : (p : Plan) (T : List Step) → Known p T → Clauses p T
 clauses_known p T h = record {
   answers = h.facts.answers;
+  extras = h.extras;
   once = once_more p T h.facts;
   linked = h.linked;
   room = record { lanes = h.lanes; places = h.places; inside = h.inside };
@@ -120,6 +126,7 @@ clauses_known p T h = record {
 clauses_at : (p : Plan) (T : List Step) (k : ℕ) → k ≤ length T → Lawful p T → Clauses p (take k T)
 clauses_at p T k le h = record {
   answers = h.answers k le;
+  extras = h.extras k le;
   once = h.once k le;
   linked = h.linked k le;
   room = h.room k le;
@@ -140,6 +147,7 @@ pub Lawful-steps : (p : Plan) (T : List Step) → StepsLawful p T → Lawful p T
 Lawful-steps p T h = record {
   formed = AllowedAfter-formed p [] T h.steps;
   answers = λ k le. (at k).answers;
+  extras = λ k le. (at k).extras;
   once = λ k le. (at k).once;
   linked = λ k le. (at k).linked;
   room = λ k le. (at k).room;
@@ -217,12 +225,22 @@ accept_of_needs p P q r n e h after =
       rises = λ atomic. rises_needs p P q r n e h.facts (source_is_given p P e r n h.facts origin) (after.order.atomic r atomic);
     }
 
+more_needs : (p : Plan) (P : List Step) (l : ℕ) (e : Event) → Known p P → Clauses p (P ++ More l e ∷ []) → MayAdd p P l
+more_needs p P l e h after =
+    let beside = beside_needs P l e after.extras in
+    record {
+      beside = beside;
+      few = few_needs P l e after.extras;
+      room = added_needs p P l e h.facts (origin_fewer P h.origin) beside after.room.inside;
+    }
+
 needs_next : (p : Plan) (P : List Step) (s : Step) → Known p P → IsFormed p s → Clauses p (P ++ s ∷ []) → Needs p P s
 needs_next p P (Accept q e (New l)) h formed after =
     record { closed = new_needs P (Accept q e (New l)) refl after.closed; room = inside_needs p P q e l h.facts formed.entry.queue after.room.inside }
 needs_next p P (Accept q e (Of r n)) h formed after = accept_of_needs p P q r n e h after
 needs_next p P (Give l q n) h formed after = give_needs p P l q n h after
 needs_next p P (Done l o) h formed after = done_needs P l o after.answers
+needs_next p P (More l e) h formed after = more_needs p P l e h after
 needs_next p P (Turned l e) h formed after = turned_needs P (Turned l e) refl refl after.closed
 needs_next p P (Bounced l) h formed after = tt
 needs_next p P Shut h formed after = shut_needs P Shut refl after.closed

@@ -6,34 +6,36 @@ use Rattle.std.proofs.lemmas.List.Concat.{length-flat_map}
 use Rattle.std.proofs.lemmas.List.Elements.{All-nil}
 use Rattle.transcripts.specs.Allowed.{Allowed, AllowedAfter}
 use Rattle.transcripts.specs.Choice.{IsOffer}
-use Rattle.transcripts.specs.Lawful.{Lawful, IsFormed, IsOutcome, IsSettled, keeps_order}
+use Rattle.transcripts.specs.Lawful.{Lawful, IsFormed, IsOutcome, IsAddition, IsSettled, keeps_order}
 use Rattle.evt_types.specs.Plan.{Plan, queue_of, lanes_of, depth_of, bound_of, slot_of, is_atomic, is_ordered, queues, lanes}
-use Rattle.transcripts.specs.Standing.{View, Stands, view_of, places, place_at, places_at, waiting_at, unanswered_at, kept_in, after_accept, after_give, after_done, after_step, after, oldest_at, events_of, answer_place, answered_places, leaving, accepts_from, accepts_of, answer_steps, steps_by, steps_of, entries_of, may_enter, may_take_by, may_take, AreStepsOf}
+use Rattle.transcripts.specs.Standing.{View, Stands, view_of, places, place_at, places_at, waiting_at, unanswered_at, extras_at, kept_in, after_accept, after_give, after_done, after_more, after_step, after, oldest_at, events_of, answer_place, answered_places, leaving, accepts_from, accepts_of, added_of, answer_steps, more_steps, steps_by, steps_of, entries_of, may_enter, may_forward, may_take_by, may_take, AreStepsOf}
 use Rattle.evt_types.specs.Place.{Place}
 use Rattle.transcripts.specs.Standing as standing
-use Rattle.transcripts.specs.Transcript.{event_at, given_to, out, unanswered, unanswered_slots, Held, held_at, next_pair, hand, waiting, kept, forwards, open_of, inside, has_shut}
+use Rattle.transcripts.specs.Transcript.{event_at, given_to, out, unanswered, unanswered_slots, Held, held_at, next_pair, hand, waiting, kept, forwards, extras, open_of, inside, has_shut}
 use Rattle.evt_types.specs.declared.event.Event.{Event}
 use Rattle.evt_types.specs.declared.event.Numbered.{Numbered}
+use Rattle.evt_types.specs.declared.event.TheConstants.{MAX_EXTRAS}
 use Rattle.evt_types.specs.declared.event.Op.{Op}
 use Rattle.evt_types.specs.declared.event.Op.TheVariants as ops
 use Rattle.evt_types.specs.declared.step.Outcome.{Outcome}
 use Rattle.evt_types.specs.declared.step.Outcome.TheVariants.{Forwarded, Released}
 use Rattle.evt_types.specs.declared.step.Source.TheVariants.{New, Of}
 use Rattle.evt_types.specs.declared.step.Step.{Step}
-use Rattle.evt_types.specs.declared.step.Step.TheVariants.{Accept, Give, Done, Turned, Bounced, Shut}
+use Rattle.evt_types.specs.declared.step.Step.TheVariants.{Accept, Give, Done, More, Turned, Bounced, Shut}
+use Rattle.transcripts.proofs.AddedPlaces.{more_overdue_plain, more_overdue_ordered}
 use Rattle.transcripts.proofs.AnsweredPlaces.{accept_from, places_ordered, places_plain, leaving_accepts, done_overdue_plain, done_overdue_ordered}
 use Rattle.transcripts.proofs.Facts.{Facts, Facts-allowed, Facts-push, next_pair-queue}
 use Rattle.lists.proofs.Lists.{filter_map-none}
 use Rattle.lists.proofs.Fronts.{tag, tagged, map_tag}
 use Rattle.transcripts.proofs.Overdue.{overdue, settled_stays, settled_give, settled_overdue, kept_plain, kept_is_open}
-use Rattle.transcripts.proofs.Pending.{Settles, pending_all, answered_pending}
+use Rattle.transcripts.proofs.Pending.{Pending, Settles, pending_all, answered_pending, added_pending}
 use Rattle.transcripts.proofs.Pushes.{given_to-other, next_pair-some}
 use Rattle.transcripts.proofs.Replies.{steps_by-form}
 use Rattle.lists.proofs.Sums.{sum_agree}
 use Rattle.lists.proofs.Sums.{sum_of_map}
 use Rattle.transcripts.proofs.Waits.{waiting_at as accepted_at, waiting_is_not_given}
 use Rattle.transcripts.proofs.Whole.{Known-allowed, Lawful-push, Lawful-steps, steps-Lawful}
-use Rattle.transcripts.proofs.WholeViews.{waiting_of_view, places_of_view, unanswered_of_view, oldest_of_view, shape_of_view, shut_of_view, view_accept, view_give, view_done, view_same, view_shut}
+use Rattle.transcripts.proofs.WholeViews.{waiting_of_view, places_of_view, unanswered_of_view, extras_of_view, oldest_of_view, shape_of_view, shut_of_view, view_accept, view_give, view_done, view_more, view_same, view_shut}
 
 -- ---- what a lawful transcript has
 
@@ -62,6 +64,9 @@ unanswered_is v T l stands h = ap (λ u. unanswered_at u l) stands.holds ∙ una
 
 pub unanswered_count : (v : View) (T : List Step) (l : ℕ) → Stands T v → l < lanes_of v.shape → length (unanswered_at v l) ≡ length (unanswered T l)
 unanswered_count v T l stands h = ap length (unanswered_is v T l stands h) ∙ length-map (unanswered T l) _
+
+pub extras_count : (v : View) (T : List Step) (l : ℕ) → Stands T v → l < lanes_of v.shape → extras_at v l ≡ length (extras T l)
+extras_count v T l stands h = ap (λ u. extras_at u l) stands.holds ∙ extras_of_view v.shape T l h
 
 -- ---- how many are inside
 
@@ -144,7 +149,7 @@ stands_turned v T l e stands lane op shut queue =
       needs = sym (shut_is v T stands) ∙ shut;
     })
     (settled_stays p T (Turned l e) f (λ q. refl) refl refl (λ q n. refl) (settled_of p T stands.lawful))
-    (stands.holds ∙ sym (view_same p T (Turned l e) f (λ q. refl) (λ q. refl) refl refl (λ m. refl) (λ m. refl) refl))
+    (stands.holds ∙ sym (view_same p T (Turned l e) f (λ q. refl) (λ q. refl) refl refl (λ m. refl) (λ m. refl) (λ m. refl) refl))
 
 pub stands_bounced : (v : View) (T : List Step) (l : ℕ) → Stands T v → l < lanes_of v.shape → Stands (T ++ Bounced l ∷ []) v
 stands_bounced v T l stands lane =
@@ -157,7 +162,7 @@ stands_bounced v T l stands lane =
       needs = tt;
     })
     (settled_stays p T (Bounced l) f (λ q. refl) refl refl (λ q n. refl) (settled_of p T stands.lawful))
-    (stands.holds ∙ sym (view_same p T (Bounced l) f (λ q. refl) (λ q. refl) refl refl (λ m. refl) (λ m. refl) refl))
+    (stands.holds ∙ sym (view_same p T (Bounced l) f (λ q. refl) (λ q. refl) refl refl (λ m. refl) (λ m. refl) (λ m. refl) refl))
 
 pub stands_shut : (v : View) (T : List Step) → v.shut ≡ false → Stands T v → Stands (T ++ Shut ∷ []) (record v { shut = true })
 stands_shut v T unshut stands =
@@ -179,6 +184,7 @@ formed_elsewhere p (Accept q e (New l)) m h formed = refl
 formed_elsewhere p (Accept q e (Of r n)) m h formed = refl
 formed_elsewhere p (Give l q n) m h formed = given_to-other m l q n (λ same. let lt = formed.lane in omega arith)
 formed_elsewhere p (Done l o) m h formed = refl
+formed_elsewhere p (More l e) m h formed = refl
 formed_elsewhere p (Turned l e) m h formed = refl
 formed_elsewhere p (Bounced l) m h formed = refl
 formed_elsewhere p Shut m h formed = refl
@@ -271,27 +277,85 @@ accepts_are_overdue v T l o x stands lane next =
         ∙ (sym (map_tag (accept_from x.0) x.1 (events_of o)) ∙ ap (map (accept_from x.0))
         (sym (done_overdue_plain p T l o x all (settled_of p T stands.lawful) next plain)))
 
+-- a step that leaves a queue's overdue events to accept, and these
+stands_led : (p : Plan) (w : View) (T : List Step) (s : Step) (q : ℕ) (accepts : List Step) → Pending p (T ++ s ∷ []) q → w ≡ view_of p (T ++ s ∷ [])
+    → accepts ≡ map (accept_from q) (overdue p (T ++ s ∷ []) q) → Stands (T ++ s ∷ accepts) (after w accepts)
+stands_led p w T s q accepts pending w_is accepts_are =
+    let S : List Step = T ++ s ∷ [] in
+    let due : List Step = map (accept_from q) (overdue p S q) in
+    let settles : Settles p S due = pending_all p q (overdue p S q) S pending refl in
+    let view_is : after w due ≡ view_of p (S ++ due) = ap (λ u. after u due) w_is ∙ settles.view in
+    let lawful : Lawful p (S ++ due) = Lawful-steps p (S ++ due) (record { steps = settles.allowed; end = settles.settled }) in
+    subst (λ rest. Stands (T ++ s ∷ rest) (after w rest)) (sym accepts_are)
+    (subst (λ U. Stands U (after w due)) (append_assoc T (s ∷ []) due) (stands_at p (after w due) (S ++ due) lawful view_is))
+
 pub stands_answer : (v : View) (T : List Step) (l : ℕ) (o : Outcome) → Stands T v → l < lanes_of v.shape → 0 < length (unanswered_at v l)
     → IsOutcome v.shape o
     → Stands (T ++ answer_steps v l o) (after v (answer_steps v l o))
 stands_answer v T l o stands lane some outcome =
     let p : Plan = v.shape in
-    let all : AllowedAfter p [] T = allowed_of p T stands.lawful in
     let settled : IsSettled p T = settled_of p T stands.lawful in
     let held : 0 < length (unanswered T l) = subst (λ n. 0 < n) (unanswered_count v T l stands lane) some in
     let next = next_pair-some T l held in
     let x : ℕ × ℕ = next.0 in
     let may : Allowed p T (Done l o) = record { formed = (lane, outcome); prompt = λ _. settled; needs = held } in
-    let S : List Step = T ++ Done l o ∷ [] in
-    let accepts : List Step = map (accept_from x.0) (overdue p S x.0) in
-    let settles : Settles p S accepts = pending_all p x.0 (overdue p S x.0) S (answered_pending p T l o x all settled next.1 may) refl in
-    let view_is : after (after_done v l o) accepts ≡ view_of p (S ++ accepts) =
-    ap (λ u. after u accepts) (ap (λ u. after_done u l o) stands.holds ∙ sym (view_done p T l o x (facts_of p T stands.lawful) lane next.1))
-    ∙ settles.view in
-    let lawful : Lawful p (S ++ accepts) = Lawful-steps p (S ++ accepts) (record { steps = settles.allowed; end = settles.settled }) in
-    subst (λ rest. Stands (T ++ Done l o ∷ rest) (after (after_done v l o) rest)) (sym (accepts_are_overdue v T l o x stands lane next.1))
-    (subst (λ U. Stands U (after (after_done v l o) accepts)) (append_assoc T (Done l o ∷ []) accepts)
-    (stands_at p (after (after_done v l o) accepts) (S ++ accepts) lawful view_is))
+    stands_led p (after_done v l o) T (Done l o) x.0 (accepts_of v (oldest_at v l) o)
+    (answered_pending p T l o x (allowed_of p T stands.lawful) settled next.1 may)
+    (ap (λ u. after_done u l o) stands.holds ∙ sym (view_done p T l o x (facts_of p T stands.lawful) lane next.1))
+    (accepts_are_overdue v T l o x stands lane next.1)
+
+-- ---- an addition
+
+-- the events that are accepted at an addition are the overdue ones
+added_are_overdue : (v : View) (T : List Step) (l : ℕ) (e : Event) (x : ℕ × ℕ) → Stands T v → l < lanes_of v.shape → next_pair T l ≡ Some x
+    → added_of v (oldest_at v l) e ≡ map (accept_from x.0) (overdue v.shape (T ++ More l e ∷ []) x.0)
+added_are_overdue v T l e x stands lane next =
+    ap (λ h. added_of v h e) (ap (λ u. oldest_at u l) stands.holds ∙ oldest_of_view v.shape T l x lane next) ∙ by_kind
+    (cases_Bool (is_ordered (queue_of v.shape x.0).kind))
+  where
+    p : Plan
+    p = v.shape
+
+    S : List Step
+    S = T ++ More l e ∷ []
+
+    all : AllowedAfter p [] T
+    all = allowed_of p T stands.lawful
+
+    settled : IsSettled p T
+    settled = settled_of p T stands.lawful
+
+    by_kind : (is_ordered (queue_of p x.0).kind ≡ true) ⊎ (is_ordered (queue_of p x.0).kind ≡ false)
+        → added_of v (Some (held_at p T x)) e ≡ map (accept_from x.0) (overdue p S x.0)
+    by_kind (inl ordered) =
+        cond-true (is_ordered (queue_of p x.0).kind) [] (accepts_from x.0 x.1 (e ∷ [])) ordered
+        ∙ ap (map (accept_from x.0)) (sym (more_overdue_ordered p T l e x all settled next ordered))
+    by_kind (inr plain) =
+        cond-false (is_ordered (queue_of p x.0).kind) [] (accepts_from x.0 x.1 (e ∷ [])) plain
+        ∙ (sym (map_tag (accept_from x.0) x.1 (e ∷ [])) ∙ ap (map (accept_from x.0)) (sym (more_overdue_plain p T l e x all settled next plain)))
+
+pub stands_more : (v : View) (T : List Step) (l : ℕ) (e : Event) → Stands T v → l < lanes_of v.shape → 0 < length (unanswered_at v l)
+    → extras_at v l < MAX_EXTRAS → standing.inside_of v < bound_of v.shape → IsAddition v.shape e
+    → Stands (T ++ more_steps v l e) (after v (more_steps v l e))
+stands_more v T l e stands lane some few room addition =
+    let p : Plan = v.shape in
+    let settled : IsSettled p T = settled_of p T stands.lawful in
+    let held : 0 < length (unanswered T l) = subst (λ n. 0 < n) (unanswered_count v T l stands lane) some in
+    let next = next_pair-some T l held in
+    let x : ℕ × ℕ = next.0 in
+    let may : Allowed p T (More l e) = record {
+      formed = (lane, addition);
+      prompt = λ _. settled;
+      needs = record {
+        beside = held;
+        few = subst (λ n. n < MAX_EXTRAS) (extras_count v T l stands lane) few;
+        room = subst (λ n. n < bound_of p) (inside_is v T stands) room;
+      };
+    } in
+    stands_led p (after_more v l e) T (More l e) x.0 (added_of v (oldest_at v l) e)
+    (added_pending p T l e x (allowed_of p T stands.lawful) settled next.1 may)
+    (ap (λ u. after_more u l e) stands.holds ∙ sym (view_more p T l e x (facts_of p T stands.lawful) lane next.1))
+    (added_are_overdue v T l e x stands lane next.1)
 
 -- ---- a reply
 
@@ -323,11 +387,19 @@ stands_by v T l e stands lane ops.Forward op may =
     stands_answer v T l (Forwarded e) stands lane (ltb-true 0 (length (unanswered_at v l)) parts.0)
     (ltb-true e.queue (length v.shape.queues) there.0, op)
 stands_by v T l e stands lane ops.Release op may = stands_answer v T l Released stands lane (ltb-true 0 (length (unanswered_at v l)) may) tt
+stands_by v T l e stands lane ops.ForwardMore op may =
+    let parts = and_parts (may_forward v l e.queue) (nat_lt (extras_at v l) MAX_EXTRAS && nat_lt (standing.inside_of v) (bound_of v.shape)) may in
+    let answers = and_parts (nat_lt 0 (length (unanswered_at v l))) (nat_lt e.queue (length v.shape.queues) && nat_lt (entries_of v) (2 ^ 63)) parts.0 in
+    let there = and_parts (nat_lt e.queue (length v.shape.queues)) (nat_lt (entries_of v) (2 ^ 63)) answers.1 in
+    let room = and_parts (nat_lt (extras_at v l) MAX_EXTRAS) (nat_lt (standing.inside_of v) (bound_of v.shape)) parts.1 in
+    stands_more v T l e stands lane (ltb-true 0 (length (unanswered_at v l)) answers.0) (ltb-true (extras_at v l) MAX_EXTRAS room.0)
+    (ltb-true (standing.inside_of v) (bound_of v.shape) room.1) (ltb-true e.queue (length v.shape.queues) there.0, op)
 
 same_shape : (v : View) (s : Step) → (after_step v s).shape ≡ v.shape
 same_shape v (Accept q e s) = refl
 same_shape v (Give l q n) = refl
 same_shape v (Done l o) = refl
+same_shape v (More l e) = refl
 same_shape v (Turned l e) = refl
 same_shape v (Bounced l) = refl
 same_shape v Shut = refl

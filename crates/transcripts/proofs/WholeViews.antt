@@ -5,19 +5,20 @@ use Rattle.std.proofs.lemmas.Bool.{cases_Bool, cases_eq, cond-true, cond-false, 
 use Rattle.std.proofs.lemmas.List.{length_push, map-append}
 use Rattle.evt_types.specs.Plan.{Plan, queue_of, lanes_of, is_ordered, queues, lanes}
 use Rattle.lists.specs.Lists.{has}
-use Rattle.transcripts.specs.Standing.{View, view_of, places, place_at, places_at, waiting_at, next_at, unanswered_at, oldest_at, after_accept, after_give, after_done, places_after, slot_in, event_in, answer_place, answered_places, staying}
+use Rattle.transcripts.specs.Standing.{View, view_of, places, place_at, places_at, waiting_at, next_at, unanswered_at, extras_at, oldest_at, after_accept, after_give, after_done, after_more, places_after, places_with, add_to_place, slot_in, event_in, answer_place, answered_places, staying}
 use Rattle.evt_types.specs.Place.{Place}
-use Rattle.transcripts.specs.Transcript.{accepted_in, accepted, answer_of, held_at, slot_at, slot_if, open_of, is_answered, ends, sends, forwards, out, answers, unanswered, unanswered_slots, next_pair, Held, hand, waiting, given_to, given_of, has_shut, is_shut}
+use Rattle.transcripts.specs.Transcript.{accepted_in, accepted, answer_of, held_at, slot_at, slot_if, open_of, is_answered, ends, sends, forwards, add_more, extras, out, answers, unanswered, unanswered_slots, next_pair, Held, hand, waiting, given_to, given_of, has_shut, is_shut}
 use Rattle.evt_types.specs.declared.event.Event.{Event}
 use Rattle.evt_types.specs.declared.event.Numbered.{Numbered}
 use Rattle.evt_types.specs.declared.step.Outcome.{Outcome}
 use Rattle.evt_types.specs.declared.step.Source.{Source}
 use Rattle.evt_types.specs.declared.step.Step.{Step}
-use Rattle.evt_types.specs.declared.step.Step.TheVariants.{Accept, Give, Done, Shut}
+use Rattle.evt_types.specs.declared.step.Step.TheVariants.{Accept, Give, Done, More, Shut}
+use Rattle.transcripts.proofs.AddedPlaces.{more_places, more_places_other}
 use Rattle.transcripts.proofs.AnsweredPlaces.{places_stay, places_ordered, places_plain, done_places, done_places_other}
 use Rattle.transcripts.proofs.Facts.{Facts, unanswered_is_accepted, next_pair-queue, no_forwards, not_answered}
 use Rattle.lists.proofs.Lists.{map_agree}
-use Rattle.transcripts.proofs.Pushes.{accepted-some, accepted-none, accepted_in-same, accepted_in-other, given_of-same, given_of-other, given_to-same, given_to-other, answer_of-same, answer_of-other, unanswered_slots-push, unanswered-next, brings, has_shut-none, has_shut-push, slot_at-none, hand-none, forwards-none, is_answered-none, open_of-some}
+use Rattle.transcripts.proofs.Pushes.{accepted-some, accepted-none, accepted_in-same, accepted_in-other, given_of-same, given_of-other, given_to-same, given_to-other, answer_of-same, answer_of-other, unanswered_slots-push, unanswered-next, extras-push, extras-more, extras-more_other, extras-done, extras-done_other, brings, has_shut-none, has_shut-push, slot_at-none, hand-none, forwards-none, is_answered-none, open_of-some}
 use Rattle.lists.proofs.Ranges.{mapped_at, mapped_same, mapped_changed}
 use Rattle.transcripts.proofs.ViewLists.{event_in_some}
 use Rattle.transcripts.proofs.Waits.{waiting-none, waiting-give, waiting-accepts, waiting-rises, waiting_is_not_given, waiting_at as accepted_at}
@@ -40,6 +41,10 @@ pub unanswered_of_view : (p : Plan) (T : List Step) (l : ℕ) → l < lanes_of p
 unfolding view_of
 unanswered_of_view p T l h = mapped_at (unanswered_slots p T) (lanes_of p) l [] h
 
+pub extras_of_view : (p : Plan) (T : List Step) (l : ℕ) → l < lanes_of p → extras_at (view_of p T) l ≡ length (extras T l)
+unfolding view_of
+extras_of_view p T l h = mapped_at (λ m. length (extras T m)) (lanes_of p) l 0 h
+
 pub shape_of_view : (p : Plan) (T : List Step) → (view_of p T).shape ≡ p
 unfolding view_of
 shape_of_view p T = refl
@@ -55,11 +60,11 @@ oldest_of_view p T l x h next =
     ap (λ (hs : List Held). slice_get hs 0) (unanswered_of_view p T l h ∙ ap (map (held_at p T)) (unanswered-next T l x next))
 
 -- two views with the same parts
-same_parts : (p : Plan) (w w' : List (List Numbered)) (n n' : List ℕ) (r r' : List (List Place)) (u u' : List (List Held)) (b b' : Bool) → w ≡ w'
-    → n ≡ n' → r ≡ r' → u ≡ u' → b ≡ b'
-    → ◌≡◌ {A = View} (record { shape = p; waiting = w; next = n; places = r; unanswered = u; shut = b })
-    (record { shape = p; waiting = w'; next = n'; places = r'; unanswered = u'; shut = b' })
-same_parts p w w' n n' r r' u u' b b' e f g h i = cc
+same_parts : (p : Plan) (w w' : List (List Numbered)) (n n' : List ℕ) (r r' : List (List Place)) (u u' : List (List Held)) (m m' : List ℕ)
+    (b b' : Bool) → w ≡ w' → n ≡ n' → r ≡ r' → u ≡ u' → m ≡ m' → b ≡ b'
+    → ◌≡◌ {A = View} (record { shape = p; waiting = w; next = n; places = r; unanswered = u; extras = m; shut = b })
+    (record { shape = p; waiting = w'; next = n'; places = r'; unanswered = u'; extras = m'; shut = b' })
+same_parts p w w' n n' r r' u u' m m' b b' e f g h i j = cc
 
 -- ---- what a step leaves as it was
 
@@ -92,6 +97,12 @@ same_lanes : (p : Plan) (T : List Step) (s : Step) → Facts p T → ((l : ℕ) 
     → map (unanswered_slots p (T ++ s ∷ [])) (lanes p) ≡ map (unanswered_slots p T) (lanes p)
 same_lanes p T s f no_answer no_give =
     mapped_same (unanswered_slots p T) (unanswered_slots p (T ++ s ∷ [])) (lanes_of p) (λ m _. same_lane p T s m f (no_answer m) (no_give m))
+
+-- a step that neither answers nor adds
+same_extras : (p : Plan) (T : List Step) (s : Step) → ((l : ℕ) → add_more l (extras T l) s ≡ extras T l)
+    → map (λ l. length (extras (T ++ s ∷ []) l)) (lanes p) ≡ map (λ l. length (extras T l)) (lanes p)
+same_extras p T s leaves =
+    mapped_same (λ l. length (extras T l)) (λ l. length (extras (T ++ s ∷ []) l)) (lanes_of p) (λ l _. ap length (extras-push T l s ∙ leaves l))
 
 -- the lane that answers
 answered_lane : (p : Plan) (T : List Step) (l : ℕ) (o : Outcome) → Facts p T
@@ -137,7 +148,7 @@ pub view_accept : (p : Plan) (T : List Step) (q : ℕ) (e : Event) (c : Source) 
 unfolding view_of
 view_accept p T q e c f h =
     let s : Step = Accept q e c in
-    same_parts p _ _ _ _ _ _ _ _ _ _
+    same_parts p _ _ _ _ _ _ _ _ _ _ _ _
     (mapped_changed (waiting T) (waiting (T ++ s ∷ [])) (length p.queues) q
     (waiting_at (view_of p T) q ++ record { number = next_at (view_of p T) q; event = e } ∷ []) h
     (waiting-accepts T q s e (f.given q) (accepted_in-same q e c) refl
@@ -149,13 +160,14 @@ view_accept p T q e c f h =
     (λ r differs. ap length (accepted-none T r s (accepted_in-other r q e c (λ same. differs (sym same))))))
     (same_places p T s (λ r. refl) refl refl)
     (same_lanes p T s f (λ m. refl) (λ m. refl))
+    (same_extras p T s (λ m. refl))
     (has_shut-none T s refl)
 
 pub view_give : (p : Plan) (T : List Step) (l q : ℕ) (w : Numbered) → Facts p T → l < lanes_of p → q < length p.queues → Contains (waiting T q) w
     → view_of p (T ++ Give l q w.number ∷ []) ≡ after_give (view_of p T) l q w.number
 unfolding view_of
 view_give p T l q w f in_lanes h c =
-    same_parts p _ _ _ _ _ _ _ _ _ _
+    same_parts p _ _ _ _ _ _ _ _ _ _ _ _
     (mapped_changed (waiting T) (waiting S) (length p.queues) q (filter (λ (u : Numbered). not (u.number == n)) (waiting_at v q)) h
     (waiting-give T l q n ∙ sym (ap (filter (λ (u : Numbered). not (u.number == n))) (waiting_of_view p T q h)))
     (λ r differs. waiting-none T r s refl (given_of-other l r q n (λ same. differs (sym same)))))
@@ -167,6 +179,7 @@ view_give p T l q w f in_lanes h c =
     (slot_at-none p T q n s refl ∙ (ap (slot_if p q) (accepted_at T q w c) ∙ sym (ap (slot_in v q) waits)))
     ∙ sym (ap (λ us. us ++ held ∷ []) (unanswered_of_view p T l in_lanes))))
     (λ m differs. same_lane p T s m f refl (given_to-other m l q n (λ same. differs (sym same)))))
+    (same_extras p T s (λ m. refl))
     (has_shut-none T s refl)
   where
     n : ℕ
@@ -215,13 +228,15 @@ pub view_done : (p : Plan) (T : List Step) (l : ℕ) (o : Outcome) (x : ℕ × �
     → view_of p (T ++ Done l o ∷ []) ≡ after_done (view_of p T) l o
 unfolding view_of
 view_done p T l o x f h next =
-    same_parts p _ _ _ _ _ _ _ _ _ _
+    same_parts p _ _ _ _ _ _ _ _ _ _ _ _
     (same_waiting p T s (λ r. refl) (λ r. refl))
     (same_next p T s (λ r. refl))
     (by_kind (cases_Bool (is_ordered (queue_of p x.0).kind)) ∙ ap (λ a. places_after v a o) (sym (oldest_of_view p T l x h next)))
     (mapped_changed (unanswered_slots p T) (unanswered_slots p S) (lanes_of p) l (drop 1 (unanswered_at v l)) h
     (answered_lane p T l o f ∙ sym (ap (drop 1) (unanswered_of_view p T l h)))
     (λ m differs. same_lane p T s m f (answer_of-other m l o (λ same. differs (sym same))) refl))
+    (mapped_changed (λ m. length (extras T m)) (λ m. length (extras S m)) (lanes_of p) l 0 h (ap length (extras-done T l o))
+    (λ m differs. ap length (extras-done_other T m l o (λ same. differs (sym same)))))
     (has_shut-none T s refl)
   where
     s : Step
@@ -253,21 +268,65 @@ view_done p T l o x f h next =
         (λ differs. done_places_other p T l o x r next differs) (cases_eq x.0 r))
         ∙ sym (cond-false (is_ordered (queue_of p x.0).kind) (set (map (places p T) (queues p)) x.0 rest) (map (places p T) (queues p)) plain)
 
+-- an event is added beside the lane's oldest
+pub view_more : (p : Plan) (T : List Step) (l : ℕ) (e : Event) (x : ℕ × ℕ) → Facts p T → l < lanes_of p → next_pair T l ≡ Some x
+    → view_of p (T ++ More l e ∷ []) ≡ after_more (view_of p T) l e
+unfolding view_of
+view_more p T l e x f h next =
+    same_parts p _ _ _ _ _ _ _ _ _ _ _ _
+    (same_waiting p T s (λ r. refl) (λ r. refl))
+    (same_next p T s (λ r. refl))
+    (by_kind (cases_Bool (is_ordered (queue_of p x.0).kind)) ∙ ap (λ a. places_with v a e) (sym (oldest_of_view p T l x h next)))
+    (same_lanes p T s f (λ m. refl) (λ m. refl))
+    (mapped_changed (λ m. length (extras T m)) (λ m. length (extras S m)) (lanes_of p) l (extras_at v l + 1) h
+    (ap length (extras-more T l e) ∙ (length_push (extras T l) e ∙ sym (ap (λ n. n + 1) (extras_of_view p T l h))))
+    (λ m differs. ap length (extras-more_other T m l e (λ same. differs (sym same)))))
+    (has_shut-none T s refl)
+  where
+    s : Step
+    s = More l e
+
+    S : List Step
+    S = T ++ s ∷ []
+
+    v : View
+    v = view_of p T
+
+    there : x.0 < length p.queues
+    there = next_pair-queue p T l x f next
+
+    grown : List Place
+    grown = map (add_to_place x.1 e) (places_at v x.0)
+
+    by_kind : (is_ordered (queue_of p x.0).kind ≡ true) ⊎ (is_ordered (queue_of p x.0).kind ≡ false)
+        → map (places p S) (queues p) ≡ cond (is_ordered (queue_of p x.0).kind) (set (map (places p T) (queues p)) x.0 grown)
+        (map (places p T) (queues p))
+    by_kind (inl ordered) =
+        mapped_changed (places p T) (places p S) (length p.queues) x.0 grown there
+        (more_places p T l e x next ordered ∙ ap (map (add_to_place x.1 e)) (sym (places_of_view p T x.0 there)))
+        (λ r differs. more_places_other p T l e x r next (λ same. differs (sym same)))
+        ∙ sym (cond-true (is_ordered (queue_of p x.0).kind) (set (map (places p T) (queues p)) x.0 grown) (map (places p T) (queues p)) ordered)
+    by_kind (inr plain) =
+        mapped_same (places p T) (places p S) (length p.queues)
+        (λ r _. ⊎_elim (λ same. subst (λ k. places p S k ≡ places p T k) same (places_plain p S x.0 plain ∙ sym (places_plain p T x.0 plain)))
+        (λ differs. more_places_other p T l e x r next differs) (cases_eq x.0 r))
+        ∙ sym (cond-false (is_ordered (queue_of p x.0).kind) (set (map (places p T) (queues p)) x.0 grown) (map (places p T) (queues p)) plain)
+
 -- a step that neither brings nor ends an event
 pub view_same : (p : Plan) (T : List Step) (s : Step) → Facts p T → ((q : ℕ) → accepted_in q s ≡ None) → ((q : ℕ) → given_of q s ≡ None)
-    → ends T s ≡ None → sends T s ≡ None → ((l : ℕ) → answer_of l s ≡ None) → ((l : ℕ) → given_to l s ≡ None) → is_shut s ≡ false
-    → view_of p (T ++ s ∷ []) ≡ view_of p T
+    → ends T s ≡ None → sends T s ≡ None → ((l : ℕ) → answer_of l s ≡ None) → ((l : ℕ) → given_to l s ≡ None)
+    → ((l : ℕ) → add_more l (extras T l) s ≡ extras T l) → is_shut s ≡ false → view_of p (T ++ s ∷ []) ≡ view_of p T
 unfolding view_of
-view_same p T s f no_accept no_number no_end no_send no_answer no_give no_shut =
-    same_parts p _ _ _ _ _ _ _ _ _ _ (same_waiting p T s no_accept no_number) (same_next p T s no_accept) (same_places p T s no_number no_end no_send)
-    (same_lanes p T s f no_answer no_give) (has_shut-none T s no_shut)
+view_same p T s f no_accept no_number no_end no_send no_answer no_give no_more no_shut =
+    same_parts p _ _ _ _ _ _ _ _ _ _ _ _ (same_waiting p T s no_accept no_number) (same_next p T s no_accept) (same_places p T s no_number no_end no_send)
+    (same_lanes p T s f no_answer no_give) (same_extras p T s no_more) (has_shut-none T s no_shut)
 
 pub view_shut : (p : Plan) (T : List Step) → Facts p T → view_of p (T ++ Shut ∷ []) ≡ record (view_of p T) { shut = true }
 unfolding view_of
 view_shut p T f =
-    same_parts p _ _ _ _ _ _ _ _ _ _ (same_waiting p T Shut (λ q. refl) (λ q. refl)) (same_next p T Shut (λ q. refl))
+    same_parts p _ _ _ _ _ _ _ _ _ _ _ _ (same_waiting p T Shut (λ q. refl) (λ q. refl)) (same_next p T Shut (λ q. refl))
     (same_places p T Shut (λ q. refl) refl refl)
-    (same_lanes p T Shut f (λ l. refl) (λ l. refl)) (has_shut-push T Shut ∙ or_right (has_shut T) true refl)
+    (same_lanes p T Shut f (λ l. refl) (λ l. refl)) (same_extras p T Shut (λ l. refl)) (has_shut-push T Shut ∙ or_right (has_shut T) true refl)
 
 -- ---- nothing has happened
 
@@ -286,3 +345,7 @@ places_at_none p q = cond_both (is_ordered (queue_of p q).kind) [] [] (λ ps. ps
 pub unanswered_at_none : (p : Plan) (l : ℕ) → unanswered_slots p [] l ≡ []
 unfolding unanswered out answers
 unanswered_at_none p l = refl
+
+pub extras_at_none : (l : ℕ) → extras [] l ≡ []
+unfolding extras
+extras_at_none l = refl

@@ -3,14 +3,15 @@
 use Rattle.std.specs.Prelude.{ℕ, ◌≡◌, ◌≢◌, ◌<◌, ◌≤◌, true, false, List, [], ◌∷◌, ◌++◌, length, All, Contains, Some, slice_get}
 use Rattle.evt_types.specs.Plan.{Plan, depth_of, bound_of, queue_of, slot_of, serves, is_atomic, is_ordered}
 use Rattle.lists.specs.Lists.{has}
-use Rattle.transcripts.specs.Transcript.{unanswered, unanswered_slots, Held, hand, sources, taken, forwards, waiting, open_of, inside, is_answered, has_shut, is_from_of}
+use Rattle.transcripts.specs.Transcript.{unanswered, unanswered_slots, Held, hand, sources, taken, forwards, extras, waiting, open_of, inside, is_answered, has_shut, is_from_of}
 use Rattle.lists.specs.Lists.{upto}
 use Rattle.transcripts.specs.Lawful.{IsFormed, IsSettled, keeps_order, keeps_with}
 use Rattle.evt_types.specs.declared.event.Event.{Event}
+use Rattle.evt_types.specs.declared.event.TheConstants.{MAX_EXTRAS}
 use Rattle.evt_types.specs.declared.event.Numbered.{Numbered}
 use Rattle.evt_types.specs.declared.step.Source.TheVariants.{New, Of}
 use Rattle.evt_types.specs.declared.step.Step.{Step}
-use Rattle.evt_types.specs.declared.step.Step.TheVariants.{Accept, Give, Done, Turned, Bounced, Shut}
+use Rattle.evt_types.specs.declared.step.Step.TheVariants.{Accept, Give, Done, More, Turned, Bounced, Shut}
 
 pub record MayAcceptNew (p : Plan) (P : List Step) : Type 0 where
   pub closed : has_shut P ≡ false
@@ -35,12 +36,19 @@ pub record MayGive (p : Plan) (P : List Step) (l q : ℕ) (w : Numbered) : Type 
 abbrev pub MayGiveNumber : Plan → List Step → ℕ → ℕ → ℕ → Type 0
 MayGiveNumber p P l q n = (w : Numbered) × (w.number ≡ n) × MayGive p P l q w
 
+-- an event may be added beside the lane's oldest unanswered one
+pub record MayAdd (p : Plan) (P : List Step) (l : ℕ) : Type 0 where
+  pub beside : 0 < length (unanswered P l)
+  pub few : length (extras P l) < MAX_EXTRAS
+  pub room : inside p P < bound_of p
+
 -- what each kind of step needs
 abbrev pub Needs : Plan → List Step → Step → Type 0
 Needs p P (Accept q e (New l)) = MayAcceptNew p P
 Needs p P (Accept q e (Of r n)) = MayAcceptOf p P e r n
 Needs p P (Give l q n) = MayGiveNumber p P l q n
 Needs p P (Done l o) = 0 < length (unanswered P l)
+Needs p P (More l e) = MayAdd p P l
 Needs p P (Turned l e) = has_shut P ≡ true
 Needs p P (Bounced l) = Unit {0}
 Needs p P Shut = has_shut P ≡ false

@@ -3,16 +3,18 @@
 use Rattle.std.specs.Prelude.{ℕ, ◌≡◌, ◌≢◌, ◌<◌, ◌≤◌, Bool, true, false, ◌&&◌, List, [], ◌∷◌, ◌++◌, ◌==◌, length, take, filter, All, AllPairs, Contains, slice_index_or, if◌then◌else◌, Option, Some, None}
 use Rattle.evt_types.specs.Plan.{Plan, lanes_of, depth_of, bound_of, queue_of, level_of, serves, is_atomic, is_ordered}
 use Rattle.lists.specs.Lists.{has}
-use Rattle.transcripts.specs.Transcript.{accepted, entered, event_at, slot_at, out, answers, unanswered, unanswered_slots, Held, hand, given, sources, taken, forwards, kept, open_of, inside, is_answered, is_shut, is_new, is_from_of, is_turned}
+use Rattle.transcripts.specs.Transcript.{accepted, entered, event_at, slot_at, out, answers, unanswered, unanswered_slots, Held, hand, given, sources, taken, forwards, extras, kept, open_of, inside, is_answered, is_shut, is_new, is_from_of, is_turned}
 use Rattle.lists.specs.Lists.{upto}
+use Rattle.evt_types.specs.Operation.{passes_on}
 use Rattle.evt_types.specs.declared.event.Event.{Event}
 use Rattle.evt_types.specs.declared.event.Numbered.{Numbered}
 use Rattle.evt_types.specs.declared.event.Op.TheVariants as ops
+use Rattle.evt_types.specs.declared.event.TheConstants.{MAX_EXTRAS}
 use Rattle.evt_types.specs.declared.step.Outcome.{Outcome}
 use Rattle.evt_types.specs.declared.step.Outcome.TheVariants.{Forwarded, Released}
 use Rattle.evt_types.specs.declared.step.Source.TheVariants.{New, Of}
 use Rattle.evt_types.specs.declared.step.Step.{Step}
-use Rattle.evt_types.specs.declared.step.Step.TheVariants.{Accept, Give, Done, Turned, Bounced, Shut}
+use Rattle.evt_types.specs.declared.step.Step.TheVariants.{Accept, Give, Done, More, Turned, Bounced, Shut}
 
 -- xs stands at the front of ys
 abbrev pub IsPrefix : {X : Type 0} → List X → List X → Type 0
@@ -37,7 +39,7 @@ pub record IsNewEntry (p : Plan) (q : ℕ) (e : Event) (l : ℕ) : Type 0 where
 
 pub record IsForwardEntry (p : Plan) (q : ℕ) (e : Event) (r : ℕ) : Type 0 where
   pub entry : IsEntry p q e
-  pub operation : e.op ≡ ops.Forward
+  pub operation : passes_on e.op ≡ true
   pub source : r < length p.queues
 
 pub record IsHandOver (p : Plan) (l q : ℕ) : Type 0 where
@@ -49,6 +51,10 @@ abbrev pub IsOutcome : Plan → Outcome → Type 0
 IsOutcome p (Forwarded e) = (e.queue < length p.queues) × (e.op ≡ ops.Forward)
 IsOutcome p Released = Unit {0}
 
+-- an added event's queue is there
+abbrev pub IsAddition : Plan → Event → Type 0
+IsAddition p e = (e.queue < length p.queues) × (e.op ≡ ops.ForwardMore)
+
 pub record IsTurnedAway (p : Plan) (l : ℕ) (e : Event) : Type 0 where
   pub queue : e.queue < length p.queues
   pub operation : e.op ≡ ops.New
@@ -59,6 +65,7 @@ IsFormed p (Accept q e (New l)) = IsNewEntry p q e l
 IsFormed p (Accept q e (Of r n)) = IsForwardEntry p q e r
 IsFormed p (Give l q n) = IsHandOver p l q
 IsFormed p (Done l o) = (l < lanes_of p) × IsOutcome p o
+IsFormed p (More l e) = (l < lanes_of p) × IsAddition p e
 IsFormed p (Turned l e) = IsTurnedAway p l e
 IsFormed p (Bounced l) = l < lanes_of p
 IsFormed p Shut = Unit {0}
@@ -66,6 +73,11 @@ IsFormed p Shut = Unit {0}
 -- ---- (answers) a lane answers no more than it was given
 abbrev pub AnswersWhatItHas : List Step → Type 0
 AnswersWhatItHas T = (l : ℕ) → length (answers T l) ≤ length (out T l)
+
+-- ---- (extras) events are added beside an unanswered event alone, and no more than MAX_EXTRAS (own)
+pub record AddsFew (T : List Step) : Type 0 where
+  pub few : (l : ℕ) → length (extras T l) ≤ MAX_EXTRAS
+  pub beside : (l : ℕ) → unanswered T l ≡ [] → extras T l ≡ []
 
 -- ---- (once) what is given was accepted before, and is given once
 pub record GivesOnce (T : List Step) : Type 0 where
@@ -108,8 +120,8 @@ abbrev pub IsAlone : Plan → List Step → Type 0
 IsAlone p T =
     (q : ℕ) → is_atomic (queue_of p q).kind ≡ true → (l m : ℕ) → l ≢ m → All (λ (x : Held). All (AreApart q x) (unanswered_slots p T m)) (unanswered_slots p T l)
 
--- ---- (order) forwards of an ordered queue's events are accepted in hand-out order, each once all as far as it are answered;
--- of an atomic queue's events of one flow and level the numbers don't fall
+-- ---- (order) what an ordered queue's events are passed on as is accepted in hand-out order, each event once all as far as its
+-- number are answered; of an atomic queue's events of one flow and level the numbers don't fall
 
 pub record IsInHandOrder (T : List Step) (q : ℕ) : Type 0 where
   pub order : AllPairs (λ m n. has m (upto n (hand T q)) ≡ true) (sources T q)
@@ -136,7 +148,7 @@ pub record KeepsOrder (p : Plan) (T : List Step) : Type 0 where
   pub ordered : (q : ℕ) → is_ordered (queue_of p q).kind ≡ true → IsInHandOrder T q
   pub atomic : (q : ℕ) → is_atomic (queue_of p q).kind ≡ true → IsRising p T q
 
--- ---- (origin) the i-th event accepted from a number is the i-th that it was forwarded as
+-- ---- (origin) the i-th event accepted from a number is the i-th that it was passed on as
 abbrev pub HasOrigin : List Step → Type 0
 HasOrigin T = (q n : ℕ) → IsPrefix (taken T q n) (forwards T q n)
 
@@ -162,7 +174,7 @@ abbrev pub IsSettled : Plan → List Step → Type 0
 IsSettled p T =
     (q : ℕ) → All (λ (x : ℕ × Event). (is_ordered (queue_of p q).kind ≡ true) × ((m : ℕ) × Contains (upto x.0 (hand T q)) m × (is_answered T q m ≡ false))) (kept T q)
 
--- at the end, and before each step that isn't an Accept from a forward
+-- at the end, and before each step that isn't an Accept of what was passed on
 pub record IsPrompt (p : Plan) (T : List Step) : Type 0 where
   pub end : IsSettled p T
   pub before : (k : ℕ) (d : Step) → k < length T → is_from_of (slice_index_or T k d) ≡ false → IsSettled p (take k T)
@@ -170,6 +182,7 @@ pub record IsPrompt (p : Plan) (T : List Step) : Type 0 where
 pub record Lawful (p : Plan) (T : List Step) : Type 0 where
   pub formed : All (IsFormed p) T
   pub answers : EachPrefix AnswersWhatItHas T
+  pub extras : EachPrefix AddsFew T
   pub once : EachPrefix GivesOnce T
   pub linked : EachPrefix (IsLinked p) T
   pub room : EachPrefix (HasRoom p) T

@@ -3,17 +3,18 @@ use Rattle.std.specs.Prelude.{ℕ, ◌≡◌, ◌+◌, ◌^◌, Bool, true, fals
 use Rattle.evt_types.specs.Place.{Place}
 use Rattle.evt_types.specs.Plan.{Plan, queues, lanes, bound_of, queue_of, slot_of, is_ordered}
 use Rattle.transcripts.specs.Lawful.{Lawful}
-use Rattle.transcripts.specs.Transcript.{accepted, waiting, inside, entries, unanswered, unanswered_slots, Held, open_of, forwards, is_answered, is_from_of, has_shut}
+use Rattle.transcripts.specs.Transcript.{accepted, waiting, inside, entries, unanswered, unanswered_slots, Held, extras, open_of, forwards, is_answered, is_from_of, has_shut}
 use Rattle.evt_types.specs.declared.event.Event.{Event}
 use Rattle.evt_types.specs.declared.event.KeptEvent.{KeptEvent}
 use Rattle.evt_types.specs.declared.event.Numbered.{Numbered}
 use Rattle.evt_types.specs.declared.event.Op.{Op}
 use Rattle.evt_types.specs.declared.event.Op.TheVariants as ops
+use Rattle.evt_types.specs.declared.event.TheConstants.{MAX_EXTRAS}
 use Rattle.evt_types.specs.declared.step.Outcome.{Outcome}
 use Rattle.evt_types.specs.declared.step.Outcome.TheVariants.{Forwarded, Released}
 use Rattle.evt_types.specs.declared.step.Source.TheVariants as sources
 use Rattle.evt_types.specs.declared.step.Step.{Step}
-use Rattle.evt_types.specs.declared.step.Step.TheVariants.{Accept, Give, Done, Turned, Bounced, Shut}
+use Rattle.evt_types.specs.declared.step.Step.TheVariants.{Accept, Give, Done, More, Turned, Bounced, Shut}
 
 -- ---- the view of a transcript
 
@@ -24,13 +25,16 @@ place_at T q n = record { number = n; answered = is_answered T q n; forwards = f
 abbrev pub places : Plan → List Step → ℕ → List Place
 places p T q = if is_ordered (queue_of p q).kind then map (place_at T q) (open_of T q) else []
 
--- per queue what waits, the next number and the places; per lane what is unanswered; and whether the core is shut
+-- Per queue what waits, the next number and the places; per lane what is unanswered, and how many events were added beside the oldest
+-- of it; and whether the core is shut. The added events themselves are those of an ordered queue's place, and of any other queue they
+-- are accepted at once: which replies may be taken, and which steps they have, depends on their number alone.
 pub record View : Type 0 where
   pub shape : Plan
   pub waiting : List (List Numbered)
   pub next : List ℕ
   pub places : List (List Place)
   pub unanswered : List (List Held)
+  pub extras : List ℕ
   pub shut : Bool
 
 unfoldable pub view_of : Plan → List Step → View
@@ -41,6 +45,7 @@ view_of p T =
       next = map (λ q. length (accepted T q)) (queues p);
       places = map (places p T) (queues p);
       unanswered = map (unanswered_slots p T) (lanes p);
+      extras = map (λ l. length (extras T l)) (lanes p);
       shut = has_shut T;
     }
 
@@ -60,6 +65,9 @@ places_at v q = slice_index_or v.places q []
 
 abbrev pub unanswered_at : View → ℕ → List Held
 unanswered_at v l = slice_index_or v.unanswered l []
+
+abbrev pub extras_at : View → ℕ → ℕ
+extras_at v l = slice_index v.extras l
 
 -- the lane's oldest unanswered event
 abbrev pub oldest_at : View → ℕ → Option Held
@@ -86,18 +94,24 @@ may_answer v l = nat_lt 0 (length (unanswered_at v l))
 abbrev pub may_forward : View → ℕ → ℕ → Bool
 may_forward v l q = may_answer v l && (nat_lt q (length v.shape.queues) && nat_lt (entries_of v) (2 ^ 63))
 
+-- an event may be added where an event may be forwarded, as long as few were added and there is room for one more inside
+abbrev pub may_add : View → ℕ → ℕ → Bool
+may_add v l q = may_forward v l q && (nat_lt (extras_at v l) MAX_EXTRAS && nat_lt (inside_of v) (bound_of v.shape))
+
 -- a NEW comes on a port's own lane
 abbrev pub may_take_by : Op → View → ℕ → Event → Bool
 may_take_by ops.New v l e = nat_lt l (length v.shape.ports) && may_enter v e.queue
 may_take_by ops.Forward v l e = may_forward v l e.queue
 may_take_by ops.Release v l e = may_answer v l
+may_take_by ops.ForwardMore v l e = may_add v l e.queue
 
 -- whether the lane's reply with this event may be taken
 abbrev pub may_take : View → ℕ → Event → Bool
 may_take v l e = may_take_by e.op v l e
 
 -- The same by the transcript: the queue is there, a NEW is a port's, what is inside and what was accepted or is kept leave room for
--- it while Shut isn't in the transcript, and an answer answers something.
+-- it while Shut isn't in the transcript, an answer answers something, and an event is added beside something, one of few, where there
+-- is room for it.
 abbrev pub may_enter_at : Plan → List Step → ℕ → Bool
 may_enter_at p T q = nat_lt q (length p.queues) && (has_shut T || (nat_lt (inside p T) (bound_of p) && nat_lt (entries p T) (2 ^ 63)))
 
@@ -107,17 +121,21 @@ may_answer_at T l = nat_lt 0 (length (unanswered T l))
 abbrev pub may_forward_at : Plan → List Step → ℕ → ℕ → Bool
 may_forward_at p T l q = may_answer_at T l && (nat_lt q (length p.queues) && nat_lt (entries p T) (2 ^ 63))
 
+abbrev pub may_add_at : Plan → List Step → ℕ → ℕ → Bool
+may_add_at p T l q = may_forward_at p T l q && (nat_lt (length (extras T l)) MAX_EXTRAS && nat_lt (inside p T) (bound_of p))
+
 abbrev pub may_be_taken_by : Op → Plan → List Step → ℕ → Event → Bool
 may_be_taken_by ops.New p T l e = nat_lt l (length p.ports) && may_enter_at p T e.queue
 may_be_taken_by ops.Forward p T l e = may_forward_at p T l e.queue
 may_be_taken_by ops.Release p T l e = may_answer_at T l
+may_be_taken_by ops.ForwardMore p T l e = may_add_at p T l e.queue
 
 abbrev pub may_be_taken : Plan → List Step → ℕ → Event → Bool
 may_be_taken p T l e = may_be_taken_by e.op p T l e
 
 -- ---- what is kept
 
--- what a place keeps, under its event's number, the same as it is reported, and a kept event with the number that it was forwarded
+-- what a place keeps, under its event's number, the same as it is reported, and a kept event with the number that it was passed on
 -- from
 abbrev pub kept_in_place : Place → List Numbered
 kept_in_place x = map (λ (e : Event). record { number = x.number; event = e }) x.forwards
@@ -134,14 +152,19 @@ kept_at v q = flat_map kept_in_place (places_at v q)
 
 -- ---- the steps of a reply
 
--- the lane's oldest event is answered so, and then forwards alone are accepted
+-- this step, and then events that were passed on are accepted, and nothing else
+abbrev pub AreLed : Step → List Step → Type 0
+AreLed s steps = (rest : List Step) × (steps ≡ s ∷ rest) × All (λ t. is_from_of t ≡ true) rest
+
+-- led by the answer of the lane's oldest event
 abbrev pub AreAnswer : ℕ → Outcome → List Step → Type 0
-AreAnswer l o steps = (rest : List Step) × (steps ≡ Done l o ∷ rest) × All (λ s. is_from_of s ≡ true) rest
+AreAnswer l o steps = AreLed (Done l o) steps
 
 abbrev pub AreStepsBy : Op → List Step → ℕ → Event → List Step → Type 0
 AreStepsBy ops.New T l e steps = steps ≡ (if has_shut T then Turned l e ∷ [] else Accept e.queue e (sources.New l) ∷ [])
 AreStepsBy ops.Forward T l e steps = AreAnswer l (Forwarded e) steps
 AreStepsBy ops.Release T l e steps = AreAnswer l Released steps
+AreStepsBy ops.ForwardMore T l e steps = AreLed (More l e) steps
 
 -- the steps of a reply at a transcript: of this form, and such that the whole is lawful
 pub record AreStepsOf (p : Plan) (T : List Step) (l : ℕ) (e : Event) (steps : List Step) : Type 0 where
@@ -149,7 +172,8 @@ pub record AreStepsOf (p : Plan) (T : List Step) (l : ℕ) (e : Event) (steps : 
   pub lawful : Lawful p (T ++ steps)
 
 -- The same steps by what a core holds. An answer of an ordered queue's event settles its place, and then the answered
--- places at the front leave: what they were forwarded as is accepted.
+-- places at the front leave: what they were passed on as is accepted. An event that is added beside one of an ordered queue goes into
+-- its place; of any other queue it is accepted at once.
 
 abbrev pub events_of : Outcome → List Event
 events_of (Forwarded e) = e ∷ []
@@ -180,10 +204,18 @@ accepts_of v (Some h) o =
 abbrev pub answer_steps : View → ℕ → Outcome → List Step
 answer_steps v l o = Done l o ∷ accepts_of v (oldest_at v l) o
 
+abbrev pub added_of : View → Option Held → Event → List Step
+added_of v None e = []
+added_of v (Some h) e = if is_ordered (queue_of v.shape h.queue).kind then [] else accepts_from h.queue h.number (e ∷ [])
+
+abbrev pub more_steps : View → ℕ → Event → List Step
+more_steps v l e = More l e ∷ added_of v (oldest_at v l) e
+
 abbrev pub steps_by : Op → View → ℕ → Event → List Step
 steps_by ops.New v l e = if v.shut then Turned l e ∷ [] else Accept e.queue e (sources.New l) ∷ []
 steps_by ops.Forward v l e = answer_steps v l (Forwarded e)
 steps_by ops.Release v l e = answer_steps v l Released
+steps_by ops.ForwardMore v l e = more_steps v l e
 
 abbrev pub steps_of : View → ℕ → Event → List Step
 steps_of v l e = steps_by e.op v l e
@@ -221,12 +253,28 @@ places_after v (Some h) o =
 
 abbrev pub after_done : View → ℕ → Outcome → View
 after_done v l o =
-    record v { places = places_after v (oldest_at v l) o; unanswered = slice_set v.unanswered l (drop 1 (unanswered_at v l)) }
+    record v {
+      places = places_after v (oldest_at v l) o;
+      unanswered = slice_set v.unanswered l (drop 1 (unanswered_at v l));
+      extras = slice_set v.extras l 0;
+    }
+
+abbrev pub add_to_place : ℕ → Event → Place → Place
+add_to_place n e x = if x.number == n then record { number = n; answered = x.answered; forwards = x.forwards ++ e ∷ [] } else x
+
+abbrev pub places_with : View → Option Held → Event → List (List Place)
+places_with v None e = v.places
+places_with v (Some h) e =
+    if is_ordered (queue_of v.shape h.queue).kind then slice_set v.places h.queue (map (add_to_place h.number e) (places_at v h.queue)) else v.places
+
+abbrev pub after_more : View → ℕ → Event → View
+after_more v l e = record v { places = places_with v (oldest_at v l) e; extras = slice_set v.extras l (extras_at v l + 1) }
 
 abbrev pub after_step : View → Step → View
 after_step v (Accept q e s) = after_accept v q e
 after_step v (Give l q n) = after_give v l q n
 after_step v (Done l o) = after_done v l o
+after_step v (More l e) = after_more v l e
 after_step v (Turned l e) = v
 after_step v (Bounced l) = v
 after_step v Shut = record v { shut = true }

@@ -3,8 +3,9 @@
 use Rattle.std.specs.Prelude.{ℕ, ◌≡◌, ◌≤◌, ◌<◌, ◌+◌, ◌*◌, true, false, List, [], ◌∷◌, ◌++◌, ◌==◌, length, sum_by, count_by, filter_map, All, Option, Some, None, ◌⊎◌}
 use Rattle.evt_types.specs.Plan.{Plan, kept_room, lanes_of}
 use Rattle.evt_types.specs.declared.event.Event.{Event}
+use Rattle.evt_types.specs.declared.event.TheConstants.{MAX_FORWARDS}
 use Rattle.evt_types.specs.declared.step.Step.{Step}
-use Rattle.evt_types.specs.declared.step.Step.TheVariants.{Accept, Give, Done, Turned, Bounced, Shut}
+use Rattle.evt_types.specs.declared.step.Step.TheVariants.{Accept, Give, Done, More, Turned, Bounced, Shut}
 use Rattle.transcripts.specs.Standing.{View, may_take, steps_of, after}
 
 -- the steps of replies that are taken in turn, each a lane with its event
@@ -22,6 +23,7 @@ abbrev pub given_queue : Step → Option ℕ
 given_queue (Give l q n) = Some q
 given_queue (Accept q e s) = None
 given_queue (Done l o) = None
+given_queue (More l e) = None
 given_queue (Turned l e) = None
 given_queue (Bounced l) = None
 given_queue Shut = None
@@ -31,6 +33,7 @@ bounced_lane (Bounced l) = Some l
 bounced_lane (Accept q e s) = None
 bounced_lane (Give l q n) = None
 bounced_lane (Done l o) = None
+bounced_lane (More l e) = None
 bounced_lane (Turned l e) = None
 bounced_lane Shut = None
 
@@ -40,6 +43,7 @@ IsOffered p (Give l q n) = q < length p.queues
 IsOffered p (Bounced l) = l < lanes_of p
 IsOffered p (Accept q e s) = ⊥
 IsOffered p (Done l o) = ⊥
+IsOffered p (More l e) = ⊥
 IsOffered p (Turned l e) = ⊥
 IsOffered p Shut = ⊥
 
@@ -65,7 +69,7 @@ pub record IsSweep (v : View) (s : Sweeping) : Type 0 where
 abbrev pub sweep_steps : View → Sweeping → List Step
 sweep_steps v s = s.shut ++ replies_steps (after v s.shut) s.taken ++ s.offered
 
--- room for the steps of a sweep: the shut step, an answer and an event accepted for each reply, the events that were kept, the
--- events given, the lanes whose ring was full
+-- room for the steps of a sweep: the shut step, an answer or an added event and an event accepted for each reply, the events that
+-- were kept, the events given, the lanes whose ring was full
 abbrev pub sweep_room : Plan → ℕ
-sweep_room p = 1 + 2 * p.sweep * lanes_of p + sum_by kept_room p.queues + p.sweep * length p.queues + lanes_of p
+sweep_room p = 1 + 2 * p.sweep * lanes_of p + MAX_FORWARDS * sum_by kept_room p.queues + p.sweep * length p.queues + lanes_of p

@@ -1,6 +1,6 @@
 -- What a transcript says: the words by which the promises on a device are made. Each is read off the whole list of steps.
 -- A queue or lane that isn't there has empty lists, so no word needs a bound.
-use Rattle.std.specs.Prelude.{ℕ, ◌+◌, Bool, true, false, not, ◌&&◌, List, [], ◌∷◌, ◌==◌, length, map, drop, filter, sum_by, Option, Some, None, slice_get, filter_map, flat_map, if◌then◌else◌}
+use Rattle.std.specs.Prelude.{ℕ, ◌+◌, Bool, true, false, not, ◌&&◌, List, [], ◌∷◌, ◌++◌, ◌==◌, length, map, drop, filter, fold, sum_by, Option, Some, None, slice_get, filter_map, flat_map, if◌then◌else◌}
 use Rattle.std.specs.List.{list_any}
 use Rattle.evt_types.specs.Plan.{Plan, lanes, queues, slot_of}
 use Rattle.lists.specs.Lists.{has, with_past, from_first}
@@ -11,7 +11,7 @@ use Rattle.evt_types.specs.declared.step.Outcome.{Outcome}
 use Rattle.evt_types.specs.declared.step.Outcome.TheVariants.{Forwarded, Released}
 use Rattle.evt_types.specs.declared.step.Source.TheVariants.{New, Of}
 use Rattle.evt_types.specs.declared.step.Step.{Step}
-use Rattle.evt_types.specs.declared.step.Step.TheVariants.{Accept, Give, Done, Turned, Bounced, Shut}
+use Rattle.evt_types.specs.declared.step.Step.TheVariants.{Accept, Give, Done, More, Turned, Bounced, Shut}
 
 -- ---- What was accepted (Event Device Library, "Queues", "Ingress of New Events", "Forwarding of Events")
 
@@ -19,6 +19,7 @@ abbrev pub accepted_in : ℕ → Step → Option Event
 accepted_in q (Accept r e s) = if r == q then Some e else None
 accepted_in q (Give l r n) = None
 accepted_in q (Done l o) = None
+accepted_in q (More l e) = None
 accepted_in q (Turned l e) = None
 accepted_in q (Bounced l) = None
 accepted_in q Shut = None
@@ -54,6 +55,7 @@ abbrev pub given_to : ℕ → Step → Option (ℕ × ℕ)
 given_to l (Give m q n) = if m == l then Some (q, n) else None
 given_to l (Accept q e s) = None
 given_to l (Done m o) = None
+given_to l (More m e) = None
 given_to l (Turned m e) = None
 given_to l (Bounced m) = None
 given_to l Shut = None
@@ -66,6 +68,7 @@ abbrev pub answer_of : ℕ → Step → Option Outcome
 answer_of l (Done m o) = if m == l then Some o else None
 answer_of l (Accept q e s) = None
 answer_of l (Give m q n) = None
+answer_of l (More m e) = None
 answer_of l (Turned m e) = None
 answer_of l (Bounced m) = None
 answer_of l Shut = None
@@ -98,6 +101,7 @@ abbrev pub ends : List Step → Step → Option (ℕ × ℕ)
 ends P (Done l o) = next_pair P l
 ends P (Accept q e s) = None
 ends P (Give l q n) = None
+ends P (More l e) = None
 ends P (Turned l e) = None
 ends P (Bounced l) = None
 ends P Shut = None
@@ -121,20 +125,36 @@ sends P (Done l (Forwarded e)) = with_event e (next_pair P l)
 sends P (Done l Released) = None
 sends P (Accept q e s) = None
 sends P (Give l q n) = None
+sends P (More l e) = with_event e (next_pair P l)
 sends P (Turned l e) = None
 sends P (Bounced l) = None
 sends P Shut = None
 
--- the forwarded events, each with the pair that it answers
+-- the events that were passed on, each with the pair that it comes from: a FORWARD's with the pair that it answers, an added one with
+-- the pair that the lane's next answer is to
 unfoldable pub sent : List Step → List ((ℕ × ℕ) × Event)
 sent T = with_past sends [] T
 
 abbrev pub sent_for : ℕ → ℕ → (ℕ × ℕ) × Event → Option Event
 sent_for q n x = if is_pair q n x.0 then Some x.1 else None
 
--- the events that this number was forwarded as
+-- the events that this number was passed on as: those that were added beside it, then that of its FORWARD
 unfoldable pub forwards : List Step → ℕ → ℕ → List Event
 forwards T q n = filter_map (sent_for q n) (sent T)
+
+-- what was added on a lane since its last answer, after one step more
+abbrev pub add_more : ℕ → List Event → Step → List Event
+add_more l es (More m e) = if m == l then es ++ e ∷ [] else es
+add_more l es (Done m o) = if m == l then [] else es
+add_more l es (Accept q e s) = es
+add_more l es (Give m q n) = es
+add_more l es (Turned m e) = es
+add_more l es (Bounced m) = es
+add_more l es Shut = es
+
+-- the events that were added beside the lane's oldest unanswered one (own; a program of DPDK's enqueues a NEW in its place)
+unfoldable pub extras : List Step → ℕ → List Event
+extras T l = fold (add_more l) [] T
 
 -- ---- What waits and what is inside (Event Device Library, "Queues")
 
@@ -142,6 +162,7 @@ abbrev pub given_of : ℕ → Step → Option ℕ
 given_of q (Give l r n) = if r == q then Some n else None
 given_of q (Accept r e s) = None
 given_of q (Done l o) = None
+given_of q (More l e) = None
 given_of q (Turned l e) = None
 given_of q (Bounced l) = None
 given_of q Shut = None
@@ -177,6 +198,7 @@ taken_in q n (Accept r e (Of s m)) = if is_pair q n (s, m) then Some e else None
 taken_in q n (Accept r e (New l)) = None
 taken_in q n (Give l r m) = None
 taken_in q n (Done l o) = None
+taken_in q n (More l e) = None
 taken_in q n (Turned l e) = None
 taken_in q n (Bounced l) = None
 taken_in q n Shut = None
@@ -190,6 +212,7 @@ source_in q (Accept r e (Of s n)) = if s == q then Some n else None
 source_in q (Accept r e (New l)) = None
 source_in q (Give l r n) = None
 source_in q (Done l o) = None
+source_in q (More l e) = None
 source_in q (Turned l e) = None
 source_in q (Bounced l) = None
 source_in q Shut = None
@@ -197,11 +220,11 @@ source_in q Shut = None
 unfoldable pub sources : List Step → ℕ → List ℕ
 sources T q = filter_map (source_in q) T
 
--- what this number was forwarded as and no Accept has yet: the i-th Accept from it has the i-th of its forwards
+-- what this number was passed on as and no Accept has yet: the i-th Accept from it has the i-th of its forwards
 abbrev pub kept_of : List Step → ℕ → ℕ → List Event
 kept_of T q n = drop (length (taken T q n)) (forwards T q n)
 
--- the queue's kept events, each with the number that it was forwarded from, in hand-out order
+-- the queue's kept events, each with the number that it was passed on from, in hand-out order
 unfoldable pub kept : List Step → ℕ → List (ℕ × Event)
 kept T q = flat_map (λ n. map (λ e. (n, e)) (kept_of T q n)) (hand T q)
 
@@ -229,6 +252,7 @@ is_shut Shut = true
 is_shut (Accept q e s) = false
 is_shut (Give l q n) = false
 is_shut (Done l o) = false
+is_shut (More l e) = false
 is_shut (Turned l e) = false
 is_shut (Bounced l) = false
 
@@ -241,16 +265,18 @@ is_new (Accept q e (New l)) = true
 is_new (Accept q e (Of r n)) = false
 is_new (Give l q n) = false
 is_new (Done l o) = false
+is_new (More l e) = false
 is_new (Turned l e) = false
 is_new (Bounced l) = false
 is_new Shut = false
 
--- an Accept from a forward
+-- an Accept of what an event was passed on as
 abbrev pub is_from_of : Step → Bool
 is_from_of (Accept q e (Of r n)) = true
 is_from_of (Accept q e (New l)) = false
 is_from_of (Give l q n) = false
 is_from_of (Done l o) = false
+is_from_of (More l e) = false
 is_from_of (Turned l e) = false
 is_from_of (Bounced l) = false
 is_from_of Shut = false
@@ -259,6 +285,7 @@ abbrev pub is_give : Step → Bool
 is_give (Give l q n) = true
 is_give (Accept q e s) = false
 is_give (Done l o) = false
+is_give (More l e) = false
 is_give (Turned l e) = false
 is_give (Bounced l) = false
 is_give Shut = false
@@ -268,6 +295,7 @@ is_turned (Turned l e) = true
 is_turned (Accept q e s) = false
 is_turned (Give l q n) = false
 is_turned (Done l o) = false
+is_turned (More l e) = false
 is_turned (Bounced l) = false
 is_turned Shut = false
 
@@ -276,6 +304,16 @@ is_release (Done l Released) = true
 is_release (Done l (Forwarded e)) = false
 is_release (Accept q e s) = false
 is_release (Give l q n) = false
+is_release (More l e) = false
 is_release (Turned l e) = false
 is_release (Bounced l) = false
 is_release Shut = false
+
+abbrev pub is_more : Step → Bool
+is_more (More l e) = true
+is_more (Accept q e s) = false
+is_more (Give l q n) = false
+is_more (Done l o) = false
+is_more (Turned l e) = false
+is_more (Bounced l) = false
+is_more Shut = false

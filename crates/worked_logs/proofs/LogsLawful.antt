@@ -4,8 +4,8 @@ use Rattle.worked_logs.proofs.Sound.{StepsLawful-test}
 use Rattle.transcripts.proofs.Whole.{Lawful-steps}
 use Rattle.transcripts.specs.Lawful.{Lawful}
 use Rattle.evt_types.specs.Plan.{bound_of, depth_of, flow_lanes, lanes_by_slot, lanes_of, serves}
-use Rattle.worked_logs.specs.Logs.{one_worker, two_workers, two_stages, atomic_stages, flow_workers, first_event, one_flow_two_ports, two_flows_one_slot, second_forwarded_first, first_released, mixed_levels, full_ring, turned_away, flow_lanes_given}
-use Rattle.transcripts.specs.Transcript.{accepted, out, answers, unanswered, ended, sent, forwards, hand, waiting, taken, sources, kept, open_of, inside}
+use Rattle.worked_logs.specs.Logs.{one_worker, two_workers, two_stages, atomic_stages, both_stages, flow_workers, first_event, one_flow_two_ports, two_flows_one_slot, second_forwarded_first, first_released, mixed_levels, full_ring, turned_away, flow_lanes_given, two_added, added_waits}
+use Rattle.transcripts.specs.Transcript.{accepted, out, answers, unanswered, ended, sent, forwards, extras, hand, waiting, taken, sources, kept, open_of, inside}
 
 pub first_event_lawful : Lawful one_worker first_event
 unfolding accepted out answers unanswered ended sent forwards hand waiting taken sources kept open_of inside bound_of depth_of flow_lanes lanes_of serves
@@ -42,3 +42,11 @@ turned_away_lawful = Lawful-steps atomic_stages turned_away (StepsLawful-test at
 pub flow_lanes_given_lawful : Lawful flow_workers flow_lanes_given
 unfolding accepted out answers unanswered ended sent forwards hand waiting taken sources kept open_of inside bound_of depth_of flow_lanes lanes_by_slot lanes_of serves
 flow_lanes_given_lawful = Lawful-steps flow_workers flow_lanes_given (StepsLawful-test flow_workers flow_lanes_given refl)
+
+pub two_added_lawful : Lawful both_stages two_added
+unfolding accepted out answers unanswered ended sent forwards extras hand waiting taken sources kept open_of inside bound_of depth_of flow_lanes lanes_of serves
+two_added_lawful = Lawful-steps both_stages two_added (StepsLawful-test both_stages two_added refl)
+
+pub added_waits_lawful : Lawful two_stages added_waits
+unfolding accepted out answers unanswered ended sent forwards extras hand waiting taken sources kept open_of inside bound_of depth_of flow_lanes lanes_of serves
+added_waits_lawful = Lawful-steps two_stages added_waits (StepsLawful-test two_stages added_waits refl)

@@ -7,8 +7,8 @@ use Rattle.std.proofs.lemmas.List.Elements.{All-contains}
 use Rattle.std.proofs.lemmas.List.Sums.{AllPass-from_list_all}
 use Rattle.transcripts.specs.Lawful.{Lawful}
 use Rattle.evt_types.specs.Plan.{depth_of, flow_lanes, lanes_by_slot, serves}
-use Rattle.worked_logs.specs.Logs.{one_worker, two_workers, two_stages, atomic_stages, flow_workers, passed_on, given_twice, overtaken, split_slot, accepted_early, kept_for_good, accepted_twice, new_after_shut, turned_before_shut, shut_twice, not_linked, answered_early, beyond_depth, exchanged, accepted_backwards, no_such_queue, given_before, turned_nowhere, flow_lane_brings, given_past_flow_lane, given_to_other_slot}
-use Rattle.transcripts.specs.Transcript.{accepted, out, answers, unanswered, Held, hand, ended, sent, forwards, taken, sources, kept, is_answered}
+use Rattle.worked_logs.specs.Logs.{one_worker, two_workers, two_stages, atomic_stages, flow_workers, passed_on, given_twice, overtaken, split_slot, accepted_early, kept_for_good, accepted_twice, new_after_shut, turned_before_shut, shut_twice, not_linked, answered_early, beyond_depth, exchanged, accepted_backwards, no_such_queue, given_before, turned_nowhere, flow_lane_brings, given_past_flow_lane, given_to_other_slot, added, added_early, added_at_once, ended_by_added, added_too_many, added_to_none, added_kept_for_good}
+use Rattle.transcripts.specs.Transcript.{accepted, out, answers, unanswered, Held, hand, ended, sent, forwards, extras, taken, sources, kept, is_answered}
 use Rattle.lists.specs.Lists.{upto}
 use Rattle.evt_types.specs.declared.event.Event.{Event}
 use Rattle.evt_types.specs.declared.event.Numbered.{Numbered}
@@ -134,3 +134,42 @@ given_past_flow_lane_refused h = true≢false (sym (h.linked 2 (lit≤ tt) 1 0 (
 pub given_to_other_slot_refused : Lawful flow_workers given_to_other_slot → ⊥
 unfolding accepted out flow_lanes lanes_by_slot serves
 given_to_other_slot_refused h = true≢false (sym (h.linked 2 (lit≤ tt) 4 0 (0, 0) (lit< tt)))
+
+-- ---- events that are added
+
+-- (order)
+pub added_early_refused : Lawful two_stages added_early → ⊥
+unfolding out answers hand sources ended
+added_early_refused h = true≢false (sym (((h.order 7 (lit≤ tt)).ordered 0 refl).answered 0 0 (lit< tt) 0 0 (lit< tt)))
+
+pub added_at_once_refused : Lawful two_stages added_at_once → ⊥
+unfolding out answers hand sources ended
+added_at_once_refused h = true≢false (sym (((h.order 4 (lit≤ tt)).ordered 0 refl).answered 0 0 (lit< tt) 0 0 (lit< tt)))
+
+-- (alone)
+pub ended_by_added_refused : Lawful atomic_stages ended_by_added → ⊥
+unfolding accepted out answers unanswered
+ended_by_added_refused h = h.alone 6 (lit≤ tt) 0 refl 1 2 (omega arith) 0 no_held (lit< tt) 0 no_held (lit< tt) refl refl refl
+
+-- (extras)
+pub added_too_many_refused : Lawful two_stages added_too_many → ⊥
+unfolding extras
+added_too_many_refused h =
+    let few : 5 ≤ 4 = (h.extras 7 (lit≤ tt)).few 1 in absurd (omega arith)
+
+pub added_to_none_refused : Lawful two_stages added_to_none → ⊥
+unfolding out answers unanswered extras
+added_to_none_refused h =
+    let none : ◌≡◌ {A = ℕ} 1 0 = ap length ((h.extras 2 (lit≤ tt)).beside 1 refl) in absurd (omega arith)
+
+-- (prompt)
+added_answered : All (λ m. is_answered added_kept_for_good 0 m ≡ true) (upto 0 (hand added_kept_for_good 0))
+unfolding out answers hand ended
+added_answered = AllPass-from_list_all (is_answered added_kept_for_good 0) (upto 0 (hand added_kept_for_good 0)) refl
+
+pub added_kept_for_good_refused : Lawful two_stages added_kept_for_good → ⊥
+unfolding out answers hand sent forwards taken kept
+added_kept_for_good_refused h =
+    let waits_for = (h.prompt.end 0 0 (0, added 10) (lit< tt)).1 in
+    let answered = All-contains (λ m. is_answered added_kept_for_good 0 m ≡ true) (upto 0 (hand added_kept_for_good 0)) waits_for.0 added_answered waits_for.1 in
+    both_ways (is_answered added_kept_for_good 0 waits_for.0) waits_for.2 answered

@@ -16,19 +16,20 @@ use Rattle.worked_logs.specs.Check.{pass, implies, is_forward_op, same_event_tes
 use Rattle.transcripts.specs.Lawful.{IsFormed, IsSettled, IsOutcome, keeps_order, keeps_with}
 use Rattle.evt_types.specs.Plan.{Plan, lanes, queues, lanes_of, depth_of, bound_of, queue_of, slot_of, is_atomic, is_ordered}
 use Rattle.lists.specs.Lists.{has}
-use Rattle.evt_types.specs.Operation.{is_new_op}
-use Rattle.transcripts.specs.Transcript.{unanswered, unanswered_slots, Held, held_at, hand, out, answers, given_to, given_of, sources, taken, forwards, kept, kept_of, waiting, open_of, inside, is_answered, has_shut, is_from_of}
+use Rattle.evt_types.specs.Operation.{is_new_op, is_more_op}
+use Rattle.transcripts.specs.Transcript.{unanswered, unanswered_slots, Held, held_at, hand, out, answers, given_to, given_of, sources, taken, forwards, extras, kept, kept_of, waiting, open_of, inside, is_answered, has_shut, is_from_of}
 use Rattle.lists.specs.Lists.{upto}
 use Rattle.evt_types.specs.Word.{op_code}
 use Rattle.evt_types.specs.declared.event.Event.{Event}
 use Rattle.evt_types.specs.declared.event.Numbered.{Numbered}
 use Rattle.evt_types.specs.declared.event.Op.{Op}
 use Rattle.evt_types.specs.declared.event.Op.TheVariants as ops
+use Rattle.evt_types.specs.declared.event.TheConstants.{MAX_EXTRAS}
 use Rattle.evt_types.specs.declared.step.Outcome.{Outcome}
 use Rattle.evt_types.specs.declared.step.Outcome.TheVariants.{Forwarded, Released}
 use Rattle.evt_types.specs.declared.step.Source.TheVariants.{New, Of}
 use Rattle.evt_types.specs.declared.step.Step.{Step}
-use Rattle.evt_types.specs.declared.step.Step.TheVariants.{Accept, Give, Done, Turned, Bounced, Shut}
+use Rattle.evt_types.specs.declared.step.Step.TheVariants.{Accept, Give, Done, More, Turned, Bounced, Shut}
 
 -- ---- tests
 
@@ -53,22 +54,37 @@ op_is_new : (o : Op) → is_new_op o ≡ true → o ≡ ops.New
 op_is_new ops.New h = refl
 op_is_new ops.Forward h = absurd (false≢true h)
 op_is_new ops.Release h = absurd (false≢true h)
+op_is_new ops.ForwardMore h = absurd (false≢true h)
 
 op_is_forward : (o : Op) → is_forward_op o ≡ true → o ≡ ops.Forward
 op_is_forward ops.New h = absurd (false≢true h)
 op_is_forward ops.Forward h = refl
 op_is_forward ops.Release h = absurd (false≢true h)
+op_is_forward ops.ForwardMore h = absurd (false≢true h)
+
+op_is_more : (o : Op) → is_more_op o ≡ true → o ≡ ops.ForwardMore
+op_is_more ops.New h = absurd (false≢true h)
+op_is_more ops.Forward h = absurd (false≢true h)
+op_is_more ops.Release h = absurd (false≢true h)
+op_is_more ops.ForwardMore h = refl
 
 same_op : (a b : Op) → op_code a ≡ op_code b → a ≡ b
 same_op ops.New ops.New h = refl
 same_op ops.New ops.Forward h = absurd (omega arith)
 same_op ops.New ops.Release h = absurd (omega arith)
+same_op ops.New ops.ForwardMore h = absurd (omega arith)
 same_op ops.Forward ops.New h = absurd (omega arith)
 same_op ops.Forward ops.Forward h = refl
 same_op ops.Forward ops.Release h = absurd (omega arith)
+same_op ops.Forward ops.ForwardMore h = absurd (omega arith)
 same_op ops.Release ops.New h = absurd (omega arith)
 same_op ops.Release ops.Forward h = absurd (omega arith)
 same_op ops.Release ops.Release h = refl
+same_op ops.Release ops.ForwardMore h = absurd (omega arith)
+same_op ops.ForwardMore ops.New h = absurd (omega arith)
+same_op ops.ForwardMore ops.Forward h = absurd (omega arith)
+same_op ops.ForwardMore ops.Release h = absurd (omega arith)
+same_op ops.ForwardMore ops.ForwardMore h = refl
 
 -- an event by its fields
 event_by : (flow sub_type event_type : ℕ) (op : Op) (queue priority impl_opaque payload : ℕ) → flow < 2 ^ 20 → event_type < 16 → Event
@@ -151,7 +167,7 @@ step_formed p (Accept q e (Of r n)) h =
     let t = passed (form_tests p (Accept q e (Of r n))) h in
     record {
       entry = record { queue = ltb-true q (length p.queues) (t 0 true (lit< tt)); named = eqb-true e.queue q (t 1 true (lit< tt)) };
-      operation = op_is_forward e.op (t 2 true (lit< tt));
+      operation = t 2 true (lit< tt);
       source = ltb-true r (length p.queues) (t 3 true (lit< tt));
     }
 step_formed p (Give l q n) h =
@@ -159,6 +175,9 @@ step_formed p (Give l q n) h =
     record { lane = ltb-true l (lanes_of p) (t 0 true (lit< tt)); queue = ltb-true q (length p.queues) (t 1 true (lit< tt)) }
 step_formed p (Done l o) h =
     let parts = and_parts (nat_lt l (lanes_of p)) (pass (outcome_tests p o)) h in (ltb-true l (lanes_of p) parts.0, outcome_formed p o parts.1)
+step_formed p (More l e) h =
+    let t = passed (form_tests p (More l e)) h in
+    (ltb-true l (lanes_of p) (t 0 true (lit< tt)), (ltb-true e.queue (length p.queues) (t 1 true (lit< tt)), op_is_more e.op (t 2 true (lit< tt))))
 step_formed p (Turned l e) h =
     let t = passed (form_tests p (Turned l e)) h in
     record {
@@ -175,6 +194,7 @@ not_given : (p : Plan) (q : ℕ) (s : Step) → length p.queues ≤ q → IsForm
 not_given p q (Give l r n) past f = cond-false (r == q) (Some n) None (ne_eqb r q (λ same. omega arith))
 not_given p q (Accept r e s) past f = refl
 not_given p q (Done l o) past f = refl
+not_given p q (More l e) past f = refl
 not_given p q (Turned l e) past f = refl
 not_given p q (Bounced l) past f = refl
 not_given p q Shut past f = refl
@@ -183,6 +203,7 @@ not_given_to : (p : Plan) (l : ℕ) (s : Step) → lanes_of p ≤ l → IsFormed
 not_given_to p l (Give m q n) past f = cond-false (m == l) (Some (q, n)) None (ne_eqb m l (λ same. omega arith))
 not_given_to p l (Accept q e s) past f = refl
 not_given_to p l (Done m o) past f = refl
+not_given_to p l (More m e) past f = refl
 not_given_to p l (Turned m e) past f = refl
 not_given_to p l (Bounced m) past f = refl
 not_given_to p l Shut past f = refl
@@ -282,6 +303,13 @@ needs_met p P (Accept q e (New l)) formed h =
 needs_met p P (Accept q e (Of r n)) formed h = may_accept_of p P e r n h
 needs_met p P (Give l q n) formed h = may_give_number p P l q n formed (passed (need_tests p P (Give l q n)) h 0 true (lit< tt))
 needs_met p P (Done l o) formed h = ltb-true 0 (length (unanswered P l)) (passed (need_tests p P (Done l o)) h 0 true (lit< tt))
+needs_met p P (More l e) formed h =
+    let t = passed (need_tests p P (More l e)) h in
+    record {
+      beside = ltb-true 0 (length (unanswered P l)) (t 0 true (lit< tt));
+      few = ltb-true (length (extras P l)) MAX_EXTRAS (t 1 true (lit< tt));
+      room = ltb-true (inside p P) (bound_of p) (t 2 true (lit< tt));
+    }
 needs_met p P (Turned l e) formed h = passed (need_tests p P (Turned l e)) h 0 true (lit< tt)
 needs_met p P (Bounced l) formed h = tt
 needs_met p P Shut formed h = not-true (has_shut P) (passed (need_tests p P Shut) h 0 true (lit< tt))

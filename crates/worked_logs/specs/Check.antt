@@ -3,20 +3,21 @@ use Rattle.std.specs.Prelude.{ℕ, Bool, true, false, not, ◌&&◌, ◌||◌, L
 use Rattle.std.specs.List.{list_all, list_any}
 use Rattle.evt_types.specs.Plan.{Plan, lanes, queues, lanes_of, depth_of, bound_of, queue_of, slot_of, serves, is_atomic, is_ordered}
 use Rattle.lists.specs.Lists.{has}
-use Rattle.transcripts.specs.Transcript.{unanswered, unanswered_slots, Held, hand, sources, taken, forwards, kept, waiting, open_of, inside, is_answered, has_shut, is_from_of}
+use Rattle.transcripts.specs.Transcript.{unanswered, unanswered_slots, Held, hand, sources, taken, forwards, extras, kept, waiting, open_of, inside, is_answered, has_shut, is_from_of}
 use Rattle.lists.specs.Lists.{upto}
 use Rattle.transcripts.specs.Lawful.{keeps_order, keeps_with}
-use Rattle.evt_types.specs.Operation.{is_new_op}
+use Rattle.evt_types.specs.Operation.{is_new_op, is_more_op, passes_on}
 use Rattle.evt_types.specs.Word.{op_code}
 use Rattle.evt_types.specs.declared.event.Event.{Event}
 use Rattle.evt_types.specs.declared.event.Numbered.{Numbered}
 use Rattle.evt_types.specs.declared.event.Op.{Op}
 use Rattle.evt_types.specs.declared.event.Op.TheVariants as ops
+use Rattle.evt_types.specs.declared.event.TheConstants.{MAX_EXTRAS}
 use Rattle.evt_types.specs.declared.step.Outcome.{Outcome}
 use Rattle.evt_types.specs.declared.step.Outcome.TheVariants.{Forwarded, Released}
 use Rattle.evt_types.specs.declared.step.Source.TheVariants.{New, Of}
 use Rattle.evt_types.specs.declared.step.Step.{Step}
-use Rattle.evt_types.specs.declared.step.Step.TheVariants.{Accept, Give, Done, Turned, Bounced, Shut}
+use Rattle.evt_types.specs.declared.step.Step.TheVariants.{Accept, Give, Done, More, Turned, Bounced, Shut}
 
 -- whether all of these tests pass
 abbrev pub pass : List Bool → Bool
@@ -31,6 +32,7 @@ abbrev pub is_forward_op : Op → Bool
 is_forward_op ops.New = false
 is_forward_op ops.Forward = true
 is_forward_op ops.Release = false
+is_forward_op ops.ForwardMore = false
 
 -- whether two events have the same fields
 abbrev pub same_event_tests : Event → Event → List Bool
@@ -50,9 +52,10 @@ outcome_tests p Released = []
 
 abbrev pub form_tests : Plan → Step → List Bool
 form_tests p (Accept q e (New l)) = nat_lt q (length p.queues) ∷ (e.queue == q) ∷ is_new_op e.op ∷ nat_lt l (length p.ports) ∷ []
-form_tests p (Accept q e (Of r n)) = nat_lt q (length p.queues) ∷ (e.queue == q) ∷ is_forward_op e.op ∷ nat_lt r (length p.queues) ∷ []
+form_tests p (Accept q e (Of r n)) = nat_lt q (length p.queues) ∷ (e.queue == q) ∷ passes_on e.op ∷ nat_lt r (length p.queues) ∷ []
 form_tests p (Give l q n) = nat_lt l (lanes_of p) ∷ nat_lt q (length p.queues) ∷ []
 form_tests p (Done l o) = nat_lt l (lanes_of p) ∷ outcome_tests p o
+form_tests p (More l e) = nat_lt l (lanes_of p) ∷ nat_lt e.queue (length p.queues) ∷ is_more_op e.op ∷ []
 form_tests p (Turned l e) = nat_lt e.queue (length p.queues) ∷ is_new_op e.op ∷ nat_lt l (length p.ports) ∷ []
 form_tests p (Bounced l) = nat_lt l (lanes_of p) ∷ []
 form_tests p Shut = []
@@ -94,6 +97,8 @@ need_tests p P (Accept q e (New l)) = not (has_shut P) ∷ nat_lt (inside p P) (
 need_tests p P (Accept q e (Of r n)) = of_tests p P e r n
 need_tests p P (Give l q n) = list_any (λ (w : Numbered). pass (give_tests p P l q n w)) (waiting P q) ∷ []
 need_tests p P (Done l o) = nat_lt 0 (length (unanswered P l)) ∷ []
+need_tests p P (More l e) =
+    nat_lt 0 (length (unanswered P l)) ∷ nat_lt (length (extras P l)) MAX_EXTRAS ∷ nat_lt (inside p P) (bound_of p) ∷ []
 need_tests p P (Turned l e) = has_shut P ∷ []
 need_tests p P (Bounced l) = []
 need_tests p P Shut = not (has_shut P) ∷ []

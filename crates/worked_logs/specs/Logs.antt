@@ -12,7 +12,7 @@ use Rattle.evt_types.specs.declared.event.Op.TheVariants as ops
 use Rattle.evt_types.specs.declared.step.Outcome.TheVariants.{Forwarded, Released}
 use Rattle.evt_types.specs.declared.step.Source.TheVariants.{New, Of}
 use Rattle.evt_types.specs.declared.step.Step.{Step}
-use Rattle.evt_types.specs.declared.step.Step.TheVariants.{Accept, Give, Done, Turned, Bounced, Shut}
+use Rattle.evt_types.specs.declared.step.Step.TheVariants.{Accept, Give, Done, More, Turned, Bounced, Shut}
 
 -- ---- the devices
 
@@ -34,7 +34,7 @@ abbrev pub parallel_queue : QueueDraft
 parallel_queue = record { kind = Parallel; priority = 128; slots = 0; order = 0; single = false }
 
 -- Port 0 brings events in. An atomic queue for port 1, the same for ports 1 and 2, an ordered queue for both with a parallel
--- one for port 2, and an atomic queue before a parallel one.
+-- one for port 2, an atomic queue before a parallel one, and the same with both for port 1.
 abbrev pub one_worker : Plan
 one_worker = device_with Ports (atomic_queue ∷ []) (port_with [] ∷ port_with (0 ∷ []) ∷ [])
 
@@ -46,6 +46,9 @@ two_stages = device_with Ports (ordered_queue ∷ parallel_queue ∷ []) (port_w
 
 abbrev pub atomic_stages : Plan
 atomic_stages = device_with Ports (atomic_queue ∷ parallel_queue ∷ []) (port_with [] ∷ port_with (0 ∷ []) ∷ port_with (0 ∷ 1 ∷ []) ∷ [])
+
+abbrev pub both_stages : Plan
+both_stages = device_with Ports (atomic_queue ∷ parallel_queue ∷ []) (port_with [] ∷ port_with (0 ∷ 1 ∷ []) ∷ [])
 
 -- Two workers of an atomic queue, whose four slots have flow lanes: the lanes 3 to 6, beyond those of the ports.
 abbrev pub flow_workers : Plan
@@ -75,6 +78,10 @@ new_event flow fits priority payload = event_with ops.New 0 flow fits priority p
 
 abbrev pub forwarded_event : (flow : ℕ) → flow < 2 ^ 20 → ℕ → ℕ → Event
 forwarded_event flow fits priority payload = event_with ops.Forward 1 flow fits priority payload
+
+-- one that is added and goes to queue 1
+abbrev pub added_event : (flow : ℕ) → flow < 2 ^ 20 → ℕ → ℕ → Event
+added_event flow fits priority payload = event_with ops.ForwardMore 1 flow fits priority payload
 
 -- port 0 brings an event into queue 0
 abbrev pub entry : Event → Step
@@ -133,14 +140,30 @@ flow_lanes_given =
     entry (new_event 7 (lit< tt) 128 1) ∷ entry (new_event 7 (lit< tt) 128 2) ∷ entry (new_event 5 (lit< tt) 128 3) ∷ Give 6 0 0 ∷ Give 6 0 1 ∷ Give 4 0 2
     ∷ Done 4 Released ∷ []
 
+-- two events are added beside one of an atomic queue, and each is accepted at once; then that one is released
+abbrev pub two_added : List Step
+two_added =
+    entry (new_event 7 (lit< tt) 128 1) ∷ Give 1 0 0 ∷ More 1 (added_event 7 (lit< tt) 128 10) ∷ Accept 1 (added_event 7 (lit< tt) 128 10) (Of 0 0)
+    ∷ More 1 (added_event 8 (lit< tt) 128 20) ∷ Accept 1 (added_event 8 (lit< tt) 128 20) (Of 0 0) ∷ Done 1 Released ∷ Give 1 1 0 ∷ Give 1 1 1 ∷ []
+
+-- an event is added beside the second of two ordered ones, which is released, and waits for the first to be forwarded
+abbrev pub added_waits : List Step
+added_waits =
+    entry (new_event 7 (lit< tt) 128 1) ∷ entry (new_event 8 (lit< tt) 128 2) ∷ Give 1 0 0 ∷ Give 2 0 1 ∷ More 2 (added_event 8 (lit< tt) 128 20)
+    ∷ Done 2 Released ∷ Done 1 (Forwarded (forwarded_event 7 (lit< tt) 128 10)) ∷ Accept 1 (forwarded_event 7 (lit< tt) 128 10) (Of 0 0)
+    ∷ Accept 1 (added_event 8 (lit< tt) 128 20) (Of 0 1) ∷ Give 2 1 0 ∷ Give 2 1 1 ∷ []
+
 -- ---- wrong logs, which no device may write
 
--- an event of flow 7 that is brought in, and what one is forwarded as
+-- an event of flow 7 that is brought in, what one is forwarded as, and one that is added beside it
 abbrev pub brought : ℕ → Event
 brought payload = new_event 7 (lit< tt) 128 payload
 
 abbrev pub passed_on : ℕ → Event
 passed_on payload = forwarded_event 7 (lit< tt) 128 payload
+
+abbrev pub added : ℕ → Event
+added payload = added_event 7 (lit< tt) 128 payload
 
 -- a number is given twice
 abbrev pub given_twice : List Step
@@ -224,3 +247,30 @@ given_past_flow_lane = entry (brought 1) ∷ Give 1 0 0 ∷ []
 
 abbrev pub given_to_other_slot : List Step
 given_to_other_slot = entry (brought 1) ∷ Give 4 0 0 ∷ []
+
+-- an event that was added beside one of an ordered queue is accepted while an event that was handed out before is unanswered, or while
+-- that one is
+abbrev pub added_early : List Step
+added_early =
+    entry (brought 1) ∷ entry (brought 2) ∷ Give 1 0 0 ∷ Give 2 0 1 ∷ More 2 (added 20) ∷ Done 2 Released ∷ Accept 1 (added 20) (Of 0 1) ∷ []
+
+abbrev pub added_at_once : List Step
+added_at_once = entry (brought 1) ∷ Give 1 0 0 ∷ More 1 (added 10) ∷ Accept 1 (added 10) (Of 0 0) ∷ []
+
+-- once an event was added the next one of the slot is given to another lane, though nothing is answered
+abbrev pub ended_by_added : List Step
+ended_by_added =
+    entry (brought 1) ∷ entry (brought 2) ∷ Give 1 0 0 ∷ More 1 (added 10) ∷ Accept 1 (added 10) (Of 0 0) ∷ Give 2 0 1 ∷ []
+
+-- five events are added beside one
+abbrev pub added_too_many : List Step
+added_too_many =
+    entry (brought 1) ∷ Give 1 0 0 ∷ More 1 (added 10) ∷ More 1 (added 20) ∷ More 1 (added 30) ∷ More 1 (added 40) ∷ More 1 (added 50) ∷ []
+
+-- an event is added on a lane that has nothing unanswered
+abbrev pub added_to_none : List Step
+added_to_none = entry (brought 1) ∷ More 1 (added 10) ∷ []
+
+-- an event that was added beside one of an ordered queue stays kept, though that one is released and none was handed out before
+abbrev pub added_kept_for_good : List Step
+added_kept_for_good = entry (brought 1) ∷ Give 1 0 0 ∷ More 1 (added 10) ∷ Done 1 Released ∷ []

@@ -1,8 +1,9 @@
 //! Laws on worked logs: what a device has to write is lawful, and what it mustn't write is not.
 
 ghost use Rattle.transcripts.specs.Lawful.{Lawful};
-ghost use Rattle.worked_logs.specs.Logs.{one_worker, two_workers, two_stages, atomic_stages, flow_workers, first_event, one_flow_two_ports, two_flows_one_slot, second_forwarded_first, first_released, mixed_levels, full_ring, turned_away, flow_lanes_given};
+ghost use Rattle.worked_logs.specs.Logs.{one_worker, two_workers, two_stages, atomic_stages, both_stages, flow_workers, first_event, one_flow_two_ports, two_flows_one_slot, second_forwarded_first, first_released, mixed_levels, full_ring, turned_away, flow_lanes_given, two_added, added_waits};
 ghost use Rattle.worked_logs.specs.Logs.{given_twice, overtaken, split_slot, accepted_early, kept_for_good, accepted_twice, new_after_shut, turned_before_shut, shut_twice, not_linked, answered_early, beyond_depth, exchanged, accepted_backwards, no_such_queue, given_before, turned_nowhere, flow_lane_brings, given_past_flow_lane, given_to_other_slot};
+ghost use Rattle.worked_logs.specs.Logs.{added_early, added_at_once, ended_by_added, added_too_many, added_to_none, added_kept_for_good};
 
 /// The logs of worked examples are lawful.
 pub fn worked_logs_are_lawful()
@@ -15,6 +16,8 @@ pub fn worked_logs_are_lawful()
     ensures full_ring { Lawful one_worker full_ring }
     ensures turned_away { Lawful atomic_stages turned_away }
     ensures flow_lanes_given { Lawful flow_workers flow_lanes_given }
+    ensures two_added { Lawful both_stages two_added }
+    ensures added_waits { Lawful two_stages added_waits }
 {}
 
 /// Logs that break a promise are not lawful.
@@ -39,4 +42,10 @@ pub fn wrong_logs_are_refused()
     ensures flow_lane_brings { ¬ Lawful flow_workers flow_lane_brings }
     ensures given_past_flow_lane { ¬ Lawful flow_workers given_past_flow_lane }
     ensures given_to_other_slot { ¬ Lawful flow_workers given_to_other_slot }
+    ensures added_early { ¬ Lawful two_stages added_early }
+    ensures added_at_once { ¬ Lawful two_stages added_at_once }
+    ensures ended_by_added { ¬ Lawful atomic_stages ended_by_added }
+    ensures added_too_many { ¬ Lawful two_stages added_too_many }
+    ensures added_to_none { ¬ Lawful two_stages added_to_none }
+    ensures added_kept_for_good { ¬ Lawful two_stages added_kept_for_good }
 {}

@@ -5,7 +5,7 @@ use Rattle.std.proofs.Math.Dec.{lit<}
 use Rattle.std.proofs.lemmas.Bool.{false≢true}
 use Rattle.std.proofs.lemmas.List.Elements.{All-nil}
 use Rattle.evt_types.specs.Event.{release_event}
-use Rattle.evt_types.specs.Plan.{bound_of, depth_of, flow_lanes, lanes_of, serves}
+use Rattle.evt_types.specs.Plan.{Plan, bound_of, depth_of, flow_lanes, lanes_of, serves}
 use Rattle.evt_types.specs.declared.event.Reply.{Reply}
 use Rattle.evt_types.specs.declared.step.Step.{Step}
 use Rattle.evt_types.specs.declared.step.Step.TheVariants.{Give}
@@ -21,12 +21,12 @@ use Rattle.world_laws.specs.Logged.{as_logged}
 use Rattle.world_laws.specs.World.{LeadsTo, MaySubmit, World, empty}
 use Rattle.worked_worlds.specs.Worlds.{early_log, early_moves, early_world, reply}
 
-by_test : (T : List Step) → is_lawful one_worker T ≡ true → Lawful one_worker T
-by_test T h = Lawful-steps one_worker T (StepsLawful-test one_worker T h)
+pub by_test : (p : Plan) (T : List Step) → is_lawful p T ≡ true → Lawful p T
+by_test p T h = Lawful-steps p T (StepsLawful-test p T h)
 
 -- a NEW may come on port 0's lane
 new : (w : World) (payload : ℕ) → MaySubmit one_worker w 0 (reply (brought payload))
-new w payload = record { own = λ _. lit< tt; held = λ answers_it. absurd (false≢true answers_it) }
+new w payload = record { own = λ _. lit< tt; held = λ answers_it. absurd (false≢true answers_it); beside = λ adds. absurd (false≢true adds) }
 
 -- one entry for each lane, which was written twice
 written_twice : (b c : Bool) (xs ys zs : List Reply) → cond b xs (cond c ys (cond c zs [])) ≡ cond b xs (cond c ys [])
@@ -41,26 +41,26 @@ early_run = (
   (
     new _ 2,
     (
-      record { reply = reply (brought 1); next = refl; may = refl; are = record { form = refl; lawful = by_test (entry (brought 1) ∷ []) refl } },
+      record { reply = reply (brought 1); next = refl; may = refl; are = record { form = refl; lawful = by_test one_worker (entry (brought 1) ∷ []) refl } },
       (
-        by_test (entry (brought 1) ∷ Give 1 0 0 ∷ []) refl,
+        by_test one_worker (entry (brought 1) ∷ Give 1 0 0 ∷ []) refl,
         (
           lit< tt,
           (
-            record { own = λ is_new. absurd (false≢true is_new); held = λ _. lit< tt },
+            record { own = λ is_new. absurd (false≢true is_new); held = λ _. lit< tt; beside = λ adds. absurd (false≢true adds) },
             (
               record {
                 reply = reply (brought 2);
                 next = refl;
                 may = refl;
-                are = record { form = refl; lawful = by_test (entry (brought 1) ∷ Give 1 0 0 ∷ entry (brought 2) ∷ []) refl };
+                are = record { form = refl; lawful = by_test one_worker (entry (brought 1) ∷ Give 1 0 0 ∷ entry (brought 2) ∷ []) refl };
               },
               (
                 record {
                   reply = reply release_event;
                   next = refl;
                   may = refl;
-                  are = record { form = ([], refl, All-nil (λ s. is_from_of s ≡ true)); lawful = by_test early_log refl };
+                  are = record { form = ([], refl, All-nil (λ s. is_from_of s ≡ true)); lawful = by_test one_worker early_log refl };
                 },
                 same_worlds _ early_world refl (λ m. refl)
                     (λ m. written_twice (m == 1) (m == 0) (reply release_event ∷ []) (reply (brought 1) ∷ reply (brought 2) ∷ []) (reply (brought 1) ∷ [])),

@@ -1,3 +1,4 @@
+pub mod Added
 pub mod Early
 pub mod Refused
 pub mod Slot

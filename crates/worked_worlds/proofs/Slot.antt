@@ -1,10 +1,15 @@
 -- The world after the log of two flows in one slot: its lists fit together, and its moves are those that are written out.
-use Rattle.std.specs.Prelude.{ℕ, ◌≡◌, ◌≢◌, ◌≤◌, List, [], ◌∷◌, length, map, count_by}
+use Rattle.std.specs.Prelude.{ℕ, ◌≡◌, ◌≢◌, ◌≤◌, true, false, not, List, [], ◌∷◌, length, map, count_by}
+use Rattle.std.specs.List.{list_all}
 use Rattle.std.proofs.Common.{refl, sym, subst, arith}
 use Rattle.std.proofs.Math.Dec.{lit<, lit≤}
-use Rattle.std.proofs.lemmas.Bool.{ne_eqb}
+use Rattle.std.proofs.lemmas.Bool.{ne_eqb, not-true}
+use Rattle.std.proofs.lemmas.List.Elements.{All-weaker}
+use Rattle.std.proofs.lemmas.List.Sums.{AllPass-from_list_all}
+use Rattle.evt_types.proofs.Additions.{beside-none, beside-plain}
+use Rattle.evt_types.specs.Additions.{AreBeside}
 use Rattle.evt_types.specs.Event.{release_event}
-use Rattle.evt_types.specs.Operation.{is_answer, is_new_reply}
+use Rattle.evt_types.specs.Operation.{is_answer, is_more_reply, is_new_reply}
 use Rattle.evt_types.specs.Plan.{flow_lanes, lanes_of}
 use Rattle.evt_types.specs.declared.event.Reply.{Reply}
 use Rattle.transcripts.specs.Lawful.{IsPrefix}
@@ -31,6 +36,18 @@ received_few = at_each (λ l n. n ≤ length (out two_flows_one_slot l)) 1 3 (λ
 answers_few : (l : ℕ) → count_by is_answer (slot_world.submitted l) ≤ slot_world.received l
 answers_few = each_lane (λ l rs. count_by is_answer rs ≤ slot_world.received l) (lit≤ tt) (lit≤ tt) (λ l not_0 not_1. omega arith)
 
+-- no event was added
+plain : (n : ℕ) (rs : List Reply) → list_all (λ (r : Reply). not (is_more_reply r)) rs ≡ true → AreBeside n rs
+plain n rs h =
+    beside-plain n rs
+    (All-weaker (λ r. not (is_more_reply r) ≡ true) (λ r. is_more_reply r ≡ false) (λ r none. not-true (is_more_reply r) none) rs
+    (AllPass-from_list_all (λ (r : Reply). not (is_more_reply r)) rs h))
+
+none_added : (l : ℕ) → AreBeside (slot_world.received l) (slot_world.submitted l)
+none_added =
+    each_lane (λ l rs. AreBeside (slot_world.received l) rs) (plain (slot_world.received 0) by_port_0 refl) (plain (slot_world.received 1) by_port_1 refl)
+    (λ l not_0 not_1. beside-none (slot_world.received l))
+
 -- the other ports say nothing
 silent : (l : ℕ) → l ≢ 0 → l ≢ 1 → replies_in two_flows_one_slot l ≡ []
 unfolding replies_in
@@ -48,7 +65,7 @@ own_lanes =
 
 pub slot_consistent : IsConsistent two_workers slot_world
 slot_consistent =
-    record { lawful = two_flows_one_slot_lawful; received = received_few; fewer = answers_few; taken = taken_front; own = own_lanes }
+    record { lawful = two_flows_one_slot_lawful; received = received_few; fewer = answers_few; beside = none_added; taken = taken_front; own = own_lanes }
 
 pub slot_moves_are : as_logged two_workers slot_world ≡ slot_moves
 unfolding out replies_in flow_lanes lanes_of

@@ -1,13 +1,15 @@
--- Small worlds: how the log of two flows in one slot came about, another order of moves, and moves that can't be made.
+-- Small worlds: how the log of two flows in one slot came about, another order of moves, an event that is added beside a held one, and
+-- moves that can't be made.
 use Rattle.std.specs.Prelude.{List, [], ◌∷◌}
 use Rattle.std.proofs.Math.Dec.{lit<}
 use Rattle.evt_types.specs.Event.{release_event}
 use Rattle.evt_types.specs.declared.event.Event.{Event}
 use Rattle.evt_types.specs.declared.event.Reply.{Reply}
 use Rattle.evt_types.specs.declared.step.Outcome.TheVariants.{Released}
+use Rattle.evt_types.specs.declared.step.Source.TheVariants.{Of}
 use Rattle.evt_types.specs.declared.step.Step.{Step}
-use Rattle.evt_types.specs.declared.step.Step.TheVariants.{Give, Done}
-use Rattle.worked_logs.specs.Logs.{brought, entry, new_event, two_flows_one_slot}
+use Rattle.evt_types.specs.declared.step.Step.TheVariants.{Accept, Give, Done, More}
+use Rattle.worked_logs.specs.Logs.{added, brought, entry, new_event, two_flows_one_slot}
 use Rattle.world_laws.specs.World.{World, Move, Submits, Takes, Gives, Receives, at_lane}
 
 abbrev pub reply : Event → Reply
@@ -68,11 +70,35 @@ early_moves =
     Submits 0 (reply (brought 1)) ∷ Submits 0 (reply (brought 2)) ∷ Takes 0 (entry (brought 1) ∷ []) ∷ Gives 1 0 0 ∷ Receives 1 ∷ Submits 1 (reply release_event)
     ∷ Takes 0 (entry (brought 2) ∷ []) ∷ Takes 1 (Done 1 Released ∷ []) ∷ []
 
+-- ---- an event that is added
+
+-- Beside the event that port 1 holds of the atomic queue one is added to the next stage, which is accepted at once.
+abbrev pub added_log : List Step
+added_log = entry (brought 1) ∷ Give 1 0 0 ∷ More 1 (added 10) ∷ Accept 1 (added 10) (Of 0 0) ∷ []
+
+abbrev pub added_world : World
+added_world =
+    record { log = added_log; received = at_lane 1 1 (λ l. 0); submitted = at_lane 1 (reply (added 10) ∷ []) (at_lane 0 (reply (brought 1) ∷ []) (λ l. [])) }
+
+abbrev pub added_moves : List Move
+added_moves =
+    brings (brought 1) (Gives 1 0 0 ∷ Receives 1 ∷ Submits 1 (reply (added 10)) ∷ Takes 1 (More 1 (added 10) ∷ Accept 1 (added 10) (Of 0 0) ∷ []) ∷ [])
+
 -- ---- moves that can't be made
 
 -- a lane answers what it was given and hasn't received
 abbrev pub answers_unreceived : List Move
 answers_unreceived = brings (brought 1) (Gives 1 0 0 ∷ Submits 1 (reply release_event) ∷ [])
+
+-- an event is added beside one that the lane was given and hasn't received
+abbrev pub adds_unreceived : List Move
+adds_unreceived = brings (brought 1) (Gives 1 0 0 ∷ Submits 1 (reply (added 10)) ∷ [])
+
+-- a fifth event is added beside one
+abbrev pub adds_too_many : List Move
+adds_too_many =
+    brings (brought 1) (Gives 1 0 0 ∷ Receives 1 ∷ Submits 1 (reply (added 10)) ∷ Submits 1 (reply (added 20)) ∷ Submits 1 (reply (added 30))
+    ∷ Submits 1 (reply (added 40)) ∷ Submits 1 (reply (added 50)) ∷ [])
 
 -- more is received than was given
 abbrev pub receives_twice : List Move

@@ -3,9 +3,12 @@ use Rattle.std.specs.Prelude.{ℕ, ◌≡◌, ◌≢◌, ◌+◌, ◌<◌, ◌�
 use Rattle.std.specs.List.{cons_option}
 use Rattle.std.proofs.Common.{refl, sym, ap, ◌∙◌, subst, arith, ⊎_elim, zero, suc, append-nil, length-append, length-drop, length-take}
 use Rattle.std.proofs.lemmas.Bool.{cases_Bool, cases_eq, cond-true, cond-false}
-use Rattle.evt_types.specs.Operation.{is_answer, is_new_reply}
+use Rattle.evt_types.proofs.Additions.{beside-append, beside-kept, beside-none}
+use Rattle.evt_types.specs.Additions.{AreBeside, extras_of}
+use Rattle.evt_types.specs.Operation.{is_answer, is_more_reply, is_new_reply}
 use Rattle.evt_types.specs.Plan.{Plan, lanes_of}
 use Rattle.evt_types.specs.declared.event.Reply.{Reply}
+use Rattle.evt_types.specs.declared.event.TheConstants.{MAX_EXTRAS}
 use Rattle.evt_types.specs.declared.step.Step.{Step}
 use Rattle.evt_types.specs.declared.step.Step.TheVariants as steps
 use Rattle.lists.proofs.Lists.{eqb_same, eqb_other}
@@ -44,6 +47,7 @@ consistent_none p =
       lawful = empty_lawful p;
       received = λ l. omega arith;
       fewer = λ l. omega arith;
+      beside = λ l. beside-none 0;
       taken = λ l. ([], refl);
       own = λ l past. refl;
     }
@@ -53,12 +57,18 @@ pub hand_length : (w : World) (l : ℕ) → 0 < length (in_hand w l) → count_b
 hand_length w l some =
     omega (arith, length-drop (count_by is_answer (w.submitted l)) (take (w.received l) (out w.log l)), length-take (w.received l) (out w.log l))
 
+-- and where it answered less than it received, something is
+pub hand_some : (w : World) (l : ℕ) → w.received l ≤ length (out w.log l) → count_by is_answer (w.submitted l) < w.received l → 0 < length (in_hand w l)
+hand_some w l given fewer =
+    omega (arith, length-drop (count_by is_answer (w.submitted l)) (take (w.received l) (out w.log l)), length-take (w.received l) (out w.log l))
+
 submits : (p : Plan) (w : World) (l : ℕ) (r : Reply) → IsConsistent p w → MaySubmit p w l r → IsConsistent p (moved w (Submits l r))
 submits p w l r c may =
     record {
       lawful = c.lawful;
       received = c.received;
       fewer = at_each (λ m rs. count_by is_answer rs ≤ w.received m) l (w.submitted l ++ r ∷ []) w.submitted (⊎_elim answer other (cases_Bool (is_answer r))) (λ m differs. c.fewer m);
+      beside = at_each (λ m rs. AreBeside (w.received m) rs) l (w.submitted l ++ r ∷ []) w.submitted (beside-append (w.received l) (w.submitted l) r (c.beside l) added) (λ m differs. c.beside m);
       taken = at_each (λ m rs. IsPrefix (replies_in w.log m) (map said rs)) l (w.submitted l ++ r ∷ []) w.submitted (prefix_push (replies_in w.log l) (w.submitted l) r (c.taken l)) (λ m differs. c.taken m);
       own = at_each (λ m rs. length p.ports ≤ m → count_by is_new_reply rs ≡ 0) l (w.submitted l ++ r ∷ []) w.submitted (λ past. ⊎_elim (new past) (old past) (cases_Bool (is_new_reply r))) (λ m differs. c.own m);
     }
@@ -69,6 +79,9 @@ submits p w l r c may =
 
     other : is_answer r ≡ false → count_by is_answer (w.submitted l ++ r ∷ []) ≤ w.received l
     other h = omega (arith, c.fewer l, count_by-push is_answer (w.submitted l) r, cond-false {A = ℕ} (is_answer r) 1 0 h)
+
+    added : is_more_reply r ≡ true → (count_by is_answer (w.submitted l) < w.received l) × (extras_of (w.submitted l) < MAX_EXTRAS)
+    added h = (hand_length w l (may.beside h).0, (may.beside h).1)
 
     new : length p.ports ≤ l → is_new_reply r ≡ true → count_by is_new_reply (w.submitted l ++ r ∷ []) ≡ 0
     new past h = let own = may.own h in absurd (omega arith)
@@ -90,6 +103,7 @@ takes p w l taken c may =
       lawful = may.are.lawful;
       received = λ m. subst (λ xs. w.received m ≤ length xs) (sym (taken_out p w l taken may m)) (c.received m);
       fewer = c.fewer;
+      beside = c.beside;
       taken = λ m. subst (λ xs. IsPrefix xs (map said (w.submitted m))) (sym (said_more m)) (⊎_elim (here m) (other m) (cases_eq m l));
       own = c.own;
     }
@@ -118,6 +132,7 @@ steps_silently p w s c lawful silent =
       received = λ m.
           omega (arith, c.received m, ap length (out-push w.log m s), length-append (out w.log m) (cons_option (given_to m s) []));
       fewer = c.fewer;
+      beside = c.beside;
       taken = λ m. subst (λ xs. IsPrefix xs (map said (w.submitted m))) (sym (replies_in-none w.log m s (silent m))) (c.taken m);
       own = c.own;
     }
@@ -128,6 +143,7 @@ receives p w l c may =
       lawful = c.lawful;
       received = at_each (λ m n. n ≤ length (out w.log m)) l (w.received l + 1) w.received (omega arith) (λ m differs. c.received m);
       fewer = at_each (λ m n. count_by is_answer (w.submitted m) ≤ n) l (w.received l + 1) w.received (omega (arith, c.fewer l)) (λ m differs. c.fewer m);
+      beside = at_each (λ m n. AreBeside n (w.submitted m)) l (w.received l + 1) w.received (beside-kept (w.received l) (w.received l + 1) (w.submitted l) (omega arith) (c.beside l)) (λ m differs. c.beside m);
       taken = c.taken;
       own = c.own;
     }

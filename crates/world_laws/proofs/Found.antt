@@ -1,12 +1,13 @@
 -- A world whose lists fit together came about by the moves of its log, and then the Submits of what wasn't taken.
 use Rattle.std.specs.Prelude.{ℕ, ◌≡◌, ◌≢◌, ◌+◌, ◌<◌, ◌≤◌, ◌^◌, true, cond, List, [], ◌∷◌, ◌++◌, nat_lt, length, map, take, drop, count_by, flat_map, Option, Some, None}
 use Rattle.std.specs.List.{range_with_len}
-use Rattle.std.proofs.Common.{refl, sym, ap, ◌∙◌, subst, arith, ⊎_elim, zero, suc, append_assoc, append-nil, length-drop, length-take, add-one}
+use Rattle.std.proofs.Common.{refl, sym, ap, ◌∙◌, subst, arith, ⊎_elim, zero, suc, append_assoc, append-nil, add-one}
 use Rattle.std.proofs.lemmas.Bool.{cases_lt, cond-true, cond-false, le-ltb, lt-ltb}
 use Rattle.std.proofs.lemmas.List.{take-append-drop, take_all, nil_from_length}
 use Rattle.std.proofs.lemmas.List.Elements.{All-weaker}
 use Rattle.evt_types.proofs.FlowLanes.{port_is_lane}
-use Rattle.evt_types.specs.Operation.{is_answer, is_answer_op, is_new_op, is_new_reply}
+use Rattle.evt_types.specs.Additions.{AreBeside}
+use Rattle.evt_types.specs.Operation.{is_answer, is_answer_op, is_more_op, is_more_reply, is_new_op, is_new_reply}
 use Rattle.evt_types.specs.Plan.{Plan, lanes, lanes_of}
 use Rattle.evt_types.specs.declared.event.Op.{Op}
 use Rattle.evt_types.specs.declared.event.Op.TheVariants as ops
@@ -20,7 +21,8 @@ use Rattle.transcripts.proofs.Pushes.{given_to_is}
 use Rattle.transcripts.specs.Lawful.{IsFormed}
 use Rattle.transcripts.specs.Replies.{replies_in}
 use Rattle.transcripts.specs.Transcript.{given_to, out}
-use Rattle.world_laws.proofs.Consistent.{consistent_none}
+use Rattle.world_laws.proofs.Additions.{beside_at, none_added}
+use Rattle.world_laws.proofs.Consistent.{consistent_none, hand_some}
 use Rattle.world_laws.proofs.Fronts.{none_next}
 use Rattle.world_laws.proofs.LogMoves.{world_at, log_leads}
 use Rattle.world_laws.proofs.Worlds.{LeadsTo-append, LeadsTo-end, at_each, at_lane-same, at_lane-other, same_worlds}
@@ -37,21 +39,15 @@ with_replies w l rs = record { log = w.log; received = w.received; submitted = a
 record MaySubmitAll (p : Plan) (w : World) (l : ℕ) (all : List Reply) : Type 0 where
   received : w.received l ≤ length (out w.log l)
   fewer : count_by is_answer all ≤ w.received l
+  beside : AreBeside (w.received l) all
   own : length p.ports ≤ l → count_by is_new_reply all ≡ 0
 
 may_submit_next : (p : Plan) (w : World) (l : ℕ) (r : Reply) (rs : List Reply) → MaySubmitAll p w l (w.submitted l ++ r ∷ rs) → MaySubmit p w l r
 may_submit_next p w l r rs may = record {
   own = λ new. ⊎_elim (λ own. own) (λ past. absurd (none_past new (may.own past))) (cases_lt l (length p.ports));
-  held = λ answer. omega (
-    arith,
-    length-drop (count_by is_answer (w.submitted l)) (take (w.received l) (out w.log l)),
-    length-take (w.received l) (out w.log l),
-    count_by-append is_answer (w.submitted l) (r ∷ rs),
-    count_by-cons is_answer r rs,
-    cond-true {A = ℕ} (is_answer r) 1 0 answer,
-    may.received,
-    may.fewer,
-  );
+  held = λ answer. hand_some w l may.received
+      (omega (arith, count_by-append is_answer (w.submitted l) (r ∷ rs), count_by-cons is_answer r rs, cond-true {A = ℕ} (is_answer r) 1 0 answer, may.fewer));
+  beside = λ more. let before = beside_at (w.received l) (w.submitted l) r rs may.beside more in (hand_some w l may.received before.0, before.1);
 }
   where
     none_past : is_new_reply r ≡ true → count_by is_new_reply (w.submitted l ++ r ∷ rs) ≡ 0 → ⊥
@@ -68,7 +64,7 @@ submit_all p w l (r ∷ rs) may =
     ap (λ us. us ++ rs) (at_lane-same l (w.submitted l ++ r ∷ []) w.submitted) ∙ append_assoc (w.submitted l) (r ∷ []) rs in (
       may_submit_next p w l r rs may,
       LeadsTo-end p next (with_replies next l rs) (with_replies w l (r ∷ rs)) (map (Submits l) rs)
-          (submit_all p next l rs (subst (λ us. MaySubmitAll p next l us) (sym all) (record { received = may.received; fewer = may.fewer; own = may.own })))
+          (submit_all p next l rs (subst (λ us. MaySubmitAll p next l us) (sym all) (record { received = may.received; fewer = may.fewer; beside = may.beside; own = may.own })))
           (same_worlds (with_replies next l rs) (with_replies w l (r ∷ rs)) refl (λ m. refl)
           (at_each (λ k us. us ≡ at_lane l (w.submitted l ++ r ∷ rs) w.submitted k) l (next.submitted l ++ rs) next.submitted
           (all ∙ sym (at_lane-same l (w.submitted l ++ r ∷ rs) w.submitted))
@@ -94,7 +90,7 @@ filled_past v n l past = cond-false (nat_lt l n) (v.submitted l) (taken_of v l) 
 fill_lane : (p : Plan) (v : World) (n : ℕ) → IsConsistent p v → LeadsTo p (filled v n) (untaken_moves v n) (filled v (n + 1))
 fill_lane p v n c =
     LeadsTo-end p w (with_replies w n late) (filled v (n + 1)) (untaken_moves v n)
-    (submit_all p w n late (subst (MaySubmitAll p w n) (sym all) (record { received = c.received n; fewer = c.fewer n; own = c.own n })))
+    (submit_all p w n late (subst (MaySubmitAll p w n) (sym all) (record { received = c.received n; fewer = c.fewer n; beside = c.beside n; own = c.own n })))
     (same_worlds (with_replies w n late) (filled v (n + 1)) refl (λ m. refl)
     (at_each (λ k us. us ≡ (filled v (n + 1)).submitted k) n (w.submitted n ++ late) w.submitted (all ∙ sym (filled_below v (n + 1) n (omega arith))) other))
   where
@@ -130,16 +126,17 @@ not_given p l s past there = by_case (given_to l s) refl
     by_case None is = is
     by_case (Some x) is = let within : l < lanes_of p = subst (HasLane p) (given_to_is l s x is) there in absurd (omega arith)
 
--- each reply is a NEW or an answer
-new_or_answer : (rs : List Reply) → count_by is_new_reply rs + count_by is_answer rs ≡ length rs
-new_or_answer [] = refl
-new_or_answer (r ∷ rs) =
-    omega (arith, count_by-cons is_new_reply r rs, count_by-cons is_answer r rs, new_or_answer rs, one_of r.event.op)
+-- each reply is a NEW, an answer or an addition
+kinds : (rs : List Reply) → count_by is_new_reply rs + count_by is_answer rs + count_by is_more_reply rs ≡ length rs
+kinds [] = refl
+kinds (r ∷ rs) =
+    omega (arith, count_by-cons is_new_reply r rs, count_by-cons is_answer r rs, count_by-cons is_more_reply r rs, kinds rs, one_of r.event.op)
   where
-    one_of : (o : Op) → cond (is_new_op o) 1 0 + cond (is_answer_op o) 1 0 ≡ 1
+    one_of : (o : Op) → cond (is_new_op o) 1 0 + cond (is_answer_op o) 1 0 + cond (is_more_op o) 1 0 ≡ 1
     one_of ops.New = refl
     one_of ops.Forward = refl
     one_of ops.Release = refl
+    one_of ops.ForwardMore = refl
 
 silent_past : (p : Plan) (v : World) (l : ℕ) → IsConsistent p v → lanes_of p ≤ l → v.submitted l ≡ []
 unfolding out
@@ -148,7 +145,9 @@ silent_past p v l c past =
     filter_map-none (given_to l) v.log (All-weaker (IsFormed p) (λ s. given_to l s ≡ None) (λ s f. not_given p l s past (formed_lane p s f)) v.log c.lawful.formed) in
     let beyond : length p.ports ≤ l = ⊎_elim (λ own. let lane : l < lanes_of p = port_is_lane p l own in absurd (omega arith)) (λ past. past) (cases_lt l (length p.ports)) in
     let no_new : count_by is_new_reply (v.submitted l) ≡ 0 = c.own l beyond in
-    nil_from_length (v.submitted l) (omega (arith, new_or_answer (v.submitted l), c.fewer l, c.received l, ap length none))
+    let unreceived : v.received l ≡ 0 = omega (arith, c.received l, ap length none) in
+    let no_more = none_added (v.submitted l) (subst (λ n. AreBeside n (v.submitted l)) unreceived (c.beside l)) in
+    nil_from_length (v.submitted l) (omega (arith, kinds (v.submitted l), c.fewer l))
 
 -- ---- the whole
 
@@ -175,7 +174,7 @@ found_is_a_run p v c short =
     (subst (λ w. LeadsTo p w (flat_map (untaken_moves v) (lanes p)) (filled v (lanes_of p))) (sym (at_end p v c)) (fill_lanes p v (lanes_of p) c))
     (all_filled p v c))
   where
-    -- no forward is accepted first, since nothing was answered
+    -- no Accept of what was passed on stands first, since nothing was passed on
     none_first : forwards_first v.log ≡ []
     none_first = none_next p v.log c.lawful [] v.log refl (consistent_none p).lawful.prompt.end
 

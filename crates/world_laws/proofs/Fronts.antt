@@ -1,4 +1,5 @@
--- Fronts of a lawful log: each is lawful, unless forwards are accepted next, and these stand behind an answer alone.
+-- Fronts of a lawful log: each is lawful, unless what was passed on is accepted next, and that stands behind an answer or an addition
+-- alone.
 use Rattle.std.specs.Prelude.{ℕ, ◌≡◌, ◌+◌, Bool, true, false, cond, List, [], ◌∷◌, ◌++◌, length, take, drop, All, Contains}
 use Rattle.std.proofs.Common.{refl, sym, ap, ◌∙◌, subst, arith, append_assoc, append-nil, length-append}
 use Rattle.std.proofs.lemmas.Bool.{false≢true, cond-false, cond-true}
@@ -8,7 +9,7 @@ use Rattle.evt_types.specs.Plan.{Plan, queue_of, is_ordered}
 use Rattle.evt_types.specs.declared.event.Event.{Event}
 use Rattle.evt_types.specs.declared.step.Source.TheVariants.{New, Of}
 use Rattle.evt_types.specs.declared.step.Step.{Step}
-use Rattle.evt_types.specs.declared.step.Step.TheVariants.{Accept, Give, Done, Turned, Bounced, Shut}
+use Rattle.evt_types.specs.declared.step.Step.TheVariants.{Accept, Give, Done, More, Turned, Bounced, Shut}
 use Rattle.lists.proofs.Fronts.{All-tagged_at}
 use Rattle.lists.proofs.Lists.{drop-slice_get}
 use Rattle.lists.specs.Lists.{has, upto}
@@ -20,7 +21,7 @@ use Rattle.transcripts.specs.Lawful.{IsSettled, Lawful}
 use Rattle.transcripts.specs.Transcript.{forwards, hand, is_answered, is_from_of, kept, kept_of, taken}
 use Rattle.world_laws.specs.Logged.{forwards_first}
 
--- ---- the Accepts of forwards at the front
+-- ---- the Accepts at the front of what was passed on
 
 -- those, and what follows them
 pub record Split (rest : List Step) : Type 0 where
@@ -81,7 +82,7 @@ module _ (p : Plan) (T : List Step) (lawful : Lawful p T) where
   front_lawful P (s ∷ rest) e none =
       Lawful-steps p P (record { steps = front_steps P (s ∷ rest) e; end = (step_at P rest s e).prompt (next_is_other s rest none) })
 
--- ---- no forward is accepted where nothing is overdue
+-- ---- nothing that was passed on is accepted where nothing is overdue
 
 settled_refuses : (p : Plan) (P : List Step) (r n : ℕ) (e : Event) → Facts p P → IsSettled p P → MayAcceptOf p P e r n → ⊥
 unfolding kept
@@ -98,11 +99,12 @@ none_next p T lawful P (Accept q d (Of r n) ∷ rest) e settled =
 none_next p T lawful P (Accept q d (New l) ∷ rest) e settled = refl
 none_next p T lawful P (Give l q n ∷ rest) e settled = refl
 none_next p T lawful P (Done l o ∷ rest) e settled = refl
+none_next p T lawful P (More l d ∷ rest) e settled = refl
 none_next p T lawful P (Turned l d ∷ rest) e settled = refl
 none_next p T lawful P (Bounced l ∷ rest) e settled = refl
 none_next p T lawful P (Shut ∷ rest) e settled = refl
 
--- a step that gives, answers and forwards nothing leaves nothing overdue
+-- a step that gives, answers and passes on nothing leaves nothing overdue
 quiet_settled : (p : Plan) (T : List Step) → Lawful p T → (P rest : List Step) (s : Step) → P ++ s ∷ rest ≡ T → is_from_of s ≡ false
     → (IsSettled p P → IsSettled p (P ++ s ∷ [])) → forwards_first rest ≡ []
 quiet_settled p T lawful P rest s e other stays =

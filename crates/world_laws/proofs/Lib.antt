@@ -1,4 +1,5 @@
 pub mod Accounts
+pub mod Additions
 pub mod Consistent
 pub mod Found
 pub mod Fronts

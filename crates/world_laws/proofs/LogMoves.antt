@@ -1,37 +1,37 @@
 -- The moves of one step of the log, from the world before the step to the one after it.
 use Rattle.std.specs.Prelude.{ℕ, ◌≡◌, ◌≢◌, ◌+◌, ◌<◌, ◌≤◌, ◌^◌, Bool, true, false, cond, ◌&&◌, ◌||◌, List, [], ◌∷◌, ◌++◌, ◌==◌, nat_lt, length, take, count_by, min, Some, None, slice_get, if◌then◌else◌}
-use Rattle.std.proofs.Common.{refl, sym, ap, ◌∙◌, subst, arith, ⊎_elim, append_assoc, append-nil, length-append, length-drop, length-take}
+use Rattle.std.proofs.Common.{refl, sym, ap, ◌∙◌, subst, arith, ⊎_elim, append_assoc, append-nil, length-append}
 use Rattle.std.proofs.lemmas.Bool.{and_from, cases_eq, cond-true, cond-false, lt-ltb, ltb-false, ltb-true, or_left, or_right, false≢true}
 use Rattle.std.proofs.lemmas.List.{length-take-le, length_push}
 use Rattle.std.proofs.lemmas.Option.{get_or_from_slice_get, slice_get_within}
 use Rattle.evt_types.specs.Event.{release_event}
-use Rattle.evt_types.specs.Operation.{is_answer, is_answer_op, is_new_op, is_new_reply}
+use Rattle.evt_types.specs.Operation.{is_answer, is_answer_op, is_more_op, is_more_reply, is_new_op, is_new_reply}
 use Rattle.evt_types.specs.Plan.{Plan, bound_of}
 use Rattle.evt_types.specs.declared.event.Event.{Event}
 use Rattle.evt_types.specs.declared.event.Op.{Op}
 use Rattle.evt_types.specs.declared.event.Op.TheVariants as ops
 use Rattle.evt_types.specs.declared.event.Reply.{Reply}
-use Rattle.evt_types.specs.declared.step.Outcome.{Outcome}
+use Rattle.evt_types.specs.declared.event.TheConstants.{MAX_EXTRAS}
 use Rattle.evt_types.specs.declared.step.Outcome.TheVariants.{Forwarded, Released}
 use Rattle.evt_types.specs.declared.step.Source.TheVariants.{New, Of}
 use Rattle.evt_types.specs.declared.step.Step.{Step}
-use Rattle.evt_types.specs.declared.step.Step.TheVariants.{Accept, Give, Done, Turned, Bounced, Shut}
+use Rattle.evt_types.specs.declared.step.Step.TheVariants.{Accept, Give, Done, More, Turned, Bounced, Shut}
 use Rattle.lists.proofs.Lists.{eqb_same, eqb_other, slice_get-last}
 use Rattle.lists.proofs.Parts.{take_next}
 use Rattle.transcripts.proofs.Entries.{entries_few}
 use Rattle.transcripts.proofs.Pushes.{given_to-same, given_to-other, length-unanswered, out-none, out-some}
-use Rattle.transcripts.proofs.Replies.{form_replies, replies_in-append, replies_in-none, said_in-done, said_in-new, said_in-turned}
+use Rattle.transcripts.proofs.Replies.{form_replies, replies_in-append, replies_in-none, said_in-done, said_in-more, said_in-new, said_in-turned}
 use Rattle.transcripts.specs.Allowed.{Allowed}
 use Rattle.transcripts.specs.Lawful.{Lawful}
 use Rattle.transcripts.specs.Replies.{said, said_in, said_by, replies_in}
-use Rattle.transcripts.specs.Standing.{AreStepsBy, AreStepsOf, may_be_taken, may_be_taken_by}
-use Rattle.transcripts.specs.Transcript.{entries, given_to, has_shut, inside, is_from_of, out, unanswered}
-use Rattle.world_laws.proofs.Consistent.{taken_out}
+use Rattle.transcripts.specs.Standing.{AreStepsBy, AreStepsOf, may_be_taken, may_be_taken_by, may_forward_at}
+use Rattle.transcripts.specs.Transcript.{entries, extras, given_to, has_shut, inside, is_from_of, out, unanswered}
+use Rattle.world_laws.proofs.Consistent.{hand_some, taken_out}
 use Rattle.world_laws.proofs.Fronts.{Split, split, front_lawful, step_at, none_after_new, none_after_turned, none_after_give, none_after_bounced, none_after_shut}
-use Rattle.world_laws.proofs.NextReplies.{next_reply, new_is, forward_is, release_is, answers_so_far, one_more_answer}
+use Rattle.world_laws.proofs.NextReplies.{next_reply, new_is, forward_is, more_is, release_is, answers_so_far, one_more_answer}
 use Rattle.world_laws.proofs.Worlds.{LeadsTo-append, at_each, at_lane-same, same_worlds}
 use Rattle.world_laws.specs.Logged.{forwards_first, moves_at, moves_from, reply_after, reply_moves}
-use Rattle.world_laws.specs.World.{World, Move, Submits, Takes, Gives, Receives, Bounces, Shuts, IsConsistent, LeadsTo, MaySubmit, MayTake, moved, with_steps}
+use Rattle.world_laws.specs.World.{World, Move, Submits, Takes, Gives, Receives, Bounces, Shuts, IsConsistent, LeadsTo, MaySubmit, MayTake, in_hand, moved, with_steps}
 
 -- the world when the log was P, on the way to v: what each lane was given was received at once, where it ever was, and the replies
 -- were submitted as they were taken
@@ -114,9 +114,19 @@ module _ (p : Plan) (v : World) (c : IsConsistent p v) (short : length v.log < 2
   after_one : (s : Step) → P ++ s ∷ rest ≡ v.log → forwards_first rest ≡ [] → Lawful p (P ++ s ∷ [])
   after_one s e none = front_lawful p v.log c.lawful (P ++ s ∷ []) rest (append_assoc P (s ∷ []) rest ∙ e) none
 
+  -- what the lane holds may be passed on to a queue that is there
+  may_forward : (s : Step) → P ++ s ∷ rest ≡ v.log → Lawful p P → (l q : ℕ) → 0 < length (unanswered P l) → q < length p.queues → may_forward_at p P l q ≡ true
+  may_forward s e lawful l q some there =
+      and_from (nat_lt 0 (length (unanswered P l))) _ (lt-ltb 0 (length (unanswered P l)) some)
+      (and_from (nat_lt q (length p.queues)) _ (lt-ltb q (length p.queues) there) (few_entries s e lawful))
+
   -- a NEW that is accepted or turned away
   submit_new : (l : ℕ) (r : Reply) → r.event.op ≡ ops.New → l < length p.ports → MaySubmit p (world_at v P) l r
-  submit_new l r op lane = record { own = λ _. lane; held = λ answers_it. absurd (false≢true (sym (ap is_answer_op op) ∙ answers_it)) }
+  submit_new l r op lane = record {
+    own = λ _. lane;
+    held = λ answers_it. absurd (false≢true (sym (ap is_answer_op op) ∙ answers_it));
+    beside = λ adds. absurd (false≢true (sym (ap is_more_op op) ∙ adds));
+  }
 
   new_leads : (q l : ℕ) (d : Event) → P ++ Accept q d (New l) ∷ rest ≡ v.log
       → LeadsTo p (world_at v P) (reply_moves v P l (Accept q d (New l) ∷ [])) (world_at v (P ++ Accept q d (New l) ∷ []))
@@ -156,31 +166,40 @@ module _ (p : Plan) (v : World) (c : IsConsistent p v) (short : length v.log < 2
       reply_leads p v P l next.reply (s ∷ []) next.there (submit_new l next.reply is.0 may.formed.lane)
       (subst (λ x. IsTaken p P l x (s ∷ [])) (sym is.1) taken)
 
-  -- an answer: something is in the lane's hand, since it answered less than it was given, and less than it received in the end
-  submit_answer : (l : ℕ) (o : Outcome) (r : Reply) → P ++ Done l o ∷ rest ≡ v.log → slice_get (v.submitted l) (length (replies_in P l)) ≡ Some r → is_answer r ≡ true → is_new_reply r ≡ false
+  -- where the lane answered less than it was given, and less than it received in the end, something is in its hand
+  held_so_far : (l : ℕ) (s : Step) → P ++ s ∷ rest ≡ v.log → 0 < length (unanswered P l) → count_by is_answer (take (length (replies_in P l)) (v.submitted l)) < v.received l
+      → 0 < length (in_hand (world_at v P) l)
+  held_so_far l s e some fewer =
+      hand_some (world_at v P) l (omega arith)
+      (omega (arith, length-unanswered P l, answers_so_far P (s ∷ rest) v.log l (v.submitted l) e (c.taken l), fewer, some))
+
+  -- an answer
+  submit_answer : (l : ℕ) (s : Step) (r : Reply) → P ++ s ∷ rest ≡ v.log → slice_get (v.submitted l) (length (replies_in P l)) ≡ Some r → is_answer r ≡ true → is_new_reply r ≡ false
+      → is_more_reply r ≡ false → 0 < length (unanswered P l) → MaySubmit p (world_at v P) l r
+  submit_answer l s r e there answer other plain some = record {
+    own = λ new. absurd (false≢true (sym other ∙ new));
+    held = λ _. held_so_far l s e some (omega (arith, one_more_answer (v.submitted l) (length (replies_in P l)) r there answer, c.fewer l));
+    beside = λ adds. absurd (false≢true (sym plain ∙ adds));
+  }
+
+  -- an addition: what each needs of the replies before it holds of all that were submitted in the end
+  submit_more : (l : ℕ) (s : Step) (r : Reply) → P ++ s ∷ rest ≡ v.log → slice_get (v.submitted l) (length (replies_in P l)) ≡ Some r → r.event.op ≡ ops.ForwardMore
       → 0 < length (unanswered P l) → MaySubmit p (world_at v P) l r
-  submit_answer l o r e there answer other some =
-      let so_far : List Reply = take (length (replies_in P l)) (v.submitted l) in
+  submit_more l s r e there op some =
+      let adds : is_more_reply r ≡ true = ap is_more_op op in
+      let before = (c.beside l).each (length (replies_in P l)) r there adds in
       record {
-        own = λ new. absurd (false≢true (sym other ∙ new));
-        held = λ _.
-            omega (
-              arith,
-              length-drop (count_by is_answer so_far) (take (min (length (out P l)) (v.received l)) (out P l)),
-              length-take (min (length (out P l)) (v.received l)) (out P l),
-              length-unanswered P l,
-              answers_so_far P (Done l o ∷ rest) v.log l (v.submitted l) e (c.taken l),
-              one_more_answer (v.submitted l) (length (replies_in P l)) r there answer,
-              c.fewer l,
-            );
+        own = λ new. absurd (false≢true (sym (ap is_new_op op) ∙ new));
+        held = λ answers_it. absurd (false≢true (sym (ap is_answer_op op) ∙ answers_it));
+        beside = λ _. (held_so_far l s e some before.0, before.1);
       }
 
-  -- the answer and the forwards that are accepted after it
-  answer_lawful : (l : ℕ) (o : Outcome) → P ++ Done l o ∷ rest ≡ v.log → Lawful p (P ++ Done l o ∷ forwards_first rest)
-  answer_lawful l o e =
+  -- an answer or an addition, and what is accepted after it
+  led_lawful : (s : Step) → P ++ s ∷ rest ≡ v.log → Lawful p (P ++ s ∷ forwards_first rest)
+  led_lawful s e =
       let parts : Split rest = split rest in
-      front_lawful p v.log c.lawful (P ++ Done l o ∷ forwards_first rest) parts.more
-      (append_assoc P (Done l o ∷ forwards_first rest) parts.more ∙ (ap (λ xs. P ++ Done l o ∷ xs) parts.parts ∙ e)) parts.last
+      front_lawful p v.log c.lawful (P ++ s ∷ forwards_first rest) parts.more
+      (append_assoc P (s ∷ forwards_first rest) parts.more ∙ (ap (λ xs. P ++ s ∷ xs) parts.parts ∙ e)) parts.last
 
   forward_leads : (l : ℕ) (d : Event) → P ++ Done l (Forwarded d) ∷ rest ≡ v.log
       → LeadsTo p (world_at v P) (reply_moves v P l (Done l (Forwarded d) ∷ forwards_first rest)) (world_at v (P ++ Done l (Forwarded d) ∷ forwards_first rest))
@@ -190,12 +209,25 @@ module _ (p : Plan) (v : World) (c : IsConsistent p v) (short : length v.log < 2
       let next = next_reply P rest v.log s l (v.submitted l) (said_by ops.Forward d) e (c.taken l) (said_in-done l (Forwarded d)) in
       let is = forward_is next.reply d next.is in
       let taken : IsTaken p P l d (s ∷ forwards_first rest) =
-      taken_by ops.Forward p P l d (s ∷ forwards_first rest) may.formed.1.1
-      (and_from (nat_lt 0 (length (unanswered P l))) _ (lt-ltb 0 (length (unanswered P l)) may.needs)
-      (and_from (nat_lt d.queue (length p.queues)) _ (lt-ltb d.queue (length p.queues) may.formed.1.0) (few_entries s e (before s e refl))))
-      (forwards_first rest, refl, (split rest).all) (answer_lawful l (Forwarded d) e) in
+      taken_by ops.Forward p P l d (s ∷ forwards_first rest) may.formed.1.1 (may_forward s e (before s e refl) l d.queue may.needs may.formed.1.0)
+      (forwards_first rest, refl, (split rest).all) (led_lawful s e) in
       reply_leads p v P l next.reply (s ∷ forwards_first rest) next.there
-      (submit_answer l (Forwarded d) next.reply e next.there (ap is_answer_op is.0) (ap is_new_op is.0) may.needs)
+      (submit_answer l s next.reply e next.there (ap is_answer_op is.0) (ap is_new_op is.0) (ap is_more_op is.0) may.needs)
+      (subst (λ x. IsTaken p P l x (s ∷ forwards_first rest)) (sym is.1) taken)
+
+  more_leads : (l : ℕ) (d : Event) → P ++ More l d ∷ rest ≡ v.log
+      → LeadsTo p (world_at v P) (reply_moves v P l (More l d ∷ forwards_first rest)) (world_at v (P ++ More l d ∷ forwards_first rest))
+  more_leads l d e =
+      let s : Step = More l d in
+      let may : Allowed p P s = step_at p v.log c.lawful P rest s e in
+      let next = next_reply P rest v.log s l (v.submitted l) (said_by ops.ForwardMore d) e (c.taken l) (said_in-more l d) in
+      let is = more_is next.reply d next.is in
+      let taken : IsTaken p P l d (s ∷ forwards_first rest) =
+      taken_by ops.ForwardMore p P l d (s ∷ forwards_first rest) may.formed.1.1
+      (and_from (may_forward_at p P l d.queue) _ (may_forward s e (before s e refl) l d.queue may.needs.beside may.formed.1.0)
+      (and_from (nat_lt (length (extras P l)) MAX_EXTRAS) _ (lt-ltb (length (extras P l)) MAX_EXTRAS may.needs.few) (lt-ltb (inside p P) (bound_of p) may.needs.room)))
+      (forwards_first rest, refl, (split rest).all) (led_lawful s e) in
+      reply_leads p v P l next.reply (s ∷ forwards_first rest) next.there (submit_more l s next.reply e next.there is.0 may.needs.beside)
       (subst (λ x. IsTaken p P l x (s ∷ forwards_first rest)) (sym is.1) taken)
 
   release_leads : (l : ℕ) → P ++ Done l Released ∷ rest ≡ v.log
@@ -206,9 +238,9 @@ module _ (p : Plan) (v : World) (c : IsConsistent p v) (short : length v.log < 2
       let next = next_reply P rest v.log s l (v.submitted l) (said_by ops.Release release_event) e (c.taken l) (said_in-done l Released) in
       let op : next.reply.event.op ≡ ops.Release = release_is next.reply release_event next.is in
       reply_leads p v P l next.reply (s ∷ forwards_first rest) next.there
-      (submit_answer l Released next.reply e next.there (ap is_answer_op op) (ap is_new_op op) may.needs)
+      (submit_answer l s next.reply e next.there (ap is_answer_op op) (ap is_new_op op) (ap is_more_op op) may.needs)
       (taken_by ops.Release p P l next.reply.event (s ∷ forwards_first rest) op (lt-ltb 0 (length (unanswered P l)) may.needs)
-      (forwards_first rest, refl, (split rest).all) (answer_lawful l Released e))
+      (forwards_first rest, refl, (split rest).all) (led_lawful s e))
 
   -- a step that gives nothing and says nothing
   silent_end : (s : Step) → ((m : ℕ) → given_to m s ≡ None) → ((m : ℕ) → said_in m s ≡ None) → with_steps (world_at v P) (s ∷ []) ≡ world_at v (P ++ s ∷ [])
@@ -260,7 +292,7 @@ module _ (p : Plan) (v : World) (c : IsConsistent p v) (short : length v.log < 2
                 submitted_same,
           )
 
-  -- from the world before the step to the one after it and the forwards that are accepted with it
+  -- from the world before the step to the one after it and what is accepted with it
   with_forwards : (s : Step) (moves : List Move) → forwards_first rest ≡ [] → LeadsTo p (world_at v P) moves (world_at v (P ++ s ∷ [])) → LeadsTo p (world_at v P) moves (world_at v (P ++ s ∷ forwards_first rest))
   with_forwards s moves none leads = subst (λ xs. LeadsTo p (world_at v P) moves (world_at v (P ++ s ∷ xs))) (sym none) leads
 
@@ -272,6 +304,7 @@ module _ (p : Plan) (v : World) (c : IsConsistent p v) (short : length v.log < 2
       with_forwards (Give l q n) (moves_at v P rest (Give l q n)) (none_after_give p v.log c.lawful P rest l q n e) (give_leads l q n e)
   step_leads (Done l (Forwarded d)) e other = forward_leads l d e
   step_leads (Done l Released) e other = release_leads l e
+  step_leads (More l d) e other = more_leads l d e
   step_leads (Turned l d) e other =
       with_forwards (Turned l d) (moves_at v P rest (Turned l d)) (none_after_turned p v.log c.lawful P rest l d e) (turned_leads l d e)
   step_leads (Bounced l) e other =
@@ -285,7 +318,7 @@ module _ (p : Plan) (v : World) (c : IsConsistent p v) (short : length v.log < 2
 
 -- ---- the whole log
 
--- a step that is no Accept of a forward, and then the rest
+-- a step that is no Accept of what was passed on, and then the rest
 then_rest : (p : Plan) (v : World) → IsConsistent p v → length v.log < 2 ^ 63 → (P rest : List Step) (s : Step) → P ++ s ∷ rest ≡ v.log → is_from_of s ≡ false
     → LeadsTo p (world_at v ((P ++ s ∷ []) ++ forwards_first rest)) (moves_from v (P ++ s ∷ []) rest) (world_at v v.log)
     → LeadsTo p (world_at v (P ++ [])) (moves_at v P rest s ++ moves_from v (P ++ s ∷ []) rest) (world_at v v.log)
@@ -307,6 +340,8 @@ log_leads p v c short P (Give l q n ∷ rest) e =
     let s : Step = Give l q n in then_rest p v c short P rest s e refl (log_leads p v c short (P ++ s ∷ []) rest (append_assoc P (s ∷ []) rest ∙ e))
 log_leads p v c short P (Done l o ∷ rest) e =
     let s : Step = Done l o in then_rest p v c short P rest s e refl (log_leads p v c short (P ++ s ∷ []) rest (append_assoc P (s ∷ []) rest ∙ e))
+log_leads p v c short P (More l d ∷ rest) e =
+    let s : Step = More l d in then_rest p v c short P rest s e refl (log_leads p v c short (P ++ s ∷ []) rest (append_assoc P (s ∷ []) rest ∙ e))
 log_leads p v c short P (Turned l d ∷ rest) e =
     let s : Step = Turned l d in then_rest p v c short P rest s e refl (log_leads p v c short (P ++ s ∷ []) rest (append_assoc P (s ∷ []) rest ∙ e))
 log_leads p v c short P (Bounced l ∷ rest) e =

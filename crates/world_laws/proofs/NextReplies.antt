@@ -17,33 +17,28 @@ use Rattle.transcripts.proofs.Replies.{replies_in-append}
 use Rattle.transcripts.specs.Lawful.{IsPrefix}
 use Rattle.transcripts.specs.Replies.{Said, said, said_by, said_in, replies_in}
 use Rattle.transcripts.specs.Transcript.{answers}
-use Rattle.world_laws.proofs.Said.{answers_said, answers_same, answers_are_said}
+use Rattle.world_laws.proofs.Said.{answers_said, answers_same, answers_are_said, said_op}
 
 -- ---- what is said tells the operation, and the event where there is one
 
-said_new : (o : Op) (e d : Event) → said_by o e ≡ said_by ops.New d → (o ≡ ops.New) × (e ≡ d)
-said_new ops.New e d h = (refl, same_Some e d (ap (λ (x : Said). x.event) h))
-said_new ops.Forward e d h = let same : ops.Forward ≡ ops.New = ap (λ (x : Said). x.op) h in cc
-said_new ops.Release e d h = let same : ops.Release ≡ ops.New = ap (λ (x : Said). x.op) h in cc
+said_is : (o : Op) (r : Reply) (d : Event) → said r ≡ said_by o d → r.event.op ≡ o
+said_is o r d h = sym (said_op r.event.op r.event) ∙ (ap (λ (x : Said). x.op) h ∙ said_op o d)
 
-said_forward : (o : Op) (e d : Event) → said_by o e ≡ said_by ops.Forward d → (o ≡ ops.Forward) × (e ≡ d)
-said_forward ops.New e d h = let same : ops.New ≡ ops.Forward = ap (λ (x : Said). x.op) h in cc
-said_forward ops.Forward e d h = (refl, same_Some e d (ap (λ (x : Said). x.event) h))
-said_forward ops.Release e d h = let same : ops.Release ≡ ops.Forward = ap (λ (x : Said). x.op) h in cc
-
-said_release : (o : Op) (e d : Event) → said_by o e ≡ said_by ops.Release d → o ≡ ops.Release
-said_release ops.New e d h = let same : ops.New ≡ ops.Release = ap (λ (x : Said). x.op) h in cc
-said_release ops.Forward e d h = let same : ops.Forward ≡ ops.Release = ap (λ (x : Said). x.op) h in cc
-said_release ops.Release e d h = refl
+-- the same event in both, by the operation
+said_event : (o : Op) (r : Reply) (d : Event) → said r ≡ said_by o d → (said_by o r.event).event ≡ (said_by o d).event
+said_event o r d h = ap (λ k. (said_by k r.event).event) (sym (said_is o r d h)) ∙ ap (λ (x : Said). x.event) h
 
 pub new_is : (r : Reply) (d : Event) → said r ≡ said_by ops.New d → (r.event.op ≡ ops.New) × (r.event ≡ d)
-new_is r d h = said_new r.event.op r.event d h
+new_is r d h = (said_is ops.New r d h, same_Some r.event d (said_event ops.New r d h))
 
 pub forward_is : (r : Reply) (d : Event) → said r ≡ said_by ops.Forward d → (r.event.op ≡ ops.Forward) × (r.event ≡ d)
-forward_is r d h = said_forward r.event.op r.event d h
+forward_is r d h = (said_is ops.Forward r d h, same_Some r.event d (said_event ops.Forward r d h))
+
+pub more_is : (r : Reply) (d : Event) → said r ≡ said_by ops.ForwardMore d → (r.event.op ≡ ops.ForwardMore) × (r.event ≡ d)
+more_is r d h = (said_is ops.ForwardMore r d h, same_Some r.event d (said_event ops.ForwardMore r d h))
 
 pub release_is : (r : Reply) (d : Event) → said r ≡ said_by ops.Release d → r.event.op ≡ ops.Release
-release_is r d h = said_release r.event.op r.event d h
+release_is r d h = said_is ops.Release r d h
 
 -- ---- the reply
 

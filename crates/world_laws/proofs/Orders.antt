@@ -8,7 +8,7 @@ use Rattle.evt_types.specs.Plan.{Plan, queue_of, is_atomic, level_of, slot_of}
 use Rattle.evt_types.specs.declared.event.Event.{Event}
 use Rattle.evt_types.specs.declared.event.Numbered.{Numbered}
 use Rattle.evt_types.specs.declared.step.Step.{Step}
-use Rattle.evt_types.specs.declared.step.Step.TheVariants.{Accept, Give, Done, Turned, Bounced, Shut}
+use Rattle.evt_types.specs.declared.step.Step.TheVariants.{Accept, Give, Done, More, Turned, Bounced, Shut}
 use Rattle.lists.proofs.Lists.{All-unmap, eqb_is, eqb_same, filter_map-agree, slice_get-append_left}
 use Rattle.lists.proofs.Parts.{then, passing, filter_map_twice, filter-filter_map, filter_map-filter, filter_map_apart}
 use Rattle.transcripts.proofs.Facts.{unanswered_is_accepted}
@@ -63,6 +63,7 @@ hand_gives T q =
     by_step (Give l r n) = refl
     by_step (Accept r e c) = refl
     by_step (Done l o) = refl
+    by_step (More l e) = refl
     by_step (Turned l e) = refl
     by_step (Bounced l) = refl
     by_step Shut = refl

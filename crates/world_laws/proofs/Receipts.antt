@@ -8,7 +8,7 @@ use Rattle.std.proofs.lemmas.List.{drop-append-le, take-append-le}
 use Rattle.std.proofs.lemmas.List.Elements.{filter_map-append}
 use Rattle.evt_types.specs.Plan.{Plan}
 use Rattle.evt_types.specs.declared.step.Step.{Step}
-use Rattle.evt_types.specs.declared.step.Step.TheVariants.{Accept, Give, Done, Turned, Bounced, Shut}
+use Rattle.evt_types.specs.declared.step.Step.TheVariants.{Accept, Give, Done, More, Turned, Bounced, Shut}
 use Rattle.lists.proofs.Lists.{eqb_same, eqb_other, more_some, more_none, drop-slice_get, slice_get-some}
 use Rattle.lists.proofs.Parts.{append_option, take_next}
 use Rattle.transcripts.proofs.Pushes.{given_to-same, given_to-other, out-none, out-push, out-some}
@@ -73,6 +73,7 @@ abbrev pub pair_given : Step → Option (ℕ × ℕ)
 pair_given (Give l q n) = Some (q, n)
 pair_given (Accept q e c) = None
 pair_given (Done l o) = None
+pair_given (More l e) = None
 pair_given (Turned l e) = None
 pair_given (Bounced l) = None
 pair_given Shut = None
@@ -96,6 +97,7 @@ gives_none (Give l q n ∷ S) none =
     absurd (cons_nil (q, n) (filter_map (given_to l) S) (ap (λ o. cons_option o (filter_map (given_to l) S)) (sym (given_to-same l q n)) ∙ none l))
 gives_none (Accept q e c ∷ S) none = gives_none S none
 gives_none (Done l o ∷ S) none = gives_none S none
+gives_none (More l e ∷ S) none = gives_none S none
 gives_none (Turned l e ∷ S) none = gives_none S none
 gives_none (Bounced l ∷ S) none = gives_none S none
 gives_none (Shut ∷ S) none = gives_none S none

@@ -30,6 +30,7 @@ rests_fit p T rest are =
       lawful = are.lawful;
       received = λ l. received_few T l (rest l) (are.each l);
       fewer = λ l. (are.each l).fewer;
+      beside = λ l. (are.each l).beside;
       taken = λ l. taken_front T l (rest l) (are.each l);
       own = are.own;
     }

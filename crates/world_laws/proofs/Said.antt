@@ -13,7 +13,7 @@ use Rattle.evt_types.specs.declared.event.Reply.{Reply}
 use Rattle.evt_types.specs.declared.step.Outcome.TheVariants.{Forwarded, Released}
 use Rattle.evt_types.specs.declared.step.Source.TheVariants.{New, Of}
 use Rattle.evt_types.specs.declared.step.Step.{Step}
-use Rattle.evt_types.specs.declared.step.Step.TheVariants.{Accept, Give, Done, Turned, Bounced, Shut}
+use Rattle.evt_types.specs.declared.step.Step.TheVariants.{Accept, Give, Done, More, Turned, Bounced, Shut}
 use Rattle.lists.proofs.Lists.{drop-slice_get, slice_get-at}
 use Rattle.lists.proofs.Parts.{count_by-cons, count_by-front}
 use Rattle.lists.proofs.Sums.{sum_of_map, sum_agree}
@@ -25,19 +25,25 @@ use Rattle.transcripts.specs.Transcript.{answers, answer_of}
 abbrev pub answers_said : Said → Bool
 answers_said x = is_answer_op x.op
 
-said_op : (o : Op) (e : Event) → (said_by o e).op ≡ o
+-- what is said tells the operation
+pub said_op : (o : Op) (e : Event) → (said_by o e).op ≡ o
 said_op ops.New e = refl
 said_op ops.Forward e = refl
 said_op ops.Release e = refl
+said_op ops.ForwardMore e = refl
 
 one_if : Bool → ℕ
 one_if b = cond b 1 0
 
-pub answers_same : (rs : List Reply) → count_by answers_said (map said rs) ≡ count_by is_answer rs
+-- as many replies of some operations are said as there are
+pub ops_same : (f : Op → Bool) (rs : List Reply) → count_by (λ (x : Said). f x.op) (map said rs) ≡ count_by (λ (r : Reply). f r.event.op) rs
 unfolding one_if
-answers_same rs =
-    sum_of_map (λ x. one_if (answers_said x)) said rs
-    ∙ sum_agree (λ r. one_if (answers_said (said r))) (λ r. one_if (is_answer r)) rs (λ k d lt. ap (λ o. one_if (is_answer_op o)) (said_op (get_or rs k d).event.op (get_or rs k d).event))
+ops_same f rs =
+    sum_of_map (λ (x : Said). one_if (f x.op)) said rs
+    ∙ sum_agree (λ r. one_if (f (said r).op)) (λ r. one_if (f r.event.op)) rs (λ k d lt. ap (λ o. one_if (f o)) (said_op (get_or rs k d).event.op (get_or rs k d).event))
+
+pub answers_same : (rs : List Reply) → count_by answers_said (map said rs) ≡ count_by is_answer rs
+answers_same rs = ops_same is_answer_op rs
 
 -- ---- the answers in a transcript are those that were said
 
@@ -55,6 +61,7 @@ step_answers l (Accept q e (New m)) = by_none (m == l) answers_said (said_by ops
 step_answers l (Accept q e (Of r n)) = refl
 step_answers l (Done m (Forwarded e)) = by_lane (m == l) (Forwarded e) answers_said (said_by ops.Forward e) refl
 step_answers l (Done m Released) = by_lane (m == l) Released answers_said (record { op = ops.Release; event = None }) refl
+step_answers l (More m e) = by_none (m == l) answers_said (said_by ops.ForwardMore e) refl
 step_answers l (Turned m e) = by_none (m == l) answers_said (said_by ops.New e) refl
 step_answers l (Give m q n) = refl
 step_answers l (Bounced m) = refl

@@ -5,7 +5,7 @@ use Rattle.evt_types.specs.Plan.{Plan, lanes}
 use Rattle.evt_types.specs.declared.event.Reply.{Reply}
 use Rattle.evt_types.specs.declared.step.Source.TheVariants.{New, Of}
 use Rattle.evt_types.specs.declared.step.Step.{Step}
-use Rattle.evt_types.specs.declared.step.Step.TheVariants.{Accept, Give, Done, Turned, Bounced, Shut}
+use Rattle.evt_types.specs.declared.step.Step.TheVariants.{Accept, Give, Done, More, Turned, Bounced, Shut}
 use Rattle.transcripts.specs.Replies.{replies_in}
 use Rattle.transcripts.specs.Transcript.{out, is_from_of}
 use Rattle.world_laws.specs.World.{World, Move, Submits, Takes, Gives, Receives, Bounces, Shuts}
@@ -14,7 +14,7 @@ use Rattle.world_laws.specs.World.{World, Move, Submits, Takes, Gives, Receives,
 abbrev pub reply_after : World → List Step → ℕ → Reply
 reply_after v P l = slice_index_or (v.submitted l) (length (replies_in P l)) (record { event = release_event })
 
--- the Accepts of forwards at the front
+-- the Accepts at the front of what was passed on
 abbrev pub forwards_first : List Step → List Step
 forwards_first [] = []
 forwards_first (s ∷ rest) = if is_from_of s then s ∷ forwards_first rest else []
@@ -24,11 +24,12 @@ abbrev pub reply_moves : World → List Step → ℕ → List Step → List Move
 reply_moves v P l taken = Submits l (reply_after v P l) ∷ Takes l taken ∷ []
 
 -- The moves of the step that stands in the log between P and the rest. A delivery that was received is received just after its
--- Give; the Accepts of forwards after an answer are among its steps.
+-- Give; the Accepts after an answer or an addition, of what was passed on, are among its steps.
 abbrev pub moves_at : World → List Step → List Step → Step → List Move
 moves_at v P rest (Accept q e (New l)) = reply_moves v P l (Accept q e (New l) ∷ [])
 moves_at v P rest (Accept q e (Of r n)) = []
 moves_at v P rest (Done l o) = reply_moves v P l (Done l o ∷ forwards_first rest)
+moves_at v P rest (More l e) = reply_moves v P l (More l e ∷ forwards_first rest)
 moves_at v P rest (Turned l e) = reply_moves v P l (Turned l e ∷ [])
 moves_at v P rest (Give l q n) = Gives l q n ∷ (if nat_lt (length (out P l)) (v.received l) then Receives l ∷ [] else [])
 moves_at v P rest (Bounced l) = Bounces l ∷ []

@@ -1,5 +1,6 @@
 -- The world that is found at stop, by the lists of each lane's two ends.
 use Rattle.std.specs.Prelude.{ℕ, ◌≡◌, ◌<◌, ◌≤◌, ◌^◌, List, ◌++◌, length, map, drop, count_by}
+use Rattle.evt_types.specs.Additions.{AreBeside}
 use Rattle.evt_types.specs.Event.{pair_of}
 use Rattle.evt_types.specs.Operation.{is_answer, is_new_reply}
 use Rattle.evt_types.specs.Plan.{Plan}
@@ -27,6 +28,7 @@ pub record IsRest (T : List Step) (l : ℕ) (r : Rest) : Type 0 where
   pub received : r.offered ≡ r.received ++ r.undelivered
   pub answered : r.answered ≡ r.taken ++ r.untaken
   pub fewer : count_by is_answer r.answered ≤ length r.received
+  pub beside : AreBeside (length r.received) r.answered
 
 -- All lanes are at rest, and a lane that is no port's own has no NEW. A Vec's length is below 2^63.
 pub record AreRests (p : Plan) (T : List Step) (rest : ℕ → Rest) : Type 0 where

@@ -4,9 +4,11 @@
 -- n moves, one after the other. Whatever the threads do is one list of moves.
 use Rattle.std.specs.Prelude.{ℕ, ◌≡◌, ◌+◌, ◌<◌, ◌≤◌, Bool, true, false, List, [], ◌∷◌, ◌++◌, ◌==◌, length, map, take, drop, fold, count_by, Option, Some, None, slice_get, if◌then◌else◌}
 use Rattle.std.specs.List.{cons_option}
-use Rattle.evt_types.specs.Operation.{is_answer, is_new_reply}
+use Rattle.evt_types.specs.Additions.{AreBeside, extras_of}
+use Rattle.evt_types.specs.Operation.{is_answer, is_more_reply, is_new_reply}
 use Rattle.evt_types.specs.Plan.{Plan, lanes_of}
 use Rattle.evt_types.specs.declared.event.Reply.{Reply}
+use Rattle.evt_types.specs.declared.event.TheConstants.{MAX_EXTRAS}
 use Rattle.evt_types.specs.declared.step.Step.{Step}
 use Rattle.evt_types.specs.declared.step.Step.TheVariants as steps
 use Rattle.transcripts.specs.Lawful.{Lawful, IsPrefix}
@@ -24,7 +26,8 @@ pub record World : Type 0 where
 abbrev pub empty : World
 empty = record { log = []; received = λ l. 0; submitted = λ l. [] }
 
--- the lane's hand, as (queue, number) pairs, oldest first: what was received, less as many from its front as answers were submitted
+-- the lane's hand, as (queue, number) pairs, oldest first: what was received, less as many from its front as answers were submitted.
+-- A FORWARD_MORE answers nothing and leaves the hand as it is.
 abbrev pub in_hand : World → ℕ → List (ℕ × ℕ)
 in_hand w l = drop (count_by is_answer (w.submitted l)) (take (w.received l) (out w.log l))
 
@@ -48,10 +51,12 @@ pub data Move : Type 0 where
   -- the scheduler sees that the device is shut
   Shuts : Move
 
--- a NEW comes on a port's own lane, an answer where the lane's hand isn't empty
+-- a NEW comes on a port's own lane, an answer where the lane's hand isn't empty, and a FORWARD_MORE there too, as long as few were
+-- submitted for the first event of the hand
 pub record MaySubmit (p : Plan) (w : World) (l : ℕ) (r : Reply) : Type 0 where
   pub own : is_new_reply r ≡ true → l < length p.ports
   pub held : is_answer r ≡ true → 0 < length (in_hand w l)
+  pub beside : is_more_reply r ≡ true → (0 < length (in_hand w l)) × (extras_of (w.submitted l) < MAX_EXTRAS)
 
 -- the lane's next reply may be taken, and these are its steps
 pub record MayTake (p : Plan) (w : World) (l : ℕ) (taken : List Step) : Type 0 where
@@ -124,6 +129,8 @@ pub record IsConsistent (p : Plan) (w : World) : Type 0 where
   pub received : (l : ℕ) → w.received l ≤ length (out w.log l)
   -- it answered no more than it received
   pub fewer : (l : ℕ) → count_by is_answer (w.submitted l) ≤ w.received l
+  -- it added each event beside one that it received, and few beside each
+  pub beside : (l : ℕ) → AreBeside (w.received l) (w.submitted l)
   -- what was taken is the front of what was submitted
   pub taken : (l : ℕ) → IsPrefix (replies_in w.log l) (map said (w.submitted l))
   -- a lane that is no port's own has no NEW

@@ -5,7 +5,7 @@ ghost use Rattle.evt_types.specs.Plan.{Plan};
 ghost use Rattle.evt_types.specs.declared.step.Step.{Step};
 ghost use Rattle.transcripts.specs.Replies.{turned_count};
 ghost use Rattle.transcripts.specs.Transcript.{out};
-ghost use Rattle.world_laws.specs.Account.{events_left, news_submitted, releases_submitted};
+ghost use Rattle.world_laws.specs.Account.{events_left, mores_submitted, news_submitted, releases_submitted};
 ghost use Rattle.world_laws.specs.Logged.{as_logged};
 ghost use Rattle.world_laws.specs.Order.{AreReceivedAsAccepted, AreReceivedAsGiven, IsHeldAlone};
 ghost use Rattle.world_laws.specs.Rest.{AreRests, Rest, found_in, still_held};
@@ -36,10 +36,10 @@ pub fn every_run_keeps()
     ensures given { (p : Plan) (moves : List Move) (v : World) → LeadsTo p empty moves v → AreReceivedAsGiven p v.log (received_by_all moves) }
 {}
 
-/// The account at stop: where the free credits and the NEWs that were submitted make up the limit, the RELEASEs that were submitted
-/// and the NEWs that were turned away, the free credits and the events that are left in the device are the limit. An event that is
-/// left waits, is kept, is undelivered or held, or came in a reply that wasn't taken.
+/// The account at stop: where the free credits and the NEWs and FORWARD_MOREs that were submitted make up the limit, the RELEASEs that
+/// were submitted and the NEWs that were turned away, the free credits and the events that are left in the device are the limit. An
+/// event that is left waits, is kept, is undelivered or held, or came in a reply that wasn't taken.
 pub fn account_at_stop()
     ensures { (p : Plan) (T : List Step) (rest : ℕ → Rest) (free limit : ℕ) → AreRests p T rest
-        → free + news_submitted p rest ≡ limit + releases_submitted p rest + turned_count T → free + events_left p T rest ≡ limit }
+        → free + news_submitted p rest + mores_submitted p rest ≡ limit + releases_submitted p rest + turned_count T → free + events_left p T rest ≡ limit }
 {}

@@ -9,7 +9,7 @@ use Rattle.flow_claims.specs.Claims.{seating}
 use Rattle.event_ports.specs.declared.rest.Rest.{Rest}
 use Rattle.event_ports.specs.declared.lane.Lane.TheVariants.{Own, Flow}
 use Rattle.event_ports.specs.declared.port.Port.{Port}
-use Rattle.event_ports.specs.Ports.{place_of, account_of, pocket_of, hand, news_by, releases_by}
+use Rattle.event_ports.specs.Ports.{place_of, account_of, pocket_of, hand, mores_by, news_by, releases_by}
 use Rattle.event_ports.specs.Lanes.{held_of, pair_in}
 use Rattle.event_ports.specs.Stop.{LinksAgree, flows_in, IsPaid, IsCounted}
 use Rattle.std.proofs.lemmas.List.Elements.{All-push}
@@ -34,7 +34,7 @@ loop-port-preserved c =
     let rest : Rest = c.join_port-its_credit.result.2 in
     let ports : List Port = c.loop-port.yielded in
     let left : c.loop-port.port-iterator.rest.items ≡ port ∷ c.next.new.self.rest.items = search rules in
-    let paid : IsPaid port = subst (λ (n : ℕ). IsPocket n ((account_of port).drawn + releases_by port) ((account_of port).returned + news_by port)) now.paid.0 now.paid.1 in
+    let paid : IsPaid port = subst (λ (n : ℕ). IsPocket n ((account_of port).drawn + releases_by port) ((account_of port).returned + news_by port + mores_by port)) now.paid.0 now.paid.1 in
     let seat = account c.join_port-its_credit.result.0 in (
       record {
         credit_of = now.credit.0;

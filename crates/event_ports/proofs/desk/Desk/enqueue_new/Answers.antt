@@ -3,12 +3,13 @@ use Rattle.std.proofs.Common.{rules, ap, arith, ◌<◌}
 use Rattle.credit_pool.specs.Accounts.{IsOpen}
 use Rattle.event_ports.specs.Lanes.{reply_of}
 use Rattle.event_ports.specs.Desks.{Place, place_of, account_of, hand}
-use Rattle.event_ports.proofs.Refusing.{no_credit, pays_new, refuses_full, own_after}
+use Rattle.event_ports.proofs.Refusing.{no_credit, pays_new, refuses_full, rests_more, submitted_after}
 use Rattle.event_ports.proofs.desk.Desk.enqueue_new.Goals as goal
 
 pub returns-in-Ok-clause-submitted : goal.returns-in-Ok-clause-submitted
 returns-in-Ok-clause-submitted c =
-    own_after c.spend.result (reply_of c.args.event) (hand c.args.self.now) (hand c.shut_seen.new.self) (hand c.stock.new.self) (hand c.spend.new.self) c.shut_seen.ensures.same.0 c.stock.ensures.same c.spend.ensures.submitted
+    submitted_after c.spend.result c.args.event.op (reply_of c.args.event) (hand c.args.self.now) (hand c.stock.new.self) (hand c.spend.new.self)
+    (rests_more (hand c.args.self.now) (hand c.shut_seen.new.self) (hand c.stock.new.self) c.shut_seen.ensures.same.0 c.stock.ensures.same) c.spend.ensures.submitted
 
 pub returns-in-Ok-clause-pays : goal.returns-in-Ok-clause-pays
 returns-in-Ok-clause-pays c =

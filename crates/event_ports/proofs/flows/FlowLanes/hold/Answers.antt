@@ -1,9 +1,11 @@
 -- What a claim makes of the port's flow lanes.
-use Rattle.std.proofs.Common.{◌≡◌, ◌<◌, length, arith, ap, ◌∙◌, Some}
+use Rattle.std.proofs.Common.{◌≡◌, ◌<◌, length, arith, sym, ap, ◌∙◌, Some, None}
 use Rattle.std.specs.Arc.{arc_value}
 use Rattle.flow_claims.specs.Claims.{seating, claims_id, lanes_of, IsSeatOf}
+use Rattle.event_ports.specs.Holds.{place_at}
+use Rattle.event_ports.proofs.Places.{nothing_there, place_read}
 use Rattle.event_ports.proofs.Shown.{none_set, touched_set}
-use Rattle.event_ports.proofs.Turns.{refused, claimed}
+use Rattle.event_ports.proofs.Turns.{refused, claimed, claim_same}
 use Rattle.event_ports.proofs.flows.FlowLanes.hold.Goals as goal
 
 pub invariant_of-self-2 : goal.invariant_of-self-2
@@ -27,3 +29,12 @@ invariant_of-self-in_default c =
     let seat_of : IsSeatOf (arc_value c.args.self.now.claims) c.claim.new.seat = (c.claim.ensures.seat.0 ∙ ap claims_id c.deref.ensures, c.claim.ensures.seat.1 ∙ ap lanes_of c.deref.ensures) in
     let held : (seating c.claim.new.seat).held ≡ (seating c.args.self.now.seat).held = c.claim.ensures.refused c.in_default.not-Held in
     record { are = refused _ _ c.args.self.now.seat c.claim.new.seat _ c.args.self.now.are seat_of c.claim.ensures.port held c.claim.ensures.finished; shown = c.args.self.now.shown }
+
+pub returns-clause-same : goal.returns-clause-same
+returns-clause-same c =
+    let got = c.in-Held.ensures.answer in
+    let within : c.args.lane < length c.args.self.now.stints.items = omega (arith, c.args.self.now.are.places, c.requires.exists) in
+    let free : place_at c.args.self.now.stints.items c.args.lane ≡ None =
+    place_read _ _ c.index.result.now None c.index.ensures (nothing_there _ (sym c.is_some.ensures ∙ c.if-is_some.false)) within in
+    claim_same _ _ c.args.self.now.seat c.claim.new.seat c.args.self.now.stints.items c.args.lane c.in-Held.stint c.args.self.now.are c.claim.ensures.finished c.claim.ensures.others
+    c.requires.exists free got.4 got.5 got.2.2

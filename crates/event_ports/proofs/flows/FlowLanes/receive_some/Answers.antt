@@ -27,7 +27,7 @@ returns-clause-lists c =
     let within : c.args.lane < length c.args.self.now.stints.items = omega (arith, are.places, c.requires.exists) in
     let at : place_at c.args.self.now.stints.items c.args.lane ≡ Some c.in-Some.stint = place_read _ _ _ _ c.index_mut.ensures.value c.in-Some.is within in
     brought _ _ c.args.self.now.seat _ _ c.in-Some.stint c.receive_some.new.self are at c.requires.exists c.args.into.now.items c.receive_some.new.into.items
-    ((are.each c.args.lane).held c.in-Some.stint at).open_is c.receive_some.ensures.came c.receive_some.ensures.so_far c.receive_some.ensures.answered
+    ((are.each c.args.lane).held c.in-Some.stint at).open_is c.receive_some.ensures.came c.receive_some.ensures.so_far c.receive_some.ensures.answered c.receive_some.ensures.far.1
 
 pub returns-clause-shown : goal.returns-clause-shown
 returns-clause-shown c none =

@@ -1,6 +1,6 @@
 -- The oldest that is held came from a flow lane.
-use Rattle.std.proofs.Common.{◌≡◌, ◌≢◌, ◌<◌, ◌∙◌, List, length, drop, refl, sym, ap, subst, arith}
-use Rattle.evt_types.specs.Operation.{is_new_reply, is_release_reply}
+use Rattle.std.proofs.Common.{◌≡◌, ◌≢◌, ◌<◌, ◌∙◌, ◌||◌, List, length, drop, refl, sym, ap, subst, arith}
+use Rattle.evt_types.specs.Operation.{is_more_reply, is_new_reply, is_release_reply}
 use Rattle.evt_types.specs.declared.event.Delivery.{Delivery}
 use Rattle.flow_claims.specs.Claims.{lanes_of}
 use Rattle.std.specs.Arc.{arc_value}
@@ -12,6 +12,7 @@ use Rattle.event_ports.specs.Flows.{FlowPlace, flow_place, hands_of}
 use Rattle.event_ports.specs.Lanes.{open_on, said_on}
 use Rattle.event_ports.proofs.Orders.{Notes, each_lane, answered_first, first_open}
 use Rattle.event_ports.proofs.Counts.{counts_one}
+use Rattle.event_ports.proofs.Extras.{added_said}
 use Rattle.event_ports.proofs.Refusals.{one_answer}
 use Rattle.event_ports.proofs.Turns.{lane_there}
 use Rattle.event_ports.proofs.Calls.{idle_answered, says_before, says_no_new, gave_back}
@@ -51,8 +52,13 @@ invariant_of-self-clause-gave_back c =
 
 pub invariant_of-self-clause-no_new : goal.invariant_of-self-clause-no_new
 invariant_of-self-clause-no_new c =
-    says_no_new (hands_of c.args.self.now.flows) (hands_of c.leave.new.self) c.args.lane c.args.reply c.requires.answer
+    says_no_new (hands_of c.args.self.now.flows) (hands_of c.leave.new.self) c.args.lane c.args.reply (ap (λ b. b || is_more_reply c.args.reply) c.requires.answer)
     (says_before _ (hands_of c.answer.new.self) _ c.args.lane c.args.reply c.in-Ok.ensures.lists c.leave.ensures.same) c.args.self.now.no_new
+
+pub invariant_of-self-clause-added : goal.invariant_of-self-clause-added
+invariant_of-self-clause-added c =
+    added_said (hands_of c.args.self.now.flows) (hands_of c.leave.new.self) c.args.lane c.args.reply
+    (says_before _ (hands_of c.answer.new.self) _ c.args.lane c.args.reply c.in-Ok.ensures.lists c.leave.ensures.same) c.args.self.now.added
 
 pub invariant_of-self-clause-idle : goal.invariant_of-self-clause-idle
 invariant_of-self-clause-idle c =
@@ -75,5 +81,6 @@ returns-in-Ok-clause-counts c =
     each_lane (λ l. l ≢ Flow c.args.lane → after l ≡ before l) (λ ne. refl) (λ j ne. says.others.answered_is j (λ h. ne (ap Flow h))) in
     record {
       news = counts_one is_new_reply n m before after (Flow c.args.lane) c.args.reply e there says.answered_is others;
+      mores = counts_one is_more_reply n m before after (Flow c.args.lane) c.args.reply e there says.answered_is others;
       releases = counts_one is_release_reply n m before after (Flow c.args.lane) c.args.reply e there says.answered_is others;
     }

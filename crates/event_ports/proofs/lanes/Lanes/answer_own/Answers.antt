@@ -24,4 +24,4 @@ pub returns-in-Err-clause-refused : goal.returns-in-Err-clause-refused
 returns-in-Err-clause-refused c =
     let some : unanswered c.args.self.now.own ≢ [] =
     first_open c.args.self.now.order.items Own (open_on c.args.self.now.own (hands_of c.args.self.now.flows)) c.requires.oldest c.args.self.now.ordered in
-    refused_own c.stage.new.self c.args.self.now.own (hands_of c.args.self.now.flows) c.args.self.now.order.items c.args.reply c.in-Err.fault c.in-Err.ensures.refused some c.requires.oldest c.stage.ensures.lane c.in-Err.ensures.answered
+    refused_own c.stage.new.self c.args.self.now.own (hands_of c.args.self.now.flows) c.args.self.now.order.items c.args.reply c.in-Err.fault c.requires.answer c.in-Err.ensures.refused some c.requires.oldest c.stage.ensures.lane c.in-Err.ensures.answered

@@ -31,7 +31,7 @@ loop-place-preserved c =
     let At : LanesPlace → Type 0 = λ p. slice_get p.flows.links c.loop-place.place ≡ Some c.link-lane.result in
     let more : take (c.loop-place.place + 1) links ≡ take c.loop-place.place links ++ c.link-lane.result ∷ [] = take_next links c.loop-place.place c.link-lane.result (subst At was.0 c.link-lane.ensures.at_place) in (
       c.receive_flow.ensures.place ∙ was.0,
-      record { news = c.receive_flow.ensures.counts.news ∙ was.1.news; releases = c.receive_flow.ensures.counts.releases ∙ was.1.releases },
+      record { news = c.receive_flow.ensures.counts.news ∙ was.1.news; mores = c.receive_flow.ensures.counts.mores ∙ was.1.mores; releases = c.receive_flow.ensures.counts.releases ∙ was.1.releases },
       arrives_more (lanes_read (take c.loop-place.place links)) (lanes_read (take (c.loop-place.place + 1) links)) (Flow c.link-lane.result) (hand_of c.args.self.now) (hand_of c.loop-place.self)
           (hand_of c.receive_flow.new.self) _ _ _ (read_more (take c.loop-place.place links) (take (c.loop-place.place + 1) links) c.link-lane.result more) was.2 c.receive_flow.ensures.arrived,
       c.receive_flow.ensures.room,

@@ -1,7 +1,7 @@
 -- What receipts from a flow lane make of a port's lanes: they count no reply.
 use Rattle.std.proofs.Common.{rules, ◌≡◌, ◌≢◌, ◌∙◌, List, length, refl, sym, ap, subst}
 use Rattle.evt_types.specs.declared.event.Delivery.{Delivery}
-use Rattle.evt_types.specs.Operation.{is_new_reply, is_release_reply}
+use Rattle.evt_types.specs.Operation.{is_more_reply, is_new_reply, is_release_reply}
 use Rattle.flow_claims.specs.Claims.{lanes_of}
 use Rattle.event_ports.specs.declared.lane.Holding.{Holding}
 use Rattle.event_ports.specs.declared.lane.Lane.{Lane}
@@ -65,7 +65,7 @@ returns-clause-counts c =
     let m = length (lanes_of (flow_place c.leave.new.self).claims) in
     let e : m ≡ n = ap (λ (p : FlowPlace). length (lanes_of p.claims)) (c.leave.ensures.place ∙ c.receive_some.ensures.place ∙ c.hold.ensures.place) in
     let same : (l : Lane) → after l ≡ before l = each_lane (λ l. after l ≡ before l) refl (λ j. gets_no_answer _ _ c.args.lane came.came gets j) in
-    record { news = counts_none is_new_reply n m before after e same; releases = counts_none is_release_reply n m before after e same }
+    record { news = counts_none is_new_reply n m before after e same; mores = counts_none is_more_reply n m before after e same; releases = counts_none is_release_reply n m before after e same }
 
 pub returns-clause-arrived : goal.returns-clause-arrived
 returns-clause-arrived c =
@@ -107,4 +107,4 @@ returns-then-not-hold-clause-counts c =
     let m = length (lanes_of (flow_place c.hold.new.self).claims) in
     let e : m ≡ n = ap (λ (p : FlowPlace). length (lanes_of p.claims)) c.hold.ensures.place in
     let same : (l : Lane) → after l ≡ before l = each_lane (λ l. after l ≡ before l) refl c.hold.ensures.same.answered_is in
-    record { news = counts_none is_new_reply n m before after e same; releases = counts_none is_release_reply n m before after e same }
+    record { news = counts_none is_new_reply n m before after e same; mores = counts_none is_more_reply n m before after e same; releases = counts_none is_release_reply n m before after e same }

@@ -15,9 +15,10 @@ use Rattle.evt_types.specs.Operation.{is_new_reply}
 use Rattle.evt_types.specs.Event.{pair_of}
 use Rattle.flow_claims.specs.Ends.{IsEnd}
 use Rattle.std.specs.List.{range_with_len}
-use Rattle.std.proofs.Common.{◌≡◌, ◌∙◌, ◌+◌, ◌<◌, ◌≤◌, ℕ, List, ◌++◌, length, map, sym, ap, subst, arith, ◌^◌, [], All, refl, true, Bool, false, ◌||◌, sum}
+use Rattle.std.proofs.Common.{◌≡◌, ◌∙◌, ◌+◌, ◌*◌, ◌<◌, ◌≤◌, ℕ, List, ◌++◌, length, map, sym, ap, subst, arith, ◌^◌, [], All, refl, true, Bool, false, ◌||◌, sum}
 use Rattle.std.specs.Prelude.{sum_by, vec_capacity, slice_get, slice_index_or, Some, count_by}
 use Rattle.evt_types.proofs.FlowLanes.{lanes_are}
+use Rattle.evt_types.specs.declared.event.TheConstants.{MAX_FORWARDS}
 use Rattle.evt_types.specs.Plan.{Plan, flow_lanes, lanes_of, queues, flow_links, lanes}
 use Rattle.credit_pool.specs.declared.account.Account.{Account}
 use Rattle.flow_claims.specs.Claims as claims
@@ -129,7 +130,7 @@ pub list_kept-requires-clause-room : goal.list_kept-requires-clause-room
 list_kept-requires-clause-room c =
     let of = c.requires.of in
     let parts = parts_are of.device c.args.self.sight c.into_parts-pool.result _ (c.into_parts-pool.ensures.sight ∙ ap (λ (r : Recorded). r.sight) c.self.view_is) of.scheduler_is in
-    let Fits : View → Type 0 = λ v. sum_by (λ q. length (places_at v q)) (queues v.shape) ≤ vec_capacity c.args.room.report.kept in
+    let Fits : View → Type 0 = λ v. MAX_FORWARDS * sum_by (λ q. length (places_at v q)) (queues v.shape) ≤ vec_capacity c.args.room.report.kept in
     subst Fits (sym parts.core) c.requires.room.to_list.kept.1
 
 pub list_ports-requires-clause-held : goal.list_ports-requires-clause-held

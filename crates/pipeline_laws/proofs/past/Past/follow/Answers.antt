@@ -1,6 +1,6 @@
 use Rattle.std.proofs.Common.{◌≡◌, ℕ, ◌+◌, ◌<◌, [], ◌∷◌, ◌++◌, length, set, slice_index, refl, sym, ap, ◌∙◌, subst, arith}
 use Rattle.std.proofs.lemmas.List.{get_or_default}
-use Rattle.pipeline_laws.proofs.Pasts.{follows_accept, follows_give, follows_done, follows_turned, follows_bounced, follows_shut, row_small}
+use Rattle.pipeline_laws.proofs.Pasts.{follows_accept, follows_give, follows_done, follows_more, follows_turned, follows_bounced, follows_shut, row_small}
 use Rattle.pipeline_laws.specs.Past.{Follows, HasPlace, HasUnanswered}
 use Rattle.pipeline_laws.specs.declared.past.Past.{Past}
 use Rattle.std.specs.Vec.{with_item}
@@ -45,6 +45,9 @@ returns-in-Done-clause-follows c T f =
     subst (λ s. Follows (T ++ s ∷ []) new) (sym c.in-Done.is)
     (follows_done T c.args.self.now new c.in-Done.lane c.in-Done.outcome f place.answered
     (ap (λ n. set c.args.self.now.answered.items c.in-Done.lane (n + 1)) read) refl refl)
+
+pub returns-in-More-clause-follows : goal.returns-in-More-clause-follows
+returns-in-More-clause-follows c T f = follows_more T c.args.self.now c.args.step.now c.in-More.lane c.in-More.event c.in-More.is f
 
 pub returns-in-Turned-clause-follows : goal.returns-in-Turned-clause-follows
 returns-in-Turned-clause-follows c T f = follows_turned T c.args.self.now c.args.step.now c.in-Turned.lane c.in-Turned.event c.in-Turned.is f

@@ -1,7 +1,7 @@
 use Rattle.std.proofs.Common.{◌<◌, ◌^◌, length, refl, subst, sym, ap, ◌∙◌, arith}
 use Rattle.evt_types.specs.Plan.{bound_of}
 use Rattle.transcripts.specs.Standing.{View, inside_of, entries_of, after_accept}
-use Rattle.sched_core.proofs.Cores.{fits_queue, fits_number, core_accepts, view_accepts}
+use Rattle.sched_core.proofs.Cores.{accept_counts, fits_queue, fits_number, core_accepts, view_accepts}
 use Rattle.sched_core.specs.View.{view_in}
 use Rattle.parked_queue.specs.Waits.{with_event, waits_at}
 use Rattle.sched_core.proofs.Busy.{waits_is}
@@ -40,6 +40,15 @@ returns-clause-view c =
     let h : c.from-queue.result < length c.self.inside.queues = omega (arith, queue, c.self.invariant.queues) in
     rw c.accept.ensures.value (view_accepts c.self.inside c.from-queue.result (waits_at c.self.inside.queues c.from-queue.result) (with_event (waits_at c.self.inside.queues c.from-queue.result) c.args.event) c.args.event h (waits_is c.self.inside.queues c.from-queue.result h) refl)
     ∙ (ap (λ q. after_accept (view_in c.self.inside) q c.args.event) is ∙ ap (λ v. after_accept v c.args.event.queue c.args.event) c.self.view_is)
+
+pub returns-clause-counts : goal.returns-clause-counts
+returns-clause-counts c =
+    let queue : c.args.event.queue < length c.self.inside.shape.queues = subst (λ (v : View). c.args.event.queue < length v.shape.queues) (sym c.self.view_is) c.requires.queue in
+    let is = c.from-queue.ensures in
+    let h : c.from-queue.result < length c.self.inside.queues = omega (arith, queue, c.self.invariant.queues) in
+    let room : inside_of (view_in c.self.inside) < bound_of c.self.inside.shape = subst (λ (v : View). inside_of v < bound_of v.shape) (sym c.self.view_is) c.requires.inside in
+    let fewer : entries_of (view_in c.self.inside) < 2 ^ 63 = subst (λ (v : View). entries_of v < 2 ^ 63) (sym c.self.view_is) c.requires.entries in
+    rw c.accept.ensures.value (accept_counts c.self.inside c.from-queue.result (waits_at c.self.inside.queues c.from-queue.result) (with_event (waits_at c.self.inside.queues c.from-queue.result) c.args.event) c.args.event c.args.self.now c.self.invariant c.self.view_is room fewer h (waits_is c.self.inside.queues c.from-queue.result h) refl c.accept.ensures.waits)
 
 pub overflow_add-self : goal.overflow_add-self
 overflow_add-self c =

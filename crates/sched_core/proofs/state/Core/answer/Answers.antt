@@ -1,5 +1,6 @@
 use Rattle.std.proofs.Common.{◌≡◌, ◌<◌, ◌≤◌, ◌+◌, ◌^◌, ◌-◌, false, drop, length, All, refl, subst, sym, ap, ◌∙◌, arith}
 use Rattle.std.proofs.lemmas.List.{length-map}
+use Rattle.std.specs.Vec.{with_item}
 use Rattle.evt_types.specs.Plan.{bound_of, lanes_of, queue_of, is_ordered}
 use Rattle.transcripts.specs.Standing.{View, entries_of, inside_of, events_of, unanswered_at}
 use Rattle.evt_types.specs.declared.event.Event.{Event}
@@ -53,7 +54,7 @@ invariant_of-self c =
     let one = forwards_one f c.args.outcome c.forward_of.ensures in
     let more = more_one (is_restoring (order_at a.orders c.pop-entry.result.queue)) f (sym c.resolve-kept.ensures.kept ∙ c.if-kept.true) in
     rw c.pop-entry.ensures.rest (rw c.resolve-kept.ensures.resolved
-    (core_answers a c.args.lane (lane_in c.self.inside.lanes c.args.lane) (histories.entries_of (drop 1 (lane_in c.self.inside.lanes c.args.lane).entries) (lane_in c.self.inside.lanes c.args.lane).capacity) c.pop-entry.result f c.unpin.new.self _ _ c.self.invariant h (lane_is c.self.inside.lanes c.args.lane h) c.pop-entry.ensures.oldest refl refl
+    (core_answers a c.args.lane (lane_in c.self.inside.lanes c.args.lane) (histories.entries_of (drop 1 (lane_in c.self.inside.lanes c.args.lane).entries) (lane_in c.self.inside.lanes c.args.lane).capacity) c.pop-entry.result f (with_item a.extras c.args.lane 0) c.unpin.new.self _ _ c.self.invariant h (lane_is c.self.inside.lanes c.args.lane h) c.pop-entry.ensures.oldest refl refl refl
     (named_of (length a.shape.queues) f c.args.outcome c.forward_of.ensures events) (omega (arith, few, one)) c.unpin.ensures (omega (arith, more)) (omega (arith, more))))
 
 pub invariant_of-self-else-kept : goal.invariant_of-self-else-kept
@@ -68,7 +69,7 @@ invariant_of-self-else-kept c =
     let none = more_none (is_restoring (order_at a.orders c.pop-entry.result.queue)) f (sym c.resolve-kept.ensures.kept ∙ c.if-kept.false) in
     let some = some_inside a c.args.lane (lane_in c.self.inside.lanes c.args.lane) c.pop-entry.result c.self.invariant h (lane_is c.self.inside.lanes c.args.lane h) c.pop-entry.ensures.oldest in
     rw c.pop-entry.ensures.rest (rw c.resolve-kept.ensures.resolved
-    (core_answers a c.args.lane (lane_in c.self.inside.lanes c.args.lane) (histories.entries_of (drop 1 (lane_in c.self.inside.lanes c.args.lane).entries) (lane_in c.self.inside.lanes c.args.lane).capacity) c.pop-entry.result f c.unpin.new.self _ _ c.self.invariant h (lane_is c.self.inside.lanes c.args.lane h) c.pop-entry.ensures.oldest refl refl
+    (core_answers a c.args.lane (lane_in c.self.inside.lanes c.args.lane) (histories.entries_of (drop 1 (lane_in c.self.inside.lanes c.args.lane).entries) (lane_in c.self.inside.lanes c.args.lane).capacity) c.pop-entry.result f (with_item a.extras c.args.lane 0) c.unpin.new.self _ _ c.self.invariant h (lane_is c.self.inside.lanes c.args.lane h) c.pop-entry.ensures.oldest refl refl refl
     (named_of (length a.shape.queues) f c.args.outcome c.forward_of.ensures events) (omega (arith, few, one)) c.unpin.ensures (omega (arith, none, some)) (omega (arith, none))))
 
 pub returns-clause-queue : goal.returns-clause-queue
@@ -96,11 +97,11 @@ returns-clause-view c =
     let same = ap (λ v. after_answer v c.args.lane c.args.outcome) c.self.view_is in
     elim c.if-kept.branch [
       | then-kept w ↦
-          w.self-is ∙ (rw c.pop-entry.ensures.rest (rw c.resolve-kept.ensures.resolved (view_answers a c.args.lane (lane_in c.self.inside.lanes c.args.lane) (histories.entries_of (drop 1 (lane_in c.self.inside.lanes c.args.lane).entries) (lane_in c.self.inside.lanes c.args.lane).capacity) c.pop-entry.result f c.args.outcome c.unpin.new.self a.inside (a.entries + 1) c.self.invariant h
-          (lane_is c.self.inside.lanes c.args.lane h) c.pop-entry.ensures.oldest refl named c.forward_of.ensures)) ∙ same)
+          w.self-is ∙ (rw c.pop-entry.ensures.rest (rw c.resolve-kept.ensures.resolved (view_answers a c.args.lane (lane_in c.self.inside.lanes c.args.lane) (histories.entries_of (drop 1 (lane_in c.self.inside.lanes c.args.lane).entries) (lane_in c.self.inside.lanes c.args.lane).capacity) c.pop-entry.result f c.args.outcome (with_item a.extras c.args.lane 0) c.unpin.new.self a.inside (a.entries + 1) c.self.invariant h
+          (lane_is c.self.inside.lanes c.args.lane h) c.pop-entry.ensures.oldest refl refl named c.forward_of.ensures)) ∙ same)
       | else-kept w ↦
-          w.self-is ∙ (rw c.pop-entry.ensures.rest (rw c.resolve-kept.ensures.resolved (view_answers a c.args.lane (lane_in c.self.inside.lanes c.args.lane) (histories.entries_of (drop 1 (lane_in c.self.inside.lanes c.args.lane).entries) (lane_in c.self.inside.lanes c.args.lane).capacity) c.pop-entry.result f c.args.outcome c.unpin.new.self (a.inside - 1) a.entries c.self.invariant h
-          (lane_is c.self.inside.lanes c.args.lane h) c.pop-entry.ensures.oldest refl named c.forward_of.ensures)) ∙ same)
+          w.self-is ∙ (rw c.pop-entry.ensures.rest (rw c.resolve-kept.ensures.resolved (view_answers a c.args.lane (lane_in c.self.inside.lanes c.args.lane) (histories.entries_of (drop 1 (lane_in c.self.inside.lanes c.args.lane).entries) (lane_in c.self.inside.lanes c.args.lane).capacity) c.pop-entry.result f c.args.outcome (with_item a.extras c.args.lane 0) c.unpin.new.self (a.inside - 1) a.entries c.self.invariant h
+          (lane_is c.self.inside.lanes c.args.lane h) c.pop-entry.ensures.oldest refl refl named c.forward_of.ensures)) ∙ same)
     ]
 
 pub returns-clause-fewer : goal.returns-clause-fewer

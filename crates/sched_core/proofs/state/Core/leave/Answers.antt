@@ -1,8 +1,9 @@
-use Rattle.std.proofs.Common.{◌-◌, ◌<◌, length, option_to_list, subst, sym, ap, ◌∙◌, arith}
+use Rattle.std.proofs.Common.{◌+◌, ◌-◌, ◌<◌, ◌≤◌, length, All, subst, sym, ap, ◌∙◌, arith}
 use Rattle.evt_types.specs.Plan.{bound_of}
+use Rattle.evt_types.specs.declared.event.Event.{Event}
 use Rattle.transcripts.specs.Standing.{View, inside_of}
 use Rattle.order_parts.specs.Reorder.{left}
-use Rattle.sched_core.proofs.Leaving.{core_leaves, each_some, left_counts, left_room, leaving_one, some_forwards, view_left, with_orders}
+use Rattle.sched_core.proofs.Leaving.{core_leaves, left_counts, left_room, leaving_named, view_left, with_orders}
 use Rattle.sched_core.specs.Answered.{after_leave}
 use Rattle.sched_core.specs.View.{view_in}
 use Rattle.sched_core.proofs.state.Core.leave.Goals as goal
@@ -13,7 +14,7 @@ overflow_sub-self c =
     let x = left c.in_ok-left.left in
     let oldest = sym c.in_ok-left.ensures.value in
     let counts = left_counts c.self.inside c.args.queue x c.self.invariant h oldest in
-    omega (arith, counts.0, c.count_of-forwarded.ensures.value)
+    omega (arith, counts.0, c.len-count.ensures.value)
 
 pub overflow_sub-self-2 : goal.overflow_sub-self-2
 overflow_sub-self-2 c =
@@ -21,7 +22,7 @@ overflow_sub-self-2 c =
     let x = left c.in_ok-left.left in
     let oldest = sym c.in_ok-left.ensures.value in
     let counts = left_counts c.self.inside c.args.queue x c.self.invariant h oldest in
-    omega (arith, counts.1, c.count_of-forwarded.ensures.value)
+    omega (arith, counts.1, c.len-count.ensures.value)
 
 pub invariant_of-self-2 : goal.invariant_of-self-2
 invariant_of-self-2 c =
@@ -30,7 +31,7 @@ invariant_of-self-2 c =
     let oldest = sym c.in_ok-left.ensures.value in
     let counts = left_counts c.self.inside c.args.queue x c.self.invariant h oldest in
     rw c.leave.ensures.rest
-    (core_leaves c.self.inside c.args.queue _ _ x c.self.invariant h oldest (omega (arith, counts.0, c.count_of-forwarded.ensures.value)) (omega (arith, counts.1, c.count_of-forwarded.ensures.value)))
+    (core_leaves c.self.inside c.args.queue _ _ x c.self.invariant h oldest (omega (arith, counts.0, c.len-count.ensures.value)) (omega (arith, counts.1, c.len-count.ensures.value)))
 
 pub returns-clause-view : goal.returns-clause-view
 returns-clause-view c =
@@ -38,17 +39,14 @@ returns-clause-view c =
     let x = left c.in_ok-left.left in
     let oldest = sym c.in_ok-left.ensures.value in
     let counts = left_counts c.self.inside c.args.queue x c.self.invariant h oldest in
-    rw c.leave.ensures.rest (view_left c.self.inside c.args.queue (c.self.inside.inside - c.count_of-forwarded.result) (c.self.inside.entries - c.count_of-forwarded.result) c.self.invariant h)
+    rw c.leave.ensures.rest (view_left c.self.inside c.args.queue (c.self.inside.inside - c.len-count.result) (c.self.inside.entries - c.len-count.result) c.self.invariant h)
     ∙ ap (λ v. after_leave v c.args.queue) c.self.view_is
 
 pub returns-clause-named : goal.returns-clause-named
 returns-clause-named c =
     let h : c.args.queue < length c.self.inside.shape.queues = subst (λ (v : View). c.args.queue < length v.shape.queues) (sym c.self.view_is) c.requires.queue in
     let x = left c.in_ok-left.left in
-    let oldest = sym c.in_ok-left.ensures.value in
-    let counts = left_counts c.self.inside c.args.queue x c.self.invariant h oldest in
-    each_some c.in_ok-left.left.1 (λ e. e.queue < length c.args.self.now.shape.queues)
-    (λ e is. subst (λ (v : View). e.queue < length v.shape.queues) c.self.view_is (leaving_one c.self.inside c.args.queue x c.self.invariant h oldest e (ap option_to_list is)))
+    subst (λ (v : View). All (λ (e : Event). e.queue < length v.shape.queues) x.forwards) c.self.view_is (leaving_named c.self.inside c.args.queue x c.self.invariant h (sym c.in_ok-left.ensures.value))
 
 pub returns-clause-inside : goal.returns-clause-inside
 returns-clause-inside c =
@@ -56,10 +54,9 @@ returns-clause-inside c =
     let x = left c.in_ok-left.left in
     let oldest = sym c.in_ok-left.ensures.value in
     let counts = left_counts c.self.inside c.args.queue x c.self.invariant h oldest in
-    each_some c.in_ok-left.left.1 _
-    (λ e is. subst (λ (v : View). inside_of (view_in (with_orders c.self.inside c.leave.new.self (c.self.inside.inside - c.count_of-forwarded.result) (c.self.inside.entries - c.count_of-forwarded.result))) < bound_of v.shape) c.self.view_is
-    (rw c.leave.ensures.rest ((left_room c.self.inside c.args.queue (c.self.inside.inside - c.count_of-forwarded.result) (c.self.inside.entries - c.count_of-forwarded.result) x c.self.invariant h oldest
-    (omega (arith, counts.0, c.count_of-forwarded.ensures.value)) (omega (arith, counts.1, c.count_of-forwarded.ensures.value)) (some_forwards c.in_ok-left.left.1 e is)).0)))
+    subst (λ (v : View). inside_of (view_in (with_orders c.self.inside c.leave.new.self (c.self.inside.inside - c.len-count.result) (c.self.inside.entries - c.len-count.result))) + length x.forwards ≤ bound_of v.shape) c.self.view_is
+    (rw c.leave.ensures.rest ((left_room c.self.inside c.args.queue (c.self.inside.inside - c.len-count.result) (c.self.inside.entries - c.len-count.result) x c.self.invariant h oldest
+    (omega (arith, counts.0, c.len-count.ensures.value)) (omega (arith, counts.1, c.len-count.ensures.value))).0))
 
 pub returns-clause-entries : goal.returns-clause-entries
 returns-clause-entries c =
@@ -67,6 +64,5 @@ returns-clause-entries c =
     let x = left c.in_ok-left.left in
     let oldest = sym c.in_ok-left.ensures.value in
     let counts = left_counts c.self.inside c.args.queue x c.self.invariant h oldest in
-    each_some c.in_ok-left.left.1 _
-    (λ e is. rw c.leave.ensures.rest ((left_room c.self.inside c.args.queue (c.self.inside.inside - c.count_of-forwarded.result) (c.self.inside.entries - c.count_of-forwarded.result) x c.self.invariant h oldest
-    (omega (arith, counts.0, c.count_of-forwarded.ensures.value)) (omega (arith, counts.1, c.count_of-forwarded.ensures.value)) (some_forwards c.in_ok-left.left.1 e is)).1))
+    rw c.leave.ensures.rest ((left_room c.self.inside c.args.queue (c.self.inside.inside - c.len-count.result) (c.self.inside.entries - c.len-count.result) x c.self.invariant h oldest
+    (omega (arith, counts.0, c.len-count.ensures.value)) (omega (arith, counts.1, c.len-count.ensures.value))).1)

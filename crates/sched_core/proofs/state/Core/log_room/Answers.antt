@@ -1,3 +1,4 @@
+use Rattle.evt_types.specs.declared.event.TheConstants.{MAX_FORWARDS}
 use Rattle.evt_types.specs.declared.shape.TheConstants.{MAX_LANES, MAX_ORDER, MAX_QUEUES, MAX_SWEEP}
 use Rattle.std.proofs.Common.{◌≡◌, ℕ, ◌≤◌, ◌+◌, ◌*◌, length, sum_by, subst, sym, ap, arith, ◌∙◌}
 use Rattle.std.proofs.Math.Nat.{mul-le-mul}
@@ -9,6 +10,11 @@ use Rattle.transcripts.proofs.Sweeps.{sweep_fits}
 use Rattle.sched_core.proofs.Cores.{few_kept}
 use Rattle.sched_core.proofs.Sound.{core_sound}
 use Rattle.sched_core.proofs.state.Core.log_room.Goals as goal
+
+pub overflow_mul-kept : goal.overflow_mul-kept
+overflow_mul-kept c =
+    let kept : c.all_kept_room-kept.result ≤ MAX_QUEUES * MAX_ORDER = subst (λ n. n ≤ MAX_QUEUES * MAX_ORDER) (sym (c.all_kept_room-kept.ensures ∙ ap (sum_by kept_room) c.queues-queues.ensures.value)) (few_kept c.self.inside.shape c.self.invariant.limits) in
+    omega arith
 
 pub overflow_add-result-2 : goal.overflow_add-result-2
 overflow_add-result-2 c =
@@ -46,5 +52,5 @@ returns-clause-fits c T s stands sweep =
     (sweep_fits c.args.self.now T s stands sweep)
   where
     room_is : (p : Plan) (s l k n : ℕ) → s ≡ p.sweep → l ≡ lanes_of p → k ≡ sum_by kept_room p.queues → n ≡ length p.queues
-        → sweep_room p ≡ 1 + 2 * s * l + k + s * n + l
+        → sweep_room p ≡ 1 + 2 * s * l + MAX_FORWARDS * k + s * n + l
     room_is p s l k n sweep lanes kept queues = cc

@@ -1,24 +1,30 @@
-use Rattle.std.proofs.Common.{◌≡◌, Some, None, sym, ap, ◌∙◌}
-use Rattle.transcripts.specs.Standing.{places_at}
-use Rattle.order_parts.specs.Reorder.{left, oldest_answered}
-use Rattle.sched_core.proofs.Settling.{room_left, settles_forwarded, settles_released}
+use Rattle.std.proofs.Common.{Vec, Global, ap, ◌∙◌}
+use Rattle.evt_types.specs.declared.step.Step.{Step}
+use Rattle.sched_core.proofs.Settling.{fewer_places, room_left, settles_turn, way_ends}
 use Rattle.sched_core.proofs.state.Core.settle.Goals as goal
 
-pub accept-requires-clause-room : goal.accept-requires-clause-room
-accept-requires-clause-room c =
-    let oldest : oldest_answered (places_at c.loop-number.self c.args.queue) ≡ Some (left (c.in-Some.number, Some c.in-Some-forward.event)) =
-    sym c.in-Some.ensures.value ∙ ap (λ f. Some (left (c.in-Some.number, f))) c.in-Some-forward.is in
-    room_left c.args.queue c.args.answered c.args.self.now c.args.log.now c.loop-number.self c.loop-number.log c.loop-number.passed c.in-Some.number c.in-Some-forward.event c.loop-number.invariant oldest c.requires.room
+pub pass_on-requires-clause-room : goal.pass_on-requires-clause-room
+pass_on-requires-clause-room c =
+    room_left c.args.queue c.args.answered c.args.self.now c.args.log.now c.loop-mine.self c.loop-mine.log c.loop-mine.passed c.loop-mine.invariant c.requires.room
 
-pub loop-number-preserved-in-Some-forward : goal.loop-number-preserved-in-Some-forward
-loop-number-preserved-in-Some-forward c =
-    let oldest : oldest_answered (places_at c.loop-number.self c.args.queue) ≡ Some (left (c.in-Some.number, Some c.in-Some-forward.event)) =
-    sym c.in-Some.ensures.value ∙ ap (λ f. Some (left (c.in-Some.number, f))) c.in-Some-forward.is in
-    settles_forwarded c.args.queue c.args.answered c.args.self.now c.args.log.now c.loop-number.self c.leave.new.self c.accept.new.self c.loop-number.log c.accept.new.log c.loop-number.passed c.in-Some.number c.in-Some-forward.event
-    c.loop-number.invariant oldest c.in-Some.ensures.view c.accept.ensures.view c.accept.ensures.logged c.accept.ensures.room
+pub loop-mine-preserved : goal.loop-mine-preserved
+loop-mine-preserved c =
+    settles_turn c.args.queue c.args.answered c.args.self.now c.args.log.now c.loop-mine.self c.pass_on.new.self c.loop-mine.log c.pass_on.new.log c.loop-mine.passed c.in-Some.mine c.loop-mine.invariant c.in-Some.ensures.passed c.pass_on.ensures.room
 
-pub loop-number-preserved : goal.loop-number-preserved
-loop-number-preserved c =
-    let oldest : oldest_answered (places_at c.loop-number.self c.args.queue) ≡ Some (left (c.in-Some.number, None)) =
-    sym c.in-Some.ensures.value ∙ ap (λ f. Some (left (c.in-Some.number, f))) c.in_default-forward.is in
-    settles_released c.args.queue c.args.answered c.args.self.now c.args.log.now c.loop-number.self c.leave.new.self c.loop-number.log c.loop-number.passed c.in-Some.number c.loop-number.invariant oldest c.in-Some.ensures.view
+pub loop-mine-smaller : goal.loop-mine-smaller
+loop-mine-smaller c =
+    fewer_places c.args.queue c.args.answered c.loop-mine.self c.pass_on.new.self c.loop-mine.log.items c.pass_on.new.log.items c.in-Some.mine c.loop-mine.invariant.there c.in-Some.ensures.passed
+
+pub returns-clause-view : goal.returns-clause-view
+returns-clause-view c =
+    c.in_default.ensures.same
+    ∙ (way_ends c.args.queue c.args.answered c.args.self.now c.args.log.now.items c.loop-mine.self c.loop-mine.log.items c.loop-mine.passed c.loop-mine.invariant.way c.in_default.ensures.none).view
+
+pub returns-clause-logged : goal.returns-clause-logged
+returns-clause-logged c =
+    ap (λ (log : Vec Step Global). log.items) c.in_default.ensures.logged
+    ∙ (way_ends c.args.queue c.args.answered c.args.self.now c.args.log.now.items c.loop-mine.self c.loop-mine.log.items c.loop-mine.passed c.loop-mine.invariant.way c.in_default.ensures.none).steps
+
+pub returns-clause-passed : goal.returns-clause-passed
+returns-clause-passed c =
+    (way_ends c.args.queue c.args.answered c.args.self.now c.args.log.now.items c.loop-mine.self c.loop-mine.log.items c.loop-mine.passed c.loop-mine.invariant.way c.in_default.ensures.none).passes

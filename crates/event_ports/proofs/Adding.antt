@@ -1,0 +1,76 @@
+-- An event is added beside the oldest that is held, which came from a flow lane, or it is refused: nothing that is held changes.
+use Rattle.std.proofs.Common.{◌≡◌, ◌≢◌, ℕ, ◌<◌, true, List, length, map, Result, Ok, Err, MatchResult, sym, ap, ◌∙◌}
+use Rattle.std.specs.Option.{is_some}
+use Rattle.evt_types.specs.Event.{pair_of}
+use Rattle.evt_types.specs.Operation.{is_more_reply, is_new_reply, is_release_reply}
+use Rattle.evt_types.specs.declared.event.Reply.{Reply}
+use Rattle.flow_claims.specs.Claims.{lanes_of}
+use Rattle.lane_rings.specs.Ends.{answered}
+use Rattle.lane_rings.specs.declared.far.Far.{Far}
+use Rattle.event_ports.specs.declared.lane.Holding.{Holding}
+use Rattle.event_ports.specs.declared.lane.Lane.{Lane}
+use Rattle.event_ports.specs.declared.lane.Lane.TheVariants.{Own, Flow}
+use Rattle.event_ports.specs.Holds.{AddedAll, GaveBack, Hands, HaveNoNew, Same, Says, held_on, stint_in}
+use Rattle.event_ports.specs.declared.lanes.Lanes.{Lanes}
+use Rattle.event_ports.specs.Flows.{FlowPlace, flow_place, hands_of}
+use Rattle.event_ports.specs.Handed.{CountsNone, CountsOne, flow_count, hand_of, lanes_place}
+use Rattle.event_ports.specs.Lanes.{AreOrdered, held_of, open_on, pair_in}
+use Rattle.event_ports.proofs.Calls.{AreIdle, gave_back, held_added, more_needs, says_no_new, same_no_new}
+use Rattle.event_ports.proofs.Counts.{counts_none, counts_one}
+use Rattle.event_ports.proofs.Extras.{added_said, added_same}
+use Rattle.event_ports.proofs.Orders.{each_lane}
+
+-- what follows from either answer
+pub by_answer : {E A B P : Type 0} (result : Result (Unit {0}) E) → (A → P) → (B → P) → MatchResult result (λ _. A) (λ _. B) → P
+by_answer (Ok _) ok err is = ok is
+by_answer (Err _) ok err is = err is
+
+module _ {E : Type 0} (h k : Hands) (lane : ℕ) (r : Reply) (result : Result (Unit {0}) E) (more : is_more_reply r ≡ true) (lists : MatchResult result (λ _. Says lane r h k) (λ _. Same h k)) where
+  held_still : (j : ℕ) → held_on k j ≡ held_on h j
+  held_still = by_answer result (λ says. held_added h k lane r more says) (λ same. same.held) lists
+
+  pub ordered_still : (own : Far) (xs : List Holding) → AreOrdered own h xs → AreOrdered own k xs
+  ordered_still own xs ordered =
+      each_lane (λ l. map pair_in (held_of l xs) ≡ map pair_of (open_on own k l)) (ordered Own) (λ j. ordered (Flow j) ∙ ap (map pair_of) (sym (held_still j)))
+
+  pub gave_back_still : GaveBack h → GaveBack k
+  gave_back_still = by_answer result (λ says. gave_back h k says.given_back) (λ same. gave_back h k same.given_back) lists
+
+  pub no_new_still : HaveNoNew h → HaveNoNew k
+  no_new_still = by_answer result (λ says. says_no_new h k lane r (more_needs r.event.op more) says) (λ same. same_no_new h k same.answered_is) lists
+
+  pub added_still : AddedAll h → AddedAll k
+  added_still = by_answer result (λ says. added_said h k lane r says) (λ same. added_same h k same) lists
+
+  pub idle_still : ((j : ℕ) → is_some (stint_in k j) ≡ is_some (stint_in h j)) → AreIdle h → AreIdle k
+  idle_still places idle j none = places j ∙ idle j (sym (held_still j) ∙ none)
+
+-- what it counts
+pub counts_flow : {E : Type 0} (a b : Lanes) (lane : ℕ) (r : Reply) (result : Result (Unit {0}) E) → b.own ≡ a.own → flow_place b.flows ≡ flow_place a.flows → lane < flow_count (lanes_place a)
+    → MatchResult result (λ _. Says lane r (hands_of a.flows) (hands_of b.flows)) (λ _. Same (hands_of a.flows) (hands_of b.flows))
+    → MatchResult result (λ _. CountsOne r a b) (λ _. CountsNone a b)
+counts_flow a b lane r (Ok _) own place there says =
+    let before = (hand_of a).said in
+    let after = (hand_of b).said in
+    let n = flow_count (lanes_place a) in
+    let m = flow_count (lanes_place b) in
+    let e : m ≡ n = ap (λ (p : FlowPlace). length (lanes_of p.claims)) place in
+    let others : (l : Lane) → l ≢ Flow lane → after l ≡ before l =
+    each_lane (λ l. l ≢ Flow lane → after l ≡ before l) (λ ne. ap answered own) (λ j ne. says.others.answered_is j (λ h. ne (ap Flow h))) in
+    record {
+      news = counts_one is_new_reply n m before after (Flow lane) r e there says.answered_is others;
+      mores = counts_one is_more_reply n m before after (Flow lane) r e there says.answered_is others;
+      releases = counts_one is_release_reply n m before after (Flow lane) r e there says.answered_is others;
+    }
+counts_flow a b lane r (Err _) own place there same =
+    let before = (hand_of a).said in
+    let after = (hand_of b).said in
+    let n = flow_count (lanes_place a) in
+    let m = flow_count (lanes_place b) in
+    let e : m ≡ n = ap (λ (p : FlowPlace). length (lanes_of p.claims)) place in
+    let still : (l : Lane) → after l ≡ before l = each_lane (λ l. after l ≡ before l) (ap answered own) same.answered_is in
+    record {
+      news = counts_none is_new_reply n m before after e still;
+      mores = counts_none is_more_reply n m before after e still;
+      releases = counts_none is_release_reply n m before after e still;
+    }

@@ -1,0 +1,138 @@
+//! What an ordered queue kept leaves it.
+
+ghost use Rattle.std.specs.Prelude.{◌≡◌, ◌+◌, ◌<◌, ◌≤◌, ◌^◌, ◌++◌, length, None, Some, All, IfNone, IfSome, option_map, option_to_list, vec_len, vec_capacity};
+ghost use Rattle.std.specs.List.{list_any};
+ghost use Rattle.evt_types.specs.Plan.{bound_of};
+ghost use Rattle.transcripts.specs.Standing.{inside_of, entries_of, places_at};
+ghost use Rattle.evt_types.specs.declared.event.Event.{Event as EventValue};
+ghost use Rattle.order_parts.specs.Reorder.{left, left_plain, oldest_answered};
+ghost use Rattle.sched_core.specs.Answered.{after_leave};
+ghost use Rattle.sched_core.specs.Settling.{IsPassedOn, flush_steps, flushed};
+ghost use Rattle.sched_core.specs.Taken.{is_accept_of};
+
+use crate::state::Core;
+use arrayvec::ArrayVec;
+use evt_types::{Event, MAX_FORWARDS, Source, Step};
+
+/// How many events these are.
+fn count_of(forward: Option<Event>) -> usize
+    ensures value { result ≡ length (option_to_list forward) }
+    ensures few { result ≤ 1 }
+{
+    match forward {
+        Some(_) => 1,
+        None => 0,
+    }
+}
+
+impl Core {
+    /// The oldest place of the queue leaves, where it is answered: its event's number, and what it was passed on as.
+    fn leave(&mut self, queue: usize) -> Option<(u64, ArrayVec<Event, MAX_FORWARDS>)>
+        requires queue { queue < length self.old.shape.queues }
+        ensures value { option_map left result ≡ oldest_answered (places_at self.old queue) }
+        ensures view { self.new ≡ after_leave self.old queue }
+        ensures named { IfSome result (λ x. All (λ (e : EventValue). e.queue < length self.old.shape.queues) x.1.items) }
+        ensures inside { IfSome result (λ x. inside_of self.new + length x.1.items ≤ bound_of self.old.shape) }
+        ensures entries { IfSome result (λ x. entries_of self.new + length x.1.items ≤ 2 ^ 63) }
+    {
+        let left = self.orders.leave(queue)?;
+        let count = left.1.len();
+        self.inside -= count;
+        self.entries -= count as u64;
+        Some(left)
+    }
+
+    /// The oldest place of the queue leaves, where it is answered and nothing was added to it: its event's number, and what it was
+    /// forwarded as. Where it gives nothing it may be that an event was added.
+    fn leave_plain(&mut self, queue: usize) -> Option<(u64, Option<Event>)>
+        requires queue { queue < length self.old.shape.queues }
+        ensures value { IfSome result (λ x. oldest_answered (places_at self.old queue) ≡ Some (left_plain x)) }
+        ensures view { IfSome result (λ x. self.new ≡ after_leave self.old queue) }
+        ensures same { IfNone result (self.new ≡ self.old) }
+        ensures named { IfSome result (λ x. IfSome x.1 (λ e. e.queue < length self.old.shape.queues)) }
+        ensures inside { IfSome result (λ x. IfSome x.1 (λ e. inside_of self.new < bound_of self.old.shape)) }
+        ensures entries { IfSome result (λ x. IfSome x.1 (λ e. entries_of self.new < 2 ^ 63)) }
+    {
+        let left = self.orders.leave_plain(queue)?;
+        let count = count_of(left.1);
+        self.inside -= count;
+        self.entries -= count as u64;
+        Some(left)
+    }
+
+    /// The oldest place leaves, where it is answered and nothing was added to it, and what it was forwarded as is accepted: whether
+    /// that is something, and of the number.
+    fn pass_plain(&mut self, queue: usize, answered: u64, log: &mut Vec<Step>) -> Option<bool>
+        requires queue { queue < length self.old.shape.queues }
+        requires room { vec_len log.old + length (flush_steps self.old queue) ≤ vec_capacity log.old }
+        ensures passed { IfSome result (IsPassedOn queue answered self.old log.old.items self.new log.new.items) }
+        ensures same { IfNone result (self.new ≡ self.old) }
+        ensures logged { IfNone result (log.new ≡ log.old) }
+        ensures room { vec_capacity log.new ≡ vec_capacity log.old }
+    {
+        // The use of a field makes known what holds of each core.
+        let _ = &self.shape;
+        let (number, forward) = self.leave_plain(queue)?;
+        let Some(event) = forward else {
+            return Some(false);
+        };
+        self.accept(event, Source::Of { queue, number }, log);
+        Some(number == answered)
+    }
+
+    /// The oldest place leaves, where it is answered, and all that it was passed on as is accepted: whether that is something, and of
+    /// the number.
+    #[cold]
+    fn pass_all(&mut self, queue: usize, answered: u64, log: &mut Vec<Step>) -> Option<bool>
+        requires queue { queue < length self.old.shape.queues }
+        requires room { vec_len log.old + length (flush_steps self.old queue) ≤ vec_capacity log.old }
+        ensures passed { IfSome result (IsPassedOn queue answered self.old log.old.items self.new log.new.items) }
+        ensures none { IfNone result (oldest_answered (places_at self.old queue) ≡ None) }
+        ensures same { IfNone result (self.new ≡ self.old) }
+        ensures logged { IfNone result (log.new ≡ log.old) }
+        ensures room { vec_capacity log.new ≡ vec_capacity log.old }
+    {
+        // The use of a field makes known what holds of each core.
+        let _ = &self.shape;
+        let (number, events) = self.leave(queue)?;
+        self.accept_all(queue, number, events.as_slice(), log);
+        Some(number == answered && !events.is_empty())
+    }
+
+    /// The oldest place leaves, where it is answered, and what it was passed on as is accepted: whether that is something, and of the
+    /// number. Mostly nothing was added to it.
+    fn pass_on(&mut self, queue: usize, answered: u64, log: &mut Vec<Step>) -> Option<bool>
+        requires queue { queue < length self.old.shape.queues }
+        requires room { vec_len log.old + length (flush_steps self.old queue) ≤ vec_capacity log.old }
+        ensures passed { IfSome result (IsPassedOn queue answered self.old log.old.items self.new log.new.items) }
+        ensures none { IfNone result (oldest_answered (places_at self.old queue) ≡ None) }
+        ensures same { IfNone result (self.new ≡ self.old) }
+        ensures logged { IfNone result (log.new ≡ log.old) }
+        ensures room { vec_capacity log.new ≡ vec_capacity log.old }
+    {
+        match self.pass_plain(queue, answered, log) {
+            Some(passed) => Some(passed),
+            None => self.pass_all(queue, answered, log),
+        }
+    }
+
+    /// The answered places leave from the oldest on, and what they were passed on as is accepted: whether something of the number is
+    /// among it.
+    #[cold]
+    pub(crate) fn settle(&mut self, queue: usize, answered: u64, log: &mut Vec<Step>) -> bool
+        requires queue { queue < length self.old.shape.queues }
+        requires room { vec_len log.old + length (flush_steps self.old queue) ≤ vec_capacity log.old }
+        ensures view { self.new ≡ flushed self.old queue }
+        ensures logged { log.new.items ≡ log.old.items ++ flush_steps self.old queue }
+        ensures passed { result ≡ list_any (is_accept_of queue answered) (flush_steps self.old queue) }
+        ensures room { vec_capacity log.new ≡ vec_capacity log.old }
+    {
+        // The use of a field makes known what holds of each core.
+        let _ = &self.shape;
+        let mut passed = false;
+        while let Some(mine) = self.pass_on(queue, answered, log) {
+            passed |= mine;
+        }
+        passed
+    }
+}

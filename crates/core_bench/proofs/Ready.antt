@@ -27,7 +27,7 @@ module _ (v : View) (held : List ℕ) (capacity : ℕ) (ready : IsReady v held c
     ready_without = record { lanes = All-tail (λ m. m < lanes_of v.shape) l rest lanes_split; room = ready.room; stands = ready.stands }
 
   -- the core stands at another transcript
-  pub ready_after : (w : View) (after : ℕ) → w.shape ≡ v.shape → after ≡ capacity → ((T : List Step) × Stands T w) → IsReady w held after
+  pub ready_after : (w : View) (after : ℕ) → w.shape ≡ v.shape → capacity ≤ after → ((T : List Step) × Stands T w) → IsReady w held after
   ready_after w after shape room stands =
       record {
         lanes = subst (λ (p : Plan). AreLanes p held) (sym shape) ready.lanes;

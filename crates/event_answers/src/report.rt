@@ -27,9 +27,9 @@ pub struct Untaken {
 
 /// What a device's scheduler did, and where the events and credits are that are left in it.
 #[derive(Debug, Drop)]
-pub struct Report {
-    /// The steps of all sweeps.
-    pub log: Vec<Step>,
+pub struct Report<L = Vec<Step>> {
+    /// The log of all sweeps.
+    pub log: L,
     /// The events that wait: queue and number, by both.
     pub waiting: Vec<(usize, u64)>,
     /// The events that an ordered queue keeps until all that it handed out before is answered, by queue, in hand-out order; those that

@@ -15,3 +15,4 @@ pub use event_recorder::{
 pub use event_scheduler::Scheduler;
 pub use fault::DeviceFault;
 pub use start::device;
+pub use step_log::{Counted, StepLog};

@@ -56,7 +56,7 @@ pub record ArePaid (T : List Step) (sorted : List Port) (free own back limit : �
   pub small : limit < 2 ^ 64
 
 -- the report lists what is left of the queues and of the lanes
-pub record IsListed (p : Plan) (T : List Step) (rest : ℕ → Rest) (sorted : List Port) (x : Report) : Type 0 where
+pub record IsListed {X : Type 0} (p : Plan) (T : List Step) (rest : ℕ → Rest) (sorted : List Port) (x : Report X) : Type 0 where
   pub waiting_is : x.waiting.items ≡ waiting_pairs p T
   pub kept_is : x.kept.items ≡ kept_all p T
   pub undelivered : length x.undelivered.items ≡ sum_by (λ l. length (rest l).undelivered) (lanes p)
@@ -125,7 +125,7 @@ lanes_split rest ls =
     )
 
 -- the entries of the report are the events that are left
-entries_left : (p : Plan) (T : List Step) (rest : ℕ → Rest) (sorted : List Port) (x : Report) → IsListed p T rest sorted x
+entries_left : {X : Type 0} (p : Plan) (T : List Step) (rest : ℕ → Rest) (sorted : List Port) (x : Report X) → IsListed p T rest sorted x
     → sum_by (λ l. length (still_held (rest l))) (lanes p) ≡ sum_by (λ q. length (hand q).holding) sorted → entries_of x ≡ events_left p T rest
 entries_left p T rest sorted x is all_held =
     let waits = ap length is.waiting_is ∙ waiting_count p T in
@@ -154,7 +154,7 @@ balance T sorted free own back limit paid =
       ),
     )
 
-pub credits_come_out : (p : Plan) (T : List Step) (nears : List Near) (owns ends : List Far) (sorted : List Port) (x : Report) (free own back limit : ℕ)
+pub credits_come_out : {X : Type 0} (p : Plan) (T : List Step) (nears : List Near) (owns ends : List Far) (sorted : List Port) (x : Report X) (free own back limit : ℕ)
     → AreRests p T (rest_at nears (owns ++ ends)) → length nears ≡ lanes_of p → length (owns ++ ends) ≡ lanes_of p → AreEndsOf owns ends sorted
     → ArePaid T sorted free own back limit → IsListed p T (rest_at nears (owns ++ ends)) sorted x → free + sum (map pocket_of sorted) + own + entries_of x ≡ limit
 credits_come_out p T nears owns ends sorted x free own back limit rests near_count far_count are paid is =

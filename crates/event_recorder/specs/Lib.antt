@@ -1,7 +1,6 @@
 pub mod Device
 pub mod Control
 pub mod Recorder
-pub mod Recorded
 pub mod Ports
 pub mod Held
 pub mod Room

@@ -8,7 +8,7 @@ use Rattle.evt_types.specs.declared.event.TheConstants.{MAX_FORWARDS}
 
 -- for what is left in a device with this core: of each lane 64 deliveries at most, and as many replies in its ring and out of it
 -- and not taken; and as much as its port may hold
-pub record HasRoomToList (v : View) (x : Report) : Type 0 where
+pub record HasRoomToList {X : Type 0} (v : View) (x : Report X) : Type 0 where
   pub waiting : (x.waiting.items ≡ []) × (sum_by (λ q. length (waiting_at v q)) (queues v.shape) ≤ vec_capacity x.waiting)
   pub kept : (x.kept.items ≡ []) × (MAX_FORWARDS * sum_by (λ q. length (places_at v q)) (queues v.shape) ≤ vec_capacity x.kept)
   pub undelivered : (x.undelivered.items ≡ []) × (64 * lanes_of v.shape ≤ vec_capacity x.undelivered)

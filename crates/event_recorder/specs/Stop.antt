@@ -1,5 +1,7 @@
 -- What a stop takes, and the report that it gives.
 use Rattle.std.specs.Prelude.{ℕ, ◌≡◌, ◌+◌, ◌<◌, true, false, List, length, map, flat_map, take, slice_get, All, Contains, Some, sum, sum_by}
+use Rattle.std.specs.declared.alloc.Global.{Global}
+use Rattle.std.specs.declared.vec.Vec.{Vec}
 use Rattle.evt_types.specs.Operation.{is_new_reply}
 use Rattle.evt_types.specs.Plan.{Plan, flow_lanes, flow_links}
 use Rattle.lists.specs.Lists.{has}
@@ -88,15 +90,20 @@ pub record IsWorldOf (p : Plan) (T : List Step) (rest : ℕ → Rest) : Type 0 w
 
 -- ---- the report
 
+-- the steps of a log that keeps them
+abbrev pub steps_in : Vec Step Global → List Step
+steps_in log = log.items
+
 -- how many entries its five lists have
-abbrev pub entries_of : Report → ℕ
+abbrev pub entries_of : {X : Type 0} → Report X → ℕ
 entries_of x = length x.waiting.items + length x.kept.items + length x.undelivered.items + length x.held.items + length x.untaken.items
 
--- The log is all that the sweeps logged, it is lawful, and it has Shut only where the control shut the device. The lists have what the
--- log and the lanes have left. The finished stints are the ports', one port's after the other's. The free credits are the limit and what was
--- returned, without what was drawn, by all ports and the scheduler; and they, those in the pockets and the entries of the lists are the limit.
-pub record IsReport (r : Recorded) (control : Control) (ports : List Port) (report : Report) : Type 0 where
-  pub log : report.log.items ≡ r.log
+-- The steps of the log are all that the sweeps logged, whether it keeps them or not; they are lawful, and have Shut only where the
+-- control shut the device. The lists have what these steps and the lanes have left. The finished stints are the ports', one port's after
+-- the other's. The free credits are the limit and what was returned, without what was drawn, by all ports and the scheduler; and they,
+-- those in the pockets and the entries of the lists are the limit.
+pub record IsReport {X : Type 0} (steps : X → List Step) (r : Recorded) (control : Control) (ports : List Port) (report : Report X) : Type 0 where
+  pub log : steps report.log ≡ r.log
   pub shut : has_shut r.log ≡ true → was_shut control ≡ true
   pub rest : ℕ → Rest
   pub rests : AreRests r.sight.core.shape r.log rest

@@ -5,30 +5,44 @@ use event_scheduler::Scheduler;
 use evt_types::Step;
 use std::alloc::{AllocError, Global};
 use std::marker::Model;
+use step_log::StepLog;
 
 /// Want of memory.
 pub type Memory = AllocError;
 
 /// A scheduler with the log of all its sweeps. It alone can stop the device.
 #[derive(Drop)]
-pub struct Recorder {
+pub struct Recorder<L: StepLog = Vec<Step>> {
     pub(crate) scheduler: Scheduler,
-    pub(crate) log: Vec<Step>,
+    pub(crate) log: L,
 }
 
-impl Model for Recorder {
+impl<L: StepLog> Model for Recorder<L> {
     ghost use Rattle.event_recorder.specs.Recorder.{Recorded};
+    ghost use Rattle.event_scheduler.specs.Scheduler.{Serves, sight_of};
 
     ghost Value = { Recorded };
 
-    ghost use Rattle.event_recorder.specs.Recorded.{recorded_in, IsRecorder};
+    ghost view = { λ a. record { sight = sight_of a.scheduler; log = L.steps a.log } };
 
-    ghost view = { recorded_in };
-
-    ghost invariant = { IsRecorder };
+    ghost invariant = { λ a. Serves (L.steps a.log) (sight_of a.scheduler) };
 }
 
-impl Recorder {
+impl Recorder<Vec<Step>> {
+    ghost use Rattle.std.specs.Prelude.{◌≡◌, []};
+    ghost use Rattle.event_scheduler.specs.Scheduler.{Serves, sight_of};
+
+    /// Begins an empty log that keeps every step, for a scheduler that hasn't swept yet.
+    pub fn begin(alloc: Global, scheduler: Scheduler) -> Recorder<Vec<Step>>
+        requires { Serves [] (sight_of scheduler) }
+        ensures log { result.log ≡ [] }
+        ensures sight { result.sight ≡ sight_of scheduler }
+    {
+        Recorder::begin_with(Vec::new(alloc), scheduler)
+    }
+}
+
+impl<L: StepLog> Recorder<L> {
     ghost use Rattle.std.specs.Prelude.{◌≡◌, [], IfOk, IsErr};
     ghost use Rattle.event_scheduler.specs.Scheduler.{Serves, sight_of};
     ghost use Rattle.event_scheduler.specs.Swept.{Sweeps};
@@ -36,16 +50,14 @@ impl Recorder {
     ghost use Rattle.transcripts.specs.Replies.{new_count};
     ghost use Rattle.transcripts.specs.Transcript as transcripts;
 
-    /// Begins an empty log for a scheduler that hasn't swept yet.
-    pub fn begin(alloc: Global, scheduler: Scheduler) -> Recorder
-        requires { Serves [] (sight_of scheduler) }
+    /// Begins with this log, which has no step yet, for a scheduler that hasn't swept yet.
+    pub fn begin_with(log: L, scheduler: Scheduler) -> Recorder<L>
+        requires log { L.steps log ≡ [] }
+        requires serves { Serves [] (sight_of scheduler) }
         ensures log { result.log ≡ [] }
         ensures sight { result.sight ≡ sight_of scheduler }
     {
-        Recorder {
-            scheduler,
-            log: Vec::new(alloc),
-        }
+        Recorder { scheduler, log }
     }
 
     /// One sweep of the scheduler. After want of memory nothing has changed.

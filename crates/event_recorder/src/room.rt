@@ -21,12 +21,12 @@ pub(crate) struct Room {
     /// The holders' ends of the flow lanes, and of all lanes.
     pub ends: Vec<Far>,
     pub fars: Vec<Far>,
-    /// The report, of which nothing is listed.
-    pub report: Report,
+    /// The report but for its log, of which nothing is listed.
+    pub report: Report<()>,
 }
 
-/// A report that lists nothing, with room for what is left in a device with this core.
-fn empty_report(alloc: Global, core: &Core) -> Result<Report, Memory>
+/// A report without a log that lists nothing, with room for what is left in a device with this core.
+fn empty_report(alloc: Global, core: &Core) -> Result<Report<()>, Memory>
     ensures { IfOk result (HasRoomToList core.now) }
 {
     let shape = core.shape();
@@ -34,7 +34,7 @@ fn empty_report(alloc: Global, core: &Core) -> Result<Report, Memory>
     let most = MAX_DEPTH as usize * shape.lanes();
     let _ = shape.limit();
     Ok(Report {
-        log: Vec::new(alloc),
+        log: (),
         waiting: room_for_waiting(alloc, core)?,
         kept: room_for_kept(alloc, core)?,
         undelivered: Vec::with_capacity(alloc, most)?,

@@ -10,8 +10,9 @@ use event_ports::{Port, join_ports};
 use event_scheduler::Parts;
 use report_lists::{list_kept, list_lanes, list_waiting};
 use std::alloc::Global;
+use step_log::StepLog;
 
-impl Recorder {
+impl<L: StepLog> Recorder<L> {
     ghost use Rattle.std.specs.Prelude.{◌≡◌, ◌<◌, ℕ, length, IfOk, IfErr};
     ghost use Rattle.evt_types.specs.Fault.{IsWithinLimits};
     ghost use Rattle.event_recorder.specs.Ports.{IsThere, Refuses};
@@ -25,9 +26,9 @@ impl Recorder {
         alloc: Global,
         control: Control,
         ports: Vec<Port>,
-    ) -> Result<Report, (StopFault, Recorder, Control, Vec<Port>)>
+    ) -> Result<Report<L>, (StopFault, Recorder<L>, Control, Vec<Port>)>
         requires { AreOf self control ports.items }
-        ensures report { IfOk result (IsReport self control ports.items) }
+        ensures report { IfOk result (IsReport L.steps self control ports.items) }
         ensures refused { IfErr result (λ e. Refuses (length self.sight.core.shape.ports) ports.items e.0) }
         ensures back { IfErr result (λ e. (e.1 ≡ self) × (e.2 ≡ control) × (e.3 ≡ ports)) }
     {
@@ -41,11 +42,11 @@ impl Recorder {
         }
     }
 
-    fn close(self, control: Control, ports: Vec<Port>, room: Room) -> Report
+    fn close(self, control: Control, ports: Vec<Port>, room: Room) -> Report<L>
         requires of { AreOf self control ports.items }
         requires there { (n : ℕ) → n < length self.sight.core.shape.ports → IsThere ports.items n }
         requires room { HasRoom self.sight.core room }
-        ensures { IsReport self control ports.items result }
+        ensures { IsReport L.steps self control ports.items result }
     {
         let count = self.port_count();
         let Recorder { scheduler, log } = self;
@@ -67,20 +68,38 @@ impl Recorder {
             mut rests,
             mut ends,
             mut fars,
-            mut report,
+            report: Report {
+                log: (),
+                mut waiting,
+                mut kept,
+                mut undelivered,
+                mut held,
+                mut untaken,
+                free: _,
+                mut pockets,
+                own: _,
+            },
         } = room;
         let ports = by_number(ports, sorted, count);
         let (credit, claim) = join_ports(&pool, &claims, credit, claim, ports, &mut rests);
         claims.close(claim, &mut ends);
-        report.free = pool.close(pool.join(credit, seat));
-        report.own = own;
-        report.log = log;
-        list_waiting(&core, &mut report.waiting);
-        list_kept(&core, &mut report.kept);
-        list_ports(rests, &mut report.held, &mut report.pockets, &mut fars);
+        let free = pool.close(pool.join(credit, seat));
+        list_waiting(&core, &mut waiting);
+        list_kept(&core, &mut kept);
+        list_ports(rests, &mut held, &mut pockets, &mut fars);
         add_ends(ends, &mut fars);
-        list_lanes(lanes, fars, &mut report.undelivered, &mut report.untaken);
-        report
+        list_lanes(lanes, fars, &mut undelivered, &mut untaken);
+        Report {
+            log,
+            waiting,
+            kept,
+            undelivered,
+            held,
+            untaken,
+            free,
+            pockets,
+            own,
+        }
     }
 
     fn port_count(&self) -> usize

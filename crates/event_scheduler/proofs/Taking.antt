@@ -251,6 +251,26 @@ next_lane i most same n k s t u log mid longer is h m =
     takes_both (of_first i most) (only i same) (of_first (i + 1) most) n k s t u log mid longer h m (λ a b some more. omega (arith, of_first_is i most a some, only_is i same b more))
     (λ a. subst (λ j. of_first i most a + only i j a ≤ of_first (i + 1) most a) (sym is) (first_more i most a))
 
+-- nothing more of a lane was taken
+pub lane_ends : (l n q : ℕ) (s t u : Sight) (log mid longer : List Step) → n ≤ q → Takes (only l n) n s log t mid → Takes (only l 0) 0 t mid u longer → Takes (only l q) n s log u longer
+lane_ends l n q s t u log mid longer few h k =
+    subst (λ k. Takes (only l q) k s log u longer) (omega arith)
+    (takes_takes (only l n) (only l 0) (only l q) n 0 s t u log mid longer h k (λ i j some more. absurd (omega (arith, more, none j))) (λ m. omega (arith, none m, within m)))
+  where
+    none_by : (b : Bool) → ◌≡◌ {A = ℕ} (cond b 0 0) 0
+    none_by true = refl
+    none_by false = refl
+
+    none : (m : ℕ) → only l 0 m ≡ 0
+    none m = none_by (m == l)
+
+    within_by : (b : Bool) → cond b n 0 ≤ cond b q 0
+    within_by true = few
+    within_by false = omega arith
+
+    within : (m : ℕ) → only l n m ≤ only l q m
+    within m = within_by (m == l)
+
 -- a lane's replies were fetched, and then taken
 pub after_fetch : (l q n : ℕ) (s t u : Sight) (log longer : List Step) → Takes (only l 0) 0 s log t log → Takes (only l q) n t log u longer → Takes (only l q) n s log u longer
 after_fetch l q n s t u log longer h k =
@@ -267,8 +287,8 @@ after_fetch l q n s t u log longer h k =
 -- ---- numbers
 
 -- the room of one lane more, and the replies of it
-pub lane_room : (q same i before mid later : ℕ) → same ≡ q → mid ≤ before + 2 * q * i → later ≤ mid + 2 * same → later ≤ before + 2 * q * (i + 1)
-lane_room q same i before mid later is h k = omega (arith, is, h, k)
+pub lane_room : (q same i start free next before mid later : ℕ) → same ≡ q → start + mid ≤ free + before + 2 * q * i → free + later ≤ next + mid + 2 * same → start + later ≤ next + before + 2 * q * (i + 1)
+lane_room q same i start free next before mid later is h k = omega (arith, is, h, k)
 
 pub lane_count : (q same i n k : ℕ) → same ≡ q → n ≤ q * i → k ≤ same → n + k ≤ q * (i + 1)
 lane_count q same i n k is h m = omega (arith, is, h, m)

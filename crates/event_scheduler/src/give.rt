@@ -1,6 +1,6 @@
 //! What waits is given to the lanes.
 
-ghost use Rattle.std.specs.Prelude.{◌≡◌, ℕ, ◌+◌, ◌*◌, ◌≤◌, ◌<◌, List, [], ◌∷◌, length, vec_len, vec_capacity};
+ghost use Rattle.std.specs.Prelude.{◌≡◌, ℕ, ◌+◌, ◌*◌, ◌≤◌, ◌<◌, List, [], ◌∷◌, length};
 ghost use Rattle.credit_pool.specs.declared.account.Account.{Account};
 ghost use Rattle.credit_pool.specs.declared.pool.Credits.{Credits};
 ghost use Rattle.event_scheduler.specs.Giving.{Gives, GivesAll, Hands};
@@ -12,21 +12,21 @@ ghost use Rattle.transcripts.specs.Choice.{IsOffer};
 ghost use Rattle.transcripts.specs.Standing.{View};
 
 use crate::scheduler::Scheduler;
-use evt_types::Step;
 use lane_rings::Near;
 use sched_core::{Core, Offer, Skips};
+use step_log::StepLog;
 
 /// Offers what was chosen to the lane's ring, which gets it by the next `show`. Where the ring is full it goes on waiting.
-fn offer_one(core: &mut Core, lanes: &mut Vec<Near>, offer: Offer, log: &mut Vec<Step>) -> bool
+fn offer_one<L: StepLog>(core: &mut Core, lanes: &mut Vec<Near>, offer: Offer, log: &mut L) -> bool
     requires offer { IsOffer core.old offer.lane offer.delivery.queue (numbered_in offer.delivery) }
     requires lanes { length lanes.old.items ≡ lanes_of core.old.shape }
     requires hidden { OneHidden offer.lane lanes.old.items }
-    requires room { vec_len log.old < vec_capacity log.old }
-    ensures hands { (pool : Credits) (v : Account) (p n : ℕ) → Hands offer result (sight pool core.old lanes.old.items v p n) log.old.items (sight pool core.new lanes.new.items v p n) log.new.items }
+    requires room { 0 < L.room log.old }
+    ensures hands { (pool : Credits) (v : Account) (p n : ℕ) → Hands offer result (sight pool core.old lanes.old.items v p n) (L.steps log.old) (sight pool core.new lanes.new.items v p n) (L.steps log.new) }
     ensures lanes { length lanes.new.items ≡ lanes_of core.new.shape }
     ensures shape { core.new.shape ≡ core.old.shape }
     ensures hidden { OneHidden offer.lane lanes.new.items }
-    ensures room { (vec_capacity log.new ≡ vec_capacity log.old) × (vec_len log.new ≡ vec_len log.old + 1) }
+    ensures room { L.room log.old ≤ L.room log.new + 1 }
 {
     let near = &mut lanes[offer.lane];
     match near.stage(offer.delivery) {
@@ -66,33 +66,33 @@ fn turn(lanes: &mut Vec<Near>, last: usize, next: usize)
 }
 
 /// Offers what was chosen to the lane's ring, once what another lane was offered before it is in the ring.
-fn give_one(
+fn give_one<L: StepLog>(
     core: &mut Core,
     lanes: &mut Vec<Near>,
     offer: Offer,
     last: usize,
-    log: &mut Vec<Step>,
+    log: &mut L,
 ) -> bool
     requires offer { IsOffer core.old offer.lane offer.delivery.queue (numbered_in offer.delivery) }
     requires lanes { length lanes.old.items ≡ lanes_of core.old.shape }
     requires hidden { OneHidden last lanes.old.items }
-    requires room { vec_len log.old < vec_capacity log.old }
-    ensures hands { (pool : Credits) (v : Account) (p n : ℕ) → Hands offer result (sight pool core.old lanes.old.items v p n) log.old.items (sight pool core.new lanes.new.items v p n) log.new.items }
+    requires room { 0 < L.room log.old }
+    ensures hands { (pool : Credits) (v : Account) (p n : ℕ) → Hands offer result (sight pool core.old lanes.old.items v p n) (L.steps log.old) (sight pool core.new lanes.new.items v p n) (L.steps log.new) }
     ensures lanes { length lanes.new.items ≡ lanes_of core.new.shape }
     ensures shape { core.new.shape ≡ core.old.shape }
     ensures hidden { OneHidden offer.lane lanes.new.items }
-    ensures room { (vec_capacity log.new ≡ vec_capacity log.old) × (vec_len log.new ≡ vec_len log.old + 1) }
+    ensures room { L.room log.old ≤ L.room log.new + 1 }
 {
     turn(lanes, last, offer.lane);
     offer_one(core, lanes, offer, log)
 }
 
 /// Gives what is chosen, one event after the other, until no choice is left. What a lane is given in a row its holder sees at once.
-fn give_each(core: &mut Core, lanes: &mut Vec<Near>, log: &mut Vec<Step>) -> (usize, usize)
+fn give_each<L: StepLog>(core: &mut Core, lanes: &mut Vec<Near>, log: &mut L) -> (usize, usize)
     requires lanes { length lanes.old.items ≡ lanes_of core.old.shape }
     requires shown { NoneHidden lanes.old.items }
-    requires room { vec_len log.old + (core.old.shape.sweep * length core.old.shape.queues + lanes_of core.old.shape) ≤ vec_capacity log.old }
-    ensures gives { (pool : Credits) (v : Account) (p n : ℕ) → GivesAll result.0 result.1 (sight pool core.old lanes.old.items v p n) log.old.items (sight pool core.new lanes.new.items v p n) log.new.items }
+    requires room { core.old.shape.sweep * length core.old.shape.queues + lanes_of core.old.shape ≤ L.room log.old }
+    ensures gives { (pool : Credits) (v : Account) (p n : ℕ) → GivesAll result.0 result.1 (sight pool core.old lanes.old.items v p n) (L.steps log.old) (sight pool core.new lanes.new.items v p n) (L.steps log.new) }
     ensures lanes { length lanes.new.items ≡ lanes_of core.new.shape }
     ensures shown { NoneHidden lanes.new.items }
 {
@@ -117,9 +117,9 @@ fn give_each(core: &mut Core, lanes: &mut Vec<Near>, log: &mut Vec<Step>) -> (us
 
 impl Scheduler {
     /// Gives what is chosen until no choice is left.
-    pub(crate) fn give_all(&mut self, log: &mut Vec<Step>) -> (usize, usize)
-        requires room { vec_len log.old + (self.old.core.shape.sweep * length self.old.core.shape.queues + lanes_of self.old.core.shape) ≤ vec_capacity log.old }
-        ensures { GivesAll result.0 result.1 (sight_of self.old) log.old.items (sight_of self.new) log.new.items }
+    pub(crate) fn give_all<L: StepLog>(&mut self, log: &mut L) -> (usize, usize)
+        requires room { self.old.core.shape.sweep * length self.old.core.shape.queues + lanes_of self.old.core.shape ≤ L.room log.old }
+        ensures { GivesAll result.0 result.1 (sight_of self.old) (L.steps log.old) (sight_of self.new) (L.steps log.new) }
     {
         give_each(&mut self.core, &mut self.lanes, log)
     }

@@ -1,6 +1,6 @@
 //! The credit word: whether the device is shut, and the return of the credits of what was turned away.
 
-ghost use Rattle.std.specs.Prelude.{◌≡◌, ◌+◌, ◌^◌, ◌<◌, ◌≤◌, vec_len, vec_capacity};
+ghost use Rattle.std.specs.Prelude.{◌≡◌, ◌+◌, ◌^◌, ◌<◌, ◌≤◌};
 ghost use Rattle.credit_pool.specs.Accounts.{Stays};
 ghost use Rattle.credit_pool.specs.Pool.{account, IsSeatOf};
 ghost use Rattle.event_scheduler.specs.Looking.{Looks, Rests, Returns};
@@ -9,7 +9,7 @@ ghost use Rattle.transcripts.specs.Standing.{kept_in};
 
 use crate::scheduler::Scheduler;
 use credit_pool::{CreditSeat, Credits, Give};
-use evt_types::Step;
+use step_log::StepLog;
 
 /// What stays of a pocket: where there are credits in it one return of all of them is tried.
 fn returned(pool: &Credits, seat: &mut CreditSeat, pocket: u64) -> u64
@@ -31,10 +31,10 @@ fn returned(pool: &Credits, seat: &mut CreditSeat, pocket: u64) -> u64
 
 impl Scheduler {
     /// Looks at the credit word. Where it has the shut bit new events are turned away from now on.
-    pub(crate) fn look(&mut self, log: &mut Vec<Step>)
-        requires { vec_len log.old < vec_capacity log.old }
-        ensures looks { Looks (sight_of self.old) log.old.items (sight_of self.new) log.new.items }
-        ensures room { (vec_capacity log.new ≡ vec_capacity log.old) × (vec_len log.new ≤ vec_len log.old + 1) }
+    pub(crate) fn look<L: StepLog>(&mut self, log: &mut L)
+        requires { 0 < L.room log.old }
+        ensures looks { Looks (sight_of self.old) (L.steps log.old) (sight_of self.new) (L.steps log.new) }
+        ensures room { L.room log.old ≤ L.room log.new + 1 }
         ensures kept { kept_in self.new.core ≡ kept_in self.old.core }
     {
         if self.pool.look(&mut self.seat).1 {

@@ -2,8 +2,8 @@
 
 use crate::scheduler::Scheduler;
 use event_answers::Swept;
-use evt_types::Step;
 use std::alloc::AllocError;
+use step_log::StepLog;
 
 /// Want of memory.
 pub type Memory = AllocError;
@@ -16,11 +16,11 @@ impl Scheduler {
     /// One sweep: looks at the credit word, takes replies of each lane, tries to give back the credits of what was turned away, and
     /// gives until no choice is left. Its steps are appended to the log, in which room for all of them is reserved first: after want
     /// of memory nothing has changed.
-    pub fn sweep(&mut self, log: &mut Vec<Step>) -> Result<Swept, Memory>
-        ensures sweeps { IfOk result (λ n. Sweeps n (sight_of self.old) log.old.items (sight_of self.new) log.new.items) }
-        ensures memory { IsErr result → (self.new ≡ self.old) × (log.new.items ≡ log.old.items) }
+    pub fn sweep<L: StepLog>(&mut self, log: &mut L) -> Result<Swept, Memory>
+        ensures sweeps { IfOk result (λ n. Sweeps n (sight_of self.old) (L.steps log.old) (sight_of self.new) (L.steps log.new)) }
+        ensures memory { IsErr result → (self.new ≡ self.old) × (L.steps log.new ≡ L.steps log.old) }
     {
-        log.reserve(self.core.log_room())?;
+        log.make_room(self.core.log_room())?;
         self.look(log);
         let taken = self.take_all(log);
         self.give_back();

@@ -1,6 +1,6 @@
 //! Replies of the lanes are taken.
 
-ghost use Rattle.std.specs.Prelude.{◌≡◌, ◌≢◌, ℕ, ◌+◌, ◌*◌, ◌≤◌, ◌<◌, ◌⊎◌, List, [], IsFalse, Some, if◌then◌else◌, slice_get, vec_len, vec_capacity};
+ghost use Rattle.std.specs.Prelude.{◌≡◌, ◌≢◌, ℕ, ◌+◌, ◌*◌, ◌≤◌, ◌<◌, ◌⊎◌, List, [], IsFalse, Some, if◌then◌else◌, slice_get};
 ghost use Rattle.event_scheduler.specs.Scheduler.{seen_at, sight_of};
 ghost use Rattle.event_scheduler.specs.Taking.{MayEnd, Takes, TakesAll, entered_by, only, turned_by};
 ghost use Rattle.evt_types.specs.declared.step.Step.{Step as StepValue};
@@ -8,8 +8,9 @@ ghost use Rattle.evt_types.specs.Plan.{lanes_of};
 ghost use Rattle.transcripts.specs.Standing.{kept_in};
 
 use crate::scheduler::Scheduler;
-use evt_types::{Op, Step};
+use evt_types::Op;
 use sched_core::Took;
+use step_log::StepLog;
 
 /// How many credits a reply leaves to the scheduler: that of what was turned away.
 fn turned_by(took: Took) -> u64
@@ -33,13 +34,13 @@ fn entered_by(op: Op, took: Took) -> u64
 
 impl Scheduler {
     /// Takes the lane's oldest reply, where there is one that may be taken.
-    fn take_one(&mut self, lane: usize, log: &mut Vec<Step>) -> bool
+    fn take_one<L: StepLog>(&mut self, lane: usize, log: &mut L) -> bool
         requires lane { lane < lanes_of self.old.core.shape }
-        requires room { vec_len log.old + kept_in self.old.core + 2 ≤ vec_capacity log.old }
-        ensures takes { Takes (only lane (if result then 1 else 0)) (if result then 1 else 0) (sight_of self.old) log.old.items (sight_of self.new) log.new.items }
+        requires room { kept_in self.old.core + 2 ≤ L.room log.old }
+        ensures takes { Takes (only lane (if result then 1 else 0)) (if result then 1 else 0) (sight_of self.old) (L.steps log.old) (sight_of self.new) (L.steps log.new) }
         ensures ends { (n q : ℕ) → IsFalse result → MayEnd q self.new.core lane n (seen_at (sight_of self.new) lane) }
         ensures others { (l : ℕ) → l ≢ lane → seen_at (sight_of self.new) l ≡ seen_at (sight_of self.old) l }
-        ensures room { (vec_capacity log.new ≡ vec_capacity log.old) × (vec_len log.new + kept_in self.new.core ≤ vec_len log.old + kept_in self.old.core + 2) }
+        ensures room { L.room log.old + kept_in self.new.core ≤ L.room log.new + kept_in self.old.core + 2 }
     {
         let near = &mut self.lanes[lane];
         let Some(reply) = near.peek() else {
@@ -69,11 +70,11 @@ impl Scheduler {
 
     /// Takes replies of the lane, no more than the sweep quantum, until none is seen or one may not be taken. The ring gives by one
     /// store what is there at the begin.
-    fn take_lane(&mut self, lane: usize, log: &mut Vec<Step>) -> usize
+    fn take_lane<L: StepLog>(&mut self, lane: usize, log: &mut L) -> usize
         requires lane { lane < lanes_of self.old.core.shape }
-        requires room { vec_len log.old + kept_in self.old.core + 2 * self.old.core.shape.sweep ≤ vec_capacity log.old }
-        ensures takes { Takes (only lane self.old.core.shape.sweep) result (sight_of self.old) log.old.items (sight_of self.new) log.new.items }
-        ensures room { (vec_capacity log.new ≡ vec_capacity log.old) × (vec_len log.new + kept_in self.new.core ≤ vec_len log.old + kept_in self.old.core + 2 * self.old.core.shape.sweep) }
+        requires room { kept_in self.old.core + 2 * self.old.core.shape.sweep ≤ L.room log.old }
+        ensures takes { Takes (only lane self.old.core.shape.sweep) result (sight_of self.old) (L.steps log.old) (sight_of self.new) (L.steps log.new) }
+        ensures room { L.room log.old + kept_in self.new.core ≤ L.room log.new + kept_in self.old.core + 2 * self.old.core.shape.sweep }
         ensures most { result ≤ self.old.core.shape.sweep }
         ensures ends { MayEnd self.old.core.shape.sweep self.new.core lane result (seen_at (sight_of self.new) lane) }
         ensures others { (l : ℕ) → l ≢ lane → seen_at (sight_of self.new) l ≡ seen_at (sight_of self.old) l }
@@ -83,11 +84,11 @@ impl Scheduler {
         self.take_each(lane, log)
     }
 
-    fn take_each(&mut self, lane: usize, log: &mut Vec<Step>) -> usize
+    fn take_each<L: StepLog>(&mut self, lane: usize, log: &mut L) -> usize
         requires lane { lane < lanes_of self.old.core.shape }
-        requires room { vec_len log.old + kept_in self.old.core + 2 * self.old.core.shape.sweep ≤ vec_capacity log.old }
-        ensures takes { Takes (only lane self.old.core.shape.sweep) result (sight_of self.old) log.old.items (sight_of self.new) log.new.items }
-        ensures room { (vec_capacity log.new ≡ vec_capacity log.old) × (vec_len log.new + kept_in self.new.core ≤ vec_len log.old + kept_in self.old.core + 2 * self.old.core.shape.sweep) }
+        requires room { kept_in self.old.core + 2 * self.old.core.shape.sweep ≤ L.room log.old }
+        ensures takes { Takes (only lane self.old.core.shape.sweep) result (sight_of self.old) (L.steps log.old) (sight_of self.new) (L.steps log.new) }
+        ensures room { L.room log.old + kept_in self.new.core ≤ L.room log.new + kept_in self.old.core + 2 * self.old.core.shape.sweep }
         ensures most { result ≤ self.old.core.shape.sweep }
         ensures ends { MayEnd self.old.core.shape.sweep self.new.core lane result (seen_at (sight_of self.new) lane) }
         ensures others { (l : ℕ) → l ≢ lane → seen_at (sight_of self.new) l ≡ seen_at (sight_of self.old) l }
@@ -102,10 +103,10 @@ impl Scheduler {
     }
 
     /// Takes replies of each lane, by rising lane.
-    pub(crate) fn take_all(&mut self, log: &mut Vec<Step>) -> usize
-        requires room { vec_len log.old + kept_in self.old.core + 2 * self.old.core.shape.sweep * lanes_of self.old.core.shape ≤ vec_capacity log.old }
-        ensures takes { TakesAll self.old.core.shape.sweep result (sight_of self.old) log.old.items (sight_of self.new) log.new.items }
-        ensures room { (vec_capacity log.new ≡ vec_capacity log.old) × (vec_len log.new + kept_in self.new.core ≤ vec_len log.old + kept_in self.old.core + 2 * self.old.core.shape.sweep * lanes_of self.old.core.shape) }
+    pub(crate) fn take_all<L: StepLog>(&mut self, log: &mut L) -> usize
+        requires room { kept_in self.old.core + 2 * self.old.core.shape.sweep * lanes_of self.old.core.shape ≤ L.room log.old }
+        ensures takes { TakesAll self.old.core.shape.sweep result (sight_of self.old) (L.steps log.old) (sight_of self.new) (L.steps log.new) }
+        ensures room { L.room log.old + kept_in self.new.core ≤ L.room log.new + kept_in self.old.core + 2 * self.old.core.shape.sweep * lanes_of self.old.core.shape }
     {
         let count = self.core.shape().lanes();
         let _ = self.core.shape().sweep();

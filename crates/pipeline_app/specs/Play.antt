@@ -1,11 +1,14 @@
 -- What the program writes: the run of a script.
 use Rattle.std.specs.Prelude.{ℕ, ◌≡◌, List, Option, Ok, Err, IfSome}
+use Rattle.std.specs.declared.alloc.Global.{Global}
+use Rattle.std.specs.declared.vec.Vec.{Vec}
 use Rattle.std.specs.Io.KnownBytes.{Appends, Keeps}
 use Rattle.event_answers.specs.declared.report.Report.{Report}
 use Rattle.event_recorder.specs.Control.{control_of, was_shut}
 use Rattle.event_recorder.specs.Device.{Device, control_site}
-use Rattle.event_recorder.specs.Stop.{IsReport}
+use Rattle.event_recorder.specs.Stop.{IsReport, steps_in}
 use Rattle.event_recorder.specs.declared.control.Control.{Control}
+use Rattle.evt_types.specs.declared.step.Step.{Step}
 use Rattle.evt_types.specs.Plan.{Plan}
 use Rattle.play_command.specs.Output.{AppendsPrefix}
 use Rattle.play_command.specs.declared.fault.AppFault.{AppFault}
@@ -24,12 +27,12 @@ pub record IsRun (p : Plan) (commands : List Line) (text : List ℕ) : Type 0 wh
   pub end : Scene
   pub control : Control
   pub answers : List Answer
-  pub report : Report
+  pub report : Report (Vec Step Global)
   pub fresh : IsFresh p device start
   pub played : ArePlayed start commands answers end
   pub control_is : control_of control ≡ control_site device
   pub control_shut : was_shut control ≡ end.shut
-  pub reported : IsReport end.recorder control end.ports report
+  pub reported : IsReport steps_in end.recorder control end.ports report
   pub written : text ≡ text_of p.queues p.limit answers report
 
 -- A run's text, of the document where the reader tells its bytes.

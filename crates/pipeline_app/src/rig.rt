@@ -2,7 +2,7 @@
 
 ghost use Rattle.std.specs.Prelude.{ℕ, ◌<◌, IfErr, IfOk, List, Option, length};
 ghost use Rattle.event_recorder.specs.Ports.{IsThere};
-ghost use Rattle.event_recorder.specs.Stop.{AreOf, IsReport};
+ghost use Rattle.event_recorder.specs.Stop.{AreOf, IsReport, steps_in};
 ghost use Rattle.pipeline_app.specs.Play.{IsEarlyFault};
 ghost use Rattle.pipeline_app.specs.Rig.{IsNew};
 
@@ -40,7 +40,7 @@ impl Rig {
     pub fn stop(self, alloc: Global) -> Result<Report, AllocError>
         requires whole { AreOf self.recorder self.control self.ports.items }
         requires there { (n : ℕ) → n < length self.recorder.sight.core.shape.ports → IsThere self.ports.items n }
-        ensures { IfOk result (IsReport self.recorder self.control self.ports.items) }
+        ensures { IfOk result (IsReport steps_in self.recorder self.control self.ports.items) }
     {
         let Rig {
             recorder,

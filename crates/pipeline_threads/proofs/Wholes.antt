@@ -1,7 +1,7 @@
 -- A whole run: from the threads that were joined to the log that the stop hands out.
-use Rattle.std.proofs.Common.{◌≡◌, ℕ, ◌+◌, ◌<◌, List, length, sym, ap, subst, ◌∙◌}
+use Rattle.std.proofs.Common.{◌≡◌, ℕ, ◌+◌, ◌<◌, List, Vec, Global, length, sym, ap, subst, ◌∙◌}
 use Rattle.event_answers.specs.declared.report.Report.{Report}
-use Rattle.event_recorder.specs.Stop.{AreOf, AreStints, IsReport}
+use Rattle.event_recorder.specs.Stop.{AreOf, AreStints, IsReport, steps_in}
 use Rattle.evt_types.specs.Plan.{Plan, flow_lanes}
 use Rattle.evt_types.specs.declared.step.Step.{Step}
 use Rattle.pipeline_laws.proofs.Promised.{promised_first, promised_worked}
@@ -24,7 +24,7 @@ module _ (p : Plan) (actions : List Action) (trace : List Entry) (before after :
   stop_parts = engine_parts p after ran
 
   -- and the log that this hands out is a run's
-  pub run_log : (report : Report) → IsReport after.recorder after.control after.ports.items report → IsRunLog p actions trace report.log.items
+  pub run_log : (report : Report (Vec Step Global)) → IsReport steps_in after.recorder after.control after.ports.items report → IsRunLog p actions trace report.log.items
   run_log report h =
       let T : List Step = after.recorder.log in
       let plan : after.recorder.sight.core.shape ≡ p = engine_plan p after ran in

@@ -1,5 +1,7 @@
 -- The text of a played script, byte by byte: the answers, the log and the report.
 use Rattle.std.specs.Prelude.{ℕ, ◌+◌, ◌^◌, ◌-◌, ◌<◌, false, List, [], ◌∷◌, ◌++◌, length, codes, flat_map, slice_index, slice_set, Result, Ok, Err}
+use Rattle.std.specs.declared.alloc.Global.{Global}
+use Rattle.std.specs.declared.vec.Vec.{Vec}
 use Rattle.std.specs.Fmt.{decimal, digits, padded_integral, format_spec}
 use Rattle.evt_types.specs.Plan.{queue_in}
 use Rattle.transcripts.specs.Transcript.{accepted}
@@ -147,21 +149,21 @@ abbrev pub pocket_text : ℕ → List ℕ
 pocket_text n = codes " " ++ decimal n
 
 -- where the credits are, and how many there are in all
-abbrev pub credits_text : ℕ → Report → List ℕ
+abbrev pub credits_text : ℕ → Report (Vec Step Global) → List ℕ
 credits_text limit r =
     codes "free " ++ decimal r.free ++ codes "\npockets" ++ flat_map pocket_text r.pockets.items ++ codes "\nown " ++ decimal r.own ++ codes "\nlimit " ++ decimal limit ++ codes "\n"
 
-abbrev pub lists_text : List QueueDraft → Report → List ℕ
+abbrev pub lists_text : List QueueDraft → Report (Vec Step Global) → List ℕ
 lists_text qs r =
     flat_map waiting_line r.waiting.items ++ flat_map (kept_line qs) r.kept.items ++ flat_map undelivered_line r.undelivered.items ++ flat_map held_line r.held.items ++ flat_map (untaken_line qs) r.untaken.items
 
-abbrev pub report_text : List QueueDraft → ℕ → Report → List ℕ
+abbrev pub report_text : List QueueDraft → ℕ → Report (Vec Step Global) → List ℕ
 report_text qs limit r = codes "report\n" ++ lists_text qs r ++ credits_text limit r
 
 -- ---- the whole
 
 -- what a device with these queues and this limit answered, did and has left
-unfoldable pub text_of : List QueueDraft → ℕ → List Answer → Report → List ℕ
+unfoldable pub text_of : List QueueDraft → ℕ → List Answer → Report (Vec Step Global) → List ℕ
 text_of qs limit answers report = flat_map (answer_text qs) answers ++ log_text qs report.log.items ++ report_text qs limit report
 
 -- a step that accepts names one of so many queues

@@ -1,5 +1,5 @@
 -- The answered places at a queue's front leave one after the other.
-use Rattle.std.proofs.Common.{◌≡◌, ℕ, ◌+◌, ◌<◌, ◌≤◌, Bool, true, false, not, ◌&&◌, ◌||◌, ◌==◌, List, [], ◌∷◌, ◌++◌, length, drop, set, get_or, flat_map, Some, None, Vec, Global, vec_len, vec_capacity, ◌⊎◌, inl, inr, refl, sym, ap, ◌∙◌, subst, arith, append_assoc, append-nil}
+use Rattle.std.proofs.Common.{◌≡◌, ℕ, ◌+◌, ◌<◌, ◌≤◌, Bool, true, false, not, ◌&&◌, ◌||◌, ◌==◌, List, [], ◌∷◌, ◌++◌, length, drop, set, get_or, flat_map, Some, None, ◌⊎◌, inl, inr, refl, sym, ap, ◌∙◌, subst, arith, append_assoc, append-nil}
 use Rattle.std.specs.List.{list_any}
 use Rattle.std.proofs.lemmas.Bool.{and_right, cases_Bool, cond-true, cond-false}
 use Rattle.std.proofs.lemmas.List.{length-append, length-map, length-set, get_or-set_same, set-get_or}
@@ -198,8 +198,8 @@ way-turn q mine start first v log passed x way h e =
 -- ---- one place leaves, and what it was passed on as is accepted
 
 -- there is room for it in the log
-pub room_for : (v : View) (q long most : ℕ) (x : Place) → q < length v.places → oldest_answered (places_at v q) ≡ Some x → long + length (flush_steps v q) ≤ most → long + length x.forwards ≤ most
-room_for v q long most x h oldest room =
+pub room_for : (v : View) (q most : ℕ) (x : Place) → q < length v.places → oldest_answered (places_at v q) ≡ Some x → length (flush_steps v q) ≤ most → length x.forwards ≤ most
+room_for v q most x h oldest room =
     let turn : length (flush_steps v q) ≡ length (accepts_from q x.number x.forwards) + length (flush_steps (after_leaving_of v q x) q) =
     ap length (flush_steps-turn v q x h oldest) ∙ length-append (accepts_from q x.number x.forwards) (flush_steps (after_leaving_of v q x) q) in
     let same : length (accepts_from q x.number x.forwards) ≡ length x.forwards = length-map x.forwards (λ (e : Event). Accept e.queue e (Of q x.number)) in
@@ -246,38 +246,37 @@ fewer_places q mine v w log new passed h turn =
 
 -- ---- one turn of the loop
 
--- the same, with what else stays on the way
-pub record IsSettling (q mine : ℕ) (start : View) (first : Vec Step Global) (v : View) (log : Vec Step Global) (passed : Bool) : Type 0 where
-  pub way : IsOnTheWay q mine start first.items v log.items passed
+-- the same, with what else stays on the way: what a log has room for and what it has never shrink together
+pub record IsSettling (q mine : ℕ) (start : View) (first : List Step) (most : ℕ) (v : View) (log : List Step) (free : ℕ) (passed : Bool) : Type 0 where
+  pub way : IsOnTheWay q mine start first v log passed
   pub shape : v.shape ≡ start.shape
   pub there : q < length v.places
-  pub room : vec_capacity log ≡ vec_capacity first
+  pub room : most + length first ≤ free + length log
 
-pub settles_turn : (q mine : ℕ) (start : View) (first : Vec Step Global) (v w : View) (log new : Vec Step Global) (passed now : Bool) → IsSettling q mine start first v log passed
-    → IsPassedOn q mine v log.items w new.items now → vec_capacity new ≡ vec_capacity log → IsSettling q mine start first w new (passed || now)
-settles_turn q mine start first v w log new passed now s turn room =
+pub settles_turn : (q mine : ℕ) (start : View) (first : List Step) (most : ℕ) (v w : View) (log new : List Step) (free rest : ℕ) (passed now : Bool) → IsSettling q mine start first most v log free passed
+    → IsPassedOn q mine v log w new now → free + length log ≤ rest + length new → IsSettling q mine start first most w new rest (passed || now)
+settles_turn q mine start first most v w log new free rest passed now s turn room =
     let x : Place = turn.place in
     let ss : List Step = accepts_from q x.number x.forwards in
+    let before = s.room in
     record {
       way =
-          subst (λ b. IsOnTheWay q mine start first.items w new.items (passed || b)) (sym turn.passes)
-          (subst (λ ts. IsOnTheWay q mine start first.items w ts (passed || list_any (is_accept_of q mine) ss)) (sym turn.steps)
-          (subst (λ u. IsOnTheWay q mine start first.items u (log.items ++ ss) (passed || list_any (is_accept_of q mine) ss)) (sym turn.view)
-          (way-turn q mine start first.items v log.items passed x s.way s.there turn.oldest)));
+          subst (λ b. IsOnTheWay q mine start first w new (passed || b)) (sym turn.passes)
+          (subst (λ ts. IsOnTheWay q mine start first w ts (passed || list_any (is_accept_of q mine) ss)) (sym turn.steps)
+          (subst (λ u. IsOnTheWay q mine start first u (log ++ ss) (passed || list_any (is_accept_of q mine) ss)) (sym turn.view)
+          (way-turn q mine start first v log passed x s.way s.there turn.oldest)));
       shape = ap (λ (u : View). u.shape) turn.view ∙ (shape_after (with_places_at v q (drop 1 (places_at v q))) ss ∙ s.shape);
       there = subst (λ (u : View). q < length u.places) (sym turn.view) (subst (λ n. q < n) (sym (places_count v q x)) s.there);
-      room = room ∙ s.room;
+      room = omega arith;
     }
 
 -- there is room for what is still to come
-pub room_left : (q mine : ℕ) (start : View) (first : Vec Step Global) (v : View) (log : Vec Step Global) (passed : Bool) → IsSettling q mine start first v log passed
-    → vec_len first + length (flush_steps start q) ≤ vec_capacity first → vec_len log + length (flush_steps v q) ≤ vec_capacity log
-room_left q mine start first v log passed s room =
-    let all : length log.items + length (flush_steps v q) ≡ length first.items + length (flush_steps start q) =
-    sym (length-append log.items (flush_steps v q)) ∙ (ap length s.way.steps ∙ length-append first.items (flush_steps start q)) in
-    let long = log.ok.0 in
-    let before = first.ok.0 in
-    let same = s.room in
+pub room_left : (q mine : ℕ) (start : View) (first : List Step) (most : ℕ) (v : View) (log : List Step) (free : ℕ) (passed : Bool) → IsSettling q mine start first most v log free passed
+    → length (flush_steps start q) ≤ most → length (flush_steps v q) ≤ free
+room_left q mine start first most v log free passed s room =
+    let all : length log + length (flush_steps v q) ≡ length first + length (flush_steps start q) =
+    sym (length-append log (flush_steps v q)) ∙ (ap length s.way.steps ∙ length-append first (flush_steps start q)) in
+    let before = s.room in
     omega arith
 
 -- once no place leaves any more, all is as it is to be

@@ -1,6 +1,6 @@
 //! Events are accepted, added and answered.
 
-ghost use Rattle.std.specs.Prelude.{◌≡◌, ◌+◌, ◌<◌, ◌≤◌, ◌^◌, true, false, [], ◌∷◌, ◌++◌, length, Some, All, vec_len, vec_capacity};
+ghost use Rattle.std.specs.Prelude.{◌≡◌, ◌+◌, ◌<◌, ◌≤◌, ◌^◌, true, false, [], ◌∷◌, ◌++◌, length, Some, All};
 ghost use Rattle.evt_types.specs.Plan.{bound_of, lanes_of, queue_of, is_ordered};
 ghost use Rattle.transcripts.specs.Standing.{inside_of, entries_of, may_add, may_answer, oldest_at, events_of, accepts_from, after, after_accept, after_more};
 ghost use Rattle.evt_types.specs.declared.event.Event.{Event as EventValue};
@@ -11,6 +11,7 @@ ghost use Rattle.sched_core.specs.Answered.{after_answer};
 use crate::state::Core;
 use evt_types::{Event, Outcome, Source, Step};
 use order_parts::Entry;
+use step_log::StepLog;
 
 /// What an answered event is forwarded as.
 fn forward_of(outcome: Outcome) -> Option<Event>
@@ -25,21 +26,21 @@ fn forward_of(outcome: Outcome) -> Option<Event>
 impl Core {
     /// The event waits in its queue, under the next number.
     #[inline(always)]
-    pub(crate) fn accept(&mut self, event: Event, source: Source, log: &mut Vec<Step>)
+    pub(crate) fn accept<L: StepLog>(&mut self, event: Event, source: Source, log: &mut L)
         requires queue { event.queue < length self.old.shape.queues }
         requires inside { inside_of self.old < bound_of self.old.shape }
         requires entries { entries_of self.old < 2 ^ 63 }
-        requires room { vec_len log.old < vec_capacity log.old }
+        requires room { 0 < L.room log.old }
         ensures view { self.new ≡ after_accept self.old event.queue event }
         ensures counts { (inside_of self.new ≡ inside_of self.old + 1) × (entries_of self.new ≡ entries_of self.old + 1) }
-        ensures logged { log.new.items ≡ log.old.items ++ Step.Accept event.queue event source ∷ [] }
-        ensures room { vec_capacity log.new ≡ vec_capacity log.old }
+        ensures logged { L.steps log.new ≡ L.steps log.old ++ Step.Accept event.queue event source ∷ [] }
+        ensures room { L.room log.old ≤ L.room log.new + 1 }
     {
         let queue = usize::from(event.queue);
         self.queues.accept(queue, event);
         self.inside += 1;
         self.entries += 1;
-        log.push_reserved(Step::Accept {
+        log.push_step(Step::Accept {
             queue,
             event,
             source,
@@ -47,20 +48,20 @@ impl Core {
     }
 
     /// The events wait in their queues one after the other: what the queue's event of this number was passed on as.
-    pub(crate) fn accept_all(
+    pub(crate) fn accept_all<L: StepLog>(
         &mut self,
         queue: usize,
         number: u64,
         events: &[Event],
-        log: &mut Vec<Step>,
+        log: &mut L,
     )
         requires named { All (λ (e : EventValue). e.queue < length self.old.shape.queues) events.now }
         requires inside { inside_of self.old + length events.now ≤ bound_of self.old.shape }
         requires entries { entries_of self.old + length events.now ≤ 2 ^ 63 }
-        requires room { vec_len log.old + length events.now ≤ vec_capacity log.old }
+        requires room { length events.now ≤ L.room log.old }
         ensures view { self.new ≡ after self.old (accepts_from queue number events.now) }
-        ensures logged { log.new.items ≡ log.old.items ++ accepts_from queue number events.now }
-        ensures room { vec_capacity log.new ≡ vec_capacity log.old }
+        ensures logged { L.steps log.new ≡ L.steps log.old ++ accepts_from queue number events.now }
+        ensures room { L.room log.old ≤ L.room log.new + length events.now }
     {
         for event in events {
             self.accept(*event, Source::Of { queue, number }, log);
@@ -68,17 +69,17 @@ impl Core {
     }
 
     /// The event is added beside the lane's oldest unanswered one. An ordered queue's event keeps it in its place.
-    pub(crate) fn add(&mut self, lane: usize, event: Event, log: &mut Vec<Step>) -> Entry
+    pub(crate) fn add<L: StepLog>(&mut self, lane: usize, event: Event, log: &mut L) -> Entry
         requires lane { lane < lanes_of self.old.shape }
         requires may { may_add self.old lane event.queue ≡ true }
-        requires room { vec_len log.old < vec_capacity log.old }
+        requires room { 0 < L.room log.old }
         ensures oldest { oldest_at self.old lane ≡ Some (held_of result) }
         ensures queue { result.queue < length self.old.shape.queues }
         ensures view { self.new ≡ after_more self.old lane event }
-        ensures logged { log.new.items ≡ log.old.items ++ Step.More lane event ∷ [] }
+        ensures logged { L.steps log.new ≡ L.steps log.old ++ Step.More lane event ∷ [] }
         ensures inside { is_ordered (queue_of self.old.shape result.queue).kind ≡ false → inside_of self.new < bound_of self.old.shape }
         ensures entries { is_ordered (queue_of self.old.shape result.queue).kind ≡ false → entries_of self.new < 2 ^ 63 }
-        ensures room { vec_capacity log.new ≡ vec_capacity log.old }
+        ensures room { L.room log.old ≤ L.room log.new + 1 }
     {
         let entry = self.lanes.oldest(lane);
         self.extras[lane] += 1;
@@ -87,25 +88,25 @@ impl Core {
             self.inside += 1;
             self.entries += 1;
         }
-        log.push_reserved(Step::More { lane, event });
+        log.push_step(Step::More { lane, event });
         entry
     }
 
     /// The lane's oldest unanswered event is answered so. What an ordered queue's event is forwarded as is kept at first.
     #[inline(always)]
-    pub(crate) fn answer(&mut self, lane: usize, outcome: Outcome, log: &mut Vec<Step>) -> Entry
+    pub(crate) fn answer<L: StepLog>(&mut self, lane: usize, outcome: Outcome, log: &mut L) -> Entry
         requires lane { lane < lanes_of self.old.shape }
         requires some { may_answer self.old lane ≡ true }
         requires outcome { All (λ (e : EventValue). e.queue < length self.old.shape.queues) (events_of outcome) }
         requires entries { entries_of self.old + length (events_of outcome) ≤ 2 ^ 63 }
-        requires room { vec_len log.old < vec_capacity log.old }
+        requires room { 0 < L.room log.old }
         ensures oldest { oldest_at self.old lane ≡ Some (held_of result) }
         ensures queue { result.queue < length self.old.shape.queues }
         ensures places { result.queue < length self.old.places }
         ensures view { self.new ≡ after_answer self.old lane outcome }
-        ensures logged { log.new.items ≡ log.old.items ++ Step.Done lane outcome ∷ [] }
+        ensures logged { L.steps log.new ≡ L.steps log.old ++ Step.Done lane outcome ∷ [] }
         ensures fewer { is_ordered (queue_of self.old.shape result.queue).kind ≡ false → inside_of self.new < bound_of self.old.shape }
-        ensures room { vec_capacity log.new ≡ vec_capacity log.old }
+        ensures room { L.room log.old ≤ L.room log.new + 1 }
     {
         let entry = self.lanes.pop(lane);
         self.extras[lane] = 0;
@@ -118,7 +119,7 @@ impl Core {
         } else {
             self.inside -= 1;
         }
-        log.push_reserved(Step::Done { lane, outcome });
+        log.push_step(Step::Done { lane, outcome });
         entry
     }
 }

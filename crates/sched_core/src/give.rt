@@ -1,6 +1,6 @@
 //! Events are given to the lanes.
 
-ghost use Rattle.std.specs.Prelude.{◌≡◌, ◌<◌, List, [], ◌∷◌, ◌++◌, Some, vec_len, vec_capacity};
+ghost use Rattle.std.specs.Prelude.{◌≡◌, ◌≤◌, ◌+◌, ◌<◌, List, [], ◌∷◌, ◌++◌, Some, length};
 ghost use Rattle.transcripts.specs.Choice.{IsOffer};
 ghost use Rattle.evt_types.specs.Plan.{lanes_of};
 ghost use Rattle.transcripts.specs.Standing.{Stands, after};
@@ -12,18 +12,19 @@ use crate::offer::Offer;
 use crate::state::Core;
 use evt_types::{Delivery, Step};
 use order_parts::Entry;
+use step_log::StepLog;
 
 impl Core {
     /// Gives what was offered, and appends that step to the log.
-    pub fn give(&mut self, offer: Offer, log: &mut Vec<Step>)
+    pub fn give<L: StepLog>(&mut self, offer: Offer, log: &mut L)
         requires offer { IsOffer self.old offer.lane offer.delivery.queue (numbered_in offer.delivery) }
-        requires room { vec_len log.old < vec_capacity log.old }
+        requires room { 0 < L.room log.old }
         ensures view { self.new ≡ after self.old (Step.Give offer.lane offer.delivery.queue offer.delivery.number ∷ []) }
-        ensures logged { log.new.items ≡ log.old.items ++ Step.Give offer.lane offer.delivery.queue offer.delivery.number ∷ [] }
+        ensures logged { L.steps log.new ≡ L.steps log.old ++ Step.Give offer.lane offer.delivery.queue offer.delivery.number ∷ [] }
         ensures stands { (T : List StepValue) → Stands T self.old → Stands (T ++ Step.Give offer.lane offer.delivery.queue offer.delivery.number ∷ []) self.new }
         ensures event { (T : List StepValue) → Stands T self.old → event_at T offer.delivery.queue offer.delivery.number ≡ Some offer.delivery.event }
         ensures shape { self.new.shape ≡ self.old.shape }
-        ensures room { vec_capacity log.new ≡ vec_capacity log.old }
+        ensures room { L.room log.old ≤ L.room log.new + 1 }
     {
         let Offer {
             lane,
@@ -47,7 +48,7 @@ impl Core {
                 place,
             },
         );
-        log.push_reserved(Step::Give {
+        log.push_step(Step::Give {
             lane,
             queue,
             number,
@@ -55,15 +56,15 @@ impl Core {
     }
 
     /// Appends to the log that the lane's ring had no room for a delivery.
-    pub fn bounce(&self, lane: usize, log: &mut Vec<Step>)
+    pub fn bounce<L: StepLog>(&self, lane: usize, log: &mut L)
         requires lane { lane < lanes_of self.now.shape }
-        requires room { vec_len log.old < vec_capacity log.old }
-        ensures logged { log.new.items ≡ log.old.items ++ Step.Bounced lane ∷ [] }
+        requires room { 0 < L.room log.old }
+        ensures logged { L.steps log.new ≡ L.steps log.old ++ Step.Bounced lane ∷ [] }
         ensures stands { (T : List StepValue) → Stands T self.now → Stands (T ++ Step.Bounced lane ∷ []) self.now }
-        ensures room { vec_capacity log.new ≡ vec_capacity log.old }
+        ensures room { L.room log.old ≤ L.room log.new + 1 }
     {
         // The use of a field makes known what holds of each core.
         let _ = &self.shape;
-        log.push_reserved(Step::Bounced { lane });
+        log.push_step(Step::Bounced { lane });
     }
 }

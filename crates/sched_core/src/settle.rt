@@ -1,6 +1,6 @@
 //! What an ordered queue kept leaves it.
 
-ghost use Rattle.std.specs.Prelude.{◌≡◌, ◌+◌, ◌<◌, ◌≤◌, ◌^◌, ◌++◌, length, None, Some, All, IfNone, IfSome, option_map, option_to_list, vec_len, vec_capacity};
+ghost use Rattle.std.specs.Prelude.{◌≡◌, ◌+◌, ◌<◌, ◌≤◌, ◌^◌, ◌++◌, length, None, Some, All, IfNone, IfSome, option_map, option_to_list};
 ghost use Rattle.std.specs.List.{list_any};
 ghost use Rattle.evt_types.specs.Plan.{bound_of};
 ghost use Rattle.transcripts.specs.Standing.{inside_of, entries_of, places_at};
@@ -13,6 +13,7 @@ ghost use Rattle.sched_core.specs.Taken.{is_accept_of};
 use crate::state::Core;
 use arrayvec::ArrayVec;
 use evt_types::{Event, MAX_FORWARDS, Source, Step};
+use step_log::StepLog;
 
 /// How many events these are.
 fn count_of(forward: Option<Event>) -> usize
@@ -62,13 +63,13 @@ impl Core {
 
     /// The oldest place leaves, where it is answered and nothing was added to it, and what it was forwarded as is accepted: whether
     /// that is something, and of the number.
-    fn pass_plain(&mut self, queue: usize, answered: u64, log: &mut Vec<Step>) -> Option<bool>
+    fn pass_plain<L: StepLog>(&mut self, queue: usize, answered: u64, log: &mut L) -> Option<bool>
         requires queue { queue < length self.old.shape.queues }
-        requires room { vec_len log.old + length (flush_steps self.old queue) ≤ vec_capacity log.old }
-        ensures passed { IfSome result (IsPassedOn queue answered self.old log.old.items self.new log.new.items) }
+        requires room { length (flush_steps self.old queue) ≤ L.room log.old }
+        ensures passed { IfSome result (IsPassedOn queue answered self.old (L.steps log.old) self.new (L.steps log.new)) }
         ensures same { IfNone result (self.new ≡ self.old) }
         ensures logged { IfNone result (log.new ≡ log.old) }
-        ensures room { vec_capacity log.new ≡ vec_capacity log.old }
+        ensures room { L.room log.old + length (L.steps log.old) ≤ L.room log.new + length (L.steps log.new) }
     {
         // The use of a field makes known what holds of each core.
         let _ = &self.shape;
@@ -83,14 +84,14 @@ impl Core {
     /// The oldest place leaves, where it is answered, and all that it was passed on as is accepted: whether that is something, and of
     /// the number.
     #[cold]
-    fn pass_all(&mut self, queue: usize, answered: u64, log: &mut Vec<Step>) -> Option<bool>
+    fn pass_all<L: StepLog>(&mut self, queue: usize, answered: u64, log: &mut L) -> Option<bool>
         requires queue { queue < length self.old.shape.queues }
-        requires room { vec_len log.old + length (flush_steps self.old queue) ≤ vec_capacity log.old }
-        ensures passed { IfSome result (IsPassedOn queue answered self.old log.old.items self.new log.new.items) }
+        requires room { length (flush_steps self.old queue) ≤ L.room log.old }
+        ensures passed { IfSome result (IsPassedOn queue answered self.old (L.steps log.old) self.new (L.steps log.new)) }
         ensures none { IfNone result (oldest_answered (places_at self.old queue) ≡ None) }
         ensures same { IfNone result (self.new ≡ self.old) }
         ensures logged { IfNone result (log.new ≡ log.old) }
-        ensures room { vec_capacity log.new ≡ vec_capacity log.old }
+        ensures room { L.room log.old + length (L.steps log.old) ≤ L.room log.new + length (L.steps log.new) }
     {
         // The use of a field makes known what holds of each core.
         let _ = &self.shape;
@@ -101,14 +102,14 @@ impl Core {
 
     /// The oldest place leaves, where it is answered, and what it was passed on as is accepted: whether that is something, and of the
     /// number. Mostly nothing was added to it.
-    fn pass_on(&mut self, queue: usize, answered: u64, log: &mut Vec<Step>) -> Option<bool>
+    fn pass_on<L: StepLog>(&mut self, queue: usize, answered: u64, log: &mut L) -> Option<bool>
         requires queue { queue < length self.old.shape.queues }
-        requires room { vec_len log.old + length (flush_steps self.old queue) ≤ vec_capacity log.old }
-        ensures passed { IfSome result (IsPassedOn queue answered self.old log.old.items self.new log.new.items) }
+        requires room { length (flush_steps self.old queue) ≤ L.room log.old }
+        ensures passed { IfSome result (IsPassedOn queue answered self.old (L.steps log.old) self.new (L.steps log.new)) }
         ensures none { IfNone result (oldest_answered (places_at self.old queue) ≡ None) }
         ensures same { IfNone result (self.new ≡ self.old) }
         ensures logged { IfNone result (log.new ≡ log.old) }
-        ensures room { vec_capacity log.new ≡ vec_capacity log.old }
+        ensures room { L.room log.old + length (L.steps log.old) ≤ L.room log.new + length (L.steps log.new) }
     {
         match self.pass_plain(queue, answered, log) {
             Some(passed) => Some(passed),
@@ -119,13 +120,13 @@ impl Core {
     /// The answered places leave from the oldest on, and what they were passed on as is accepted: whether something of the number is
     /// among it.
     #[cold]
-    pub(crate) fn settle(&mut self, queue: usize, answered: u64, log: &mut Vec<Step>) -> bool
+    pub(crate) fn settle<L: StepLog>(&mut self, queue: usize, answered: u64, log: &mut L) -> bool
         requires queue { queue < length self.old.shape.queues }
-        requires room { vec_len log.old + length (flush_steps self.old queue) ≤ vec_capacity log.old }
+        requires room { length (flush_steps self.old queue) ≤ L.room log.old }
         ensures view { self.new ≡ flushed self.old queue }
-        ensures logged { log.new.items ≡ log.old.items ++ flush_steps self.old queue }
+        ensures logged { L.steps log.new ≡ L.steps log.old ++ flush_steps self.old queue }
         ensures passed { result ≡ list_any (is_accept_of queue answered) (flush_steps self.old queue) }
-        ensures room { vec_capacity log.new ≡ vec_capacity log.old }
+        ensures room { L.room log.old ≤ L.room log.new + length (flush_steps self.old queue) }
     {
         // The use of a field makes known what holds of each core.
         let _ = &self.shape;

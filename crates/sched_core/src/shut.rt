@@ -1,27 +1,28 @@
 //! No new event is accepted any more.
 
-ghost use Rattle.std.specs.Prelude.{◌≡◌, ◌<◌, false, true, List, ◌++◌, vec_len, vec_capacity};
+ghost use Rattle.std.specs.Prelude.{◌≡◌, ◌≤◌, ◌+◌, ◌<◌, false, true, List, ◌++◌, length};
 ghost use Rattle.transcripts.specs.Standing.{Stands};
 ghost use Rattle.evt_types.specs.declared.step.Step.{Step as StepValue};
 ghost use Rattle.sched_core.specs.Shutting.{shut_steps};
 
 use crate::state::Core;
 use evt_types::Step;
+use step_log::StepLog;
 
 impl Core {
     /// Turns new events away from now on. The first time it appends that step to the log.
-    pub fn shut(&mut self, log: &mut Vec<Step>)
-        requires room { self.old.shut ≡ false → vec_len log.old < vec_capacity log.old }
+    pub fn shut<L: StepLog>(&mut self, log: &mut L)
+        requires room { self.old.shut ≡ false → 0 < L.room log.old }
         ensures view { self.new ≡ record self.old { shut = true } }
-        ensures logged { log.new.items ≡ log.old.items ++ shut_steps self.old }
+        ensures logged { L.steps log.new ≡ L.steps log.old ++ shut_steps self.old }
         ensures stands { (T : List StepValue) → Stands T self.old → Stands (T ++ shut_steps self.old) self.new }
         ensures shape { self.new.shape ≡ self.old.shape }
-        ensures room { vec_capacity log.new ≡ vec_capacity log.old }
+        ensures room { L.room log.old ≤ L.room log.new + 1 }
     {
         if self.shut {
             return;
         }
         self.shut = true;
-        log.push_reserved(Step::Shut);
+        log.push_step(Step::Shut);
     }
 }

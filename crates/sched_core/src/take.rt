@@ -1,6 +1,6 @@
 //! Replies of the lanes are taken.
 
-ghost use Rattle.std.specs.Prelude.{◌≡◌, ◌+◌, ◌<◌, ◌≤◌, nat_lt, ◌&&◌, true, List, ◌++◌, length, vec_len, vec_capacity};
+ghost use Rattle.std.specs.Prelude.{◌≡◌, ◌+◌, ◌<◌, ◌≤◌, nat_lt, ◌&&◌, true, List, ◌++◌, length};
 ghost use Rattle.evt_types.specs.Plan.{is_ordered, lanes_of, queue_of};
 ghost use Rattle.transcripts.specs.Standing.{Stands, AreStepsOf, may_be_taken, may_take, may_enter, may_answer, may_forward, may_add, answer_steps, steps_by, steps_of, after, kept_in};
 ghost use Rattle.evt_types.specs.declared.step.Step.{Step as StepValue};
@@ -9,6 +9,7 @@ ghost use Rattle.sched_core.specs.Taken.{took_by, took_of};
 use crate::state::Core;
 use evt_types::{Event, MAX_EXTRAS, Op, Outcome, Reply, Source, Step};
 use order_parts::Entry;
+use step_log::StepLog;
 
 /// What became of a reply.
 #[derive(Clone, Copy, Debug, PartialEq, Eq)]
@@ -96,16 +97,16 @@ impl Core {
 
     /// Takes the lane's reply, and appends its steps to the log.
     #[inline(always)]
-    pub fn take(&mut self, lane: usize, reply: Reply, log: &mut Vec<Step>) -> Took
+    pub fn take<L: StepLog>(&mut self, lane: usize, reply: Reply, log: &mut L) -> Took
         requires lane { lane < lanes_of self.old.shape }
         requires takes { may_take self.old lane reply.event ≡ true }
-        requires room { vec_len log.old + length (steps_of self.old lane reply.event) ≤ vec_capacity log.old }
+        requires room { length (steps_of self.old lane reply.event) ≤ L.room log.old }
         ensures view { self.new ≡ after self.old (steps_of self.old lane reply.event) }
-        ensures logged { log.new.items ≡ log.old.items ++ steps_of self.old lane reply.event }
+        ensures logged { L.steps log.new ≡ L.steps log.old ++ steps_of self.old lane reply.event }
         ensures stands { (T : List StepValue) → Stands T self.old → AreStepsOf self.old.shape T lane reply.event (steps_of self.old lane reply.event) × Stands (T ++ steps_of self.old lane reply.event) self.new }
         ensures took { result ≡ took_of self.old lane reply.event }
         ensures shape { self.new.shape ≡ self.old.shape }
-        ensures room { vec_capacity log.new ≡ vec_capacity log.old }
+        ensures room { L.room log.old ≤ L.room log.new + length (steps_of self.old lane reply.event) }
     {
         match reply.event.op {
             Op::New => self.take_new(lane, reply.event, log),
@@ -117,17 +118,17 @@ impl Core {
 
     /// A new event waits in its queue; once the core is shut it is turned away.
     #[inline(always)]
-    fn take_new(&mut self, lane: usize, event: Event, log: &mut Vec<Step>) -> Took
+    fn take_new<L: StepLog>(&mut self, lane: usize, event: Event, log: &mut L) -> Took
         requires takes { may_enter self.old event.queue ≡ true }
-        requires room { vec_len log.old + length (steps_by Op.New self.old lane event) ≤ vec_capacity log.old }
+        requires room { length (steps_by Op.New self.old lane event) ≤ L.room log.old }
         ensures view { self.new ≡ after self.old (steps_by Op.New self.old lane event) }
-        ensures logged { log.new.items ≡ log.old.items ++ steps_by Op.New self.old lane event }
+        ensures logged { L.steps log.new ≡ L.steps log.old ++ steps_by Op.New self.old lane event }
         ensures took { result ≡ took_by Op.New self.old lane event }
-        ensures room { vec_capacity log.new ≡ vec_capacity log.old }
+        ensures room { L.room log.old ≤ L.room log.new + length (steps_by Op.New self.old lane event) }
     {
         let is_turned = self.shut;
         if is_turned {
-            log.push_reserved(Step::Turned { lane, event });
+            log.push_step(Step::Turned { lane, event });
             return Took::Turned;
         }
         self.accept(event, Source::New { lane }, log);
@@ -137,15 +138,15 @@ impl Core {
     /// The lane's oldest unanswered event is done with, and what it is forwarded as waits in its queue. An ordered queue
     /// keeps it, with what was added beside it, until all that it handed out before is answered.
     #[inline(always)]
-    fn take_forward(&mut self, lane: usize, event: Event, log: &mut Vec<Step>) -> Took
+    fn take_forward<L: StepLog>(&mut self, lane: usize, event: Event, log: &mut L) -> Took
         requires op { event.op ≡ Op.Forward }
         requires lane { lane < lanes_of self.old.shape }
         requires takes { may_forward self.old lane event.queue ≡ true }
-        requires room { vec_len log.old + length (steps_by Op.Forward self.old lane event) ≤ vec_capacity log.old }
+        requires room { length (steps_by Op.Forward self.old lane event) ≤ L.room log.old }
         ensures view { self.new ≡ after self.old (steps_by Op.Forward self.old lane event) }
-        ensures logged { log.new.items ≡ log.old.items ++ steps_by Op.Forward self.old lane event }
+        ensures logged { L.steps log.new ≡ L.steps log.old ++ steps_by Op.Forward self.old lane event }
         ensures took { result ≡ took_by Op.Forward self.old lane event }
-        ensures room { vec_capacity log.new ≡ vec_capacity log.old }
+        ensures room { L.room log.old ≤ L.room log.new + length (steps_by Op.Forward self.old lane event) }
     {
         let Entry { queue, number, .. } = self.answer(lane, Outcome::Forwarded(event), log);
         if self.restores_order(queue) {
@@ -158,14 +159,14 @@ impl Core {
 
     /// The lane's oldest unanswered event is done with.
     #[inline(always)]
-    fn take_release(&mut self, lane: usize, log: &mut Vec<Step>) -> Took
+    fn take_release<L: StepLog>(&mut self, lane: usize, log: &mut L) -> Took
         requires lane { lane < lanes_of self.old.shape }
         requires takes { may_answer self.old lane ≡ true }
-        requires room { vec_len log.old + length (answer_steps self.old lane Outcome.Released) ≤ vec_capacity log.old }
+        requires room { length (answer_steps self.old lane Outcome.Released) ≤ L.room log.old }
         ensures view { self.new ≡ after self.old (answer_steps self.old lane Outcome.Released) }
-        ensures logged { log.new.items ≡ log.old.items ++ answer_steps self.old lane Outcome.Released }
+        ensures logged { L.steps log.new ≡ L.steps log.old ++ answer_steps self.old lane Outcome.Released }
         ensures took { result ≡ Took.Released }
-        ensures room { vec_capacity log.new ≡ vec_capacity log.old }
+        ensures room { L.room log.old ≤ L.room log.new + length (answer_steps self.old lane Outcome.Released) }
     {
         // The use of a field makes known what holds of each core.
         let _ = &self.shape;
@@ -179,15 +180,15 @@ impl Core {
     /// The event is added beside the lane's oldest unanswered one. An ordered queue's event keeps it in its place; beside any other
     /// it waits in its queue at once.
     #[cold]
-    fn take_more(&mut self, lane: usize, event: Event, log: &mut Vec<Step>) -> Took
+    fn take_more<L: StepLog>(&mut self, lane: usize, event: Event, log: &mut L) -> Took
         requires op { event.op ≡ Op.ForwardMore }
         requires lane { lane < lanes_of self.old.shape }
         requires takes { may_add self.old lane event.queue ≡ true }
-        requires room { vec_len log.old + length (steps_by Op.ForwardMore self.old lane event) ≤ vec_capacity log.old }
+        requires room { length (steps_by Op.ForwardMore self.old lane event) ≤ L.room log.old }
         ensures view { self.new ≡ after self.old (steps_by Op.ForwardMore self.old lane event) }
-        ensures logged { log.new.items ≡ log.old.items ++ steps_by Op.ForwardMore self.old lane event }
+        ensures logged { L.steps log.new ≡ L.steps log.old ++ steps_by Op.ForwardMore self.old lane event }
         ensures took { result ≡ took_by Op.ForwardMore self.old lane event }
-        ensures room { vec_capacity log.new ≡ vec_capacity log.old }
+        ensures room { L.room log.old ≤ L.room log.new + length (steps_by Op.ForwardMore self.old lane event) }
     {
         let Entry { queue, number, .. } = self.add(lane, event, log);
         if self.restores_order(queue) {

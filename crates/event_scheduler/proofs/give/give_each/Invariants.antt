@@ -1,4 +1,4 @@
-use Rattle.std.proofs.Common.{◌≡◌, ℕ, ◌+◌, ◌≤◌, length, vec_len, vec_capacity}
+use Rattle.std.proofs.Common.{◌≡◌, ℕ, ◌+◌, ◌*◌, ◌≤◌, length}
 use Rattle.credit_pool.specs.declared.account.Account.{Account}
 use Rattle.credit_pool.specs.declared.pool.Credits.{Credits}
 use Rattle.event_scheduler.specs.Giving.{Gives, left}
@@ -9,12 +9,12 @@ use Rattle.event_scheduler.proofs.Passing.{long}
 use Rattle.event_scheduler.proofs.give.give_each.Given as goal
 
 abbrev pub invariant-loop-offer : goal.invariant-loop-offer
-invariant-loop-offer l =
-    ((pool : Credits) (v : Account) (p n : ℕ) → Gives l.skips l.given l.bounced (sight pool l.initial.core l.initial.lanes.items v p n) l.initial.log.items (sight pool l.core l.lanes.items v p n) l.log.items)
-    × (vec_capacity l.log ≡ vec_capacity l.initial.log)
-    × (vec_len l.log + left l.initial.core.shape l.skips ≤ vec_capacity l.initial.log) × (l.given + l.bounced ≤ vec_len l.log)
+invariant-loop-offer g l =
+    ((pool : Credits) (v : Account) (p n : ℕ) → Gives l.skips l.given l.bounced (sight pool l.initial.core l.initial.lanes.items v p n) (g.L.StepLog.steps l.initial.log) (sight pool l.core l.lanes.items v p n) (g.L.StepLog.steps l.log))
+    × (left l.initial.core.shape l.skips ≤ g.L.StepLog.room l.log)
+    × (l.given + l.bounced + left l.initial.core.shape l.skips ≤ l.initial.core.shape.sweep * length l.initial.core.shape.queues + lanes_of l.initial.core.shape)
     × (length l.lanes.items ≡ lanes_of l.core.shape) × OneHidden l.lane l.lanes.items
     × (l.core.shape ≡ l.initial.core.shape) × long l.skips
 
 abbrev pub decreases-loop-offer : goal.decreases-loop-offer
-decreases-loop-offer l = left l.initial.core.shape l.skips
+decreases-loop-offer g l = left l.initial.core.shape l.skips

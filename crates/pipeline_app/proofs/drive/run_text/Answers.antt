@@ -1,7 +1,8 @@
-use Rattle.std.proofs.Common.{Result, Ok, Err, ◌≡◌, ℕ, List, All, refl, sym, ap, subst, ◌∙◌}
+use Rattle.std.proofs.Common.{Result, Ok, Err, ◌≡◌, ℕ, List, All, refl, sym, ap, subst, ◌∙◌, Vec, Global}
 use Rattle.std.specs.Prelude.{IfErr, IsErrAnd}
 use Rattle.play_command.specs.declared.fault.AppFault.{AppFault}
 use Rattle.event_answers.specs.declared.report.Report.{Report}
+use Rattle.evt_types.specs.declared.step.Step.{Step}
 use Rattle.evt_types.specs.declared.draft.QueueDraft.{QueueDraft}
 use Rattle.play_documents.specs.Command.{IsPortThere}
 use Rattle.play_text.specs.Text.{text_of}
@@ -17,7 +18,7 @@ err_same P (Ok x) e h p = tt
 err_same P (Err f) e h p = subst P (sym h) p
 
 -- the text of the same queues, limit and answers
-text_same : (qs rs : List QueueDraft) (m n : ℕ) (given said : List Answer) (report : Report) → qs ≡ rs → m ≡ n → given ≡ said → text_of qs m given report ≡ text_of rs n said report
+text_same : (qs rs : List QueueDraft) (m n : ℕ) (given said : List Answer) (report : Report (Vec Step Global)) → qs ≡ rs → m ≡ n → given ≡ said → text_of qs m given report ≡ text_of rs n said report
 text_same qs rs m n given said report e f g =
     ap (λ xs. text_of xs m given report) e ∙ (ap (λ k. text_of rs k given report) f ∙ ap (λ xs. text_of rs n xs report) g)
 

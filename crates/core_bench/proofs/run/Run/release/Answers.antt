@@ -1,4 +1,6 @@
-use Rattle.std.proofs.Common.{◌∙◌, arith}
+use Rattle.std.proofs.Common.{◌≡◌, ◌+◌, length, vec_capacity, ap, ◌∙◌, arith}
+use Rattle.std.proofs.lemmas.List.{length-append}
+use Rattle.transcripts.specs.Standing.{steps_of}
 use Rattle.core_bench.proofs.Ready.{reply_fits, oldest_lane, ready_without, ready_after}
 use Rattle.core_bench.proofs.run.Run.release.Goals as goal
 
@@ -12,5 +14,7 @@ invariant_of-self-then-not-takes c = ready_without _ _ _ c.self.invariant _ _ c.
 
 pub invariant_of-self-2 : goal.invariant_of-self-2
 invariant_of-self-2 c =
-    ready_after _ _ _ (ready_without _ _ _ c.self.invariant _ _ c.in-Some.ensures.items) _ _ c.take.ensures.shape (c.take.ensures.room ∙ c.clear.ensures.capacity)
+    let steps = steps_of c.self.inside.core c.in-Some.lane c.release.result in
+    let long : length c.take.new.log.items ≡ length c.clear.new.self.items + length steps = ap length c.take.ensures.logged ∙ length-append c.clear.new.self.items steps in
+    ready_after _ _ _ (ready_without _ _ _ c.self.invariant _ _ c.in-Some.ensures.items) _ (vec_capacity c.take.new.log) c.take.ensures.shape (omega (arith, c.take.ensures.room, long, c.clear.ensures.len, c.clear.ensures.capacity, c.take.new.log.ok.0, c.take.new.log.ok.1))
     (_, (c.take.ensures.stands _ c.self.invariant.stands.1).1)

@@ -51,7 +51,7 @@ use Rattle.event_recorder.proofs.Settings.{all_ends, ends_count, few_held, left_
 use Rattle.event_recorder.proofs.recorder.Recorder.close.Goals as goal
 
 pub join_ports-credit-requires-clause-ports : goal.join_ports-credit-requires-clause-ports
-join_ports-credit-requires-clause-ports c =
+join_ports-credit-requires-clause-ports g c =
     let of = c.requires.of in
     let d : Device = of.device in
     let sorted = c.by_number-ports.result.items in
@@ -61,12 +61,12 @@ join_ports-credit-requires-clause-ports c =
     (sym (ap (λ (x : ControlSite). x.claims) of.control_is) ∙ sym c.deref-2.ensures)
 
 pub join_ports-credit-requires-clause-room : goal.join_ports-credit-requires-clause-room
-join_ports-credit-requires-clause-room c =
+join_ports-credit-requires-clause-room g c =
     let count = sorted_count c.port_count-count.result c.args.ports.items c.by_number-ports.result.items c.by_number-ports.ensures in
     (c.requires.room.rests.0, omega (arith, count, c.port_count-count.ensures.value, c.requires.room.rests.1))
 
 pub close-requires-clause-whole : goal.close-requires-clause-whole
-close-requires-clause-whole c =
+close-requires-clause-whole g c =
     let of = c.requires.of in
     let d : Device = of.device in
     let sorted = c.by_number-ports.result.items in
@@ -84,7 +84,7 @@ close-requires-clause-whole c =
     )
 
 pub close-requires-clause-room : goal.close-requires-clause-room
-close-requires-clause-room c =
+close-requires-clause-room g c =
     let of = c.requires.of in
     let d : Device = of.device in
     let parts = parts_are d c.args.self.sight c.into_parts-pool.result _ (c.into_parts-pool.ensures.sight ∙ ap (λ (r : Recorded). r.sight) c.self.view_is) of.scheduler_is in (
@@ -98,8 +98,8 @@ close-requires-clause-room c =
       ),
     )
 
-pub close-requires-2-clause-whole : goal.close-requires-2-clause-whole
-close-requires-2-clause-whole c =
+pub close-free-requires-clause-whole : goal.close-free-requires-clause-whole
+close-free-requires-clause-whole g c =
     let of = c.requires.of in
     let d : Device = of.device in
     let sorted = c.by_number-ports.result.items in
@@ -120,21 +120,21 @@ close-requires-2-clause-whole c =
     )
 
 pub list_waiting-requires-clause-room : goal.list_waiting-requires-clause-room
-list_waiting-requires-clause-room c =
+list_waiting-requires-clause-room g c =
     let of = c.requires.of in
     let parts = parts_are of.device c.args.self.sight c.into_parts-pool.result _ (c.into_parts-pool.ensures.sight ∙ ap (λ (r : Recorded). r.sight) c.self.view_is) of.scheduler_is in
     let Fits : View → Type 0 = λ v. sum_by (λ q. length (waiting_at v q)) (queues v.shape) ≤ vec_capacity c.args.room.report.waiting in
     subst Fits (sym parts.core) c.requires.room.to_list.waiting.1
 
 pub list_kept-requires-clause-room : goal.list_kept-requires-clause-room
-list_kept-requires-clause-room c =
+list_kept-requires-clause-room g c =
     let of = c.requires.of in
     let parts = parts_are of.device c.args.self.sight c.into_parts-pool.result _ (c.into_parts-pool.ensures.sight ∙ ap (λ (r : Recorded). r.sight) c.self.view_is) of.scheduler_is in
     let Fits : View → Type 0 = λ v. MAX_FORWARDS * sum_by (λ q. length (places_at v q)) (queues v.shape) ≤ vec_capacity c.args.room.report.kept in
     subst Fits (sym parts.core) c.requires.room.to_list.kept.1
 
 pub list_ports-requires-clause-held : goal.list_ports-requires-clause-held
-list_ports-requires-clause-held c =
+list_ports-requires-clause-held g c =
     let of = c.requires.of in
     let d : Device = of.device in
     let sorted = c.by_number-ports.result.items in
@@ -147,21 +147,21 @@ list_ports-requires-clause-held c =
     (c.requires.room.to_list.held.0, omega (arith, few, count, c.port_count-count.ensures.value, c.requires.room.to_list.held.1))
 
 pub list_ports-requires-clause-pockets : goal.list_ports-requires-clause-pockets
-list_ports-requires-clause-pockets c =
+list_ports-requires-clause-pockets g c =
     let sorted = c.by_number-ports.result.items in
     let count = sorted_count c.port_count-count.result c.args.ports.items sorted c.by_number-ports.ensures in
     let left = left_count sorted c.join_ports-credit.new.into.items c.join_ports-credit.ensures.left in
     (c.requires.room.to_list.pockets.0, omega (arith, left, count, c.port_count-count.ensures.value, c.requires.room.to_list.pockets.1))
 
 pub list_ports-requires-clause-fars : goal.list_ports-requires-clause-fars
-list_ports-requires-clause-fars c =
+list_ports-requires-clause-fars g c =
     let sorted = c.by_number-ports.result.items in
     let count = sorted_count c.port_count-count.result c.args.ports.items sorted c.by_number-ports.ensures in
     let left = left_count sorted c.join_ports-credit.new.into.items c.join_ports-credit.ensures.left in
     (c.requires.room.fars.0, omega (arith, left, count, c.port_count-count.ensures.value, lanes_are c.args.self.sight.core.shape, c.requires.room.fars.1))
 
 pub add_ends-requires : goal.add_ends-requires
-add_ends-requires c =
+add_ends-requires g c =
     let of = c.requires.of in
     let d : Device = of.device in
     let sorted = c.by_number-ports.result.items in
@@ -188,7 +188,7 @@ add_ends-requires c =
     )
 
 pub list_lanes-requires-clause-lanes : goal.list_lanes-requires-clause-lanes
-list_lanes-requires-clause-lanes c =
+list_lanes-requires-clause-lanes g c =
     let of = c.requires.of in
     let d : Device = of.device in
     let sorted = c.by_number-ports.result.items in
@@ -203,7 +203,7 @@ list_lanes-requires-clause-lanes c =
     parts.lanes ∙ sym (all_ends d c.args.ports.items sorted rests ends c.add_ends.new.fars.items of.fits all by left closed are)
 
 pub list_lanes-requires-clause-small : goal.list_lanes-requires-clause-small
-list_lanes-requires-clause-small c =
+list_lanes-requires-clause-small g c =
     let of = c.requires.of in
     let d : Device = of.device in
     let sorted = c.by_number-ports.result.items in
@@ -220,7 +220,7 @@ or_first true b not is = refl
 or_first false b not is = absurd (cc)
 
 pub returns : goal.returns
-returns c =
+returns g c =
     let of = c.requires.of in
     let d : Device = of.device in
     let unsorted = c.args.ports.items in
@@ -269,8 +269,8 @@ returns c =
     λ l. ap (λ xs. map pair_of (slice_index_or xs l [])) parts.offered_is ∙ serves.offered l in
     let taken_is : (l : ℕ) → map said (slice_index_or (map taken nears) l []) ≡ replies_in r.log l =
     λ l. ap (λ xs. map said (slice_index_or xs l [])) parts.taken_is ∙ serves.taken l in
-    let logged : c.self.inside.log.items ≡ r.log = ap (λ (x : Recorded). x.log) c.self.view_is in
-    let short : length r.log < 2 ^ 63 = omega (arith, ap length logged, c.self.inside.log.ok.0, c.self.inside.log.ok.1, c.self.inside.log.small) in
+    let logged : g.L.StepLog.steps c.self.inside.log ≡ r.log = ap (λ (x : Recorded). x.log) c.self.view_is in
+    let short : length r.log < 2 ^ 63 = omega (arith, ap length logged, g.met.L.StepLog.short c.self.inside.log) in
     let rests_are : AreRests p r.log rest = logs.rests_are p r.log nears fars serves.stands.lawful short given taken_is ids c.list_lanes.ensures.rests no_new in
     let same_ports = IsPermutation-sym unsorted sorted c.by_number-ports.ensures.same in
     let offered_is : (l : ℕ) → (rest l).offered ≡ offered_at s l = λ l. logs.offered_at nears fars l ids ∙ ap (λ xs. slice_index_or xs l []) parts.offered_is in
@@ -290,10 +290,10 @@ returns c =
     let held_is = c.list_ports.ensures.held ∙ all_held rests sorted left.numbers left.held in
     let joined_account = c.join.ensures.account in
     let seat = c.into_parts-pool.result.seat in
-    let free = c.close-2.result in
+    let free = c.close-free.result in
     let its_own = c.into_parts-pool.result.pocket in
     let back = (account seat).returned in
-    let report : Report =
+    let report : Report _ =
     record {
       log = c.self.inside.log;
       waiting = c.list_waiting.new.into;
@@ -330,7 +330,7 @@ returns c =
       scheduler = subst Owned (sym parts.pocket) (subst Back (sym parts.account_is) serves.own);
       pool = omega (
         arith,
-        c.close-2.ensures.free,
+        c.close-free.ensures.free,
         limit_is,
         ap (λ (v : Account). v.drawn) joined_account,
         ap (λ (v : Account). v.returned) joined_account,
@@ -355,7 +355,7 @@ returns c =
           let saw : (account c.join.result).saw_shut ≡ true =
           ap (λ (v : Account). v.saw_shut) joined_account ∙ or_second (account after.0).saw_shut (account seat).saw_shut (ap (λ (v : Account). v.saw_shut) parts.account_is ∙ serves.shut is) in
           sym joined.bit
-          ∙ or_first (account after.0).set_shut (account seat).set_shut c.into_parts-pool.ensures.unset (sym (ap (λ (v : Account). v.set_shut) joined_account) ∙ c.close-2.ensures.shut saw);
+          ∙ or_first (account after.0).set_shut (account seat).set_shut c.into_parts-pool.ensures.unset (sym (ap (λ (v : Account). v.set_shut) joined_account) ∙ c.close-free.ensures.shut saw);
       rest = rest;
       rests = rests_are;
       sorted = sorted;
@@ -382,7 +382,7 @@ returns c =
       own = parts.pocket;
       free = omega (
         arith,
-        c.close-2.ensures.free,
+        c.close-free.ensures.free,
         limit_is,
         ap (λ (v : Account). v.drawn) joined_account,
         ap (λ (v : Account). v.returned) joined_account,

@@ -1,12 +1,11 @@
-use Rattle.std.proofs.Common.{◌≡◌, ◌+◌, ◌*◌, ◌≤◌, vec_len, vec_capacity}
+use Rattle.std.proofs.Common.{◌+◌, ◌*◌, ◌≤◌}
 use Rattle.event_scheduler.specs.Scheduler.{sight_of}
 use Rattle.event_scheduler.proofs.Ending.{TakesFirst}
 use Rattle.transcripts.specs.Standing.{kept_in}
 use Rattle.event_scheduler.proofs.scheduler.Scheduler.take_all.Given as goal
 
 abbrev pub invariant-loop-lane : goal.invariant-loop-lane
-invariant-loop-lane l =
-    TakesFirst l.lane l.initial.self.core.shape.sweep l.taken (sight_of l.initial.self) l.initial.log.items (sight_of l.self) l.log.items
-    × (vec_capacity l.log ≡ vec_capacity l.initial.log)
-    × (vec_len l.log + kept_in l.self.core ≤ vec_len l.initial.log + kept_in l.initial.self.core + 2 * l.initial.self.core.shape.sweep * l.lane)
+invariant-loop-lane g l =
+    TakesFirst l.lane l.initial.self.core.shape.sweep l.taken (sight_of l.initial.self) (g.L.StepLog.steps l.initial.log) (sight_of l.self) (g.L.StepLog.steps l.log)
+    × (g.L.StepLog.room l.initial.log + kept_in l.self.core ≤ g.L.StepLog.room l.log + kept_in l.initial.self.core + 2 * l.initial.self.core.shape.sweep * l.lane)
     × (l.taken ≤ l.initial.self.core.shape.sweep * l.lane)

@@ -1,17 +1,21 @@
-use Rattle.std.proofs.Common.{refl, rules, arith, ◌∙◌}
-use Rattle.event_scheduler.proofs.Taking.{lane_more, takes_none}
+use Rattle.std.proofs.Common.{refl, rules, ap, arith, ◌∙◌}
+use Rattle.event_scheduler.proofs.Taking.{lane_ends, lane_more, takes_none}
+use Rattle.evt_types.specs.Plan.{Plan}
 use Rattle.event_scheduler.proofs.scheduler.Scheduler.take_each.Goals as goal
 
 pub loop-taken-init : goal.loop-taken-init
-loop-taken-init c = (takes_none _ _ _, refl, omega arith, λ j other. refl)
+loop-taken-init g c = (takes_none _ _ _, omega arith, λ j other. refl)
 
 pub loop-taken-preserved : goal.loop-taken-preserved
-loop-taken-preserved c = (
+loop-taken-preserved g c = (
   lane_more _ _ _ _ _ _ _ _ _ c.if-not-take_one.false c.loop-taken.invariant.0 c.take_one.ensures.takes,
-  search rules,
-  omega (arith, c.loop-taken.invariant.2, c.take_one.ensures.room.1),
-  λ j other. c.take_one.ensures.others j other ∙ c.loop-taken.invariant.3 j other,
+  omega (arith, c.loop-taken.invariant.1, c.take_one.ensures.room),
+  λ j other. c.take_one.ensures.others j other ∙ c.loop-taken.invariant.2 j other,
 )
 
 pub returns-then-not-take_one-clause-ends : goal.returns-then-not-take_one-clause-ends
-returns-then-not-take_one-clause-ends c = c.take_one.ensures.ends c.loop-taken.taken _ c.if-not-take_one.true
+returns-then-not-take_one-clause-ends g c = c.take_one.ensures.ends c.loop-taken.taken _ c.if-not-take_one.true
+
+pub returns-then-not-take_one-clause-takes : goal.returns-then-not-take_one-clause-takes
+returns-then-not-take_one-clause-takes g c =
+    lane_ends _ _ _ _ _ _ _ _ _ (omega (arith, c.loop-taken-test.true, c.sweep-most.ensures.value, ap (λ (p : Plan). p.sweep) c.shape.ensures)) c.loop-taken.invariant.0 c.if-not-take_one.ensures.takes

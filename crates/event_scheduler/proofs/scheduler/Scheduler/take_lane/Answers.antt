@@ -6,11 +6,11 @@ use Rattle.transcripts.specs.Standing.{View}
 use Rattle.event_scheduler.proofs.scheduler.Scheduler.take_lane.Goals as goal
 
 pub returns-clause-takes : goal.returns-clause-takes
-returns-clause-takes c =
+returns-clause-takes g c =
     let each =
-    subst (λ (v : View). Takes (only c.args.lane v.shape.sweep) c.take_each.result (sight_of c.fetch.new.self) c.args.log.now.items (sight_of c.take_each.new.self) c.take_each.new.log.items) c.fetch.ensures.core
+    subst (λ (v : View). Takes (only c.args.lane v.shape.sweep) c.take_each.result (sight_of c.fetch.new.self) (g.L.StepLog.steps c.args.log.now) (sight_of c.take_each.new.self) (g.L.StepLog.steps c.take_each.new.log)) c.fetch.ensures.core
     c.take_each.ensures.takes in
     after_fetch c.args.lane _ _ _ _ _ _ _ (c.fetch.ensures.takes _) each
 
 pub returns-clause-others : goal.returns-clause-others
-returns-clause-others c l other = c.take_each.ensures.others l other ∙ c.fetch.ensures.others l other
+returns-clause-others g c l other = c.take_each.ensures.others l other ∙ c.fetch.ensures.others l other

@@ -8,7 +8,7 @@ use Rattle.sched_core.proofs.Busy.{waits_is}
 use Rattle.sched_core.proofs.state.Core.accept.Goals as goal
 
 pub accept-requires-clause-room : goal.accept-requires-clause-room
-accept-requires-clause-room c =
+accept-requires-clause-room g c =
     let queue : c.args.event.queue < length c.self.inside.shape.queues = subst (λ (v : View). c.args.event.queue < length v.shape.queues) (sym c.self.view_is) c.requires.queue in
     let is = c.from-queue.ensures in
     let h : c.from-queue.result < length c.self.inside.queues = omega (arith, queue, c.self.invariant.queues) in
@@ -16,7 +16,7 @@ accept-requires-clause-room c =
     fits_queue c.self.inside c.from-queue.result (waits_at c.self.inside.queues c.from-queue.result) c.self.invariant h (waits_is c.self.inside.queues c.from-queue.result h) room
 
 pub accept-requires-clause-numbers : goal.accept-requires-clause-numbers
-accept-requires-clause-numbers c =
+accept-requires-clause-numbers g c =
     let queue : c.args.event.queue < length c.self.inside.shape.queues = subst (λ (v : View). c.args.event.queue < length v.shape.queues) (sym c.self.view_is) c.requires.queue in
     let is = c.from-queue.ensures in
     let h : c.from-queue.result < length c.self.inside.queues = omega (arith, queue, c.self.invariant.queues) in
@@ -25,7 +25,7 @@ accept-requires-clause-numbers c =
     omega (arith, le, few, c.requires.entries)
 
 pub invariant_of-self : goal.invariant_of-self
-invariant_of-self c =
+invariant_of-self g c =
     let queue : c.args.event.queue < length c.self.inside.shape.queues = subst (λ (v : View). c.args.event.queue < length v.shape.queues) (sym c.self.view_is) c.requires.queue in
     let is = c.from-queue.ensures in
     let h : c.from-queue.result < length c.self.inside.queues = omega (arith, queue, c.self.invariant.queues) in
@@ -34,7 +34,7 @@ invariant_of-self c =
     rw c.accept.ensures.value (core_accepts c.self.inside c.from-queue.result (waits_at c.self.inside.queues c.from-queue.result) (with_event (waits_at c.self.inside.queues c.from-queue.result) c.args.event) c.args.event c.self.invariant room fewer h (waits_is c.self.inside.queues c.from-queue.result h) refl c.accept.ensures.waits)
 
 pub returns-clause-view : goal.returns-clause-view
-returns-clause-view c =
+returns-clause-view g c =
     let queue : c.args.event.queue < length c.self.inside.shape.queues = subst (λ (v : View). c.args.event.queue < length v.shape.queues) (sym c.self.view_is) c.requires.queue in
     let is = c.from-queue.ensures in
     let h : c.from-queue.result < length c.self.inside.queues = omega (arith, queue, c.self.invariant.queues) in
@@ -42,7 +42,7 @@ returns-clause-view c =
     ∙ (ap (λ q. after_accept (view_in c.self.inside) q c.args.event) is ∙ ap (λ v. after_accept v c.args.event.queue c.args.event) c.self.view_is)
 
 pub returns-clause-counts : goal.returns-clause-counts
-returns-clause-counts c =
+returns-clause-counts g c =
     let queue : c.args.event.queue < length c.self.inside.shape.queues = subst (λ (v : View). c.args.event.queue < length v.shape.queues) (sym c.self.view_is) c.requires.queue in
     let is = c.from-queue.ensures in
     let h : c.from-queue.result < length c.self.inside.queues = omega (arith, queue, c.self.invariant.queues) in
@@ -51,6 +51,6 @@ returns-clause-counts c =
     rw c.accept.ensures.value (accept_counts c.self.inside c.from-queue.result (waits_at c.self.inside.queues c.from-queue.result) (with_event (waits_at c.self.inside.queues c.from-queue.result) c.args.event) c.args.event c.args.self.now c.self.invariant c.self.view_is room fewer h (waits_is c.self.inside.queues c.from-queue.result h) refl c.accept.ensures.waits)
 
 pub overflow_add-self : goal.overflow_add-self
-overflow_add-self c =
+overflow_add-self g c =
     let within : inside_of (view_in c.self.inside) < bound_of c.self.inside.shape = subst (λ (v : View). inside_of v < bound_of v.shape) (sym c.self.view_is) c.requires.inside in
     omega (arith, within, c.self.invariant.inside, c.self.invariant.small)

@@ -15,27 +15,27 @@ use Rattle.sched_core.proofs.state.Core.add.Goals as goal
 use Rattle.sched_core.proofs.state.Core.add.Goals.{then-kept, else-kept}
 
 pub add-kept-requires-clause-there : goal.add-kept-requires-clause-there
-add-kept-requires-clause-there c =
+add-kept-requires-clause-there g c =
     let lane : c.args.lane < lanes_of c.self.inside.shape = subst (λ (v : View). c.args.lane < lanes_of v.shape) (sym c.self.view_is) c.requires.lane in
     let h : c.args.lane < length c.self.inside.lanes = omega (arith, lane, c.self.invariant.lanes) in
     let there = oldest_known c.self.inside c.args.lane (lane_in c.self.inside.lanes c.args.lane) c.oldest-entry.result c.self.invariant h (lane_is c.self.inside.lanes c.args.lane h) c.oldest-entry.ensures in
     omega (arith, there, c.self.invariant.places.count)
 
 pub add-kept-requires-clause-open : goal.add-kept-requires-clause-open
-add-kept-requires-clause-open c =
+add-kept-requires-clause-open g c =
     let lane : c.args.lane < lanes_of c.self.inside.shape = subst (λ (v : View). c.args.lane < lanes_of v.shape) (sym c.self.view_is) c.requires.lane in
     let h : c.args.lane < length c.self.inside.lanes = omega (arith, lane, c.self.invariant.lanes) in
     resolve_is_open c.self.inside c.args.lane (lane_in c.self.inside.lanes c.args.lane) c.oldest-entry.result c.self.invariant h (lane_is c.self.inside.lanes c.args.lane h) c.oldest-entry.ensures
 
 pub add-kept-requires-clause-room : goal.add-kept-requires-clause-room
-add-kept-requires-clause-room c =
+add-kept-requires-clause-room g c =
     let lane : c.args.lane < lanes_of c.self.inside.shape = subst (λ (v : View). c.args.lane < lanes_of v.shape) (sym c.self.view_is) c.requires.lane in
     let h : c.args.lane < length c.self.inside.lanes = omega (arith, lane, c.self.invariant.lanes) in
     let few : slice_index c.self.inside.extras.items c.args.lane < MAX_EXTRAS = subst (λ (v : View). extras_at v c.args.lane < MAX_EXTRAS) (sym c.self.view_is) (addable c.args.self.now c.args.lane c.args.event.queue c.requires.may).few in
     add_room c.self.inside c.args.lane (lane_in c.self.inside.lanes c.args.lane) c.oldest-entry.result c.self.invariant h (lane_is c.self.inside.lanes c.args.lane h) c.oldest-entry.ensures few
 
 pub invariant_of-self : goal.invariant_of-self
-invariant_of-self c =
+invariant_of-self g c =
     let a = c.self.inside in
     let may = addable c.args.self.now c.args.lane c.args.event.queue c.requires.may in
     let lane : c.args.lane < lanes_of a.shape = subst (λ (v : View). c.args.lane < lanes_of v.shape) (sym c.self.view_is) c.requires.lane in
@@ -51,7 +51,7 @@ invariant_of-self c =
     (ap (λ n. set a.extras.items c.args.lane (n + 1)) here) named room fewer (omega (arith, more)) (omega (arith, more)))
 
 pub invariant_of-self-else-kept : goal.invariant_of-self-else-kept
-invariant_of-self-else-kept c =
+invariant_of-self-else-kept g c =
     let a = c.self.inside in
     let may = addable c.args.self.now c.args.lane c.args.event.queue c.requires.may in
     let lane : c.args.lane < lanes_of a.shape = subst (λ (v : View). c.args.lane < lanes_of v.shape) (sym c.self.view_is) c.requires.lane in
@@ -67,21 +67,21 @@ invariant_of-self-else-kept c =
     (ap (λ n. set a.extras.items c.args.lane (n + 1)) here) named room fewer (omega (arith, none)) (omega (arith, none)))
 
 pub returns-clause-oldest : goal.returns-clause-oldest
-returns-clause-oldest c =
+returns-clause-oldest g c =
     let lane : c.args.lane < lanes_of c.self.inside.shape = subst (λ (v : View). c.args.lane < lanes_of v.shape) (sym c.self.view_is) c.requires.lane in
     let h : c.args.lane < length c.self.inside.lanes = omega (arith, lane, c.self.invariant.lanes) in
     subst (λ (v : View). oldest_at v c.args.lane ≡ Some (held_of c.oldest-entry.result)) c.self.view_is
     (first_here c.self.inside c.args.lane (lane_in c.self.inside.lanes c.args.lane) c.oldest-entry.result h (lane_is c.self.inside.lanes c.args.lane h) c.oldest-entry.ensures)
 
 pub returns-clause-queue : goal.returns-clause-queue
-returns-clause-queue c =
+returns-clause-queue g c =
     let lane : c.args.lane < lanes_of c.self.inside.shape = subst (λ (v : View). c.args.lane < lanes_of v.shape) (sym c.self.view_is) c.requires.lane in
     let h : c.args.lane < length c.self.inside.lanes = omega (arith, lane, c.self.invariant.lanes) in
     subst (λ (v : View). c.oldest-entry.result.queue < length v.shape.queues) c.self.view_is
     (oldest_known c.self.inside c.args.lane (lane_in c.self.inside.lanes c.args.lane) c.oldest-entry.result c.self.invariant h (lane_is c.self.inside.lanes c.args.lane h) c.oldest-entry.ensures)
 
 pub returns-clause-view : goal.returns-clause-view
-returns-clause-view c =
+returns-clause-view g c =
     let a = c.self.inside in
     let may = addable c.args.self.now c.args.lane c.args.event.queue c.requires.may in
     let lane : c.args.lane < lanes_of a.shape = subst (λ (v : View). c.args.lane < lanes_of v.shape) (sym c.self.view_is) c.requires.lane in
@@ -100,13 +100,13 @@ returns-clause-view c =
     ]
 
 pub returns-clause-inside : goal.returns-clause-inside
-returns-clause-inside c plain =
+returns-clause-inside g c plain =
     let may = addable c.args.self.now c.args.lane c.args.event.queue c.requires.may in
-    let same = (add_leaves c.args.self.now c.args.lane (held_of c.oldest-entry.result) c.args.event (returns-clause-oldest c) plain).0 in
-    subst (λ v. inside_of v < bound_of c.args.self.now.shape) (sym (returns-clause-view c)) (omega (arith, same, may.room))
+    let same = (add_leaves c.args.self.now c.args.lane (held_of c.oldest-entry.result) c.args.event (returns-clause-oldest g c) plain).0 in
+    subst (λ v. inside_of v < bound_of c.args.self.now.shape) (sym (returns-clause-view g c)) (omega (arith, same, may.room))
 
 pub returns-clause-entries : goal.returns-clause-entries
-returns-clause-entries c plain =
+returns-clause-entries g c plain =
     let may = addable c.args.self.now c.args.lane c.args.event.queue c.requires.may in
-    let same = (add_leaves c.args.self.now c.args.lane (held_of c.oldest-entry.result) c.args.event (returns-clause-oldest c) plain).1 in
-    subst (λ v. entries_of v < 2 ^ 63) (sym (returns-clause-view c)) (omega (arith, same, may.entries))
+    let same = (add_leaves c.args.self.now c.args.lane (held_of c.oldest-entry.result) c.args.event (returns-clause-oldest g c) plain).1 in
+    subst (λ v. entries_of v < 2 ^ 63) (sym (returns-clause-view g c)) (omega (arith, same, may.entries))

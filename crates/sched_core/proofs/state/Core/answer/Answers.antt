@@ -18,33 +18,33 @@ use Rattle.sched_core.proofs.state.Core.answer.Goals as goal
 use Rattle.sched_core.proofs.state.Core.answer.Goals.{then-kept, else-kept}
 
 pub unpin-requires-clause-there : goal.unpin-requires-clause-there
-unpin-requires-clause-there c =
+unpin-requires-clause-there g c =
     let lane : c.args.lane < lanes_of c.self.inside.shape = subst (λ (v : View). c.args.lane < lanes_of v.shape) (sym c.self.view_is) c.requires.lane in
     let h : c.args.lane < length c.self.inside.lanes = omega (arith, lane, c.self.invariant.lanes) in
     let there = oldest_known c.self.inside c.args.lane (lane_in c.self.inside.lanes c.args.lane) c.pop-entry.result c.self.invariant h (lane_is c.self.inside.lanes c.args.lane h) c.pop-entry.ensures.oldest in
     omega (arith, there, c.self.invariant.pins.count)
 
 pub unpin-requires-clause-held : goal.unpin-requires-clause-held
-unpin-requires-clause-held c =
+unpin-requires-clause-held g c =
     let lane : c.args.lane < lanes_of c.self.inside.shape = subst (λ (v : View). c.args.lane < lanes_of v.shape) (sym c.self.view_is) c.requires.lane in
     let h : c.args.lane < length c.self.inside.lanes = omega (arith, lane, c.self.invariant.lanes) in
     oldest_pinned c.self.inside c.args.lane (lane_in c.self.inside.lanes c.args.lane) c.pop-entry.result c.self.invariant h (lane_is c.self.inside.lanes c.args.lane h) c.pop-entry.ensures.oldest
 
 pub resolve-kept-requires-clause-there : goal.resolve-kept-requires-clause-there
-resolve-kept-requires-clause-there c =
+resolve-kept-requires-clause-there g c =
     let lane : c.args.lane < lanes_of c.self.inside.shape = subst (λ (v : View). c.args.lane < lanes_of v.shape) (sym c.self.view_is) c.requires.lane in
     let h : c.args.lane < length c.self.inside.lanes = omega (arith, lane, c.self.invariant.lanes) in
     let there = oldest_known c.self.inside c.args.lane (lane_in c.self.inside.lanes c.args.lane) c.pop-entry.result c.self.invariant h (lane_is c.self.inside.lanes c.args.lane h) c.pop-entry.ensures.oldest in
     omega (arith, there, c.self.invariant.places.count)
 
 pub resolve-kept-requires-clause-open : goal.resolve-kept-requires-clause-open
-resolve-kept-requires-clause-open c =
+resolve-kept-requires-clause-open g c =
     let lane : c.args.lane < lanes_of c.self.inside.shape = subst (λ (v : View). c.args.lane < lanes_of v.shape) (sym c.self.view_is) c.requires.lane in
     let h : c.args.lane < length c.self.inside.lanes = omega (arith, lane, c.self.invariant.lanes) in
     resolve_is_open c.self.inside c.args.lane (lane_in c.self.inside.lanes c.args.lane) c.pop-entry.result c.self.invariant h (lane_is c.self.inside.lanes c.args.lane h) c.pop-entry.ensures.oldest
 
 pub invariant_of-self : goal.invariant_of-self
-invariant_of-self c =
+invariant_of-self g c =
     let a = c.self.inside in
     let f = c.forward_of.result in
     let lane : c.args.lane < lanes_of a.shape = subst (λ (v : View). c.args.lane < lanes_of v.shape) (sym c.self.view_is) c.requires.lane in
@@ -58,7 +58,7 @@ invariant_of-self c =
     (named_of (length a.shape.queues) f c.args.outcome c.forward_of.ensures events) (omega (arith, few, one)) c.unpin.ensures (omega (arith, more)) (omega (arith, more))))
 
 pub invariant_of-self-else-kept : goal.invariant_of-self-else-kept
-invariant_of-self-else-kept c =
+invariant_of-self-else-kept g c =
     let a = c.self.inside in
     let f = c.forward_of.result in
     let lane : c.args.lane < lanes_of a.shape = subst (λ (v : View). c.args.lane < lanes_of v.shape) (sym c.self.view_is) c.requires.lane in
@@ -73,21 +73,21 @@ invariant_of-self-else-kept c =
     (named_of (length a.shape.queues) f c.args.outcome c.forward_of.ensures events) (omega (arith, few, one)) c.unpin.ensures (omega (arith, none, some)) (omega (arith, none))))
 
 pub returns-clause-queue : goal.returns-clause-queue
-returns-clause-queue c =
+returns-clause-queue g c =
     let lane : c.args.lane < lanes_of c.self.inside.shape = subst (λ (v : View). c.args.lane < lanes_of v.shape) (sym c.self.view_is) c.requires.lane in
     let h : c.args.lane < length c.self.inside.lanes = omega (arith, lane, c.self.invariant.lanes) in
     subst (λ (v : View). c.pop-entry.result.queue < length v.shape.queues) c.self.view_is
     (oldest_known c.self.inside c.args.lane (lane_in c.self.inside.lanes c.args.lane) c.pop-entry.result c.self.invariant h (lane_is c.self.inside.lanes c.args.lane h) c.pop-entry.ensures.oldest)
 
 pub returns-clause-places : goal.returns-clause-places
-returns-clause-places c =
+returns-clause-places g c =
     let lane : c.args.lane < lanes_of c.self.inside.shape = subst (λ (v : View). c.args.lane < lanes_of v.shape) (sym c.self.view_is) c.requires.lane in
     let h : c.args.lane < length c.self.inside.lanes = omega (arith, lane, c.self.invariant.lanes) in
     let there = oldest_known c.self.inside c.args.lane (lane_in c.self.inside.lanes c.args.lane) c.pop-entry.result c.self.invariant h (lane_is c.self.inside.lanes c.args.lane h) c.pop-entry.ensures.oldest in
     subst (λ (v : View). c.pop-entry.result.queue < length v.places) c.self.view_is (omega (arith, there, c.self.invariant.places.count, length-map c.self.inside.orders places_in))
 
 pub returns-clause-view : goal.returns-clause-view
-returns-clause-view c =
+returns-clause-view g c =
     let a = c.self.inside in
     let f = c.forward_of.result in
     let lane : c.args.lane < lanes_of a.shape = subst (λ (v : View). c.args.lane < lanes_of v.shape) (sym c.self.view_is) c.requires.lane in
@@ -105,22 +105,22 @@ returns-clause-view c =
     ]
 
 pub returns-clause-fewer : goal.returns-clause-fewer
-returns-clause-fewer c plain =
+returns-clause-fewer g c plain =
     let a = c.self.inside in
     let lane : c.args.lane < lanes_of a.shape = subst (λ (v : View). c.args.lane < lanes_of v.shape) (sym c.self.view_is) c.requires.lane in
     let h : c.args.lane < length a.lanes = omega (arith, lane, c.self.invariant.lanes) in
     let kind = subst (λ (v : View). is_ordered (queue_of v.shape c.pop-entry.result.queue).kind ≡ false) (sym c.self.view_is) plain in
-    subst (λ v. inside_of v < bound_of c.args.self.now.shape) (sym (returns-clause-view c))
+    subst (λ v. inside_of v < bound_of c.args.self.now.shape) (sym (returns-clause-view g c))
     (subst (λ v. inside_of (after_answer v c.args.lane c.args.outcome) < bound_of v.shape) c.self.view_is
     (answer_leaves_room a c.args.lane (lane_in c.self.inside.lanes c.args.lane) c.pop-entry.result c.args.outcome c.self.invariant h (lane_is c.self.inside.lanes c.args.lane h) c.pop-entry.ensures.oldest kind))
 
 pub pop-entry-requires-clause-there : goal.pop-entry-requires-clause-there
-pop-entry-requires-clause-there c =
+pop-entry-requires-clause-there g c =
     let lane : c.args.lane < lanes_of c.self.inside.shape = subst (λ (v : View). c.args.lane < lanes_of v.shape) (sym c.self.view_is) c.requires.lane in
     omega (arith, lane, c.self.invariant.lanes)
 
 pub pop-entry-requires-clause-some : goal.pop-entry-requires-clause-some
-pop-entry-requires-clause-some c =
+pop-entry-requires-clause-some g c =
     let lane : c.args.lane < lanes_of c.self.inside.shape = subst (λ (v : View). c.args.lane < lanes_of v.shape) (sym c.self.view_is) c.requires.lane in
     let h : c.args.lane < length c.self.inside.lanes = omega (arith, lane, c.self.invariant.lanes) in
     let some : 0 < length (unanswered_at (view_in c.self.inside) c.args.lane) = subst (λ (v : View). 0 < length (unanswered_at v c.args.lane)) (sym c.self.view_is) (ltb-true 0 _ c.requires.some) in

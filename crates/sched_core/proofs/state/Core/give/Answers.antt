@@ -19,14 +19,14 @@ use Rattle.sched_core.proofs.Busy.{waits_is}
 use Rattle.sched_core.proofs.state.Core.give.Goals as goal
 
 pub remove-requires-clause-level : goal.remove-requires-clause-level
-remove-requires-clause-level c =
+remove-requires-clause-level g c =
     let offer : IsOffer (view_in c.self.inside) c.args.offer.lane c.args.offer.delivery.queue (numbered_in c.args.offer.delivery) = subst (λ v. IsOffer v c.args.offer.lane c.args.offer.delivery.queue (numbered_in c.args.offer.delivery)) (sym c.self.view_is) c.requires.offer in
     let h : c.args.offer.delivery.queue < length c.self.inside.queues = omega (arith, offer.queue, c.self.invariant.queues) in
     let level = level_below c.self.inside c.args.offer.delivery.queue (waits_at c.self.inside.queues c.args.offer.delivery.queue) (numbered_in c.args.offer.delivery) c.self.invariant h (waits_is c.self.inside.queues c.args.offer.delivery.queue h) offer.waits in
     omega arith
 
 pub remove-requires-clause-only : goal.remove-requires-clause-only
-remove-requires-clause-only c =
+remove-requires-clause-only g c =
     let offer : IsOffer (view_in c.self.inside) c.args.offer.lane c.args.offer.delivery.queue (numbered_in c.args.offer.delivery) = subst (λ v. IsOffer v c.args.offer.lane c.args.offer.delivery.queue (numbered_in c.args.offer.delivery)) (sym c.self.view_is) c.requires.offer in
     let h : c.args.offer.delivery.queue < length c.self.inside.queues = omega (arith, offer.queue, c.self.invariant.queues) in
     λ k d lt same.
@@ -34,32 +34,32 @@ remove-requires-clause-only c =
     (ap level_of one ∙ sym c.level.ensures, ap (λ (e : Event). e.flow % (waits_at c.self.inside.queues c.args.offer.delivery.queue).slots) one ∙ sym c.slot_offered-slot.ensures.value)
 
 pub pin-requires-clause-there : goal.pin-requires-clause-there
-pin-requires-clause-there c =
+pin-requires-clause-there g c =
     let queue : c.args.offer.delivery.queue < length c.self.inside.shape.queues = subst (λ (v : View). c.args.offer.delivery.queue < length v.shape.queues) (sym c.self.view_is) c.requires.offer.queue in
     omega (arith, queue, c.self.invariant.pins.count)
 
 pub pin-requires-clause-may : goal.pin-requires-clause-may
-pin-requires-clause-may c =
+pin-requires-clause-may g c =
     let queue : c.args.offer.delivery.queue < length c.self.inside.shape.queues = subst (λ (v : View). c.args.offer.delivery.queue < length v.shape.queues) (sym c.self.view_is) c.requires.offer.queue in
     let h : c.args.offer.delivery.queue < length c.self.inside.queues = omega (arith, queue, c.self.invariant.queues) in
     offer_may c.self.inside c.args.self.now c.args.offer.lane c.args.offer.delivery.queue c.slot_offered-slot.result (numbered_in c.args.offer.delivery) c.self.invariant c.self.view_is c.requires.offer (c.slot_offered-slot.ensures.value ∙ slot_in_queue c.self.inside c.args.offer.delivery.queue (waits_at c.self.inside.queues c.args.offer.delivery.queue) c.self.invariant h (waits_is c.self.inside.queues c.args.offer.delivery.queue h) (numbered_in c.args.offer.delivery))
 
 pub pin-requires-clause-room : goal.pin-requires-clause-room
-pin-requires-clause-room c =
+pin-requires-clause-room g c =
     let queue : c.args.offer.delivery.queue < length c.self.inside.shape.queues = subst (λ (v : View). c.args.offer.delivery.queue < length v.shape.queues) (sym c.self.view_is) c.requires.offer.queue in
     let h : c.args.offer.delivery.queue < length c.self.inside.queues = omega (arith, queue, c.self.invariant.queues) in
     offer_room c.self.inside c.args.self.now c.args.offer.lane c.args.offer.delivery.queue c.slot_offered-slot.result (numbered_in c.args.offer.delivery) c.self.invariant c.self.view_is c.requires.offer (c.slot_offered-slot.ensures.value ∙ slot_in_queue c.self.inside c.args.offer.delivery.queue (waits_at c.self.inside.queues c.args.offer.delivery.queue) c.self.invariant h (waits_is c.self.inside.queues c.args.offer.delivery.queue h) (numbered_in c.args.offer.delivery))
 
 pub hand-place-requires-clause-there : goal.hand-place-requires-clause-there
-hand-place-requires-clause-there c =
+hand-place-requires-clause-there g c =
     let queue : c.args.offer.delivery.queue < length c.self.inside.shape.queues = subst (λ (v : View). c.args.offer.delivery.queue < length v.shape.queues) (sym c.self.view_is) c.requires.offer.queue in
     omega (arith, queue, c.self.invariant.places.count)
 
 pub hand-place-requires-clause-room : goal.hand-place-requires-clause-room
-hand-place-requires-clause-room c = offer_place c.self.inside c.args.self.now c.args.offer.lane c.args.offer.delivery.queue (numbered_in c.args.offer.delivery) c.self.invariant c.self.view_is c.requires.offer
+hand-place-requires-clause-room g c = offer_place c.self.inside c.args.self.now c.args.offer.lane c.args.offer.delivery.queue (numbered_in c.args.offer.delivery) c.self.invariant c.self.view_is c.requires.offer
 
 pub invariant_of-self : goal.invariant_of-self
-invariant_of-self c =
+invariant_of-self g c =
     let offer : IsOffer (view_in c.self.inside) c.args.offer.lane c.args.offer.delivery.queue (numbered_in c.args.offer.delivery) = subst (λ v. IsOffer v c.args.offer.lane c.args.offer.delivery.queue (numbered_in c.args.offer.delivery)) (sym c.self.view_is) c.requires.offer in
     let h : c.args.offer.delivery.queue < length c.self.inside.queues = omega (arith, offer.queue, c.self.invariant.queues) in
     let k : c.args.offer.lane < length c.self.inside.lanes = omega (arith, offer.lane, c.self.invariant.lanes) in
@@ -69,7 +69,7 @@ invariant_of-self c =
     refl c.remove.ensures.waits refl refl refl refl (c.slot_offered-slot.ensures.value ∙ slot_in_queue c.self.inside c.args.offer.delivery.queue (waits_at c.self.inside.queues c.args.offer.delivery.queue) c.self.invariant h (waits_is c.self.inside.queues c.args.offer.delivery.queue h) (numbered_in c.args.offer.delivery)) c.hand-place.ensures.place c.pin.ensures))
 
 pub returns-clause-view : goal.returns-clause-view
-returns-clause-view c =
+returns-clause-view g c =
     let offer : IsOffer (view_in c.self.inside) c.args.offer.lane c.args.offer.delivery.queue (numbered_in c.args.offer.delivery) = subst (λ v. IsOffer v c.args.offer.lane c.args.offer.delivery.queue (numbered_in c.args.offer.delivery)) (sym c.self.view_is) c.requires.offer in
     let h : c.args.offer.delivery.queue < length c.self.inside.queues = omega (arith, offer.queue, c.self.invariant.queues) in
     let k : c.args.offer.lane < length c.self.inside.lanes = omega (arith, offer.lane, c.self.invariant.lanes) in
@@ -80,19 +80,19 @@ returns-clause-view c =
     ∙ ap (λ v. after_give v c.args.offer.lane c.args.offer.delivery.queue c.args.offer.delivery.number) c.self.view_is
 
 pub returns-clause-stands : goal.returns-clause-stands
-returns-clause-stands c T stands =
-    subst (λ v. Stands (T ++ Give c.args.offer.lane c.args.offer.delivery.queue c.args.offer.delivery.number ∷ []) v) (sym (returns-clause-view c))
+returns-clause-stands g c T stands =
+    subst (λ v. Stands (T ++ Give c.args.offer.lane c.args.offer.delivery.queue c.args.offer.delivery.number ∷ []) v) (sym (returns-clause-view g c))
     (stands_give c.args.self.now T c.args.offer.lane c.args.offer.delivery.queue (numbered_in c.args.offer.delivery) stands c.requires.offer)
 
 pub returns-clause-event : goal.returns-clause-event
-returns-clause-event c T stands = offer_is_accepted c.args.self.now T c.args.offer.lane c.args.offer.delivery.queue (numbered_in c.args.offer.delivery) stands c.requires.offer
+returns-clause-event g c T stands = offer_is_accepted c.args.self.now T c.args.offer.lane c.args.offer.delivery.queue (numbered_in c.args.offer.delivery) stands c.requires.offer
 
 pub push-requires-clause-there : goal.push-requires-clause-there
-push-requires-clause-there c =
+push-requires-clause-there g c =
     let offer : IsOffer (view_in c.self.inside) c.args.offer.lane c.args.offer.delivery.queue (numbered_in c.args.offer.delivery) = subst (λ v. IsOffer v c.args.offer.lane c.args.offer.delivery.queue (numbered_in c.args.offer.delivery)) (sym c.self.view_is) c.requires.offer in
     omega (arith, offer.lane, c.self.invariant.lanes)
 
 pub push-requires-clause-room : goal.push-requires-clause-room
-push-requires-clause-room c =
+push-requires-clause-room g c =
     let offer : IsOffer (view_in c.self.inside) c.args.offer.lane c.args.offer.delivery.queue (numbered_in c.args.offer.delivery) = subst (λ v. IsOffer v c.args.offer.lane c.args.offer.delivery.queue (numbered_in c.args.offer.delivery)) (sym c.self.view_is) c.requires.offer in
     (room_here c.self.inside c.args.offer.lane c.self.invariant (omega (arith, offer.lane, c.self.invariant.lanes))).1 offer.room

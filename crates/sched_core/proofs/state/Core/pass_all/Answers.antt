@@ -8,25 +8,25 @@ use Rattle.sched_core.specs.Settling.{IsPassedOn}
 use Rattle.sched_core.proofs.state.Core.pass_all.Goals as goal
 
 pub accept_all-requires-clause-room : goal.accept_all-requires-clause-room
-accept_all-requires-clause-room c =
+accept_all-requires-clause-room g c =
     let x = left (c.in_ok-number.number, c.in_ok-number.events) in
-    let room = room_for c.args.self.now c.args.queue _ _ x (places_there c.self.inside c.args.self.now c.args.queue c.self.invariant c.self.view_is c.requires.queue) (sym c.in_ok-number.ensures.value) c.requires.room in
+    let room = room_for c.args.self.now c.args.queue _ x (places_there c.self.inside c.args.self.now c.args.queue c.self.invariant c.self.view_is c.requires.queue) (sym c.in_ok-number.ensures.value) c.requires.room in
     omega (arith, room, ap length c.as_slice.ensures.value)
 
 pub returns-then-number-answered-clause-passed : goal.returns-then-number-answered-clause-passed
-returns-then-number-answered-clause-passed c =
+returns-then-number-answered-clause-passed g c =
     let x = left (c.in_ok-number.number, c.in_ok-number.events) in
     let accepted = c.accept_all.ensures.view ∙ ap (λ es. after c.leave.new.self (accepts_from c.args.queue c.in_ok-number.number es)) c.as_slice.ensures.value in
-    let logged = c.accept_all.ensures.logged ∙ ap (λ es. c.args.log.now.items ++ accepts_from c.args.queue c.in_ok-number.number es) c.as_slice.ensures.value in
+    let logged = c.accept_all.ensures.logged ∙ ap (λ es. (g.L.StepLog.steps c.args.log.now) ++ accepts_from c.args.queue c.in_ok-number.number es) c.as_slice.ensures.value in
     let mine = ap (λ n. c.in_ok-number.number == n) (sym c.if-number-answered.true) ∙ eqb_same c.in_ok-number.number in
-    subst (IsPassedOn c.args.queue c.args.answered c.args.self.now c.args.log.now.items c.accept_all.new.self c.accept_all.new.log.items) (ap (λ b. b && not (length x.forwards == 0)) mine ∙ ap not (sym c.is_empty.ensures))
-    (passed_some c.args.queue c.args.answered x c.args.self.now c.leave.new.self c.accept_all.new.self c.args.log.now.items c.accept_all.new.log.items (sym c.in_ok-number.ensures.value) c.leave.ensures.view accepted logged)
+    subst (IsPassedOn c.args.queue c.args.answered c.args.self.now (g.L.StepLog.steps c.args.log.now) c.accept_all.new.self (g.L.StepLog.steps c.accept_all.new.log)) (ap (λ b. b && not (length x.forwards == 0)) mine ∙ ap not (sym c.is_empty.ensures))
+    (passed_some c.args.queue c.args.answered x c.args.self.now c.leave.new.self c.accept_all.new.self (g.L.StepLog.steps c.args.log.now) (g.L.StepLog.steps c.accept_all.new.log) (sym c.in_ok-number.ensures.value) c.leave.ensures.view accepted logged)
 
 pub returns-else-number-answered-clause-passed : goal.returns-else-number-answered-clause-passed
-returns-else-number-answered-clause-passed c =
+returns-else-number-answered-clause-passed g c =
     let x = left (c.in_ok-number.number, c.in_ok-number.events) in
     let accepted = c.accept_all.ensures.view ∙ ap (λ es. after c.leave.new.self (accepts_from c.args.queue c.in_ok-number.number es)) c.as_slice.ensures.value in
-    let logged = c.accept_all.ensures.logged ∙ ap (λ es. c.args.log.now.items ++ accepts_from c.args.queue c.in_ok-number.number es) c.as_slice.ensures.value in
+    let logged = c.accept_all.ensures.logged ∙ ap (λ es. (g.L.StepLog.steps c.args.log.now) ++ accepts_from c.args.queue c.in_ok-number.number es) c.as_slice.ensures.value in
     let other = eqb_other c.in_ok-number.number c.args.answered c.if-number-answered.false in
-    subst (IsPassedOn c.args.queue c.args.answered c.args.self.now c.args.log.now.items c.accept_all.new.self c.accept_all.new.log.items) (ap (λ b. b && not (length x.forwards == 0)) other ∙ sym other)
-    (passed_some c.args.queue c.args.answered x c.args.self.now c.leave.new.self c.accept_all.new.self c.args.log.now.items c.accept_all.new.log.items (sym c.in_ok-number.ensures.value) c.leave.ensures.view accepted logged)
+    subst (IsPassedOn c.args.queue c.args.answered c.args.self.now (g.L.StepLog.steps c.args.log.now) c.accept_all.new.self (g.L.StepLog.steps c.accept_all.new.log)) (ap (λ b. b && not (length x.forwards == 0)) other ∙ sym other)
+    (passed_some c.args.queue c.args.answered x c.args.self.now c.leave.new.self c.accept_all.new.self (g.L.StepLog.steps c.args.log.now) (g.L.StepLog.steps c.accept_all.new.log) (sym c.in_ok-number.ensures.value) c.leave.ensures.view accepted logged)

@@ -5,34 +5,34 @@ use Rattle.transcripts.proofs.WholeStands.{shape_after, takes_stand}
 use Rattle.sched_core.proofs.state.Core.take.Goals as goal
 
 pub returns-in-New-clause-stands : goal.returns-in-New-clause-stands
-returns-in-New-clause-stands c T stands =
+returns-in-New-clause-stands g c T stands =
     let v = c.args.self.now in
     let both = takes_stand v T c.args.lane c.args.reply.event c.requires.lane c.requires.takes stands in
     (both.0, subst (Stands (T ++ steps_of v c.args.lane c.args.reply.event)) (ap (λ o. after v (steps_by o v c.args.lane c.args.reply.event)) c.in-New.is ∙ sym c.take_new.ensures.view) both.1)
 
 pub returns-in-Forward-clause-stands : goal.returns-in-Forward-clause-stands
-returns-in-Forward-clause-stands c T stands =
+returns-in-Forward-clause-stands g c T stands =
     let v = c.args.self.now in
     let both = takes_stand v T c.args.lane c.args.reply.event c.requires.lane c.requires.takes stands in
     (both.0, subst (Stands (T ++ steps_of v c.args.lane c.args.reply.event)) (ap (λ o. after v (steps_by o v c.args.lane c.args.reply.event)) c.in-Forward.is ∙ sym c.take_forward.ensures.view) both.1)
 
 pub returns-in-Release-clause-stands : goal.returns-in-Release-clause-stands
-returns-in-Release-clause-stands c T stands =
+returns-in-Release-clause-stands g c T stands =
     let v = c.args.self.now in
     let both = takes_stand v T c.args.lane c.args.reply.event c.requires.lane c.requires.takes stands in
     (both.0, subst (Stands (T ++ steps_of v c.args.lane c.args.reply.event)) (ap (λ o. after v (steps_by o v c.args.lane c.args.reply.event)) c.in-Release.is ∙ sym c.take_release.ensures.view) both.1)
 
 pub returns-in-ForwardMore-clause-stands : goal.returns-in-ForwardMore-clause-stands
-returns-in-ForwardMore-clause-stands c T stands =
+returns-in-ForwardMore-clause-stands g c T stands =
     let v = c.args.self.now in
     let both = takes_stand v T c.args.lane c.args.reply.event c.requires.lane c.requires.takes stands in
     (both.0, subst (Stands (T ++ steps_of v c.args.lane c.args.reply.event)) (ap (λ o. after v (steps_by o v c.args.lane c.args.reply.event)) c.in-ForwardMore.is ∙ sym c.take_more.ensures.view) both.1)
 
 pub returns-in-Forward-clause-shape : goal.returns-in-Forward-clause-shape
-returns-in-Forward-clause-shape c = ap (λ (v : View). v.shape) c.take_forward.ensures.view ∙ shape_after c.args.self.now (answer_steps c.args.self.now c.args.lane (Forwarded c.args.reply.event))
+returns-in-Forward-clause-shape g c = ap (λ (v : View). v.shape) c.take_forward.ensures.view ∙ shape_after c.args.self.now (answer_steps c.args.self.now c.args.lane (Forwarded c.args.reply.event))
 
 pub returns-in-Release-clause-shape : goal.returns-in-Release-clause-shape
-returns-in-Release-clause-shape c = ap (λ (v : View). v.shape) c.take_release.ensures.view ∙ shape_after c.args.self.now (answer_steps c.args.self.now c.args.lane Released)
+returns-in-Release-clause-shape g c = ap (λ (v : View). v.shape) c.take_release.ensures.view ∙ shape_after c.args.self.now (answer_steps c.args.self.now c.args.lane Released)
 
 pub returns-in-ForwardMore-clause-shape : goal.returns-in-ForwardMore-clause-shape
-returns-in-ForwardMore-clause-shape c = ap (λ (v : View). v.shape) c.take_more.ensures.view ∙ shape_after c.args.self.now (more_steps c.args.self.now c.args.lane c.args.reply.event)
+returns-in-ForwardMore-clause-shape g c = ap (λ (v : View). v.shape) c.take_more.ensures.view ∙ shape_after c.args.self.now (more_steps c.args.self.now c.args.lane c.args.reply.event)

@@ -7,10 +7,10 @@ use Rattle.sched_core.specs.Inner.{held_of}
 use Rattle.sched_core.proofs.state.Core.take_release.Goals as goal
 
 pub answer-queue-requires-clause-entries : goal.answer-queue-requires-clause-entries
-answer-queue-requires-clause-entries c = omega (arith, c.self.invariant.few, ap entries_of c.self.view_is)
+answer-queue-requires-clause-entries g c = omega (arith, c.self.invariant.few, ap entries_of c.self.view_is)
 
 pub returns-then-restores_order-clause-view : goal.returns-then-restores_order-clause-view
-returns-then-restores_order-clause-view c =
+returns-then-restores_order-clause-view g c =
     let v = c.args.self.now in
     let h = held_of c.answer-queue.result in
     let ordered : is_ordered (queue_of v.shape h.queue).kind ≡ true =

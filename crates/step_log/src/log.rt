@@ -1,0 +1,49 @@
+//! What every log can do.
+
+ghost use Rattle.std.specs.Prelude.{◌≡◌, ℕ, ◌+◌, ◌-◌, ◌<◌, ◌≤◌, ◌^◌, List, [], ◌∷◌, ◌++◌, length, vec_len, vec_capacity, OnOk};
+ghost use Rattle.std.proofs.Common.{rules};
+ghost use Rattle.evt_types.specs.declared.step.Step.{Step as StepValue};
+
+use evt_types::Step;
+use std::alloc::AllocError;
+
+/// Want of memory.
+pub type Memory = AllocError;
+
+/// A log of steps. Its `steps` are all that were pushed, in their order, whether it keeps them or not; for so many more it has `room`.
+pub trait StepLog: Drop {
+    ghost steps: { Self → List StepValue };
+
+    ghost room: { Self → ℕ };
+
+    /// The step is the last one.
+    fn push_step(&mut self, step: Step)
+        requires { 0 < room self.old }
+        ensures steps { steps self.new ≡ steps self.old ++ step ∷ [] }
+        ensures room { room self.old ≤ room self.new + 1 };
+
+    /// Makes room for so many more steps.
+    fn make_room(&mut self, count: usize) -> Result<(), Memory>
+        ensures steps { steps self.new ≡ steps self.old }
+        ensures room { OnOk result (count ≤ room self.new) };
+
+    /// No log has more steps than a vector could have.
+    ghost short: { (x : Self) → length (steps x) < 2 ^ 63 };
+}
+
+/// A vector keeps every step, and grows.
+impl StepLog for Vec<Step> {
+    ghost steps = { λ log. log.items };
+
+    ghost room = { λ log. vec_capacity log - vec_len log };
+
+    ghost short = { Prim.search rules };
+
+    fn push_step(&mut self, step: Step) {
+        self.push_reserved(step);
+    }
+
+    fn make_room(&mut self, count: usize) -> Result<(), Memory> {
+        self.reserve(count)
+    }
+}

@@ -93,7 +93,7 @@ pub(crate) static RUNS: [KnownRun; 11] = [
             Turn::Give(2, 2, OF_FLOW_5),
             Turn::GiveNone,
             Turn::Inside(3),
-            Turn::Waiting(0, &[(0, 1)]),
+            Turn::Waiting(0, &[(1, SECOND)]),
         ],
     },
     KnownRun {

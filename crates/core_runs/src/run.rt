@@ -113,12 +113,8 @@ impl Run {
         Ok(Made::Proposed(Some(plain_offer(offer))))
     }
 
-    /// The queue and the number of each event that waits in the queue.
-    pub(crate) fn waiting(
-        &self,
-        alloc: Global,
-        queue: usize,
-    ) -> Result<Vec<(usize, u64)>, RunFault> {
+    /// The events that wait in the queue.
+    pub(crate) fn waiting(&self, alloc: Global, queue: usize) -> Result<Vec<Delivery>, RunFault> {
         let mut waiting = Vec::new(alloc);
         if queue < self.core.shape().queues().len() {
             waiting.reserve(self.core.waiting_len(queue))?;

@@ -4,7 +4,7 @@ use crate::device::Device;
 use crate::fault::RunFault;
 use crate::moves::{Made, Move, Packet};
 use crate::run::Run;
-use evt_types::{KeptEvent, Outcome, Source, Step};
+use evt_types::{Delivery, KeptEvent, Outcome, Source, Step};
 use plain_core::{PlainOffer, PlainTook};
 use std::alloc::Global;
 
@@ -39,8 +39,8 @@ pub(crate) enum Turn {
     LogLen(usize),
     /// From the step of this place on, these are logged.
     Logged(usize, &'static [Logged]),
-    /// Just these events wait in the queue.
-    Waiting(usize, &'static [(usize, u64)]),
+    /// Just these events wait in the queue, under their numbers.
+    Waiting(usize, &'static [(u64, Packet)]),
     /// So many places of the first queue's hand-out haven't left, and what it keeps are these, under their numbers.
     Kept(usize, &'static [(u64, Packet)]),
 }
@@ -136,7 +136,7 @@ impl Run {
             Turn::LogRoom(room) => self.core.log_room() == room,
             Turn::LogLen(count) => self.log.len() == count,
             Turn::Logged(start, steps) => self.has_logged(start, steps),
-            Turn::Waiting(queue, pairs) => self.has_waiting(alloc, queue, pairs)?,
+            Turn::Waiting(queue, waiting) => self.has_waiting(alloc, queue, waiting)?,
             Turn::Kept(places, kept) => self.has_kept(alloc, places, kept)?,
             _ => true,
         };
@@ -165,10 +165,18 @@ impl Run {
         &self,
         alloc: Global,
         queue: usize,
-        wanted: &[(usize, u64)],
+        wanted: &[(u64, Packet)],
     ) -> Result<bool, RunFault> {
+        let mut all = Vec::with_capacity(alloc, wanted.len())?;
+        for (number, packet) in wanted {
+            all.push(Delivery {
+                event: packet.event(),
+                queue,
+                number: *number,
+            })?;
+        }
         let waiting = self.waiting(alloc, queue)?;
-        Ok(self.waiting_len(queue) == wanted.len() && waiting.as_slice() == wanted)
+        Ok(self.waiting_len(queue) == wanted.len() && waiting.as_slice() == all.as_slice())
     }
 
     /// Whether the first queue has so many places, and keeps these events.

@@ -7,9 +7,10 @@ use crate::burst::Burst;
 use crate::case::{Case, SECOND};
 use crate::config::bench_shape;
 use crate::fault::BenchFault;
+use crate::logs::BenchLog;
 use arrayvec::ArrayVec;
 use event_device::{Port, Scheduler, device};
-use evt_types::{Delivery, Event, Step};
+use evt_types::{Delivery, Event};
 use std::alloc::Global;
 
 /// How many events went by.
@@ -23,14 +24,13 @@ pub struct Counts {
     pub released: u64,
 }
 
-/// A device, what is enqueued in a round, and what went by. Events go through it in bursts of one length.
+/// A device with its log, what is enqueued in a round, and what went by. Events go through it in bursts of one length.
 #[derive(Drop)]
-pub struct Bench {
+pub struct Bench<L> {
     scheduler: Scheduler,
     source: Port,
     worker: Port,
-    /// The steps of the last sweep.
-    log: Vec<Step>,
+    log: L,
     /// The events of a burst.
     events: Vec<Event>,
     /// A portion of releases.
@@ -84,20 +84,21 @@ fn push_forwards(deliveries: &[Delivery], events: &mut Vec<Event>) -> Result<(),
     Ok(())
 }
 
-impl Bench {
+impl<L: BenchLog> Bench<L> {
     /// A device of the case, in which nothing has happened.
-    pub fn new(alloc: Global, case: Case, burst: usize) -> Result<Bench, BenchFault>
+    pub fn new(alloc: Global, case: Case, burst: usize) -> Result<Bench<L>, BenchFault>
         ensures { IfOk result (λ b. IsFresh b case burst) }
     {
         let burst = Burst::new(burst, case.room())?;
         let events = Vec::with_capacity(alloc, burst.length as usize)?;
         let releases = vec![in alloc; Event::release(); burst.portion as usize]?;
+        let log = L::make(alloc)?;
         let (scheduler, source, worker) = parts_of(alloc, case)?;
         Ok(Bench {
             scheduler,
             source,
             worker,
-            log: Vec::new(alloc),
+            log,
             events,
             releases,
             deliveries: ArrayVec::new(),
@@ -130,7 +131,7 @@ impl Bench {
     fn sweep(&mut self) -> Result<(), BenchFault>
         ensures { OnOk result (Moves self.old self.new 0 self.old.burst.portion 0) }
     {
-        self.log.clear();
+        self.log.before_sweep();
         let swept = self.scheduler.sweep(&mut self.log)?;
         self.counts.given = add(self.counts.given, swept.given, self.burst.portion)?;
         Ok(())
@@ -212,7 +213,7 @@ impl Bench {
     pub fn settle(&mut self) -> Result<usize, BenchFault>
         ensures { OnOk result (Moves self.old self.new 0 0 0) }
     {
-        self.log.clear();
+        self.log.before_sweep();
         self.scheduler.sweep(&mut self.log)?;
         Ok(self.scheduler.inside())
     }

@@ -2,6 +2,7 @@
 
 ghost use Rattle.std.specs.Prelude.{◌≡◌, ◌<◌, ◌≤◌, ◌^◌};
 
+use crate::logs::LogKind;
 use evt_types::{Event, FLOW_DEPTH, Kind, MAX_DEPTH, MAX_SLOTS, Op, Serving};
 
 /// The queue that new events enter.
@@ -21,6 +22,7 @@ pub struct Case {
     pub flows: u32,
     /// Whether the worker forwards each event to a parallel queue, and releases it there.
     pub forwards: bool,
+    pub log: LogKind,
     pub ghost in_range: { (1 ≤ flows) × (flows ≤ 2 ^ 20) },
 }
 
@@ -34,6 +36,7 @@ fn make_case(name: &'static str, kind: Kind, flows: u32, forwards: bool) -> Case
         serving: Serving::Ports,
         flows,
         forwards,
+        log: LogKind::Counted,
     }
 }
 
@@ -47,14 +50,29 @@ fn make_lane_case(name: &'static str, flows: u32) -> Case
         serving: Serving::Flows,
         flows,
         forwards: false,
+        log: LogKind::Counted,
+    }
+}
+
+/// A case in which the device has this log, with what it is compared with in the case `atomic-64-flows`.
+fn make_log_case(name: &'static str, log: LogKind) -> Case {
+    Case {
+        name,
+        kind: Kind::Atomic,
+        serving: Serving::Ports,
+        flows: 64,
+        forwards: false,
+        log,
     }
 }
 
 /// The cases, in the order in which they run.
-pub fn cases() -> [Case; 9] {
+pub fn cases() -> [Case; 11] {
     [
         make_case("atomic-1-flow", Kind::Atomic, 1, false),
         make_case("atomic-64-flows", Kind::Atomic, 64, false),
+        make_log_case("atomic-64-flows-vector", LogKind::Vector),
+        make_log_case("atomic-64-flows-tally", LogKind::Tally),
         make_case("atomic-1024-flows", Kind::Atomic, 1024, false),
         make_lane_case("atomic-1-flow-lanes", 1),
         make_lane_case("atomic-64-flows-lanes", 64),

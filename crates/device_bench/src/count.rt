@@ -6,6 +6,9 @@ ghost use Rattle.device_bench.specs.Rounds.{gifts_of, through};
 use crate::bench::{Bench, Counts};
 use crate::case::Case;
 use crate::fault::BenchFault;
+use crate::logs::{BenchLog, LogKind};
+use event_device::{Counted, Tally};
+use evt_types::Step;
 use std::alloc::Global;
 
 /// So many bursts go through the device while its events are counted.
@@ -25,7 +28,7 @@ pub struct Passed {
 }
 
 /// Lets some bursts of events go through the device, which is new.
-fn count_in(bench: &mut Bench) -> Result<Passed, BenchFault>
+fn count_in<L: BenchLog>(bench: &mut Bench<L>) -> Result<Passed, BenchFault>
     requires { (bench.old.counts.entered ≡ 0) × (bench.old.counts.given ≡ 0) × (bench.old.counts.released ≡ 0) }
     ensures entered { IfOk result (λ p. p.entered ≡ ROUNDS * bench.old.burst.length) }
     ensures given { IfOk result (λ p. p.given ≡ ROUNDS * through bench.old) }
@@ -46,12 +49,25 @@ fn count_in(bench: &mut Bench) -> Result<Passed, BenchFault>
     })
 }
 
+/// Lets some bursts of events of the case go through a device with a log of this type.
+fn count_with<L: BenchLog>(alloc: Global, case: Case, burst: usize) -> Result<Passed, BenchFault>
+    ensures entered { IfOk result (λ p. p.entered ≡ ROUNDS * burst) }
+    ensures given { IfOk result (λ p. p.given ≡ ROUNDS * (gifts_of case * burst)) }
+    ensures released { IfOk result (λ p. p.released ≡ ROUNDS * burst) }
+{
+    let mut bench: Bench<L> = Bench::new(alloc, case, burst)?;
+    count_in(&mut bench)
+}
+
 /// Lets some bursts of events of the case go through a device.
 pub fn count(alloc: Global, case: Case, burst: usize) -> Result<Passed, BenchFault>
     ensures entered { IfOk result (λ p. p.entered ≡ ROUNDS * burst) }
     ensures given { IfOk result (λ p. p.given ≡ ROUNDS * (gifts_of case * burst)) }
     ensures released { IfOk result (λ p. p.released ≡ ROUNDS * burst) }
 {
-    let mut bench = Bench::new(alloc, case, burst)?;
-    count_in(&mut bench)
+    match case.log {
+        LogKind::Counted => count_with::<Counted>(alloc, case, burst),
+        LogKind::Vector => count_with::<Vec<Step>>(alloc, case, burst),
+        LogKind::Tally => count_with::<Tally<Counted>>(alloc, case, burst),
+    }
 }

@@ -8,6 +8,7 @@ mod case;
 mod config;
 mod count;
 mod fault;
+mod logs;
 mod measure;
 
 use case::{BURSTS, cases};

@@ -3,6 +3,9 @@
 use crate::bench::Bench;
 use crate::case::Case;
 use crate::fault::BenchFault;
+use crate::logs::{BenchLog, LogKind};
+use event_device::{Counted, Tally};
+use evt_types::Step;
 use std::alloc::Global;
 use std::fmt;
 use std::time::{CpuClock, Duration};
@@ -49,7 +52,11 @@ pub struct Times {
 }
 
 /// The processor time in which so many events go through.
-fn timed(clock: &impl CpuClock, bench: &mut Bench, rounds: u64) -> Result<Duration, BenchFault> {
+fn timed<L: BenchLog>(
+    clock: &impl CpuClock,
+    bench: &mut Bench<L>,
+    rounds: u64,
+) -> Result<Duration, BenchFault> {
     let Ok(start) = clock.thread_cpu_time() else {
         return Err(BenchFault::Clock);
     };
@@ -61,7 +68,11 @@ fn timed(clock: &impl CpuClock, bench: &mut Bench, rounds: u64) -> Result<Durati
 }
 
 /// How long an event takes that goes through this device in bursts of this length.
-fn measure_in(clock: &impl CpuClock, bench: &mut Bench, burst: usize) -> Result<Times, BenchFault> {
+fn measure_in<L: BenchLog>(
+    clock: &impl CpuClock,
+    bench: &mut Bench<L>,
+    burst: usize,
+) -> Result<Times, BenchFault> {
     let rounds = |events: u64| events.checked_div(burst as u64).unwrap_or(0);
     let first = timed(clock, bench, rounds(END_EVENTS))?;
     let middle = timed(clock, bench, rounds(ALL_EVENTS - 2 * END_EVENTS))?;
@@ -74,13 +85,27 @@ fn measure_in(clock: &impl CpuClock, bench: &mut Bench, burst: usize) -> Result<
     })
 }
 
-/// How long an event of the case takes.
-pub fn measure(
-    clock: &impl CpuClock,
+/// How long an event of the case takes where the device has a log of this type.
+fn measure_with<L: BenchLog, C: CpuClock>(
+    clock: &C,
     alloc: Global,
     case: Case,
     burst: usize,
 ) -> Result<Times, BenchFault> {
-    let mut bench = Bench::new(alloc, case, burst)?;
+    let mut bench: Bench<L> = Bench::new(alloc, case, burst)?;
     measure_in(clock, &mut bench, burst)
+}
+
+/// How long an event of the case takes.
+pub fn measure<C: CpuClock>(
+    clock: &C,
+    alloc: Global,
+    case: Case,
+    burst: usize,
+) -> Result<Times, BenchFault> {
+    match case.log {
+        LogKind::Counted => measure_with::<Counted, C>(clock, alloc, case, burst),
+        LogKind::Vector => measure_with::<Vec<Step>, C>(clock, alloc, case, burst),
+        LogKind::Tally => measure_with::<Tally<Counted>, C>(clock, alloc, case, burst),
+    }
 }

@@ -11,7 +11,7 @@ mod worker;
 
 use anyhow::{Context, Result, bail};
 use config::{new_event, shape};
-use event_device::{Control, Counted, Port, Recorder, device};
+use event_device::{Control, Counted, Port, Recorder, Tally, device};
 use report::print_report;
 use std::thread::{join, yield_now};
 use worker::work;
@@ -42,7 +42,7 @@ fn bring_in(port: &mut Port) -> Result<()>
 }
 
 /// Sweeps until nothing is inside: a sweep takes what the ports enqueued, and hands out what waits.
-fn sweep_all(recorder: &mut Recorder<Counted>) -> Result<()>
+fn sweep_all(recorder: &mut Recorder<Tally<Counted>>) -> Result<()>
     ensures { scheduler_of recorder.new.sight ≡ scheduler_of recorder.old.sight }
 {
     for _ in 0..u64::MAX {
@@ -58,9 +58,9 @@ fn sweep_all(recorder: &mut Recorder<Counted>) -> Result<()>
 /// The main thread's part: it brings ten events in, sweeps until they are handled, and shuts the device. All comes back.
 fn bring_through(
     source: Port,
-    recorder: Recorder<Counted>,
+    recorder: Recorder<Tally<Counted>>,
     control: Control,
-) -> (Port, Recorder<Counted>, Control, Result<()>)
+) -> (Port, Recorder<Tally<Counted>>, Control, Result<()>)
     ensures source { site_of result.0 ≡ site_of source }
     ensures recorder { scheduler_of result.1.sight ≡ scheduler_of recorder.sight }
     ensures control { control_of result.2 ≡ control_of control }
@@ -75,12 +75,13 @@ fn bring_through(
 
 fn main(rt: HostRuntime) -> Result<()> {
     let alloc = rt.alloc();
+    // The log counts the steps, by queue and by lane, and keeps none, so that the device may run for as long as it likes.
+    let log = Tally::new(alloc, Counted::new())?;
     let Ok((scheduler, ports, control)) = device(alloc, shape(alloc)?) else {
         bail!("the device isn't made");
     };
     let (source, worker) = two_of(ports).context("there aren't two ports")?;
-    // Its log counts the steps and keeps none, so that the device may run for as long as it likes.
-    let recorder = Recorder::begin_with(Counted::new(), scheduler);
+    let recorder = Recorder::begin_with(alloc, log, scheduler);
 
     // A port is for one thread: the worker's moves into a thread of its own, and comes back at the join.
     let ((worker, sum), (source, recorder, control, through)) = join(

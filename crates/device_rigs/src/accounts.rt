@@ -53,8 +53,8 @@ pub fn left_of(report: &Report, queue: usize) -> usize {
 /// The events that the report lists.
 pub fn listed(alloc: Global, checker: &Checker, report: &Report) -> Result<Vec<Event>, Fault> {
     let mut events = Vec::new(alloc);
-    list_waiting(checker, report, &mut events)?;
-    list_undelivered(checker, report, &mut events)?;
+    list_waiting(report, &mut events)?;
+    list_undelivered(report, &mut events)?;
     list_held(checker, report, &mut events)?;
     list_kept(report, &mut events)?;
     list_untaken(report, &mut events)?;
@@ -75,20 +75,16 @@ fn list_untaken(report: &Report, events: &mut Vec<Event>) -> Result<(), Fault> {
     Ok(())
 }
 
-fn list_waiting(checker: &Checker, report: &Report, events: &mut Vec<Event>) -> Result<(), Fault> {
-    for (queue, number) in report.waiting.iter() {
-        append(events, checker.event(*queue, *number)?)?;
+fn list_waiting(report: &Report, events: &mut Vec<Event>) -> Result<(), Fault> {
+    for waiting in report.waiting.iter() {
+        append(events, waiting.event)?;
     }
     Ok(())
 }
 
-fn list_undelivered(
-    checker: &Checker,
-    report: &Report,
-    events: &mut Vec<Event>,
-) -> Result<(), Fault> {
+fn list_undelivered(report: &Report, events: &mut Vec<Event>) -> Result<(), Fault> {
     for left in report.undelivered.iter() {
-        append(events, checker.event(left.queue, left.number)?)?;
+        append(events, left.event)?;
     }
     Ok(())
 }

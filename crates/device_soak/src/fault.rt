@@ -1,5 +1,6 @@
 //! Why a soak stops before its end.
 
+use crate::long_fault::LongFault;
 use device_rigs::{AccountFault, RigFault};
 use std::alloc::{AllocError, AllocFailed};
 use thiserror::Error;
@@ -42,8 +43,8 @@ impl From<AccountFault> for Cause {
 /// Why a soak stops before its end.
 #[derive(Clone, Copy, Debug, Error)]
 pub enum SoakFault {
-    /// The words of the command line are no seed and seconds.
-    #[error("the words are a seed and how many seconds, both numbers")]
+    /// The words of the command line are neither a seed and seconds nor these after `long`.
+    #[error("the words are a seed and how many seconds, both numbers, and `long` before them for one device")]
     Words,
     /// A line couldn't be written.
     #[error("a line can't be written")]
@@ -57,6 +58,9 @@ pub enum SoakFault {
     /// The round of this number, counted from 0, went wrong.
     #[error("seed {seed}, round {round}: {cause}")]
     Round { seed: u64, round: u64, cause: Cause },
+    /// The device that ran for long went wrong.
+    #[error("seed {seed}: {fault}")]
+    Long { seed: u64, fault: LongFault },
 }
 
 impl SoakFault {

@@ -1,17 +1,30 @@
 //! The program `device_soak [SEED [SECONDS]]`: over and over a device of a random shape runs in threads of its own, is shut at a random
 //! moment, and must account for each event and each credit. It prints the seed, and on standard error how many runs and events there
 //! were. A fault ends it with status 1 and names the seed and the round.
+//!
+//! With `device_soak long [SEED [SECONDS]]` one device runs all the time, in one thread, over a log that counts its steps and keeps
+//! none: by ports where the seed is odd, by flow lanes where it is even. The program counts for itself what its calls do, and at the
+//! end the device's counts and its report must agree with that. Nothing of it grows with the events, of which it prints the number on
+//! standard error.
 #![tactic(auto)]
 
 mod asked;
+mod counted_device;
 mod drawing;
 mod fault;
+mod ledger;
+mod long;
+mod long_fault;
+mod long_plan;
+mod player;
 mod round;
+mod settlement;
 mod soak;
 
-use asked::{Asked, read_words};
+use asked::{Asked, Way, read_words};
 use fault::SoakFault;
-use soak::{Tally, soak};
+use long::soak_one;
+use soak::{Ran, soak};
 use std::env;
 use std::process::ExitCode;
 use std::rt::Env;
@@ -27,15 +40,35 @@ fn asked_for<R: AllocGlobal + Env>(rt: &R) -> Result<Asked, SoakFault> {
     read_words(&words)
 }
 
-/// Prints the seed, and runs devices until the seconds are over.
+/// Runs devices until the seconds are over, and prints how many.
+fn run_rounds<R: AllocGlobal + Eprint + Clock + Threads + Sync>(
+    rt: &R,
+    asked: Asked,
+) -> Result<(), SoakFault> {
+    let Ran { runs, events } = soak(rt, rt.alloc(), asked)?;
+    eprintln!(rt; "{runs} runs, {events} events").map_err(|_| SoakFault::Write)
+}
+
+/// Runs one device until the seconds are over, and prints how many events came into it.
+fn run_long<R: AllocGlobal + Eprint + Clock>(rt: &R, asked: Asked) -> Result<(), SoakFault> {
+    let seed = asked.seed;
+    match soak_one(rt, rt.alloc(), asked) {
+        Ok(events) => eprintln!(rt; "{events} events").map_err(|_| SoakFault::Write),
+        Err(fault) => Err(SoakFault::Long { seed, fault }),
+    }
+}
+
+/// Prints the seed, and runs what the command line asks for.
 fn run<R: AllocGlobal + Env + Print + Eprint + Clock + Threads + Sync>(
     rt: &R,
 ) -> Result<(), SoakFault> {
     let asked = asked_for(rt)?;
     let seed = asked.seed;
     println!(rt; "seed {seed}").map_err(|_| SoakFault::Write)?;
-    let Tally { runs, events } = soak(rt, rt.alloc(), asked)?;
-    eprintln!(rt; "{runs} runs, {events} events").map_err(|_| SoakFault::Write)
+    match asked.way {
+        Way::Rounds => run_rounds(rt, asked),
+        Way::Long => run_long(rt, asked),
+    }
 }
 
 fn main(rt: HostRuntime) -> ExitCode {

@@ -11,7 +11,7 @@ use std::time::{Clock, Duration, Instant};
 
 /// How many devices were run, and how many events they accepted as new.
 #[derive(Clone, Copy)]
-pub struct Tally {
+pub struct Ran {
     pub runs: u64,
     pub events: u64,
 }
@@ -21,11 +21,11 @@ pub fn soak<R: Clock + Threads + Sync>(
     rt: &R,
     alloc: Global,
     asked: Asked,
-) -> Result<Tally, SoakFault> {
-    let Asked { seed, seconds } = asked;
+) -> Result<Ran, SoakFault> {
+    let Asked { seed, seconds, .. } = asked;
     let wanted = Duration::from_secs(seconds);
     let start = Instant::now(rt).map_err(|_| SoakFault::Clock)?;
-    let mut tally = Tally { runs: 0, events: 0 };
+    let mut ran = Ran { runs: 0, events: 0 };
     for number in 0..u64::MAX {
         let passed = start.elapsed(rt).map_err(|_| SoakFault::Clock)?;
         if passed >= wanted {
@@ -45,8 +45,8 @@ pub fn soak<R: Clock + Threads + Sync>(
                 }
             },
         )?;
-        tally.runs = tally.runs.saturating_add(1);
-        tally.events = tally.events.saturating_add(entered);
+        ran.runs = ran.runs.saturating_add(1);
+        ran.events = ran.events.saturating_add(entered);
     }
-    Ok(tally)
+    Ok(ran)
 }

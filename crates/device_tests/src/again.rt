@@ -6,8 +6,7 @@ use crate::left::{Left, NOTHING};
 use crate::steps::{FIFTH, FIRST, FOURTH, Logged, ORDERED, OTHER, PARALLEL, THIRD, is_log};
 use device_rigs::{Call, Plan, PortPlan, Rig, RigFault, SOURCE, Sent, WORKER};
 use event_device::{
-    Control, DeviceFault, Held, Memory, Port, Report, Scheduler, StopFault, Swept, Undelivered,
-    device,
+    Control, DeviceFault, Held, Memory, Port, Report, Scheduler, StopFault, Swept, device,
 };
 use evt_types::{Event, Op, Serving, Shape, ShapeFault, Step};
 use std::alloc::Global;
@@ -80,18 +79,7 @@ static SECOND_FORWARDED_FIRST: Row = Row {
         Logged::Given(2, 1, 1),
     ],
     left: Left {
-        undelivered: &[
-            Undelivered {
-                lane: 2,
-                queue: 1,
-                number: 0,
-            },
-            Undelivered {
-                lane: 2,
-                queue: 1,
-                number: 1,
-            },
-        ],
+        undelivered: &[(2, 1, 0, EARLY), (2, 1, 1, LATE)],
         free: 2,
         pockets: &[0, 0, 0],
         ..NOTHING
@@ -147,13 +135,9 @@ static EVENT_IN_EACH_PLACE: Row = Row {
         Logged::Entered(FOURTH),
     ],
     left: Left {
-        waiting: &[(0, 3)],
+        waiting: &[(0, 3, FOURTH)],
         kept: &[(0, 1, LATE)],
-        undelivered: &[Undelivered {
-            lane: 2,
-            queue: 0,
-            number: 2,
-        }],
+        undelivered: &[(2, 0, 2, THIRD)],
         held: &[Held {
             port: 1,
             queue: 0,
@@ -172,6 +156,24 @@ fn shape_again(alloc: Global, plan: &Plan) -> Result<Shape, RigFault> {
         made => made,
     }
 }
+
+/// A device that is shut turns away what it has not taken.
+static SHUT: Row = Row {
+    plan: TWO_QUEUES,
+    calls: &[
+        Call::Enqueue(0, FIRST, Ok(())),
+        Call::Enqueue(0, OTHER, Ok(())),
+        Call::Shut,
+        Call::Sweep(2, 0),
+    ],
+    log: &[Logged::Shut, Logged::Turned(FIRST), Logged::Turned(OTHER)],
+    left: Left {
+        turned: &[(0, FIRST), (0, OTHER)],
+        free: 4,
+        pockets: &[0, 0, 0],
+        ..NOTHING
+    },
+};
 
 /// A device, made of the configuration that came back where the first try was refused.
 fn rig_again(alloc: Global, plan: &Plan) -> Result<Rig, RigFault> {
@@ -260,6 +262,13 @@ fn event_in_each_place_by_ports(rt: HostRuntime) -> Result<(), Fail> {
 #[test]
 fn event_in_each_place_by_flows(rt: HostRuntime) -> Result<(), Fail> {
     let other = other_in(rt.alloc(), &EVENT_IN_EACH_PLACE, Serving::Flows)?;
+    assert_eq!(rt; other, None);
+    Ok(())
+}
+
+#[test]
+fn what_is_turned_away_is_reported(rt: HostRuntime) -> Result<(), Fail> {
+    let other = other_in(rt.alloc(), &SHUT, Serving::Ports)?;
     assert_eq!(rt; other, None);
     Ok(())
 }

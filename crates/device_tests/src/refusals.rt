@@ -236,8 +236,8 @@ fn other_events_in(one: &Report, other: &Report) -> Option<&'static str> {
         Some("waiting or kept")
     } else if one.undelivered != other.undelivered || one.held != other.held {
         Some("undelivered or held")
-    } else if one.untaken != other.untaken {
-        Some("untaken")
+    } else if one.untaken != other.untaken || one.turned != other.turned {
+        Some("untaken or turned")
     } else {
         other_credits_in(one, other)
     }

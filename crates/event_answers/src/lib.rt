@@ -5,4 +5,4 @@ mod answer;
 mod report;
 
 pub use answer::{Behind, Refused, StopFault, Swept};
-pub use report::{Held, Report, Undelivered, Untaken};
+pub use report::{Held, Report, Turned, Undelivered, Untaken};

@@ -16,7 +16,7 @@ use Rattle.lane_rings.specs.Identity.{LaneId, far_id}
 use Rattle.lane_rings.specs.declared.far.Far.{Far}
 use Rattle.event_ports.specs.declared.port.Port.{Port}
 use Rattle.event_recorder.specs.Device.{Device, IsDevice, depth_in, port_site, site_of}
-use Rattle.event_device.specs.Prepared.{AreNewPorts, FitsPlan, IsEmptyPort, IsNewPort, IsUndrawn, device_by}
+use Rattle.event_device.specs.Prepared.{AreNewPorts, FitsPlan, IsEmptyPort, IsNewPort, IsUncounted, IsUndrawn, device_by}
 use Rattle.event_device.specs.Seats.{AreSeats, claim_parts, credit_parts}
 use Rattle.event_device.specs.declared.shared.Seats.{Seats}
 use Rattle.event_device.specs.declared.shared.Shared.{Shared}
@@ -100,6 +100,7 @@ more_ports d n m ports port so_far one next = record {
       ∙ sym (map-range_with_len_more (port_site d) 0 n n (omega arith)) ∙ ap (λ k. map (port_site d) (range_with_len 0 k)) (sym next);
   empty = All-push IsEmptyPort ports port so_far.empty one.empty;
   undrawn = All-push IsUndrawn ports port so_far.undrawn one.undrawn;
+  uncounted = All-push IsUncounted ports port so_far.uncounted one.uncounted;
 }
 
 pub making_more : (p : Plan) (shared : Shared) (owns done rest : List Far) (own : Far) (left : List Far) (ports ports_after : List Port) (port : Port) (seats seats_after : Seats)

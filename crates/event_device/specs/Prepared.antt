@@ -7,8 +7,9 @@ use Rattle.evt_types.specs.Plan.{Plan, flow_lanes}
 use Rattle.flow_claims.specs.Claims.{lanes_of}
 use Rattle.lane_rings.specs.Identity.{LaneId, far_id, near_id}
 use Rattle.lane_rings.specs.declared.far.Far.{Far}
+use Rattle.event_ports.specs.Counts.{no_counts}
 use Rattle.event_ports.specs.Lanes.{IsEmptyHand}
-use Rattle.event_ports.specs.Ports.{account_of, hand, pocket_of}
+use Rattle.event_ports.specs.Ports.{account_of, counts_of, hand, pocket_of}
 use Rattle.event_ports.specs.declared.port.Port.{Port}
 use Rattle.event_recorder.specs.Device.{Device, IsDevice, port_site, site_of}
 use Rattle.event_device.specs.Ends.{IsUnusedNear}
@@ -37,17 +38,23 @@ IsEmptyPort port = IsEmptyHand (hand port) × (pocket_of port ≡ 0)
 abbrev pub IsUndrawn : Port → Type 0
 IsUndrawn port = ((account_of port).drawn ≡ 0) × ((account_of port).returned ≡ 0)
 
+-- it counted nothing
+abbrev pub IsUncounted : Port → Type 0
+IsUncounted port = counts_of port ≡ no_counts
+
 -- the device's port of this number, just made
 pub record IsNewPort (d : Device) (n : ℕ) (port : Port) : Type 0 where
   pub site : site_of port ≡ port_site d n
   pub empty : IsEmptyPort port
   pub undrawn : IsUndrawn port
+  pub uncounted : IsUncounted port
 
 -- the first of the device's ports, just made
 pub record AreNewPorts (d : Device) (count : ℕ) (ports : List Port) : Type 0 where
   pub sites : map site_of ports ≡ map (port_site d) (range_with_len 0 count)
   pub empty : All IsEmptyPort ports
   pub undrawn : All IsUndrawn ports
+  pub uncounted : All IsUncounted ports
 
 -- the device to which these belong
 abbrev pub device_in : Plan → Prepared → Device

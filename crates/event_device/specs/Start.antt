@@ -2,8 +2,9 @@
 use Rattle.std.specs.Prelude.{◌≡◌, false, List, [], length, map, All}
 use Rattle.std.specs.List.{range_with_len}
 use Rattle.evt_types.specs.Plan.{Plan}
+use Rattle.event_ports.specs.Counts.{no_counts}
 use Rattle.event_ports.specs.Lanes.{IsEmptyHand}
-use Rattle.event_ports.specs.Ports.{account_of, hand, pocket_of}
+use Rattle.event_ports.specs.Ports.{account_of, counts_of, hand, pocket_of}
 use Rattle.event_ports.specs.declared.port.Port.{Port}
 use Rattle.event_recorder.specs.Control.{control_of, was_shut}
 use Rattle.event_recorder.specs.Device.{Device, IsDevice, control_site, port_site, scheduler_of, scheduler_site, site_of}
@@ -11,7 +12,8 @@ use Rattle.event_recorder.specs.declared.control.Control.{Control}
 use Rattle.event_scheduler.specs.Scheduler.{Serves, sight_of}
 use Rattle.event_scheduler.specs.declared.scheduler.Scheduler.{Scheduler}
 
--- A device just made: of one configuration, with all credits free, nothing accepted, and nothing submitted or received by a port.
+-- A device just made: of one configuration, with all credits free, nothing accepted, and nothing submitted, received or counted by a
+-- port.
 pub record IsMade (p : Plan) (scheduler : Scheduler) (ports : List Port) (control : Control) : Type 0 where
   pub device : Device
   pub plan : device.plan ≡ p
@@ -22,5 +24,6 @@ pub record IsMade (p : Plan) (scheduler : Scheduler) (ports : List Port) (contro
   pub ports_are : map site_of ports ≡ map (port_site device) (range_with_len 0 (length p.ports))
   pub empty : All (λ x. IsEmptyHand (hand x) × (pocket_of x ≡ 0)) ports
   pub undrawn : All (λ x. ((account_of x).drawn ≡ 0) × ((account_of x).returned ≡ 0)) ports
+  pub uncounted : All (λ x. counts_of x ≡ no_counts) ports
   pub control_is : control_of control ≡ control_site device
   pub not_shut : was_shut control ≡ false

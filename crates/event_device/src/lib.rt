@@ -8,11 +8,12 @@ mod ports;
 mod shared;
 mod start;
 
-pub use event_ports::{Behind, Holding, Lane, Port, Refused};
+pub use event_ports::{Behind, Holding, Lane, Port, PortCounts, Refused};
 pub use event_recorder::{
-    Control, Held, Memory, Recorder, Report, StopFault, Swept, Undelivered, Untaken,
+    Control, Held, Memory, Recorder, Report, StopFault, Swept, Turned, Undelivered, Untaken,
 };
 pub use event_scheduler::Scheduler;
 pub use fault::DeviceFault;
 pub use start::device;
 pub use step_log::{Counted, StepLog};
+pub use step_tally::{LaneCounts, QueueCounts, Tail, Tally};

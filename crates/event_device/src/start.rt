@@ -61,8 +61,8 @@ fn prepare(alloc: Global, shape: &Shape) -> Result<Prepared, Want>
     })
 }
 
-/// Makes a device: its scheduler, its ports, in the order of the configuration, and its control. All credits are free. After a
-/// refusal the configuration comes back and will serve again.
+/// Makes a device: its scheduler, its ports, in the order of the configuration, and its control. All credits are free, and no port
+/// counted anything. After a refusal the configuration comes back and will serve again.
 pub fn device(alloc: Global, shape: Shape) -> Result<(Scheduler, Vec<Port>, Control), DeviceFault>
     ensures made { IfOk result (λ r. IsMade shape r.0 r.1.items r.2) }
     ensures back { IfErr result (λ e. shape_in e ≡ shape) }

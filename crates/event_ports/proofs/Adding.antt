@@ -16,7 +16,7 @@ use Rattle.event_ports.specs.Flows.{FlowPlace, flow_place, hands_of}
 use Rattle.event_ports.specs.Handed.{CountsNone, CountsOne, flow_count, hand_of, lanes_place}
 use Rattle.event_ports.specs.Lanes.{AreOrdered, held_of, open_on, pair_in}
 use Rattle.event_ports.proofs.Calls.{AreIdle, gave_back, held_added, more_needs, says_no_new, same_no_new}
-use Rattle.event_ports.proofs.Counts.{counts_none, counts_one}
+use Rattle.event_ports.proofs.Submitted.{counts_none, counts_one}
 use Rattle.event_ports.proofs.Extras.{added_said, added_same}
 use Rattle.event_ports.proofs.Orders.{each_lane}
 

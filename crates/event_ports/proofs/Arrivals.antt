@@ -1,5 +1,5 @@
 -- What arrives comes after what was received before, lane by lane and in all.
-use Rattle.std.proofs.Common.{◌≡◌, ◌≢◌, ℕ, suc, ◌+◌, ◌<◌, ◌≤◌, cond, true, false, List, [], ◌∷◌, ◌++◌, length, map, filter, All, refl, sym, ap, ◌∙◌, subst, arith, append-nil, append_assoc}
+use Rattle.std.proofs.Common.{◌≡◌, ◌≢◌, ℕ, suc, ◌+◌, ◌<◌, ◌≤◌, cond, true, List, [], ◌∷◌, ◌++◌, length, map, filter, All, refl, sym, ap, ◌∙◌, subst, arith, append-nil, append_assoc}
 use Rattle.std.proofs.lemmas.List.{map-append, length-append, length-map}
 use Rattle.std.proofs.lemmas.List.Elements.{All-nil, All-cons, All-weaker, filter-append}
 use mathlib.Core.Logic.{dite}
@@ -10,8 +10,8 @@ use Rattle.event_ports.specs.declared.lane.Lane.{Lane}
 use Rattle.event_ports.specs.declared.lane.Holding.{Holding}
 use Rattle.event_ports.specs.Lanes.{Hand, Rests, Takes, Arrival, Arrives, ArrivesFrom, ComesInOrder, HasRoomFor, lanes_read, from_lane, same_lane, holding_of}
 use Rattle.event_ports.specs.declared.lane.Lane.TheVariants.{Own, Flow}
-use Rattle.event_ports.proofs.Orders.{by_lane, lane_same, own_flow}
-use Rattle.event_ports.proofs.ReadOrder.{from_one, one_in_order, more_in_order, all_linked_to}
+use Rattle.event_ports.proofs.Orders.{by_lane, lane_same}
+use Rattle.event_ports.proofs.ReadOrder.{from_one, one_in_order, more_in_order, flows_only, all_linked_to}
 
 -- deliveries that arrived from one lane
 abbrev from : Lane → List Delivery → List Arrival
@@ -41,18 +41,12 @@ from_here lane l (d ∷ ds) e =
     let rest : List Arrival = filter (λ (a : Arrival). same_lane a.0 l) (from lane ds) in
     by_lane lane l (λ t. map (λ (a : Arrival). a.1) (cond t ((lane, d) ∷ rest) rest) ≡ d ∷ ds) (λ _. ap (λ (r : List Delivery). d ∷ r) (from_here lane l ds e)) (λ ne. absurd (ne e))
 
--- of those that came from one lane all, and of another none
+-- of those that came from one lane all
 all_of_lane : (lane : Lane) (xs : List Arrival) → All (λ (a : Arrival). a.0 ≡ lane) xs → from_lane lane xs ≡ map (λ (a : Arrival). a.1) xs
 all_of_lane lane xs all =
     ap (map (λ (a : Arrival). a.1))
     (filter-all (λ (a : Arrival). same_lane a.0 lane) xs
     (All-weaker (λ (a : Arrival). a.0 ≡ lane) (λ (a : Arrival). same_lane a.0 lane ≡ true) (λ a e. lane_same a.0 lane e) xs all))
-
-none_of_lane : (l lane : Lane) (xs : List Arrival) → lane ≢ l → All (λ (a : Arrival). a.0 ≡ lane) xs → from_lane l xs ≡ []
-none_of_lane l lane xs ne all =
-    ap (map (λ (a : Arrival). a.1))
-    (filter-none (λ (a : Arrival). same_lane a.0 l) xs
-    (All-weaker (λ (a : Arrival). a.0 ≡ lane) (λ (a : Arrival). same_lane a.0 l ≡ false) (λ a e. by_lane a.0 l (λ b. b ≡ false) (λ same. absurd (ne (sym e ∙ same))) (λ other. refl)) xs all))
 
 -- some arrived from the lane
 pub arrives_some : (lane : Lane) (h m : Hand) (b e ds : List Delivery) → Takes lane ds h m → e ≡ b ++ ds → ArrivesFrom (lane ∷ []) h m b e
@@ -80,13 +74,24 @@ arrives_none lane h m b same =
       holding = same.holding ∙ sym (append-nil h.holding);
     }) (sym (append-nil b))
 
--- more arrived, from one lane more
-pub arrives_more : (lanes more : List Lane) (lane : Lane) (h k m : Hand) (b c e : List Delivery) → more ≡ lanes ++ lane ∷ [] → ArrivesFrom lanes h k b c → ArrivesFrom (lane ∷ []) k m c e → ArrivesFrom more h m b e
-arrives_more lanes more lane h k m b c e read a t = record {
+-- no lane was read
+pub none_read : (h : Hand) (b : List Delivery) → ArrivesFrom [] h h b b
+none_read h b = record {
+  arrived = [];
+  deliveries = sym (append-nil b);
+  in_order = refl;
+  said = λ l. refl;
+  got = λ l. sym (append-nil (h.got l));
+  holding = sym (append-nil h.holding);
+}
+
+-- more arrived, from more lanes
+pub arrives_more : (lanes later all : List Lane) (h k m : Hand) (b c e : List Delivery) → all ≡ lanes ++ later → ArrivesFrom lanes h k b c → ArrivesFrom later k m c e → ArrivesFrom all h m b e
+arrives_more lanes later all h k m b c e read a t = record {
   arrived = a.arrived ++ t.arrived;
   deliveries = t.deliveries ∙ ap (λ r. r ++ map (λ (x : Arrival). x.1) t.arrived) a.deliveries ∙ append_assoc b (map (λ (x : Arrival). x.1) a.arrived) (map (λ (x : Arrival). x.1) t.arrived)
       ∙ ap (λ r. b ++ r) (sym (map-append (λ (x : Arrival). x.1) a.arrived t.arrived));
-  in_order = subst (λ (ls : List Lane). ComesInOrder ls (a.arrived ++ t.arrived)) (sym read) (more_in_order lanes lane a.arrived t.arrived a.in_order (from_one lane t.arrived t.in_order));
+  in_order = subst (λ (ls : List Lane). ComesInOrder ls (a.arrived ++ t.arrived)) (sym read) (more_in_order lanes later a.arrived t.arrived a.in_order t.in_order);
   said = λ l. t.said l ∙ a.said l;
   got = λ l. t.got l ∙ ap (λ r. r ++ from_lane l t.arrived) (a.got l) ∙ append_assoc (h.got l) (from_lane l a.arrived) (from_lane l t.arrived)
       ∙ ap (λ r. h.got l ++ r) (sym (ap (map (λ (x : Arrival). x.1)) (filter-append (λ (x : Arrival). same_lane x.0 l) a.arrived t.arrived)
@@ -117,12 +122,12 @@ own_only h k c seen a ne =
     let all : from_lane Own a.arrived ≡ map (λ (x : Arrival). x.1) a.arrived = all_of_lane Own a.arrived (from_one Own a.arrived a.in_order) in
     absurd (ne (omega (arith, ap length (a.got Own), length-append (h.got Own) (from_lane Own a.arrived), ap length all, ap length a.deliveries)))
 
--- what came from a flow lane after the own one: something only where no more was seen of the own one
-pub flow_after :
-    (h k m : Hand) (lane most : ℕ) (b c seen later : List Delivery) → length b ≤ most → (length b < most → seen ≡ [])
-    → (length (k.got Own) ≢ length (h.got Own) + length b → seen ≡ []) → ArrivesFrom (Flow lane ∷ []) k m b c → (length b ≡ most → c ≡ b) → later ≡ seen
+-- what came from flow lanes after the own one: something only where no more was seen of the own one
+pub flows_after :
+    (h k m : Hand) (links : List ℕ) (most : ℕ) (b c seen later : List Delivery) → length b ≤ most → (length b < most → seen ≡ [])
+    → (length (k.got Own) ≢ length (h.got Own) + length b → seen ≡ []) → ArrivesFrom (map Flow links) k m b c → (length b ≡ most → c ≡ b) → later ≡ seen
     → length (m.got Own) ≢ length (h.got Own) + length c → later ≡ []
-flow_after h k m lane most b c seen later few less before a none same ne =
+flows_after h k m links most b c seen later few less before a none same ne =
     dite (dec_le (suc (length b)) most)
     (λ lt. same ∙ less (omega (arith, lt)))
     (λ ge.
@@ -130,7 +135,7 @@ flow_after h k m lane most b c seen later few less before a none same ne =
     same ∙ before (λ e. ne (omega (arith, e, ap length full, own_kept))))
   where
     own_kept : length (m.got Own) ≡ length (k.got Own)
-    own_kept = ap length (a.got Own ∙ ap (λ r. k.got Own ++ r) (none_of_lane Own (Flow lane) a.arrived (own_flow lane) (from_one (Flow lane) a.arrived a.in_order)) ∙ append-nil (k.got Own))
+    own_kept = ap length (a.got Own ∙ ap (λ r. k.got Own ++ r) (ap (map (λ (x : Arrival). x.1)) (filter-none (λ (x : Arrival). same_lane x.0 Own) a.arrived (flows_only links a.arrived a.in_order))) ∙ append-nil (k.got Own))
 
 -- all lanes were read
 pub arrives : (links : List ℕ) (h k : Hand) (b c : List Delivery) → ArrivesFrom (lanes_read links) h k b c → Arrives links h k b c

@@ -13,7 +13,7 @@ use Rattle.event_ports.specs.declared.lane.Lane.{Lane}
 use Rattle.event_ports.specs.declared.lane.Lane.TheVariants.{Own, Flow}
 use Rattle.event_ports.specs.Holds.{Hands, held_now, place_at}
 use Rattle.event_ports.specs.Lanes.{AreOf, AreOrdered, held_of, pair_in, same_lane}
-use Rattle.event_ports.proofs.Counts.{IsThere}
+use Rattle.event_ports.proofs.Submitted.{IsThere}
 use Rattle.event_ports.proofs.Orders.{lane_same}
 use Rattle.event_ports.proofs.Places.{none_left, past_places}
 use Rattle.event_ports.proofs.Totals.{sum_split}

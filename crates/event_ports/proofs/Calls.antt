@@ -12,7 +12,7 @@ use Rattle.evt_types.specs.Operation.{is_answer_op, is_more_op, is_more_reply, i
 use Rattle.seat_sums.specs.Sums.{count}
 use Rattle.lane_rings.specs.Ends.{answers_among}
 use Rattle.event_ports.specs.Holds.{Hands, stint_in, received_on, answered_on, held_on, Same, SameBut, Gets, Brings, Says, HaveNoNew, GaveBack, NoneSurrendered}
-use Rattle.event_ports.proofs.Counts.{count_more}
+use Rattle.event_ports.proofs.Submitted.{count_more}
 use Rattle.event_ports.proofs.Refusals.{no_answer}
 
 -- no lane is held of which nothing is unanswered

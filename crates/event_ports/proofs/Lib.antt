@@ -4,7 +4,8 @@ pub mod Unanswered
 pub mod Turns
 pub mod Calls
 pub mod Orders
-pub mod Counts
+pub mod Submitted
+pub mod Taken
 pub mod Adding
 pub mod Refusals
 pub mod ReadOrder

@@ -6,7 +6,7 @@ use Rattle.lists.specs.Lists.{has}
 use Rattle.lists.proofs.Lists.{eqb_same}
 use Rattle.event_ports.specs.declared.lane.Lane.{Lane}
 use Rattle.event_ports.specs.declared.lane.Lane.TheVariants.{Own, Flow}
-use Rattle.event_ports.specs.Lanes.{Arrival, ComesInOrder, IsLinkedTo, lanes_read}
+use Rattle.event_ports.specs.Lanes.{Arrival, ComesInOrder, IsLinkedTo, lanes_read, same_lane}
 
 -- nothing arrived
 pub none_in_order : (lanes : List Lane) → ComesInOrder lanes []
@@ -22,11 +22,11 @@ from_one lane xs (here, later, parts, all, none) =
 pub one_in_order : (lane : Lane) (xs : List Arrival) → All (λ a. a.0 ≡ lane) xs → ComesInOrder (lane ∷ []) xs
 one_in_order lane xs all = (xs, [], sym (append-nil xs), all, refl)
 
--- one lane more was read
-pub more_in_order : (lanes : List Lane) (lane : Lane) (xs ys : List Arrival) → ComesInOrder lanes xs → All (λ a. a.0 ≡ lane) ys → ComesInOrder (lanes ++ lane ∷ []) (xs ++ ys)
-more_in_order [] lane xs ys none all = (ys, [], ap (λ r. r ++ ys) none ∙ sym (append-nil ys), all, refl)
-more_in_order (l ∷ lanes) lane xs ys (here, later, parts, first, rest) all =
-    (here, later ++ ys, ap (λ r. r ++ ys) parts ∙ append_assoc here later ys, first, more_in_order lanes lane later ys rest all)
+-- more lanes were read
+pub more_in_order : (lanes more : List Lane) (xs ys : List Arrival) → ComesInOrder lanes xs → ComesInOrder more ys → ComesInOrder (lanes ++ more) (xs ++ ys)
+more_in_order [] more xs ys none next = subst (ComesInOrder more) (sym (ap (λ r. r ++ ys) none)) next
+more_in_order (l ∷ lanes) more xs ys (here, later, parts, first, rest) next =
+    (here, later ++ ys, ap (λ r. r ++ ys) parts ∙ append_assoc here later ys, first, more_in_order lanes more later ys rest next)
 
 -- what holds of each lane that was read holds of those from which something arrived
 each_read : (P : Lane → Type 0) (lanes : List Lane) (xs : List Arrival) → All P lanes → ComesInOrder lanes xs → All (λ a. P a.0) xs
@@ -50,6 +50,14 @@ all_links more (l ∷ links) among =
 pub all_linked_to : (links : List ℕ) (xs : List Arrival) → ComesInOrder (lanes_read links) xs → All (λ a. IsLinkedTo links a.0) xs
 all_linked_to links xs order = each_read (IsLinkedTo links) (lanes_read links) xs (All-cons (IsLinkedTo links) Own (map Flow links) tt (all_links links links (λ j is. is))) order
 
--- the lanes that were read, where one link more was
-pub read_more : (links more : List ℕ) (lane : ℕ) → more ≡ links ++ lane ∷ [] → lanes_read more ≡ lanes_read links ++ Flow lane ∷ []
-read_more links more lane e = ap lanes_read e ∙ ap (λ r. Own ∷ r) (map-append Flow links (lane ∷ []))
+-- the flow lanes that were read, where one link more was
+pub read_more : (links more : List ℕ) (lane : ℕ) → more ≡ links ++ lane ∷ [] → map Flow more ≡ map Flow links ++ Flow lane ∷ []
+read_more links more lane e = ap (map Flow) e ∙ map-append Flow links (lane ∷ [])
+
+no_own : (links : List ℕ) → All (λ l. same_lane l Own ≡ false) (map Flow links)
+no_own [] = All-nil (λ (l : Lane). same_lane l Own ≡ false)
+no_own (j ∷ js) = All-cons (λ (l : Lane). same_lane l Own ≡ false) (Flow j) (map Flow js) refl (no_own js)
+
+-- nothing came from the own lane where flow lanes alone were read
+pub flows_only : (links : List ℕ) (xs : List Arrival) → ComesInOrder (map Flow links) xs → All (λ a. same_lane a.0 Own ≡ false) xs
+flows_only links xs order = each_read (λ l. same_lane l Own ≡ false) (map Flow links) xs (no_own links) order

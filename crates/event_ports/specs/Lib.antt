@@ -4,6 +4,7 @@ pub mod Lanes
 pub mod Handed
 pub mod Draws
 pub mod Desks
+pub mod Counts
 pub mod Ports
 pub mod Parts
 pub mod Stop

@@ -5,6 +5,7 @@ use Rattle.evt_types.specs.declared.event.Event.{Event}
 use Rattle.evt_types.specs.declared.event.Op.{Op}
 use Rattle.credit_pool.specs.declared.account.Account.{Account}
 use Rattle.event_answers.specs.declared.answer.Refused.{Refused}
+use Rattle.event_ports.specs.declared.counts.PortCounts.{PortCounts}
 use Rattle.event_ports.specs.declared.port.Port.{Port}
 use Rattle.event_ports.specs.Desks as desks
 use Rattle.event_ports.specs.Lanes.{Hand}
@@ -18,6 +19,10 @@ account_of p = desks.account_of p.desk
 
 abbrev pub pocket_of : Port → ℕ
 pocket_of p = desks.pocket_of p.desk
+
+-- what it counted since it was made
+abbrev pub counts_of : Port → PortCounts
+counts_of p = p.counts
 
 -- what it submitted, received and holds
 abbrev pub hand : Port → Hand

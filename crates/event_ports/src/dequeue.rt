@@ -31,6 +31,13 @@ impl Desk {
         (events.len(), None)
     }
 
+    // How many a dequeue releases first.
+    pub(crate) fn releases_first(&self) -> usize
+        ensures { result ≡ released_first self.now }
+    {
+        if self.implicit { self.lanes.held() } else { 0 }
+    }
+
     // What a dequeue does before the return rule.
     pub(crate) fn exchange(
         &mut self,

@@ -220,10 +220,7 @@ impl Lanes {
     {
         let most = max.min(self.order.capacity() - self.order.len());
         self.receive_own(most, into);
-        for place in 0..self.flows.link_count() {
-            let lane = self.flows.link(place);
-            self.receive_flow(lane, most, into);
-        }
+        self.receive_flows(most, into);
     }
 
     /// Makes all that was submitted and answered visible to the scheduler.
@@ -269,6 +266,23 @@ impl Lanes {
         let from = into.len();
         self.own.receive_some(most, into);
         note(&mut self.order, Lane::Own, from, into);
+    }
+
+    // Receives from the linked flow lanes in their order, until `most` deliveries came in all.
+    fn receive_flows(&mut self, most: usize, into: &mut ArrayVec<Delivery, 64>)
+        requires { HasRoomFor most (lanes_place self.old).depth (hand_of self.old).holding into.old.items }
+        ensures place { lanes_place self.new ≡ lanes_place self.old }
+        ensures counts { CountsNone self.old self.new }
+        ensures arrived { ArrivesFrom (map lanes.Flow (links_of self.old)) (hand_of self.old) (hand_of self.new) into.old.items into.new.items }
+        ensures room { HasRoomFor most (lanes_place self.new).depth (hand_of self.new).holding into.new.items }
+        ensures none { length into.old.items ≡ most → into.new.items ≡ into.old.items }
+        ensures others { seen_own self.new ≡ seen_own self.old }
+        ensures shown { AllShown self.old → AllShown self.new }
+    {
+        for place in 0..self.flows.link_count() {
+            let lane = self.flows.link(place);
+            self.receive_flow(lane, most, into);
+        }
     }
 
     // Receives from a flow lane to which the port is linked, until `most` deliveries came in all, or none is seen. The lane is held by

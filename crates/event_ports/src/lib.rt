@@ -2,6 +2,7 @@
 //! dequeues from them. No call of a port takes a lock or memory.
 #![tactic(auto)]
 
+mod counts;
 mod dequeue;
 mod desk;
 mod fill;
@@ -14,6 +15,7 @@ mod port;
 mod rest;
 mod stop;
 
+pub use counts::PortCounts;
 pub use event_answers::{Behind, Refused};
 pub use joined::{join_port, join_ports};
 pub use lane::{Holding, Lane};

@@ -13,10 +13,12 @@ ghost use Rattle.event_ports.specs.declared.lane.Lane.TheVariants as lanes;
 ghost use Rattle.event_ports.specs.Holds.{AreLinked};
 ghost use Rattle.event_ports.specs.Lanes.{IsEmptyHand, IsEndOf, held_of, pair_in};
 ghost use Rattle.credit_pool.specs.Pockets.{IsPocket};
-ghost use Rattle.event_ports.specs.Ports.{place_of, account_of, pocket_of, hand, links, mores_by, news_by, releases_by};
+ghost use Rattle.event_ports.specs.Ports.{place_of, account_of, counts_of, pocket_of, hand, links, mores_by, news_by, releases_by};
 ghost use Rattle.event_ports.specs.Stop.{IsCounted};
+ghost use Rattle.event_ports.specs.Counts.{no_counts};
 ghost use Rattle.event_ports.specs.Parts.{FitTogether, AreFresh, place_by};
 
+use crate::counts::PortCounts;
 use crate::desk::Desk;
 use crate::flows::{FlowLanes, free_places};
 use crate::lanes::Lanes;
@@ -57,13 +59,14 @@ pub struct Parts {
 }
 
 impl Port {
-    /// A port with nothing in its pocket, that holds nothing. After want of memory the parts come back.
+    /// A port with nothing in its pocket, that holds nothing and counted nothing. After want of memory the parts come back.
     pub fn new(alloc: Global, parts: Parts) -> Result<Port, (Memory, Parts)>
         requires fit { FitTogether parts }
         requires fresh { AreFresh parts }
         ensures place { IfOk result (λ p. place_of p ≡ place_by parts) }
         ensures credit { IfOk result (λ p. account_of p ≡ credits.account parts.credit) }
         ensures empty { IfOk result (λ p. IsEmptyHand (hand p) × (pocket_of p ≡ 0)) }
+        ensures counts { IfOk result (λ p. counts_of p ≡ no_counts) }
         ensures back { IfErr result (λ e. e.1 ≡ parts) }
     {
         let Ok(stints) = free_places(alloc, parts.flows) else {
@@ -100,7 +103,8 @@ impl Port {
             threshold,
             pocket: 0,
         };
-        Ok(Port { desk })
+        let counts = PortCounts::default();
+        Ok(Port { desk, counts })
     }
 
     /// Takes the port apart. Each flow lane that it holds is surrendered: no claim gets it any more.
@@ -119,7 +123,7 @@ impl Port {
         ensures ordered { map pair_in (held_of lanes.Own (hand self).holding) ≡ held_list result.own }
         ensures paid { (result.pocket ≡ pocket_of self) × IsPocket result.pocket ((account_of self).drawn + releases_by self) ((account_of self).returned + news_by self + mores_by self) }
     {
-        let Port { desk } = self;
+        let Port { desk, counts: _ } = self;
         let Desk {
             seat,
             lanes,

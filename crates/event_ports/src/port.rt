@@ -6,6 +6,7 @@ ghost use Rattle.event_ports.specs.Desks.{hand as hand_at, holds_flow};
 ghost use Rattle.event_ports.specs.Handed.{AllShown};
 ghost use Rattle.event_ports.specs.Lanes.{held_of};
 
+use crate::counts::PortCounts;
 use crate::desk::Desk;
 use arrayvec::ArrayVec;
 use event_answers::{Behind, Refused};
@@ -16,6 +17,7 @@ use evt_types::{Delivery, Event};
 #[derive(Drop)]
 pub struct Port {
     pub(crate) desk: Desk,
+    pub(crate) counts: PortCounts,
     pub ghost shown: { AllShown desk.lanes },
     pub ghost idle: { (j : ℕ) → held_of (Flow j) (hand_at desk).holding ≡ [] → holds_flow desk j ≡ false },
 }
@@ -28,7 +30,8 @@ impl Port {
     ghost use Rattle.event_ports.specs.Lanes.{Rests, Releases, Dequeues, SubmitsTo, SubmitsAll, lane_for, reply_of};
     ghost use Rattle.event_ports.specs.declared.lane.Lane.TheVariants as lanes;
     ghost use Rattle.event_ports.specs.Draws.{HasLooked, Settles};
-    ghost use Rattle.event_ports.specs.Ports.{place_of, account_of, pocket_of, hand, seen_by, links, was_filled, SameCredits, Pays, Refuses, released_first, Bursts, StopsAt};
+    ghost use Rattle.event_ports.specs.Counts.{after_behind, after_burst, after_dequeue, after_enqueue, plus};
+    ghost use Rattle.event_ports.specs.Ports.{place_of, account_of, counts_of, pocket_of, hand, seen_by, links, was_filled, SameCredits, Pays, Refuses, released_first, Bursts, StopsAt};
 
     /// The port's number in the device, from 0.
     pub fn number(&self) -> usize
@@ -45,6 +48,13 @@ impl Port {
         self.desk.lanes.held()
     }
 
+    /// What the port counted since it was made.
+    pub fn counts(&self) -> PortCounts
+        ensures { result ≡ counts_of self.now }
+    {
+        self.counts
+    }
+
     /// Whether the device is shut, by one look at the credits. Once it was seen, every NEW is refused.
     pub fn shut_seen(&mut self) -> bool
         ensures place { place_of self.new ≡ place_of self.old }
@@ -53,6 +63,7 @@ impl Port {
         ensures seen { IsTrue result ↔ IsTrue (account_of self.new).saw_shut }
         ensures read { IsFalse result → IsOpen (account_of self.new).last }
         ensures looked { HasLooked (account_of self.old) (account_of self.new) }
+        ensures counted { counts_of self.new ≡ counts_of self.old }
     {
         self.desk.shut_seen()
     }
@@ -71,9 +82,11 @@ impl Port {
         ensures pays { OnOk result (Pays event.op self.old self.new) }
         ensures refused { IfErr result (λ e. Refuses self.old event e self.new) }
         ensures stopped { IsTrue (account_of self.old).saw_shut → event.op ≡ ops.New → result ≡ Err refusals.Stopped }
+        ensures counted { counts_of self.new ≡ after_enqueue result (counts_of self.old) }
     {
         let answer = self.desk.submit(event);
         self.desk.flush();
+        self.counts.enqueue(&answer);
         answer
     }
 
@@ -92,6 +105,9 @@ impl Port {
         ensures settled { MatchResult result
             (λ _. Settles (place_of self.old).quantum ((pocket_of self.old + released_first self.old) % 2 ^ 64) (account_of self.old) (pocket_of self.new) (account_of self.new))
             (λ b. Settles (place_of self.old).quantum ((pocket_of self.old + b.released) % 2 ^ 64) (account_of self.old) (pocket_of self.new) (account_of self.new)) }
+        ensures counted { MatchResult result
+            (λ v. counts_of self.new ≡ after_dequeue (released_first self.old) (length v.items) (counts_of self.old))
+            (λ b. counts_of self.new ≡ after_behind b.released (counts_of self.old)) }
     {
         let mut deliveries = ArrayVec::new();
         match self.dequeue_burst(max, &mut deliveries) {
@@ -119,13 +135,24 @@ impl Port {
         ensures settled { MatchResult result
             (λ _. Settles (place_of self.old).quantum ((pocket_of self.old + released_first self.old) % 2 ^ 64) (account_of self.old) (pocket_of self.new) (account_of self.new))
             (λ b. Settles (place_of self.old).quantum ((pocket_of self.old + b.released) % 2 ^ 64) (account_of self.old) (pocket_of self.new) (account_of self.new)) }
+        ensures counted { MatchResult result
+            (λ _. counts_of self.new ≡ after_dequeue (released_first self.old) (length into.new.items) (counts_of self.old))
+            (λ b. counts_of self.new ≡ after_behind b.released (counts_of self.old)) }
     {
         into.clear();
+        let first = self.desk.releases_first();
         let answer = self.desk.exchange(max, into);
         self.desk.settle();
         match answer {
-            Ok(()) => Ok(into.len()),
-            Err(behind) => Err(behind),
+            Ok(()) => {
+                let came = into.len();
+                self.counts.dequeue(first, came);
+                Ok(came)
+            }
+            Err(behind) => {
+                self.counts.fall_behind(behind.released);
+                Err(behind)
+            }
         }
     }
 
@@ -139,9 +166,12 @@ impl Port {
         ensures submitted { SubmitsAll (take result.0 events.now) (hand self.old) (hand self.new) }
         ensures refused { IfSome result.1 (λ e. StopsAt self.old events.now result.0 e self.new) }
         ensures singly { Bursts self.old events.now result.0 result.1 self.new }
+        ensures counted { counts_of self.new ≡ after_burst result.0 result.1 (counts_of self.old) }
+        ensures taken { (counts_of self.new).enqueued ≡ plus (counts_of self.old).enqueued result.0 }
     {
         let answer = self.desk.submit_burst(events);
         self.desk.flush();
+        self.counts.enqueue_burst(answer.0, &answer.1);
         answer
     }
 }

@@ -14,6 +14,7 @@ use Rattle.event_ports.specs.declared.port.Port.{Port}
 use Rattle.evt_types.specs.Event.{pair_of}
 use Rattle.evt_types.specs.Operation.{is_more_reply, is_new_reply, is_release_reply}
 use Rattle.evt_types.specs.Plan.{Plan, lanes, lanes_of, queues}
+use Rattle.evt_types.specs.declared.event.Delivery.{Delivery}
 use Rattle.evt_types.specs.declared.event.Event.{Event}
 use Rattle.evt_types.specs.declared.event.KeptEvent.{KeptEvent}
 use Rattle.evt_types.specs.declared.event.Numbered.{Numbered}
@@ -24,10 +25,10 @@ use Rattle.lane_rings.specs.declared.far.Far.{Far}
 use Rattle.lane_rings.specs.declared.near.Near.{Near}
 use Rattle.lists.proofs.Sums.{sum_agree, sum_of_map}
 use Rattle.report_lists.specs.Between.{rest_at}
-use Rattle.report_lists.specs.Listed.{kept_all, waiting_pairs}
+use Rattle.report_lists.specs.Listed.{kept_all, waiting_all}
 use Rattle.transcripts.proofs.ByLane.{sum_plus}
 use Rattle.transcripts.specs.Replies.{turned_count}
-use Rattle.transcripts.specs.Transcript.{kept, kept_events, pairs_of, waiting}
+use Rattle.transcripts.specs.Transcript.{kept, kept_events, waiting}
 use Rattle.world_laws.proofs.Accounts.{account_settles}
 use Rattle.world_laws.specs.Account.{events_at, events_left, has_event}
 use Rattle.world_laws.specs.Rest.{AreRests, Rest, still_held}
@@ -57,7 +58,7 @@ pub record ArePaid (T : List Step) (sorted : List Port) (free own back limit : �
 
 -- the report lists what is left of the queues and of the lanes
 pub record IsListed {X : Type 0} (p : Plan) (T : List Step) (rest : ℕ → Rest) (sorted : List Port) (x : Report X) : Type 0 where
-  pub waiting_is : x.waiting.items ≡ waiting_pairs p T
+  pub waiting_is : x.waiting.items ≡ waiting_all p T
   pub kept_is : x.kept.items ≡ kept_all p T
   pub undelivered : length x.undelivered.items ≡ sum_by (λ l. length (rest l).undelivered) (lanes p)
   pub held : x.held.items ≡ flat_map held.held_by sorted
@@ -69,8 +70,10 @@ pub record IsListed {X : Type 0} (p : Plan) (T : List Step) (rest : ℕ → Rest
 joined_length : {X Y : Type 0} (f : X → List Y) (g : X → ℕ) (xs : List X) → ((x : X) → length (f x) ≡ g x) → length (flat_map f xs) ≡ sum_by g xs
 joined_length f g xs each = length-flat_map f xs ∙ sum_agree (λ x. length (f x)) g xs (λ i d lt. each (get_or xs i d))
 
-waiting_count : (p : Plan) (T : List Step) → length (waiting_pairs p T) ≡ sum_by (λ q. length (waiting T q)) (queues p)
-waiting_count p T = joined_length (λ q. pairs_of q (waiting T q)) (λ q. length (waiting T q)) (queues p) (λ q. length-map {B = ℕ × ℕ} (waiting T q) (λ (w : Numbered). (q, w.number)))
+waiting_count : (p : Plan) (T : List Step) → length (waiting_all p T) ≡ sum_by (λ q. length (waiting T q)) (queues p)
+waiting_count p T =
+    joined_length (λ q. map (λ (w : Numbered). record { event = w.event; queue = q; number = w.number }) (waiting T q)) (λ q. length (waiting T q)) (queues p)
+    (λ q. length-map {B = Delivery} (waiting T q) (λ (w : Numbered). record { event = w.event; queue = q; number = w.number }))
 
 kept_count : (p : Plan) (T : List Step) → length (kept_all p T) ≡ sum_by (λ q. length (kept T q)) (queues p)
 kept_count p T =

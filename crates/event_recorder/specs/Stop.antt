@@ -19,7 +19,7 @@ use Rattle.evt_types.specs.declared.step.Step.{Step}
 use Rattle.flow_claims.specs.Lists.{no_lists}
 use Rattle.flow_claims.specs.Stints.{IsRecordFrom, answered_in_all, below, received_in_all, times}
 use Rattle.flow_claims.specs.declared.seating.Past.{Past}
-use Rattle.report_lists.specs.Listed.{kept_all, undelivered_all, untaken_all, waiting_pairs}
+use Rattle.report_lists.specs.Listed.{kept_all, turned_all, undelivered_all, untaken_all, waiting_all}
 use Rattle.transcripts.specs.Transcript.{has_shut, out}
 use Rattle.world_laws.specs.Logged.{as_logged}
 use Rattle.world_laws.specs.Order.{AreReceivedAsAccepted, AreReceivedAsGiven, IsHeldAlone}
@@ -99,7 +99,8 @@ abbrev pub entries_of : {X : Type 0} → Report X → ℕ
 entries_of x = length x.waiting.items + length x.kept.items + length x.undelivered.items + length x.held.items + length x.untaken.items
 
 -- The steps of the log are all that the sweeps logged, whether it keeps them or not; they are lawful, and have Shut only where the
--- control shut the device. The lists have what these steps and the lanes have left. The finished stints are the ports', one port's after
+-- control shut the device. The lists have what these steps and the lanes have left, each event with its payload, and what these steps
+-- turned away. The finished stints are the ports', one port's after
 -- the other's. The free credits are the limit and what was returned, without what was drawn, by all ports and the scheduler; and they,
 -- those in the pockets and the entries of the lists are the limit.
 pub record IsReport {X : Type 0} (steps : X → List Step) (r : Recorded) (control : Control) (ports : List Port) (report : Report X) : Type 0 where
@@ -113,11 +114,12 @@ pub record IsReport {X : Type 0} (steps : X → List Step) (r : Recorded) (contr
   pub stints : AreStintsOf sorted finished
   pub lanes : AreLanesOf r ports finished rest
   pub world : IsWorldOf r.sight.core.shape r.log rest
-  pub waiting : report.waiting.items ≡ waiting_pairs r.sight.core.shape r.log
+  pub waiting : report.waiting.items ≡ waiting_all r.sight.core.shape r.log
   pub kept : report.kept.items ≡ kept_all r.sight.core.shape r.log
   pub undelivered : report.undelivered.items ≡ undelivered_all r.sight.core.shape rest
   pub held : report.held.items ≡ flat_map held_by sorted
   pub untaken : report.untaken.items ≡ untaken_all r.sight.core.shape rest
+  pub turned : report.turned.items ≡ turned_all r.log
   pub pockets : report.pockets.items ≡ map pocket_of sorted
   pub own : report.own ≡ r.sight.pocket
   pub free : report.free + (r.sight.account.drawn + sum_by (λ p. (account_of p).drawn) sorted) ≡ r.sight.core.shape.limit + (r.sight.account.returned + sum_by (λ p. (account_of p).returned) sorted)

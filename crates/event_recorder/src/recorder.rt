@@ -1,6 +1,7 @@
 //! A recorder: a scheduler with the log of all its sweeps.
 
-use event_answers::Swept;
+use crate::books::Books;
+use event_answers::{Swept, Turned};
 use event_scheduler::Scheduler;
 use evt_types::Step;
 use std::alloc::{AllocError, Global};
@@ -14,7 +15,7 @@ pub type Memory = AllocError;
 #[derive(Drop)]
 pub struct Recorder<L: StepLog = Vec<Step>> {
     pub(crate) scheduler: Scheduler,
-    pub(crate) log: L,
+    pub(crate) books: Books<L>,
 }
 
 impl<L: StepLog> Model for Recorder<L> {
@@ -23,9 +24,9 @@ impl<L: StepLog> Model for Recorder<L> {
 
     ghost Value = { Recorded };
 
-    ghost view = { λ a. record { sight = sight_of a.scheduler; log = L.steps a.log } };
+    ghost view = { λ a. record { sight = sight_of a.scheduler; log = L.steps a.books.log } };
 
-    ghost invariant = { λ a. Serves (L.steps a.log) (sight_of a.scheduler) };
+    ghost invariant = { λ a. Serves (L.steps a.books.log) (sight_of a.scheduler) };
 }
 
 impl Recorder<Vec<Step>> {
@@ -38,7 +39,7 @@ impl Recorder<Vec<Step>> {
         ensures log { result.log ≡ [] }
         ensures sight { result.sight ≡ sight_of scheduler }
     {
-        Recorder::begin_with(Vec::new(alloc), scheduler)
+        Recorder::begin_with(alloc, Vec::new(alloc), scheduler)
     }
 }
 
@@ -47,17 +48,19 @@ impl<L: StepLog> Recorder<L> {
     ghost use Rattle.event_scheduler.specs.Scheduler.{Serves, sight_of};
     ghost use Rattle.event_scheduler.specs.Swept.{Sweeps};
     ghost use Rattle.event_recorder.specs.Device.{scheduler_of};
+    ghost use Rattle.report_lists.specs.Listed.{turned_all};
     ghost use Rattle.transcripts.specs.Replies.{new_count};
     ghost use Rattle.transcripts.specs.Transcript as transcripts;
 
     /// Begins with this log, which has no step yet, for a scheduler that hasn't swept yet.
-    pub fn begin_with(log: L, scheduler: Scheduler) -> Recorder<L>
+    pub fn begin_with(alloc: Global, log: L, scheduler: Scheduler) -> Recorder<L>
         requires log { L.steps log ≡ [] }
         requires serves { Serves [] (sight_of scheduler) }
         ensures log { result.log ≡ [] }
         ensures sight { result.sight ≡ sight_of scheduler }
     {
-        Recorder { scheduler, log }
+        let books = Books::new(alloc, log);
+        Recorder { scheduler, books }
     }
 
     /// One sweep of the scheduler. After want of memory nothing has changed.
@@ -66,7 +69,21 @@ impl<L: StepLog> Recorder<L> {
         ensures memory { IsErr result → self.new ≡ self.old }
         ensures device { scheduler_of self.new.sight ≡ scheduler_of self.old.sight }
     {
-        self.scheduler.sweep(&mut self.log)
+        self.scheduler.sweep(&mut self.books)
+    }
+
+    /// The log, to be read.
+    pub fn log(&self) -> &L
+        ensures { L.steps result.now ≡ self.now.log }
+    {
+        &self.books.log
+    }
+
+    /// The NEWs that were turned away so far, in the order in which they were taken.
+    pub fn turned(&self) -> &[Turned]
+        ensures { result.now ≡ turned_all self.now.log }
+    {
+        &self.books.turned
     }
 
     /// How many events wait, are kept or are unanswered.

@@ -40,6 +40,7 @@ fn empty_report(alloc: Global, core: &Core) -> Result<Report<()>, Memory>
         undelivered: Vec::with_capacity(alloc, most)?,
         held: Vec::with_capacity(alloc, MAX_DEPTH as usize * ports)?,
         untaken: Vec::with_capacity(alloc, 2 * most)?,
+        turned: Vec::new(alloc),
         free: 0,
         pockets: Vec::with_capacity(alloc, ports)?,
         own: 0,

@@ -1,5 +1,6 @@
 //! A device is stopped, and each of its events accounted for.
 
+use crate::books::Books;
 use crate::control::Control;
 use crate::held::{add_ends, list_ports};
 use crate::ports::{by_number, missing};
@@ -37,7 +38,10 @@ impl<L: StepLog> Recorder<L> {
             return Err((StopFault::Missing { port }, self, control, ports));
         }
         match Room::reserve(alloc, self.scheduler.core()) {
-            Ok(room) => Ok(self.close(control, ports, room)),
+            Ok(room) => {
+                let report = self.close(control, ports, room);
+                Ok(report)
+            }
             Err(_) => Err((StopFault::Memory, self, control, ports)),
         }
     }
@@ -49,7 +53,8 @@ impl<L: StepLog> Recorder<L> {
         ensures { IsReport L.steps self control ports.items result }
     {
         let count = self.port_count();
-        let Recorder { scheduler, log } = self;
+        let Recorder { scheduler, books } = self;
+        let Books { log, turned } = books;
         let Parts {
             pool,
             seat,
@@ -75,6 +80,7 @@ impl<L: StepLog> Recorder<L> {
                 mut undelivered,
                 mut held,
                 mut untaken,
+                turned: _,
                 free: _,
                 mut pockets,
                 own: _,
@@ -96,6 +102,7 @@ impl<L: StepLog> Recorder<L> {
             undelivered,
             held,
             untaken,
+            turned,
             free,
             pockets,
             own,

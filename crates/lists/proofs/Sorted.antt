@@ -1,13 +1,13 @@
 -- A list in order is told by its sums.
-use Rattle.std.proofs.Common.{◌≡◌, ℕ, suc, ◌+◌, ◌-◌, ◌<◌, ◌≤◌, ◌≢◌, ◌⊎◌, inl, inr, ◌||◌, Bool, true, false, not, ◌==◌, nat_lt, nat_le, List, [], ◌∷◌, ◌++◌, length, map, take, drop, get_or, All, AllPairs, sum_by, ⊎_elim, refl, sym, ap, ◌∙◌, subst, arith}
+use Rattle.std.proofs.Common.{◌≡◌, ℕ, suc, ◌+◌, ◌-◌, ◌<◌, ◌≤◌, ◌≢◌, ◌⊎◌, inl, inr, ◌||◌, Bool, true, false, nat_lt, nat_le, List, [], ◌∷◌, ◌++◌, length, take, drop, get_or, All, AllPairs, sum_by, ⊎_elim, refl, sym, ap, ◌∙◌, subst, arith}
 use Rattle.std.proofs.lemmas.Bool.{cases_eq, cases_lt, lt-ltb, le-leb, false_from_ne_true, false≢true, ltb-true, leb-true, ne_eqb}
 use Rattle.lists.specs.Lists.{has}
-use Rattle.std.proofs.lemmas.List.{drop_all, take_all, append-nil, length-append, length-map, get_or-map}
+use Rattle.std.proofs.lemmas.List.{drop_all, take_all, append-nil, length-append}
 use Rattle.std.proofs.Common.{take_at, drop_at}
 use Rattle.std.proofs.lemmas.List.Sums.{sum_by-cons}
 use borrow.Rule.Slice.PartMut.{mid_of, put_mid, post_of}
-use Rattle.std.specs.List.Sorted.{IsNonDecreasing, IsNonDecreasingBy}
-use Rattle.lists.proofs.Lists.{All-has, eqb_is, eqb_same, has_none}
+use Rattle.std.specs.List.Sorted.{IsNonDecreasing}
+use Rattle.lists.proofs.Lists.{All-has, eqb_same, has_none}
 use Rattle.lists.proofs.Sums.{sum_of_none}
 
 abbrev one_if : Bool → ℕ
@@ -96,47 +96,6 @@ pub tail_is : {X : Type 0} (items before xs : List X) (s : ℕ) → items ≡ be
 tail_is items before xs s is start =
     let e : length items ≡ length before + length xs = ap length is ∙ length-append before xs in
     ap (take (length items - s)) (ap (drop s) is ∙ drop_at before xs s (sym start)) ∙ take_all (length items - s) xs (omega arith)
-
--- ---- pairs with one first part
-
-abbrev pub second : ℕ × ℕ → ℕ
-second x = x.1
-
-abbrev pub off : ℕ → ℕ × ℕ → ℕ
-off a x = one_if (not (x.0 == a))
-
--- they are told by their second parts
-pub with_first : (a : ℕ) (xs : List (ℕ × ℕ)) → sum_by (off a) xs ≡ 0 → xs ≡ map (λ n. (a, n)) (map second xs)
-with_first a [] none = refl
-with_first a (x ∷ xs) none =
-    let parts = sum_by-cons (off a) x xs in
-    let here : off a x ≡ 0 = omega arith in
-    let rest : sum_by (off a) xs ≡ 0 = omega arith in
-    let same : x.0 ≡ a = eqb_is x.0 a (on x.0 here) in
-    ap (λ n. (n, x.1) ∷ xs) same ∙ ap (λ ys. (a, x.1) ∷ ys) (with_first a xs rest)
-  where
-    on : (n : ℕ) → one_if (not (n == a)) ≡ 0 → (n == a) ≡ true
-    on n h = by_test (n == a) h
-      where
-        by_test : (b : Bool) → one_if (not b) ≡ 0 → b ≡ true
-        by_test true e = refl
-        by_test false e = absurd (omega arith)
-
-pub none_off : (a : ℕ) (ns : List ℕ) → sum_by (off a) (map (λ n. (a, n)) ns) ≡ 0
-none_off a [] = refl
-none_off a (n ∷ ns) =
-    let e : off a (a, n) ≡ 0 = ap (λ b. one_if (not b)) (eqb_same a) in
-    omega (arith, sum_by-cons (off a) (a, n) (map (λ m. (a, m)) ns), none_off a ns)
-
--- in order of their second parts
-pub seconds_in_order : (xs : List (ℕ × ℕ)) → IsNonDecreasingBy second xs → IsNonDecreasing (map second xs)
-seconds_in_order [] order i j d le within = absurd (omega arith)
-seconds_in_order (x ∷ xs) order i j d le within =
-    let h : j < length (x ∷ xs) = subst (λ n. j < n) (length-map (x ∷ xs) second) within in
-    let a : get_or (map second (x ∷ xs)) i d ≡ second (get_or (x ∷ xs) i x) = get_or-map second (x ∷ xs) i x d (omega arith) in
-    let b : get_or (map second (x ∷ xs)) j d ≡ second (get_or (x ∷ xs) j x) = get_or-map second (x ∷ xs) j x d h in
-    let less : second (get_or (x ∷ xs) i x) ≤ second (get_or (x ∷ xs) j x) = order i j x le h in
-    omega arith
 
 -- ---- lists that rise, with the same members
 

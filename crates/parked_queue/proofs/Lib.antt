@@ -8,7 +8,7 @@ pub mod Best
 pub mod Firsts
 pub mod Turns
 pub mod Taking
-pub mod Pairs
+pub mod Deliveries
 pub mod Masks
 pub mod Options
 pub mod Slots

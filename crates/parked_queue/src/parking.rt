@@ -1,14 +1,15 @@
 //! The events that wait in all queues, parted into lists.
 
-ghost use Rattle.std.specs.Prelude.{◌≡◌, ◌+◌, ◌<◌, ◌≤◌, ◌^◌, ◌++◌, true, length, slice_get, slice_set, vec_len, vec_capacity, is_some, All, IfOk, IfSome};
-ghost use Rattle.parked_queue.specs.Pairs.{all_parts, pairs_of};
+ghost use Rattle.std.specs.Prelude.{◌≡◌, ◌+◌, ◌<◌, ◌≤◌, ◌^◌, ◌++◌, true, length, map, slice_get, slice_set, vec_len, vec_capacity, is_some, All, IfOk, IfSome};
+ghost use Rattle.parked_queue.specs.Parts.{all_parts};
 ghost use Rattle.parked_queue.specs.Parted.{HasMarks, list_in, own_first, parked_place, place_for, with_below, with_waits};
 ghost use Rattle.parked_queue.specs.Parkings.{AreNewParkings, IsNewParking, are_waits, no_parteds, parted_at, waiting_in};
 ghost use Rattle.parked_queue.specs.Waits.{AreSlots, AreWaits, IsOnlyOf, slot_of, with_event, without_number};
+ghost use Rattle.waiting_lists.specs.Lists.{delivery_of};
 
 use crate::slot::{LEVELS, mask_for, parked_list, slot_in};
 use crate::turn::take_number;
-use evt_types::{Event, Numbered};
+use evt_types::{Delivery, Event, Numbered};
 use place_set::Places;
 use std::alloc::{AllocError, Global};
 use std::marker::Model;
@@ -243,17 +244,17 @@ impl Parkings {
         self.queues[queue].count
     }
 
-    /// Appends the queue's number with that of each of its waiting events, one list after the other.
-    pub(crate) fn push_pairs(&self, queue: usize, into: &mut Vec<(usize, u64)>)
+    /// Appends each of the queue's waiting events as a delivery, one list after the other.
+    pub(crate) fn push_deliveries(&self, queue: usize, into: &mut Vec<Delivery>)
         requires there { queue < length self.now }
         requires room { vec_len into.old + length (parted_at self.now queue).waits.waiting ≤ vec_capacity into.old }
-        ensures pairs { into.new.items ≡ into.old.items ++ pairs_of queue (all_parts (parted_at self.now queue)) }
+        ensures deliveries { into.new.items ≡ into.old.items ++ map (delivery_of queue) (all_parts (parted_at self.now queue)) }
         ensures room { vec_capacity into.new ≡ vec_capacity into.old }
         ensures waits { AreWaits (parted_at self.now queue).waits }
     {
         let asked = &self.queues[queue];
         for list in 0..LEVELS * (asked.slots + 1) {
-            self.lists.push_pairs(asked.base + list, queue, into);
+            self.lists.push_deliveries(asked.base + list, queue, into);
         }
     }
 }

@@ -1,12 +1,12 @@
 //! What waits in several queues.
 
 ghost use Rattle.std.specs.Prelude.{◌≡◌, ◌+◌, ◌<◌, ◌≤◌, ◌^◌, ◌++◌, length, map, slice_set, vec_len, vec_capacity, IsTrue, IfOk, IfSome, IfNone};
-ghost use Rattle.evt_types.specs.declared.event.Numbered.{Numbered as NumberedValue};
 ghost use Rattle.parked_queue.specs.Waits.{AreLevels, AreSlots, AreWaits, HasNoneAllowed, HasNoneOfSlot, IsFirstAllowed, IsFirstSlot, IsOldest, IsOnlyOf, all_empty, all_waiting, slot_of, waits_at, with_event, without_number};
+ghost use Rattle.waiting_lists.specs.Lists.{delivery_of};
 
 use crate::first::Found;
 use crate::parking::Parkings;
-use evt_types::{Event, Numbered};
+use evt_types::{Delivery, Event, Numbered};
 use place_set::Places;
 use std::alloc::{AllocError, Global};
 use std::marker::Model;
@@ -171,15 +171,15 @@ impl ParkedQueues {
         self.parkings.count(queue)
     }
 
-    /// Appends the queue's number with that of each of its waiting events, rising.
-    pub fn list_pairs(&self, queue: usize, into: &mut Vec<(usize, u64)>)
+    /// Appends each of the queue's waiting events as a delivery, by rising number.
+    pub fn list_waiting(&self, queue: usize, into: &mut Vec<Delivery>)
         requires there { queue < length self.now }
         requires room { vec_len into.old + length (waits_at self.now queue).waiting ≤ vec_capacity into.old }
-        ensures pairs { into.new.items ≡ into.old.items ++ map (λ (w : NumberedValue). (queue, w.number)) (waits_at self.now queue).waiting }
+        ensures listed { into.new.items ≡ into.old.items ++ map (delivery_of queue) (waits_at self.now queue).waiting }
         ensures room { vec_capacity into.new ≡ vec_capacity into.old }
     {
         let start = into.len();
-        self.parkings.push_pairs(queue, into);
-        into[start..].sort_unstable_by_key(|pair| pair.1);
+        self.parkings.push_deliveries(queue, into);
+        into[start..].sort_unstable_by_key(|delivery| delivery.number);
     }
 }

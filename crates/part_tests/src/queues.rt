@@ -5,7 +5,7 @@ ghost use Rattle.std.specs.Prelude.{◌≡◌, ◌<◌, ◌≤◌, [], ◌∷◌
 ghost use Rattle.parked_queue.specs.Waits.{all_empty, waits_at};
 ghost use Rattle.waiting_lists.specs.Lists as lists;
 
-use evt_types::{Event, Numbered, Op};
+use evt_types::{Delivery, Event, Numbered, Op};
 use parked_queue::ParkedQueues;
 use place_set::Places;
 use std::alloc::{AllocError, Global};
@@ -24,6 +24,17 @@ macro_rules! event_of {
             priority: 128,
             impl_opaque: 0,
             payload: $payload,
+        }
+    };
+}
+
+/// An event of queue 1 as a delivery under this number.
+macro_rules! delivery_of {
+    ($event:expr, $number:literal) => {
+        Delivery {
+            event: $event,
+            queue: 1,
+            number: $number,
         }
     };
 }
@@ -56,12 +67,12 @@ fn lists_of(alloc: Global, count: usize, room: usize) -> Result<WaitingLists, Al
     }
 }
 
-/// A list in which so many pairs fit.
-fn pairs_of(alloc: Global, count: usize) -> Result<Vec<(usize, u64)>, AllocError>
+/// A list in which so many deliveries fit.
+fn no_deliveries(alloc: Global, count: usize) -> Result<Vec<Delivery>, AllocError>
     ensures { IfOk result (λ v. (v.items ≡ []) × (vec_len v ≡ 0) × (vec_capacity v ≡ count)) }
 {
     match Vec::with_capacity(alloc, count) {
-        Ok(pairs) => Ok(pairs),
+        Ok(deliveries) => Ok(deliveries),
         Err(_) => Vec::with_capacity(alloc, count),
     }
 }
@@ -226,13 +237,16 @@ fn the_head_is_seen_at_once(rt: HostRuntime) -> Result<(), Fail> {
 }
 
 #[test]
-fn the_pairs_of_what_waits_rise(rt: HostRuntime) -> Result<(), Fail> {
+fn what_waits_is_listed_by_number(rt: HostRuntime) -> Result<(), Fail> {
     let mut queues = two_waiting(rt.alloc(), ZERO, ONE)?;
-    let mut pairs = pairs_of(rt.alloc(), 2)?;
+    let mut waiting = no_deliveries(rt.alloc(), 2)?;
     let parked = queues.first(1, 2, set_of(&[1]));
-    queues.list_pairs(1, &mut pairs);
+    queues.list_waiting(1, &mut waiting);
     assert_eq!(rt; parked, Some(1));
-    assert_eq!(rt; pairs.as_slice(), [(1, 0), (1, 1)].as_slice());
+    assert_eq!(rt;
+        waiting.as_slice(),
+        [delivery_of!(ZERO, 0), delivery_of!(ONE, 1)].as_slice()
+    );
     Ok(())
 }
 

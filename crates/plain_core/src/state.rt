@@ -3,7 +3,7 @@
 ghost use Rattle.std.specs.Prelude.{◌<◌};
 
 use crate::offer::PlainOffer;
-use evt_types::{Event, KeptEvent, QueueDraft, Shape, Step};
+use evt_types::{Delivery, Event, KeptEvent, QueueDraft, Shape, Step};
 use level_queues::Levels;
 use std::alloc::{AllocError, Global};
 
@@ -134,12 +134,16 @@ impl PlainCore {
             .saturating_add(unanswered)
     }
 
-    /// The queue and the number of each of the queue's waiting events, by rising number.
-    pub fn list_waiting(&self, queue: usize) -> Result<Vec<(usize, u64)>, AllocError> {
+    /// The queue's waiting events, by rising number, each as it would be delivered.
+    pub fn list_waiting(&self, queue: usize) -> Result<Vec<Delivery>, AllocError> {
         let mut list = Vec::new(self.alloc);
         for number in 0..self.accepted_len(queue) {
-            if self.waits(queue, number) {
-                list.push((queue, number))?;
+            if let Some(event) = self.waiting_event(queue, number) {
+                list.push(Delivery {
+                    event,
+                    queue,
+                    number,
+                })?;
             }
         }
         Ok(list)
@@ -151,17 +155,15 @@ impl PlainCore {
         accepted.count() as u64
     }
 
-    /// Whether the queue's event of this number waits.
-    fn waits(&self, queue: usize, number: u64) -> bool {
-        let Some(levels) = self.waiting.get(queue) else {
-            return false;
-        };
+    /// The queue's event of this number, if it waits.
+    fn waiting_event(&self, queue: usize, number: u64) -> Option<Event> {
+        let levels = self.waiting.get(queue)?;
         for level in 0..LEVELS {
-            if place_of(levels, level, number).is_some() {
-                return true;
+            if let Some(place) = place_of(levels, level, number) {
+                return levels.at(level, place).map(|item| item.event);
             }
         }
-        false
+        None
     }
 
     /// The queue's kept events in hand-out order, each under the queue and the number of the event that it comes from.

@@ -130,8 +130,8 @@ log_text qs T = codes "log\n" ++ lines_after qs [] T
 -- ---- the report
 
 -- a waiting event: its queue and number
-abbrev pub waiting_line : ℕ × ℕ → List ℕ
-waiting_line w = codes "waiting " ++ place_text w.0 w.1 ++ codes "\n"
+abbrev pub waiting_line : Delivery → List ℕ
+waiting_line w = codes "waiting " ++ place_text w.queue w.number ++ codes "\n"
 
 abbrev pub kept_line : List QueueDraft → KeptEvent → List ℕ
 kept_line qs k = codes "kept " ++ place_text k.queue k.number ++ codes " " ++ event_text qs k.event ++ codes "\n"

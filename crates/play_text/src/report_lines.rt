@@ -5,14 +5,14 @@ ghost use Rattle.play_text.specs.Text as texts;
 
 use crate::words::write_event;
 use event_answers::{Held, Report, Undelivered, Untaken};
-use evt_types::{KeptEvent, QueueDraft};
+use evt_types::{Delivery, KeptEvent, QueueDraft};
 use std::alloc::AllocError;
 
-fn write_waiting(all: &[(usize, u64)], out: &mut String) -> Result<(), AllocError>
+fn write_waiting(all: &[Delivery], out: &mut String) -> Result<(), AllocError>
     ensures { OnOk result (string_bytes out.new ≡ string_bytes out.old ++ flat_map texts.waiting_line all.now) }
 {
     for waiting in all {
-        let (queue, number) = *waiting;
+        let (queue, number) = (waiting.queue, waiting.number);
         writeln!(out, "waiting q{queue} #{number}")?;
     }
     Ok(())
@@ -38,6 +38,7 @@ fn write_undelivered_line(undelivered: &Undelivered, out: &mut String) -> Result
         lane,
         queue,
         number,
+        ..
     } = *undelivered;
     writeln!(out, "undelivered l{lane} q{queue} #{number}")
 }

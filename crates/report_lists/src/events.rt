@@ -3,10 +3,10 @@
 ghost use Rattle.std.specs.Prelude.{◌≡◌, ◌≤◌, ◌*◌, List, [], length, sum_by, vec_capacity, IfOk};
 ghost use Rattle.evt_types.specs.Plan.{queues};
 ghost use Rattle.evt_types.specs.declared.step.Step.{Step};
-ghost use Rattle.report_lists.specs.Listed.{kept_all, waiting_pairs};
+ghost use Rattle.report_lists.specs.Listed.{kept_all, waiting_all};
 ghost use Rattle.transcripts.specs.Standing.{Stands, places_at, waiting_at};
 
-use evt_types::{KeptEvent, MAX_FORWARDS};
+use evt_types::{Delivery, KeptEvent, MAX_FORWARDS};
 use sched_core::Core;
 use std::alloc::{AllocError, Global};
 
@@ -14,7 +14,7 @@ use std::alloc::{AllocError, Global};
 pub type Memory = AllocError;
 
 /// An empty list with room for the events that wait.
-pub fn room_for_waiting(alloc: Global, core: &Core) -> Result<Vec<(usize, u64)>, Memory>
+pub fn room_for_waiting(alloc: Global, core: &Core) -> Result<Vec<Delivery>, Memory>
     ensures empty { IfOk result (λ v. v.items ≡ []) }
     ensures room { IfOk result (λ v. sum_by (λ q. length (waiting_at core.now q)) (queues core.now.shape) ≤ vec_capacity v) }
 {
@@ -22,11 +22,11 @@ pub fn room_for_waiting(alloc: Global, core: &Core) -> Result<Vec<(usize, u64)>,
     Vec::with_capacity(alloc, core.inside())
 }
 
-/// Appends the queue and number of each waiting event, by queue, then number.
-pub fn list_waiting(core: &Core, into: &mut Vec<(usize, u64)>)
+/// Appends the waiting events, by queue, then number, each as it would have been delivered.
+pub fn list_waiting(core: &Core, into: &mut Vec<Delivery>)
     requires empty { into.old.items ≡ [] }
     requires room { sum_by (λ q. length (waiting_at core.now q)) (queues core.now.shape) ≤ vec_capacity into.old }
-    ensures { (T : List Step) → Stands T core.now → into.new.items ≡ waiting_pairs core.now.shape T }
+    ensures { (T : List Step) → Stands T core.now → into.new.items ≡ waiting_all core.now.shape T }
 {
     for queue in 0..core.shape().queues().len() {
         core.list_waiting(queue, into);

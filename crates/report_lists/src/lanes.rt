@@ -24,6 +24,7 @@ fn list_undelivered(lane: usize, left: &mut Beside, into: &mut Vec<Undelivered>)
             lane,
             queue: delivery.queue,
             number: delivery.number,
+            event: delivery.event,
         });
     }
 }

@@ -1,12 +1,11 @@
 //! The reading of a pipeline's document, for numbers of workers that no command line has too.
 
 use crate::documents::PIPELINE;
-use evt_types::{Kind, PortDraft, QueueDraft, Serving, ShapeFault};
+use evt_types::{Kind, PortDraft, QueueDraft, Serving, Shape, ShapeFault};
 use pipeline_laws::{Action, Entry};
 use play_documents::{DocFault, ReadFault};
-use run_documents::read_pipeline;
+use run_documents::{Pipeline, read_pipeline};
 use std::alloc::Global;
-use std::process::Abort;
 use std::test::Fail;
 
 /// The stages' queues.
@@ -83,29 +82,57 @@ fn fault_of(alloc: Global, document: &str, workers: usize) -> Option<ReadFault> 
     read_pipeline(alloc, document.as_bytes(), workers).err()
 }
 
-/// A port of the document has these links.
-fn is_linked(rt: &impl Abort, port: &PortDraft, links: &[u32]) {
-    assert_eq!(rt; (port.threshold, port.depth, port.replies), (32, 4, 8));
-    assert!(rt; !port.implicit);
-    assert_eq!(rt; port.links.as_slice(), links);
+/// Whether a port of the document has these links.
+fn is_linked(port: &PortDraft, links: &[u32]) -> bool {
+    let numbers = (port.threshold, port.depth, port.replies);
+    numbers == (32, 4, 8) && !port.implicit && port.links.as_slice() == links
+}
+
+/// Whether the document's ports are the producer and two workers.
+fn are_ports(ports: &[PortDraft]) -> bool {
+    match ports {
+        [producer, first, second] => {
+            is_linked(producer, &[])
+                && is_linked(first, &[0, 1, 2])
+                && is_linked(second, &[0, 1, 2])
+        }
+        _ => false,
+    }
+}
+
+/// The part of the configuration that is not as the document says.
+fn other_in_shape(shape: &Shape) -> Option<&'static str> {
+    if (shape.limit(), shape.quantum(), shape.sweep()) != (32, 1, 8) {
+        Some("limit, quantum or sweep")
+    } else if shape.serving() != Serving::Ports {
+        Some("serving")
+    } else if shape.queues() != QUEUES.as_slice() {
+        Some("queues")
+    } else if !are_ports(shape.ports()) {
+        Some("ports")
+    } else {
+        None
+    }
+}
+
+/// The part of the pipeline that is not as the document says.
+fn other_in(pipeline: &Pipeline) -> Option<&'static str> {
+    let actions = [Action::Add(1), Action::DropMultiples(2), Action::Pass];
+    if pipeline.actions.as_slice() != actions.as_slice() {
+        Some("actions")
+    } else if pipeline.trace.as_slice() != ENTRIES.as_slice() {
+        Some("trace")
+    } else {
+        other_in_shape(&pipeline.shape)
+    }
 }
 
 #[test]
 fn reads_a_whole_document(rt: HostRuntime) -> Result<(), Fail> {
     let pipeline = read_pipeline(rt.alloc(), PIPELINE.as_bytes(), 2).map_err(|_| "a pipeline")?;
-    let shape = &pipeline.shape;
-    assert_eq!(rt; (shape.limit(), shape.quantum(), shape.sweep()), (32, 1, 8));
-    assert_eq!(rt; shape.serving(), Serving::Ports);
-    assert_eq!(rt; shape.queues(), QUEUES.as_slice());
-    let [producer, first, second] = shape.ports() else {
-        return Err(Fail::from("three ports"));
-    };
-    is_linked(&rt, producer, &[]);
-    is_linked(&rt, first, &[0, 1, 2]);
-    is_linked(&rt, second, &[0, 1, 2]);
-    let actions = [Action::Add(1), Action::DropMultiples(2), Action::Pass];
-    assert_eq!(rt; pipeline.actions.as_slice(), actions.as_slice());
-    assert_eq!(rt; pipeline.trace.as_slice(), ENTRIES.as_slice());
+    let other = other_in(&pipeline);
+    drop(pipeline);
+    assert_eq!(rt; other, None);
     Ok(())
 }
 

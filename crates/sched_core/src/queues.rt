@@ -1,11 +1,11 @@
 //! What waits in all queues.
 
-ghost use Rattle.std.specs.Prelude.{◌≡◌, ◌+◌, ◌<◌, ◌≤◌, ◌^◌, ◌++◌, length, slice_set, vec_len, vec_capacity, IsTrue, IfOk, IfSome, IfNone};
+ghost use Rattle.std.specs.Prelude.{◌≡◌, ◌+◌, ◌<◌, ◌≤◌, ◌^◌, ◌++◌, length, map, slice_set, vec_len, vec_capacity, IsTrue, IfOk, IfSome, IfNone};
 ghost use Rattle.parked_queue.specs.Waits.{AreLevels, AreSlots, AreWaits, HasNoneAllowed, HasNoneOfSlot, IsFirstAllowed, IsFirstSlot, IsOldest, IsOnlyOf, all_waiting, slot_of, waits_at, with_event, without_number};
 ghost use Rattle.sched_core.specs.Inner.{AreEmptyQueues, queue_slots, slots_for};
 ghost use Rattle.sched_core.specs.Offered.{numbered_in};
 ghost use Rattle.sched_core.specs.Busy.{AreBusy};
-ghost use Rattle.transcripts.specs.Transcript.{pairs_of};
+ghost use Rattle.waiting_lists.specs.Lists.{delivery_of};
 
 use crate::offer::Offer;
 use evt_types::{Delivery, Event, MAX_SLOTS, Numbered, Shape};
@@ -223,13 +223,13 @@ impl AllQueues {
         self.queues.count(queue)
     }
 
-    /// Appends the queue's number with that of each of its waiting events, rising.
-    pub fn list_pairs(&self, queue: usize, into: &mut Vec<(usize, u64)>)
+    /// Appends each of the queue's waiting events as a delivery, by rising number.
+    pub fn list_waiting(&self, queue: usize, into: &mut Vec<Delivery>)
         requires there { queue < length self.now }
         requires room { vec_len into.old + length (waits_at self.now queue).waiting ≤ vec_capacity into.old }
-        ensures pairs { into.new.items ≡ into.old.items ++ pairs_of queue (waits_at self.now queue).waiting }
+        ensures listed { into.new.items ≡ into.old.items ++ map (delivery_of queue) (waits_at self.now queue).waiting }
         ensures room { vec_capacity into.new ≡ vec_capacity into.old }
     {
-        self.queues.list_pairs(queue, into);
+        self.queues.list_waiting(queue, into);
     }
 }

@@ -4,16 +4,17 @@ ghost use Rattle.std.specs.Prelude.{◌≡◌, ◌+◌, ◌*◌, ◌<◌, ◌≤
 ghost use Rattle.transcripts.specs.Standing.{Stands, inside_of, kept_at, kept_event, kept_in, kept_in_place, places_at, waiting_at};
 ghost use Rattle.transcripts.specs.Sweep.{IsSweep, Sweeping, sweep_room, sweep_steps};
 ghost use Rattle.transcripts.specs.Transcript as transcripts;
-ghost use Rattle.transcripts.specs.Transcript.{kept_events, pairs_of};
+ghost use Rattle.transcripts.specs.Transcript.{kept_events};
 ghost use Rattle.evt_types.specs.Plan as plans;
 ghost use Rattle.order_parts.specs.Reorder.{open_place};
+ghost use Rattle.waiting_lists.specs.Lists.{delivery_of};
 ghost use Rattle.evt_types.specs.declared.step.Step.{Step as StepValue};
 
 use crate::histories::Histories;
 use crate::orders::{AllOrders, kept_room};
 use crate::pins::AllPins;
 use crate::queues::AllQueues;
-use evt_types::{KeptEvent, MAX_FORWARDS, MAX_QUEUES, QueueDraft, Shape};
+use evt_types::{Delivery, KeptEvent, MAX_FORWARDS, MAX_QUEUES, QueueDraft, Shape};
 use place_set::Places;
 use std::alloc::AllocError;
 use std::marker::Model;
@@ -105,15 +106,15 @@ impl Core {
         self.queues.count(queue)
     }
 
-    /// Appends the queue and the number of each of the queue's waiting events, by rising number.
-    pub fn list_waiting(&self, queue: usize, into: &mut Vec<(usize, u64)>)
+    /// Appends the queue's waiting events, by rising number, each as it would be delivered.
+    pub fn list_waiting(&self, queue: usize, into: &mut Vec<Delivery>)
         requires queue { queue < length self.now.shape.queues }
         requires room { vec_len into.old + length (waiting_at self.now queue) ≤ vec_capacity into.old }
-        ensures pairs { into.new.items ≡ into.old.items ++ pairs_of queue (waiting_at self.now queue) }
-        ensures model { (T : List StepValue) → Stands T self.now → into.new.items ≡ into.old.items ++ pairs_of queue (transcripts.waiting T queue) }
+        ensures listed { into.new.items ≡ into.old.items ++ map (delivery_of queue) (waiting_at self.now queue) }
+        ensures model { (T : List StepValue) → Stands T self.now → into.new.items ≡ into.old.items ++ map (delivery_of queue) (transcripts.waiting T queue) }
         ensures room { vec_capacity into.new ≡ vec_capacity into.old }
     {
-        self.queues.list_pairs(queue, into);
+        self.queues.list_waiting(queue, into);
     }
 
     /// How many places of an ordered queue's hand-out haven't left; of another queue there are none.

@@ -1,7 +1,7 @@
 pub mod Changes
+pub mod Deliveries
 pub mod Firsts
 pub mod Nodes
-pub mod Pairs
 pub mod Paths
 pub mod Stores
 pub mod Views

@@ -1,11 +1,10 @@
 //! Many lists of waiting events.
 
 ghost use Rattle.std.specs.Prelude.{◌≡◌, ◌+◌, ◌<◌, ◌≤◌, [], ◌++◌, length, map, slice_get, vec_len, vec_capacity, IfOk, IsFalse, IsTrue};
-ghost use Rattle.evt_types.specs.declared.event.Numbered.{Numbered as NumberedValue};
-ghost use Rattle.waiting_lists.specs.Lists.{list_at, total_of, all_empty, has_number, with_last, without_first};
+ghost use Rattle.waiting_lists.specs.Lists.{list_at, total_of, all_empty, delivery_of, has_number, with_last, without_first};
 
 use crate::chain::{Chain, Node, append, shorten, take_place};
-use evt_types::Numbered;
+use evt_types::{Delivery, Numbered};
 use std::alloc::{AllocError, Global};
 use std::marker::Model;
 
@@ -140,18 +139,22 @@ impl WaitingLists {
         true
     }
 
-    /// Appends the queue's number with the number of each of the list's events, oldest first.
-    pub fn push_pairs(&self, list: usize, queue: usize, into: &mut Vec<(usize, u64)>)
+    /// Appends each of the list's events, oldest first, as a delivery of the queue.
+    pub fn push_deliveries(&self, list: usize, queue: usize, into: &mut Vec<Delivery>)
         requires list { list < length self.now.lists }
         requires room { vec_len into.old + length (list_at self.now list) ≤ vec_capacity into.old }
-        ensures pairs { into.new.items ≡ into.old.items ++ map (λ (w : NumberedValue). (queue, w.number)) (list_at self.now list) }
+        ensures deliveries { into.new.items ≡ into.old.items ++ map (delivery_of queue) (list_at self.now list) }
         ensures room { vec_capacity into.new ≡ vec_capacity into.old }
     {
         let chain = self.chains[list];
         let mut cursor = chain.first;
         for _ in 0..chain.len {
             let node = self.nodes[cursor];
-            into.push_reserved((queue, node.item.number));
+            into.push_reserved(Delivery {
+                event: node.item.event,
+                queue,
+                number: node.item.number,
+            });
             cursor = node.next;
         }
     }

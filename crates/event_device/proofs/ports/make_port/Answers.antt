@@ -67,4 +67,5 @@ returns-in-Ok c = λ lanes lane.
       });
       empty = c.in-Ok.ensures.empty;
       undrawn = (ap (λ account. account.drawn) c.in-Ok.ensures.credit ∙ seats.unused_credit.drawn, ap (λ account. account.returned) c.in-Ok.ensures.credit ∙ seats.unused_credit.returned);
+      uncounted = c.in-Ok.ensures.counts;
     }

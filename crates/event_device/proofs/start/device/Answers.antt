@@ -25,6 +25,7 @@ returns-clause-made c =
       ports_are = made.ports.sites;
       empty = made.ports.empty;
       undrawn = made.ports.undrawn;
+      uncounted = made.ports.uncounted;
       control_is =
           c.new-control.ensures.site
           ∙ (λ i. record { pool = arc_value c.in-Ok.made.shared.pool; claims = arc_value c.in-Ok.made.shared.claims; credit_parts = made.seats.credits_are i; claim_parts = made.seats.claims_are i });

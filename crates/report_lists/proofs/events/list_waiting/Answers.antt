@@ -1,7 +1,8 @@
-use Rattle.std.proofs.Common.{◌≡◌, ◌++◌, ap, sym, ◌∙◌, arith, length}
+use Rattle.std.proofs.Common.{◌≡◌, ◌++◌, ap, sym, ◌∙◌, arith, length, map}
 use Rattle.transcripts.specs.Standing.{waiting_at}
-use Rattle.transcripts.specs.Transcript.{pairs_of, waiting}
+use Rattle.transcripts.specs.Transcript.{waiting}
 use Rattle.lists.proofs.Ranges.{flat_map_range_more}
+use Rattle.waiting_lists.specs.Lists.{delivery_of}
 use Rattle.report_lists.proofs.Queues.{waiting_length}
 use Rattle.report_lists.proofs.Rooms.{sum_more, sum_within}
 use Rattle.report_lists.proofs.events.list_waiting.Goals as goal
@@ -20,8 +21,8 @@ loop-queue-preserved c =
       listed =
           λ T stands.
           c.list_waiting.ensures.model T stands
-          ∙ (ap (λ xs. xs ++ pairs_of q (waiting T q)) (c.loop-queue.invariant.listed T stands)
-          ∙ sym (flat_map_range_more (λ r. pairs_of r (waiting T r)) q));
-      length = omega (arith, sum_more (λ r. length (waiting_at v r)) q, waiting_length c.loop-queue.into.items c.list_waiting.new.into.items q (waiting_at v q) c.list_waiting.ensures.pairs);
+          ∙ (ap (λ xs. xs ++ map (delivery_of q) (waiting T q)) (c.loop-queue.invariant.listed T stands)
+          ∙ sym (flat_map_range_more (λ r. map (delivery_of r) (waiting T r)) q));
+      length = omega (arith, sum_more (λ r. length (waiting_at v r)) q, waiting_length c.loop-queue.into.items c.list_waiting.new.into.items q (waiting_at v q) c.list_waiting.ensures.listed);
       room = c.list_waiting.ensures.room ∙ c.loop-queue.invariant.room;
     }

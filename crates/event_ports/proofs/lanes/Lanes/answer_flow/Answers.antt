@@ -11,7 +11,7 @@ use Rattle.event_ports.specs.Holds.{Says}
 use Rattle.event_ports.specs.Flows.{FlowPlace, flow_place, hands_of}
 use Rattle.event_ports.specs.Lanes.{open_on, said_on}
 use Rattle.event_ports.proofs.Orders.{Notes, each_lane, answered_first, first_open}
-use Rattle.event_ports.proofs.Counts.{counts_one}
+use Rattle.event_ports.proofs.Submitted.{counts_one}
 use Rattle.event_ports.proofs.Extras.{added_said}
 use Rattle.event_ports.proofs.Refusals.{one_answer}
 use Rattle.event_ports.proofs.Turns.{lane_there}

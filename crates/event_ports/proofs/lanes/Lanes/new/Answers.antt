@@ -5,7 +5,7 @@ use Rattle.flow_claims.specs.Claims.{lanes_of}
 use Rattle.event_ports.specs.declared.lane.Lane.{Lane}
 use Rattle.event_ports.specs.Flows.{hands_of, flow_place}
 use Rattle.event_ports.specs.Lanes.{said_on}
-use Rattle.event_ports.proofs.Counts.{counts_zero}
+use Rattle.event_ports.proofs.Submitted.{counts_zero}
 use Rattle.event_ports.proofs.Orders.{each_lane}
 use Rattle.event_ports.proofs.lanes.Lanes.new.Goals as goal
 

@@ -12,7 +12,7 @@ use Rattle.event_ports.specs.Lanes.{HasRoomFor, said_on, got_on, open_on}
 use Rattle.event_ports.proofs.Arrivals.{arrives_none, arrives_some, room_less}
 use Rattle.event_ports.proofs.Noting.{noted_are, note_fits}
 use Rattle.event_ports.proofs.Orders.{Notes, each_lane, received_last}
-use Rattle.event_ports.proofs.Counts.{counts_none}
+use Rattle.event_ports.proofs.Submitted.{counts_none}
 use Rattle.event_ports.proofs.Calls.{gave_back, same_no_new, idle_received, gets_between, gets_no_answer}
 use Rattle.event_ports.proofs.lanes.Lanes.receive_flow.Goals as goal
 

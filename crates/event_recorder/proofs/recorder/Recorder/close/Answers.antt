@@ -7,7 +7,7 @@ use Rattle.event_ports.specs.Lanes.{held_of, pair_in}
 use Rattle.event_ports.specs.Stop.{AreStintsOf, LinksAgree}
 use Rattle.credit_pool.specs.Pockets.{IsPocket}
 use Rattle.credit_pool.specs.Pool.{account, limit_of}
-use Rattle.report_lists.specs.Listed.{waiting_pairs, kept_all}
+use Rattle.report_lists.specs.Listed.{kept_all, turned_all, waiting_all}
 use Rattle.std.proofs.lemmas.List.Sorted.{All-permutation, IsPermutation-sym}
 use Rattle.transcripts.specs.Transcript.{out, has_shut}
 use Rattle.transcripts.specs.Replies.{said, replies_in, turned_count}
@@ -269,8 +269,8 @@ returns g c =
     λ l. ap (λ xs. map pair_of (slice_index_or xs l [])) parts.offered_is ∙ serves.offered l in
     let taken_is : (l : ℕ) → map said (slice_index_or (map taken nears) l []) ≡ replies_in r.log l =
     λ l. ap (λ xs. map said (slice_index_or xs l [])) parts.taken_is ∙ serves.taken l in
-    let logged : g.L.StepLog.steps c.self.inside.log ≡ r.log = ap (λ (x : Recorded). x.log) c.self.view_is in
-    let short : length r.log < 2 ^ 63 = omega (arith, ap length logged, g.met.L.StepLog.short c.self.inside.log) in
+    let logged : g.L.StepLog.steps c.self.inside.books.log ≡ r.log = ap (λ (x : Recorded). x.log) c.self.view_is in
+    let short : length r.log < 2 ^ 63 = omega (arith, ap length logged, g.met.L.StepLog.short c.self.inside.books.log) in
     let rests_are : AreRests p r.log rest = logs.rests_are p r.log nears fars serves.stands.lawful short given taken_is ids c.list_lanes.ensures.rests no_new in
     let same_ports = IsPermutation-sym unsorted sorted c.by_number-ports.ensures.same in
     let offered_is : (l : ℕ) → (rest l).offered ≡ offered_at s l = λ l. logs.offered_at nears fars l ids ∙ ap (λ xs. slice_index_or xs l []) parts.offered_is in
@@ -295,17 +295,18 @@ returns g c =
     let back = (account seat).returned in
     let report : Report _ =
     record {
-      log = c.self.inside.log;
+      log = c.self.inside.books.log;
       waiting = c.list_waiting.new.into;
       kept = c.list_kept.new.into;
       undelivered = c.list_lanes.new.undelivered;
       held = c.list_ports.new.held;
       untaken = c.list_lanes.new.untaken;
+      turned = c.self.inside.books.turned;
       free = free;
       pockets = c.list_ports.new.pockets;
       own = its_own;
     } in
-    let waiting_is = c.list_waiting.ensures r.log stands ∙ ap (λ (v : View). waiting_pairs v.shape r.log) parts.core in
+    let waiting_is = c.list_waiting.ensures r.log stands ∙ ap (λ (v : View). waiting_all v.shape r.log) parts.core in
     let kept_is = c.list_kept.ensures r.log stands ∙ ap (λ (v : View). kept_all v.shape r.log) parts.core in
     let pockets_are = c.list_ports.ensures.pockets ∙ left.pockets in
     let far : Far = (slice_get-some rests 0 (omega (arith, left_is, c.port_count-count.ensures.within.port_count.0))).0.own in
@@ -378,6 +379,7 @@ returns g c =
       undelivered = c.list_lanes.ensures.undelivered p lanes_count;
       held = held_is;
       untaken = c.list_lanes.ensures.untaken p lanes_count;
+      turned = c.self.inside.books.turned_are ∙ ap turned_all logged;
       pockets = pockets_are;
       own = parts.pocket;
       free = omega (

@@ -10,8 +10,8 @@ returns-in-Some-clause-refused g c =
     let Of : List Port → Type 0 = λ xs. Refuses (length c.args.self.sight.core.shape.ports) xs (Missing c.in-Some.port) in
     subst Of c.deref.ensures.value (subst At c.port_count-count.ensures.value c.in-Some.ensures)
 
-pub close-requires-clause-there : goal.close-requires-clause-there
-close-requires-clause-there g c =
+pub close-report-requires-clause-there : goal.close-report-requires-clause-there
+close-report-requires-clause-there g c =
     let At : ℕ → Type 0 = λ n. Refuses n c.deref.result.now Memory in
     let Of : List Port → Type 0 = λ xs. Refuses (length c.args.self.sight.core.shape.ports) xs Memory in
     subst Of c.deref.ensures.value (subst At c.port_count-count.ensures.value c.in_default.ensures)

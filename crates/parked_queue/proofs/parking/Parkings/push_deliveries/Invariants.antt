@@ -1,0 +1,12 @@
+use Rattle.std.proofs.Common.{◌≡◌, ◌++◌, map, vec_capacity}
+use Rattle.parked_queue.specs.Parts.{parts_of}
+use Rattle.parked_queue.specs.Parkings.{parted_at}
+use Rattle.waiting_lists.specs.Lists.{delivery_of}
+use Rattle.parked_queue.proofs.parking.Parkings.push_deliveries.Given as goal
+
+abbrev pub invariant-loop-list : goal.invariant-loop-list
+invariant-loop-list l =
+    record {
+      deliveries : l.into.items ≡ l.initial.into.items ++ map (delivery_of l.queue) (parts_of (parted_at l.fn.self l.queue) l.list);
+      room : vec_capacity l.into ≡ vec_capacity l.initial.into;
+    }

@@ -1,0 +1,48 @@
+-- Tables of counts: at no step, where one place changes, and where none does.
+use Rattle.std.proofs.Common.{◌≡◌, ◌≢◌, ℕ, ◌<◌, List, [], length, slice_set, replicate, ⊎_elim, sym, ap, ◌∙◌, arith}
+use Rattle.std.proofs.lemmas.Bool.{cases_eq}
+use Rattle.std.proofs.lemmas.List.{get_or-replicate, get_or-set_other, length-set, length-replicate}
+use Rattle.std.proofs.lemmas.Grind.{get_or-set_at}
+use Rattle.evt_types.specs.declared.shape.TheConstants.{MAX_LANES, MAX_QUEUES}
+use Rattle.transcripts.specs.Transcript.{hand, out, answers}
+use Rattle.step_tally.specs.Counts.{new_to, passed_to, queue_counts, released_by, forwarded_by, added_by, turned_on, bounced_on, lane_counts}
+use Rattle.step_tally.specs.Tables.{AreCounts, AreTables}
+use Rattle.step_tally.specs.declared.counts.LaneCounts.{LaneCounts}
+use Rattle.step_tally.specs.declared.counts.QueueCounts.{QueueCounts}
+use Rattle.step_tally.proofs.Pushes.{same_queue, same_lane}
+
+pub AreCounts-same : {X : Type 0} (f g : ℕ → X) (table : List X) → AreCounts f table → ((k : ℕ) → k < length table → g k ≡ f k) → AreCounts g table
+AreCounts-same f g table h same = λ k d lt. h k d lt ∙ sym (same k lt)
+
+pub AreCounts-set : {X : Type 0} (f g : ℕ → X) (table : List X) (q : ℕ) (x : X) → AreCounts f table → x ≡ g q → ((k : ℕ) → k ≢ q → g k ≡ f k)
+    → AreCounts g (slice_set table q x)
+AreCounts-set f g table q x h here same = λ k d lt. ⊎_elim
+    (λ e. get_or-set_at table q k x d e (omega (arith, length-set table q x)) ∙ (here ∙ ap g (sym e)))
+    (λ other. get_or-set_other table q k x d other ∙ (h k d (omega (arith, length-set table q x)) ∙ sym (same k other)))
+    (cases_eq k q)
+
+pub AreCounts-replicate : {X : Type 0} (f : ℕ → X) (n : ℕ) (x : X) → ((k : ℕ) → f k ≡ x) → AreCounts f (replicate n x)
+AreCounts-replicate f n x all = λ k d lt. get_or-replicate n k x d (omega (arith, length-replicate n x)) ∙ sym (all k)
+
+-- ---- at no step
+
+queue_none : (x : QueueCounts) → (x.accepted_new ≡ 0) × ((x.accepted_forwarded ≡ 0) × (x.given ≡ 0)) → (q : ℕ) → queue_counts [] q ≡ x
+unfolding new_to passed_to hand
+queue_none x h q = same_queue (sym h.0) (sym h.1.0) (sym h.1.1)
+
+lane_none : (x : LaneCounts)
+    → (x.given ≡ 0) × ((x.released ≡ 0) × ((x.forwarded ≡ 0) × ((x.added ≡ 0) × ((x.turned ≡ 0) × (x.bounced ≡ 0))))) → (l : ℕ)
+    → lane_counts [] l ≡ x
+unfolding released_by forwarded_by added_by turned_on bounced_on out answers
+lane_none x h l = same_lane (sym h.0) (sym h.1.0) (sym h.1.1.0) (sym h.1.1.1.0) (sym h.1.1.1.1.0) (sym h.1.1.1.1.1)
+
+-- tables of zeros are those of no step
+pub AreTables-none : (x : QueueCounts) (y : LaneCounts) → (x.accepted_new ≡ 0) × ((x.accepted_forwarded ≡ 0) × (x.given ≡ 0))
+    → (y.given ≡ 0) × ((y.released ≡ 0) × ((y.forwarded ≡ 0) × ((y.added ≡ 0) × ((y.turned ≡ 0) × (y.bounced ≡ 0)))))
+    → AreTables [] (replicate MAX_QUEUES x) (replicate MAX_LANES y)
+AreTables-none x y h k = record {
+  all_queues = length-replicate MAX_QUEUES x;
+  all_lanes = length-replicate MAX_LANES y;
+  queues = AreCounts-replicate (queue_counts []) MAX_QUEUES x (queue_none x h);
+  lanes = AreCounts-replicate (lane_counts []) MAX_LANES y (lane_none y k);
+}

@@ -1,0 +1,3 @@
+pub mod Balance
+pub mod Entries
+pub mod Pushes

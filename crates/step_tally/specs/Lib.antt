@@ -1,0 +1,3 @@
+pub mod Counts
+pub mod Last
+pub mod Tables

@@ -1,0 +1,79 @@
+-- Tables of counts, and what one step more makes of the counts of its queue and of its lane.
+use Rattle.std.specs.Prelude.{ℕ, ◌≡◌, ◌+◌, ◌<◌, ◌^◌, List, length, slice_index_or, Option, Some, None}
+use Rattle.evt_types.specs.declared.shape.TheConstants.{MAX_LANES, MAX_QUEUES}
+use Rattle.evt_types.specs.declared.step.Outcome.TheVariants.{Forwarded, Released}
+use Rattle.evt_types.specs.declared.step.Source.TheVariants.{New, Of}
+use Rattle.evt_types.specs.declared.step.Step.{Step}
+use Rattle.evt_types.specs.declared.step.Step.TheVariants.{Accept, Give, Done, More, Turned, Bounced, Shut}
+use Rattle.step_tally.specs.Counts.{queue_counts, lane_counts}
+use Rattle.step_tally.specs.declared.counts.LaneCounts.{LaneCounts}
+use Rattle.step_tally.specs.declared.counts.QueueCounts.{QueueCounts}
+
+-- each place of the table has the counts of its number
+abbrev pub AreCounts : {X : Type 0} → (ℕ → X) → List X → Type 0
+AreCounts {X} counts table = (k : ℕ) (d : X) → k < length table → slice_index_or table k d ≡ counts k
+
+-- the tables have the counts of these steps, for each queue and each lane that a device may have
+pub record AreTables (T : List Step) (by_queue : List QueueCounts) (by_lane : List LaneCounts) : Type 0 where
+  pub all_queues : length by_queue ≡ MAX_QUEUES
+  pub all_lanes : length by_lane ≡ MAX_LANES
+  pub queues : AreCounts (queue_counts T) by_queue
+  pub lanes : AreCounts (lane_counts T) by_lane
+
+-- ---- one step
+
+-- the queue of which the step is counted
+abbrev pub queue_in : Step → Option ℕ
+queue_in (Accept q e s) = Some q
+queue_in (Give l q n) = Some q
+queue_in (Done l o) = None
+queue_in (More l e) = None
+queue_in (Turned l e) = None
+queue_in (Bounced l) = None
+queue_in Shut = None
+
+-- the counts of its queue after it
+abbrev pub queue_after : QueueCounts → Step → QueueCounts
+queue_after c (Accept q e (New l)) = record c { accepted_new = c.accepted_new + 1 }
+queue_after c (Accept q e (Of r n)) = record c { accepted_forwarded = c.accepted_forwarded + 1 }
+queue_after c (Give l q n) = record c { given = c.given + 1 }
+queue_after c (Done l o) = c
+queue_after c (More l e) = c
+queue_after c (Turned l e) = c
+queue_after c (Bounced l) = c
+queue_after c Shut = c
+
+-- the lane of which the step is counted
+abbrev pub lane_in : Step → Option ℕ
+lane_in (Accept q e s) = None
+lane_in (Give l q n) = Some l
+lane_in (Done l o) = Some l
+lane_in (More l e) = Some l
+lane_in (Turned l e) = Some l
+lane_in (Bounced l) = Some l
+lane_in Shut = None
+
+-- the counts of its lane after it
+abbrev pub lane_after : LaneCounts → Step → LaneCounts
+lane_after c (Accept q e s) = c
+lane_after c (Give l q n) = record c { given = c.given + 1 }
+lane_after c (Done l Released) = record c { released = c.released + 1 }
+lane_after c (Done l (Forwarded e)) = record c { forwarded = c.forwarded + 1 }
+lane_after c (More l e) = record c { added = c.added + 1 }
+lane_after c (Turned l e) = record c { turned = c.turned + 1 }
+lane_after c (Bounced l) = record c { bounced = c.bounced + 1 }
+lane_after c Shut = c
+
+-- no count is at its greatest
+pub record HasFewOfQueue (c : QueueCounts) : Type 0 where
+  pub accepted_new : c.accepted_new < 2 ^ 63
+  pub accepted_forwarded : c.accepted_forwarded < 2 ^ 63
+  pub given : c.given < 2 ^ 63
+
+pub record HasFewOfLane (c : LaneCounts) : Type 0 where
+  pub given : c.given < 2 ^ 63
+  pub released : c.released < 2 ^ 63
+  pub forwarded : c.forwarded < 2 ^ 63
+  pub added : c.added < 2 ^ 63
+  pub turned : c.turned < 2 ^ 63
+  pub bounced : c.bounced < 2 ^ 63

@@ -1,0 +1,95 @@
+//! A log that counts the steps by queue and by lane.
+
+use crate::counts::{LaneCounts, QueueCounts};
+use crate::tables::{count_at_lane, count_at_queue};
+use evt_types::{MAX_LANES, MAX_QUEUES, Step};
+use std::alloc::Global;
+use std::marker::Model;
+use step_log::{Memory, StepLog};
+
+/// A log over any other that counts its steps by queue and by lane, exactly, in two tables that are made once: they have a place for
+/// each queue and each lane that a device may have. Which steps it keeps the other log says.
+#[derive(Drop)]
+pub struct Tally<L: StepLog> {
+    queues: Vec<QueueCounts>,
+    lanes: Vec<LaneCounts>,
+    log: L,
+}
+
+/// A contract sees a tally as its log: what it counts is what the steps of the log say.
+impl<L: StepLog> Model for Tally<L> {
+    ghost use Rattle.step_tally.specs.Tables.{AreTables};
+
+    ghost Value = { L };
+
+    ghost coded = { L.code };
+
+    ghost view = { λ t. t.log };
+
+    ghost invariant = { λ t. AreTables (L.steps t.log) t.queues.items t.lanes.items };
+}
+
+impl<L: StepLog> Tally<L> {
+    ghost use Rattle.std.specs.Prelude.{◌≡◌, ◌<◌, [], IfOk};
+    ghost use Rattle.evt_types.specs.declared.shape.TheConstants.{MAX_LANES, MAX_QUEUES};
+    ghost use Rattle.step_tally.specs.Counts.{queue_counts, lane_counts};
+
+    /// Begins to count with this log, which has no step yet.
+    pub fn new(alloc: Global, log: L) -> Result<Tally<L>, Memory>
+        requires { L.steps log ≡ [] }
+        ensures { IfOk result (λ t. t ≡ log) }
+    {
+        let queues = vec![in alloc; QueueCounts::default(); MAX_QUEUES]?;
+        let lanes = vec![in alloc; LaneCounts::default(); MAX_LANES]?;
+        Ok(Tally { queues, lanes, log })
+    }
+
+    /// What the steps say of the queue.
+    pub fn queue(&self, queue: usize) -> QueueCounts
+        requires { queue < MAX_QUEUES }
+        ensures { result ≡ queue_counts (L.steps self.now) queue }
+    {
+        self.queues[queue]
+    }
+
+    /// What the steps say of the lane.
+    pub fn lane(&self, lane: usize) -> LaneCounts
+        requires { lane < MAX_LANES }
+        ensures { result ≡ lane_counts (L.steps self.now) lane }
+    {
+        self.lanes[lane]
+    }
+
+    /// The log, which has the steps that are counted.
+    pub fn log(&self) -> &L
+        ensures { result.now ≡ self.now }
+    {
+        &self.log
+    }
+
+    /// The log alone.
+    pub fn into_log(self) -> L
+        ensures { result ≡ self }
+    {
+        self.log
+    }
+}
+
+/// Its steps are those of the other log, and so is its room.
+impl<L: StepLog> StepLog for Tally<L> {
+    ghost steps = { λ log. L.steps log };
+
+    ghost room = { λ log. L.room log };
+
+    ghost short = { λ log. L.short log };
+
+    fn push_step(&mut self, step: Step) {
+        count_at_queue(&mut self.queues, &self.log, &step);
+        count_at_lane(&mut self.lanes, &self.log, &step);
+        self.log.push_step(step);
+    }
+
+    fn make_room(&mut self, count: usize) -> Result<(), Memory> {
+        self.log.make_room(count)
+    }
+}

@@ -111,6 +111,7 @@ TESTS = (
     ("WaitingLists::new, ParkedQueues::new", "part_tests", "queues"),
     ("Levels::new", "part_tests", "levels"),
     ("Core::new", "part_tests", "core_again"),
+    ("Tail::new, Tally::new", "part_tests", "logs"),
     ("Credits::new", "ring_tests", "credits::credit_calls"),
     ("lane", "ring_tests", "lanes"),
     ("Claims::new", "claim_tests", "calls"),

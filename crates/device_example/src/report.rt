@@ -5,13 +5,9 @@ use event_device::{Counted, LaneCounts, QueueCounts, Report, Tally};
 
 /// Prints what was counted of the queue, and of the worker's lane.
 fn print_counts(rt: &impl Print, log: &Tally<Counted>) -> Result<()> {
-    let QueueCounts {
-        accepted_new,
-        given,
-        ..
-    } = log.queue(0);
+    let QueueCounts { rx_new, tx, .. } = log.queue(0);
     let LaneCounts { released, .. } = log.lane(1);
-    println!(rt; "accepted {accepted_new}, given {given}, released {released}")?;
+    println!(rt; "accepted {rx_new}, given {tx}, released {released}")?;
     Ok(())
 }
 

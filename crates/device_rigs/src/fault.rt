@@ -2,7 +2,7 @@
 
 use event_device::{DeviceFault, StopFault};
 use evt_types::ShapeFault;
-use std::alloc::AllocError;
+use std::alloc::{AllocError, AllocFailed};
 use thiserror::Error;
 
 /// Why a device of a plan isn't made, called as wanted or stopped.
@@ -27,6 +27,12 @@ pub enum RigFault {
 
 impl From<AllocError> for RigFault {
     fn from(_: AllocError) -> RigFault {
+        RigFault::Memory
+    }
+}
+
+impl<T: Drop> From<AllocFailed<T>> for RigFault {
+    fn from(_: AllocFailed<T>) -> RigFault {
         RigFault::Memory
     }
 }

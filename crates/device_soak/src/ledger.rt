@@ -67,7 +67,7 @@ impl Ledger {
     pub fn entered(&self) -> u64 {
         let mut sum = 0u64;
         for queue in &self.queues {
-            sum = sum.saturating_add(queue.accepted_new);
+            sum = sum.saturating_add(queue.rx_new);
         }
         sum
     }
@@ -98,21 +98,21 @@ impl Ledger {
                 counts.turned = counts.turned.saturating_add(1);
             }
         } else if let Some(counts) = self.queues.get_mut(usize::from(event.queue)) {
-            counts.accepted_new = counts.accepted_new.saturating_add(1);
+            counts.rx_new = counts.rx_new.saturating_add(1);
         }
     }
 
     /// What an event is passed on as goes to its queue.
     fn pass_on(&mut self, event: &Event) {
         if let Some(counts) = self.queues.get_mut(usize::from(event.queue)) {
-            counts.accepted_forwarded = counts.accepted_forwarded.saturating_add(1);
+            counts.rx_forwarded = counts.rx_forwarded.saturating_add(1);
         }
     }
 
     /// What an event was passed on as is kept, and hasn't come to its queue after all.
     pub fn keep(&mut self, event: &Event) {
         if let Some(counts) = self.queues.get_mut(usize::from(event.queue)) {
-            counts.accepted_forwarded = counts.accepted_forwarded.saturating_sub(1);
+            counts.rx_forwarded = counts.rx_forwarded.saturating_sub(1);
         }
     }
 
@@ -215,10 +215,10 @@ impl Ledger {
     /// An event of the queue was given to the lane.
     pub fn give(&mut self, lane: usize, queue: usize) {
         if let Some(counts) = self.lanes.get_mut(lane) {
-            counts.given = counts.given.saturating_add(1);
+            counts.tx = counts.tx.saturating_add(1);
         }
         if let Some(counts) = self.queues.get_mut(queue) {
-            counts.given = counts.given.saturating_add(1);
+            counts.tx = counts.tx.saturating_add(1);
         }
     }
 

@@ -62,8 +62,8 @@ fn accepted(ledger: &Ledger) -> u64 {
     for queue in 0..MAX_QUEUES {
         let counts = ledger.queue(queue);
         sum = sum
-            .saturating_add(counts.accepted_new)
-            .saturating_add(counts.accepted_forwarded);
+            .saturating_add(counts.rx_new)
+            .saturating_add(counts.rx_forwarded);
     }
     sum
 }
@@ -76,7 +76,7 @@ fn steps(ledger: &Ledger) -> u64 {
     for lane in 0..MAX_LANES {
         let counts = ledger.lane(lane);
         sum = sum
-            .saturating_add(counts.given)
+            .saturating_add(counts.tx)
             .saturating_add(counts.released)
             .saturating_add(counts.forwarded)
             .saturating_add(counts.added)
@@ -91,9 +91,9 @@ fn check_waiting(ledger: &Ledger, report: &Report<StepCounts>) -> Result<(), Lon
         let counts = ledger.queue(queue);
         let waiting = report.waiting.iter().filter(|left| left.queue == queue);
         let accepted = counts
-            .accepted_new
-            .saturating_add(counts.accepted_forwarded);
-        if add(counts.given, waiting.count()) != accepted {
+            .rx_new
+            .saturating_add(counts.rx_forwarded);
+        if add(counts.tx, waiting.count()) != accepted {
             return Err(LongFault::Waiting { queue });
         }
     }

@@ -1,7 +1,7 @@
 //! The reorder buffer of an ordered queue.
 
-ghost use Rattle.std.specs.Prelude.{◌≡◌, ◌+◌, ◌*◌, ◌%◌, ◌^◌, ◌<◌, ◌≤◌, ◌++◌, All, MatchOption, Some, length, nat_lt, slice_get, slice_index_or, option_map, option_to_list, IfOk, IsTrue};
-ghost use Rattle.order_parts.specs.Reorder.{HasFew, after_add, after_hand, after_leave, after_resolve, empty, forwards_of, is_open, kept_of, left, left_plain, next_number, oldest_answered, open_place, place_at, place_or_open, without_oldest, wrapped};
+ghost use Rattle.std.specs.Prelude.{◌≡◌, ◌+◌, ◌*◌, ◌%◌, ◌^◌, ◌<◌, ◌≤◌, ◌++◌, All, MatchOption, Some, length, nat_lt, slice_get, slice_index_or, is_some, option_map, option_to_list, IfOk, IsTrue};
+ghost use Rattle.order_parts.specs.Reorder.{HasFew, after_add, after_hand, after_leave, after_resolve, empty, forwards_of, is_answered, is_open, kept_of, left, left_plain, next_number, oldest_answered, open_place, place_at, place_or_open, without_oldest, wrapped};
 
 use crate::Memory;
 use arrayvec::ArrayVec;
@@ -55,6 +55,16 @@ fn around(row: usize, rows: usize) -> usize
     ensures { result ≡ wrapped rows row }
 {
     if row < rows { row } else { row - rows }
+}
+
+/// Whether there is an answer.
+fn is_resolved(answer: &Answer) -> bool
+    ensures { result ≡ is_answered answer.now }
+{
+    match answer {
+        Answer::Resolved(_) => true,
+        Answer::Awaited => false,
+    }
 }
 
 /// What the answer forwards.
@@ -187,6 +197,16 @@ impl Reorder {
         }
     }
 
+    /// Whether the oldest place may leave: there is one, and it is resolved.
+    pub fn leaves(&self) -> bool
+        ensures { result ≡ is_some (oldest_answered self.now.places) }
+    {
+        match self.ring.front() {
+            Some(oldest) => is_resolved(&oldest.answer),
+            None => false,
+        }
+    }
+
     /// The oldest place leaves, where it is resolved: its event's number, and what it was passed on as, in order: the events
     /// that were added, and then the forward.
     pub fn leave(&mut self) -> Option<(u64, ArrayVec<Event, MAX_FORWARDS>)>
@@ -210,15 +230,16 @@ impl Reorder {
     pub fn leave_plain(&mut self) -> Option<(u64, Option<Event>)>
         ensures { MatchOption result (self.new ≡ self.old) (λ r. (oldest_answered self.old.places ≡ Some (left_plain r)) × (self.new ≡ after_leave self.old)) }
     {
-        let plain = self.ring.front().copied()?;
+        let plain = self.ring.front()?;
         if plain.added > 0 {
             return None;
         }
+        let number = plain.number;
         match plain.answer {
             Answer::Awaited => None,
             Answer::Resolved(forward) => {
                 self.advance();
-                Some((plain.number, forward))
+                Some((number, forward))
             }
         }
     }

@@ -65,7 +65,13 @@ fn log_again(alloc: Global) -> Result<Tally<Tail<2>>, Memory> {
         Ok(tail) => tail,
         Err(_) => Tail::new(alloc)?,
     };
-    Tally::new(alloc, tail)
+    match Tally::new(alloc, tail) {
+        Ok(tally) => Ok(tally),
+        Err(refused) => {
+            let tally = Tally::new(alloc, refused.value)?;
+            Ok(tally)
+        }
+    }
 }
 
 fn push(log: &mut Tally<Tail<2>>, steps: &[Step]) {
@@ -83,12 +89,12 @@ fn counts_in(log: &Tally<Tail<2>>) -> (QueueCounts, LaneCounts, LaneCounts) {
 
 const COUNTS: (QueueCounts, LaneCounts, LaneCounts) = (
     QueueCounts {
-        accepted_new: 1,
-        accepted_forwarded: 1,
-        given: 1,
+        rx_new: 1,
+        rx_forwarded: 1,
+        tx: 1,
     },
     LaneCounts {
-        given: 0,
+        tx: 0,
         released: 0,
         forwarded: 0,
         added: 0,
@@ -96,7 +102,7 @@ const COUNTS: (QueueCounts, LaneCounts, LaneCounts) = (
         bounced: 0,
     },
     LaneCounts {
-        given: 1,
+        tx: 1,
         released: 0,
         forwarded: 1,
         added: 0,

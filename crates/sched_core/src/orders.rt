@@ -121,6 +121,18 @@ impl AllOrders {
         }
     }
 
+    /// Whether the queue's oldest place may leave: there is one, and it is answered.
+    #[inline(always)]
+    pub fn leaves(&self, queue: usize) -> bool
+        requires { queue < length self.now }
+        ensures { result ≡ is_some (oldest_answered (order_at self.now queue).places) }
+    {
+        match &self.queues[queue] {
+            Some(order) => order.leaves(),
+            None => false,
+        }
+    }
+
     /// The queue's oldest place leaves, where it is answered: its event's number, and what it was passed on as.
     pub fn leave(&mut self, queue: usize) -> Option<(u64, ArrayVec<Event, MAX_FORWARDS>)>
         requires { queue < length self.old }

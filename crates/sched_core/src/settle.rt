@@ -45,6 +45,7 @@ impl Core {
 
     /// The oldest place of the queue leaves, where it is answered and nothing was added to it: its event's number, and what it was
     /// forwarded as. Where it gives nothing it may be that an event was added.
+    #[inline(always)]
     fn leave_plain(&mut self, queue: usize) -> Option<(u64, Option<Event>)>
         requires queue { queue < length self.old.shape.queues }
         ensures value { IfSome result (λ x. oldest_answered (places_at self.old queue) ≡ Some (left_plain x)) }
@@ -63,6 +64,7 @@ impl Core {
 
     /// The oldest place leaves, where it is answered and nothing was added to it, and what it was forwarded as is accepted: whether
     /// that is something, and of the number.
+    #[inline(always)]
     fn pass_plain<L: StepLog>(&mut self, queue: usize, answered: u64, log: &mut L) -> Option<bool>
         requires queue { queue < length self.old.shape.queues }
         requires room { length (flush_steps self.old queue) ≤ L.room log.old }
@@ -102,6 +104,7 @@ impl Core {
 
     /// The oldest place leaves, where it is answered, and what it was passed on as is accepted: whether that is something, and of the
     /// number. Mostly nothing was added to it.
+    #[inline(always)]
     fn pass_on<L: StepLog>(&mut self, queue: usize, answered: u64, log: &mut L) -> Option<bool>
         requires queue { queue < length self.old.shape.queues }
         requires room { length (flush_steps self.old queue) ≤ L.room log.old }
@@ -111,6 +114,9 @@ impl Core {
         ensures logged { IfNone result (log.new ≡ log.old) }
         ensures room { L.room log.old + length (L.steps log.old) ≤ L.room log.new + length (L.steps log.new) }
     {
+        if !self.orders.leaves(queue) {
+            return None;
+        }
         match self.pass_plain(queue, answered, log) {
             Some(passed) => Some(passed),
             None => self.pass_all(queue, answered, log),

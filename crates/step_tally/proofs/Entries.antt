@@ -26,19 +26,19 @@ AreCounts-replicate f n x all = λ k d lt. get_or-replicate n k x d (omega (arit
 
 -- ---- at no step
 
-queue_none : (x : QueueCounts) → (x.accepted_new ≡ 0) × ((x.accepted_forwarded ≡ 0) × (x.given ≡ 0)) → (q : ℕ) → queue_counts [] q ≡ x
+queue_none : (x : QueueCounts) → (x.rx_new ≡ 0) × ((x.rx_forwarded ≡ 0) × (x.tx ≡ 0)) → (q : ℕ) → queue_counts [] q ≡ x
 unfolding new_to passed_to hand
 queue_none x h q = same_queue (sym h.0) (sym h.1.0) (sym h.1.1)
 
 lane_none : (x : LaneCounts)
-    → (x.given ≡ 0) × ((x.released ≡ 0) × ((x.forwarded ≡ 0) × ((x.added ≡ 0) × ((x.turned ≡ 0) × (x.bounced ≡ 0))))) → (l : ℕ)
+    → (x.tx ≡ 0) × ((x.released ≡ 0) × ((x.forwarded ≡ 0) × ((x.added ≡ 0) × ((x.turned ≡ 0) × (x.bounced ≡ 0))))) → (l : ℕ)
     → lane_counts [] l ≡ x
 unfolding released_by forwarded_by added_by turned_on bounced_on out answers
 lane_none x h l = same_lane (sym h.0) (sym h.1.0) (sym h.1.1.0) (sym h.1.1.1.0) (sym h.1.1.1.1.0) (sym h.1.1.1.1.1)
 
 -- tables of zeros are those of no step
-pub AreTables-none : (x : QueueCounts) (y : LaneCounts) → (x.accepted_new ≡ 0) × ((x.accepted_forwarded ≡ 0) × (x.given ≡ 0))
-    → (y.given ≡ 0) × ((y.released ≡ 0) × ((y.forwarded ≡ 0) × ((y.added ≡ 0) × ((y.turned ≡ 0) × (y.bounced ≡ 0)))))
+pub AreTables-none : (x : QueueCounts) (y : LaneCounts) → (x.rx_new ≡ 0) × ((x.rx_forwarded ≡ 0) × (x.tx ≡ 0))
+    → (y.tx ≡ 0) × ((y.released ≡ 0) × ((y.forwarded ≡ 0) × ((y.added ≡ 0) × ((y.turned ≡ 0) × (y.bounced ≡ 0)))))
     → AreTables [] (replicate MAX_QUEUES x) (replicate MAX_LANES y)
 AreTables-none x y h k = record {
   all_queues = length-replicate MAX_QUEUES x;

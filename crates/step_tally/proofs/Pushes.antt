@@ -63,7 +63,7 @@ handed_still : (T : List Step) (s : Step) (q : ℕ) → given_of q s ≡ None �
 handed_still T s q h = ap length (hand-none T q s h)
 
 pub same_queue : {a b c d e f : ℕ} → a ≡ d → b ≡ e → c ≡ f
-    → ◌≡◌ {A = QueueCounts} (record { accepted_new = a; accepted_forwarded = b; given = c }) (record { accepted_new = d; accepted_forwarded = e; given = f })
+    → ◌≡◌ {A = QueueCounts} (record { rx_new = a; rx_forwarded = b; tx = c }) (record { rx_new = d; rx_forwarded = e; tx = f })
 same_queue h j k = cc
 
 -- a step that isn't counted of the queue
@@ -104,9 +104,9 @@ queue_counts-other T Shut q h = queue_still T Shut q refl refl refl
 pub queue_counts_few : (T : List Step) (q : ℕ) → length T < 2 ^ 63 → HasFewOfQueue (queue_counts T q)
 unfolding new_to passed_to hand
 queue_counts_few T q short = record {
-  accepted_new = omega (arith, count_by-le-length (is_new_to q) T);
-  accepted_forwarded = omega (arith, count_by-le-length (is_passed_to q) T);
-  given = omega (arith, filter_map_few (given_of q) T);
+  rx_new = omega (arith, count_by-le-length (is_new_to q) T);
+  rx_forwarded = omega (arith, count_by-le-length (is_passed_to q) T);
+  tx = omega (arith, filter_map_few (given_of q) T);
 }
 
 -- ---- lanes
@@ -177,8 +177,8 @@ unfolding bounced_on
 bounced_still T s l h = count_still (is_bounced_on l) T s h
 
 pub same_lane : {a b c d e f g h i j k m : ℕ} → a ≡ g → b ≡ h → c ≡ i → d ≡ j → e ≡ k → f ≡ m
-    → ◌≡◌ {A = LaneCounts} (record { given = a; released = b; forwarded = c; added = d; turned = e; bounced = f })
-    (record { given = g; released = h; forwarded = i; added = j; turned = k; bounced = m })
+    → ◌≡◌ {A = LaneCounts} (record { tx = a; released = b; forwarded = c; added = d; turned = e; bounced = f })
+    (record { tx = g; released = h; forwarded = i; added = j; turned = k; bounced = m })
 same_lane n o p q r s = cc
 
 -- a step that isn't counted of the lane
@@ -234,7 +234,7 @@ answers_few p T l = omega (arith, count_by-le-length p (answers T l), filter_map
 pub lane_counts_few : (T : List Step) (l : ℕ) → length T < 2 ^ 63 → HasFewOfLane (lane_counts T l)
 unfolding released_by forwarded_by added_by turned_on bounced_on out
 lane_counts_few T l short = record {
-  given = omega (arith, filter_map_few (given_to l) T);
+  tx = omega (arith, filter_map_few (given_to l) T);
   released = omega (arith, answers_few is_released T l);
   forwarded = omega (arith, answers_few is_forwarded T l);
   added = omega (arith, count_by-le-length (is_added_on l) T);

@@ -42,7 +42,7 @@ unfoldable pub passed_to : List Step → ℕ → ℕ
 passed_to T q = count_by (is_passed_to q) T
 
 abbrev pub queue_counts : List Step → ℕ → QueueCounts
-queue_counts T q = record { accepted_new = new_to T q; accepted_forwarded = passed_to T q; given = length (hand T q) }
+queue_counts T q = record { rx_new = new_to T q; rx_forwarded = passed_to T q; tx = length (hand T q) }
 
 -- ---- Lanes
 
@@ -101,7 +101,7 @@ bounced_on T l = count_by (is_bounced_on l) T
 abbrev pub lane_counts : List Step → ℕ → LaneCounts
 lane_counts T l =
     record {
-      given = length (out T l);
+      tx = length (out T l);
       released = released_by T l;
       forwarded = forwarded_by T l;
       added = added_by T l;

@@ -34,9 +34,9 @@ queue_in Shut = None
 
 -- the counts of its queue after it
 abbrev pub queue_after : QueueCounts → Step → QueueCounts
-queue_after c (Accept q e (New l)) = record c { accepted_new = c.accepted_new + 1 }
-queue_after c (Accept q e (Of r n)) = record c { accepted_forwarded = c.accepted_forwarded + 1 }
-queue_after c (Give l q n) = record c { given = c.given + 1 }
+queue_after c (Accept q e (New l)) = record c { rx_new = c.rx_new + 1 }
+queue_after c (Accept q e (Of r n)) = record c { rx_forwarded = c.rx_forwarded + 1 }
+queue_after c (Give l q n) = record c { tx = c.tx + 1 }
 queue_after c (Done l o) = c
 queue_after c (More l e) = c
 queue_after c (Turned l e) = c
@@ -56,7 +56,7 @@ lane_in Shut = None
 -- the counts of its lane after it
 abbrev pub lane_after : LaneCounts → Step → LaneCounts
 lane_after c (Accept q e s) = c
-lane_after c (Give l q n) = record c { given = c.given + 1 }
+lane_after c (Give l q n) = record c { tx = c.tx + 1 }
 lane_after c (Done l Released) = record c { released = c.released + 1 }
 lane_after c (Done l (Forwarded e)) = record c { forwarded = c.forwarded + 1 }
 lane_after c (More l e) = record c { added = c.added + 1 }
@@ -66,12 +66,12 @@ lane_after c Shut = c
 
 -- no count is at its greatest
 pub record HasFewOfQueue (c : QueueCounts) : Type 0 where
-  pub accepted_new : c.accepted_new < 2 ^ 63
-  pub accepted_forwarded : c.accepted_forwarded < 2 ^ 63
-  pub given : c.given < 2 ^ 63
+  pub rx_new : c.rx_new < 2 ^ 63
+  pub rx_forwarded : c.rx_forwarded < 2 ^ 63
+  pub tx : c.tx < 2 ^ 63
 
 pub record HasFewOfLane (c : LaneCounts) : Type 0 where
-  pub given : c.given < 2 ^ 63
+  pub tx : c.tx < 2 ^ 63
   pub released : c.released < 2 ^ 63
   pub forwarded : c.forwarded < 2 ^ 63
   pub added : c.added < 2 ^ 63

@@ -4,18 +4,18 @@
 #[derive(Clone, Copy, Debug, PartialEq, Eq, Default)]
 pub struct QueueCounts {
     /// How many events it accepted as NEW.
-    pub accepted_new: u64,
+    pub rx_new: u64,
     /// How many events it accepted as what others were passed on as, by FORWARD or FORWARD_MORE.
-    pub accepted_forwarded: u64,
-    /// How many of its events were given.
-    pub given: u64,
+    pub rx_forwarded: u64,
+    /// How many of its events were given: `qid_N_tx` of event_sw, whose `qid_N_rx` is the sum of the two above.
+    pub tx: u64,
 }
 
 /// What was counted of a lane.
 #[derive(Clone, Copy, Debug, PartialEq, Eq, Default)]
 pub struct LaneCounts {
-    /// How many events it was given.
-    pub given: u64,
+    /// How many events it was given: of a port its `port_N_tx`.
+    pub tx: u64,
     /// How many of them it released.
     pub released: u64,
     /// How many of them it forwarded.

@@ -29,10 +29,10 @@ fn count_of_queue(counts: &mut QueueCounts, step: &Step)
 {
     match *step {
         Step::Accept { source, .. } => match source {
-            Source::New { .. } => counts.accepted_new += 1,
-            Source::Of { .. } => counts.accepted_forwarded += 1,
+            Source::New { .. } => counts.rx_new += 1,
+            Source::Of { .. } => counts.rx_forwarded += 1,
         },
-        Step::Give { .. } => counts.given += 1,
+        Step::Give { .. } => counts.tx += 1,
         Step::Done { .. }
         | Step::More { .. }
         | Step::Turned { .. }
@@ -74,7 +74,7 @@ fn count_of_lane(counts: &mut LaneCounts, step: &Step)
     ensures { counts.new ≡ lane_after counts.old step.now }
 {
     match *step {
-        Step::Give { .. } => counts.given += 1,
+        Step::Give { .. } => counts.tx += 1,
         Step::Done { outcome, .. } => match outcome {
             Outcome::Released => counts.released += 1,
             Outcome::Forwarded(_) => counts.forwarded += 1,

@@ -1,9 +1,12 @@
 //! A log that counts the steps by queue and by lane.
 
+ghost use Rattle.std.specs.Prelude.{[], IfOk};
+ghost use Rattle.step_tally.specs.Tables.{AreTables};
+
 use crate::counts::{LaneCounts, QueueCounts};
 use crate::tables::{count_at_lane, count_at_queue};
 use evt_types::{MAX_LANES, MAX_QUEUES, Step};
-use std::alloc::Global;
+use std::alloc::{AllocFailed, Global};
 use std::marker::Model;
 use step_log::{Memory, StepLog};
 
@@ -29,19 +32,30 @@ impl<L: StepLog> Model for Tally<L> {
     ghost invariant = { λ t. AreTables (L.steps t.log) t.queues.items t.lanes.items };
 }
 
+/// The tables of no step.
+fn empty_tables(alloc: Global) -> Result<(Vec<QueueCounts>, Vec<LaneCounts>), Memory>
+    ensures { IfOk result (λ r. AreTables [] r.0.items r.1.items) }
+{
+    let queues = vec![in alloc; QueueCounts::default(); MAX_QUEUES]?;
+    let lanes = vec![in alloc; LaneCounts::default(); MAX_LANES]?;
+    Ok((queues, lanes))
+}
+
 impl<L: StepLog> Tally<L> {
-    ghost use Rattle.std.specs.Prelude.{◌≡◌, ◌<◌, [], IfOk};
+    ghost use Rattle.std.specs.Prelude.{◌≡◌, ◌<◌, [], IfOk, IfErr};
     ghost use Rattle.evt_types.specs.declared.shape.TheConstants.{MAX_LANES, MAX_QUEUES};
     ghost use Rattle.step_tally.specs.Counts.{queue_counts, lane_counts};
 
-    /// Begins to count with this log, which has no step yet.
-    pub fn new(alloc: Global, log: L) -> Result<Tally<L>, Memory>
+    /// Begins to count with this log, which has no step yet. Where memory runs out the log comes back.
+    pub fn new(alloc: Global, log: L) -> Result<Tally<L>, AllocFailed<L>>
         requires { L.steps log ≡ [] }
-        ensures { IfOk result (λ t. t ≡ log) }
+        ensures made { IfOk result (λ t. t ≡ log) }
+        ensures back { IfErr result (λ e. e.value ≡ log) }
     {
-        let queues = vec![in alloc; QueueCounts::default(); MAX_QUEUES]?;
-        let lanes = vec![in alloc; LaneCounts::default(); MAX_LANES]?;
-        Ok(Tally { queues, lanes, log })
+        match empty_tables(alloc) {
+            Ok((queues, lanes)) => Ok(Tally { queues, lanes, log }),
+            Err(_) => Err(AllocFailed { value: log }),
+        }
     }
 
     /// What the steps say of the queue.

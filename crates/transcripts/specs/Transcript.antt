@@ -175,10 +175,6 @@ hand T q = filter_map (given_of q) T
 unfoldable pub waiting : List Step → ℕ → List Numbered
 waiting T q = filter (λ (w : Numbered). not (has w.number (hand T q))) (entered T q)
 
--- the (queue, number) pairs of a queue's events
-abbrev pub pairs_of : ℕ → List Numbered → List (ℕ × ℕ)
-pairs_of q ws = map (λ (w : Numbered). (q, w.number)) ws
-
 abbrev pub named : ℕ → Option Event → Option Numbered
 named n None = None
 named n (Some e) = Some (record { number = n; event = e })

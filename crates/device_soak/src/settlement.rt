@@ -90,9 +90,7 @@ fn check_waiting(ledger: &Ledger, report: &Report<StepCounts>) -> Result<(), Lon
     for queue in 0..MAX_QUEUES {
         let counts = ledger.queue(queue);
         let waiting = report.waiting.iter().filter(|left| left.queue == queue);
-        let accepted = counts
-            .rx_new
-            .saturating_add(counts.rx_forwarded);
+        let accepted = counts.rx_new.saturating_add(counts.rx_forwarded);
         if add(counts.tx, waiting.count()) != accepted {
             return Err(LongFault::Waiting { queue });
         }

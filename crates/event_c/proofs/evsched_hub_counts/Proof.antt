@@ -1,0 +1,15 @@
+use denote.Builtin.{u64}
+use Rattle.event_c.proofs.ReportsFor.{reports_for}
+use Rattle.event_c.specs.contracts.evsched_hub_counts.Key.{name as #self}
+use Rattle.event_c.proofs.evsched_hub_counts.Statement.{statement}
+use Rattle.event_c.proofs.evsched_hub_counts.Code as code
+use Rattle.event_handles.specs.Counts.{IsCounted}
+use Rattle.event_handles.specs.contracts.hub.Hub.{the_row}
+use Rattle.event_handles.proofs.hub.Hub.TheLaws.{the_row_laws, the_within}
+use Rattle.event_handles.proofs.hub.Hub.counts.Symbol.{name as #call}
+use Rattle.event_handles.proofs.hub.Hub.counts.Met.{met}
+
+pub evsched_hub_counts_spec : {M : Type 1} → statement M
+evsched_hub_counts_spec 𝓤 𝓛 𝓜 𝓡 wired =
+    reports_for the_row the_row_laws the_within tt u64 tt IsCounted 𝓤 𝓛 𝓜 𝓡 #self #call (code.unfolded 𝓤 𝓛.H 𝓜 𝓡 wired)
+    (met 𝓤 𝓛 𝓜 𝓡 (code.calls-event_handles::hub::Hub::counts 𝓡.env wired))

@@ -1,0 +1,15 @@
+use denote.Builtin.{u64}
+use Rattle.event_c.proofs.Reports.{reports}
+use Rattle.event_c.specs.contracts.evsched_hub_report.Key.{name as #self}
+use Rattle.event_c.proofs.evsched_hub_report.Statement.{statement}
+use Rattle.event_c.proofs.evsched_hub_report.Code as code
+use Rattle.event_handles.specs.Report.{IsReported}
+use Rattle.event_handles.specs.contracts.hub.Hub.{the_row}
+use Rattle.event_handles.proofs.hub.Hub.TheLaws.{the_row_laws, the_within}
+use Rattle.event_handles.proofs.hub.Hub.report.Symbol.{name as #call}
+use Rattle.event_handles.proofs.hub.Hub.report.Met.{met}
+
+pub evsched_hub_report_spec : {M : Type 1} → statement M
+evsched_hub_report_spec 𝓤 𝓛 𝓜 𝓡 wired =
+    reports the_row the_row_laws the_within tt u64 tt IsReported 𝓤 𝓛 𝓜 𝓡 #self #call (code.unfolded 𝓤 𝓛.H 𝓜 𝓡 wired)
+    (met 𝓤 𝓛 𝓜 𝓡 (code.calls-event_handles::hub::Hub::report 𝓡.env wired))

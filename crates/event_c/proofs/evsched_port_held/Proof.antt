@@ -1,0 +1,15 @@
+use Rattle.std.proofs.Common.{◌≡◌}
+use Rattle.event_c.proofs.Looks.{looks}
+use Rattle.event_c.specs.contracts.evsched_port_held.Key.{name as #self}
+use Rattle.event_c.proofs.evsched_port_held.Statement.{statement}
+use Rattle.event_c.proofs.evsched_port_held.Code as code
+use Rattle.event_handles.specs.Ports.{held_in}
+use Rattle.event_handles.specs.contracts.port.PortHandle.{the_row}
+use Rattle.event_handles.proofs.port.PortHandle.TheLaws.{the_row_laws, the_within}
+use Rattle.event_handles.proofs.port.PortHandle.held.Symbol.{name as #call}
+use Rattle.event_handles.proofs.port.PortHandle.held.Met.{met}
+
+pub evsched_port_held_spec : {M : Type 1} → statement M
+evsched_port_held_spec 𝓤 𝓛 𝓜 𝓡 wired =
+    looks the_row the_row_laws the_within tt (λ port answer. answer ≡ held_in port.seat) 𝓤 𝓛 𝓜 𝓡 #self #call (code.unfolded 𝓤 𝓛.H 𝓜 𝓡 wired)
+    (met 𝓤 𝓛 𝓜 𝓡 (code.calls-event_handles::port::PortHandle::held 𝓡.env wired))

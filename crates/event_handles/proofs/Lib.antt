@@ -1,0 +1,14 @@
+pub mod Changed
+pub mod Devices
+pub mod Fronts
+pub mod Insides
+pub mod KindLists
+pub mod Ones
+pub mod Places
+pub mod Refusals
+pub mod Rests
+pub mod Sites
+pub mod Stops
+pub mod Sweeps
+pub mod Words
+pub mod Writes

@@ -1,0 +1,40 @@
+-- What was read is what the port is handed, and no other port stands in its place.
+use Rattle.std.proofs.Common.{◌≡◌, ℕ, ◌≤◌, min, List, length, take, refl, subst, ap, ◌∙◌, arith}
+use Rattle.std.specs.List.{AllZip}
+use Rattle.std.proofs.lemmas.Int.{ints}
+use Rattle.std.proofs.lemmas.List.{length-take, length-take-le, take_min}
+use Rattle.event_handles.specs.Events.{IsRead}
+use Rattle.event_handles.specs.declared.event.CEvent.{CEvent}
+use Rattle.event_handles.proofs.Sites.{same_site}
+use Rattle.event_handles.proofs.port.Seat.enqueue.Goals as goal
+
+pub returns : goal.returns
+returns c =
+    let burst = c.enqueue_burst-taken.ensures in
+    let count : c.min-count.result ≡ min 64 (length c.args.events.now) = omega arith in
+    let within : c.min-count.result ≤ length c.args.events.now = omega arith in
+    let front : take c.min-count.result c.args.events.now ≡ take 64 c.args.events.now = ap (λ n. take n c.args.events.now) count ∙ take_min 64 c.args.events.now in
+    let places : length (take c.min-count.result c.args.events.now) ≡ c.min-count.result = length-take-le _ _ within in
+    let few : c.enqueue_burst-taken.result.0 ≤ 64 = omega (arith, burst.count, length-take c.min-count.result c.read_all.new.events) in
+    record {
+      events = take c.min-count.result c.read_all.new.events;
+      read = subst (λ (given : List CEvent). AllZip IsRead given (take c.min-count.result c.read_all.new.events)) front
+          (subst (λ (n : ℕ). AllZip IsRead (take c.min-count.result c.args.events.now) (take n c.read_all.new.events)) places c.read_all.ensures);
+      n = c.enqueue_burst-taken.result.0;
+      end = c.enqueue_burst-taken.result.1;
+      submits = record {
+        place = burst.place;
+        credit = burst.credit;
+        site = same_site c.args.self.now.port c.enqueue_burst-taken.new.self burst.place burst.credit;
+        count = burst.count;
+        all = burst.all;
+        submitted = burst.submitted;
+        refused = burst.refused;
+        singly = burst.singly;
+        counted = burst.counted;
+        taken = burst.taken;
+      };
+      answered = omega (arith, ints, few);
+      why = omega (arith, ints, c.number_of_end-self.ensures);
+      kinds = refl;
+    }

@@ -1,0 +1,15 @@
+pub mod Config
+pub mod Counts
+pub mod Events
+pub mod Hands
+pub mod Hub
+pub mod Left
+pub mod Logs
+pub mod Numbers
+pub mod Parts
+pub mod Ports
+pub mod Pulls
+pub mod Refusals
+pub mod Report
+pub mod Start
+pub mod Stop

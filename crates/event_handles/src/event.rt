@@ -1,0 +1,86 @@
+//! Events as C has them.
+
+ghost use Rattle.std.specs.Prelude.{◌≡◌, ◌++◌, ◌≤◌, length, map, drop, take};
+ghost use Rattle.std.specs.List.{AllZip};
+ghost use Rattle.event_handles.specs.Events.{IsRead, kind_in, written, written_in};
+
+use evt_types::{Delivery, Event, Kind, MAX_QUEUES, Op};
+
+/// An event of C, with the layout of `struct rte_event` on a little-endian machine.
+#[repr(C)]
+#[derive(Clone, Copy, Debug, PartialEq, Eq, Default)]
+pub struct CEvent {
+    /// From the lowest bit up: flow (20 bits), sub type (8), event type (4), operation (2), reserved (4), scheduling type (2), queue
+    /// (8), priority (8), `impl_opaque` (8).
+    pub word: u64,
+    /// A number or a pointer of the program's own.
+    pub payload: u64,
+}
+
+/// An event that a stop found in the device.
+#[repr(C)]
+#[derive(Clone, Copy, Debug, PartialEq, Eq, Default)]
+pub struct CLeft {
+    pub event: CEvent,
+    /// The number that it was accepted under; 0 at the places 3 and 4.
+    pub number: u64,
+    /// 0: it waits in a queue. 1: a queue keeps it. 2: it wasn't received from a lane. 3: it wasn't taken from a lane. 4: it was turned
+    /// away.
+    pub place: u64,
+    /// That queue or lane.
+    pub lane: u64,
+}
+
+/// The event that is enqueued. Of the word the reserved bits and the scheduling type aren't judged: programs leave them unset.
+pub(crate) fn read(given: &CEvent) -> Event
+    ensures { IsRead given.now result }
+{
+    let word = given.word % (1 << 34) + (given.word >> 40 << 40);
+    match Event::from_word(word, given.payload) {
+        Ok((event, _)) => event,
+        Err(_) => unreachable!(),
+    }
+}
+
+/// A delivery to a program. It is a FORWARD, so that an event which comes back untouched is passed on and isn't a NEW.
+pub(crate) fn write(delivery: &Delivery, kind: Kind) -> CEvent
+    ensures { result ≡ written delivery.now kind }
+{
+    let mut event = delivery.event;
+    event.op = Op::Forward;
+    CEvent {
+        word: event.word(kind),
+        payload: event.payload,
+    }
+}
+
+/// The scheduling type of the queue, where it is one of these.
+fn kind_at(kinds: &[Kind; MAX_QUEUES], queue: usize) -> Kind
+    ensures { result ≡ kind_in kinds.now queue }
+{
+    if queue < MAX_QUEUES {
+        kinds[queue]
+    } else {
+        Kind::Parallel
+    }
+}
+
+/// Reads the events into the front of the array.
+pub(crate) fn read_all(given: &[CEvent], events: &mut [Event])
+    requires { length given.now ≤ length events.old }
+    ensures { AllZip IsRead given.now (take (length given.now) events.new) }
+{
+    for (place, event) in given.iter().enumerate() {
+        events[place] = read(event);
+    }
+}
+
+/// Writes the deliveries to the front of the array, each with the scheduling type of its queue.
+pub(crate) fn write_all(deliveries: &[Delivery], kinds: &[Kind; MAX_QUEUES], out: &mut [CEvent])
+    requires { length deliveries.now ≤ length out.old }
+    ensures { out.new ≡ map (written_in kinds.now) deliveries.now ++ drop (length deliveries.now) out.old }
+{
+    for (place, delivery) in deliveries.iter().enumerate() {
+        out[place] = write(delivery, kind_at(kinds, delivery.queue));
+    }
+}

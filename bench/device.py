@@ -1,5 +1,5 @@
 #!/usr/bin/env python3
-"""Times events that go through a device in one thread: new, swept, dequeued and released, in bursts of 1 and of 32. The cases of an
+"""Times events that go through a device in one thread: new, swept, dequeued and released, in bursts of 1, of 8 and of 32. The cases of an
 atomic queue stand there twice: with all events handed to the ports, and (`-lanes`) with a lane for each slot of the queue, which the
 worker claims; such a lane holds 16 events, so that a burst of 32 of one flow is swept and dequeued in two portions. The device's log
 counts its steps and keeps none; `atomic-64-flows` stands there twice more, over a vector that is cleared before each sweep (`-vector`)

@@ -10,7 +10,7 @@ pub const FIRST: u8 = 0;
 /// The queue that forwarded events enter.
 pub const SECOND: u8 = 1;
 /// The bursts with which each case runs.
-pub const BURSTS: [usize; 2] = [1, 32];
+pub const BURSTS: [usize; 3] = [1, 8, 32];
 
 /// A case: the queue that new events enter, and what the worker does with them.
 #[derive(Clone, Copy, Debug, PartialEq, Eq)]

@@ -135,16 +135,6 @@ impl Parkings {
         self.lists.head(self.queues[queue].base + level)
     }
 
-    /// How many slots the queue has.
-    #[inline(always)]
-    pub(crate) fn slots(&self, queue: usize) -> usize
-        requires { queue < length self.now }
-        ensures value { result ≡ (parted_at self.now queue).waits.slots }
-        ensures some { 0 < result }
-    {
-        self.queues[queue].slots
-    }
-
     /// The slot of a flow.
     #[inline(always)]
     pub(crate) fn slot(&self, queue: usize, flow: u32) -> usize

@@ -76,16 +76,6 @@ impl ParkedQueues {
         self.levels[queue]
     }
 
-    /// How many slots the queue has.
-    #[inline(always)]
-    pub fn slots(&self, queue: usize) -> usize
-        requires { queue < length self.now }
-        ensures value { result ≡ (waits_at self.now queue).slots }
-        ensures some { 0 < result }
-    {
-        self.parkings.slots(queue)
-    }
-
     /// The slot of a flow of the queue.
     #[inline(always)]
     pub fn slot_of(&self, queue: usize, flow: u32) -> usize

@@ -52,7 +52,7 @@ impl Scheduler {
             return false;
         }
         let op = reply.event.op;
-        let took = self.core.take(lane, *reply, log);
+        let took = self.core.take_from(lane, reply, log);
         near.take();
         self.pocket = self.pocket.wrapping_add(turned_by(took));
         self.accepted_new = self.accepted_new.wrapping_add(entered_by(op, took));

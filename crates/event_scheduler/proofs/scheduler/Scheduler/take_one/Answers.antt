@@ -18,7 +18,7 @@ pub invariant_of-self-then-not-takes-clause-shown : goal.invariant_of-self-then-
 invariant_of-self-then-not-takes-clause-shown g c = still_hidden _ c.args.lane c.index_mut-near.result.now c.fetch.new.self c.index_mut-near.ensures.value c.fetch.ensures.lists.1 c.args.self.now.shown
 
 pub invariant_of-self-2-clause-lanes_are : goal.invariant_of-self-2-clause-lanes_are
-invariant_of-self-2-clause-lanes_are g c = length-set _ _ _ ∙ c.args.self.now.lanes_are ∙ ap lanes_of (sym c.take-took.ensures.shape)
+invariant_of-self-2-clause-lanes_are g c = length-set _ _ _ ∙ c.args.self.now.lanes_are ∙ ap lanes_of (sym c.take_from-took.ensures.shape)
 
 pub invariant_of-self-2-clause-shown : goal.invariant_of-self-2-clause-shown
 invariant_of-self-2-clause-shown g c =
@@ -51,7 +51,7 @@ returns-then-not-takes-clause-others g c l other = seen_elsewhere _ c.args.lane 
 pub returns-clause-takes : goal.returns-clause-takes
 returns-clause-takes g c =
     took _ _ _ _ _ _ _ c.args.lane _ _ c.in-Some.reply.now.event c.index_mut-near.result.now c.take.new.self _ _ (search rules) c.index_mut-near.ensures.value (search rules) (search rules) (search rules) c.requires.lane (search rules)
-    c.take-took.ensures.view c.take-took.ensures.shape c.take-took.ensures.logged (λ T at. (c.take-took.ensures.stands T at).1) (search rules) (search rules) (search rules)
+    c.take_from-took.ensures.view c.take_from-took.ensures.shape c.take_from-took.ensures.logged (λ T at. (c.take_from-took.ensures.stands T at).1) (search rules) (search rules) (search rules)
 
 pub returns-clause-others : goal.returns-clause-others
 returns-clause-others g c l other = seen_elsewhere _ c.args.lane c.take.new.self l other

@@ -1,5 +1,5 @@
 -- Why the answer to the oldest that is held is refused, or what is added beside it.
-use Rattle.std.proofs.Common.{◌≡◌, ◌≢◌, ◌<◌, ◌≤◌, ℕ, true, cond, List, [], ◌∷◌, ◌++◌, length, Some, Result, Ok, Err, IfErr, MatchResult, sym, ap, subst, arith}
+use Rattle.std.proofs.Common.{◌≡◌, ◌≢◌, ◌<◌, ◌≤◌, ℕ, true, cond, List, [], ◌∷◌, ◌++◌, length, Some, Result, Ok, Err, IfErr, MatchResult, refl, sym, ap, subst, arith}
 use Rattle.std.proofs.lemmas.List.Sums.{sum_by-cons}
 use Rattle.evt_types.specs.Additions.{extras_of}
 use Rattle.evt_types.specs.Operation.{is_answer, is_answer_op, is_more_op, is_more_reply}
@@ -10,10 +10,10 @@ use Rattle.evt_types.specs.declared.event.TheConstants.{MAX_EXTRAS}
 use Rattle.seat_sums.specs.Sums.{count}
 use Rattle.lane_rings.specs.Ends.{answered, answers_among, unanswered}
 use Rattle.lane_rings.specs.Identity.{far_id, LaneId}
-use Rattle.lane_rings.specs.Refusal.{RefusesAnswer}
-use Rattle.lane_rings.specs.declared.far.AnswerFault.{AnswerFault}
-use Rattle.lane_rings.specs.declared.far.AnswerFault.TheVariants.{NothingHeld, Full, TooMany}
+use Rattle.lane_rings.specs.Refusal.{RefusesReply}
 use Rattle.lane_rings.specs.declared.far.Far.{Far}
+use Rattle.lane_rings.specs.declared.far.Refusal.{Refusal}
+use Rattle.lane_rings.specs.declared.far.Refusal.TheVariants.{NothingHeld, Full, TooMany}
 use Rattle.event_ports.specs.declared.lane.Lane.TheVariants.{Own}
 use Rattle.event_ports.specs.declared.lane.Holding.{Holding}
 use Rattle.event_ports.specs.Holds.{Hands}
@@ -37,24 +37,24 @@ no_answer r e = omega (arith, sum_by-cons (λ (x : Reply). cond (is_answer x) 1 
 pub not_both : (r : Reply) → is_answer r ≡ true → is_more_reply r ≡ true → ⊥
 not_both r answers more = absurd (omega (arith, one_answer r answers, no_answer r more))
 
-pub refused_own : (own far : Far) (h : Hands) (xs : List Holding) (r : Reply) (fault : AnswerFault) → is_answer r ≡ true → RefusesAnswer far r fault → unanswered far ≢ []
-    → first_lane xs ≡ Some Own → far_id own ≡ far_id far → answered own ≡ answered far → RefusesFirst own h xs r fault
+pub refused_own : (own far : Far) (h : Hands) (xs : List Holding) (r : Reply) (refusal : Refusal) → is_answer r ≡ true → RefusesReply far r refusal → unanswered far ≢ []
+    → first_lane xs ≡ Some Own → far_id own ≡ far_id far → answered own ≡ answered far → RefusesFirst own h xs refusal
 refused_own own far h xs r NothingHeld answers refused some first lane same = absurd (some refused.1)
 refused_own own far h xs r TooMany answers refused some first lane same = not_both r answers refused.0
-refused_own own far h xs r (Full back) answers refused some first lane same =
+refused_own own far h xs r Full answers refused some first lane same =
     let filled : (far_id own).room ≤ length (answered own) = omega (arith, refused.1, ap (λ (i : LaneId). i.room) lane, ap length same) in
-    (refused.0, some_first xs Own first, subst (IsFilledAt own h) (sym first) filled)
+    (some_first xs Own first, subst (IsFilledAt own h) (sym first) filled)
 
 -- where something is held, and what is added is one of few, only a full ring refuses
-pub full_alone : (far after : Far) (r : Reply) (fault : AnswerFault) → RefusesAnswer far r fault → unanswered far ≢ [] → (is_more_reply r ≡ true → extras_of (answered far) < MAX_EXTRAS)
-    → far_id after ≡ far_id far → answered after ≡ answered far → (fault ≡ Full r) × ((far_id after).room ≤ length (answered after))
+pub full_alone : (far after : Far) (r : Reply) (refusal : Refusal) → RefusesReply far r refusal → unanswered far ≢ [] → (is_more_reply r ≡ true → extras_of (answered far) < MAX_EXTRAS)
+    → far_id after ≡ far_id far → answered after ≡ answered far → (refusal ≡ Full) × ((far_id after).room ≤ length (answered after))
 full_alone far after r NothingHeld refused some few lane same = absurd (some refused.1)
 full_alone far after r TooMany refused some few lane same = absurd (omega (arith, few refused.0, refused.2))
-full_alone far after r (Full back) refused some few lane same = (ap Full refused.0, omega (arith, refused.1, ap (λ (i : LaneId). i.room) lane, ap length same))
+full_alone far after r Full refused some few lane same = (refl, omega (arith, refused.1, ap (λ (i : LaneId). i.room) lane, ap length same))
 
-pub all_full : (far after : Far) (r : Reply) (result : Result (Unit {0}) AnswerFault) → IfErr result (RefusesAnswer far r) → unanswered far ≢ []
+pub all_full : (far after : Far) (r : Reply) (result : Result (Unit {0}) Refusal) → IfErr result (RefusesReply far r) → unanswered far ≢ []
     → (is_more_reply r ≡ true → extras_of (answered far) < MAX_EXTRAS) → far_id after ≡ far_id far
     → MatchResult result (λ _. answered after ≡ answered far ++ r ∷ []) (λ _. answered after ≡ answered far)
-    → IfErr result (λ e. (e ≡ Full r) × ((far_id after).room ≤ length (answered after)))
+    → IfErr result (λ e. (e ≡ Full) × ((far_id after).room ≤ length (answered after)))
 all_full far after r (Ok _) refused some few lane same = refused
-all_full far after r (Err fault) refused some few lane same = full_alone far after r fault refused some few lane same
+all_full far after r (Err refusal) refused some few lane same = full_alone far after r refusal refused some few lane same

@@ -7,7 +7,7 @@ use Rattle.evt_types.specs.declared.event.Reply.{Reply}
 use Rattle.seat_sums.specs.Sums.{count}
 use Rattle.lane_rings.specs.Ends.{hidden_answers, seen_deliveries}
 use Rattle.lane_rings.specs.Identity.{far_id, LaneId}
-use Rattle.lane_rings.specs.declared.far.AnswerFault.{AnswerFault}
+use Rattle.lane_rings.specs.declared.far.Refusal.{Refusal}
 use Rattle.flow_claims.specs.Claims.{lanes_of}
 use Rattle.event_ports.specs.declared.lane.Lane.{Lane}
 use Rattle.event_ports.specs.declared.lane.Lane.TheVariants.{Own, Flow}
@@ -79,5 +79,5 @@ pub record CountsNone (a b : Lanes) : Type 0 where
 abbrev pub IsFilled : Lanes → Option Lane → Type 0
 IsFilled a lane = IsFilledAt a.own (hands_of a.flows) lane
 
-abbrev pub RefusesOldest : Lanes → Reply → AnswerFault → Type 0
-RefusesOldest a r fault = RefusesFirst a.own (hands_of a.flows) (hand_of a).holding r fault
+abbrev pub RefusesOldest : Lanes → Refusal → Type 0
+RefusesOldest a refusal = RefusesFirst a.own (hands_of a.flows) (hand_of a).holding refusal

@@ -13,19 +13,17 @@ use Rattle.evt_types.specs.declared.event.Reply.{Reply}
 use Rattle.evt_types.specs.declared.event.TheConstants.{MAX_EXTRAS}
 use Rattle.lane_rings.specs.Ends.{received_by, answered, answers_among, unanswered}
 use Rattle.lane_rings.specs.Identity.{far_id}
-use Rattle.lane_rings.specs.declared.far.AnswerFault.{AnswerFault}
-use Rattle.lane_rings.specs.declared.far.AnswerFault.TheVariants.{NothingHeld, Full, TooMany}
+pub use Rattle.lane_rings.specs.Refusal.{reply_of}
 use Rattle.lane_rings.specs.declared.far.Far.{Far}
+use Rattle.lane_rings.specs.declared.far.Refusal.{Refusal}
+use Rattle.lane_rings.specs.declared.far.Refusal.TheVariants.{NothingHeld, Full, TooMany}
 use Rattle.flow_claims.specs.declared.seating.Past.{Past}
 use Rattle.event_ports.specs.declared.lane.Lane.{Lane}
 use Rattle.event_ports.specs.declared.lane.Lane.TheVariants.{Own, Flow}
 use Rattle.event_ports.specs.declared.lane.Holding.{Holding}
 use Rattle.event_ports.specs.Holds.{Hands, stint_in, IsFilledBy, received_past, answered_past, left_past, surrendered_past, received_on, answered_on, held_on}
 
--- the reply that carries an event, and that of a release of the port's own making
-abbrev pub reply_of : Event → Reply
-reply_of e = record { event = e }
-
+-- the reply of a release of the port's own making
 abbrev pub release_reply : Reply
 release_reply = reply_of release_event
 
@@ -217,7 +215,7 @@ IsFilledAt own h (Some Own) = (far_id own).room ≤ length (answered own)
 IsFilledAt own h (Some (Flow j)) = IsFilledBy (stint_in h j)
 
 -- why an answer is refused: nothing is held, or the ring of the oldest's lane is full
-abbrev pub RefusesFirst : Far → Hands → List Holding → Reply → AnswerFault → Type 0
-RefusesFirst own h xs r NothingHeld = xs ≡ []
-RefusesFirst own h xs r TooMany = ⊥
-RefusesFirst own h xs r (Full back) = (back ≡ r) × (xs ≢ []) × IsFilledAt own h (first_lane xs)
+abbrev pub RefusesFirst : Far → Hands → List Holding → Refusal → Type 0
+RefusesFirst own h xs NothingHeld = xs ≡ []
+RefusesFirst own h xs TooMany = ⊥
+RefusesFirst own h xs Full = (xs ≢ []) × IsFilledAt own h (first_lane xs)

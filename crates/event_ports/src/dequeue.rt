@@ -10,7 +10,7 @@ ghost use Rattle.event_ports.specs.Handed.{AllShown, OwnFirst};
 use crate::desk::Desk;
 use arrayvec::ArrayVec;
 use event_answers::{Behind, Refused};
-use evt_types::{Delivery, Event, Reply};
+use evt_types::{Delivery, Event};
 
 impl Desk {
     // Enqueues the events, which the scheduler sees after the next `flush`.
@@ -24,7 +24,7 @@ impl Desk {
         ensures chain { Gathers self.old events.now result.0 result.1 self.new }
     {
         for (taken, event) in events.iter().enumerate() {
-            if let Err(refused) = self.submit(*event) {
+            if let Err(refused) = self.submit(event) {
                 return (taken, Some(refused));
             }
         }
@@ -121,8 +121,7 @@ impl Desk {
         ensures released { IsTrue result → SubmitsTo (first_lane (hand self.old).holding) release_reply (hand self.old) (hand self.new) × (pocket_of self.new ≡ (pocket_of self.old + 1) % 2 ^ 64) }
         ensures behind { IsFalse result → Rests (hand self.old) (hand self.new) × was_filled self.new ops.Release × (pocket_of self.new ≡ pocket_of self.old) }
     {
-        let event = Event::release();
-        match self.lanes.answer(Reply { event }) {
+        match self.lanes.answer(&Event::release()) {
             Ok(()) => {
                 self.pocket = self.pocket.wrapping_add(1);
                 true

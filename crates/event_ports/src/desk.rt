@@ -11,8 +11,8 @@ use crate::fill::fill;
 use crate::lanes::Lanes;
 use credit_pool::{CreditSeat, Credits, Draw, Give};
 use event_answers::Refused;
-use evt_types::{Event, MAX_EXTRAS, Op, Reply};
-use lane_rings::AnswerFault;
+use evt_types::{Event, MAX_EXTRAS, Op};
+use lane_rings::Refusal;
 use std::alloc::Global;
 use std::sync::Arc;
 
@@ -61,13 +61,14 @@ impl Desk {
     }
 
     // Enqueues an event, which the scheduler sees after the next `flush`.
-    pub(crate) fn submit(&mut self, event: Event) -> Result<(), Refused>
+    #[inline(always)]
+    pub(crate) fn submit(&mut self, event: &Event) -> Result<(), Refused>
         ensures place { place_of self.new ≡ place_of self.old }
         ensures credit { Stays (account_of self.old) (account_of self.new) }
-        ensures submitted { MatchResult result (λ _. SubmitsTo (lane_for event.op (hand self.old).holding) (reply_of event) (hand self.old) (hand self.new)) (λ _. Rests (hand self.old) (hand self.new)) }
-        ensures pays { OnOk result (Pays event.op self.old self.new) }
-        ensures refused { IfErr result (λ e. Refuses self.old event e self.new) }
-        ensures stopped { IsTrue (account_of self.old).saw_shut → event.op ≡ ops.New → result ≡ Err refusals.Stopped }
+        ensures submitted { MatchResult result (λ _. SubmitsTo (lane_for event.now.op (hand self.old).holding) (reply_of event.now) (hand self.old) (hand self.new)) (λ _. Rests (hand self.old) (hand self.new)) }
+        ensures pays { OnOk result (Pays event.now.op self.old self.new) }
+        ensures refused { IfErr result (λ e. Refuses self.old event.now e self.new) }
+        ensures stopped { IsTrue (account_of self.old).saw_shut → event.now.op ≡ ops.New → result ≡ Err refusals.Stopped }
     {
         match event.op {
             Op::New => self.enqueue_new(event),
@@ -85,13 +86,14 @@ impl Desk {
         self.lanes.flush();
     }
 
-    fn enqueue_new(&mut self, event: Event) -> Result<(), Refused>
-        requires { event.op ≡ ops.New }
+    #[inline(always)]
+    fn enqueue_new(&mut self, event: &Event) -> Result<(), Refused>
+        requires { event.now.op ≡ ops.New }
         ensures place { place_of self.new ≡ place_of self.old }
         ensures credit { Stays (account_of self.old) (account_of self.new) }
-        ensures submitted { MatchResult result (λ _. SubmitsTo (lane_for event.op (hand self.old).holding) (reply_of event) (hand self.old) (hand self.new)) (λ _. Rests (hand self.old) (hand self.new)) }
-        ensures pays { OnOk result (Pays event.op self.old self.new) }
-        ensures refused { IfErr result (λ e. Refuses self.old event e self.new) }
+        ensures submitted { MatchResult result (λ _. SubmitsTo (lane_for event.now.op (hand self.old).holding) (reply_of event.now) (hand self.old) (hand self.new)) (λ _. Rests (hand self.old) (hand self.new)) }
+        ensures pays { OnOk result (Pays event.now.op self.old self.new) }
+        ensures refused { IfErr result (λ e. Refuses self.old event.now e self.new) }
         ensures stopped { IsTrue (account_of self.old).saw_shut → result ≡ Err refusals.Stopped }
     {
         if self.shut_seen() {
@@ -129,17 +131,18 @@ impl Desk {
     }
 
     // Submits a NEW or FORWARD_MORE for a credit of the pocket.
-    fn spend(&mut self, event: Event) -> Result<(), Refused>
-        requires costs { costs_credit event.op ≡ true }
-        requires takes { event.op ≡ ops.ForwardMore → TakesMore (hand self.old) }
+    #[inline(always)]
+    fn spend(&mut self, event: &Event) -> Result<(), Refused>
+        requires costs { costs_credit event.now.op ≡ true }
+        requires takes { event.now.op ≡ ops.ForwardMore → TakesMore (hand self.old) }
         requires pocket { 0 < pocket_of self.old }
         ensures place { place_of self.new ≡ place_of self.old }
         ensures credit { account_of self.new ≡ account_of self.old }
-        ensures submitted { MatchResult result (λ _. SubmitsTo (lane_for event.op (hand self.old).holding) (reply_of event) (hand self.old) (hand self.new)) (λ _. Rests (hand self.old) (hand self.new)) }
+        ensures submitted { MatchResult result (λ _. SubmitsTo (lane_for event.now.op (hand self.old).holding) (reply_of event.now) (hand self.old) (hand self.new)) (λ _. Rests (hand self.old) (hand self.new)) }
         ensures pays { OnOk result (pocket_of self.new + 1 ≡ pocket_of self.old) }
-        ensures refused { IfErr result (λ e. (e ≡ refusals.Full) × was_filled self.new event.op × (pocket_of self.new ≡ pocket_of self.old)) }
+        ensures refused { IfErr result (λ e. (e ≡ refusals.Full) × was_filled self.new event.now.op × (pocket_of self.new ≡ pocket_of self.old)) }
     {
-        match self.lanes.submit(Reply { event }) {
+        match self.lanes.submit(event) {
             Ok(()) => {
                 self.pocket -= 1;
                 Ok(())
@@ -148,53 +151,55 @@ impl Desk {
         }
     }
 
-    fn enqueue_forward(&mut self, event: Event) -> Result<(), Refused>
-        requires { event.op ≡ ops.Forward }
+    #[inline(always)]
+    fn enqueue_forward(&mut self, event: &Event) -> Result<(), Refused>
+        requires { event.now.op ≡ ops.Forward }
         ensures place { place_of self.new ≡ place_of self.old }
         ensures credit { Stays (account_of self.old) (account_of self.new) }
-        ensures submitted { MatchResult result (λ _. SubmitsTo (lane_for event.op (hand self.old).holding) (reply_of event) (hand self.old) (hand self.new)) (λ _. Rests (hand self.old) (hand self.new)) }
-        ensures pays { OnOk result (Pays event.op self.old self.new) }
-        ensures refused { IfErr result (λ e. Refuses self.old event e self.new) }
+        ensures submitted { MatchResult result (λ _. SubmitsTo (lane_for event.now.op (hand self.old).holding) (reply_of event.now) (hand self.old) (hand self.new)) (λ _. Rests (hand self.old) (hand self.new)) }
+        ensures pays { OnOk result (Pays event.now.op self.old self.new) }
+        ensures refused { IfErr result (λ e. Refuses self.old event.now e self.new) }
     {
         if usize::from(event.queue) >= self.queues {
             return Err(Refused::BadQueue);
         }
-        match self.lanes.answer(Reply { event }) {
+        match self.lanes.answer(event) {
             Ok(()) => Ok(()),
-            Err(AnswerFault::NothingHeld) => Err(Refused::NothingHeld),
-            Err(AnswerFault::TooMany) => Err(Refused::TooMany),
-            Err(AnswerFault::Full(_)) => Err(Refused::Full),
+            Err(Refusal::NothingHeld) => Err(Refused::NothingHeld),
+            Err(Refusal::TooMany) => Err(Refused::TooMany),
+            Err(Refusal::Full) => Err(Refused::Full),
         }
     }
 
-    fn enqueue_release(&mut self, event: Event) -> Result<(), Refused>
-        requires { event.op ≡ ops.Release }
+    #[inline(always)]
+    fn enqueue_release(&mut self, event: &Event) -> Result<(), Refused>
+        requires { event.now.op ≡ ops.Release }
         ensures place { place_of self.new ≡ place_of self.old }
         ensures credit { Stays (account_of self.old) (account_of self.new) }
-        ensures submitted { MatchResult result (λ _. SubmitsTo (lane_for event.op (hand self.old).holding) (reply_of event) (hand self.old) (hand self.new)) (λ _. Rests (hand self.old) (hand self.new)) }
-        ensures pays { OnOk result (Pays event.op self.old self.new) }
-        ensures refused { IfErr result (λ e. Refuses self.old event e self.new) }
+        ensures submitted { MatchResult result (λ _. SubmitsTo (lane_for event.now.op (hand self.old).holding) (reply_of event.now) (hand self.old) (hand self.new)) (λ _. Rests (hand self.old) (hand self.new)) }
+        ensures pays { OnOk result (Pays event.now.op self.old self.new) }
+        ensures refused { IfErr result (λ e. Refuses self.old event.now e self.new) }
     {
-        match self.lanes.answer(Reply { event }) {
+        match self.lanes.answer(event) {
             Ok(()) => {
                 self.pocket = self.pocket.wrapping_add(1);
                 self.settle();
                 Ok(())
             }
-            Err(AnswerFault::NothingHeld) => Err(Refused::NothingHeld),
-            Err(AnswerFault::TooMany) => Err(Refused::TooMany),
-            Err(AnswerFault::Full(_)) => Err(Refused::Full),
+            Err(Refusal::NothingHeld) => Err(Refused::NothingHeld),
+            Err(Refusal::TooMany) => Err(Refused::TooMany),
+            Err(Refusal::Full) => Err(Refused::Full),
         }
     }
 
     // The credit is there before the event is submitted, and is drawn only where the event may be added.
-    fn enqueue_more(&mut self, event: Event) -> Result<(), Refused>
-        requires { event.op ≡ ops.ForwardMore }
+    fn enqueue_more(&mut self, event: &Event) -> Result<(), Refused>
+        requires { event.now.op ≡ ops.ForwardMore }
         ensures place { place_of self.new ≡ place_of self.old }
         ensures credit { Stays (account_of self.old) (account_of self.new) }
-        ensures submitted { MatchResult result (λ _. SubmitsTo (lane_for event.op (hand self.old).holding) (reply_of event) (hand self.old) (hand self.new)) (λ _. Rests (hand self.old) (hand self.new)) }
-        ensures pays { OnOk result (Pays event.op self.old self.new) }
-        ensures refused { IfErr result (λ e. Refuses self.old event e self.new) }
+        ensures submitted { MatchResult result (λ _. SubmitsTo (lane_for event.now.op (hand self.old).holding) (reply_of event.now) (hand self.old) (hand self.new)) (λ _. Rests (hand self.old) (hand self.new)) }
+        ensures pays { OnOk result (Pays event.now.op self.old self.new) }
+        ensures refused { IfErr result (λ e. Refuses self.old event.now e self.new) }
     {
         if usize::from(event.queue) >= self.queues {
             return Err(Refused::BadQueue);

@@ -4,9 +4,9 @@ ghost use Rattle.std.specs.Arc.{arc_value};
 ghost use Rattle.event_ports.specs.Holds.{AreFlows, AreShown};
 
 use arrayvec::ArrayVec;
-use evt_types::{Delivery, Reply};
+use evt_types::{Delivery, Event};
 use flow_claims::{Claim, ClaimSeat, Claims, Stint};
-use lane_rings::AnswerFault;
+use lane_rings::Refusal;
 use std::alloc::{AllocError, Global};
 use std::sync::Arc;
 
@@ -29,6 +29,7 @@ impl FlowLanes {
     ghost use Rattle.lists.specs.Lists.{has};
     ghost use Rattle.evt_types.specs.Operation.{is_more_reply};
     ghost use Rattle.evt_types.specs.declared.event.TheConstants.{MAX_EXTRAS};
+    ghost use Rattle.lane_rings.specs.Refusal.{reply_of};
     ghost use Rattle.flow_claims.specs.Claims.{seating, port_of, lanes_of, IsSeatOf};
     ghost use Rattle.flow_claims.specs.Seats.{HoldsNone};
     ghost use Rattle.event_ports.specs.Holds.{IsFilledBy, AreLinked, Brings, Flushed, NoneHidden, Same, Kept, Says, Ends, AreEmpty, extras_on, hidden_in, stint_in, held_on};
@@ -129,17 +130,17 @@ impl FlowLanes {
     }
 
     /// Answers the oldest delivery that is held of the lane, or adds an event beside it. The scheduler sees it after the next `flush`.
-    pub(crate) fn answer(&mut self, lane: usize, reply: Reply) -> Result<(), AnswerFault>
+    pub(crate) fn answer(&mut self, lane: usize, event: &Event) -> Result<(), Refusal>
         requires exists { lane < length (lanes_of (flow_place self.old).claims) }
         requires held { held_on (hands_of self.old) lane ≢ [] }
-        requires few { is_more_reply reply ≡ true → extras_on (hands_of self.old) lane < MAX_EXTRAS }
+        requires few { is_more_reply (reply_of event.now) ≡ true → extras_on (hands_of self.old) lane < MAX_EXTRAS }
         ensures place { flow_place self.new ≡ flow_place self.old }
-        ensures lists { MatchResult result (λ _. Says lane reply (hands_of self.old) (hands_of self.new)) (λ _. Same (hands_of self.old) (hands_of self.new)) }
+        ensures lists { MatchResult result (λ _. Says lane (reply_of event.now) (hands_of self.old) (hands_of self.new)) (λ _. Same (hands_of self.old) (hands_of self.new)) }
         ensures places { (j : ℕ) → is_some (stint_in (hands_of self.new) j) ≡ is_some (stint_in (hands_of self.old) j) }
-        ensures refused { IfErr result (λ e. (e ≡ AnswerFault.Full reply) × IsFilledBy (stint_in (hands_of self.new) lane)) }
+        ensures refused { IfErr result (λ e. (e ≡ Refusal.Full) × IsFilledBy (stint_in (hands_of self.new) lane)) }
     {
         self.turn_to(lane);
-        self.answer_at(lane, reply)
+        self.answer_at(lane, event)
     }
 
     // What was answered to another lane is flushed, so that there is one at most to be flushed.
@@ -183,20 +184,20 @@ impl FlowLanes {
         stint.flush();
     }
 
-    fn answer_at(&mut self, lane: usize, reply: Reply) -> Result<(), AnswerFault>
+    fn answer_at(&mut self, lane: usize, event: &Event) -> Result<(), Refusal>
         requires touched { touched_of self.old ≡ Some lane }
         requires exists { lane < length (lanes_of (flow_place self.old).claims) }
         requires held { held_on (hands_of self.old) lane ≢ [] }
-        requires few { is_more_reply reply ≡ true → extras_on (hands_of self.old) lane < MAX_EXTRAS }
+        requires few { is_more_reply (reply_of event.now) ≡ true → extras_on (hands_of self.old) lane < MAX_EXTRAS }
         ensures place { flow_place self.new ≡ flow_place self.old }
-        ensures lists { MatchResult result (λ _. Says lane reply (hands_of self.old) (hands_of self.new)) (λ _. Same (hands_of self.old) (hands_of self.new)) }
+        ensures lists { MatchResult result (λ _. Says lane (reply_of event.now) (hands_of self.old) (hands_of self.new)) (λ _. Same (hands_of self.old) (hands_of self.new)) }
         ensures places { (j : ℕ) → is_some (stint_in (hands_of self.new) j) ≡ is_some (stint_in (hands_of self.old) j) }
-        ensures refused { IfErr result (λ e. (e ≡ AnswerFault.Full reply) × IsFilledBy (stint_in (hands_of self.new) lane)) }
+        ensures refused { IfErr result (λ e. (e ≡ Refusal.Full) × IsFilledBy (stint_in (hands_of self.new) lane)) }
     {
         let Some(stint) = &mut self.stints[lane] else {
-            return Err(AnswerFault::NothingHeld);
+            return Err(Refusal::NothingHeld);
         };
-        stint.stage(reply)
+        stint.stage(event)
     }
 
     /// Gives the lane back where nothing of it is unanswered.

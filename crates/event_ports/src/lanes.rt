@@ -11,9 +11,9 @@ use crate::flows::FlowLanes;
 use crate::lane::{Holding, Lane};
 use arrayvec::ArrayVec;
 use circular_buffer::HeapCircularBuffer;
-use evt_types::{Delivery, Op, Reply};
+use evt_types::{Delivery, Event, Op};
 use flow_claims::ClaimSeat;
-use lane_rings::{AnswerFault, Far};
+use lane_rings::{Far, Refusal};
 
 /// The lanes of a port: its own one, and the flow lanes. What was received and isn't answered is noted in the order of the
 /// dequeues; between two calls no flow lane is held of which nothing is unanswered.
@@ -36,7 +36,7 @@ impl Lanes {
     ghost use Rattle.evt_types.specs.Operation.{costs_credit, is_answer, is_more_reply, is_new_reply};
     ghost use Rattle.evt_types.specs.declared.event.Op.TheVariants as ops;
     ghost use Rattle.evt_types.specs.declared.event.TheConstants.{MAX_EXTRAS};
-    ghost use Rattle.event_ports.specs.Lanes.{Rests, Submits, SubmitsTo, Arrives, ArrivesFrom, HasRoomFor, IsEmptyHand, IsEndOf, AreOf, TakesMore, extras_in, first_lane, lane_for, held_of, holding_of, pair_in};
+    ghost use Rattle.event_ports.specs.Lanes.{Rests, Submits, SubmitsTo, Arrives, ArrivesFrom, HasRoomFor, IsEmptyHand, IsEndOf, AreOf, TakesMore, extras_in, first_lane, lane_for, held_of, holding_of, pair_in, reply_of};
     ghost use Rattle.event_ports.specs.Handed.{IsReadable, lanes_place, flow_count, links_of, seen_own, hand_of, mores_of, news_of, releases_of, CountsOne, CountsNone, IsFilled, RefusesOldest, AllShown, OwnFirst};
     ghost use Rattle.lane_rings.specs.Ends.{received_by, answered, hidden_answers, held_list};
     ghost use Rattle.evt_types.specs.declared.event.Op.{Op};
@@ -88,98 +88,102 @@ impl Lanes {
 
     /// Submits what costs a credit: a NEW to the port's own lane, and an event that is added beside the oldest delivery that is held to
     /// the lane from which that came. The scheduler sees it after the next `flush`.
-    pub(crate) fn submit(&mut self, reply: Reply) -> Result<(), AnswerFault>
-        requires costs { costs_credit reply.event.op ≡ true }
-        requires takes { reply.event.op ≡ ops.ForwardMore → TakesMore (hand_of self.old) }
+    #[inline(always)]
+    pub(crate) fn submit(&mut self, event: &Event) -> Result<(), Refusal>
+        requires costs { costs_credit event.now.op ≡ true }
+        requires takes { event.now.op ≡ ops.ForwardMore → TakesMore (hand_of self.old) }
         ensures place { lanes_place self.new ≡ lanes_place self.old }
-        ensures submitted { MatchResult result (λ _. SubmitsTo (lane_for reply.event.op (hand_of self.old).holding) reply (hand_of self.old) (hand_of self.new)) (λ _. Rests (hand_of self.old) (hand_of self.new)) }
-        ensures counts { MatchResult result (λ _. CountsOne reply self.old self.new) (λ _. CountsNone self.old self.new) }
-        ensures refused { IfErr result (λ e. (e ≡ AnswerFault.Full reply) × IsFilled self.new (lane_for reply.event.op (hand_of self.new).holding)) }
+        ensures submitted { MatchResult result (λ _. SubmitsTo (lane_for event.now.op (hand_of self.old).holding) (reply_of event.now) (hand_of self.old) (hand_of self.new)) (λ _. Rests (hand_of self.old) (hand_of self.new)) }
+        ensures counts { MatchResult result (λ _. CountsOne (reply_of event.now) self.old self.new) (λ _. CountsNone self.old self.new) }
+        ensures refused { IfErr result (λ e. (e ≡ Refusal.Full) × IsFilled self.new (lane_for event.now.op (hand_of self.new).holding)) }
     {
-        match reply.event.op {
-            Op::New => self.submit_new(reply),
-            _ => self.add(reply),
+        match event.op {
+            Op::New => self.submit_new(event),
+            _ => self.add(event),
         }
     }
 
-    fn submit_new(&mut self, reply: Reply) -> Result<(), AnswerFault>
-        requires { is_new_reply reply ≡ true }
+    #[inline(always)]
+    fn submit_new(&mut self, event: &Event) -> Result<(), Refusal>
+        requires { is_new_reply (reply_of event.now) ≡ true }
         ensures place { lanes_place self.new ≡ lanes_place self.old }
-        ensures submitted { MatchResult result (λ _. Submits lanes.Own reply (hand_of self.old) (hand_of self.new)) (λ _. Rests (hand_of self.old) (hand_of self.new)) }
-        ensures counts { MatchResult result (λ _. CountsOne reply self.old self.new) (λ _. CountsNone self.old self.new) }
-        ensures refused { IfErr result (λ e. (e ≡ AnswerFault.Full reply) × IsFilled self.new (Some lanes.Own)) }
+        ensures submitted { MatchResult result (λ _. Submits lanes.Own (reply_of event.now) (hand_of self.old) (hand_of self.new)) (λ _. Rests (hand_of self.old) (hand_of self.new)) }
+        ensures counts { MatchResult result (λ _. CountsOne (reply_of event.now) self.old self.new) (λ _. CountsNone self.old self.new) }
+        ensures refused { IfErr result (λ e. (e ≡ Refusal.Full) × IsFilled self.new (Some lanes.Own)) }
     {
-        self.own.stage(reply)
+        self.own.stage(event)
     }
 
     // Adds an event beside the oldest delivery that is held.
-    fn add(&mut self, reply: Reply) -> Result<(), AnswerFault>
-        requires more { is_more_reply reply ≡ true }
+    fn add(&mut self, event: &Event) -> Result<(), Refusal>
+        requires more { is_more_reply (reply_of event.now) ≡ true }
         requires takes { TakesMore (hand_of self.old) }
         ensures place { lanes_place self.new ≡ lanes_place self.old }
-        ensures submitted { MatchResult result (λ _. SubmitsTo (first_lane (hand_of self.old).holding) reply (hand_of self.old) (hand_of self.new)) (λ _. Rests (hand_of self.old) (hand_of self.new)) }
-        ensures counts { MatchResult result (λ _. CountsOne reply self.old self.new) (λ _. CountsNone self.old self.new) }
-        ensures refused { IfErr result (λ e. (e ≡ AnswerFault.Full reply) × IsFilled self.new (first_lane (hand_of self.new).holding)) }
+        ensures submitted { MatchResult result (λ _. SubmitsTo (first_lane (hand_of self.old).holding) (reply_of event.now) (hand_of self.old) (hand_of self.new)) (λ _. Rests (hand_of self.old) (hand_of self.new)) }
+        ensures counts { MatchResult result (λ _. CountsOne (reply_of event.now) self.old self.new) (λ _. CountsNone self.old self.new) }
+        ensures refused { IfErr result (λ e. (e ≡ Refusal.Full) × IsFilled self.new (first_lane (hand_of self.new).holding)) }
     {
         let Some(lane) = self.first() else {
-            return Err(AnswerFault::NothingHeld);
+            return Err(Refusal::NothingHeld);
         };
         match lane {
-            Lane::Own => self.add_own(reply),
-            Lane::Flow(lane) => self.add_flow(lane, reply),
+            Lane::Own => self.add_own(event),
+            Lane::Flow(lane) => self.add_flow(lane, event),
         }
     }
 
-    fn add_own(&mut self, reply: Reply) -> Result<(), AnswerFault>
-        requires more { is_more_reply reply ≡ true }
+    fn add_own(&mut self, event: &Event) -> Result<(), Refusal>
+        requires more { is_more_reply (reply_of event.now) ≡ true }
         requires oldest { first_lane (hand_of self.old).holding ≡ Some lanes.Own }
         requires few { extras_of ((hand_of self.old).said lanes.Own) < MAX_EXTRAS }
         ensures place { lanes_place self.new ≡ lanes_place self.old }
-        ensures submitted { MatchResult result (λ _. Submits lanes.Own reply (hand_of self.old) (hand_of self.new)) (λ _. Rests (hand_of self.old) (hand_of self.new)) }
-        ensures counts { MatchResult result (λ _. CountsOne reply self.old self.new) (λ _. CountsNone self.old self.new) }
-        ensures refused { IfErr result (λ e. (e ≡ AnswerFault.Full reply) × IsFilled self.new (Some lanes.Own)) }
+        ensures submitted { MatchResult result (λ _. Submits lanes.Own (reply_of event.now) (hand_of self.old) (hand_of self.new)) (λ _. Rests (hand_of self.old) (hand_of self.new)) }
+        ensures counts { MatchResult result (λ _. CountsOne (reply_of event.now) self.old self.new) (λ _. CountsNone self.old self.new) }
+        ensures refused { IfErr result (λ e. (e ≡ Refusal.Full) × IsFilled self.new (Some lanes.Own)) }
     {
-        self.own.stage(reply)
+        self.own.stage(event)
     }
 
-    fn add_flow(&mut self, lane: usize, reply: Reply) -> Result<(), AnswerFault>
-        requires more { is_more_reply reply ≡ true }
+    fn add_flow(&mut self, lane: usize, event: &Event) -> Result<(), Refusal>
+        requires more { is_more_reply (reply_of event.now) ≡ true }
         requires oldest { first_lane (hand_of self.old).holding ≡ Some (lanes.Flow lane) }
         requires few { extras_of ((hand_of self.old).said (lanes.Flow lane)) < MAX_EXTRAS }
         ensures place { lanes_place self.new ≡ lanes_place self.old }
-        ensures submitted { MatchResult result (λ _. Submits (lanes.Flow lane) reply (hand_of self.old) (hand_of self.new)) (λ _. Rests (hand_of self.old) (hand_of self.new)) }
-        ensures counts { MatchResult result (λ _. CountsOne reply self.old self.new) (λ _. CountsNone self.old self.new) }
-        ensures refused { IfErr result (λ e. (e ≡ AnswerFault.Full reply) × IsFilled self.new (Some (lanes.Flow lane))) }
+        ensures submitted { MatchResult result (λ _. Submits (lanes.Flow lane) (reply_of event.now) (hand_of self.old) (hand_of self.new)) (λ _. Rests (hand_of self.old) (hand_of self.new)) }
+        ensures counts { MatchResult result (λ _. CountsOne (reply_of event.now) self.old self.new) (λ _. CountsNone self.old self.new) }
+        ensures refused { IfErr result (λ e. (e ≡ Refusal.Full) × IsFilled self.new (Some (lanes.Flow lane))) }
     {
-        self.flows.answer(lane, reply)
+        self.flows.answer(lane, event)
     }
 
     /// Answers the oldest delivery that is held, to the lane from which it came. The scheduler sees it after the next `flush`.
-    pub(crate) fn answer(&mut self, reply: Reply) -> Result<(), AnswerFault>
-        requires { is_answer reply ≡ true }
+    #[inline(always)]
+    pub(crate) fn answer(&mut self, event: &Event) -> Result<(), Refusal>
+        requires { is_answer (reply_of event.now) ≡ true }
         ensures place { lanes_place self.new ≡ lanes_place self.old }
-        ensures submitted { MatchResult result (λ _. SubmitsTo (first_lane (hand_of self.old).holding) reply (hand_of self.old) (hand_of self.new)) (λ _. Rests (hand_of self.old) (hand_of self.new)) }
-        ensures counts { MatchResult result (λ _. CountsOne reply self.old self.new) (λ _. CountsNone self.old self.new) }
-        ensures refused { IfErr result (RefusesOldest self.new reply) }
+        ensures submitted { MatchResult result (λ _. SubmitsTo (first_lane (hand_of self.old).holding) (reply_of event.now) (hand_of self.old) (hand_of self.new)) (λ _. Rests (hand_of self.old) (hand_of self.new)) }
+        ensures counts { MatchResult result (λ _. CountsOne (reply_of event.now) self.old self.new) (λ _. CountsNone self.old self.new) }
+        ensures refused { IfErr result (RefusesOldest self.new) }
     {
         let Some(lane) = self.first() else {
-            return Err(AnswerFault::NothingHeld);
+            return Err(Refusal::NothingHeld);
         };
         match lane {
-            Lane::Own => self.answer_own(reply),
-            Lane::Flow(lane) => self.answer_flow(lane, reply),
+            Lane::Own => self.answer_own(event),
+            Lane::Flow(lane) => self.answer_flow(lane, event),
         }
     }
 
-    fn answer_own(&mut self, reply: Reply) -> Result<(), AnswerFault>
-        requires answer { is_answer reply ≡ true }
+    #[inline(always)]
+    fn answer_own(&mut self, event: &Event) -> Result<(), Refusal>
+        requires answer { is_answer (reply_of event.now) ≡ true }
         requires oldest { first_lane (hand_of self.old).holding ≡ Some lanes.Own }
         ensures place { lanes_place self.new ≡ lanes_place self.old }
-        ensures submitted { MatchResult result (λ _. Submits lanes.Own reply (hand_of self.old) (hand_of self.new)) (λ _. Rests (hand_of self.old) (hand_of self.new)) }
-        ensures counts { MatchResult result (λ _. CountsOne reply self.old self.new) (λ _. CountsNone self.old self.new) }
-        ensures refused { IfErr result (RefusesOldest self.new reply) }
+        ensures submitted { MatchResult result (λ _. Submits lanes.Own (reply_of event.now) (hand_of self.old) (hand_of self.new)) (λ _. Rests (hand_of self.old) (hand_of self.new)) }
+        ensures counts { MatchResult result (λ _. CountsOne (reply_of event.now) self.old self.new) (λ _. CountsNone self.old self.new) }
+        ensures refused { IfErr result (RefusesOldest self.new) }
     {
-        match self.own.stage(reply) {
+        match self.own.stage(event) {
             Ok(()) => {
                 self.order.pop_front();
                 Ok(())
@@ -188,15 +192,15 @@ impl Lanes {
         }
     }
 
-    fn answer_flow(&mut self, lane: usize, reply: Reply) -> Result<(), AnswerFault>
-        requires answer { is_answer reply ≡ true }
+    fn answer_flow(&mut self, lane: usize, event: &Event) -> Result<(), Refusal>
+        requires answer { is_answer (reply_of event.now) ≡ true }
         requires oldest { first_lane (hand_of self.old).holding ≡ Some (lanes.Flow lane) }
         ensures place { lanes_place self.new ≡ lanes_place self.old }
-        ensures submitted { MatchResult result (λ _. Submits (lanes.Flow lane) reply (hand_of self.old) (hand_of self.new)) (λ _. Rests (hand_of self.old) (hand_of self.new)) }
-        ensures counts { MatchResult result (λ _. CountsOne reply self.old self.new) (λ _. CountsNone self.old self.new) }
-        ensures refused { IfErr result (RefusesOldest self.new reply) }
+        ensures submitted { MatchResult result (λ _. Submits (lanes.Flow lane) (reply_of event.now) (hand_of self.old) (hand_of self.new)) (λ _. Rests (hand_of self.old) (hand_of self.new)) }
+        ensures counts { MatchResult result (λ _. CountsOne (reply_of event.now) self.old self.new) (λ _. CountsNone self.old self.new) }
+        ensures refused { IfErr result (RefusesOldest self.new) }
     {
-        match self.flows.answer(lane, reply) {
+        match self.flows.answer(lane, event) {
             Ok(()) => {
                 self.order.pop_front();
                 self.flows.leave(lane);
@@ -208,6 +212,7 @@ impl Lanes {
 
     /// Receives at most `max` deliveries, and no more than may be held: from the own lane first, then from the linked flow lanes
     /// in their order, of which each that isn't held is claimed by one try.
+    #[inline(always)]
     pub(crate) fn receive_all(&mut self, max: usize, into: &mut ArrayVec<Delivery, 64>)
         requires { into.old.items ≡ [] }
         ensures place { lanes_place self.new ≡ lanes_place self.old }
@@ -254,6 +259,7 @@ impl Lanes {
     }
 
     // Receives from the port's own lane until `most` deliveries came in all, or none is seen.
+    #[inline(always)]
     fn receive_own(&mut self, most: usize, into: &mut ArrayVec<Delivery, 64>)
         requires room { HasRoomFor most (lanes_place self.old).depth (hand_of self.old).holding into.old.items }
         ensures place { lanes_place self.new ≡ lanes_place self.old }

@@ -84,7 +84,7 @@ impl Port {
         ensures stopped { IsTrue (account_of self.old).saw_shut → event.op ≡ ops.New → result ≡ Err refusals.Stopped }
         ensures counted { counts_of self.new ≡ after_enqueue result (counts_of self.old) }
     {
-        let answer = self.desk.submit(event);
+        let answer = self.desk.submit(&event);
         self.desk.flush();
         self.counts.enqueue(&answer);
         answer

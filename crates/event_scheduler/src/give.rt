@@ -29,15 +29,12 @@ fn offer_one<L: StepLog>(core: &mut Core, lanes: &mut Vec<Near>, offer: Offer, l
     ensures room { L.room log.old ≤ L.room log.new + 1 }
 {
     let near = &mut lanes[offer.lane];
-    match near.stage(offer.delivery) {
-        Ok(()) => {
-            core.give(offer, log);
-            true
-        }
-        Err(_) => {
-            core.bounce(offer.lane, log);
-            false
-        }
+    if near.stage(&offer.delivery) {
+        core.give(offer, log);
+        true
+    } else {
+        core.bounce(offer.lane, log);
+        false
     }
 }
 

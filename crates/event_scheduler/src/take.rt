@@ -43,18 +43,19 @@ impl Scheduler {
         ensures room { L.room log.old + kept_in self.new.core ≤ L.room log.new + kept_in self.old.core + 2 }
     {
         let near = &mut self.lanes[lane];
-        let Some(reply) = near.peek() else {
+        near.fetch(1);
+        // The reply stays where it was fetched to until the core has taken it.
+        let Some(reply) = near.fetched() else {
             return false;
         };
-        if !self.core.takes(lane, &reply) {
+        if !self.core.takes(lane, reply) {
             return false;
         }
+        let op = reply.event.op;
+        let took = self.core.take_from(lane, reply, log);
         near.take();
-        let took = self.core.take(lane, reply, log);
         self.pocket = self.pocket.wrapping_add(turned_by(took));
-        self.accepted_new = self
-            .accepted_new
-            .wrapping_add(entered_by(reply.event.op, took));
+        self.accepted_new = self.accepted_new.wrapping_add(entered_by(op, took));
         true
     }
 

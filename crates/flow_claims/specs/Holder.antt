@@ -9,10 +9,12 @@ use Rattle.evt_types.specs.declared.event.Reply.{Reply}
 use Rattle.evt_types.specs.declared.event.TheConstants.{MAX_EXTRAS}
 use Rattle.lane_rings.specs.Ends.{received_by, seen_deliveries, next_delivery, answered, hidden_answers, answers_among, unanswered}
 use Rattle.lane_rings.specs.Identity.{far_id}
-use Rattle.lane_rings.specs.Refusal.{RefusesAnswer}
+use Rattle.lane_rings.specs.Refusal.{RefusesAnswer, RefusesReply}
 use Rattle.lane_rings.specs.declared.far.AnswerFault.{AnswerFault}
 use Rattle.lane_rings.specs.declared.far.AnswerFault.TheVariants.{NothingHeld, TooMany}
 use Rattle.lane_rings.specs.declared.far.Far.{Far}
+use Rattle.lane_rings.specs.declared.far.Refusal.{Refusal}
+use Rattle.lane_rings.specs.declared.far.Refusal.TheVariants as refusals
 
 -- what `Far::receive` answered, and what it left
 pub record Receives (before : Far) (result : Option Delivery) (after : Far) : Type 0 where
@@ -23,7 +25,7 @@ pub record Receives (before : Far) (result : Option Delivery) (after : Far) : Ty
   pub next : (d : Delivery) → next_delivery before ≡ Some d → result ≡ Some d
   pub none : IfNone result ((seen_deliveries before ≡ []) × (seen_deliveries after ≡ []))
 
--- what `Far::answer` or `Far::stage` answered, and what it left
+-- what `Far::answer` answered, and what it left
 pub record AnswersWith (before : Far) (reply : Reply) (result : Result (Unit {0}) AnswerFault) (after : Far) : Type 0 where
   pub lane : far_id after ≡ far_id before
   pub received : (received_by after ≡ received_by before) × (seen_deliveries after ≡ seen_deliveries before)
@@ -32,3 +34,13 @@ pub record AnswersWith (before : Far) (reply : Reply) (result : Result (Unit {0}
   pub nothing_held : (result ≡ Err NothingHeld) ↔ ((needs_held reply ≡ true) × (unanswered before ≡ []))
   pub too_many : (result ≡ Err TooMany) ↔ ((is_more_reply reply ≡ true) × (unanswered before ≢ []) × (MAX_EXTRAS ≤ extras_of (answered before)))
   pub refused : IfErr result (RefusesAnswer before reply)
+
+-- what `Far::stage` answered of the reply that it gathers, and what it left
+pub record GathersWith (before : Far) (reply : Reply) (result : Result (Unit {0}) Refusal) (after : Far) : Type 0 where
+  pub lane : far_id after ≡ far_id before
+  pub received : (received_by after ≡ received_by before) × (seen_deliveries after ≡ seen_deliveries before)
+  pub answered_is : MatchResult result (λ _. answered after ≡ answered before ++ reply ∷ []) (λ _. answered after ≡ answered before)
+  pub held : MatchResult result (λ _. unanswered after ≡ drop (answers_among (reply ∷ [])) (unanswered before)) (λ _. unanswered after ≡ unanswered before)
+  pub nothing_held : (result ≡ Err refusals.NothingHeld) ↔ ((needs_held reply ≡ true) × (unanswered before ≡ []))
+  pub too_many : (result ≡ Err refusals.TooMany) ↔ ((is_more_reply reply ≡ true) × (unanswered before ≢ []) × (MAX_EXTRAS ≤ extras_of (answered before)))
+  pub refused : IfErr result (RefusesReply before reply)

@@ -3,8 +3,8 @@
 ghost use Rattle.std.specs.Prelude.{◌+◌, ◌<◌, ◌^◌};
 
 use arrayvec::ArrayVec;
-use evt_types::{Delivery, MAX_EXTRAS, Reply};
-use lane_rings::{AnswerFault, Far};
+use evt_types::{Delivery, Event, MAX_EXTRAS, Reply};
+use lane_rings::{AnswerFault, Far, Refusal};
 
 /// A lane that a port holds, with the lane's end.
 #[derive(Drop)]
@@ -35,7 +35,8 @@ impl Stint {
     ghost use Rattle.lane_rings.specs.Ends.{received_by, answered, unanswered, hidden_answers, seen_deliveries, Comes};
     ghost use Rattle.lane_rings.specs.Identity.{far_id};
     ghost use Rattle.flow_claims.specs.declared.seating.Seating.{Seating};
-    ghost use Rattle.flow_claims.specs.Holder.{Receives, AnswersWith};
+    ghost use Rattle.lane_rings.specs.Refusal.{reply_of};
+    ghost use Rattle.flow_claims.specs.Holder.{Receives, AnswersWith, GathersWith};
     ghost use Rattle.flow_claims.specs.Open.{IsOpen, received_so_far, answered_so_far};
 
     /// `Far::receive` of the lane's end. The stint stays open in the seat that has it.
@@ -82,16 +83,16 @@ impl Stint {
     }
 
     /// `Far::stage` of the lane's end. The stint stays open in the seat that has it.
-    pub fn stage(&mut self, reply: Reply) -> Result<(), AnswerFault>
-        ensures far { AnswersWith self.old.far reply result self.new.far }
+    pub fn stage(&mut self, event: &Event) -> Result<(), Refusal>
+        ensures far { GathersWith self.old.far (reply_of event.now) result self.new.far }
         ensures lane { (self.new.lane ≡ self.old.lane) × (self.new.number ≡ self.old.number) }
         ensures open { (v : Seating) → IsOpen v self.old → IsOpen v self.new }
         ensures so_far { (v : Seating) → IsOpen v self.old → MatchResult result
-            (λ _. answered_so_far v self.new ≡ answered_so_far v self.old ++ reply ∷ [])
+            (λ _. answered_so_far v self.new ≡ answered_so_far v self.old ++ reply_of event.now ∷ [])
             (λ _. answered_so_far v self.new ≡ answered_so_far v self.old) }
         ensures received { (v : Seating) → received_so_far v self.new ≡ received_so_far v self.old }
     {
-        self.far.stage(reply)
+        self.far.stage(event)
     }
 
     /// `Far::flush` of the lane's end. The stint stays open in the seat that has it.

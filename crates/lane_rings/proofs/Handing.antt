@@ -1,9 +1,10 @@
 -- What a pocket is made of, and what is handed out as its first item leaves.
 use Rattle.std.proofs.Common.{◌≡◌, ℕ, ◌-◌, ◌≤◌, List, [], ◌∷◌, ◌++◌, length, take, drop, arith, ap, None, Some, refl, subst, sym, ◌∙◌, length-append}
-use Rattle.std.specs.Prelude.{Option, MatchOption, slice_get}
+use Rattle.std.specs.Prelude.{Option, IfNone, IfSome, MatchOption, option_copied, slice_get}
 use Rattle.std.proofs.Math.Seq.{take-append_seam}
 use Rattle.std.proofs.lemmas.Grind.{common_steps}
 use Rattle.std.proofs.lemmas.Option.{none-some, same_Some}
+use denote.Ref.{Bor}
 use mathlib.Core.List.{IsPrefix}
 
 module _ {T : Type 0} where
@@ -38,6 +39,33 @@ module _ {T : Type 0} where
       let gone : take (length rs - length vs) rs ≡ take (length rs - length ws) rs ++ x ∷ [] = one-handed rs _ vs x from in
       grind (arith, common_steps, from, gone)
 
+  -- the first leaves, where there is one
+  pub first-passed : (rs ws vs : List T) (r : Option T) → rs ≡ take (length rs - length ws) rs ++ ws
+      → MatchOption r ((ws ≡ []) × (vs ≡ [])) (λ x. ws ≡ x ∷ vs) → take (length rs - length vs) rs ≡ take (length rs - length ws) rs ++ take 1 ws
+  first-passed rs ws vs None e m = grind (arith, common_steps, m.0, m.1)
+  first-passed rs ws vs (Some x) e m =
+      let from : rs ≡ take (length rs - length ws) rs ++ x ∷ vs = e ∙ ap (λ (zs : List T). take (length rs - length ws) rs ++ zs) m in
+      one-handed rs _ vs x from ∙ ap (λ (zs : List T). take (length rs - length ws) rs ++ take 1 zs) (sym m)
+
+  -- the rest of a row behind its first
+  pub behind-first : (ws : List T) (x : T) → slice_get ws 0 ≡ Some x → ws ≡ x ∷ drop 1 ws
+  behind-first [] x e = absurd (none-some x e)
+  behind-first (w ∷ ws) x e = grind (arith, common_steps, same_Some w x e)
+
+  -- where there is no first there is nothing
+  pub first-none : (xs : List T) → slice_get xs 0 ≡ None → xs ≡ []
+  first-none [] e = refl
+  first-none (x ∷ xs) e = absurd (none-some x (sym e))
+
+  -- the first where it lies
+  pub first-lies : (r : Option (Bor T)) (ws : List T) → option_copied r ≡ slice_get ws 0 → IfSome r (λ x. ws ≡ x.now ∷ drop 1 ws)
+  first-lies None ws e = tt
+  first-lies (Some x) ws e = behind-first ws x.now (sym e)
+
+  pub none-lies : (r : Option (Bor T)) (ws : List T) → option_copied r ≡ slice_get ws 0 → IfNone r (ws ≡ [])
+  none-lies None ws e = first-none ws (sym e)
+  none-lies (Some x) ws e = tt
+
   -- as many of the first of two rows as of both
   pub take-first : (n : ℕ) (xs ys : List T) → n ≤ length xs → take n (xs ++ ys) ≡ take n xs
   take-first n xs ys within = grind (arith, common_steps)
@@ -55,18 +83,8 @@ module _ {T : Type 0} where
   pub prefix-next : (ws xs ks : List T) (x y : T) → IsPrefix ws xs → xs ≡ x ∷ ks → slice_get ws 0 ≡ Some y → x ≡ y
   prefix-next ws xs ks x y p e s = same_Some x y (ap (λ (zs : List T). slice_get zs 0) (sym e) ∙ prefix-first ws xs y p s)
 
-  -- where there is no first there is nothing
-  pub first-none : (xs : List T) → slice_get xs 0 ≡ None → xs ≡ []
-  first-none [] e = refl
-  first-none (x ∷ xs) e = absurd (none-some x (sym e))
-
-  -- the first of what is there and what follows
-  pub front-first : (ws ks : List T) → (ws ≡ [] → ws ++ ks ≡ []) → slice_get ws 0 ≡ slice_get (ws ++ ks) 0
-  front-first [] ks at_end = ap (λ (xs : List T). slice_get xs 0) (sym (at_end refl))
-  front-first (w ∷ ws) ks at_end = refl
-
 pub ruleset of_rows = (row-empty, row-filled, take-first)
 
 pub ruleset of_looks = (prefix-first, first-none)
 
-pub ruleset of_handing = (one-handed, front-first)
+pub ruleset of_handing = (one-handed)

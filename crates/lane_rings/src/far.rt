@@ -1,8 +1,8 @@
 //! The holder's end of a lane.
 
-ghost use Rattle.std.specs.Prelude.{◌≡◌, ◌≤◌, ◌+◌, [], ◌++◌, length, count_by, map, drop};
+ghost use Rattle.std.specs.Prelude.{◌≡◌, ◌≤◌, ◌+◌, [], ◌++◌, ◌||◌, length, count_by, map, drop};
 ghost use Rattle.evt_types.specs.Additions.{AreBeside, extras_of};
-ghost use Rattle.evt_types.specs.Operation.{is_answer, is_more_reply, needs_held};
+ghost use Rattle.evt_types.specs.Operation.{is_answer, is_answer_op, is_more_op};
 ghost use Rattle.evt_types.specs.declared.event.TheConstants.{MAX_EXTRAS};
 ghost use Rattle.rtrb.specs.Ring.{consumer_capacity, known_items, SameConsumer};
 ghost use Rattle.evt_types.specs.Event.{pair_of};
@@ -14,7 +14,7 @@ use crate::intake::Intake;
 use crate::outlet::Outlet;
 use arrayvec::ArrayVec;
 use circular_buffer::HeapCircularBuffer;
-use evt_types::{Delivery, MAX_EXTRAS, Op, Reply};
+use evt_types::{Delivery, Event, MAX_EXTRAS, Op, Reply};
 use thiserror::Error;
 
 /// Why a reply is refused; of two causes the first.
@@ -29,6 +29,17 @@ pub enum AnswerFault {
     /// The ring had no room. The reply comes back as it was.
     #[error("the reply ring is full")]
     Full(Reply),
+}
+
+/// Why a reply isn't gathered; of two causes the first.
+#[derive(Clone, Copy, Debug, PartialEq, Eq)]
+pub enum Refusal {
+    /// A FORWARD, RELEASE or FORWARD_MORE where nothing that was received is unanswered.
+    NothingHeld,
+    /// A FORWARD_MORE where `MAX_EXTRAS` events were added beside the oldest already.
+    TooMany,
+    /// The ring has no room.
+    Full,
 }
 
 /// The holder's end of a lane: it receives deliveries and answers. It knows which deliveries it has not answered, and how many events
@@ -48,37 +59,37 @@ pub struct Far {
     pub ghost beside: { AreBeside (length (handed deliveries)) (put_in replies) },
 }
 
-/// Whether the reply ends the handling of a delivered event.
-pub(crate) fn is_answering(reply: &Reply) -> bool
-    ensures { result ≡ is_answer reply.now }
+/// Whether a reply of this operation ends the handling of a delivered event.
+fn is_answering(op: Op) -> bool
+    ensures { result ≡ is_answer_op op }
 {
-    match reply.event.op {
+    match op {
         Op::New | Op::ForwardMore => false,
         Op::Forward | Op::Release => true,
     }
 }
 
-/// Whether the reply needs an event that is held: it answers the oldest, or adds beside it.
-fn is_about_held(reply: &Reply) -> bool
-    ensures { result ≡ needs_held reply.now }
+/// Whether a reply of this operation needs an event that is held: it answers the oldest, or adds beside it.
+fn is_about_held(op: Op) -> bool
+    ensures { result ≡ (is_answer_op op || is_more_op op) }
 {
-    match reply.event.op {
+    match op {
         Op::New => false,
         Op::Forward | Op::Release | Op::ForwardMore => true,
     }
 }
 
-/// Whether the reply adds an event beside the oldest that is held.
-fn is_adding(reply: &Reply) -> bool
-    ensures { result ≡ is_more_reply reply.now }
+/// Whether a reply of this operation adds an event beside the oldest that is held.
+fn is_adding(op: Op) -> bool
+    ensures { result ≡ is_more_op op }
 {
-    match reply.event.op {
+    match op {
         Op::New | Op::Forward | Op::Release => false,
         Op::ForwardMore => true,
     }
 }
 
-/// Hands out what was fetched: to the array, and to the history of what is held.
+/// Hands out what was fetched: to the array, and to the history of what is held. A delivery is read where it lies, and copied once.
 fn hand_out(
     from: &mut Intake<Delivery>,
     history: &mut HeapCircularBuffer<(usize, u64)>,
@@ -92,9 +103,10 @@ fn hand_out(
     ensures history { (history.new.items ≡ history.old.items ++ map pair_of (inside from.old.pocket)) × (history.new.capacity ≡ history.old.capacity) }
     ensures into { into.new.items ≡ into.old.items ++ inside from.old.pocket }
 {
-    while let Some(delivery) = from.next_fetched() {
+    while let Some(delivery) = from.first() {
         history.push_back((delivery.queue, delivery.number));
-        into.push(delivery);
+        into.push(*delivery);
+        from.pass();
     }
 }
 
@@ -104,11 +116,12 @@ impl Far {
     ghost use mathlib.Core.List.{IsPrefix};
     ghost use Rattle.lane_rings.specs.Ends.{received_by, seen_deliveries, next_delivery, answered, hidden_answers, answers_among, unanswered, held_list, Comes};
     ghost use Rattle.lane_rings.specs.Identity.{far_id};
-    ghost use Rattle.lane_rings.specs.Refusal.{RefusesAnswer};
+    ghost use Rattle.lane_rings.specs.Refusal.{RefusesAnswer, RefusesReply, reply_of};
 
     /// Receives the oldest delivery out of the ring; it is then held until it is answered. Wants `is_full` to be false: fewer are
     /// held than the lane's depth.
     /// `None` where no delivery is seen; the scheduler may have offered one by the next call.
+    #[inline(always)]
     pub fn receive(&mut self) -> Option<Delivery>
         requires { length (unanswered self.old) < (far_id self.old).depth }
         ensures lane { far_id self.new ≡ far_id self.old }
@@ -123,13 +136,16 @@ impl Far {
         ensures none { IfNone result ((seen_deliveries self.old ≡ []) × (seen_deliveries self.new ≡ [])) }
     {
         self.deliveries.look(1);
-        let delivery = self.deliveries.next()?;
-        self.history.push_back((delivery.queue, delivery.number));
+        let first = self.deliveries.first()?;
+        self.history.push_back((first.queue, first.number));
+        let delivery = *first;
+        self.deliveries.pass();
         Some(delivery)
     }
 
     /// Receives deliveries, oldest first, until the array has `most` or as many are held as the lane's depth allows: one by one as
     /// `receive` does, but out of the ring by one store. Where it ends before that, none is seen in the ring.
+    #[inline(always)]
     pub fn receive_some(&mut self, most: usize, into: &mut ArrayVec<Delivery, 64>)
         requires { most ≤ 64 }
         ensures lane { far_id self.new ≡ far_id self.old }
@@ -162,36 +178,43 @@ impl Far {
         ensures refused { IfErr result (RefusesAnswer self.old reply) }
         ensures shown { hidden_answers self.new ≡ [] }
     {
-        let answer = self.stage(reply);
+        let answer = self.stage(&reply.event);
         self.flush();
-        answer
+        match answer {
+            Ok(()) => Ok(()),
+            Err(Refusal::NothingHeld) => Err(AnswerFault::NothingHeld),
+            Err(Refusal::TooMany) => Err(AnswerFault::TooMany),
+            Err(Refusal::Full) => Err(AnswerFault::Full(reply)),
+        }
     }
 
-    /// As `answer`, but the reply is gathered: it goes into the ring by the next `flush`, and until then the scheduler can't see it.
+    /// As `answer`, but the event's reply is gathered: it goes into the ring by the next `flush`, and until then the scheduler can't
+    /// see it. The event is copied where it is gathered, and nowhere before.
+    #[inline(always)]
     #[tactic(auto, using(crate::proofs::Histories::of_held))]
-    pub fn stage(&mut self, reply: Reply) -> Result<(), AnswerFault>
+    pub fn stage(&mut self, event: &Event) -> Result<(), Refusal>
         ensures lane { far_id self.new ≡ far_id self.old }
         ensures received { (received_by self.new ≡ received_by self.old) × (seen_deliveries self.new ≡ seen_deliveries self.old) }
         ensures answered { MatchResult result
-            (λ _. answered self.new ≡ answered self.old ++ reply ∷ [])
+            (λ _. answered self.new ≡ answered self.old ++ reply_of event.now ∷ [])
             (λ _. answered self.new ≡ answered self.old) }
         ensures held { MatchResult result
-            (λ _. unanswered self.new ≡ drop (answers_among (reply ∷ [])) (unanswered self.old))
+            (λ _. unanswered self.new ≡ drop (answers_among (reply_of event.now ∷ [])) (unanswered self.old))
             (λ _. unanswered self.new ≡ unanswered self.old) }
-        ensures nothing_held { (result ≡ Err AnswerFault.NothingHeld) ↔ ((needs_held reply ≡ true) × (unanswered self.old ≡ [])) }
-        ensures too_many { (result ≡ Err AnswerFault.TooMany) ↔ ((is_more_reply reply ≡ true) × (unanswered self.old ≢ []) × (MAX_EXTRAS ≤ extras_of (answered self.old))) }
-        ensures refused { IfErr result (RefusesAnswer self.old reply) }
+        ensures nothing_held { (result ≡ Err Refusal.NothingHeld) ↔ ((needs_held (reply_of event.now) ≡ true) × (unanswered self.old ≡ [])) }
+        ensures too_many { (result ≡ Err Refusal.TooMany) ↔ ((is_more_reply (reply_of event.now) ≡ true) × (unanswered self.old ≢ []) × (MAX_EXTRAS ≤ extras_of (answered self.old))) }
+        ensures refused { IfErr result (RefusesReply self.old (reply_of event.now)) }
     {
-        if is_about_held(&reply) && self.history.is_empty() {
-            return Err(AnswerFault::NothingHeld);
+        if is_about_held(event.op) && self.history.is_empty() {
+            return Err(Refusal::NothingHeld);
         }
-        let adds = is_adding(&reply);
+        let adds = is_adding(event.op);
         if adds && self.extras >= MAX_EXTRAS {
-            return Err(AnswerFault::TooMany);
+            return Err(Refusal::TooMany);
         }
-        let ends = is_answering(&reply);
-        if let Err(back) = self.replies.put(reply) {
-            return Err(AnswerFault::Full(back));
+        let ends = is_answering(event.op);
+        if !self.replies.put(&Reply { event: *event }) {
+            return Err(Refusal::Full);
         }
         if ends {
             self.history.pop_front();

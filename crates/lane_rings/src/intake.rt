@@ -18,7 +18,7 @@ pub(crate) struct Intake<T> {
 }
 
 impl<T: Copy> Intake<T> {
-    ghost use Rattle.std.specs.Prelude.{◌≡◌, ◌≢◌, ◌<◌, ◌≤◌, [], ◌∷◌, ◌++◌, length, slice_get, IfOk, MatchOption};
+    ghost use Rattle.std.specs.Prelude.{◌≡◌, ◌≢◌, ◌<◌, ◌≤◌, [], ◌∷◌, ◌++◌, length, drop, take, IfNone, IfOk, IfSome, MatchOption};
     ghost use mathlib.Core.List.{IsPrefix};
     ghost use Rattle.rtrb.specs.Ring.{received, known_items, consumer_capacity, SameConsumer};
     ghost use Rattle.lane_rings.specs.Intakes.{handed, ahead};
@@ -35,6 +35,7 @@ impl<T: Copy> Intake<T> {
     }
 
     /// Where nothing is in the pocket, takes at most `most` items out of the ring.
+    #[inline(always)]
     pub(crate) fn look(&mut self, most: usize)
         ensures ring { SameConsumer self.old.ring self.new.ring }
         ensures handed { handed self.new ≡ handed self.old }
@@ -63,24 +64,21 @@ impl<T: Copy> Intake<T> {
         self.pocket.next()
     }
 
-    /// The oldest item of the pocket, which leaves.
-    #[tactic(auto, using(crate::proofs::Handing::of_handing))]
-    pub(crate) fn next_fetched(&mut self) -> Option<T>
-        ensures ring { SameConsumer self.old.ring self.new.ring }
-        ensures handed { MatchOption result (handed self.new ≡ handed self.old) (λ x. handed self.new ≡ handed self.old ++ x ∷ []) }
-        ensures pocket { MatchOption result ((inside self.old.pocket ≡ []) × (inside self.new.pocket ≡ [])) (λ x. inside self.old.pocket ≡ x ∷ inside self.new.pocket) }
-        ensures known { known_items self.new.ring ≡ known_items self.old.ring }
-    {
-        self.pocket.next()
-    }
-
-    /// The oldest item, which stays. Wants what is seen to be in the pocket, unless nothing is.
-    #[tactic(auto, using(crate::proofs::Handing::of_handing))]
-    pub(crate) fn first(&self) -> Option<T>
-        requires { inside self.now.pocket ≡ [] → ahead self.now ≡ [] }
-        ensures { result ≡ slice_get (ahead self.now) 0 }
+    /// The oldest item of the pocket where it lies.
+    pub(crate) fn first(&self) -> Option<&T>
+        ensures none { IfNone result (inside self.now.pocket ≡ []) }
+        ensures first { IfSome result (λ x. inside self.now.pocket ≡ x.now ∷ drop 1 (inside self.now.pocket)) }
     {
         self.pocket.first()
+    }
+
+    /// The oldest item of the pocket leaves.
+    pub(crate) fn pass(&mut self)
+        ensures ring { SameConsumer self.old.ring self.new.ring × (known_items self.new.ring ≡ known_items self.old.ring) }
+        ensures handed { handed self.new ≡ handed self.old ++ take 1 (inside self.old.pocket) }
+        ensures pocket { inside self.new.pocket ≡ drop 1 (inside self.old.pocket) }
+    {
+        self.pocket.next();
     }
 
     /// The oldest item that was seen, which leaves.

@@ -10,7 +10,7 @@ mod pair;
 mod pocket;
 mod rests;
 
-pub use far::{AnswerFault, Far};
+pub use far::{AnswerFault, Far, Refusal};
 pub use near::Near;
 pub use pair::{Memory, beside, lane};
 pub use rests::Beside;

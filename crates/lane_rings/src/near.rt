@@ -12,7 +12,7 @@ pub struct Near {
 }
 
 impl Near {
-    ghost use Rattle.std.specs.Prelude.{◌≡◌, ◌≢◌, ◌<◌, ◌≤◌, [], ◌∷◌, ◌++◌, drop, length, OnOk, OnErr, IfErr, IfNone, MatchOption};
+    ghost use Rattle.std.specs.Prelude.{◌≡◌, ◌≢◌, ◌<◌, ◌≤◌, [], ◌∷◌, ◌++◌, drop, length, Some, IsFalse, IsTrue, OnOk, OnErr, IfErr, IfNone, IfSome, MatchOption};
     ghost use mathlib.Core.List.{IsPrefix};
     ghost use Rattle.lane_rings.specs.Ends.{offered, hidden_offers, taken, seen_replies, fetched_replies, next_reply};
     ghost use Rattle.lane_rings.specs.Identity.{near_id};
@@ -27,18 +27,19 @@ impl Near {
         ensures full { OnErr result ((near_id self.old).depth ≤ length (offered self.old)) }
         ensures shown { hidden_offers self.new ≡ [] }
     {
-        let answer = self.stage(delivery);
+        let staged = self.stage(&delivery);
         self.flush();
-        answer
+        if staged { Ok(()) } else { Err(delivery) }
     }
 
     /// As `offer`, but the delivery is gathered: it goes into the ring by the next `flush`, and until then the holder can't see it.
-    pub fn stage(&mut self, delivery: Delivery) -> Result<(), Delivery>
+    /// It is copied where it is gathered, and nowhere before; false where the ring is full.
+    pub fn stage(&mut self, delivery: &Delivery) -> bool
         ensures lane { near_id self.new ≡ near_id self.old }
         ensures replies { (taken self.new ≡ taken self.old) × (seen_replies self.new ≡ seen_replies self.old) × (fetched_replies self.new ≡ fetched_replies self.old) }
-        ensures ok { OnOk result (offered self.new ≡ offered self.old ++ delivery ∷ []) }
-        ensures refused { IfErr result (λ back. (back ≡ delivery) × (offered self.new ≡ offered self.old)) }
-        ensures full { OnErr result ((near_id self.old).depth ≤ length (offered self.old)) }
+        ensures ok { IsTrue result → offered self.new ≡ offered self.old ++ delivery.now ∷ [] }
+        ensures refused { IsFalse result → offered self.new ≡ offered self.old }
+        ensures full { IsFalse result → (near_id self.old).depth ≤ length (offered self.old) }
     {
         self.deliveries.put(delivery)
     }
@@ -76,6 +77,16 @@ impl Near {
         ensures same { (r : Reply) → next_reply self.old ≡ Some r → result ≡ Some r }
     {
         self.fetch(1);
+        self.fetched().copied()
+    }
+
+    /// The oldest reply that was fetched and not taken, where it lies: the next `take` gives the same one. `None` where none is
+    /// fetched.
+    #[tactic(auto, using(crate::proofs::Handing::of_looks))]
+    pub fn fetched(&self) -> Option<&Reply>
+        ensures next { IfSome result (λ r. next_reply self.now ≡ Some r.now) }
+        ensures none { IfNone result (fetched_replies self.now ≡ []) }
+    {
         self.replies.first()
     }
 

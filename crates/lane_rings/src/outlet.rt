@@ -11,12 +11,15 @@ use std::alloc::{AllocError, Global};
 pub(crate) struct Outlet<T> {
     pub(crate) ring: Producer<T>,
     pub(crate) pocket: Vec<T>,
-    pub(crate) ghost fits: { length pocket.items ≤ known_free ring },
+    /// So many slots at least are free. The ring works this out of two places at each question.
+    free: usize,
+    pub(crate) ghost known: { free ≤ known_free ring },
+    pub(crate) ghost fits: { length pocket.items ≤ free },
     ghost room: { producer_capacity ring ≤ vec_capacity pocket },
 }
 
 impl<T: Copy> Outlet<T> {
-    ghost use Rattle.std.specs.Prelude.{◌≡◌, ◌≤◌, [], ◌∷◌, ◌++◌, length, IfOk, OnOk, IfErr, OnErr};
+    ghost use Rattle.std.specs.Prelude.{◌≡◌, ◌<◌, ◌≤◌, [], ◌∷◌, ◌++◌, length, IfOk, IsTrue, IsFalse};
     ghost use Rattle.rtrb.specs.Ring.{sent, producer_capacity, SameProducer};
     ghost use Rattle.lane_rings.specs.Outlets.{put_in, kept_back};
 
@@ -27,23 +30,47 @@ impl<T: Copy> Outlet<T> {
         ensures lists { IfOk result (λ o. (put_in o ≡ []) × (kept_back o ≡ [])) }
     {
         let pocket = Vec::with_capacity(alloc, ring.capacity())?;
-        Ok(Outlet { ring, pocket })
+        Ok(Outlet {
+            ring,
+            pocket,
+            free: 0,
+        })
     }
 
-    /// Gathers an item, or hands it back where the ring has no free slot for it.
-    pub(crate) fn put(&mut self, item: T) -> Result<(), T>
+    /// Gathers an item, which is copied once; false where the ring has no free slot for it.
+    pub(crate) fn put(&mut self, item: &T) -> bool
         ensures ring { SameProducer self.old.ring self.new.ring }
-        ensures ok { OnOk result (put_in self.new ≡ put_in self.old ++ item ∷ []) }
-        ensures refused { IfErr result (λ back. (back ≡ item) × (put_in self.new ≡ put_in self.old)) }
-        ensures full { OnErr result (producer_capacity self.old.ring ≤ length (put_in self.old)) }
+        ensures ok { IsTrue result → put_in self.new ≡ put_in self.old ++ item.now ∷ [] }
+        ensures refused { IsFalse result → put_in self.new ≡ put_in self.old }
+        ensures full { IsFalse result → producer_capacity self.old.ring ≤ length (put_in self.old) }
     {
-        // The holder's progress is looked at only where what was known to be free is used up.
-        let gathered = self.pocket.len();
-        if gathered >= self.ring.cached_slots() && gathered >= self.ring.slots() {
-            return Err(item);
+        if !self.has_room() {
+            return false;
         }
-        self.pocket.push_reserved(item);
-        Ok(())
+        self.pocket.push_reserved(*item);
+        true
+    }
+
+    // Whether there is a free slot for one item more. The other end's progress is looked at only where what was known to be free is
+    // used up.
+    fn has_room(&mut self) -> bool
+        ensures ring { SameProducer self.old.ring self.new.ring × (sent self.new.ring ≡ sent self.old.ring) }
+        ensures pocket { self.new.pocket ≡ self.old.pocket }
+        ensures room { IsTrue result → length self.new.pocket.items < self.new.free }
+        ensures full { IsFalse result → producer_capacity self.old.ring ≤ length (put_in self.old) }
+    {
+        self.pocket.len() < self.free || self.look()
+    }
+
+    #[cold]
+    fn look(&mut self) -> bool
+        ensures ring { SameProducer self.old.ring self.new.ring × (sent self.new.ring ≡ sent self.old.ring) }
+        ensures pocket { self.new.pocket ≡ self.old.pocket }
+        ensures room { IsTrue result → length self.new.pocket.items < self.new.free }
+        ensures full { IsFalse result → producer_capacity self.old.ring ≤ length (put_in self.old) }
+    {
+        self.free = self.ring.slots();
+        self.pocket.len() < self.free
     }
 
     /// Puts what was gathered into the ring, with one store.
@@ -58,6 +85,7 @@ impl<T: Copy> Outlet<T> {
         let Ok(()) = self.ring.push_entire_slice(&self.pocket) else {
             unreachable!()
         };
+        self.free -= self.pocket.len();
         self.pocket.clear();
     }
 }

@@ -17,7 +17,7 @@ pub(crate) struct Pocket<T> {
 }
 
 impl<T: Copy> Pocket<T> {
-    ghost use Rattle.std.specs.Prelude.{◌≡◌, ◌<◌, ◌≤◌, ◌↔◌, [], ◌∷◌, ◌++◌, length, slice_get, IsTrue, IfOk, MatchOption};
+    ghost use Rattle.std.specs.Prelude.{◌≡◌, ◌<◌, ◌≤◌, ◌↔◌, [], ◌∷◌, ◌++◌, length, slice_get, option_copied, IsTrue, IfOk, MatchOption};
     ghost use mathlib.Core.List.{IsPrefix};
     ghost use Rattle.rtrb.specs.Ring.{received, known_items, SameConsumer};
     ghost use Rattle.lane_rings.specs.Pockets.{inside, places_of};
@@ -62,14 +62,14 @@ impl<T: Copy> Pocket<T> {
         Some(first)
     }
 
-    /// The first item, which stays.
-    pub(crate) fn first(&self) -> Option<T>
-        ensures { result ≡ slice_get (inside self.now) 0 }
+    /// The first item where it lies.
+    pub(crate) fn first(&self) -> Option<&T>
+        ensures { option_copied result ≡ slice_get (inside self.now) 0 }
     {
         if self.at == self.end {
             return None;
         }
-        Some(self.places[self.at])
+        Some(&self.places[self.at])
     }
 
     /// Whether nothing is in it.

@@ -12,11 +12,10 @@ use Rattle.place_set.specs.declared.places.Places.{Places}
 use Rattle.parked_queue.specs.Marks.{Kept, marks_at}
 use Rattle.parked_queue.specs.Merge.{is_in}
 use Rattle.parked_queue.specs.Parted.{Parted, HasMarks, HasNoneParked, IsBest, IsFirstParked, IsNoLater, IsParkedAllowed, below_at, list_in, parked_place, place_of}
-use Rattle.parked_queue.specs.Waits.{AreWaits, IsOldest, slot_of}
+use Rattle.parked_queue.specs.Waits.{AreWaits, slot_of}
 use Rattle.std.specs.Option.{is_some}
 use Rattle.waiting_lists.specs.Lists.{list_at}
 use Rattle.parked_queue.proofs.Holding.{Holds, count_held, list_held, place_if_not, place_if_parked}
-use Rattle.parked_queue.proofs.Options.{none_or}
 use Rattle.parked_queue.proofs.Splits.{Split, first_least, first_split, first_there, none_first}
 
 -- what it says of an event to be in the list of a slot's parked events
@@ -54,20 +53,6 @@ module _ (v : Parted) (c s : ℕ) (waits : AreWaits v.waits) (lt : c < 4) where
     head_waits : Contains v.waits.waiting w
     head_waits = first_there test v.waits.waiting w aside
 
-    -- it is the oldest of its slot
-    head_oldest : IsOldest v.waits c s w
-    head_oldest =
-        record {
-          waits = head_waits;
-          level = of_head.0;
-          slot = of_head.1;
-          first =
-              λ k d h. (λ here slot. ⊎_elim
-              (λ lower. first_least test v.waits.waiting w aside k d h (is_aside v.waits.slots v.below c s (get_or v.waits.waiting k d) here slot lower))
-              (λ le. let less = of_head.2 in omega arith)
-              (cases_lt (get_or v.waits.waiting k d).number (below_at v.below c)));
-        }
-
     pub head_there : (allowed : Places) → Has allowed s → IsParkedAllowed v c allowed w
     head_there allowed has = record { waits = head_waits; level = of_head.0; slot = subst (Has allowed) (sym of_head.1) has; parked = of_head.2 }
 
@@ -75,19 +60,6 @@ module _ (v : Parted) (c s : ℕ) (waits : AreWaits v.waits) (lt : c < 4) where
     head_least k d h =
         let u : Numbered = get_or v.waits.waiting k d in
         λ here lower slot. first_least test v.waits.waiting w aside k d h (is_aside v.waits.slots v.below c s u here slot lower)
-
--- where the slot isn't marked nothing is parked
-pub unmarked : (v : Parted) (c s : ℕ) (marks : Places) → AreWaits v.waits → c < 4 → HasMarks v c marks → (¬ Has marks s) → slice_get (list_in v (parked_place s c)) 0 ≡ None
-unmarked v c s marks waits lt has never =
-    none_or (slice_get (list_in v (parked_place s c)) 0)
-    (λ w head.
-    let of = of_head v c s waits lt w head in
-    let there = All-contains (λ (u : Numbered). level_of u.event ≡ c → u.number < below_at v.below c → Has marks (slot_of v.waits.slots u)) v.waits.waiting w has.marked (head_waits v c s waits lt w head) in
-    never (subst (Has marks) of.1 (there of.0 of.2)))
-
-pub oldest_parked : (v : Parted) (c s : ℕ) (o : Option Numbered) → AreWaits v.waits → c < 4 → o ≡ slice_get (list_in v (parked_place s c)) 0 → IfSome o (IsOldest v.waits c s)
-oldest_parked v c s None waits lt e = tt
-oldest_parked v c s (Some w) waits lt e = head_oldest v c s waits lt w (sym e)
 
 -- ---- the walk over the slots
 

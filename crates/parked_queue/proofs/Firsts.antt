@@ -74,7 +74,7 @@ module _ (v : Parted) (c : ℕ) (allowed : Places) (waits : AreWaits v.waits) (l
 
 -- ---- levels of which nothing waits
 
-pub none_is : (o : Option Numbered) → is_some o ≡ false → o ≡ None
+pub none_is : {X : Type 0} (o : Option X) → is_some o ≡ false → o ≡ None
 none_is None e = λ i. None
 none_is (Some w) e = absurd (false≢true (sym e))
 

@@ -1,5 +1,5 @@
 -- What is known of a value that may be there.
-use Rattle.std.proofs.Common.{◌≡◌, true, Option, Some, None, refl, sym, subst}
+use Rattle.std.proofs.Common.{◌≡◌, true, Option, Some, None, sym, subst}
 use Rattle.std.proofs.lemmas.Bool.{false≢true}
 use Rattle.std.specs.Option.{IfNone, IfSome, is_some}
 
@@ -18,7 +18,3 @@ not_there o e some = false≢true (subst (λ r. is_some r ≡ true) e some)
 pub if_more : {X : Type 0} (o : Option X) (P Q : X → Type 0) → ((x : X) → P x → Q x) → IfSome o P → IfSome o Q
 if_more None P Q more known = tt
 if_more (Some x) P Q more known = more x known
-
-pub none_or : {X : Type 0} (o : Option X) → ((x : X) → o ≡ Some x → ⊥) → o ≡ None
-none_or None never = refl
-none_or (Some x) never = absurd (never x refl)

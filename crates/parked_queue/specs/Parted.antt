@@ -73,12 +73,6 @@ pub record IsFirstParked (v : Parted) (c : ℕ) (allowed : Places) (w : Numbered
   pub one : IsParkedAllowed v c allowed w
   pub first : All (λ (u : Numbered). level_of u.event ≡ c → u.number < below_at v.below c → Has allowed (slot_of v.waits.slots u) → w.number ≤ u.number) v.waits.waiting
 
--- the slot is that of the oldest parked event of the level whose slot is allowed
-pub record IsFirstParkedSlot (v : Parted) (c : ℕ) (allowed : Places) (slot : ℕ) : Type 0 where
-  pub waiting : Numbered
-  pub first : IsFirstParked v c allowed waiting
-  pub is : slot ≡ slot_of v.waits.slots waiting
-
 -- no parked event of the level has an allowed slot
 abbrev pub HasNoneParked : Parted → ℕ → Places → Type 0
 HasNoneParked v c allowed = All (λ (u : Numbered). level_of u.event ≡ c → u.number < below_at v.below c → ¬ Has allowed (slot_of v.waits.slots u)) v.waits.waiting

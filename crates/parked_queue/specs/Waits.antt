@@ -75,23 +75,6 @@ pub record IsFirstAllowed (v : Waits) (c : ℕ) (allowed : Places) (w : Numbered
   pub slot : Has allowed (slot_of v.slots w)
   pub first : All (λ (u : Numbered). level_of u.event ≡ c → Has allowed (slot_of v.slots u) → w.number ≤ u.number) v.waiting
 
--- the slot is that of the level's first event whose slot is allowed
-pub record IsFirstSlot (v : Waits) (c : ℕ) (allowed : Places) (slot : ℕ) : Type 0 where
-  pub waiting : Numbered
-  pub first : IsFirstAllowed v c allowed waiting
-  pub is : slot ≡ slot_of v.slots waiting
-
--- the event waits, is of the level and the slot, and no older one is so
-pub record IsOldest (v : Waits) (c s : ℕ) (w : Numbered) : Type 0 where
-  pub waits : Contains v.waiting w
-  pub level : level_of w.event ≡ c
-  pub slot : slot_of v.slots w ≡ s
-  pub first : All (λ (u : Numbered). level_of u.event ≡ c → slot_of v.slots u ≡ s → w.number ≤ u.number) v.waiting
-
--- no event of the level and the slot waits
-abbrev pub HasNoneOfSlot : Waits → ℕ → ℕ → Type 0
-HasNoneOfSlot v c slot = All (λ (u : Numbered). level_of u.event ≡ c → slot_of v.slots u ≢ slot) v.waiting
-
 -- no event of the level has an allowed slot
 abbrev pub HasNoneAllowed : Waits → ℕ → Places → Type 0
 HasNoneAllowed v c allowed = All (λ (u : Numbered). level_of u.event ≡ c → ¬ Has allowed (slot_of v.slots u)) v.waiting

@@ -1,21 +1,23 @@
 //! The first event of a level whose slot is allowed.
 
-ghost use Rattle.std.specs.Prelude.{◌≡◌, ℕ, ◌<◌, ◌≤◌, ◌⊎◌, length, slice_get, Some, IsTrue, IfSome, IfNone};
+ghost use Rattle.std.specs.Prelude.{◌≡◌, ℕ, ◌<◌, ◌≤◌, ◌⊎◌, length, Some, IsTrue, IfSome, IfNone};
 ghost use Rattle.evt_types.specs.declared.event.Numbered.{Numbered as NumberedValue};
 ghost use Rattle.place_set.specs.Places.{Has};
 ghost use Rattle.parked_queue.specs.Parkings.{are_waits, parted_at};
-ghost use Rattle.parked_queue.specs.Parted.{IsFirstParkedSlot, HasNoneParked, IsNoLater, list_in, parked_place};
-ghost use Rattle.parked_queue.specs.Waits.{AreWaits, IsFirstAllowed, IsFirstSlot, IsOldest, HasNoneAllowed, HasNoneOf, HasNoneOfSlot, slot_of};
+ghost use Rattle.parked_queue.specs.Parted.{IsFirstParked, HasNoneParked, IsNoLater};
+ghost use Rattle.parked_queue.specs.Waits.{AreWaits, IsFirstAllowed, HasNoneAllowed, HasNoneOf, slot_of};
 
 use crate::parking::Parkings;
 use evt_types::Numbered;
 use place_set::Places;
 
-/// An event that is found, and its slot.
+/// An event that is found, and its flow and slot, which are read where it lies.
 #[derive(Clone, Copy)]
 pub struct Found {
     pub slot: usize,
+    pub flow: u32,
     pub waiting: Numbered,
+    pub ghost flow_is: { flow ≡ waiting.event.flow },
 }
 
 /// The event with the lower number.
@@ -31,15 +33,16 @@ fn older(best: Option<Numbered>, head: Numbered) -> Numbered
 }
 
 impl Parkings {
-    /// The slot of the oldest parked event of the level whose slot is among these.
+    /// The oldest parked event of the level whose slot is among these.
     #[cold]
-    fn first_parked(&mut self, queue: usize, level: usize, marked: Places) -> Option<usize>
+    fn first_parked(&mut self, queue: usize, level: usize, marked: Places) -> Option<Found>
         requires queue { queue < length self.old }
         requires level { level < 4 }
         requires there { (k : ℕ) → Has marked k → k < (parted_at self.old queue).waits.slots }
         requires waits { AreWaits (parted_at self.old queue).waits }
         ensures same { self.new ≡ self.old }
-        ensures first { IfSome result (IsFirstParkedSlot (parted_at self.old queue) level marked) }
+        ensures first { IfSome result (λ f. IsFirstParked (parted_at self.old queue) level marked f.waiting) }
+        ensures slot { IfSome result (λ f. f.slot ≡ slot_of (parted_at self.old queue).waits.slots f.waiting) }
         ensures none { IfNone result (HasNoneParked (parted_at self.old queue) level marked) }
     {
         let mut best = None;
@@ -50,43 +53,34 @@ impl Parkings {
             }
         }
         match best {
-            Some(oldest) => Some(self.slot(queue, &oldest)),
+            Some(waiting) => {
+                let flow = waiting.event.flow;
+                Some(Found {
+                    slot: self.slot(queue, flow),
+                    flow,
+                    waiting,
+                })
+            }
             None => None,
         }
     }
 
     /// The same. Mostly no slot is among these, and then no call is made.
     #[inline(always)]
-    fn first_marked(&mut self, queue: usize, level: usize, marked: Places) -> Option<usize>
+    fn first_marked(&mut self, queue: usize, level: usize, marked: Places) -> Option<Found>
         requires queue { queue < length self.old }
         requires level { level < 4 }
         requires there { (k : ℕ) → Has marked k → k < (parted_at self.old queue).waits.slots }
         requires waits { AreWaits (parted_at self.old queue).waits }
         ensures same { self.new ≡ self.old }
-        ensures first { IfSome result (IsFirstParkedSlot (parted_at self.old queue) level marked) }
+        ensures first { IfSome result (λ f. IsFirstParked (parted_at self.old queue) level marked f.waiting) }
+        ensures slot { IfSome result (λ f. f.slot ≡ slot_of (parted_at self.old queue).waits.slots f.waiting) }
         ensures none { IfNone result (HasNoneParked (parted_at self.old queue) level marked) }
     {
         if marked.is_empty() {
             None
         } else {
             self.first_parked(queue, level, marked)
-        }
-    }
-
-    /// The first parked event of the level and the slot. Where the slot isn't marked there is none.
-    #[inline(always)]
-    fn first_of_slot(&mut self, queue: usize, level: usize, slot: usize) -> Option<Numbered>
-        requires queue { queue < length self.old }
-        requires level { level < 4 }
-        requires slot { slot < (parted_at self.old queue).waits.slots }
-        ensures same { self.new ≡ self.old }
-        ensures value { result ≡ slice_get (list_in (parted_at self.old queue) (parked_place slot level)) 0 }
-        ensures waits { AreWaits (parted_at self.old queue).waits }
-    {
-        if self.marks(queue, level).has(slot) {
-            self.parked_front(queue, level, slot)
-        } else {
-            None
         }
     }
 
@@ -102,22 +96,28 @@ impl Parkings {
         ensures none { IfNone result (HasNoneAllowed (parted_at self.old queue).waits level allowed) }
     {
         while let Some(waiting) = self.front(queue, level) {
-            let slot = self.slot(queue, &waiting);
+            let flow = waiting.event.flow;
+            let slot = self.slot(queue, flow);
             if allowed.has(slot) {
-                return Some(Found { slot, waiting });
+                return Some(Found {
+                    slot,
+                    flow,
+                    waiting: *waiting,
+                });
             }
             self.park(queue, level, slot);
         }
         None
     }
 
-    /// The slot of the first event of the level whose slot is allowed. Those before it are set aside, each once.
+    /// The first event of the level whose slot is allowed. Those before it are set aside, each once.
     #[inline(always)]
-    pub(crate) fn first(&mut self, queue: usize, level: usize, allowed: Places) -> Option<usize>
+    pub(crate) fn first(&mut self, queue: usize, level: usize, allowed: Places) -> Option<Found>
         requires queue { queue < length self.old }
         requires level { level < 4 }
         ensures same { are_waits self.new ≡ are_waits self.old }
-        ensures first { IfSome result (IsFirstSlot (parted_at self.old queue).waits level allowed) }
+        ensures first { IfSome result (λ f. IsFirstAllowed (parted_at self.old queue).waits level allowed f.waiting) }
+        ensures slot { IfSome result (λ f. f.slot ≡ slot_of (parted_at self.old queue).waits.slots f.waiting) }
         ensures none { IfNone result (HasNoneAllowed (parted_at self.old queue).waits level allowed) }
         ensures waits { AreWaits (parted_at self.old queue).waits }
     {
@@ -126,10 +126,7 @@ impl Parkings {
         if parked.is_some() {
             return parked;
         }
-        match self.first_main(queue, level, allowed) {
-            Some(found) => Some(found.slot),
-            None => None,
-        }
+        self.first_main(queue, level, allowed)
     }
 
     /// The first event of the level whose slot is allowed, where it is the first of the level's own list: then no parked event has
@@ -146,9 +143,14 @@ impl Parkings {
             return None;
         }
         let waiting = self.front(queue, level)?;
-        let slot = self.slot(queue, &waiting);
+        let flow = waiting.event.flow;
+        let slot = self.slot(queue, flow);
         if allowed.has(slot) {
-            Some(Found { slot, waiting })
+            Some(Found {
+                slot,
+                flow,
+                waiting: *waiting,
+            })
         } else {
             None
         }
@@ -163,28 +165,6 @@ impl Parkings {
     {
         let marks = self.marks(queue, level);
         !marks.is_empty() && marks.both(allowed).is_empty() && self.front(queue, level).is_none()
-    }
-
-    /// The oldest event of the level and the slot. Those before it in the level's own list are set aside, each once.
-    #[cold]
-    pub(crate) fn oldest(&mut self, queue: usize, level: usize, slot: usize) -> Option<Numbered>
-        requires queue { queue < length self.old }
-        requires level { level < 4 }
-        requires slot { slot < (parted_at self.old queue).waits.slots }
-        ensures same { are_waits self.new ≡ are_waits self.old }
-        ensures oldest { IfSome result (IsOldest (parted_at self.old queue).waits level slot) }
-        ensures none { IfNone result (HasNoneOfSlot (parted_at self.old queue).waits level slot) }
-    {
-        let parked = self.first_of_slot(queue, level, slot);
-        if parked.is_some() {
-            return parked;
-        }
-        let mut only = Places::none();
-        only.add(slot);
-        match self.first_main(queue, level, only) {
-            Some(found) => Some(found.waiting),
-            None => None,
-        }
     }
 
     /// Whether no event of the level waits. It may say no where none does, until the marks of its slots are gone.

@@ -1,6 +1,6 @@
 //! The events that wait in all queues, parted into lists.
 
-ghost use Rattle.std.specs.Prelude.{◌≡◌, ◌+◌, ◌<◌, ◌≤◌, ◌^◌, ◌++◌, true, length, map, slice_get, slice_set, vec_len, vec_capacity, is_some, All, IfOk, IfSome};
+ghost use Rattle.std.specs.Prelude.{◌≡◌, ◌+◌, ◌<◌, ◌≤◌, ◌^◌, ◌%◌, ◌++◌, true, length, map, slice_get, slice_set, vec_len, vec_capacity, is_some, option_copied, All, IfOk, IfSome};
 ghost use Rattle.parked_queue.specs.Parts.{all_parts};
 ghost use Rattle.parked_queue.specs.Parted.{HasMarks, list_in, own_first, parked_place, place_for, with_below, with_waits};
 ghost use Rattle.parked_queue.specs.Parkings.{AreNewParkings, IsNewParking, are_waits, no_parteds, parted_at, waiting_in};
@@ -100,53 +100,51 @@ impl Parkings {
 
     /// Lets the event wait in the queue, under the queue's next number.
     #[inline(always)]
-    pub(crate) fn accept(&mut self, queue: usize, event: Event)
+    pub(crate) fn accept(&mut self, queue: usize, event: &Event)
         requires there { queue < length self.old }
         requires room { waiting_in self.old < (parted_at self.old queue).waits.room }
         requires numbers { (parted_at self.old queue).waits.next < 2 ^ 63 }
-        ensures value { self.new ≡ slice_set self.old queue (with_waits (parted_at self.old queue) (with_event (parted_at self.old queue).waits event)) }
-        ensures waits { AreWaits (with_event (parted_at self.old queue).waits event) }
+        ensures value { self.new ≡ slice_set self.old queue (with_waits (parted_at self.old queue) (with_event (parted_at self.old queue).waits event.now)) }
+        ensures waits { AreWaits (with_event (parted_at self.old queue).waits event.now) }
     {
+        // The read makes the field's range known, and so the level's.
+        let _priority = event.priority;
         let entered = &mut self.queues[queue];
         let number = entered.next;
         entered.next = number + 1;
         entered.count += 1;
         let list = entered.base + event.level();
-        self.lists.push(list, Numbered { number, event });
+        self.lists.push(
+            list,
+            Numbered {
+                number,
+                event: *event,
+            },
+        );
     }
 
-    /// The first event of the level's own list.
+    /// The first event of the level's own list, where it lies.
     #[inline(always)]
-    pub(crate) fn front(&self, queue: usize, level: usize) -> Option<Numbered>
+    pub(crate) fn front(&self, queue: usize, level: usize) -> Option<&Numbered>
         requires there { queue < length self.now }
         requires level { level < 4 }
-        ensures value { result ≡ own_first (parted_at self.now queue) level }
+        ensures value { option_copied result ≡ own_first (parted_at self.now queue) level }
         ensures waits { AreWaits (parted_at self.now queue).waits }
         ensures four { length (parted_at self.now queue).below ≡ 4 }
     {
-        self.lists.front(self.queues[queue].base + level)
+        self.lists.head(self.queues[queue].base + level)
     }
 
-    /// How many slots the queue has.
+    /// The slot of a flow.
     #[inline(always)]
-    pub(crate) fn slots(&self, queue: usize) -> usize
+    pub(crate) fn slot(&self, queue: usize, flow: u32) -> usize
         requires { queue < length self.now }
-        ensures value { result ≡ (parted_at self.now queue).waits.slots }
-        ensures some { 0 < result }
-    {
-        self.queues[queue].slots
-    }
-
-    /// The slot of an event.
-    #[inline(always)]
-    pub(crate) fn slot(&self, queue: usize, waiting: &Numbered) -> usize
-        requires { queue < length self.now }
-        ensures value { result ≡ slot_of (parted_at self.now queue).waits.slots waiting.now }
+        ensures value { result ≡ flow % (parted_at self.now queue).waits.slots }
         ensures within { result < (parted_at self.now queue).waits.slots }
         ensures few { result < 64 }
     {
         let asked = &self.queues[queue];
-        slot_in(asked.slots, asked.mask, waiting)
+        slot_in(asked.slots, asked.mask, flow)
     }
 
     /// The level's slots that may have parked events.
@@ -175,7 +173,8 @@ impl Parkings {
         ensures value { result ≡ slice_get (list_in (parted_at self.old queue) (parked_place slot level)) 0 }
     {
         let asked = &mut self.queues[queue];
-        let head = self.lists.front(asked.base + parked_list(level, slot));
+        let list = asked.base + parked_list(level, slot);
+        let head = self.lists.head(list).copied();
         if head.is_none() {
             asked.parked[level].remove(slot);
         }

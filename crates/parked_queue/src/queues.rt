@@ -1,12 +1,12 @@
 //! What waits in several queues.
 
-ghost use Rattle.std.specs.Prelude.{◌≡◌, ◌+◌, ◌<◌, ◌≤◌, ◌^◌, ◌++◌, length, map, slice_set, vec_len, vec_capacity, IsTrue, IfOk, IfSome, IfNone};
-ghost use Rattle.parked_queue.specs.Waits.{AreLevels, AreSlots, AreWaits, HasNoneAllowed, HasNoneOfSlot, IsFirstAllowed, IsFirstSlot, IsOldest, IsOnlyOf, all_empty, all_waiting, slot_of, waits_at, with_event, without_number};
+ghost use Rattle.std.specs.Prelude.{◌≡◌, ◌+◌, ◌<◌, ◌≤◌, ◌^◌, ◌%◌, ◌++◌, length, map, slice_set, vec_len, vec_capacity, IsTrue, IfOk, IfSome, IfNone};
+ghost use Rattle.parked_queue.specs.Waits.{AreLevels, AreSlots, AreWaits, HasNoneAllowed, IsFirstAllowed, IsOnlyOf, all_empty, all_waiting, slot_of, waits_at, with_event, without_number};
 ghost use Rattle.waiting_lists.specs.Lists.{delivery_of};
 
 use crate::first::Found;
 use crate::parking::Parkings;
-use evt_types::{Delivery, Event, Numbered};
+use evt_types::{Delivery, Event};
 use place_set::Places;
 use std::alloc::{AllocError, Global};
 use std::marker::Model;
@@ -54,13 +54,15 @@ impl ParkedQueues {
 
     /// Lets the event wait in the queue, under the queue's next number. Wants room: fewer than there is room for wait in all queues.
     #[inline(always)]
-    pub fn accept(&mut self, queue: usize, event: Event)
+    pub fn accept(&mut self, queue: usize, event: &Event)
         requires there { queue < length self.old }
         requires room { all_waiting self.old < (waits_at self.old queue).room }
         requires numbers { (waits_at self.old queue).next < 2 ^ 63 }
-        ensures value { self.new ≡ slice_set self.old queue (with_event (waits_at self.old queue) event) }
-        ensures waits { AreWaits (with_event (waits_at self.old queue) event) }
+        ensures value { self.new ≡ slice_set self.old queue (with_event (waits_at self.old queue) event.now) }
+        ensures waits { AreWaits (with_event (waits_at self.old queue) event.now) }
     {
+        // The read makes the field's range known, and so the level's.
+        let _priority = event.priority;
         self.levels[queue].add(event.level());
         self.parkings.accept(queue, event);
     }
@@ -74,33 +76,24 @@ impl ParkedQueues {
         self.levels[queue]
     }
 
-    /// How many slots the queue has.
+    /// The slot of a flow of the queue.
     #[inline(always)]
-    pub fn slots(&self, queue: usize) -> usize
+    pub fn slot_of(&self, queue: usize, flow: u32) -> usize
         requires { queue < length self.now }
-        ensures value { result ≡ (waits_at self.now queue).slots }
-        ensures some { 0 < result }
-    {
-        self.parkings.slots(queue)
-    }
-
-    /// The slot of an event of the queue.
-    #[inline(always)]
-    pub fn slot_of(&self, queue: usize, waiting: &Numbered) -> usize
-        requires { queue < length self.now }
-        ensures value { result ≡ slot_of (waits_at self.now queue).slots waiting.now }
+        ensures value { result ≡ flow % (waits_at self.now queue).slots }
         ensures within { result < (waits_at self.now queue).slots }
     {
-        self.parkings.slot(queue, waiting)
+        self.parkings.slot(queue, flow)
     }
 
-    /// The slot of the first event of the queue's level whose slot is allowed. The events before it are set aside, each once.
+    /// The first event of the queue's level whose slot is allowed. The events before it are set aside, each once.
     #[inline(always)]
-    pub fn first(&mut self, queue: usize, level: usize, allowed: Places) -> Option<usize>
+    pub fn first(&mut self, queue: usize, level: usize, allowed: Places) -> Option<Found>
         requires there { queue < length self.old }
         requires level { level < 4 }
         ensures same { self.new ≡ self.old }
-        ensures first { IfSome result (IsFirstSlot (waits_at self.old queue) level allowed) }
+        ensures first { IfSome result (λ f. IsFirstAllowed (waits_at self.old queue) level allowed f.waiting) }
+        ensures slot { IfSome result (λ f. f.slot ≡ slot_of (waits_at self.old queue).slots f.waiting) }
         ensures none { IfNone result (HasNoneAllowed (waits_at self.old queue) level allowed) }
         ensures waits { AreWaits (waits_at self.old queue) }
     {
@@ -132,19 +125,6 @@ impl ParkedQueues {
         ensures { IsTrue result → HasNoneAllowed (waits_at self.now queue) level allowed }
     {
         self.parkings.is_blocked(queue, level, allowed)
-    }
-
-    /// The oldest event of the queue's level and slot. Where it was just found by its slot it is at the head of its list.
-    #[inline(always)]
-    pub fn oldest(&mut self, queue: usize, level: usize, slot: usize) -> Option<Numbered>
-        requires there { queue < length self.old }
-        requires level { level < 4 }
-        requires slot { slot < (waits_at self.old queue).slots }
-        ensures same { self.new ≡ self.old }
-        ensures oldest { IfSome result (IsOldest (waits_at self.old queue) level slot) }
-        ensures none { IfNone result (HasNoneOfSlot (waits_at self.old queue) level slot) }
-    {
-        self.parkings.oldest(queue, level, slot)
     }
 
     /// Takes the event of this number out of the queue, which is of the level and the slot. At the head of its list it goes at once;

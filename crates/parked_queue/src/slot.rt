@@ -1,11 +1,8 @@
-//! The slot of an event, and the list of a slot's parked events.
+//! The slot of a flow, and the list of a slot's parked events.
 
 ghost use Rattle.std.specs.Prelude.{◌≡◌, ◌%◌, ◌<◌, ◌≤◌};
 ghost use Rattle.parked_queue.specs.Marks.{mask_of};
 ghost use Rattle.parked_queue.specs.Parted.{parked_place};
-ghost use Rattle.parked_queue.specs.Waits.{slot_of};
-
-use evt_types::Numbered;
 
 /// How many levels a queue has.
 pub(crate) const LEVELS: usize = 4;
@@ -31,15 +28,16 @@ fn remainder(flow: usize, slots: usize) -> usize
     flow % slots
 }
 
-/// The event's slot, of so many with this mask. A power of two needs no division.
-pub(crate) fn slot_in(slots: usize, mask: usize, waiting: &Numbered) -> usize
+/// The flow's slot, of so many with this mask. A power of two needs no division.
+#[inline(always)]
+pub(crate) fn slot_in(slots: usize, mask: usize, flow: u32) -> usize
     requires some { 0 < slots }
     requires few { slots ≤ 64 }
     requires mask { mask ≡ mask_of slots }
-    ensures value { result ≡ slot_of slots waiting.now }
+    ensures value { result ≡ flow % slots }
     ensures within { result < slots }
 {
-    let flow = waiting.event.flow as usize;
+    let flow = flow as usize;
     if mask < NO_MASK {
         flow & mask
     } else {

@@ -105,7 +105,10 @@ fn first_of(
     slots: &[usize],
 ) -> Option<Option<usize>> {
     if queue < queues.len() && level < 4 {
-        Some(queues.first(queue, level, set_of(slots)))
+        match queues.first(queue, level, set_of(slots)) {
+            Some(found) => Some(Some(found.slot)),
+            None => Some(None),
+        }
     } else {
         None
     }
@@ -113,8 +116,11 @@ fn first_of(
 
 /// The oldest event of level 2 in the slot.
 fn oldest_of(queues: &mut ParkedQueues, queue: usize, slot: usize) -> Option<Option<Numbered>> {
-    if queue < queues.len() && slot < queues.slots(queue) {
-        Some(queues.oldest(queue, 2, slot))
+    if queue < queues.len() {
+        match queues.first(queue, 2, set_of(&[slot])) {
+            Some(found) => Some(Some(found.waiting)),
+            None => Some(None),
+        }
     } else {
         None
     }
@@ -125,8 +131,8 @@ fn two_waiting(alloc: Global, first: Event, second: Event) -> Result<ParkedQueue
     ensures { IfOk result (λ qs. (length qs ≡ 2) × (length (waits_at qs 1).waiting ≡ 2)) }
 {
     let mut queues = queues_of(alloc, 4, 3)?;
-    queues.accept(1, first);
-    queues.accept(1, second);
+    queues.accept(1, &first);
+    queues.accept(1, &second);
     Ok(queues)
 }
 
@@ -157,7 +163,10 @@ const SECOND: Numbered = Numbered {
 #[test]
 fn a_slots_oldest_is_found(rt: HostRuntime) -> Result<(), Fail> {
     let mut queues = two_waiting(rt.alloc(), ONE, SIX)?;
-    assert_eq!(rt; (queues.count(1), queues.slot_of(1, &SECOND)), (2, 2));
+    assert_eq!(rt;
+        (queues.count(1), queues.slot_of(1, SECOND.event.flow)),
+        (2, 2)
+    );
     let parked = first_of(&mut queues, 1, 2, &[2]);
     let oldest = [oldest_of(&mut queues, 1, 2), oldest_of(&mut queues, 1, 3)];
     assert_eq!(rt;
@@ -170,8 +179,8 @@ fn a_slots_oldest_is_found(rt: HostRuntime) -> Result<(), Fail> {
 /// In each queue an event waits, and there is room for no more.
 fn one_in_each(alloc: Global) -> Result<ParkedQueues, AllocError> {
     let mut queues = queues_of(alloc, 4, 2)?;
-    queues.accept(0, ONE);
-    queues.accept(1, SIX);
+    queues.accept(0, &ONE);
+    queues.accept(1, &SIX);
     Ok(queues)
 }
 
@@ -209,7 +218,7 @@ fn head_of(queues: &ParkedQueues, slot: usize) -> Option<(Option<(usize, Numbere
 /// An event waits in queue 0.
 fn one_waiting(alloc: Global) -> Result<ParkedQueues, AllocError> {
     let mut queues = queues_of(alloc, 4, 1)?;
-    queues.accept(0, ONE);
+    queues.accept(0, &ONE);
     Ok(queues)
 }
 
@@ -240,7 +249,10 @@ fn the_head_is_seen_at_once(rt: HostRuntime) -> Result<(), Fail> {
 fn what_waits_is_listed_by_number(rt: HostRuntime) -> Result<(), Fail> {
     let mut queues = two_waiting(rt.alloc(), ZERO, ONE)?;
     let mut waiting = no_deliveries(rt.alloc(), 2)?;
-    let parked = queues.first(1, 2, set_of(&[1]));
+    let parked = match queues.first(1, 2, set_of(&[1])) {
+        Some(found) => Some(found.slot),
+        None => None,
+    };
     queues.list_waiting(1, &mut waiting);
     assert_eq!(rt; parked, Some(1));
     assert_eq!(rt;
@@ -266,7 +278,7 @@ fn lists_share_their_room(rt: HostRuntime) -> Result<(), Fail> {
     let lengths = (lists.total(), lists.len(0), lists.len(1));
     assert_eq!(rt; lengths, (2, 1, 1));
     assert_eq!(rt;
-        (lists.front(0), lists.front(1)),
+        (lists.head(0).copied(), lists.head(1).copied()),
         (Some(SECOND), Some(HEAD))
     );
     Ok(())

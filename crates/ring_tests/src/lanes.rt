@@ -7,6 +7,7 @@ ghost use Rattle.lane_rings.specs.Identity.{near_id, far_id};
 
 use crate::left::{holds, leaves};
 use crate::made::{delivery, reply};
+use crate::refusals::say;
 use arrayvec::ArrayVec;
 use evt_types::{Delivery, Op, Reply};
 use lane_rings::{AnswerFault, Far, Memory, Near, beside, lane};
@@ -241,13 +242,11 @@ fn delivery_of(wanted: Option<u64>) -> Option<Delivery> {
 fn offers(near: &mut Near, delivery: Delivery, gathers: bool, has_room: bool) -> bool
     ensures { near_id near.new ≡ near_id near.old }
 {
+    if gathers {
+        return near.stage(&delivery) == has_room;
+    }
     let wanted = if has_room { Ok(()) } else { Err(delivery) };
-    let answer = if gathers {
-        near.stage(delivery)
-    } else {
-        near.offer(delivery)
-    };
-    answer == wanted
+    near.offer(delivery) == wanted
 }
 
 /// Whether this is said of the reply, which comes back where there is no room for it.
@@ -260,12 +259,7 @@ fn answers(far: &mut Far, reply: Reply, gathers: bool, said: Said) -> bool
         Said::TooMany => Err(AnswerFault::TooMany),
         Said::Full => Err(AnswerFault::Full(reply)),
     };
-    let answer = if gathers {
-        far.stage(reply)
-    } else {
-        far.answer(reply)
-    };
-    answer == wanted
+    say(far, reply, gathers) == wanted
 }
 
 /// Whether just these come where so many are wanted.

@@ -6,7 +6,7 @@ ghost use Rattle.lane_rings.specs.Identity.{near_id, far_id};
 use crate::left::{holds, leaves};
 use crate::made::{delivery, reply};
 use evt_types::{Op, Reply};
-use lane_rings::{AnswerFault, Far, Near, beside, lane};
+use lane_rings::{AnswerFault, Far, Near, Refusal, beside, lane};
 use std::test::Fail;
 
 /// Why a reply is refused.
@@ -305,13 +305,17 @@ fn deliver(near: &mut Near, far: &mut Far, numbers: &[u64]) -> bool
 }
 
 /// What is said of a reply that is answered, or gathered.
-fn say(far: &mut Far, reply: Reply, gathers: bool) -> Result<(), AnswerFault>
+pub(crate) fn say(far: &mut Far, reply: Reply, gathers: bool) -> Result<(), AnswerFault>
     ensures { far_id far.new ≡ far_id far.old }
 {
-    if gathers {
-        far.stage(reply)
-    } else {
-        far.answer(reply)
+    if !gathers {
+        return far.answer(reply);
+    }
+    match far.stage(&reply.event) {
+        Ok(()) => Ok(()),
+        Err(Refusal::NothingHeld) => Err(AnswerFault::NothingHeld),
+        Err(Refusal::TooMany) => Err(AnswerFault::TooMany),
+        Err(Refusal::Full) => Err(AnswerFault::Full(reply)),
     }
 }
 

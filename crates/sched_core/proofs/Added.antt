@@ -11,7 +11,7 @@ use Rattle.evt_types.specs.declared.event.Event.{Event}
 use Rattle.evt_types.specs.declared.event.TheConstants.{MAX_EXTRAS}
 use Rattle.order_parts.specs.Reorder.{Reordering, open_place, place_or_open, with_added, after_add}
 use Rattle.order_parts.specs.declared.history.Entry.{Entry}
-use Rattle.sched_core.specs.Ordered.{IsOrder, KeepsFew, StandsAt, StandsIn, kept_of}
+use Rattle.sched_core.specs.Ordered.{IsOrder, KeepsFew, StandsIn, kept_of}
 use Rattle.parked_queue.specs.Waits.{Waits}
 use Rattle.sched_core.proofs.Ordered.{index_is, order_writes, shown_is, shown_keeps, stands_written, with_places, writes_keep}
 

@@ -1,12 +1,12 @@
 -- A core after an event is added beside a lane's oldest one: its view, and that what holds of each core holds of it.
-use Rattle.std.proofs.Common.{◌≡◌, ℕ, ◌+◌, ◌<◌, ◌≤◌, ◌^◌, Bool, true, false, cond, ◌&&◌, nat_lt, List, [], length, map, set, get_or, slice_index, Some, None, Vec, Global, slice_get, refl, sym, ap, ◌∙◌, subst, arith}
+use Rattle.std.proofs.Common.{◌≡◌, ℕ, ◌+◌, ◌<◌, ◌≤◌, ◌^◌, Bool, true, false, cond, ◌&&◌, nat_lt, List, [], length, map, set, get_or, slice_index, Some, Vec, Global, slice_get, refl, sym, ap, ◌∙◌, subst, arith}
 use Rattle.std.proofs.lemmas.Bool.{and_parts, cond-true, cond-false, ltb-true}
 use Rattle.std.proofs.lemmas.List.{length-set, map-set, set-get_or}
 use Rattle.evt_types.specs.Plan.{queue_of, bound_of, is_ordered, kept_room}
 use Rattle.evt_types.specs.Place.{Place}
 use Rattle.evt_types.specs.declared.event.Event.{Event}
 use Rattle.evt_types.specs.declared.event.TheConstants.{MAX_EXTRAS}
-use Rattle.transcripts.specs.Standing.{View, inside_of, entries_of, extras_at, kept_in, may_add, may_answer, may_forward, oldest_at, places_at, unanswered_at, add_to_place, places_with, after_more}
+use Rattle.transcripts.specs.Standing.{View, inside_of, entries_of, extras_at, may_add, may_answer, may_forward, oldest_at, places_at, unanswered_at, add_to_place, places_with, after_more}
 use Rattle.transcripts.specs.Transcript.{Held}
 use Rattle.order_parts.specs.History.{Entries}
 use Rattle.order_parts.specs.Reorder.{Reordering, empty, after_add, place_or_open}

@@ -13,9 +13,9 @@ use Rattle.sched_core.proofs.News.{slots_range}
 use Rattle.sched_core.proofs.Offers.{HasNoneBeside, levels_beside, none_waits}
 use Rattle.sched_core.specs.Busy.{AreBusy}
 use Rattle.sched_core.specs.Inner.{slots_for}
-use Rattle.sched_core.specs.Offered.{HasNoneAllowedIn, HasNoneOfSlotIn, IsFirstIn, IsFirstSlotIn, IsOldestIn, slot_at}
+use Rattle.sched_core.specs.Offered.{HasNoneAllowedIn, IsFirstIn, slot_at}
 use Rattle.sched_core.specs.View.{view_in, IsCore}
-use Rattle.parked_queue.specs.Waits.{AreLevels, Waits, HasNoneAllowed, HasNoneOfSlot, IsFirstAllowed, IsFirstSlot, IsOldest, waits_at}
+use Rattle.parked_queue.specs.Waits.{AreLevels, Waits, HasNoneAllowed, IsFirstAllowed, waits_at}
 use Rattle.parked_queue.specs.declared.first.Found.{Found}
 use Rattle.sched_core.specs.declared.state.Core.TheInside.{Inside}
 use Rattle.transcripts.specs.Choice.{Passed, HasNone}
@@ -74,34 +74,11 @@ module _ (a : Inside) (i : ℕ) (old : Waits) (core : IsCore a) (h : i < length 
   head_slot_of_view None slot = tt
   head_slot_of_view (Some f) slot = slot ∙ slot_in_queue f.waiting
 
-  pub first_slot_of_view : (c : ℕ) (allowed : Places) (o : Option ℕ) → IfSome o (IsFirstSlot old c allowed) → IfSome o (IsFirstSlotIn (view_in a) i c allowed)
-  first_slot_of_view c allowed None first = tt
-  first_slot_of_view c allowed (Some slot) first = record { waiting = first.waiting; first = first_of_view c allowed first.waiting first.first; is = first.is ∙ slot_in_queue first.waiting }
-
-  pub oldest_of_view : (c s : ℕ) (o : Option Numbered) → IfSome o (IsOldest old c s) → IfSome o (IsOldestIn (view_in a) i c s)
-  oldest_of_view c s None oldest = tt
-  oldest_of_view c s (Some w) oldest =
-      record {
-        waits = subst (λ ws. Contains ws w) (sym (waiting_here a i old h is)) oldest.waits;
-        level = oldest.level;
-        slot = sym (slot_in_queue w) ∙ oldest.slot;
-        first = λ u waits level slot.
-            let here : Contains old.waiting u = waits_here a i old u h is waits in
-            subst (λ (x : Numbered). w.number ≤ x.number) here.2
-            (oldest.first here.0 u here.1 (subst (λ (x : Numbered). level_of x.event ≡ c) (sym here.2) level) (subst (λ (x : Numbered). x.event.flow % old.slots ≡ s) (sym here.2) (slot_in_queue u ∙ slot)));
-      }
-
-  pub none_of_slot_view : (c s : ℕ) (o : Option Numbered) → IfNone o (HasNoneOfSlot old c s) → IfNone o (HasNoneOfSlotIn (view_in a) i c s)
-  none_of_slot_view c s None none = λ u waits level slot.
-      let here : Contains old.waiting u = waits_here a i old u h is waits in
-      none here.0 u here.1 (subst (λ (x : Numbered). level_of x.event ≡ c) (sym here.2) level) (subst (λ (x : Numbered). x.event.flow % old.slots ≡ s) (sym here.2) (slot_in_queue u ∙ slot))
-  none_of_slot_view c s (Some w) none = tt
-
   pub none_in_view : (c : ℕ) (allowed : Places) → HasNoneAllowed old c allowed → HasNoneAllowedIn (view_in a) i c allowed
   none_in_view c allowed none = λ u waits level has.
       let here : Contains old.waiting u = waits_here a i old u h is waits in
       none here.0 u here.1 (subst (λ (x : Numbered). level_of x.event ≡ c) (sym here.2) level) (subst (λ (x : Numbered). Has allowed (x.event.flow % old.slots)) (sym here.2) (subst (Has allowed) (sym (slot_in_queue u)) has))
 
-  pub none_of_view : (c : ℕ) (allowed : Places) (o : Option ℕ) → IfNone o (HasNoneAllowed old c allowed) → IfNone o (HasNoneAllowedIn (view_in a) i c allowed)
+  pub none_of_view : (c : ℕ) (allowed : Places) (o : Option Found) → IfNone o (HasNoneAllowed old c allowed) → IfNone o (HasNoneAllowedIn (view_in a) i c allowed)
   none_of_view c allowed None none = none_in_view c allowed none
-  none_of_view c allowed (Some w) none = tt
+  none_of_view c allowed (Some f) none = tt

@@ -1,11 +1,11 @@
 -- How an offer is found: a lane that is free for the slot, a lane for the event, the event of the queue, the queue.
 use Rattle.std.proofs.Common.{◌≡◌, ◌≢◌, ℕ, ◌<◌, ◌≤◌, ◌%◌, Bool, true, false, cond, nat_lt, ◌&&◌, ◌==◌, List, [], ◌⊎◌, length, get_or, All, Option, Some, None, inl, inr, ⊎_elim, refl, sym, ap, ◌∙◌, subst, arith, eq-eqb, eqb-true}
 use Rattle.std.specs.Option.{IfSome, IfNone, is_some}
-use Rattle.std.proofs.lemmas.Bool.{and_from, and_parts, or_cases, or_left, or_right, cases_eq, false≢true, false_from_ne_true, ltb-true, lt-ltb}
+use Rattle.std.proofs.lemmas.Bool.{and_from, and_parts, or_cases, or_right, cases_eq, false≢true, false_from_ne_true, ltb-true, lt-ltb}
 use Rattle.std.proofs.lemmas.List.{get_or_default}
 use Rattle.transcripts.proofs.WholeStands.{offer_is_allowed, offer_is_accepted}
 use Rattle.transcripts.specs.Allowed.{Allowed}
-use Rattle.transcripts.specs.Choice.{Passed, Fits, HasNoOther, HasNone, HasNoChoice, HasQuota, IsBetterLane, IsChoice, IsOffer, IsServedBefore, WaitsIn, is_earlier}
+use Rattle.transcripts.specs.Choice.{Passed, Fits, HasNoOther, HasNone, HasQuota, IsBetterLane, IsChoice, IsOffer, IsServedBefore, WaitsIn, is_earlier}
 use Rattle.transcripts.specs.Lawful.{keeps_order}
 use Rattle.evt_types.specs.Plan.{Plan, queue_of, level_of, slot_of, serves, is_atomic, is_ordered}
 use Rattle.transcripts.specs.Standing.{View, Stands, waiting_at, unanswered_at}
@@ -19,10 +19,9 @@ use Rattle.evt_types.specs.declared.step.Step.TheVariants.{Give}
 use Rattle.place_set.specs.Places.{Has, IsEmpty, IsFirst, SameBut}
 use Rattle.place_set.specs.declared.places.Places.{Places}
 use Rattle.sched_core.specs.Inner.{slots_for}
-use Rattle.sched_core.specs.Offered.{numbered_in, FitsSlot, HasAllowed, HasNoneAllowedIn, HasNoneIn, HasNoneOfSlotIn, IsBestChoice, IsChoiceIn, IsChoiceOf, IsFirstIn, IsOfferIn, IsOfferOf, IsOldestIn, slot_at}
+use Rattle.sched_core.specs.Offered.{numbered_in, FitsSlot, HasAllowed, HasNoneAllowedIn, HasNoneIn, IsFirstIn, IsOfferIn, IsOfferOf, slot_at}
 use Rattle.sched_core.specs.Service.{IsServedFirst}
 use Rattle.sched_core.specs.declared.offer.Offer.{Offer}
-use Rattle.sched_core.specs.declared.propose.Choice.{Choice}
 
 -- ---- the better one of two lanes
 
@@ -113,18 +112,16 @@ not_earlier v s q c l left w least none offer u m waits fits =
     omega arith)
     (or_cases (nat_lt (level_of u.event) (level_of w.event)) ((level_of u.event == level_of w.event) && nat_lt u.number w.number) earlier))
 
-pub choice_first : (v : View) (s : Passed) (q c : ℕ) (left : Places) (o : Option Choice) → IsFirst left c → HasNoneBeside v s q left → IfSome o (IsChoiceIn v s q c) → IfSome o (IsChoiceOf v s q)
-choice_first v s q c left None least none choice = tt
-choice_first v s q c left (Some x) least none choice =
-    let offer = choice.offer in
-    record { waiting = choice.waiting; place = choice.place; offer = record { waits = offer.waits; fits = offer.fits; best = offer.best; first = not_earlier v s q c x.lane left choice.waiting least none offer } }
-
 -- an offer of the queue, and one of its level
 abbrev pub IsOfferFrom : View → Passed → ℕ → Offer → Type 0
 IsOfferFrom v s q y = (y.delivery.queue ≡ q) × IsOfferOf v s q y.lane (numbered_in y.delivery)
 
 abbrev pub IsOfferAt : View → Passed → ℕ → ℕ → Offer → Type 0
 IsOfferAt v s q c y = (y.delivery.queue ≡ q) × IsOfferIn v s q c y.lane (numbered_in y.delivery)
+
+-- the event is for the lane
+pub offer_made : (v : View) (s : Passed) (q c l : ℕ) (w : Numbered) (y : Offer) → y.lane ≡ l → y.delivery.queue ≡ q → numbered_in y.delivery ≡ w → IsOfferIn v s q c l w → IsOfferAt v s q c y
+offer_made v s q c l w y lane queue event offer = (queue, subst (λ k. IsOfferIn v s q c k (numbered_in y.delivery)) (sym lane) (subst (IsOfferIn v s q c l) (sym event) offer))
 
 pub offer_first : (v : View) (s : Passed) (q c : ℕ) (left : Places) (o : Option Offer) → IsFirst left c → HasNoneBeside v s q left → IfSome o (IsOfferAt v s q c) → IfSome o (IsOfferFrom v s q)
 offer_first v s q c left None least none offer = tt
@@ -141,120 +138,17 @@ NothingBeside v s left = (q : ℕ) → (¬ Has left q) → HasQuota v s q → Ha
 pub still : (n r : ℕ) (left rest : Places) → (¬ Has rest n) → SameBut n left rest → Has rest r → Has left r
 still n r left rest gone others has = ⊎_elim (λ e. absurd (gone (subst (Has rest) e has))) (λ ne. (others r ne).0 has) (cases_eq r n)
 
--- the choice of the queue that is served first of those that are left
-pub best_served : (v : View) (s : Passed) (n : ℕ) (left : Places) (o : Option Choice) → IsServedFirst v.shape left n → NothingBeside v s left → n < length v.shape.queues → HasQuota v s n → IfSome o (IsChoiceOf v s n) → IfSome o (IsBestChoice v s)
-best_served v s n left None first nothing there quota choice = tt
-best_served v s n left (Some x) first nothing there quota choice =
-    let e : x.queue ≡ n = choice.place.queue in
-    record {
-      there = omega arith;
-      quota = subst (HasQuota v s) (sym e) quota;
-      choice = subst (λ q. IsChoiceOf v s q x) (sym e) choice;
-      queue = λ r quota_r before. nothing r (λ has. first.first r has (subst (IsServedBefore v.shape r) e before)) quota_r;
-    }
-
 -- a queue's offer is the choice where the queues that are served before have none
 choice_is : (v : View) (s : Passed) (q l : ℕ) (w : Numbered) → q < length v.shape.queues → HasQuota v s q → IsOfferOf v s q l w → ((r : ℕ) → HasQuota v s r → IsServedBefore v.shape r q → HasNone v s r) → IsChoice v s l q w
 choice_is v s q l w there quota offer before = record { there = there; quota = quota; waits = offer.waits; fits = offer.fits; lane = offer.best; event = offer.first; queue = λ r _ quota first. before r quota first }
 
--- ---- the event that is read where the choice says
-
--- the oldest event of the place is as good as the level's one that was chosen
-oldest_at : (v : View) (s : Passed) (q c l : ℕ) (w u : Numbered) → IsOfferIn v s q c l w → IsOldestIn v q c (slot_at v q w) u → IsOfferIn v s q c l u
-oldest_at v s q c l w u offer oldest =
-    record {
-      level = oldest.level;
-      waits = oldest.waits;
-      fits = slot_fits v s l q u (subst (λ k. FitsSlot v s q k l) (sym oldest.slot) (fits_slot v s l q w offer.fits));
-      best = λ m fits. offer.best m (slot_fits v s m q w (subst (λ k. FitsSlot v s q k m) oldest.slot (fits_slot v s m q u fits)));
-      first = λ x m waits level fits. let le = offer.first x m waits level fits in let less = oldest.first w offer.waits offer.level refl in omega arith;
-    }
-
--- the level's offer is read where its choice says
-pub offer_there : (v : View) (s : Passed) (q c : ℕ) (x : Choice) (o : Option Offer) → IsChoiceIn v s q c x → IfSome o (λ y. (y.lane ≡ x.lane) × (y.delivery.queue ≡ x.queue)) → IfSome o (λ y. IsOldestIn v x.queue x.level x.slot (numbered_in y.delivery)) → IfSome o (IsOfferAt v s q c)
-offer_there v s q c x None choice place oldest = tt
-offer_there v s q c x (Some y) choice place oldest =
-    let w : Numbered = numbered_in y.delivery in
-    let at = choice.place in
-    let here : IsOldestIn v q c (slot_at v q choice.waiting) w =
-    subst (λ k. IsOldestIn v q c k w) (sym at.slot) (subst (λ k. IsOldestIn v q k x.slot w) (sym at.level ∙ choice.offer.level) (subst (λ k. IsOldestIn v k x.level x.slot w) at.queue oldest)) in
-    (place.1 ∙ at.queue, subst (λ l. IsOfferIn v s q c l w) (sym place.0) (oldest_at v s q c x.lane choice.waiting w choice.offer here))
-
--- an event waits where the level's choice says
-pub none_there : (v : View) (s : Passed) (q c : ℕ) (x : Choice) (o : Option Offer) → IsChoiceIn v s q c x → IfNone o (HasNoneOfSlotIn v x.queue x.level x.slot) → IfNone o (HasNoneIn v s q c)
-none_there v s q c x None choice gone =
-    let w = choice.waiting in
-    absurd (subst (λ k. HasNoneOfSlotIn v k x.level x.slot) choice.place.queue gone w choice.offer.waits choice.place.level choice.place.slot)
-none_there v s q c x (Some y) choice gone = tt
-
--- the oldest event of the place is as good as the one that was chosen
-oldest_too : (v : View) (s : Passed) (q l : ℕ) (w u : Numbered) → IsOfferOf v s q l w → IsOldestIn v q (level_of w.event) (slot_at v q w) u → IsOfferOf v s q l u
-oldest_too v s q l w u offer oldest =
-    record {
-      waits = oldest.waits;
-      fits = slot_fits v s l q u (subst (λ k. FitsSlot v s q k l) (sym oldest.slot) (fits_slot v s l q w offer.fits));
-      best = λ m fits. offer.best m (slot_fits v s m q w (subst (λ k. FitsSlot v s q k m) oldest.slot (fits_slot v s m q u fits)));
-      first = λ x m waits fits. later x (offer.first x m waits fits);
-    }
-  where
-    le : u.number ≤ w.number
-    le = oldest.first w offer.waits refl refl
-
-    later : (x : Numbered) → is_earlier x w ≡ false → is_earlier x u ≡ false
-    later x before =
-        false_from_ne_true (is_earlier x u) (λ earlier. false≢true (sym before ∙ ⊎_elim
-        (λ lower. or_left (nat_lt (level_of x.event) (level_of w.event)) ((level_of x.event == level_of w.event) && nat_lt x.number w.number) (lt-ltb _ _ (subst (λ n. level_of x.event < n) oldest.level (ltb-true _ _ lower))))
-        (λ same.
-        let parts = and_parts (level_of x.event == level_of u.event) (nat_lt x.number u.number) same in
-        let less : x.number < u.number = ltb-true _ _ parts.1 in
-        or_right (nat_lt (level_of x.event) (level_of w.event)) ((level_of x.event == level_of w.event) && nat_lt x.number w.number) (and_from _ _ (eq-eqb _ _ (eqb-true (level_of x.event) (level_of u.event) parts.0 ∙ oldest.level)) (lt-ltb x.number w.number (omega arith))))
-        (or_cases (nat_lt (level_of x.event) (level_of u.event)) ((level_of x.event == level_of u.event) && nat_lt x.number u.number) earlier)))
-
--- the oldest event of the place that the queue's choice names is the queue's offer
-read : (v : View) (s : Passed) (q : ℕ) (x : Choice) → IsChoiceOf v s q x → (w : Numbered) → IsOldestIn v x.queue x.level x.slot w → IsOfferOf v s q x.lane w
-read v s q x chosen w oldest =
-    oldest_too v s q x.lane chosen.waiting w chosen.offer
-    (subst (λ k. IsOldestIn v q (level_of chosen.waiting.event) k w) (sym chosen.place.slot)
-    (subst (λ k. IsOldestIn v q k x.slot w) (sym chosen.place.level) (subst (λ k. IsOldestIn v k x.level x.slot w) chosen.place.queue oldest)))
-
--- the queue's offer is read where its choice says
-pub offer_read : (v : View) (s : Passed) (q : ℕ) (x : Choice) (o : Option Offer) → IsChoiceOf v s q x → IfSome o (λ y. (y.lane ≡ x.lane) × (y.delivery.queue ≡ x.queue)) → IfSome o (λ y. IsOldestIn v x.queue x.level x.slot (numbered_in y.delivery)) → IfSome o (IsOfferFrom v s q)
-offer_read v s q x None choice place oldest = tt
-offer_read v s q x (Some y) choice place oldest = (place.1 ∙ choice.place.queue, subst (λ l. IsOfferOf v s q l (numbered_in y.delivery)) (sym place.0) (read v s q x choice (numbered_in y.delivery) oldest))
-
--- an event waits where the queue's choice says
-pub none_read : (v : View) (s : Passed) (q : ℕ) (x : Choice) (o : Option Offer) → IsChoiceOf v s q x → IfNone o (HasNoneOfSlotIn v x.queue x.level x.slot) → IfNone o (HasNone v s q)
-none_read v s q x None choice gone = absurd (subst (λ k. HasNoneOfSlotIn v k x.level x.slot) choice.place.queue gone choice.waiting choice.offer.waits choice.place.level choice.place.slot)
-none_read v s q x (Some y) choice gone = tt
-
-module _ (v : View) (s : Passed) (x : Choice) (best : IsBestChoice v s x) where
-  -- the offer of all queues is the choice
-  pub best_choice : (o : Option Offer) → IfSome o (λ y. (y.lane ≡ x.lane) × (y.delivery.queue ≡ x.queue)) → IfSome o (λ y. IsOldestIn v x.queue x.level x.slot (numbered_in y.delivery)) → IfSome o (λ y. IsChoice v s y.lane y.delivery.queue (numbered_in y.delivery))
-  best_choice None place oldest = tt
-  best_choice (Some y) place oldest =
-      subst (λ l. IsChoice v s l y.delivery.queue (numbered_in y.delivery)) (sym place.0)
-      (subst (λ q. IsChoice v s x.lane q (numbered_in y.delivery)) (sym place.1)
-      (choice_is v s x.queue x.lane (numbered_in y.delivery) best.there best.quota (read v s x.queue x best.choice (numbered_in y.delivery) oldest) best.queue))
-
-  -- an event waits where the choice says
-  pub best_there : (o : Option Offer) → IfNone o (HasNoneOfSlotIn v x.queue x.level x.slot) → IfNone o (HasNoChoice v s)
-  best_there None gone = absurd (gone best.choice.waiting best.choice.offer.waits best.choice.place.level best.choice.place.slot)
-  best_there (Some y) gone = tt
-
--- something waits in one queue alone
-module _ (v : View) (s : Passed) (n : ℕ) (others : (r : ℕ) → r ≢ n → HasNone v s r) where
-  pub alone_choice : (o : Option Offer) → n < length v.shape.queues → HasQuota v s n → IfSome o (IsOfferFrom v s n) → IfSome o (λ y. IsChoice v s y.lane y.delivery.queue (numbered_in y.delivery))
-  alone_choice None there quota offer = tt
-  alone_choice (Some y) there quota offer =
-      subst (λ q. IsChoice v s y.lane q (numbered_in y.delivery)) (sym offer.0)
-      (choice_is v s n y.lane (numbered_in y.delivery) there quota offer.1 (λ r _ before. others r (λ e. not_before (subst (λ k. IsServedBefore v.shape k n) e before))))
-    where
-      not_before : ¬ IsServedBefore v.shape n n
-      not_before (inl less) = omega arith
-      not_before (inr same) = let less = same.1 in omega arith
-
-  pub alone_none : (HasQuota v s n → HasNone v s n) → HasNoChoice v s
-  alone_none none r _ quota = ⊎_elim (λ e. subst (HasNone v s) (sym e) (none (subst (HasQuota v s) e quota))) (others r) (cases_eq r n)
+-- so is the offer of the queue that is served first of those that are left
+pub served_offer : (v : View) (s : Passed) (n : ℕ) (left : Places) (o : Option Offer) → IsServedFirst v.shape left n → NothingBeside v s left → n < length v.shape.queues → HasQuota v s n → IfSome o (IsOfferFrom v s n)
+    → IfSome o (λ y. IsChoice v s y.lane y.delivery.queue (numbered_in y.delivery))
+served_offer v s n left None first nothing there quota offer = tt
+served_offer v s n left (Some y) first nothing there quota offer =
+    subst (λ q. IsChoice v s y.lane q (numbered_in y.delivery)) (sym offer.0)
+    (choice_is v s n y.lane (numbered_in y.delivery) there quota offer.1 (λ r quota_r before. nothing r (λ has. first.first r has before) quota_r))
 
 -- where nothing waits nothing is offered
 pub none_waits : (v : View) (s : Passed) (q : ℕ) → waiting_at v q ≡ [] → HasNone v s q

@@ -1,6 +1,6 @@
 -- What is offered, and to whom.
-use Rattle.std.specs.Prelude.{ℕ, ◌≡◌, ◌≢◌, ◌<◌, ◌≤◌, ◌↔◌, false, true, length, nat_le, if◌then◌else◌}
-use Rattle.transcripts.specs.Choice.{Passed, Fits, HasNone, HasNoOther, HasQuota, IsBetterLane, IsServedBefore, WaitsIn, has_bounced, is_earlier}
+use Rattle.std.specs.Prelude.{ℕ, ◌≡◌, ◌<◌, ◌≤◌, ◌↔◌, false, true, length, nat_le, if◌then◌else◌}
+use Rattle.transcripts.specs.Choice.{Passed, Fits, HasNoOther, IsBetterLane, WaitsIn, has_bounced, is_earlier}
 use Rattle.evt_types.specs.Plan.{lanes_of, depth_of, queue_of, level_of, serves, slot_of, is_atomic, is_ordered}
 use Rattle.transcripts.specs.Standing.{View, places_at, unanswered_at}
 use Rattle.place_set.specs.Places.{Has}
@@ -8,7 +8,6 @@ use Rattle.place_set.specs.declared.places.Places.{Places}
 use Rattle.sched_core.specs.Inner.{slots_for}
 use Rattle.evt_types.specs.declared.event.Delivery.{Delivery}
 use Rattle.evt_types.specs.declared.event.Numbered.{Numbered}
-use Rattle.sched_core.specs.declared.propose.Choice.{Choice}
 
 -- a delivery's event with its number
 abbrev pub numbered_in : Delivery → Numbered
@@ -62,23 +61,6 @@ pub record IsFirstIn (v : View) (q c : ℕ) (allowed : Places) (w : Numbered) : 
   pub slot : Has allowed (slot_at v q w)
   pub first : (u : Numbered) → WaitsIn v q u → level_of u.event ≡ c → Has allowed (slot_at v q u) → w.number ≤ u.number
 
--- the slot is that of the level's first event whose slot is allowed
-pub record IsFirstSlotIn (v : View) (q c : ℕ) (allowed : Places) (slot : ℕ) : Type 0 where
-  pub waiting : Numbered
-  pub first : IsFirstIn v q c allowed waiting
-  pub is : slot ≡ slot_at v q waiting
-
--- the event waits in the queue, is of the level and the slot, and no older one is so
-pub record IsOldestIn (v : View) (q c s : ℕ) (w : Numbered) : Type 0 where
-  pub waits : WaitsIn v q w
-  pub level : level_of w.event ≡ c
-  pub slot : slot_at v q w ≡ s
-  pub first : (u : Numbered) → WaitsIn v q u → level_of u.event ≡ c → slot_at v q u ≡ s → w.number ≤ u.number
-
--- no event of the level and the slot waits in the queue
-abbrev pub HasNoneOfSlotIn : View → ℕ → ℕ → ℕ → Type 0
-HasNoneOfSlotIn v q c s = (w : Numbered) → WaitsIn v q w → level_of w.event ≡ c → slot_at v q w ≢ s
-
 -- no event of the queue's level has an allowed slot
 abbrev pub HasNoneAllowedIn : View → ℕ → ℕ → Places → Type 0
 HasNoneAllowedIn v q c allowed = (w : Numbered) → WaitsIn v q w → level_of w.event ≡ c → ¬ Has allowed (slot_at v q w)
@@ -101,33 +83,6 @@ pub record IsOfferOf (v : View) (s : Passed) (q l : ℕ) (w : Numbered) : Type 0
   pub fits : Fits v s l q w
   pub best : (m : ℕ) → Fits v s m q w → ¬ IsBetterLane v m l
   pub first : (u : Numbered) (m : ℕ) → WaitsIn v q u → Fits v s m q u → is_earlier u w ≡ false
-
--- what is chosen says where an event of the queue waits
-pub record IsPlaceOf (v : View) (q : ℕ) (x : Choice) (w : Numbered) : Type 0 where
-  pub queue : x.queue ≡ q
-  pub low : x.level < 4
-  pub few : x.slot < slots_for v.shape q
-  pub level : level_of w.event ≡ x.level
-  pub slot : slot_at v q w ≡ x.slot
-
--- of the queue's level the place of the first event that a lane may take, and the best lane for it
-pub record IsChoiceIn (v : View) (s : Passed) (q c : ℕ) (x : Choice) : Type 0 where
-  pub waiting : Numbered
-  pub place : IsPlaceOf v q x waiting
-  pub offer : IsOfferIn v s q c x.lane waiting
-
--- the place of the queue's first event that a lane may take, by level and then number, and the best lane for it
-pub record IsChoiceOf (v : View) (s : Passed) (q : ℕ) (x : Choice) : Type 0 where
-  pub waiting : Numbered
-  pub place : IsPlaceOf v q x waiting
-  pub offer : IsOfferOf v s q x.lane waiting
-
--- of all queues the choice of the one that is served first, among those of which something may be given in the sweep
-pub record IsBestChoice (v : View) (s : Passed) (x : Choice) : Type 0 where
-  pub there : x.queue < length v.shape.queues
-  pub quota : HasQuota v s x.queue
-  pub choice : IsChoiceOf v s x.queue x
-  pub queue : (r : ℕ) → HasQuota v s r → IsServedBefore v.shape r x.queue → HasNone v s r
 
 -- of the lane found so far and a later one, the one with fewer unanswered events
 abbrev pub better_of : View → ℕ → ℕ → ℕ

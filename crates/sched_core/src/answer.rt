@@ -26,14 +26,14 @@ fn forward_of(outcome: Outcome) -> Option<Event>
 impl Core {
     /// The event waits in its queue, under the next number.
     #[inline(always)]
-    pub(crate) fn accept<L: StepLog>(&mut self, event: Event, source: Source, log: &mut L)
-        requires queue { event.queue < length self.old.shape.queues }
+    pub(crate) fn accept<L: StepLog>(&mut self, event: &Event, source: Source, log: &mut L)
+        requires queue { event.now.queue < length self.old.shape.queues }
         requires inside { inside_of self.old < bound_of self.old.shape }
         requires entries { entries_of self.old < 2 ^ 63 }
         requires room { 0 < L.room log.old }
-        ensures view { self.new ≡ after_accept self.old event.queue event }
+        ensures view { self.new ≡ after_accept self.old event.now.queue event.now }
         ensures counts { (inside_of self.new ≡ inside_of self.old + 1) × (entries_of self.new ≡ entries_of self.old + 1) }
-        ensures logged { L.steps log.new ≡ L.steps log.old ++ Step.Accept event.queue event source ∷ [] }
+        ensures logged { L.steps log.new ≡ L.steps log.old ++ Step.Accept event.now.queue event.now source ∷ [] }
         ensures room { L.room log.old ≤ L.room log.new + 1 }
     {
         let queue = usize::from(event.queue);
@@ -42,7 +42,7 @@ impl Core {
         self.entries += 1;
         log.push_step(Step::Accept {
             queue,
-            event,
+            event: *event,
             source,
         });
     }
@@ -64,31 +64,34 @@ impl Core {
         ensures room { L.room log.old ≤ L.room log.new + length events.now }
     {
         for event in events {
-            self.accept(*event, Source::Of { queue, number }, log);
+            self.accept(event, Source::Of { queue, number }, log);
         }
     }
 
     /// The event is added beside the lane's oldest unanswered one. An ordered queue's event keeps it in its place.
-    pub(crate) fn add<L: StepLog>(&mut self, lane: usize, event: Event, log: &mut L) -> Entry
+    pub(crate) fn add<L: StepLog>(&mut self, lane: usize, event: &Event, log: &mut L) -> Entry
         requires lane { lane < lanes_of self.old.shape }
-        requires may { may_add self.old lane event.queue ≡ true }
+        requires may { may_add self.old lane event.now.queue ≡ true }
         requires room { 0 < L.room log.old }
         ensures oldest { oldest_at self.old lane ≡ Some (held_of result) }
         ensures queue { result.queue < length self.old.shape.queues }
-        ensures view { self.new ≡ after_more self.old lane event }
-        ensures logged { L.steps log.new ≡ L.steps log.old ++ Step.More lane event ∷ [] }
+        ensures view { self.new ≡ after_more self.old lane event.now }
+        ensures logged { L.steps log.new ≡ L.steps log.old ++ Step.More lane event.now ∷ [] }
         ensures inside { is_ordered (queue_of self.old.shape result.queue).kind ≡ false → inside_of self.new < bound_of self.old.shape }
         ensures entries { is_ordered (queue_of self.old.shape result.queue).kind ≡ false → entries_of self.new < 2 ^ 63 }
         ensures room { L.room log.old ≤ L.room log.new + 1 }
     {
         let entry = self.lanes.oldest(lane);
         self.extras[lane] += 1;
-        let kept = self.orders.add(entry.queue, entry.place, event);
+        let kept = self.orders.add(entry.queue, entry.place, *event);
         if kept {
             self.inside += 1;
             self.entries += 1;
         }
-        log.push_step(Step::More { lane, event });
+        log.push_step(Step::More {
+            lane,
+            event: *event,
+        });
         entry
     }
 

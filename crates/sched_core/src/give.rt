@@ -28,16 +28,13 @@ impl Core {
     {
         let Offer {
             lane,
-            delivery: Delivery {
-                event,
-                queue,
-                number,
-            },
-            ..
+            delivery: Delivery { queue, number, .. },
+            level,
+            flow,
         } = offer;
         let place = self.orders.hand(queue, number);
-        let slot = self.queues.slot_offered(&offer);
-        self.queues.remove(queue, event.level(), slot, number);
+        let slot = self.queues.slot_of(queue, flow);
+        self.queues.remove(queue, level, slot, number);
         self.pins.pin(queue, slot, lane);
         self.lanes.push(
             lane,

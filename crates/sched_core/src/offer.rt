@@ -1,17 +1,44 @@
 //! What the core proposes to give.
 
-ghost use Rattle.std.specs.Prelude.{◌≡◌, ◌%◌};
+ghost use Rattle.std.specs.Prelude.{◌≡◌};
+ghost use Rattle.evt_types.specs.Plan.{level_of};
+ghost use Rattle.sched_core.specs.Offered.{numbered_in};
 
-use evt_types::Delivery;
+use evt_types::{Delivery, Numbered};
+use parked_queue::Found;
 
 /// An event that may be given to a lane.
 #[derive(Clone, Copy, Debug, PartialEq, Eq)]
 pub struct Offer {
     pub lane: usize,
     pub delivery: Delivery,
-    /// Of so many slots ...
-    pub(crate) slots: usize,
-    /// ... the event's one, so that it isn't computed again where the event is given.
-    pub(crate) slot: usize,
-    ghost slot_is: { slot ≡ delivery.event.flow % slots },
+    /// The event's level and its flow, so that the event itself is only copied whole where it is given.
+    pub(crate) level: usize,
+    pub(crate) flow: u32,
+    ghost level_is: { level ≡ level_of delivery.event },
+    ghost flow_is: { flow ≡ delivery.event.flow },
+}
+
+impl Offer {
+    /// The event that was found at the level of the queue, for the lane.
+    #[inline(always)]
+    pub(crate) fn of(queue: usize, level: usize, lane: usize, found: Found) -> Offer
+        requires { level ≡ level_of found.waiting.event }
+        ensures lane { result.lane ≡ lane }
+        ensures queue { result.delivery.queue ≡ queue }
+        ensures event { numbered_in result.delivery ≡ found.waiting }
+    {
+        let Found { flow, waiting, .. } = found;
+        let Numbered { number, event } = waiting;
+        Offer {
+            lane,
+            delivery: Delivery {
+                event,
+                queue,
+                number,
+            },
+            level,
+            flow,
+        }
+    }
 }

@@ -1,6 +1,6 @@
 //! The choice of the event that is given next, and of its lane.
 
-ghost use Rattle.std.specs.Prelude.{◌≡◌, ◌≢◌, ℕ, ◌<◌, List, length, Some, IsTrue, IfSome, IfNone};
+ghost use Rattle.std.specs.Prelude.{◌≡◌, ℕ, ◌<◌, List, length, Some, IsTrue, IfSome, IfNone};
 ghost use Rattle.transcripts.specs.Allowed.{Allowed};
 ghost use Rattle.transcripts.specs.Choice.{HasNone, HasNoChoice, IsChoice, IsOffer};
 ghost use Rattle.transcripts.specs.Standing.{Stands};
@@ -8,15 +8,13 @@ ghost use Rattle.place_set.specs.Places.{Has, IsEmpty};
 ghost use Rattle.transcripts.specs.Transcript.{event_at};
 ghost use Rattle.evt_types.specs.declared.step.Step.{Step as StepValue};
 ghost use Rattle.evt_types.specs.declared.step.Step.TheVariants as steps;
-ghost use Rattle.sched_core.specs.Inner.{slots_for};
-ghost use Rattle.sched_core.specs.Offered.{numbered_in, AreOpenLanes, HasAllowed, HasNoneAllowedIn, HasNoneIn, HasNoneOfSlotIn, IsBestChoice, IsChoiceIn, IsChoiceOf, IsFirstIn, IsFirstSlotIn, IsOfferIn, IsOfferOf, IsOldestIn, slot_at};
+ghost use Rattle.sched_core.specs.Offered.{numbered_in, AreOpenLanes, HasAllowed, HasNoneAllowedIn, HasNoneIn, IsFirstIn, IsOfferIn, IsOfferOf, slot_at};
 ghost use Rattle.sched_core.specs.Service.{IsServedFirst};
 
 use crate::offer::Offer;
 use crate::skips::Skips;
 use crate::slot_lanes::SLOTS;
 use crate::state::Core;
-use evt_types::{Delivery, Numbered};
 use parked_queue::Found;
 use place_set::{MAX_PLACES, Places};
 
@@ -32,62 +30,14 @@ impl Core {
         ensures offer { IfSome result (λ o. IsOffer self.old o.lane o.delivery.queue (numbered_in o.delivery)) }
         ensures keeps { (T : List StepValue) → Stands T self.old → IfSome result (λ o. Allowed self.old.shape T (steps.Give o.lane o.delivery.queue o.delivery.number) × (event_at T o.delivery.queue o.delivery.number ≡ Some o.delivery.event)) }
     {
-        let mut left = self.queues.busy();
-        let Some(queue) = left.pop() else {
-            return None;
-        };
-        if left.is_empty() {
-            self.offer_alone(queue, skips)
-        } else {
-            self.offer_among(skips)
-        }
-    }
-
-    /// The same, where something waits in this queue alone.
-    #[inline(always)]
-    fn offer_alone(&mut self, queue: usize, skips: &Skips) -> Option<Offer>
-        requires queue { queue < length self.old.shape.queues }
-        requires others { (r : ℕ) → r ≢ queue → HasNone self.old skips.now r }
-        ensures same { self.new ≡ self.old }
-        ensures choice { IfSome result (λ o. IsChoice self.old skips.now o.lane o.delivery.queue (numbered_in o.delivery)) }
-        ensures none { IfNone result (HasNoChoice self.old skips.now) }
-    {
-        let sweep = self.shape.sweep();
-        if skips.has_quota(queue, sweep) {
-            self.offer_from(queue, skips)
-        } else {
-            None
-        }
-    }
-
-    /// The same, where something waits in several queues.
-    #[inline(always)]
-    fn offer_among(&mut self, skips: &Skips) -> Option<Offer>
-        ensures same { self.new ≡ self.old }
-        ensures choice { IfSome result (λ o. IsChoice self.old skips.now o.lane o.delivery.queue (numbered_in o.delivery)) }
-        ensures none { IfNone result (HasNoChoice self.old skips.now) }
-    {
-        match self.best_choice(skips) {
-            Some(choice) => self.offer_of(choice),
-            None => None,
-        }
-    }
-
-    /// The choice of the queue that is served first among those that have one.
-    #[cold]
-    fn best_choice(&mut self, skips: &Skips) -> Option<Choice>
-        ensures same { self.new ≡ self.old }
-        ensures choice { IfSome result (IsBestChoice self.old skips.now) }
-        ensures none { IfNone result (HasNoChoice self.old skips.now) }
-    {
         let sweep = self.shape.sweep();
         let mut left = self.queues.busy();
         while let Some(queue) = self.first_served(left) {
             left.remove(queue);
             if skips.has_quota(queue, sweep) {
-                let choice = self.choice_of(queue, skips);
-                if choice.is_some() {
-                    return choice;
+                let offer = self.offer_from(queue, skips);
+                if offer.is_some() {
+                    return offer;
                 }
             }
         }
@@ -108,39 +58,6 @@ impl Core {
         Some(first)
     }
 
-    /// The chosen event, which is read only now.
-    #[inline(always)]
-    fn offer_of(&mut self, choice: Choice) -> Option<Offer>
-        requires queue { choice.queue < length self.old.shape.queues }
-        requires level { choice.level < 4 }
-        requires slot { choice.slot < slots_for self.old.shape choice.queue }
-        ensures same { self.new ≡ self.old }
-        ensures lane { IfSome result (λ o. (o.lane ≡ choice.lane) × (o.delivery.queue ≡ choice.queue)) }
-        ensures oldest { IfSome result (λ o. IsOldestIn self.old choice.queue choice.level choice.slot (numbered_in o.delivery)) }
-        ensures none { IfNone result (HasNoneOfSlotIn self.old choice.queue choice.level choice.slot) }
-    {
-        let Choice {
-            queue,
-            level,
-            slot,
-            lane,
-        } = choice;
-        let slots = self.queues.slots(queue);
-        match self.queues.oldest(queue, level, slot) {
-            Some(Numbered { number, event }) => Some(Offer {
-                lane,
-                delivery: Delivery {
-                    event,
-                    queue,
-                    number,
-                },
-                slots,
-                slot,
-            }),
-            None => None,
-        }
-    }
-
     /// The queue's first event that some lane may take, by level and then number, for the best lane.
     #[inline(always)]
     fn offer_from(&mut self, queue: usize, skips: &Skips) -> Option<Offer>
@@ -153,41 +70,13 @@ impl Core {
         let _ = &self.shape;
         let lanes = self.open_lanes(queue, skips);
         let mut left = self.queues.levels(queue);
-        let Some(level) = left.pop() else {
-            return None;
-        };
-        let offer = self.offer_in(queue, level, lanes, skips);
-        if offer.is_some() {
-            return offer;
+        while let Some(level) = left.pop() {
+            let offer = self.offer_in(queue, level, lanes, skips);
+            if offer.is_some() {
+                return offer;
+            }
         }
-        if left.is_empty() {
-            None
-        } else {
-            self.offer_below(queue, left, lanes, skips)
-        }
-    }
-
-    /// The same, where nothing may be given of any level but these.
-    #[inline(always)]
-    fn offer_below(
-        &mut self,
-        queue: usize,
-        levels: Places,
-        lanes: Places,
-        skips: &Skips,
-    ) -> Option<Offer>
-        requires queue { queue < length self.old.shape.queues }
-        requires lanes { AreOpenLanes self.old skips.now queue lanes }
-        requires levels { (c : ℕ) → Has levels c → c < 4 }
-        requires others { (c : ℕ) → ¬ Has levels c → HasNoneIn self.old skips.now queue c }
-        ensures same { self.new ≡ self.old }
-        ensures offer { IfSome result (λ o. (o.delivery.queue ≡ queue) × IsOfferOf self.old skips.now queue o.lane (numbered_in o.delivery)) }
-        ensures none { IfNone result (HasNone self.old skips.now queue) }
-    {
-        match self.choice_below(queue, levels, lanes, skips) {
-            Some(choice) => self.offer_of(choice),
-            None => None,
-        }
+        None
     }
 
     /// The first event of the queue's level that some lane may take, for the best lane. Mostly none of the level is set aside, and
@@ -244,23 +133,12 @@ impl Core {
     {
         // The use of a field makes known what holds of each core.
         let _ = &self.shape;
-        let Found { slot, waiting } = self.head_in(queue, level, allowed)?;
-        let lane = self.lane_for(queue, slot, lanes, skips)?;
-        let slots = self.queues.slots(queue);
-        let Numbered { number, event } = waiting;
-        Some(Offer {
-            lane,
-            delivery: Delivery {
-                event,
-                queue,
-                number,
-            },
-            slots,
-            slot,
-        })
+        let found = self.head_in(queue, level, allowed)?;
+        let lane = self.lane_for(queue, found.slot, lanes, skips)?;
+        Some(Offer::of(queue, level, lane, found))
     }
 
-    /// The first event of the queue's level whose slot is allowed, with the slot, where it is found at once.
+    /// The first event of the queue's level whose slot is allowed, where it is found at once.
     #[inline(always)]
     fn head_in(&self, queue: usize, level: usize, allowed: Places) -> Option<Found>
         requires queue { queue < length self.now.shape.queues }
@@ -282,8 +160,9 @@ impl Core {
         self.queues.is_blocked(queue, level, allowed)
     }
 
-    /// The first event of the queue's level that some lane may take, for the best lane, as it is searched.
-    #[inline(always)]
+    /// The first event of the queue's level that some lane may take, for the best lane, as it is searched. A slot whose event no
+    /// lane may take is asked once.
+    #[cold]
     fn offer_behind(
         &mut self,
         queue: usize,
@@ -300,109 +179,29 @@ impl Core {
         ensures offer { IfSome result (λ o. (o.delivery.queue ≡ queue) × IsOfferIn self.old skips.now queue level o.lane (numbered_in o.delivery)) }
         ensures none { IfNone result (HasNoneIn self.old skips.now queue level) }
     {
-        match self.choice_in(queue, level, lanes, allowed, skips) {
-            Some(choice) => self.offer_of(choice),
-            None => None,
-        }
-    }
-
-    /// The queue's first event that some lane may take, by level and then number.
-    #[cold]
-    fn choice_of(&mut self, queue: usize, skips: &Skips) -> Option<Choice>
-        requires { queue < length self.old.shape.queues }
-        ensures same { self.new ≡ self.old }
-        ensures choice { IfSome result (IsChoiceOf self.old skips.now queue) }
-        ensures none { IfNone result (HasNone self.old skips.now queue) }
-    {
-        // The use of a field makes known what holds of each core.
-        let _ = &self.shape;
-        let lanes = self.open_lanes(queue, skips);
-        let levels = self.queues.levels(queue);
-        self.choice_below(queue, levels, lanes, skips)
-    }
-
-    /// The same, where nothing may be given of any level but these.
-    #[cold]
-    fn choice_below(
-        &mut self,
-        queue: usize,
-        levels: Places,
-        lanes: Places,
-        skips: &Skips,
-    ) -> Option<Choice>
-        requires queue { queue < length self.old.shape.queues }
-        requires lanes { AreOpenLanes self.old skips.now queue lanes }
-        requires levels { (c : ℕ) → Has levels c → c < 4 }
-        requires others { (c : ℕ) → ¬ Has levels c → HasNoneIn self.old skips.now queue c }
-        ensures same { self.new ≡ self.old }
-        ensures choice { IfSome result (IsChoiceOf self.old skips.now queue) }
-        ensures none { IfNone result (HasNone self.old skips.now queue) }
-    {
-        let allowed = self.allowed(queue, lanes, skips);
-        let mut left = levels;
-        while let Some(level) = left.pop() {
-            let choice = self.choice_in(queue, level, lanes, allowed, skips);
-            if choice.is_some() {
-                return choice;
-            }
-        }
-        None
-    }
-
-    /// The first event of the queue's level that some lane may take. A slot whose event no lane may take is asked once.
-    #[cold]
-    fn choice_in(
-        &mut self,
-        queue: usize,
-        level: usize,
-        lanes: Places,
-        allowed: Places,
-        skips: &Skips,
-    ) -> Option<Choice>
-        requires queue { queue < length self.old.shape.queues }
-        requires level { level < 4 }
-        requires lanes { AreOpenLanes self.old skips.now queue lanes }
-        requires allowed { HasAllowed self.old skips.now queue allowed }
-        ensures same { self.new ≡ self.old }
-        ensures choice { IfSome result (IsChoiceIn self.old skips.now queue level) }
-        ensures none { IfNone result (HasNoneIn self.old skips.now queue level) }
-    {
         // The use of a field makes known what holds of each core.
         let _ = &self.shape;
         let mut left = allowed;
-        while let Some(slot) = self.first_in(queue, level, left) {
-            if let Some(lane) = self.lane_for(queue, slot, lanes, skips) {
-                return Some(Choice {
-                    queue,
-                    level,
-                    slot,
-                    lane,
-                });
+        while let Some(found) = self.first_in(queue, level, left) {
+            if let Some(lane) = self.lane_for(queue, found.slot, lanes, skips) {
+                return Some(Offer::of(queue, level, lane, found));
             }
-            left.remove(slot);
+            left.remove(found.slot);
         }
         None
     }
 
-    /// The slot of the first event of the queue's level whose slot is allowed.
+    /// The first event of the queue's level whose slot is allowed.
     #[inline(always)]
-    fn first_in(&mut self, queue: usize, level: usize, allowed: Places) -> Option<usize>
+    fn first_in(&mut self, queue: usize, level: usize, allowed: Places) -> Option<Found>
         requires queue { queue < length self.old.shape.queues }
         requires level { level < 4 }
         ensures same { self.new ≡ self.old }
-        ensures first { IfSome result (IsFirstSlotIn self.old queue level allowed) }
-        ensures few { IfSome result (λ slot. slot < SLOTS) }
+        ensures first { IfSome result (λ f. IsFirstIn self.old queue level allowed f.waiting) }
+        ensures slot { IfSome result (λ f. f.slot ≡ slot_at self.old queue f.waiting) }
+        ensures few { IfSome result (λ f. f.slot < SLOTS) }
         ensures none { IfNone result (HasNoneAllowedIn self.old queue level allowed) }
     {
         self.queues.first(queue, level, allowed)
     }
-}
-
-/// The oldest event of a queue's level and slot, and the lane that it is for.
-#[derive(Clone, Copy, Debug)]
-pub(crate) struct Choice {
-    pub(crate) queue: usize,
-    pub(crate) level: usize,
-    pub(crate) slot: usize,
-    pub(crate) lane: usize,
 }

@@ -1,14 +1,12 @@
 //! What waits in all queues.
 
-ghost use Rattle.std.specs.Prelude.{◌≡◌, ◌+◌, ◌<◌, ◌≤◌, ◌^◌, ◌++◌, length, map, slice_set, vec_len, vec_capacity, IsTrue, IfOk, IfSome, IfNone};
-ghost use Rattle.parked_queue.specs.Waits.{AreLevels, AreSlots, AreWaits, HasNoneAllowed, HasNoneOfSlot, IsFirstAllowed, IsFirstSlot, IsOldest, IsOnlyOf, all_waiting, slot_of, waits_at, with_event, without_number};
+ghost use Rattle.std.specs.Prelude.{◌≡◌, ◌+◌, ◌<◌, ◌≤◌, ◌^◌, ◌%◌, ◌++◌, length, map, slice_set, vec_len, vec_capacity, IsTrue, IfOk, IfSome, IfNone};
+ghost use Rattle.parked_queue.specs.Waits.{AreLevels, AreSlots, AreWaits, HasNoneAllowed, IsFirstAllowed, IsOnlyOf, all_waiting, slot_of, waits_at, with_event, without_number};
 ghost use Rattle.sched_core.specs.Inner.{AreEmptyQueues, queue_slots, slots_for};
-ghost use Rattle.sched_core.specs.Offered.{numbered_in};
 ghost use Rattle.sched_core.specs.Busy.{AreBusy};
 ghost use Rattle.waiting_lists.specs.Lists.{delivery_of};
 
-use crate::offer::Offer;
-use evt_types::{Delivery, Event, MAX_SLOTS, Numbered, Shape};
+use evt_types::{Delivery, Event, MAX_SLOTS, Shape};
 use parked_queue::{Found, ParkedQueues};
 use place_set::Places;
 use std::alloc::{AllocError, Global};
@@ -102,53 +100,25 @@ impl AllQueues {
 
     /// Lets the event wait in the queue, under the queue's next number.
     #[inline(always)]
-    pub fn accept(&mut self, queue: usize, event: Event)
+    pub fn accept(&mut self, queue: usize, event: &Event)
         requires there { queue < length self.old }
         requires room { all_waiting self.old < (waits_at self.old queue).room }
         requires numbers { (waits_at self.old queue).next < 2 ^ 63 }
-        ensures value { self.new ≡ slice_set self.old queue (with_event (waits_at self.old queue) event) }
-        ensures waits { AreWaits (with_event (waits_at self.old queue) event) }
+        ensures value { self.new ≡ slice_set self.old queue (with_event (waits_at self.old queue) event.now) }
+        ensures waits { AreWaits (with_event (waits_at self.old queue) event.now) }
     {
         self.queues.accept(queue, event);
         self.busy.add(queue);
     }
 
-    /// The slot of an event of the queue.
-    pub fn slot_of(&self, queue: usize, waiting: &Numbered) -> usize
+    /// The slot of a flow of the queue.
+    #[inline(always)]
+    pub fn slot_of(&self, queue: usize, flow: u32) -> usize
         requires { queue < length self.now }
-        ensures value { result ≡ slot_of (waits_at self.now queue).slots waiting.now }
+        ensures value { result ≡ flow % (waits_at self.now queue).slots }
         ensures within { result < (waits_at self.now queue).slots }
     {
-        self.queues.slot_of(queue, waiting)
-    }
-
-    /// How many slots the queue has, one at least.
-    #[inline(always)]
-    pub fn slots(&self, queue: usize) -> usize
-        requires { queue < length self.now }
-        ensures value { result ≡ (waits_at self.now queue).slots }
-        ensures some { 0 < result }
-    {
-        self.queues.slots(queue)
-    }
-
-    /// The slot of what is offered. It came with the offer, and is computed again only where that was made for other slots.
-    #[inline(always)]
-    pub fn slot_offered(&self, offer: &Offer) -> usize
-        requires { offer.now.delivery.queue < length self.now }
-        ensures value { result ≡ slot_of (waits_at self.now offer.now.delivery.queue).slots (numbered_in offer.now.delivery) }
-        ensures within { result < (waits_at self.now offer.now.delivery.queue).slots }
-    {
-        let Delivery {
-            event,
-            queue,
-            number,
-        } = offer.delivery;
-        if offer.slots == self.slots(queue) {
-            offer.slot
-        } else {
-            self.slot_of(queue, &Numbered { number, event })
-        }
+        self.queues.slot_of(queue, flow)
     }
 
     /// The first event of the queue's level whose slot is allowed, where it is the first of the level's own list.
@@ -173,30 +143,18 @@ impl AllQueues {
         self.queues.is_blocked(queue, level, allowed)
     }
 
-    /// The slot of the first event of the queue's level whose slot is allowed.
+    /// The first event of the queue's level whose slot is allowed.
     #[inline(always)]
-    pub fn first(&mut self, queue: usize, level: usize, allowed: Places) -> Option<usize>
+    pub fn first(&mut self, queue: usize, level: usize, allowed: Places) -> Option<Found>
         requires there { queue < length self.old }
         requires level { level < 4 }
         ensures same { self.new ≡ self.old }
-        ensures first { IfSome result (IsFirstSlot (waits_at self.old queue) level allowed) }
+        ensures first { IfSome result (λ f. IsFirstAllowed (waits_at self.old queue) level allowed f.waiting) }
+        ensures slot { IfSome result (λ f. f.slot ≡ slot_of (waits_at self.old queue).slots f.waiting) }
         ensures none { IfNone result (HasNoneAllowed (waits_at self.old queue) level allowed) }
         ensures waits { AreWaits (waits_at self.old queue) }
     {
         self.queues.first(queue, level, allowed)
-    }
-
-    /// The oldest event of the queue's level and slot.
-    #[inline(always)]
-    pub fn oldest(&mut self, queue: usize, level: usize, slot: usize) -> Option<Numbered>
-        requires there { queue < length self.old }
-        requires level { level < 4 }
-        requires slot { slot < (waits_at self.old queue).slots }
-        ensures same { self.new ≡ self.old }
-        ensures oldest { IfSome result (IsOldest (waits_at self.old queue) level slot) }
-        ensures none { IfNone result (HasNoneOfSlot (waits_at self.old queue) level slot) }
-    {
-        self.queues.oldest(queue, level, slot)
     }
 
     /// Takes the event of this number out of the queue, which is of the level and the slot.

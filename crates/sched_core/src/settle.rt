@@ -79,7 +79,7 @@ impl Core {
         let Some(event) = forward else {
             return Some(false);
         };
-        self.accept(event, Source::Of { queue, number }, log);
+        self.accept(&event, Source::Of { queue, number }, log);
         Some(number == answered)
     }
 

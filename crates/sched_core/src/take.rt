@@ -108,27 +108,47 @@ impl Core {
         ensures shape { self.new.shape ≡ self.old.shape }
         ensures room { L.room log.old ≤ L.room log.new + length (steps_of self.old lane reply.event) }
     {
-        match reply.event.op {
-            Op::New => self.take_new(lane, reply.event, log),
-            Op::Forward => self.take_forward(lane, reply.event, log),
+        self.take_from(lane, &reply, log)
+    }
+
+    /// The same of a reply where it lies, whose event is copied from there to where it is kept.
+    #[inline(always)]
+    pub fn take_from<L: StepLog>(&mut self, lane: usize, reply: &Reply, log: &mut L) -> Took
+        requires lane { lane < lanes_of self.old.shape }
+        requires takes { may_take self.old lane reply.now.event ≡ true }
+        requires room { length (steps_of self.old lane reply.now.event) ≤ L.room log.old }
+        ensures view { self.new ≡ after self.old (steps_of self.old lane reply.now.event) }
+        ensures logged { L.steps log.new ≡ L.steps log.old ++ steps_of self.old lane reply.now.event }
+        ensures stands { (T : List StepValue) → Stands T self.old → AreStepsOf self.old.shape T lane reply.now.event (steps_of self.old lane reply.now.event) × Stands (T ++ steps_of self.old lane reply.now.event) self.new }
+        ensures took { result ≡ took_of self.old lane reply.now.event }
+        ensures shape { self.new.shape ≡ self.old.shape }
+        ensures room { L.room log.old ≤ L.room log.new + length (steps_of self.old lane reply.now.event) }
+    {
+        let event = &reply.event;
+        match event.op {
+            Op::New => self.take_new(lane, event, log),
+            Op::Forward => self.take_forward(lane, event, log),
             Op::Release => self.take_release(lane, log),
-            Op::ForwardMore => self.take_more(lane, reply.event, log),
+            Op::ForwardMore => self.take_more(lane, event, log),
         }
     }
 
     /// A new event waits in its queue; once the core is shut it is turned away.
     #[inline(always)]
-    fn take_new<L: StepLog>(&mut self, lane: usize, event: Event, log: &mut L) -> Took
-        requires takes { may_enter self.old event.queue ≡ true }
-        requires room { length (steps_by Op.New self.old lane event) ≤ L.room log.old }
-        ensures view { self.new ≡ after self.old (steps_by Op.New self.old lane event) }
-        ensures logged { L.steps log.new ≡ L.steps log.old ++ steps_by Op.New self.old lane event }
-        ensures took { result ≡ took_by Op.New self.old lane event }
-        ensures room { L.room log.old ≤ L.room log.new + length (steps_by Op.New self.old lane event) }
+    fn take_new<L: StepLog>(&mut self, lane: usize, event: &Event, log: &mut L) -> Took
+        requires takes { may_enter self.old event.now.queue ≡ true }
+        requires room { length (steps_by Op.New self.old lane event.now) ≤ L.room log.old }
+        ensures view { self.new ≡ after self.old (steps_by Op.New self.old lane event.now) }
+        ensures logged { L.steps log.new ≡ L.steps log.old ++ steps_by Op.New self.old lane event.now }
+        ensures took { result ≡ took_by Op.New self.old lane event.now }
+        ensures room { L.room log.old ≤ L.room log.new + length (steps_by Op.New self.old lane event.now) }
     {
         let is_turned = self.shut;
         if is_turned {
-            log.push_step(Step::Turned { lane, event });
+            log.push_step(Step::Turned {
+                lane,
+                event: *event,
+            });
             return Took::Turned;
         }
         self.accept(event, Source::New { lane }, log);
@@ -138,17 +158,17 @@ impl Core {
     /// The lane's oldest unanswered event is done with, and what it is forwarded as waits in its queue. An ordered queue
     /// keeps it, with what was added beside it, until all that it handed out before is answered.
     #[inline(always)]
-    fn take_forward<L: StepLog>(&mut self, lane: usize, event: Event, log: &mut L) -> Took
-        requires op { event.op ≡ Op.Forward }
+    fn take_forward<L: StepLog>(&mut self, lane: usize, event: &Event, log: &mut L) -> Took
+        requires op { event.now.op ≡ Op.Forward }
         requires lane { lane < lanes_of self.old.shape }
-        requires takes { may_forward self.old lane event.queue ≡ true }
-        requires room { length (steps_by Op.Forward self.old lane event) ≤ L.room log.old }
-        ensures view { self.new ≡ after self.old (steps_by Op.Forward self.old lane event) }
-        ensures logged { L.steps log.new ≡ L.steps log.old ++ steps_by Op.Forward self.old lane event }
-        ensures took { result ≡ took_by Op.Forward self.old lane event }
-        ensures room { L.room log.old ≤ L.room log.new + length (steps_by Op.Forward self.old lane event) }
+        requires takes { may_forward self.old lane event.now.queue ≡ true }
+        requires room { length (steps_by Op.Forward self.old lane event.now) ≤ L.room log.old }
+        ensures view { self.new ≡ after self.old (steps_by Op.Forward self.old lane event.now) }
+        ensures logged { L.steps log.new ≡ L.steps log.old ++ steps_by Op.Forward self.old lane event.now }
+        ensures took { result ≡ took_by Op.Forward self.old lane event.now }
+        ensures room { L.room log.old ≤ L.room log.new + length (steps_by Op.Forward self.old lane event.now) }
     {
-        let Entry { queue, number, .. } = self.answer(lane, Outcome::Forwarded(event), log);
+        let Entry { queue, number, .. } = self.answer(lane, Outcome::Forwarded(*event), log);
         if self.restores_order(queue) {
             let passed = self.settle(queue, number, log);
             return if passed { Took::Accepted } else { Took::Kept };
@@ -180,15 +200,15 @@ impl Core {
     /// The event is added beside the lane's oldest unanswered one. An ordered queue's event keeps it in its place; beside any other
     /// it waits in its queue at once.
     #[cold]
-    fn take_more<L: StepLog>(&mut self, lane: usize, event: Event, log: &mut L) -> Took
-        requires op { event.op ≡ Op.ForwardMore }
+    fn take_more<L: StepLog>(&mut self, lane: usize, event: &Event, log: &mut L) -> Took
+        requires op { event.now.op ≡ Op.ForwardMore }
         requires lane { lane < lanes_of self.old.shape }
-        requires takes { may_add self.old lane event.queue ≡ true }
-        requires room { length (steps_by Op.ForwardMore self.old lane event) ≤ L.room log.old }
-        ensures view { self.new ≡ after self.old (steps_by Op.ForwardMore self.old lane event) }
-        ensures logged { L.steps log.new ≡ L.steps log.old ++ steps_by Op.ForwardMore self.old lane event }
-        ensures took { result ≡ took_by Op.ForwardMore self.old lane event }
-        ensures room { L.room log.old ≤ L.room log.new + length (steps_by Op.ForwardMore self.old lane event) }
+        requires takes { may_add self.old lane event.now.queue ≡ true }
+        requires room { length (steps_by Op.ForwardMore self.old lane event.now) ≤ L.room log.old }
+        ensures view { self.new ≡ after self.old (steps_by Op.ForwardMore self.old lane event.now) }
+        ensures logged { L.steps log.new ≡ L.steps log.old ++ steps_by Op.ForwardMore self.old lane event.now }
+        ensures took { result ≡ took_by Op.ForwardMore self.old lane event.now }
+        ensures room { L.room log.old ≤ L.room log.new + length (steps_by Op.ForwardMore self.old lane event.now) }
     {
         let Entry { queue, number, .. } = self.add(lane, event, log);
         if self.restores_order(queue) {

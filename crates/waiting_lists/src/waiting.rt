@@ -1,6 +1,6 @@
 //! Many lists of waiting events.
 
-ghost use Rattle.std.specs.Prelude.{◌≡◌, ◌+◌, ◌<◌, ◌≤◌, [], ◌++◌, length, map, slice_get, vec_len, vec_capacity, IfOk, IsFalse, IsTrue};
+ghost use Rattle.std.specs.Prelude.{◌≡◌, ◌+◌, ◌<◌, ◌≤◌, [], ◌++◌, length, map, slice_get, vec_len, vec_capacity, IfOk, IsFalse, IsTrue, option_copied};
 ghost use Rattle.waiting_lists.specs.Lists.{list_at, total_of, all_empty, delivery_of, has_number, with_last, without_first};
 
 use crate::chain::{Chain, Node, append, shorten, take_place};
@@ -79,16 +79,17 @@ impl WaitingLists {
         self.chains[list].len
     }
 
-    /// The oldest event of the list.
-    pub fn front(&self, list: usize) -> Option<Numbered>
+    /// The oldest event of the list, where it lies.
+    #[inline(always)]
+    pub fn head(&self, list: usize) -> Option<&Numbered>
         requires { list < length self.now.lists }
-        ensures { result ≡ slice_get (list_at self.now list) 0 }
+        ensures { option_copied result ≡ slice_get (list_at self.now list) 0 }
     {
         let chain = self.chains[list];
         if chain.len == 0 {
             return None;
         }
-        Some(self.nodes[chain.first].item)
+        Some(&self.nodes[chain.first].item)
     }
 
     /// Puts the event at the list's end.

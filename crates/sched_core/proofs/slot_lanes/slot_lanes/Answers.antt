@@ -1,4 +1,4 @@
-use Rattle.std.proofs.Common.{◌≡◌, ◌+◌, ◌/◌, ◌%◌, Option, refl, subst, sym, arith}
+use Rattle.std.proofs.Common.{◌≡◌, ◌+◌, ◌/◌, ◌%◌, refl, subst, sym, arith}
 use Rattle.sched_core.proofs.PlaceSets.{each_more, one_more}
 use Rattle.sched_core.specs.SlotLanes.{AreSlotLanes, IsSlotLane, slot_lane_count}
 use Rattle.sched_core.proofs.slot_lanes.slot_lanes.Goals as goal

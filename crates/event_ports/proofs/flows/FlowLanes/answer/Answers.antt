@@ -2,6 +2,7 @@
 use Rattle.flow_claims.specs.Claims.{lanes_of}
 use Rattle.std.proofs.Common.{◌∙◌, ap, arith, length, sym}
 use Rattle.event_ports.specs.Flows.{FlowPlace, hands_of}
+use Rattle.event_ports.specs.Lanes.{reply_of}
 use Rattle.event_ports.proofs.Calls.{answered_after}
 use Rattle.event_ports.proofs.flows.FlowLanes.answer.Goals as goal
 
@@ -13,7 +14,7 @@ answer_at-requires-clause-exists c = omega (arith, c.requires.exists, ap (λ (p 
 
 pub returns-clause-lists : goal.returns-clause-lists
 returns-clause-lists c =
-    answered_after (hands_of c.args.self.now) (hands_of c.turn_to.new.self) (hands_of c.answer_at.new.self) c.args.lane c.args.reply c.answer_at.result c.turn_to.ensures.flushed.same c.answer_at.ensures.lists
+    answered_after (hands_of c.args.self.now) (hands_of c.turn_to.new.self) (hands_of c.answer_at.new.self) c.args.lane (reply_of c.args.event.now) c.answer_at.result c.turn_to.ensures.flushed.same c.answer_at.ensures.lists
 
 pub returns-clause-places : goal.returns-clause-places
 returns-clause-places c j = c.answer_at.ensures.places j ∙ c.turn_to.ensures.flushed.places j

@@ -1,6 +1,7 @@
 -- What an answer makes of the port's flow lanes.
 use Rattle.std.proofs.Common.{◌≡◌, Some, length, ◌<◌, arith}
 use Rattle.event_ports.specs.Holds.{place_at}
+use Rattle.event_ports.specs.Lanes.{reply_of}
 use Rattle.event_ports.proofs.Places.{place_read}
 use Rattle.event_ports.proofs.Shown.{touched_set}
 use Rattle.event_ports.proofs.Turns.{turned, answered_lists}
@@ -21,5 +22,5 @@ returns-clause-lists c =
     let are = c.args.self.now.are in
     let within : c.args.lane < length c.args.self.now.stints.items = omega (arith, are.places, c.requires.exists) in
     let at : place_at c.args.self.now.stints.items c.args.lane ≡ Some c.in-Some.stint = place_read _ _ _ _ c.index_mut.ensures.value c.in-Some.is within in
-    answered_lists _ _ c.args.self.now.seat _ _ c.in-Some.stint c.stage.new.self are at c.requires.exists c.args.reply c.stage.result
+    answered_lists _ _ c.args.self.now.seat _ _ c.in-Some.stint c.stage.new.self are at c.requires.exists (reply_of c.args.event.now) c.stage.result
     ((are.each c.args.lane).held c.in-Some.stint at).open_is c.stage.ensures.far.held c.stage.ensures.so_far c.stage.ensures.received c.stage.ensures.far.answered_is

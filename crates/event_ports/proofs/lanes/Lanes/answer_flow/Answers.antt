@@ -9,7 +9,7 @@ use Rattle.event_ports.specs.declared.lane.Lane.{Lane}
 use Rattle.event_ports.specs.declared.lane.Lane.TheVariants.{Flow}
 use Rattle.event_ports.specs.Holds.{Says}
 use Rattle.event_ports.specs.Flows.{FlowPlace, flow_place, hands_of}
-use Rattle.event_ports.specs.Lanes.{open_on, said_on}
+use Rattle.event_ports.specs.Lanes.{open_on, said_on, reply_of}
 use Rattle.event_ports.proofs.Orders.{Notes, each_lane, answered_first, first_open}
 use Rattle.event_ports.proofs.Submitted.{counts_one}
 use Rattle.event_ports.proofs.Extras.{added_said}
@@ -38,9 +38,9 @@ pub invariant_of-self-clause-ordered : goal.invariant_of-self-clause-ordered
 invariant_of-self-clause-ordered c =
     let before : Lane → List Delivery = open_on c.args.self.now.own (hands_of c.args.self.now.flows) in
     let after : Lane → List Delivery = open_on c.args.self.now.own (hands_of c.leave.new.self) in
-    let says : Says c.args.lane c.args.reply (hands_of c.args.self.now.flows) (hands_of c.leave.new.self) =
-    says_before _ (hands_of c.answer.new.self) _ c.args.lane c.args.reply c.in-Ok.ensures.lists c.leave.ensures.same in
-    let here : after (Flow c.args.lane) ≡ drop 1 (before (Flow c.args.lane)) = says.held ∙ ap (λ n. drop n (before (Flow c.args.lane))) (one_answer c.args.reply c.requires.answer) in
+    let says : Says c.args.lane (reply_of c.args.event.now) (hands_of c.args.self.now.flows) (hands_of c.leave.new.self) =
+    says_before _ (hands_of c.answer.new.self) _ c.args.lane (reply_of c.args.event.now) c.in-Ok.ensures.lists c.leave.ensures.same in
+    let here : after (Flow c.args.lane) ≡ drop 1 (before (Flow c.args.lane)) = says.held ∙ ap (λ n. drop n (before (Flow c.args.lane))) (one_answer (reply_of c.args.event.now) c.requires.answer) in
     let others : (l : Lane) → l ≢ Flow c.args.lane → after l ≡ before l =
     each_lane (λ l. l ≢ Flow c.args.lane → after l ≡ before l) (λ ne. refl) (λ j ne. says.others.held j (λ e. ne (ap Flow e))) in
     let To : List Holding → Type 0 = λ xs. Notes xs after in
@@ -48,21 +48,21 @@ invariant_of-self-clause-ordered c =
 
 pub invariant_of-self-clause-gave_back : goal.invariant_of-self-clause-gave_back
 invariant_of-self-clause-gave_back c =
-    gave_back (hands_of c.args.self.now.flows) (hands_of c.leave.new.self) (says_before _ (hands_of c.answer.new.self) _ c.args.lane c.args.reply c.in-Ok.ensures.lists c.leave.ensures.same).given_back c.args.self.now.gave_back
+    gave_back (hands_of c.args.self.now.flows) (hands_of c.leave.new.self) (says_before _ (hands_of c.answer.new.self) _ c.args.lane (reply_of c.args.event.now) c.in-Ok.ensures.lists c.leave.ensures.same).given_back c.args.self.now.gave_back
 
 pub invariant_of-self-clause-no_new : goal.invariant_of-self-clause-no_new
 invariant_of-self-clause-no_new c =
-    says_no_new (hands_of c.args.self.now.flows) (hands_of c.leave.new.self) c.args.lane c.args.reply (ap (λ b. b || is_more_reply c.args.reply) c.requires.answer)
-    (says_before _ (hands_of c.answer.new.self) _ c.args.lane c.args.reply c.in-Ok.ensures.lists c.leave.ensures.same) c.args.self.now.no_new
+    says_no_new (hands_of c.args.self.now.flows) (hands_of c.leave.new.self) c.args.lane (reply_of c.args.event.now) (ap (λ b. b || is_more_reply (reply_of c.args.event.now)) c.requires.answer)
+    (says_before _ (hands_of c.answer.new.self) _ c.args.lane (reply_of c.args.event.now) c.in-Ok.ensures.lists c.leave.ensures.same) c.args.self.now.no_new
 
 pub invariant_of-self-clause-added : goal.invariant_of-self-clause-added
 invariant_of-self-clause-added c =
-    added_said (hands_of c.args.self.now.flows) (hands_of c.leave.new.self) c.args.lane c.args.reply
-    (says_before _ (hands_of c.answer.new.self) _ c.args.lane c.args.reply c.in-Ok.ensures.lists c.leave.ensures.same) c.args.self.now.added
+    added_said (hands_of c.args.self.now.flows) (hands_of c.leave.new.self) c.args.lane (reply_of c.args.event.now)
+    (says_before _ (hands_of c.answer.new.self) _ c.args.lane (reply_of c.args.event.now) c.in-Ok.ensures.lists c.leave.ensures.same) c.args.self.now.added
 
 pub invariant_of-self-clause-idle : goal.invariant_of-self-clause-idle
 invariant_of-self-clause-idle c =
-    idle_answered (hands_of c.args.self.now.flows) (hands_of c.answer.new.self) (hands_of c.leave.new.self) c.args.lane c.args.reply c.in-Ok.ensures.lists c.answer.ensures.places
+    idle_answered (hands_of c.args.self.now.flows) (hands_of c.answer.new.self) (hands_of c.leave.new.self) c.args.lane (reply_of c.args.event.now) c.in-Ok.ensures.lists c.answer.ensures.places
     c.leave.ensures.same c.leave.ensures.left c.leave.ensures.elsewhere c.args.self.now.idle
 
 pub returns-in-Ok-clause-counts : goal.returns-in-Ok-clause-counts
@@ -75,12 +75,12 @@ returns-in-Ok-clause-counts c =
     let n = length (lanes_of (flow_place c.args.self.now.flows).claims) in
     let m = length (lanes_of (flow_place c.leave.new.self).claims) in
     let e : m ≡ n = ap (λ (p : FlowPlace). length (lanes_of p.claims)) (c.leave.ensures.place ∙ c.answer.ensures.place) in
-    let says : Says c.args.lane c.args.reply (hands_of c.args.self.now.flows) (hands_of c.leave.new.self) =
-    says_before _ (hands_of c.answer.new.self) _ c.args.lane c.args.reply c.in-Ok.ensures.lists c.leave.ensures.same in
+    let says : Says c.args.lane (reply_of c.args.event.now) (hands_of c.args.self.now.flows) (hands_of c.leave.new.self) =
+    says_before _ (hands_of c.answer.new.self) _ c.args.lane (reply_of c.args.event.now) c.in-Ok.ensures.lists c.leave.ensures.same in
     let others : (l : Lane) → l ≢ Flow c.args.lane → after l ≡ before l =
     each_lane (λ l. l ≢ Flow c.args.lane → after l ≡ before l) (λ ne. refl) (λ j ne. says.others.answered_is j (λ h. ne (ap Flow h))) in
     record {
-      news = counts_one is_new_reply n m before after (Flow c.args.lane) c.args.reply e there says.answered_is others;
-      mores = counts_one is_more_reply n m before after (Flow c.args.lane) c.args.reply e there says.answered_is others;
-      releases = counts_one is_release_reply n m before after (Flow c.args.lane) c.args.reply e there says.answered_is others;
+      news = counts_one is_new_reply n m before after (Flow c.args.lane) (reply_of c.args.event.now) e there says.answered_is others;
+      mores = counts_one is_more_reply n m before after (Flow c.args.lane) (reply_of c.args.event.now) e there says.answered_is others;
+      releases = counts_one is_release_reply n m before after (Flow c.args.lane) (reply_of c.args.event.now) e there says.answered_is others;
     }

@@ -1,4 +1,4 @@
-use Rattle.std.proofs.Common.{refl, rules, ap, arith, ◌∙◌}
+use Rattle.std.proofs.Common.{refl, ap, arith, ◌∙◌}
 use Rattle.event_scheduler.proofs.Taking.{lane_ends, lane_more, takes_none}
 use Rattle.evt_types.specs.Plan.{Plan}
 use Rattle.event_scheduler.proofs.scheduler.Scheduler.take_each.Goals as goal

@@ -9,49 +9,49 @@ pub invariant_of-self-clause-lanes_are : goal.invariant_of-self-clause-lanes_are
 invariant_of-self-clause-lanes_are g c = length-set _ _ _ ∙ c.args.self.now.lanes_are
 
 pub invariant_of-self-clause-shown : goal.invariant_of-self-clause-shown
-invariant_of-self-clause-shown g c = still_hidden _ c.args.lane c.index_mut-near.result.now c.peek.new.self c.index_mut-near.ensures.value c.peek.ensures.lists.1 c.args.self.now.shown
+invariant_of-self-clause-shown g c = still_hidden _ c.args.lane c.index_mut-near.result.now c.fetch.new.self c.index_mut-near.ensures.value c.fetch.ensures.lists.1 c.args.self.now.shown
 
 pub invariant_of-self-then-not-takes-clause-lanes_are : goal.invariant_of-self-then-not-takes-clause-lanes_are
 invariant_of-self-then-not-takes-clause-lanes_are g c = length-set _ _ _ ∙ c.args.self.now.lanes_are
 
 pub invariant_of-self-then-not-takes-clause-shown : goal.invariant_of-self-then-not-takes-clause-shown
-invariant_of-self-then-not-takes-clause-shown g c = still_hidden _ c.args.lane c.index_mut-near.result.now c.peek.new.self c.index_mut-near.ensures.value c.peek.ensures.lists.1 c.args.self.now.shown
+invariant_of-self-then-not-takes-clause-shown g c = still_hidden _ c.args.lane c.index_mut-near.result.now c.fetch.new.self c.index_mut-near.ensures.value c.fetch.ensures.lists.1 c.args.self.now.shown
 
 pub invariant_of-self-2-clause-lanes_are : goal.invariant_of-self-2-clause-lanes_are
-invariant_of-self-2-clause-lanes_are g c = length-set _ _ _ ∙ c.args.self.now.lanes_are ∙ ap lanes_of (sym c.take-took.ensures.shape)
+invariant_of-self-2-clause-lanes_are g c = length-set _ _ _ ∙ c.args.self.now.lanes_are ∙ ap lanes_of (sym c.take_from-took.ensures.shape)
 
 pub invariant_of-self-2-clause-shown : goal.invariant_of-self-2-clause-shown
 invariant_of-self-2-clause-shown g c =
-    still_hidden _ c.args.lane c.index_mut-near.result.now c.take.new.self c.index_mut-near.ensures.value (c.take.ensures.offered.1 ∙ c.peek.ensures.lists.1) c.args.self.now.shown
+    still_hidden _ c.args.lane c.index_mut-near.result.now c.take.new.self c.index_mut-near.ensures.value (c.take.ensures.offered.1 ∙ c.fetch.ensures.lists.1) c.args.self.now.shown
 
 pub returns-in_default-clause-takes : goal.returns-in_default-clause-takes
 returns-in_default-clause-takes g c =
-    takes_looked _ _ _ _ _ _ c.args.lane c.index_mut-near.result.now c.peek.new.self _ _ c.index_mut-near.ensures.value c.peek.ensures.lane c.peek.ensures.lists.0 c.peek.ensures.lists.2
+    takes_looked _ _ _ _ _ _ c.args.lane c.index_mut-near.result.now c.fetch.new.self _ _ c.index_mut-near.ensures.value c.fetch.ensures.lane c.fetch.ensures.lists.0 c.fetch.ensures.lists.2
 
 pub returns-in_default-clause-ends : goal.returns-in_default-clause-ends
 returns-in_default-clause-ends g c n q none =
     let within : c.args.lane < length c.args.self.now.lanes.items = omega (arith, c.requires.lane, c.args.self.now.lanes_are) in
-    inr (inl (seen_here _ c.args.lane c.peek.new.self within ∙ c.in_default.ensures.next))
+    inr (inl (seen_here _ c.args.lane c.fetch.new.self within ∙ c.fetch.ensures.none (omega arith) c.in_default.ensures.none))
 
 pub returns-in_default-clause-others : goal.returns-in_default-clause-others
-returns-in_default-clause-others g c l other = seen_elsewhere _ c.args.lane c.peek.new.self l other
+returns-in_default-clause-others g c l other = seen_elsewhere _ c.args.lane c.fetch.new.self l other
 
 pub returns-then-not-takes-clause-takes : goal.returns-then-not-takes-clause-takes
 returns-then-not-takes-clause-takes g c =
-    takes_looked _ _ _ _ _ _ c.args.lane c.index_mut-near.result.now c.peek.new.self _ _ c.index_mut-near.ensures.value c.peek.ensures.lane c.peek.ensures.lists.0 c.peek.ensures.lists.2
+    takes_looked _ _ _ _ _ _ c.args.lane c.index_mut-near.result.now c.fetch.new.self _ _ c.index_mut-near.ensures.value c.fetch.ensures.lane c.fetch.ensures.lists.0 c.fetch.ensures.lists.2
 
 pub returns-then-not-takes-clause-ends : goal.returns-then-not-takes-clause-ends
 returns-then-not-takes-clause-ends g c n q none =
     let within : c.args.lane < length c.args.self.now.lanes.items = omega (arith, c.requires.lane, c.args.self.now.lanes_are) in
-    inr (inr (c.in-Some.reply, ap (λ rs. slice_get rs 0) (seen_here _ c.args.lane c.peek.new.self within) ∙ c.in-Some.ensures.next, sym c.takes.ensures.value ∙ (search rules)))
+    inr (inr (c.in-Some.reply.now, ap (λ rs. slice_get rs 0) (seen_here _ c.args.lane c.fetch.new.self within) ∙ c.in-Some.ensures.next, sym c.takes.ensures.value ∙ (search rules)))
 
 pub returns-then-not-takes-clause-others : goal.returns-then-not-takes-clause-others
-returns-then-not-takes-clause-others g c l other = seen_elsewhere _ c.args.lane c.peek.new.self l other
+returns-then-not-takes-clause-others g c l other = seen_elsewhere _ c.args.lane c.fetch.new.self l other
 
 pub returns-clause-takes : goal.returns-clause-takes
 returns-clause-takes g c =
-    took _ _ _ _ _ _ _ c.args.lane _ _ c.in-Some.reply.event c.index_mut-near.result.now c.take.new.self _ _ (search rules) c.index_mut-near.ensures.value (search rules) (search rules) (search rules) c.requires.lane (search rules)
-    c.take-took.ensures.view c.take-took.ensures.shape c.take-took.ensures.logged (λ T at. (c.take-took.ensures.stands T at).1) (search rules) (search rules) (search rules)
+    took _ _ _ _ _ _ _ c.args.lane _ _ c.in-Some.reply.now.event c.index_mut-near.result.now c.take.new.self _ _ (search rules) c.index_mut-near.ensures.value (search rules) (search rules) (search rules) c.requires.lane (search rules)
+    c.take_from-took.ensures.view c.take_from-took.ensures.shape c.take_from-took.ensures.logged (λ T at. (c.take_from-took.ensures.stands T at).1) (search rules) (search rules) (search rules)
 
 pub returns-clause-others : goal.returns-clause-others
 returns-clause-others g c l other = seen_elsewhere _ c.args.lane c.take.new.self l other

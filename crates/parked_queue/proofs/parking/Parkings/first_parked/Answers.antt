@@ -55,13 +55,11 @@ returns-in-Some-best-clause-same c = c.loop-slot.invariant.same
 
 pub returns-in-Some-best-clause-first : goal.returns-in-Some-best-clause-first
 returns-in-Some-best-clause-first c =
-    record {
-      waiting = c.in-Some-best.oldest;
-      first =
-          of_some c.loop-slot.best c.in-Some-best.oldest (IsFirstParked (parted_at c.args.self.now c.args.queue) c.args.level c.args.marked) c.in-Some-best.is
-          (is_first (parted_at c.args.self.now c.args.queue) c.args.level c.args.marked c.loop-slot.left c.in_default.ensures.none c.loop-slot.best c.loop-slot.invariant.one c.loop-slot.invariant.best);
-      is = c.slot.ensures.value ∙ ap (λ vs. slot_of (parted_at vs c.args.queue).waits.slots c.in-Some-best.oldest) c.loop-slot.invariant.same;
-    }
+    of_some c.loop-slot.best c.in-Some-best.waiting (IsFirstParked (parted_at c.args.self.now c.args.queue) c.args.level c.args.marked) c.in-Some-best.is
+    (is_first (parted_at c.args.self.now c.args.queue) c.args.level c.args.marked c.loop-slot.left c.in_default.ensures.none c.loop-slot.best c.loop-slot.invariant.one c.loop-slot.invariant.best)
+
+pub returns-in-Some-best-clause-slot : goal.returns-in-Some-best-clause-slot
+returns-in-Some-best-clause-slot c = c.slot.ensures.value ∙ ap (λ vs. slot_of (parted_at vs c.args.queue).waits.slots c.in-Some-best.waiting) c.loop-slot.invariant.same
 
 pub returns-in-None-clause-same : goal.returns-in-None-clause-same
 returns-in-None-clause-same c = c.loop-slot.invariant.same

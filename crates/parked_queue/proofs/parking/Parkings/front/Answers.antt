@@ -1,4 +1,5 @@
 use Rattle.std.proofs.Common.{◌≡◌, ◌∙◌, arith, refl}
+use Rattle.std.specs.Option.{option_copied}
 use Rattle.parked_queue.specs.Parkings.{parking_at}
 use Rattle.parked_queue.proofs.Calls.{first_is, level_place, placed}
 use Rattle.parked_queue.proofs.Parkings.{parking_read, seen_at}
@@ -16,8 +17,8 @@ overflow_add-index c =
     let p = placed c.self.inside.lists c.self.inside.queues.items c.args.self.now c.self.invariant c.self.view_is c.args.queue c.requires.there c.index.result.now is c.args.level (level_place c.self.inside.lists c.self.inside.queues.items c.args.self.now c.self.invariant c.self.view_is c.args.queue c.requires.there c.args.level c.requires.level) in
     omega (arith, p.1)
 
-pub front-requires : goal.front-requires
-front-requires c =
+pub head-requires : goal.head-requires
+head-requires c =
     let s = seen_at c.self.inside.lists c.self.inside.queues.items c.args.self.now c.self.invariant c.self.view_is c.args.queue c.requires.there in
     let is : c.index.result.now ≡ parking_at c.self.inside.queues.items c.args.queue = c.index.ensures ∙ parking_read c.self.inside.queues.items c.args.queue c.index.result.now s.there in
     (placed c.self.inside.lists c.self.inside.queues.items c.args.self.now c.self.invariant c.self.view_is c.args.queue c.requires.there c.index.result.now is c.args.level (level_place c.self.inside.lists c.self.inside.queues.items c.args.self.now c.self.invariant c.self.view_is c.args.queue c.requires.there c.args.level c.requires.level)).0
@@ -26,7 +27,7 @@ pub returns-clause-value : goal.returns-clause-value
 returns-clause-value c =
     let s = seen_at c.self.inside.lists c.self.inside.queues.items c.args.self.now c.self.invariant c.self.view_is c.args.queue c.requires.there in
     let is : c.index.result.now ≡ parking_at c.self.inside.queues.items c.args.queue = c.index.ensures ∙ parking_read c.self.inside.queues.items c.args.queue c.index.result.now s.there in
-    first_is c.self.inside.lists c.self.inside.queues.items c.args.self.now c.self.invariant c.self.view_is c.args.queue c.requires.there c.index.result.now is c.args.level c.args.level (level_place c.self.inside.lists c.self.inside.queues.items c.args.self.now c.self.invariant c.self.view_is c.args.queue c.requires.there c.args.level c.requires.level) refl c.front.result c.front.ensures
+    first_is c.self.inside.lists c.self.inside.queues.items c.args.self.now c.self.invariant c.self.view_is c.args.queue c.requires.there c.index.result.now is c.args.level c.args.level (level_place c.self.inside.lists c.self.inside.queues.items c.args.self.now c.self.invariant c.self.view_is c.args.queue c.requires.there c.args.level c.requires.level) refl (option_copied c.head.result) c.head.ensures
 
 pub returns-clause-waits : goal.returns-clause-waits
 returns-clause-waits c =

@@ -1,8 +1,7 @@
-use Rattle.std.proofs.Common.{◌≡◌, ◌∙◌, ap, arith, sym}
+use Rattle.std.proofs.Common.{◌≡◌, ◌%◌, ◌∙◌, ap, arith, sym}
 use Rattle.parked_queue.specs.Parkings.{parking_at}
 use Rattle.parked_queue.specs.declared.parking.Parking.{Parking}
 use Rattle.parked_queue.specs.Marks.{mask_of}
-use Rattle.parked_queue.specs.Waits.{slot_of}
 use Rattle.parked_queue.proofs.Parkings.{parking_read, seen_at}
 use Rattle.parked_queue.proofs.parking.Parkings.slot.Goals as goal
 
@@ -35,7 +34,7 @@ pub returns-clause-value : goal.returns-clause-value
 returns-clause-value c =
     let s = seen_at c.self.inside.lists c.self.inside.queues.items c.args.self.now c.self.invariant c.self.view_is c.args.queue c.requires in
     let is : c.index-asked.result.now ≡ parking_at c.self.inside.queues.items c.args.queue = c.index-asked.ensures ∙ parking_read c.self.inside.queues.items c.args.queue c.index-asked.result.now s.there in
-    c.slot_in.ensures.value ∙ ap (λ n. slot_of n c.args.waiting.now) (ap (λ (p : Parking). p.slots) is ∙ s.holds.slots)
+    c.slot_in.ensures.value ∙ ap (λ n. c.args.flow % n) (ap (λ (p : Parking). p.slots) is ∙ s.holds.slots)
 
 pub returns-clause-within : goal.returns-clause-within
 returns-clause-within c =

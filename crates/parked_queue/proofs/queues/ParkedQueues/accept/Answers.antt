@@ -15,15 +15,15 @@ pub invariant_of-self : goal.invariant_of-self
 invariant_of-self c =
     let qs = are_waits c.self.inside.parkings in
     let lt : c.args.queue < length qs = subst (λ ws. c.args.queue < length ws) (sym c.self.view_is) c.requires.there in
-    let new : are_waits c.accept.new.self ≡ set qs c.args.queue (with_event (parted_at c.self.inside.parkings c.args.queue).waits c.args.event) =
-    ap are_waits c.accept.ensures.value ∙ waits_set c.self.inside.parkings c.args.queue (with_waits (parted_at c.self.inside.parkings c.args.queue) (with_event (parted_at c.self.inside.parkings c.args.queue).waits c.args.event)) in
+    let new : are_waits c.accept.new.self ≡ set qs c.args.queue (with_event (parted_at c.self.inside.parkings c.args.queue).waits c.args.event.now) =
+    ap are_waits c.accept.ensures.value ∙ waits_set c.self.inside.parkings c.args.queue (with_waits (parted_at c.self.inside.parkings c.args.queue) (with_event (parted_at c.self.inside.parkings c.args.queue).waits c.args.event.now)) in
     let same = waits_read c.self.inside.parkings c.args.queue in
     let was = c.index_mut.ensures.value ∙ levels_read qs c.self.inside.levels.items c.args.queue c.self.invariant lt c.index_mut.result.now in
     let old = subst (AreLevels (parted_at c.self.inside.parkings c.args.queue).waits) (sym was) (subst (λ w. AreLevels w (levels_at c.self.inside.levels.items c.args.queue)) same (c.self.invariant.each c.args.queue lt)) in
-    let level : level_of c.args.event < 4 = omega arith in
+    let level : level_of c.args.event.now < 4 = omega arith in
     subst (λ ws. HaveLevels ws (set c.self.inside.levels.items c.args.queue c.add.new.self)) (sym new)
-    (levels_set qs c.self.inside.levels.items c.args.queue c.self.invariant lt (with_event (parted_at c.self.inside.parkings c.args.queue).waits c.args.event) c.add.new.self
-    (levels_with (parted_at c.self.inside.parkings c.args.queue).waits c.args.event c.index_mut.result.now c.add.new.self level
+    (levels_set qs c.self.inside.levels.items c.args.queue c.self.invariant lt (with_event (parted_at c.self.inside.parkings c.args.queue).waits c.args.event.now) c.add.new.self
+    (levels_with (parted_at c.self.inside.parkings c.args.queue).waits c.args.event.now c.index_mut.result.now c.add.new.self level
     (subst (Has c.add.new.self) c.level.ensures c.add.ensures.there) (subst (λ k. SameBut k c.index_mut.result.now c.add.new.self) c.level.ensures c.add.ensures.others) old))
 
 pub returns-clause-value : goal.returns-clause-value
@@ -31,9 +31,9 @@ returns-clause-value c =
     let e = ap (λ ws. waits_at ws c.args.queue) c.self.view_is in
     let same = waits_read c.self.inside.parkings c.args.queue in
     ap are_waits c.accept.ensures.value
-    ∙ (waits_set c.self.inside.parkings c.args.queue (with_waits (parted_at c.self.inside.parkings c.args.queue) (with_event (parted_at c.self.inside.parkings c.args.queue).waits c.args.event))
-    ∙ (ap (λ ws. set ws c.args.queue (with_event (parted_at c.self.inside.parkings c.args.queue).waits c.args.event)) c.self.view_is
-    ∙ ap (λ w. set c.args.self.now c.args.queue (with_event w c.args.event)) (sym same ∙ e)))
+    ∙ (waits_set c.self.inside.parkings c.args.queue (with_waits (parted_at c.self.inside.parkings c.args.queue) (with_event (parted_at c.self.inside.parkings c.args.queue).waits c.args.event.now))
+    ∙ (ap (λ ws. set ws c.args.queue (with_event (parted_at c.self.inside.parkings c.args.queue).waits c.args.event.now)) c.self.view_is
+    ∙ ap (λ w. set c.args.self.now c.args.queue (with_event w c.args.event.now)) (sym same ∙ e)))
 
 pub index_mut-requires : goal.index_mut-requires
 index_mut-requires c =
@@ -51,4 +51,4 @@ pub accept-requires-clause-numbers : goal.accept-requires-clause-numbers
 accept-requires-clause-numbers c = subst (λ (w : Waits). w.next < 2 ^ 63) (sym (seen_waits c.self.inside.parkings c.args.self.now c.args.queue c.self.view_is)) c.requires.numbers
 
 pub returns-clause-waits : goal.returns-clause-waits
-returns-clause-waits c = subst (λ w. AreWaits (with_event w c.args.event)) (seen_waits c.self.inside.parkings c.args.self.now c.args.queue c.self.view_is) c.accept.ensures.waits
+returns-clause-waits c = subst (λ w. AreWaits (with_event w c.args.event.now)) (seen_waits c.self.inside.parkings c.args.self.now c.args.queue c.self.view_is) c.accept.ensures.waits

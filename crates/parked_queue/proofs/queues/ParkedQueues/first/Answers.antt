@@ -1,6 +1,6 @@
-use Rattle.std.proofs.Common.{◌∙◌, IfNone, IfSome, ap, arith, length, refl, subst, sym}
+use Rattle.std.proofs.Common.{◌≡◌, ◌∙◌, IfNone, IfSome, ap, arith, length, refl, subst, sym}
 use Rattle.parked_queue.specs.Levels.{HaveLevels}
-use Rattle.parked_queue.specs.Waits.{AreWaits, HasNoneAllowed, IsFirstSlot}
+use Rattle.parked_queue.specs.Waits.{AreWaits, HasNoneAllowed, IsFirstAllowed, slot_of}
 use Rattle.parked_queue.proofs.Seen.{emptied, seen_there, seen_waits}
 use Rattle.parked_queue.proofs.queues.ParkedQueues.first.Goals as goal
 use Rattle.parked_queue.proofs.queues.ParkedQueues.first.Goals.{else-is_none-via-then-is_none+else-is_level_empty, else-is_none-via-else-is_none}
@@ -31,7 +31,7 @@ pub returns-then-is_level_empty-clause-same : goal.returns-then-is_level_empty-c
 returns-then-is_level_empty-clause-same c = c.first-first.ensures.same ∙ c.self.view_is
 
 pub returns-then-is_level_empty-clause-first : goal.returns-then-is_level_empty-clause-first
-returns-then-is_level_empty-clause-first c = subst (λ w. IfSome c.first-first.result (IsFirstSlot w c.args.level c.args.allowed)) (seen_waits c.self.inside.parkings c.args.self.now c.args.queue c.self.view_is) c.first-first.ensures.first
+returns-then-is_level_empty-clause-first c = subst (λ w. IfSome c.first-first.result (λ f. IsFirstAllowed w c.args.level c.args.allowed f.waiting)) (seen_waits c.self.inside.parkings c.args.self.now c.args.queue c.self.view_is) c.first-first.ensures.first
 
 pub returns-then-is_level_empty-clause-none : goal.returns-then-is_level_empty-clause-none
 returns-then-is_level_empty-clause-none c = subst (λ w. IfNone c.first-first.result (HasNoneAllowed w c.args.level c.args.allowed)) (seen_waits c.self.inside.parkings c.args.self.now c.args.queue c.self.view_is) c.first-first.ensures.none
@@ -48,10 +48,16 @@ returns-else-is_none-clause-same c =
     ]
 
 pub returns-else-is_none-clause-first : goal.returns-else-is_none-clause-first
-returns-else-is_none-clause-first c = subst (λ w. IfSome c.first-first.result (IsFirstSlot w c.args.level c.args.allowed)) (seen_waits c.self.inside.parkings c.args.self.now c.args.queue c.self.view_is) c.first-first.ensures.first
+returns-else-is_none-clause-first c = subst (λ w. IfSome c.first-first.result (λ f. IsFirstAllowed w c.args.level c.args.allowed f.waiting)) (seen_waits c.self.inside.parkings c.args.self.now c.args.queue c.self.view_is) c.first-first.ensures.first
 
 pub returns-else-is_none-clause-none : goal.returns-else-is_none-clause-none
 returns-else-is_none-clause-none c = subst (λ w. IfNone c.first-first.result (HasNoneAllowed w c.args.level c.args.allowed)) (seen_waits c.self.inside.parkings c.args.self.now c.args.queue c.self.view_is) c.first-first.ensures.none
 
 pub returns-else-is_none-clause-waits : goal.returns-else-is_none-clause-waits
 returns-else-is_none-clause-waits c = subst AreWaits (seen_waits c.self.inside.parkings c.args.self.now c.args.queue c.self.view_is) c.first-first.ensures.waits
+
+pub returns-then-is_level_empty-clause-slot : goal.returns-then-is_level_empty-clause-slot
+returns-then-is_level_empty-clause-slot c = subst (λ w. IfSome c.first-first.result (λ f. f.slot ≡ slot_of w.slots f.waiting)) (seen_waits c.self.inside.parkings c.args.self.now c.args.queue c.self.view_is) c.first-first.ensures.slot
+
+pub returns-else-is_none-clause-slot : goal.returns-else-is_none-clause-slot
+returns-else-is_none-clause-slot c = subst (λ w. IfSome c.first-first.result (λ f. f.slot ≡ slot_of w.slots f.waiting)) (seen_waits c.self.inside.parkings c.args.self.now c.args.queue c.self.view_is) c.first-first.ensures.slot

@@ -1,4 +1,4 @@
-use Rattle.std.proofs.Common.{◌≡◌, Option, Some, None, ap, sym, ◌∙◌}
+use Rattle.std.proofs.Common.{Option, Some, None, ap, sym, ◌∙◌}
 use Rattle.std.specs.Option.{IfSome, MatchOption}
 use Rattle.order_parts.specs.Reorder.{after_leave}
 use Rattle.sched_core.specs.Orders.{shown}

@@ -1,4 +1,4 @@
-use Rattle.std.proofs.Common.{◌<◌, ◌%◌, ◌++◌, ◌∷◌, [], length, refl, subst, sym, ap, ◌∙◌, arith}
+use Rattle.std.proofs.Common.{◌≡◌, ℕ, ◌<◌, ◌%◌, ◌++◌, ◌∷◌, [], length, refl, subst, sym, ap, ◌∙◌, arith}
 use Rattle.transcripts.specs.Choice.{IsOffer}
 use Rattle.transcripts.specs.Standing.{View, Stands, after_give}
 use Rattle.evt_types.specs.declared.step.Step.TheVariants.{Give}
@@ -18,6 +18,10 @@ use Rattle.parked_queue.specs.Waits.{without_number, waits_at}
 use Rattle.sched_core.proofs.Busy.{waits_is}
 use Rattle.sched_core.proofs.state.Core.give.Goals as goal
 
+-- the slot that is computed of the offer's flow is that of its event
+slot_is : (flow of_event slots slot : ℕ) → slot ≡ flow % slots → flow ≡ of_event → slot ≡ of_event % slots
+slot_is flow of_event slots slot value same = value ∙ ap (λ f. f % slots) same
+
 pub remove-requires-clause-level : goal.remove-requires-clause-level
 remove-requires-clause-level g c =
     let offer : IsOffer (view_in c.self.inside) c.args.offer.lane c.args.offer.delivery.queue (numbered_in c.args.offer.delivery) = subst (λ v. IsOffer v c.args.offer.lane c.args.offer.delivery.queue (numbered_in c.args.offer.delivery)) (sym c.self.view_is) c.requires.offer in
@@ -31,7 +35,7 @@ remove-requires-clause-only g c =
     let h : c.args.offer.delivery.queue < length c.self.inside.queues = omega (arith, offer.queue, c.self.invariant.queues) in
     λ k d lt same.
     let one = only_event c.self.inside c.args.offer.delivery.queue (waits_at c.self.inside.queues c.args.offer.delivery.queue) (numbered_in c.args.offer.delivery) c.self.invariant h (waits_is c.self.inside.queues c.args.offer.delivery.queue h) offer.waits k d lt same in
-    (ap level_of one ∙ sym c.level.ensures, ap (λ (e : Event). e.flow % (waits_at c.self.inside.queues c.args.offer.delivery.queue).slots) one ∙ sym c.slot_offered-slot.ensures.value)
+    (ap level_of one ∙ sym c.args.offer.level_is, ap (λ (e : Event). e.flow % (waits_at c.self.inside.queues c.args.offer.delivery.queue).slots) one ∙ sym (slot_is c.args.offer.flow c.args.offer.delivery.event.flow (waits_at c.self.inside.queues c.args.offer.delivery.queue).slots c.slot_of-slot.result c.slot_of-slot.ensures.value c.args.offer.flow_is))
 
 pub pin-requires-clause-there : goal.pin-requires-clause-there
 pin-requires-clause-there g c =
@@ -42,13 +46,13 @@ pub pin-requires-clause-may : goal.pin-requires-clause-may
 pin-requires-clause-may g c =
     let queue : c.args.offer.delivery.queue < length c.self.inside.shape.queues = subst (λ (v : View). c.args.offer.delivery.queue < length v.shape.queues) (sym c.self.view_is) c.requires.offer.queue in
     let h : c.args.offer.delivery.queue < length c.self.inside.queues = omega (arith, queue, c.self.invariant.queues) in
-    offer_may c.self.inside c.args.self.now c.args.offer.lane c.args.offer.delivery.queue c.slot_offered-slot.result (numbered_in c.args.offer.delivery) c.self.invariant c.self.view_is c.requires.offer (c.slot_offered-slot.ensures.value ∙ slot_in_queue c.self.inside c.args.offer.delivery.queue (waits_at c.self.inside.queues c.args.offer.delivery.queue) c.self.invariant h (waits_is c.self.inside.queues c.args.offer.delivery.queue h) (numbered_in c.args.offer.delivery))
+    offer_may c.self.inside c.args.self.now c.args.offer.lane c.args.offer.delivery.queue c.slot_of-slot.result (numbered_in c.args.offer.delivery) c.self.invariant c.self.view_is c.requires.offer (slot_is c.args.offer.flow c.args.offer.delivery.event.flow (waits_at c.self.inside.queues c.args.offer.delivery.queue).slots c.slot_of-slot.result c.slot_of-slot.ensures.value c.args.offer.flow_is ∙ slot_in_queue c.self.inside c.args.offer.delivery.queue (waits_at c.self.inside.queues c.args.offer.delivery.queue) c.self.invariant h (waits_is c.self.inside.queues c.args.offer.delivery.queue h) (numbered_in c.args.offer.delivery))
 
 pub pin-requires-clause-room : goal.pin-requires-clause-room
 pin-requires-clause-room g c =
     let queue : c.args.offer.delivery.queue < length c.self.inside.shape.queues = subst (λ (v : View). c.args.offer.delivery.queue < length v.shape.queues) (sym c.self.view_is) c.requires.offer.queue in
     let h : c.args.offer.delivery.queue < length c.self.inside.queues = omega (arith, queue, c.self.invariant.queues) in
-    offer_room c.self.inside c.args.self.now c.args.offer.lane c.args.offer.delivery.queue c.slot_offered-slot.result (numbered_in c.args.offer.delivery) c.self.invariant c.self.view_is c.requires.offer (c.slot_offered-slot.ensures.value ∙ slot_in_queue c.self.inside c.args.offer.delivery.queue (waits_at c.self.inside.queues c.args.offer.delivery.queue) c.self.invariant h (waits_is c.self.inside.queues c.args.offer.delivery.queue h) (numbered_in c.args.offer.delivery))
+    offer_room c.self.inside c.args.self.now c.args.offer.lane c.args.offer.delivery.queue c.slot_of-slot.result (numbered_in c.args.offer.delivery) c.self.invariant c.self.view_is c.requires.offer (slot_is c.args.offer.flow c.args.offer.delivery.event.flow (waits_at c.self.inside.queues c.args.offer.delivery.queue).slots c.slot_of-slot.result c.slot_of-slot.ensures.value c.args.offer.flow_is ∙ slot_in_queue c.self.inside c.args.offer.delivery.queue (waits_at c.self.inside.queues c.args.offer.delivery.queue) c.self.invariant h (waits_is c.self.inside.queues c.args.offer.delivery.queue h) (numbered_in c.args.offer.delivery))
 
 pub hand-place-requires-clause-there : goal.hand-place-requires-clause-there
 hand-place-requires-clause-there g c =
@@ -64,9 +68,9 @@ invariant_of-self g c =
     let h : c.args.offer.delivery.queue < length c.self.inside.queues = omega (arith, offer.queue, c.self.invariant.queues) in
     let k : c.args.offer.lane < length c.self.inside.lanes = omega (arith, offer.lane, c.self.invariant.lanes) in
     rw c.push.ensures (rw (c.hand-place.ensures.handed, c.remove.ensures.value)
-    (core_gives c.self.inside c.args.offer.delivery.queue c.args.offer.lane (waits_at c.self.inside.queues c.args.offer.delivery.queue) (without_number (waits_at c.self.inside.queues c.args.offer.delivery.queue) c.args.offer.delivery.number) (lane_in c.self.inside.lanes c.args.offer.lane) (entries_of ((lane_in c.self.inside.lanes c.args.offer.lane).entries ++ record { queue = c.args.offer.delivery.queue; number = c.args.offer.delivery.number; slot = c.slot_offered-slot.result; place = c.hand-place.result } ∷ []) (lane_in c.self.inside.lanes c.args.offer.lane).capacity) (numbered_in c.args.offer.delivery) (record { queue = c.args.offer.delivery.queue; number = c.args.offer.delivery.number; slot = c.slot_offered-slot.result; place = c.hand-place.result }) c.pin.new.self c.self.invariant offer
+    (core_gives c.self.inside c.args.offer.delivery.queue c.args.offer.lane (waits_at c.self.inside.queues c.args.offer.delivery.queue) (without_number (waits_at c.self.inside.queues c.args.offer.delivery.queue) c.args.offer.delivery.number) (lane_in c.self.inside.lanes c.args.offer.lane) (entries_of ((lane_in c.self.inside.lanes c.args.offer.lane).entries ++ record { queue = c.args.offer.delivery.queue; number = c.args.offer.delivery.number; slot = c.slot_of-slot.result; place = c.hand-place.result } ∷ []) (lane_in c.self.inside.lanes c.args.offer.lane).capacity) (numbered_in c.args.offer.delivery) (record { queue = c.args.offer.delivery.queue; number = c.args.offer.delivery.number; slot = c.slot_of-slot.result; place = c.hand-place.result }) c.pin.new.self c.self.invariant offer
     h (waits_is c.self.inside.queues c.args.offer.delivery.queue h) k (lane_is c.self.inside.lanes c.args.offer.lane k) (waits_here c.self.inside c.args.offer.delivery.queue (waits_at c.self.inside.queues c.args.offer.delivery.queue) (numbered_in c.args.offer.delivery) h (waits_is c.self.inside.queues c.args.offer.delivery.queue h) offer.waits)
-    refl c.remove.ensures.waits refl refl refl refl (c.slot_offered-slot.ensures.value ∙ slot_in_queue c.self.inside c.args.offer.delivery.queue (waits_at c.self.inside.queues c.args.offer.delivery.queue) c.self.invariant h (waits_is c.self.inside.queues c.args.offer.delivery.queue h) (numbered_in c.args.offer.delivery)) c.hand-place.ensures.place c.pin.ensures))
+    refl c.remove.ensures.waits refl refl refl refl (slot_is c.args.offer.flow c.args.offer.delivery.event.flow (waits_at c.self.inside.queues c.args.offer.delivery.queue).slots c.slot_of-slot.result c.slot_of-slot.ensures.value c.args.offer.flow_is ∙ slot_in_queue c.self.inside c.args.offer.delivery.queue (waits_at c.self.inside.queues c.args.offer.delivery.queue) c.self.invariant h (waits_is c.self.inside.queues c.args.offer.delivery.queue h) (numbered_in c.args.offer.delivery)) c.hand-place.ensures.place c.pin.ensures))
 
 pub returns-clause-view : goal.returns-clause-view
 returns-clause-view g c =
@@ -74,9 +78,9 @@ returns-clause-view g c =
     let h : c.args.offer.delivery.queue < length c.self.inside.queues = omega (arith, offer.queue, c.self.invariant.queues) in
     let k : c.args.offer.lane < length c.self.inside.lanes = omega (arith, offer.lane, c.self.invariant.lanes) in
     rw c.push.ensures (rw (c.hand-place.ensures.handed, c.remove.ensures.value)
-    (view_gives c.self.inside c.args.offer.delivery.queue c.args.offer.lane (waits_at c.self.inside.queues c.args.offer.delivery.queue) (without_number (waits_at c.self.inside.queues c.args.offer.delivery.queue) c.args.offer.delivery.number) (lane_in c.self.inside.lanes c.args.offer.lane) (entries_of ((lane_in c.self.inside.lanes c.args.offer.lane).entries ++ record { queue = c.args.offer.delivery.queue; number = c.args.offer.delivery.number; slot = c.slot_offered-slot.result; place = c.hand-place.result } ∷ []) (lane_in c.self.inside.lanes c.args.offer.lane).capacity) (numbered_in c.args.offer.delivery) (record { queue = c.args.offer.delivery.queue; number = c.args.offer.delivery.number; slot = c.slot_offered-slot.result; place = c.hand-place.result }) c.pin.new.self c.self.invariant offer
+    (view_gives c.self.inside c.args.offer.delivery.queue c.args.offer.lane (waits_at c.self.inside.queues c.args.offer.delivery.queue) (without_number (waits_at c.self.inside.queues c.args.offer.delivery.queue) c.args.offer.delivery.number) (lane_in c.self.inside.lanes c.args.offer.lane) (entries_of ((lane_in c.self.inside.lanes c.args.offer.lane).entries ++ record { queue = c.args.offer.delivery.queue; number = c.args.offer.delivery.number; slot = c.slot_of-slot.result; place = c.hand-place.result } ∷ []) (lane_in c.self.inside.lanes c.args.offer.lane).capacity) (numbered_in c.args.offer.delivery) (record { queue = c.args.offer.delivery.queue; number = c.args.offer.delivery.number; slot = c.slot_of-slot.result; place = c.hand-place.result }) c.pin.new.self c.self.invariant offer
     h (waits_is c.self.inside.queues c.args.offer.delivery.queue h) k (lane_is c.self.inside.lanes c.args.offer.lane k) (waits_here c.self.inside c.args.offer.delivery.queue (waits_at c.self.inside.queues c.args.offer.delivery.queue) (numbered_in c.args.offer.delivery) h (waits_is c.self.inside.queues c.args.offer.delivery.queue h) offer.waits)
-    refl refl (ap (λ s. record { queue = c.args.offer.delivery.queue; number = c.args.offer.delivery.number; slot = s }) (c.slot_offered-slot.ensures.value ∙ slot_in_queue c.self.inside c.args.offer.delivery.queue (waits_at c.self.inside.queues c.args.offer.delivery.queue) c.self.invariant h (waits_is c.self.inside.queues c.args.offer.delivery.queue h) (numbered_in c.args.offer.delivery))) c.hand-place.ensures.place))
+    refl refl (ap (λ s. record { queue = c.args.offer.delivery.queue; number = c.args.offer.delivery.number; slot = s }) (slot_is c.args.offer.flow c.args.offer.delivery.event.flow (waits_at c.self.inside.queues c.args.offer.delivery.queue).slots c.slot_of-slot.result c.slot_of-slot.ensures.value c.args.offer.flow_is ∙ slot_in_queue c.self.inside c.args.offer.delivery.queue (waits_at c.self.inside.queues c.args.offer.delivery.queue) c.self.invariant h (waits_is c.self.inside.queues c.args.offer.delivery.queue h) (numbered_in c.args.offer.delivery))) c.hand-place.ensures.place))
     ∙ ap (λ v. after_give v c.args.offer.lane c.args.offer.delivery.queue c.args.offer.delivery.number) c.self.view_is
 
 pub returns-clause-stands : goal.returns-clause-stands

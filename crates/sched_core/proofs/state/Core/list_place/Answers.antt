@@ -1,9 +1,8 @@
-use Rattle.std.proofs.Common.{◌≡◌, ◌+◌, ◌<◌, List, get_or, length, slice_get, Some, None, sym, ap, ◌∙◌, subst, arith}
+use Rattle.std.proofs.Common.{◌≡◌, ◌+◌, ◌<◌, List, get_or, length, slice_get, sym, ap, ◌∙◌, subst, arith}
 use Rattle.std.proofs.lemmas.List.{length-map}
 use Rattle.std.proofs.lemmas.Option.{none-some}
 use Rattle.lists.proofs.Lists.{slice_get-some}
 use Rattle.evt_types.specs.Place.{Place}
-use Rattle.evt_types.specs.declared.event.Numbered.{Numbered}
 use Rattle.transcripts.specs.Standing.{View, places_at}
 use Rattle.order_parts.specs.Reorder.{kept_of, open_place}
 use Rattle.sched_core.proofs.KeptLists.{IsBegun, one_listed}

@@ -1,4 +1,4 @@
-use Rattle.std.proofs.Common.{◌≡◌, ◌++◌, ◌==◌, ◌&&◌, not, length, sym, ap, ◌∙◌, subst, arith}
+use Rattle.std.proofs.Common.{◌++◌, ◌==◌, ◌&&◌, not, length, sym, ap, ◌∙◌, subst, arith}
 use Rattle.transcripts.specs.Standing.{after, accepts_from}
 use Rattle.order_parts.specs.Reorder.{left}
 use Rattle.lists.proofs.Lists.{eqb_other, eqb_same}

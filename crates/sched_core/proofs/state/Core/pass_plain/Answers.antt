@@ -1,8 +1,8 @@
-use Rattle.std.proofs.Common.{◌≡◌, Some, None, option_to_list, sym, ap, ◌∙◌, subst, arith}
+use Rattle.std.proofs.Common.{◌≡◌, Some, ap, ◌∙◌, arith}
 use Rattle.transcripts.specs.Standing.{places_at}
 use Rattle.order_parts.specs.Reorder.{left_plain, oldest_answered}
 use Rattle.sched_core.proofs.Cores.{places_there}
-use Rattle.sched_core.proofs.Settling.{passed_none, passed_one, room_for}
+use Rattle.sched_core.proofs.Settling.{passed_one, room_for}
 use Rattle.sched_core.proofs.state.Core.pass_plain.Goals as goal
 
 pub accept-requires-clause-room : goal.accept-requires-clause-room

@@ -12,7 +12,7 @@ returns-then-passed-clause-view g c =
     let h = held_of c.answer-queue.result in
     let ordered : is_ordered (queue_of v.shape h.queue).kind ≡ true =
     subst (λ (u : View). is_ordered (queue_of u.shape h.queue).kind ≡ true) c.answer-queue.ensures.view (sym c.restores_order.ensures ∙ c.if-restores_order.true) in
-    settled_view v c.answer-queue.new.self c.args.lane h (Forwarded c.args.event) c.answer-queue.ensures.oldest ordered c.answer-queue.ensures.places c.answer-queue.ensures.view c.settle-passed.new.self c.settle-passed.ensures.view
+    settled_view v c.answer-queue.new.self c.args.lane h (Forwarded c.args.event.now) c.answer-queue.ensures.oldest ordered c.answer-queue.ensures.places c.answer-queue.ensures.view c.settle-passed.new.self c.settle-passed.ensures.view
 
 pub returns-then-passed-clause-logged : goal.returns-then-passed-clause-logged
 returns-then-passed-clause-logged g c =
@@ -20,7 +20,7 @@ returns-then-passed-clause-logged g c =
     let h = held_of c.answer-queue.result in
     let ordered : is_ordered (queue_of v.shape h.queue).kind ≡ true =
     subst (λ (u : View). is_ordered (queue_of u.shape h.queue).kind ≡ true) c.answer-queue.ensures.view (sym c.restores_order.ensures ∙ c.if-restores_order.true) in
-    settled_log v c.answer-queue.new.self c.args.lane h (Forwarded c.args.event) c.answer-queue.ensures.oldest ordered c.answer-queue.ensures.places c.answer-queue.ensures.view _ _ _
+    settled_log v c.answer-queue.new.self c.args.lane h (Forwarded c.args.event.now) c.answer-queue.ensures.oldest ordered c.answer-queue.ensures.places c.answer-queue.ensures.view _ _ _
     c.answer-queue.ensures.logged c.settle-passed.ensures.logged
 
 pub returns-else-passed-clause-view : goal.returns-else-passed-clause-view
@@ -29,7 +29,7 @@ returns-else-passed-clause-view g c =
     let h = held_of c.answer-queue.result in
     let ordered : is_ordered (queue_of v.shape h.queue).kind ≡ true =
     subst (λ (u : View). is_ordered (queue_of u.shape h.queue).kind ≡ true) c.answer-queue.ensures.view (sym c.restores_order.ensures ∙ c.if-restores_order.true) in
-    settled_view v c.answer-queue.new.self c.args.lane h (Forwarded c.args.event) c.answer-queue.ensures.oldest ordered c.answer-queue.ensures.places c.answer-queue.ensures.view c.settle-passed.new.self c.settle-passed.ensures.view
+    settled_view v c.answer-queue.new.self c.args.lane h (Forwarded c.args.event.now) c.answer-queue.ensures.oldest ordered c.answer-queue.ensures.places c.answer-queue.ensures.view c.settle-passed.new.self c.settle-passed.ensures.view
 
 pub returns-else-passed-clause-logged : goal.returns-else-passed-clause-logged
 returns-else-passed-clause-logged g c =
@@ -37,5 +37,5 @@ returns-else-passed-clause-logged g c =
     let h = held_of c.answer-queue.result in
     let ordered : is_ordered (queue_of v.shape h.queue).kind ≡ true =
     subst (λ (u : View). is_ordered (queue_of u.shape h.queue).kind ≡ true) c.answer-queue.ensures.view (sym c.restores_order.ensures ∙ c.if-restores_order.true) in
-    settled_log v c.answer-queue.new.self c.args.lane h (Forwarded c.args.event) c.answer-queue.ensures.oldest ordered c.answer-queue.ensures.places c.answer-queue.ensures.view _ _ _
+    settled_log v c.answer-queue.new.self c.args.lane h (Forwarded c.args.event.now) c.answer-queue.ensures.oldest ordered c.answer-queue.ensures.places c.answer-queue.ensures.view _ _ _
     c.answer-queue.ensures.logged c.settle-passed.ensures.logged

@@ -3,7 +3,7 @@ use Rattle.evt_types.specs.declared.event.Numbered.{Numbered}
 use Rattle.waiting_lists.proofs.Firsts.{first_within, front_read}
 use Rattle.waiting_lists.proofs.Nodes.{node_read}
 use Rattle.waiting_lists.proofs.Views.{chain_read, there_seen, list_seen}
-use Rattle.waiting_lists.proofs.waiting.WaitingLists.front.Goals as goal
+use Rattle.waiting_lists.proofs.waiting.WaitingLists.head.Goals as goal
 
 pub index-requires : goal.index-requires
 index-requires c =

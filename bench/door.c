@@ -1,6 +1,6 @@
 /*
  * The rounds of `device_bench`, case `atomic-64-flows-tally`, through the C functions: a burst of NEWs, a sweep, a dequeue, a burst of
- * RELEASEs, which the next round's sweep takes. For counting instructions (`bench/door.py`).
+ * RELEASEs, which the next round's sweep takes. For counting instructions (`bench/instructions.py`).
  *
  *     door BURST ROUNDS
  */

@@ -249,11 +249,12 @@ fn the_head_is_seen_at_once(rt: HostRuntime) -> Result<(), Fail> {
 fn what_waits_is_listed_by_number(rt: HostRuntime) -> Result<(), Fail> {
     let mut queues = two_waiting(rt.alloc(), ZERO, ONE)?;
     let mut waiting = no_deliveries(rt.alloc(), 2)?;
-    let parked = match queues.first(1, 2, set_of(&[1])) {
+    let first = queues.first(1, 2, set_of(&[1]));
+    queues.list_waiting(1, &mut waiting);
+    let parked = match first {
         Some(found) => Some(found.slot),
         None => None,
     };
-    queues.list_waiting(1, &mut waiting);
     assert_eq!(rt; parked, Some(1));
     assert_eq!(rt;
         waiting.as_slice(),

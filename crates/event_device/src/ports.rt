@@ -38,6 +38,7 @@ fn make_port(
     let links = Vec::from_slice(alloc, shape.flow_links(number))?;
     let pool = shared.pool.clone()?;
     let claims = shared.claims.clone()?;
+    let hints = shared.hints.clone()?;
     let parts = Parts {
         pool,
         credit: seats.credit,
@@ -45,6 +46,7 @@ fn make_port(
         claim: seats.claim,
         flows: shape.flows().len(),
         links,
+        hints,
         own,
         depth: shape.depth_of(number),
         number,

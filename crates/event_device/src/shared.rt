@@ -11,15 +11,16 @@ use crate::fault::Want;
 use credit_pool::{CreditSeat, Credits};
 use event_recorder::Memory;
 use flow_claims::{ClaimSeat, Claims};
-use lane_rings::Far;
+use lane_rings::{Far, Hints};
 use std::alloc::{AllocError, Global};
 use std::sync::Arc;
 
-/// The credits of a device, and the claims of its flow lanes.
+/// The credits of a device, and the claims and the hints of its flow lanes.
 #[derive(Drop)]
 pub(crate) struct Shared {
     pub(crate) pool: Arc<Credits, Global>,
     pub(crate) claims: Arc<Claims, Global>,
+    pub(crate) hints: Arc<Hints, Global>,
 }
 
 /// A seat of each.
@@ -30,8 +31,14 @@ pub(crate) struct Seats {
 }
 
 impl Shared {
-    /// So many credits, all free, the claims of these lanes, and the first seats, which have all parts.
-    pub(crate) fn new(alloc: Global, limit: u64, ends: Vec<Far>) -> Result<(Shared, Seats), Memory>
+    /// So many credits, all free, the claims of these lanes, hints that nothing is in them, and the first seats, which have all
+    /// parts. The scheduler has so many lanes before the flow lanes.
+    pub(crate) fn new(
+        alloc: Global,
+        limit: u64,
+        before: usize,
+        ends: Vec<Far>,
+    ) -> Result<(Shared, Seats), Memory>
         requires limit { limit ≤ 2 ^ 32 }
         requires ends { All IsUnused ends.items }
         ensures pool { IfOk result (λ r. limit_of (arc_value r.0.pool) ≡ limit) }
@@ -44,7 +51,13 @@ impl Shared {
         };
         let pool = Arc::new(alloc, pool)?;
         let claims = Arc::new(alloc, claims)?;
-        Ok((Shared { pool, claims }, Seats { credit, claim }))
+        let hints = Arc::new(alloc, Hints::new(before))?;
+        let shared = Shared {
+            pool,
+            claims,
+            hints,
+        };
+        Ok((shared, Seats { credit, claim }))
     }
 
     /// Gives one part of each seat to seats for the port of this number: they are the second.

@@ -22,7 +22,7 @@ use std::sync::Arc;
 /// All of a device but its core.
 #[derive(Drop)]
 struct Prepared {
-    /// The control's.
+    /// The control's, but the hints, which are the scheduler's.
     shared: Shared,
     seats: Seats,
     /// The scheduler's.
@@ -41,7 +41,7 @@ fn prepare(alloc: Global, shape: &Shape) -> Result<Prepared, Want>
     let mut nears = Vec::with_capacity(alloc, all_lanes)?;
     let owns = add_lanes(alloc, shape, 0, own_lanes, &mut nears)?;
     let ends = add_lanes(alloc, shape, own_lanes, all_lanes, &mut nears)?;
-    let (shared, seats) = Shared::new(alloc, u64::from(shape.limit()), ends)?;
+    let (shared, seats) = Shared::new(alloc, u64::from(shape.limit()), own_lanes, ends)?;
     let (ports, seats) = make_ports(alloc, shape, &shared, seats, owns)?;
     let pool = shared.pool.clone()?;
     let Ok((credit, seat)) = shared.pool.split(seats.credit) else {
@@ -75,7 +75,7 @@ pub fn device(alloc: Global, shape: Shape) -> Result<(Scheduler, Vec<Port>, Cont
         Ok(core) => core,
         Err((_, shape)) => return Err(DeviceFault::Memory(shape)),
     };
-    let scheduler = Scheduler::new(made.pool, made.seat, core, made.nears);
+    let scheduler = Scheduler::new(made.pool, made.seat, core, made.nears, made.shared.hints);
     let control = Control::new(
         made.shared.pool,
         made.shared.claims,

@@ -1,6 +1,6 @@
 -- What arrives comes after what was received before, lane by lane and in all.
-use Rattle.std.proofs.Common.{◌≡◌, ◌≢◌, ℕ, suc, ◌+◌, ◌<◌, ◌≤◌, cond, true, List, [], ◌∷◌, ◌++◌, length, map, filter, All, refl, sym, ap, ◌∙◌, subst, arith, append-nil, append_assoc}
-use Rattle.std.proofs.lemmas.List.{map-append, length-append, length-map}
+use Rattle.std.proofs.Common.{◌≡◌, ◌≢◌, ℕ, suc, ◌+◌, ◌<◌, ◌≤◌, cond, true, List, [], ◌∷◌, ◌++◌, length, map, filter, take, drop, All, refl, sym, ap, ◌∙◌, subst, arith, append-nil, append_assoc}
+use Rattle.std.proofs.lemmas.List.{map-append, length-append, length-map, take-append-drop, take-take, take_all}
 use Rattle.std.proofs.lemmas.List.Elements.{All-nil, All-cons, All-weaker, filter-append}
 use mathlib.Core.Logic.{dite}
 use native.Mathlib.Decide.{dec_le}
@@ -11,7 +11,7 @@ use Rattle.event_ports.specs.declared.lane.Holding.{Holding}
 use Rattle.event_ports.specs.Lanes.{Hand, Rests, Takes, Arrival, Arrives, ArrivesFrom, ComesInOrder, HasRoomFor, lanes_read, from_lane, same_lane, holding_of}
 use Rattle.event_ports.specs.declared.lane.Lane.TheVariants.{Own, Flow}
 use Rattle.event_ports.proofs.Orders.{by_lane, lane_same}
-use Rattle.event_ports.proofs.ReadOrder.{from_one, one_in_order, more_in_order, flows_only, all_linked_to}
+use Rattle.event_ports.proofs.ReadOrder.{from_one, none_in_order, one_in_order, more_in_order, flows_only, all_linked_to}
 
 -- deliveries that arrived from one lane
 abbrev from : Lane → List Delivery → List Arrival
@@ -74,12 +74,12 @@ arrives_none lane h m b same =
       holding = same.holding ∙ sym (append-nil h.holding);
     }) (sym (append-nil b))
 
--- no lane was read
-pub none_read : (h : Hand) (b : List Delivery) → ArrivesFrom [] h h b b
-none_read h b = record {
+-- these lanes were passed over
+pub none_read : (lanes : List Lane) (h : Hand) (b : List Delivery) → ArrivesFrom lanes h h b b
+none_read lanes h b = record {
   arrived = [];
   deliveries = sym (append-nil b);
-  in_order = refl;
+  in_order = none_in_order lanes;
   said = λ l. refl;
   got = λ l. sym (append-nil (h.got l));
   holding = sym (append-nil h.holding);
@@ -100,6 +100,19 @@ arrives_more lanes later all h k m b c e read a t = record {
       ∙ append_assoc h.holding (map (λ (x : Arrival). holding_of x.0 x.1) a.arrived) (map (λ (x : Arrival). holding_of x.0 x.1) t.arrived)
       ∙ ap (λ r. h.holding ++ r) (sym (map-append (λ (x : Arrival). holding_of x.0 x.1) a.arrived t.arrived));
 }
+
+-- from the links up to a later place, where those between were passed over
+pub arrives_past : (links : List ℕ) (from to : ℕ) (h k : Hand) (b c : List Delivery) → from ≤ to → ArrivesFrom (map Flow (take from links)) h k b c → ArrivesFrom (map Flow (take to links)) h k b c
+arrives_past links from to h k b c le a =
+    let past : List ℕ = drop from (take to links) in
+    let read : map Flow (take to links) ≡ map Flow (take from links) ++ map Flow past =
+    ap (map Flow) (sym (take-append-drop from (take to links)) ∙ ap (λ r. r ++ past) (take-take from to links le)) ∙ map-append Flow (take from links) past in
+    arrives_more (map Flow (take from links)) (map Flow past) (map Flow (take to links)) h k k b c c read a (none_read (map Flow past) k c)
+
+pub arrives_all : (links : List ℕ) (from : ℕ) (h k : Hand) (b c : List Delivery) → from ≤ length links → ArrivesFrom (map Flow (take from links)) h k b c → ArrivesFrom (map Flow links) h k b c
+arrives_all links from h k b c le a =
+    let To : List ℕ → Type 0 = λ ls. ArrivesFrom (map Flow ls) h k b c in
+    subst To (take_all (length links) links (omega arith)) (arrives_past links from (length links) h k b c le a)
 
 -- how many there are then
 pub arrives_grows : (lanes : List Lane) (h k : Hand) (b c : List Delivery) → ArrivesFrom lanes h k b c → length b ≤ length c

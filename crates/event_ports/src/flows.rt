@@ -6,7 +6,7 @@ ghost use Rattle.event_ports.specs.Holds.{AreFlows, AreShown};
 use arrayvec::ArrayVec;
 use evt_types::{Delivery, Event};
 use flow_claims::{Claim, ClaimSeat, Claims, Stint};
-use lane_rings::Refusal;
+use lane_rings::{Hints, LaneSet, Refusal};
 use std::alloc::{AllocError, Global};
 use std::sync::Arc;
 
@@ -19,6 +19,11 @@ pub(crate) struct FlowLanes {
     links: Vec<usize>,
     /// The lane that was answered last, where what was answered wasn't flushed.
     touched: Option<usize>,
+    /// The hints of the device, the lanes of the links, and those that the port holds. A dequeue finds the lanes to look at by these
+    /// three, and no promise rests on them.
+    hints: Arc<Hints, Global>,
+    linked: LaneSet,
+    open: LaneSet,
     ghost are: { AreFlows (arc_value claims) seat stints.items links.items },
     ghost shown: { AreShown touched stints.items },
 }
@@ -41,6 +46,7 @@ impl FlowLanes {
         seat: ClaimSeat,
         stints: Vec<Option<Stint>>,
         links: Vec<usize>,
+        hints: Arc<Hints, Global>,
     ) -> FlowLanes
         requires seat { IsSeatOf (arc_value claims) seat × (port_of seat < 254) }
         requires fresh { HoldsNone (seating seat) × ((seating seat).finished ≡ []) }
@@ -50,12 +56,16 @@ impl FlowLanes {
         ensures empty { AreEmpty (hands_of result) }
         ensures shown { NoneHidden (hands_of result) }
     {
+        let linked = lanes_of_links(&links);
         FlowLanes {
             claims,
             seat,
             stints,
             links,
             touched: None,
+            hints,
+            linked,
+            open: LaneSet::none(),
         }
     }
 
@@ -76,6 +86,33 @@ impl FlowLanes {
         self.links[place]
     }
 
+    /// The linked flow lanes that may have something: those with a hint, and those that the port holds.
+    #[inline(always)]
+    pub(crate) fn worth_a_look(&self) -> LaneSet {
+        // Without flow lanes the words aren't read.
+        if self.links.is_empty() {
+            return LaneSet::none();
+        }
+        self.hints.lanes().either(self.open).both(self.linked)
+    }
+
+    /// The next place of the links, from this one on, of a lane that is worth a look; past the last where there is none.
+    #[inline(always)]
+    pub(crate) fn next_place(&self, place: usize, worthy: LaneSet) -> usize
+        requires { place ≤ length (flow_place self.now).links }
+        ensures { (place ≤ result) × (result ≤ length (flow_place self.now).links) }
+    {
+        let Some(from) = self.links.get(place) else {
+            return place;
+        };
+        // The links rise, so before a lane's place come the lower ones.
+        let lane = worthy.first_from(*from);
+        self.linked
+            .count_below(lane)
+            .max(place)
+            .min(self.links.len())
+    }
+
     /// Holds the lane, where it isn't held already, by one try. False where it can't be had.
     pub(crate) fn hold(&mut self, lane: usize) -> bool
         requires exists { lane < length (lanes_of (flow_place self.old).claims) }
@@ -93,6 +130,7 @@ impl FlowLanes {
             return false;
         };
         self.stints[lane] = Some(stint);
+        self.open.add(lane);
         true
     }
 
@@ -115,7 +153,13 @@ impl FlowLanes {
         let Some(stint) = &mut self.stints[lane] else {
             return;
         };
+        // What the scheduler gives from here on sets the hint again.
+        self.hints.clear(lane);
+        let known = stint.far.seen();
+        let from = into.len();
         stint.receive_some(most, into);
+        let came = into.len().saturating_sub(from);
+        hint_again(&self.hints, stint, known, came, into.len() < most);
     }
 
     /// How many events were added beside the oldest delivery that is held of the lane; 0 where the lane isn't held.
@@ -245,6 +289,7 @@ impl FlowLanes {
         };
         if is_done(&stint) {
             self.claims.give_back(&mut self.seat, stint);
+            self.open.remove(lane);
         } else {
             self.stints[lane] = Some(stint);
         }
@@ -295,6 +340,28 @@ pub(crate) fn free_places(alloc: Global, lanes: usize) -> Result<Vec<Option<Stin
         stints.push_reserved(None);
     }
     Ok(stints)
+}
+
+// The lanes of the links.
+fn lanes_of_links(links: &[usize]) -> LaneSet {
+    let mut lanes = LaneSet::none();
+    for lane in links {
+        lanes.add(*lane);
+    }
+    lanes
+}
+
+// Sets the lane's hint where something may lie in its ring after a look by which so many came; so many were known before it. The
+// look was short where it could have brought more.
+fn hint_again(hints: &Hints, stint: &Stint, known: usize, came: usize, is_short: bool) {
+    // A look that was short found the ring empty.
+    if is_short && !stint.far.is_full() {
+        return;
+    }
+    // A look that ended within what was known didn't see what came since.
+    if came <= known || stint.far.seen() > 0 {
+        hints.set(stint.lane);
+    }
 }
 
 // Whether nothing of the lane is unanswered.

@@ -211,7 +211,7 @@ impl Lanes {
     }
 
     /// Receives at most `max` deliveries, and no more than may be held: from the own lane first, then from the linked flow lanes
-    /// in their order, of which each that isn't held is claimed by one try.
+    /// in their order, of which one that isn't held is claimed by one try where there is a hint that it has something.
     #[inline(always)]
     pub(crate) fn receive_all(&mut self, max: usize, into: &mut ArrayVec<Delivery, 64>)
         requires { into.old.items ≡ [] }
@@ -274,7 +274,8 @@ impl Lanes {
         note(&mut self.order, Lane::Own, from, into);
     }
 
-    // Receives from the linked flow lanes in their order, until `most` deliveries came in all.
+    // Receives from the linked flow lanes in their order, until `most` deliveries came in all. Those that aren't worth a look are
+    // passed over.
     fn receive_flows(&mut self, most: usize, into: &mut ArrayVec<Delivery, 64>)
         requires { HasRoomFor most (lanes_place self.old).depth (hand_of self.old).holding into.old.items }
         ensures place { lanes_place self.new ≡ lanes_place self.old }
@@ -285,9 +286,13 @@ impl Lanes {
         ensures others { seen_own self.new ≡ seen_own self.old }
         ensures shown { AllShown self.old → AllShown self.new }
     {
-        for place in 0..self.flows.link_count() {
+        let worthy = self.flows.worth_a_look();
+        let count = self.flows.link_count();
+        let mut place = self.flows.next_place(0, worthy);
+        while place < count && into.len() < most {
             let lane = self.flows.link(place);
             self.receive_flow(lane, most, into);
+            place = self.flows.next_place(place + 1, worthy);
         }
     }
 

@@ -27,7 +27,7 @@ use crate::rest::Left;
 use circular_buffer::HeapCircularBuffer;
 use credit_pool::{CreditSeat, Credits};
 use flow_claims::{ClaimSeat, Claims};
-use lane_rings::Far;
+use lane_rings::{Far, Hints};
 use std::alloc::{AllocError, Global};
 use std::sync::Arc;
 
@@ -40,11 +40,13 @@ pub struct Parts {
     /// The credits of the device, and a seat for the port.
     pub pool: Arc<Credits, Global>,
     pub credit: CreditSeat,
-    /// The flow lanes of the device, a seat for the port, and the lanes to which the port is linked.
+    /// The flow lanes of the device, a seat for the port, and the lanes to which the port is linked, by rising number.
     pub claims: Arc<Claims, Global>,
     pub claim: ClaimSeat,
     pub flows: usize,
     pub links: Vec<usize>,
+    /// The hints of the flow lanes, which the scheduler and the ports share.
+    pub hints: Arc<Hints, Global>,
     /// The end of the port's own lane, and how many deliveries may be held.
     pub own: Far,
     pub depth: usize,
@@ -82,6 +84,7 @@ impl Port {
             claim,
             flows: _,
             links,
+            hints,
             own,
             depth: _,
             number,
@@ -90,7 +93,7 @@ impl Port {
             quantum,
             threshold,
         } = parts;
-        let flows = FlowLanes::new(claims, claim, stints, links);
+        let flows = FlowLanes::new(claims, claim, stints, links, hints);
         let lanes = Lanes::new(own, flows, order);
         let desk = Desk {
             pool,

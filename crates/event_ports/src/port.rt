@@ -91,9 +91,9 @@ impl Port {
     }
 
     /// Receives at most `max` deliveries, and no more than may be held: from the own lane until nothing is seen in its ring, and then
-    /// from the linked flow lanes, of which one that isn't held is claimed by one try, and goes back where nothing came. With implicit
-    /// release all that is held is released first, oldest first; where a reply ring has no room for all of it, nothing is received and
-    /// the rest stays held.
+    /// from the linked flow lanes, of which one that isn't held is claimed by one try, where a hint says that it may have something,
+    /// and goes back where nothing came. With implicit release all that is held is released first, oldest first; where a reply ring
+    /// has no room for all of it, nothing is received and the rest stays held.
     pub fn dequeue(&mut self, max: usize) -> Result<ArrayVec<Delivery, 64>, Behind>
         ensures place { place_of self.new ≡ place_of self.old }
         ensures credit { Stays (account_of self.old) (account_of self.new) }

@@ -12,7 +12,7 @@ ghost use Rattle.transcripts.specs.Choice.{IsOffer};
 ghost use Rattle.transcripts.specs.Standing.{View};
 
 use crate::scheduler::Scheduler;
-use lane_rings::Near;
+use lane_rings::{Hints, Near};
 use sched_core::{Core, Offer, Skips};
 use step_log::StepLog;
 
@@ -38,8 +38,8 @@ fn offer_one<L: StepLog>(core: &mut Core, lanes: &mut Vec<Near>, offer: Offer, l
     }
 }
 
-/// Puts what the lane was offered into its ring, where its holder sees it.
-fn show(lanes: &mut Vec<Near>, lane: usize)
+/// Puts what the lane was offered into its ring, where its holder sees it, and then sets the lane's hint.
+fn show(lanes: &mut Vec<Near>, hints: &Hints, lane: usize)
     requires { OneHidden lane lanes.old.items }
     ensures shown { NoneHidden lanes.new.items }
     ensures sight { (pool : Credits) (core : View) (v : Account) (p n : ℕ) → sight pool core lanes.new.items v p n ≡ sight pool core lanes.old.items v p n }
@@ -47,18 +47,19 @@ fn show(lanes: &mut Vec<Near>, lane: usize)
 {
     if lane < lanes.len() {
         lanes[lane].flush();
+        hints.gave(lane);
     }
 }
 
 /// Where the next lane is another one than the last, what the last one was offered goes into its ring.
-fn turn(lanes: &mut Vec<Near>, last: usize, next: usize)
+fn turn(lanes: &mut Vec<Near>, hints: &Hints, last: usize, next: usize)
     requires { OneHidden last lanes.old.items }
     ensures hidden { OneHidden next lanes.new.items }
     ensures sight { (pool : Credits) (core : View) (v : Account) (p n : ℕ) → sight pool core lanes.new.items v p n ≡ sight pool core lanes.old.items v p n }
     ensures count { length lanes.new.items ≡ length lanes.old.items }
 {
     if next != last {
-        show(lanes, last);
+        show(lanes, hints, last);
     }
 }
 
@@ -66,6 +67,7 @@ fn turn(lanes: &mut Vec<Near>, last: usize, next: usize)
 fn give_one<L: StepLog>(
     core: &mut Core,
     lanes: &mut Vec<Near>,
+    hints: &Hints,
     offer: Offer,
     last: usize,
     log: &mut L,
@@ -80,12 +82,17 @@ fn give_one<L: StepLog>(
     ensures hidden { OneHidden offer.lane lanes.new.items }
     ensures room { L.room log.old ≤ L.room log.new + 1 }
 {
-    turn(lanes, last, offer.lane);
+    turn(lanes, hints, last, offer.lane);
     offer_one(core, lanes, offer, log)
 }
 
 /// Gives what is chosen, one event after the other, until no choice is left. What a lane is given in a row its holder sees at once.
-fn give_each<L: StepLog>(core: &mut Core, lanes: &mut Vec<Near>, log: &mut L) -> (usize, usize)
+fn give_each<L: StepLog>(
+    core: &mut Core,
+    lanes: &mut Vec<Near>,
+    hints: &Hints,
+    log: &mut L,
+) -> (usize, usize)
     requires lanes { length lanes.old.items ≡ lanes_of core.old.shape }
     requires shown { NoneHidden lanes.old.items }
     requires room { core.old.shape.sweep * length core.old.shape.queues + lanes_of core.old.shape ≤ L.room log.old }
@@ -99,7 +106,7 @@ fn give_each<L: StepLog>(core: &mut Core, lanes: &mut Vec<Near>, log: &mut L) ->
     let mut bounced = 0;
     let mut lane = 0;
     while let Some(offer) = core.propose(&skips) {
-        if give_one(core, lanes, offer, lane, log) {
+        if give_one(core, lanes, hints, offer, lane, log) {
             skips.given(offer.delivery.queue);
             given += 1;
         } else {
@@ -108,7 +115,7 @@ fn give_each<L: StepLog>(core: &mut Core, lanes: &mut Vec<Near>, log: &mut L) ->
         }
         lane = offer.lane;
     }
-    show(lanes, lane);
+    show(lanes, hints, lane);
     (given, bounced)
 }
 
@@ -118,6 +125,6 @@ impl Scheduler {
         requires room { self.old.core.shape.sweep * length self.old.core.shape.queues + lanes_of self.old.core.shape ≤ L.room log.old }
         ensures { GivesAll result.0 result.1 (sight_of self.old) (L.steps log.old) (sight_of self.new) (L.steps log.new) }
     {
-        give_each(&mut self.core, &mut self.lanes, log)
+        give_each(&mut self.core, &mut self.lanes, &self.hints, log)
     }
 }

@@ -8,7 +8,7 @@ ghost use Rattle.std.specs.Arc.{arc_value};
 
 use crate::parts::Parts;
 use credit_pool::{CreditSeat, Credits};
-use lane_rings::Near;
+use lane_rings::{Hints, Near};
 use sched_core::Core;
 use std::alloc::Global;
 use std::sync::Arc;
@@ -21,6 +21,8 @@ pub struct Scheduler {
     pub(crate) seat: CreditSeat,
     pub(crate) core: Core,
     pub(crate) lanes: Vec<Near>,
+    /// The hints of the flow lanes, which the ports share.
+    pub(crate) hints: Arc<Hints, Global>,
     /// The credits of what was turned away, as far as they weren't given back yet.
     pub(crate) pocket: u64,
     /// How many events were accepted as new.
@@ -48,6 +50,7 @@ impl Scheduler {
         seat: CreditSeat,
         core: Core,
         lanes: Vec<Near>,
+        hints: Arc<Hints, Global>,
     ) -> Scheduler
         requires seat { IsSeatOf (arc_value pool) seat }
         requires account { IsUnused (account seat) }
@@ -61,6 +64,7 @@ impl Scheduler {
             seat,
             core,
             lanes,
+            hints,
             pocket: 0,
             accepted_new: 0,
         }
@@ -80,6 +84,7 @@ impl Scheduler {
             seat,
             core,
             lanes,
+            hints: _,
             pocket,
             accepted_new: _,
         } = self;

@@ -3,6 +3,7 @@
 #![tactic(auto)]
 
 mod far;
+mod hints;
 mod intake;
 mod near;
 mod outlet;
@@ -11,6 +12,7 @@ mod pocket;
 mod rests;
 
 pub use far::{AnswerFault, Far, Refusal};
+pub use hints::{Hints, LaneSet};
 pub use near::Near;
 pub use pair::{Memory, beside, lane};
 pub use rests::Beside;

@@ -2,6 +2,7 @@ pub mod Comings
 pub mod DueAnswers
 pub mod Examples
 pub mod Finished
+pub mod Groups
 pub mod Halves
 pub mod Members
 pub mod Pasts

@@ -1,3 +1,4 @@
+pub mod AcceptedEvents
 pub mod Comings
 pub mod DueAnswers
 pub mod Examples

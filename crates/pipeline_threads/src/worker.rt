@@ -11,13 +11,13 @@ ghost use Rattle.pipeline_threads.specs.Ports.{HasWorked, IsEven, IsIdle, Receiv
 ghost use Rattle.transcripts.specs.Replies.{said};
 
 use crate::gate::Gate;
+use crate::patience::Patience;
 use crate::submit::submit;
 use arrayvec::ArrayVec;
 use event_device::Port;
 use evt_types::{Delivery, Event, Outcome};
 use pipeline_laws::{Action, answer};
 use std::sync::Wait;
-use std::thread;
 
 /// The next event, where one has come. The list is the worker's own, so that a look makes none.
 fn receive(port: &mut Port, deliveries: &mut ArrayVec<Delivery, 64>) -> Option<Delivery>
@@ -51,6 +51,7 @@ fn turn<R: Wait, G: Gate>(
     actions: &[Action],
     port: &mut Port,
     deliveries: &mut ArrayVec<Delivery, 64>,
+    patience: &mut Patience,
 ) -> bool
     requires actions { All IsProper actions.now }
     requires few { length actions.now ≤ 255 }
@@ -61,11 +62,12 @@ fn turn<R: Wait, G: Gate>(
 {
     match receive(port, deliveries) {
         Some(delivery) => {
+            *patience = Patience::new();
             gate.enter(port.number(), delivery.event.payload);
             submit(rt, port, answer_event(actions, &delivery))
         }
         None => {
-            thread::yield_now();
+            patience.wait();
             !port.shut_seen()
         }
     }
@@ -80,8 +82,9 @@ pub(crate) fn work<R: Wait, G: Gate>(rt: &R, gate: &G, actions: &[Action], port:
 {
     let mut port = port;
     let mut deliveries = ArrayVec::new();
+    let mut patience = Patience::new();
     for _ in rt.forever() {
-        if !turn(rt, gate, actions, &mut port, &mut deliveries) {
+        if !turn(rt, gate, actions, &mut port, &mut deliveries, &mut patience) {
             return port;
         }
     }

@@ -46,7 +46,7 @@ fn played_text<R: Read>(alloc: Global, reader: &mut R) -> Result<String, AppFaul
     document_text(alloc, &bytes)
 }
 
-/// HasRead a document, plays its script on a device in one thread, and writes the answers, the log and the report. The text
+/// Reads a document, plays its script on a device in one thread, and writes the answers, the log and the report. The text
 /// is built whole and then written.
 pub fn play<R: Read, W: Write>(
     alloc: Global,

@@ -1,7 +1,9 @@
+pub mod AcceptedEvents
 pub mod Comings
 pub mod DueAnswers
 pub mod Examples
 pub mod Finished
+pub mod Groups
 pub mod Halves
 pub mod Members
 pub mod Pasts

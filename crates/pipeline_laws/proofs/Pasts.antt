@@ -21,6 +21,13 @@ use Rattle.transcripts.specs.Transcript.{accepted, accepted_in, answer_of, answe
 pub rows_set : {X : Type 0} (lists : List (Vec X Global)) (n : ℕ) (list : Vec X Global) → rows (set lists n list) ≡ set (rows lists) n list.items
 rows_set {X} lists n list = map-set (λ (v : Vec X Global). v.items) lists n list
 
+pub length-rows : {X : Type 0} (lists : List (Vec X Global)) → length (rows lists) ≡ length lists
+length-rows {X} lists = length-map lists (λ (v : Vec X Global). v.items)
+
+-- another list than the one that is written
+pub row-set_other : {X : Type 0} (lists : List (Vec X Global)) (n k : ℕ) (list : Vec X Global) → k ≢ n → row (rows (set lists n list)) k ≡ row (rows lists) k
+row-set_other lists n k list other = ap (λ ls. row ls k) (rows_set lists n list) ∙ get_or-set_other (rows lists) n k list.items [] other
+
 -- the list at a place that is there
 pub row_is : {X : Type 0} (lists : List (Vec X Global)) (n : ℕ) (d : Vec X Global) → n < length lists → row (rows lists) n ≡ (get_or lists n d).items
 row_is [] n d h = absurd (omega arith)
@@ -46,25 +53,26 @@ index_none (suc count) (suc n) = index_none count n
 -- ---- one step more
 
 -- of one list a row has one item more, as another list of rows says
-row_more : {X : Type 0} (old new : List (List X)) (n : ℕ) (x : X) (f g : ℕ → List X) → n < length old → new ≡ set old n (row old n ++ x ∷ []) → ((k : ℕ) → row old k ≡ f k)
-    → g n ≡ f n ++ x ∷ [] → ((k : ℕ) → k ≢ n → g k ≡ f k) → (k : ℕ) → row new k ≡ g k
-row_more old new n x f g h is was here others k = ⊎_elim same other (cases_eq k n)
+pub row_more : {X : Type 0} (old new : List (List X)) (n : ℕ) (x : X) (f g : ℕ → List X) → n < length old → new ≡ set old n (row old n ++ x ∷ []) → g n ≡ f n ++ x ∷ []
+    → ((k : ℕ) → k ≢ n → g k ≡ f k) → (k : ℕ) → row old k ≡ f k → row new k ≡ g k
+row_more old new n x f g h is here others k was = ⊎_elim same other (cases_eq k n)
   where
     same : k ≡ n → row new k ≡ g k
     same e =
-        ap (row new) e ∙ (ap (λ ls. row ls n) is ∙ (get_or-set_same old n (row old n ++ x ∷ []) [] h ∙ (ap (λ ys. ys ++ x ∷ []) (was n) ∙ (sym here ∙ ap g (sym e)))))
+        ap (row new) e ∙ (ap (λ ls. row ls n) is ∙ (get_or-set_same old n (row old n ++ x ∷ []) [] h
+        ∙ (ap (λ ys. ys ++ x ∷ []) (subst (λ m. row old m ≡ f m) e was) ∙ (sym here ∙ ap g (sym e)))))
 
     other : k ≢ n → row new k ≡ g k
-    other d = ap (λ ls. row ls k) is ∙ (get_or-set_other old n k (row old n ++ x ∷ []) [] d ∙ (was k ∙ sym (others k d)))
+    other d = ap (λ ls. row ls k) is ∙ (get_or-set_other old n k (row old n ++ x ∷ []) [] d ∙ (was ∙ sym (others k d)))
 
 pub follows_accept : (T : List Step) (past new : Past) (q : ℕ) (e : Event) (s : Source) → Follows T past → q < length past.accepted.items
     → rows new.accepted.items ≡ set (rows past.accepted.items) q (row (rows past.accepted.items) q ++ e ∷ []) → new.given ≡ past.given → new.answered ≡ past.answered
     → Follows (T ++ Accept q e s ∷ []) new
 follows_accept T past new q e s f h accepts given answered = record {
-  accepted =
+  accepted = λ k.
       row_more (rows past.accepted.items) (rows new.accepted.items) q e (accepted T) (accepted (T ++ Accept q e s ∷ [])) (omega (arith, length-map past.accepted.items (λ (v : Vec Event Global). v.items))) accepts
-      f.accepted (accepted-some T q (Accept q e s) e (accepted_in-same q e s))
-      (λ k d. accepted-none T k (Accept q e s) (accepted_in-other k q e s (λ same. d (sym same))));
+      (accepted-some T q (Accept q e s) e (accepted_in-same q e s))
+      (λ j d. accepted-none T j (Accept q e s) (accepted_in-other j q e s (λ same. d (sym same)))) k (f.accepted k);
   given = λ l. ap (λ (v : Vec (Vec (ℕ × ℕ) Global) Global). row (rows v.items) l) given ∙ (f.given l ∙ sym (out-none T l (Accept q e s) refl));
   answered =
       λ l. ap (λ (v : Vec ℕ Global). slice_index v.items l) answered ∙ (f.answered l ∙ sym (ap length (answers-none T l (Accept q e s) refl)));
@@ -75,10 +83,10 @@ pub follows_give : (T : List Step) (past new : Past) (l q n : ℕ) → Follows T
     → Follows (T ++ Give l q n ∷ []) new
 follows_give T past new l q n f h gives accepts answered = record {
   accepted = λ k. ap (λ (v : Vec (Vec Event Global) Global). row (rows v.items) k) accepts ∙ (f.accepted k ∙ sym (accepted-none T k (Give l q n) refl));
-  given =
-      row_more (rows past.given.items) (rows new.given.items) l (q, n) (out T) (out (T ++ Give l q n ∷ [])) (omega (arith, length-map past.given.items (λ (v : Vec (ℕ × ℕ) Global). v.items))) gives f.given
+  given = λ k.
+      row_more (rows past.given.items) (rows new.given.items) l (q, n) (out T) (out (T ++ Give l q n ∷ [])) (omega (arith, length-map past.given.items (λ (v : Vec (ℕ × ℕ) Global). v.items))) gives
       (out-some T l (Give l q n) (q, n) (given_to-same l q n))
-      (λ k d. out-none T k (Give l q n) (given_to-other k l q n (λ same. d (sym same))));
+      (λ j d. out-none T j (Give l q n) (given_to-other j l q n (λ same. d (sym same)))) k (f.given k);
   answered =
       λ m. ap (λ (v : Vec ℕ Global). slice_index v.items m) answered ∙ (f.answered m ∙ sym (ap length (answers-none T m (Give l q n) refl)));
 }

@@ -19,6 +19,20 @@ rows {X} lists = map (λ (list : Vec X Global). list.items) lists
 abbrev pub row : {X : Type 0} → List (List X) → ℕ → List X
 row lists n = slice_index_or lists n []
 
+-- the lists are of what the first queues accepted
+abbrev pub HoldAccepted : List Step → List (Vec Event Global) → Type 0
+HoldAccepted T lists = (q : ℕ) → q < length lists → row (rows lists) q ≡ accepted T q
+
+-- the event that a step accepts, with its queue
+abbrev pub accepted_by_step : Step → Option (ℕ × Event)
+accepted_by_step (Accept q e s) = Some (q, e)
+accepted_by_step (Give l q n) = None
+accepted_by_step (Done l o) = None
+accepted_by_step (More l e) = None
+accepted_by_step (Turned l e) = None
+accepted_by_step (Bounced l) = None
+accepted_by_step Shut = None
+
 -- it knows what each queue accepted, what each lane was given, and how many of these the lane answered
 pub record Follows (T : List Step) (past : Past) : Type 0 where
   pub accepted : (q : ℕ) → row (rows past.accepted.items) q ≡ accepted T q

@@ -3,6 +3,7 @@
 //! the check and the text of a finished log.
 #![tactic(auto)]
 
+mod accepted;
 mod answers;
 mod check;
 mod example;

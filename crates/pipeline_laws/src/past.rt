@@ -20,7 +20,7 @@ pub(crate) struct Past {
 }
 
 /// So many empty lists.
-fn empty_lists<T: Drop>(alloc: Global, count: usize) -> Result<Vec<Vec<T>>, AllocError>
+pub(crate) fn empty_lists<T: Drop>(alloc: Global, count: usize) -> Result<Vec<Vec<T>>, AllocError>
     ensures { IfOk result (λ lists. rows lists.items ≡ replicate count []) }
 {
     let mut lists = Vec::with_capacity(alloc, count)?;
@@ -38,7 +38,11 @@ fn zeros(alloc: Global, count: usize) -> Result<Vec<usize>, AllocError>
 }
 
 /// One item more at the end of one of the lists.
-fn push_to<T: Drop>(lists: &mut Vec<Vec<T>>, place: usize, item: T) -> Result<(), AllocError>
+pub(crate) fn push_to<T: Drop>(
+    lists: &mut Vec<Vec<T>>,
+    place: usize,
+    item: T,
+) -> Result<(), AllocError>
     requires { place < length lists.old.items }
     ensures { OnOk result (rows lists.new.items ≡ slice_set (rows lists.old.items) place (row (rows lists.old.items) place ++ item ∷ [])) }
 {

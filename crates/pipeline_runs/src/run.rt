@@ -29,8 +29,8 @@ fn log_text(alloc: Global, stages: usize, log: &[Step]) -> Result<String, AllocE
     Ok(text)
 }
 
-/// Whether each answer of the log is its stage's action, and no event was added beside another. Where the ports serve the workers' promises say so; where flow lanes change
-/// hands the log itself is looked through.
+/// Whether each answer of the log is its stage's action, and no event was added beside another. Where the ports serve the workers'
+/// promises say so; where flow lanes change hands the log itself is looked through.
 fn is_worked(
     alloc: Global,
     serving: Serving,
@@ -125,7 +125,7 @@ fn ran_text<R: Threads + Wait + Sync, I: Read, G: Gate>(
     document_text(rt, alloc, &bytes, workers, gate)
 }
 
-/// HasRead a pipeline's document, runs its trace through the stages with so many workers, each in a thread of its own, and writes what
+/// Reads a pipeline's document, runs its trace through the stages with so many workers, each in a thread of its own, and writes what
 /// each stage accepted, by flow and level. Whatever the schedule, the text is that of the plain pipeline; it is built whole and then
 /// written. Each worker passes the gate before each event's action.
 pub fn run_trace<R: Threads + Wait + Sync, I: Read, W: Write, G: Gate>(

@@ -1,5 +1,5 @@
 -- A device that threads run, and what is known of it once they are joined.
-use Rattle.std.specs.Prelude.{◌≡◌, ℕ, ◌<◌, List, [], ◌∷◌, length, map, All}
+use Rattle.std.specs.Prelude.{◌≡◌, ◌<◌, List, [], ◌∷◌, length, map, All}
 use Rattle.event_ports.specs.declared.port.Port.{Port}
 use Rattle.event_recorder.specs.Control.{control_of}
 use Rattle.event_recorder.specs.Device.{Device, IsDevice, control_site, port_site, scheduler_of, scheduler_site, site_of}

@@ -9,11 +9,11 @@ ghost use Rattle.pipeline_threads.specs.Run.{IsEngineOf, IsReady};
 
 use crate::fault::RunFault;
 use crate::gate::Gate;
+use crate::patience::Patience;
 use event_device::{Control, DeviceFault, Memory, Port, Recorder, Report, StopFault, device};
 use evt_types::Shape;
 use std::alloc::{AllocError, Global};
 use std::sync::Wait;
-use std::thread;
 
 /// A device: its scheduler with the log of all sweeps, its control, and its ports by number.
 #[derive(Drop)]
@@ -53,6 +53,7 @@ pub(crate) fn sweep_all<R: Wait, G: Gate>(
     ensures all { OnOk result (new_count recorder.new.log ≡ count) }
     ensures none_inside { OnOk result (transcripts.inside recorder.new.sight.core.shape recorder.new.log ≡ 0) }
 {
+    let mut patience = Patience::new();
     for _ in rt.forever() {
         let swept = recorder.sweep()?;
         let accepted = recorder.accepted_new();
@@ -62,7 +63,9 @@ pub(crate) fn sweep_all<R: Wait, G: Gate>(
             return Ok(());
         }
         if swept.taken == 0 && swept.given == 0 {
-            thread::yield_now();
+            patience.wait();
+        } else {
+            patience = Patience::new();
         }
     }
     unreachable!()

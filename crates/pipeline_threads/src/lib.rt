@@ -5,6 +5,7 @@
 mod engine;
 mod fault;
 mod gate;
+mod patience;
 mod producer;
 mod promise;
 mod run;

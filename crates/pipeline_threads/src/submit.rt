@@ -5,10 +5,10 @@ ghost use Rattle.event_ports.specs.Lanes.{Rests, SubmitsTo, lane_for, reply_of};
 ghost use Rattle.event_ports.specs.Ports.{hand};
 ghost use Rattle.event_recorder.specs.Device.{site_of};
 
+use crate::patience::Patience;
 use event_device::Port;
 use evt_types::Event;
 use std::sync::Wait;
-use std::thread;
 
 /// Enqueues the event, again after each refusal, until it is taken or the device is seen shut: whether it was taken.
 pub(crate) fn submit<R: Wait>(rt: &R, port: &mut Port, event: Event) -> bool
@@ -16,6 +16,7 @@ pub(crate) fn submit<R: Wait>(rt: &R, port: &mut Port, event: Event) -> bool
     ensures taken { IsTrue result → SubmitsTo (lane_for event.op (hand port.old).holding) (reply_of event) (hand port.old) (hand port.new) }
     ensures shut { IsFalse result → Rests (hand port.old) (hand port.new) }
 {
+    let mut patience = Patience::new();
     for _ in rt.forever() {
         match port.enqueue(event) {
             Ok(()) => return true,
@@ -25,7 +26,7 @@ pub(crate) fn submit<R: Wait>(rt: &R, port: &mut Port, event: Event) -> bool
                 }
             }
         }
-        thread::yield_now();
+        patience.wait();
     }
     unreachable!()
 }

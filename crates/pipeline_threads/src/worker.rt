@@ -11,22 +11,21 @@ ghost use Rattle.pipeline_threads.specs.Ports.{HasWorked, IsEven, IsIdle, Receiv
 ghost use Rattle.transcripts.specs.Replies.{said};
 
 use crate::gate::Gate;
+use crate::patience::Patience;
 use crate::submit::submit;
 use arrayvec::ArrayVec;
 use event_device::Port;
 use evt_types::{Delivery, Event, Outcome};
 use pipeline_laws::{Action, answer};
 use std::sync::Wait;
-use std::thread;
 
-/// The next event, where one has come.
-fn receive(port: &mut Port) -> Option<Delivery>
+/// The next event, where one has come. The list is the worker's own, so that a look makes none.
+fn receive(port: &mut Port, deliveries: &mut ArrayVec<Delivery, 64>) -> Option<Delivery>
     requires none { (hand port.old).holding ≡ [] }
     ensures site { site_of port.new ≡ site_of port.old }
     ensures received { MatchOption result (ReceivesNone port.old port.new) (λ d. Receives d port.old port.new) }
 {
-    let mut deliveries = ArrayVec::<Delivery, 64>::new();
-    match port.dequeue_burst(1, &mut deliveries) {
+    match port.dequeue_burst(1, deliveries) {
         Ok(_) => deliveries.first().copied(),
         Err(_) => None,
     }
@@ -46,7 +45,14 @@ fn answer_event(actions: &[Action], delivery: &Delivery) -> Event
 }
 
 /// Receives one event, where one has come, and answers it: whether the worker is to go on.
-fn turn<R: Wait, G: Gate>(rt: &R, gate: &G, actions: &[Action], port: &mut Port) -> bool
+fn turn<R: Wait, G: Gate>(
+    rt: &R,
+    gate: &G,
+    actions: &[Action],
+    port: &mut Port,
+    deliveries: &mut ArrayVec<Delivery, 64>,
+    patience: &mut Patience,
+) -> bool
     requires actions { All IsProper actions.now }
     requires few { length actions.now ≤ 255 }
     requires even { IsEven actions.now port.old }
@@ -54,13 +60,14 @@ fn turn<R: Wait, G: Gate>(rt: &R, gate: &G, actions: &[Action], port: &mut Port)
     ensures even { IsTrue result → IsEven actions.now port.new }
     ensures worked { HasWorked actions.now port.new }
 {
-    match receive(port) {
+    match receive(port, deliveries) {
         Some(delivery) => {
+            *patience = Patience::new();
             gate.enter(port.number(), delivery.event.payload);
             submit(rt, port, answer_event(actions, &delivery))
         }
         None => {
-            thread::yield_now();
+            patience.wait();
             !port.shut_seen()
         }
     }
@@ -74,8 +81,10 @@ pub(crate) fn work<R: Wait, G: Gate>(rt: &R, gate: &G, actions: &[Action], port:
     ensures { ReturnsWorker actions.now port result }
 {
     let mut port = port;
+    let mut deliveries = ArrayVec::new();
+    let mut patience = Patience::new();
     for _ in rt.forever() {
-        if !turn(rt, gate, actions, &mut port) {
+        if !turn(rt, gate, actions, &mut port, &mut deliveries, &mut patience) {
             return port;
         }
     }

@@ -8,7 +8,7 @@ use play_documents::{DocFault, MAX_INPUT};
 use std::alloc::Global;
 use std::io::Read;
 
-/// HasRead to the end, but no further than one byte past the most that a document may have.
+/// Reads to the end, but no further than one byte past the most that a document may have.
 pub fn read_all<R: Read>(alloc: Global, reader: &mut R) -> Result<Vec<u8>, AppFault>
     ensures fits { IfOk result (λ v. vec_len v ≤ MAX_INPUT) }
     ensures all { IfOk result (λ v. IfSome (R.remaining reader.old) (λ input. v.items ≡ input)) }

@@ -5,7 +5,7 @@ use std::thread;
 
 /// How often a thread looks again before it yields. What it waits for often comes, from a thread on another processor, in less time
 /// than a yield takes. Where threads share a processor each look only keeps the others waiting, so the looks are few.
-const LOOKS: u8 = 8;
+const LOOKS: u8 = 2;
 
 /// How often a thread has looked in vain.
 #[derive(Clone, Copy, Debug, Drop)]

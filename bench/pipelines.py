@@ -6,7 +6,8 @@ of a run of 200,000 events is more than 2.3 times that of a run of 100,000.
     pipelines.py [PROGRAM]
 
 The program is `run_bench`; where none is named it is built. Each time is the best of three runs, and that of the check and the text
-less what a run with no event takes besides its threads. How much faster more workers are is no fault: how many processors there are decides that.
+less what a run with no event takes besides its threads. How much faster more workers are is no fault: how many processors there are
+decides that.
 """
 import os
 import pathlib
@@ -73,7 +74,8 @@ def compare_speeds(program):
         for workers in WORKERS:
             threads, rest = seconds(program, serving, workers)
             first = first or threads
-            print(f"{serving:7} {workers:7} {EVENTS / (threads + rest):12,.0f} {EVENTS / threads:12,.0f} {first / threads:5.2f} {EVENTS / rest:12,.0f}")
+            speeds = [f"{EVENTS / each:12,.0f}" for each in (threads + rest, threads, rest)]
+            print(f"{serving:7} {workers:7} {speeds[0]} {speeds[1]} {first / threads:5.2f} {speeds[2]}")
 
 
 def compare_memory(program):

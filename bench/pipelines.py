@@ -1,14 +1,17 @@
 #!/usr/bin/env python3
-"""Times pipelines that threads run, where the scheduler serves the ports and where it serves flow lanes, with 1, 2, 4 and 8 workers.
-It fails where the memory of a run of 200,000 events is more than 2.3 times that of a run of 100,000.
+"""Times pipelines that threads run, where the scheduler serves the ports and where it serves flow lanes, with 1, 2, 4 and 8 workers:
+the threads, until the whole trace has gone through, and apart from them the check and the text of the log. It fails where the memory
+of a run of 200,000 events is more than 2.3 times that of a run of 100,000.
 
     pipelines.py [PROGRAM]
 
-The program is `run_bench`; where none is named it is built. Each time is the best of three runs, less that of a run with no event.
-How much faster more workers are is no fault: how many processors there are decides that.
+The program is `run_bench`; where none is named it is built. Each time is the best of three runs, and that of the check and the text
+less what a run with no event takes besides its threads. How much faster more workers are is no fault: how many processors there are
+decides that.
 """
 import os
 import pathlib
+import re
 import subprocess
 import sys
 import time
@@ -33,41 +36,53 @@ def named():
 
 
 def run(program, serving, workers, events):
-    """The seconds that a run takes and the kilobytes that it holds at most, once its line is checked."""
+    """The seconds that the threads of a run take and that the rest takes, and the kilobytes that it holds at most, once its line is
+    checked.
+    """
     start = time.perf_counter()
-    child = subprocess.Popen([program, serving, str(workers), str(events)], stdout=subprocess.PIPE)
-    line = child.stdout.read().decode()
+    child = subprocess.Popen([program, serving, str(workers), str(events)], stdout=subprocess.PIPE, stderr=subprocess.PIPE)
+    line, said = child.stdout.read().decode(), child.stderr.read().decode()
     _, status, used = os.wait4(child.pid, 0)
     elapsed = time.perf_counter() - start
     child.stdout.close()
+    child.stderr.close()
     child.returncode = os.waitstatus_to_exitcode(status)
     if child.returncode != 0 or not line.startswith(f"{serving} workers={workers} events={events} bytes="):
-        sys.exit(f"{program} ended with {child.returncode}: {line}")
-    return elapsed, used.ru_maxrss
+        sys.exit(f"{program} ended with {child.returncode}: {line}{said}")
+    nanoseconds = re.fullmatch(r"threads=(\d+)\n", said)
+    if nanoseconds is None:
+        sys.exit(f"{program} doesn't say how long its threads took: {said}")
+    threads = int(nanoseconds[1]) / 1e9
+    return threads, elapsed - threads, used.ru_maxrss
 
 
 def seconds(program, serving, workers):
-    """What the events take: the least of some runs, less the least without events."""
-    least = {events: min(run(program, serving, workers, events)[0] for _ in range(RUNS)) for events in (0, EVENTS)}
-    return least[EVENTS] - least[0]
+    """What the threads take and what comes after them: the least of some runs each, that of the rest less the least without events."""
+    runs = {events: [run(program, serving, workers, events) for _ in range(RUNS)] for events in (0, EVENTS)}
+    rest = {events: min(each[1] for each in runs[events]) for events in runs}
+    return min(each[0] for each in runs[EVENTS]), rest[EVENTS] - rest[0]
 
 
 def compare_speeds(program):
-    """Prints the events per second of both servings, and the ratio of each to that of one worker."""
+    """Prints the events per second of both servings, in all, by the threads and by the rest, and the ratio of the threads' speed to that
+    of one worker.
+    """
     print(f"{os.cpu_count()} processors, {EVENTS:,} events")
-    print(f"{'workers':7}" + "".join(f" {serving + ' per second':>16} {'ratio':>5}" for serving in SERVINGS))
-    first = {}
-    for workers in WORKERS:
-        times = {serving: seconds(program, serving, workers) for serving in SERVINGS}
-        first = first or times
-        print(f"{workers:7}" + "".join(f" {EVENTS / times[each]:16,.0f} {first[each] / times[each]:5.2f}" for each in SERVINGS))
+    print(f"{'serving':7} {'workers':7} {'per second':>12} {'by threads':>12} {'ratio':>5} {'by the rest':>12}")
+    for serving in SERVINGS:
+        first = None
+        for workers in WORKERS:
+            threads, rest = seconds(program, serving, workers)
+            first = first or threads
+            speeds = [f"{EVENTS / each:12,.0f}" for each in (threads + rest, threads, rest)]
+            print(f"{serving:7} {workers:7} {speeds[0]} {speeds[1]} {first / threads:5.2f} {speeds[2]}")
 
 
 def compare_memory(program):
     """Prints the memory of a run and of one with twice the events, and whether neither serving takes more than `MOST` times as much."""
     ratios = []
     for serving in SERVINGS:
-        short, long = (run(program, serving, 2, events)[1] for events in COUNTS)
+        short, long = (run(program, serving, 2, events)[2] for events in COUNTS)
         print(f"{serving}: {short / 1024:.1f} MiB at {COUNTS[0]:,} events, {long / 1024:.1f} at {COUNTS[1]:,}, ratio {long / short:.2f}")
         ratios.append(long / short)
     return max(ratios) <= MOST

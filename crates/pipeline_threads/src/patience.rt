@@ -4,8 +4,9 @@ use std::hint::spin_loop;
 use std::thread;
 
 /// How often a thread looks again before it yields. What it waits for often comes, from a thread on another processor, in less time
-/// than a yield takes. Where threads share a processor each look only keeps the others waiting, so the looks are few.
-const LOOKS: u8 = 8;
+/// than a yield takes. Where threads share a processor a look only keeps the others waiting, and one at flow lanes tries each of
+/// them, so the looks are few.
+const LOOKS: u8 = 2;
 
 /// How often a thread has looked in vain.
 #[derive(Clone, Copy, Debug, Drop)]

@@ -1,11 +1,13 @@
 //! The program `run_bench`: the trace of so many events is run by threads through a pipeline of three stages. It prints how long the
-//! text is of what the stages accepted.
+//! text is of what the stages accepted, and on standard error how many nanoseconds the threads took; the rest of its time goes into
+//! the check and the text of the log.
 #![tactic(auto)]
 
 mod asked;
 mod document;
 mod fault;
 mod run;
+mod timer;
 mod trace;
 
 use asked::{Asked, read_words, serving_word};
@@ -17,6 +19,8 @@ use std::process::ExitCode;
 use std::rt::Env;
 use std::sync::Wait;
 use std::thread::Threads;
+use std::time::Clock;
+use timer::Timer;
 
 /// The words of the command line after the program's name.
 fn words<R: AllocGlobal + Env>(rt: &R) -> Result<Vec<String>, BenchFault> {
@@ -30,7 +34,7 @@ fn words<R: AllocGlobal + Env>(rt: &R) -> Result<Vec<String>, BenchFault> {
 }
 
 /// Makes the run that the words ask for, and prints its line.
-fn print_run<R: AllocGlobal + Env + Print + Threads + Wait + Sync>(
+fn print_run<R: AllocGlobal + Clock + Env + Print + Eprint + Threads + Wait + Sync>(
     rt: &R,
 ) -> Result<(), BenchFault> {
     let words = words(rt)?;
@@ -41,7 +45,10 @@ fn print_run<R: AllocGlobal + Env + Print + Threads + Wait + Sync>(
         events,
     } = asked;
     let document = document(rt.alloc(), serving)?;
-    let bytes = text_length(rt, rt.alloc(), document.as_bytes(), workers, events)?;
+    let timer = Timer::new(rt, events);
+    let bytes = text_length(rt, &timer, rt.alloc(), document.as_bytes(), workers, events)?;
+    let nanoseconds = timer.nanoseconds();
+    let _ = eprintln!(rt; "threads={nanoseconds}");
     let serving = serving_word(serving);
     match println!(rt; "{serving} workers={workers} events={events} bytes={bytes}") {
         Ok(()) => Ok(()),

@@ -5,7 +5,7 @@ ghost use Rattle.run_bench.specs.Run.{HasLength};
 
 use crate::fault::BenchFault;
 use crate::trace::entries;
-use pipeline_runs::{OpenGate, pipeline_text};
+use pipeline_runs::{Gate, pipeline_text};
 use run_documents::{Pipeline, read_pipeline};
 use std::alloc::Global;
 use std::sync::Wait;
@@ -13,8 +13,9 @@ use std::thread::Threads;
 
 /// Runs a trace of so many events through the document's pipeline with so many workers, and gives the length of the text of what the
 /// stages accepted, which is that of the plain pipeline's.
-pub fn text_length<R: Threads + Wait + Sync>(
+pub fn text_length<R: Threads + Wait + Sync, G: Gate>(
     rt: &R,
+    gate: &G,
     alloc: Global,
     document: &[u8],
     workers: u64,
@@ -29,6 +30,6 @@ pub fn text_length<R: Threads + Wait + Sync>(
         actions,
         trace: entries(alloc, events)?,
     };
-    let text = pipeline_text(rt, alloc, pipeline, &OpenGate)?;
+    let text = pipeline_text(rt, alloc, pipeline, gate)?;
     Ok(text.as_bytes().len())
 }

@@ -1,70 +1,56 @@
 -- What a change of the fields of a reorder buffer leaves of its places.
-use Rattle.std.proofs.Common.{◌≡◌, ℕ, ◌+◌, ◌-◌, ◌*◌, ◌%◌, ◌^◌, ◌<◌, ◌≤◌, true, List, [], ◌∷◌, ◌++◌, length, set, drop, slice_get, slice_set, slice_index_or, suc, refl, sym, ap, subst, ◌∙◌, Option, Some, None, option_to_list, IsTrue, arith, append-nil, length-append, length-set, length-drop}
+use Rattle.std.proofs.Common.{◌≡◌, ℕ, ◌+◌, ◌-◌, ◌*◌, ◌%◌, ◌^◌, ◌<◌, ◌≤◌, Bool, false, not, true, List, [], ◌∷◌, ◌++◌, length, set, drop, slice_get, slice_set, slice_index_or, suc, refl, sym, ap, subst, ◌∙◌, Option, Some, None, IsTrue, arith, append-nil, length-append, length-set, length-drop}
 use Rattle.std.specs.Vec.{with_item}
 use Rattle.std.proofs.lemmas.List.Elements.{All-set, All-drop}
-use Rattle.std.proofs.lemmas.Option.{slice_get_within}
+use Rattle.std.proofs.lemmas.Option.{get_or_from_slice_get, slice_get_within}
 use Rattle.circular_buffer.specs.Buffer.{buffer, keep_last}
 use Rattle.evt_types.specs.Place.{Place}
 use Rattle.evt_types.specs.declared.event.Event.{Event}
-use Rattle.evt_types.specs.declared.event.TheConstants.{MAX_EXTRAS}
-use Rattle.order_parts.specs.Reorder.{Reordering, after_add, after_hand, after_resolve, forwards_of, in_row, is_answered, is_open, open_place, place_at, place_of, place_or_open, places_by, resolved, rows_from, with_added, without_oldest, wrapped}
-use Rattle.order_parts.specs.Rows.{HasRows}
-use Rattle.order_parts.specs.declared.reorder.Answer.TheVariants.{Awaited, Resolved}
+use Rattle.evt_types.specs.declared.event.TheConstants.{MAX_EXTRAS, MAX_FORWARDS}
+use Rattle.order_parts.specs.Reorder.{Reordering, after_add, after_hand, after_keep, after_resolve, in_row, is_open, open_place, place_at, place_of, place_or_open, places_by, resolved, rows_from, with_kept, without_oldest, wrapped}
+use Rattle.order_parts.specs.Rows.{HasRows, KeepsFew}
 use Rattle.order_parts.specs.declared.reorder.Handed.{Handed}
 use Rattle.order_parts.specs.declared.reorder.Reorder.TheInside.{Inside}
-use Rattle.order_parts.proofs.Fields.{added_few, first_within, forwards_length, index_within, place_is, place_or, places, row_there, rows, shown}
+use Rattle.order_parts.proofs.Fields.{first_within, index_within, keeps_few, kept_length, place_is, place_or, places, row_there, rows, shown}
 use Rattle.order_parts.proofs.Places.{answer_open, no_place, places_length, places_push, places_set, places_stay}
 use Rattle.order_parts.proofs.Rows.{row_before, row_more, row_none, row_stays, rows_differ, wrapped_within}
 
 -- ---- one place
 
--- an unresolved place forwards nothing yet
-no_forward : (es : List Event) (h : Handed) → h.answer ≡ Awaited → es ++ forwards_of h.answer ≡ es
-no_forward es h awaited = ap (λ x. es ++ forwards_of x) awaited ∙ append-nil es
-
-resolved_is : (es : List Event) (h : Handed) (e : Option Event) → h.answer ≡ Awaited → place_of es (record { number = h.number; added = h.added; answer = Resolved e }) ≡ resolved (place_of es h) e
-resolved_is es h e awaited =
-    ap (λ (fs : List Event). let p : Place = record { number = h.number; answered = true; forwards = fs ++ option_to_list e } in p) (sym (no_forward es h awaited))
-
-added_is : (es : List Event) (h : Handed) (e : Event) → h.answer ≡ Awaited → place_of (es ++ e ∷ []) (record { number = h.number; added = h.added + 1; answer = h.answer }) ≡ with_added (place_of es h) e
-added_is es h e awaited =
-    ap (λ (fs : List Event). let p : Place = record { number = h.number; answered = is_answered h.answer; forwards = fs } in p)
-    (no_forward (es ++ e ∷ []) h awaited ∙ ap (λ fs. fs ++ e ∷ []) (sym (no_forward es h awaited)))
-
-module _ (a : Inside) (has : HasRows a) (i : ℕ) (h : Handed) (there : slice_get a.ring.items i ≡ Some h) (awaited : h.answer ≡ Awaited) where
-  pub places_resolved : (e : Option Event) → places_by (rows a) (slice_set a.ring.items i (record { number = h.number; added = h.added; answer = Resolved e })) ≡ slice_set (places a) i (resolved (slice_index_or (places a) i (open_place 0)) e)
-  places_resolved e =
-      places_set (rows a) (rows a) a.ring.items i (record { number = h.number; added = h.added; answer = Resolved e }) (resolved (slice_index_or (places a) i (open_place 0)) e)
+module _ (a : Inside) (has : HasRows a) (i : ℕ) (h : Handed) (there : slice_get a.ring.items i ≡ Some h) where
+  pub places_resolved : places_by (rows a) (slice_set a.ring.items i (record { number = h.number; kept = h.kept; answered = true })) ≡ slice_set (places a) i (resolved (slice_index_or (places a) i (open_place 0)) None)
+  places_resolved =
+      places_set (rows a) (rows a) a.ring.items i (record { number = h.number; kept = h.kept; answered = true }) (resolved (slice_index_or (places a) i (open_place 0)) None)
       (slice_get_within a.ring.items i h there) (λ k y other apart. refl)
-      (resolved_is (rows a i h.added) h e awaited ∙ ap (λ x. resolved x e) (sym (place_or a has i h there (open_place 0))))
+      (ap (λ (es : List Event). let p : Place = record { number = h.number; answered = true; forwards = es } in p) (sym (append-nil (rows a i h.kept)))
+      ∙ ap (λ x. resolved x None) (sym (place_or a has i h there (open_place 0))))
 
   -- the events with one more in the row of the place
   abbrev written : Event → List Event
-  written e = set a.extras.items (MAX_EXTRAS * wrapped a.ring.capacity (a.first_row + i) + h.added) e
+  written e = set a.rows.items (MAX_FORWARDS * wrapped a.ring.capacity (a.first_row + i) + h.kept) e
 
-  pub places_added : (e : Event) → h.added < MAX_EXTRAS → places_by (rows_from (written e) a.ring.capacity a.first_row) (slice_set a.ring.items i (record { number = h.number; added = h.added + 1; answer = h.answer })) ≡ slice_set (places a) i (with_added (slice_index_or (places a) i (open_place 0)) e)
-  places_added e room =
-      places_set (rows a) (rows_from (written e) a.ring.capacity a.first_row) a.ring.items i (record { number = h.number; added = h.added + 1; answer = h.answer }) (with_added (slice_index_or (places a) i (open_place 0)) e)
+  pub places_kept : (e : Event) (answered : Bool) → h.kept < MAX_FORWARDS → places_by (rows_from (written e) a.ring.capacity a.first_row) (slice_set a.ring.items i (record { number = h.number; kept = h.kept + 1; answered = answered })) ≡ slice_set (places a) i (with_kept (slice_index_or (places a) i (open_place 0)) e answered)
+  places_kept e answered room =
+      places_set (rows a) (rows_from (written e) a.ring.capacity a.first_row) a.ring.items i (record { number = h.number; kept = h.kept + 1; answered = answered }) (with_kept (slice_index_or (places a) i (open_place 0)) e answered)
       (slice_get_within a.ring.items i h there)
-      (λ k y other apart. row_stays a.extras.items (wrapped a.ring.capacity (a.first_row + i)) (wrapped a.ring.capacity (a.first_row + k)) y.added h.added e room (added_few a has k y other)
+      (λ k y other apart. row_stays a.rows.items (wrapped a.ring.capacity (a.first_row + i)) (wrapped a.ring.capacity (a.first_row + k)) y.kept h.kept e room (keeps_few a has k y other).few
       (rows_differ a.ring.capacity a.first_row i k (first_within a has i h there) (index_within a has i h there) (index_within a has k y other) apart))
-      (ap (λ (es : List Event). place_of es (record { number = h.number; added = h.added + 1; answer = h.answer })) (row_more a.extras.items (wrapped a.ring.capacity (a.first_row + i)) h.added e (omega (arith, row_there a has i h there, room)))
-      ∙ added_is (rows a i h.added) h e awaited
-      ∙ ap (λ x. with_added x e) (sym (place_or a has i h there (open_place 0))))
+      (ap (λ (es : List Event). place_of es (record { number = h.number; kept = h.kept + 1; answered = answered })) (row_more a.rows.items (wrapped a.ring.capacity (a.first_row + i)) h.kept e (omega (arith, row_there a has i h there, room)))
+      ∙ ap (λ x. with_kept x e answered) (sym (place_or a has i h there (open_place 0))))
 
 -- ---- a place more
 
 pub shown_handed : (a : Inside) (has : HasRows a) (r : Reordering) → shown a ≡ r → (n : ℕ) → length r.places < r.depth
-    → shown (record { ring = buffer (keep_last a.ring.capacity (a.ring.items ++ record { number = n; added = 0; answer = Awaited } ∷ [])) a.ring.capacity; first = a.first; extras = a.extras; first_row = a.first_row }) ≡ after_hand r n
+    → shown (record { ring = buffer (keep_last a.ring.capacity (a.ring.items ++ record { number = n; kept = 0; answered = false } ∷ [])) a.ring.capacity; first = a.first; rows = a.rows; first_row = a.first_row }) ≡ after_hand r n
 shown_handed a has r is n room =
-    let next : Handed = record { number = n; added = 0; answer = Awaited } in
+    let next : Handed = record { number = n; kept = 0; answered = false } in
     let count = ap (λ (k : Reordering). length k.places) is in
     let depth = ap (λ (k : Reordering). k.depth) is in
     let fits : length (a.ring.items ++ next ∷ []) - a.ring.capacity ≡ 0 =
     omega (arith, length-append a.ring.items (next ∷ []), places_length (rows a) a.ring.items, count, depth, room) in
     ap (λ (hs : List Handed). let k : Reordering = record { first = a.first; places = places_by (rows a) hs; depth = a.ring.capacity } in k) (ap (λ m. drop m (a.ring.items ++ next ∷ [])) fits)
     ∙ ap (λ (ps : List Place). let k : Reordering = record { first = a.first; places = ps; depth = a.ring.capacity } in k)
-    (places_push (rows a) a.ring.items n (λ i. row_none a.extras.items (wrapped a.ring.capacity (a.first_row + i))))
+    (places_push (rows a) a.ring.items n (λ i. row_none a.rows.items (wrapped a.ring.capacity (a.first_row + i))))
     ∙ ap (λ k. after_hand k n) is
 
 -- ---- a place by its number
@@ -84,57 +70,96 @@ module _ (a : Inside) (has : HasRows a) (r : Reordering) (is : shown a ≡ r) (p
       none_open o = cc
 
   module _ (h : Handed) (there : slice_get a.ring.items index ≡ Some h) where
-    pub awaited : h.answer ≡ Awaited
-    awaited = answer_open (rows a index h.added) h (subst (λ o. IsTrue (is_open o)) (place_is a has index h there) unresolved_here)
+    awaited : h.answered ≡ false
+    awaited = answer_open (rows a index h.kept) h (subst (λ o. IsTrue (is_open o)) (place_is a has index h there) unresolved_here)
 
-    -- an event more fits
-    pub room_left : length (place_or_open r p).forwards < MAX_EXTRAS → h.added < MAX_EXTRAS
+    -- an event more fits in the row
+    pub row_left : h.kept < MAX_FORWARDS
+    row_left = let fewer = (keeps_few a has index h there).fewer awaited in omega (arith, fewer)
+
+    -- and one beside it where that is asked for
+    pub room_left : length (place_or_open r p).forwards < MAX_EXTRAS → h.kept < MAX_EXTRAS
     room_left room =
         let forwards = ap (λ (k : Reordering). length (place_or_open k p).forwards) (sym is) ∙ ap (λ (x : Place). length x.forwards) (place_or a has index h there (open_place 0)) in
-        omega (arith, room, forwards, forwards_length a has index h there)
+        omega (arith, room, forwards, kept_length a has index h there)
 
-    pub shown_resolved : (e : Option Event) → shown (record { ring = record { items = slice_set a.ring.items index (record { number = h.number; added = h.added; answer = Resolved e }); capacity = a.ring.capacity }; first = a.first; extras = a.extras; first_row = a.first_row }) ≡ after_resolve r p e
-    shown_resolved e =
-        ap (λ (ps : List Place). let k : Reordering = record { first = a.first; places = ps; depth = a.ring.capacity } in k) (places_resolved a has index h there awaited e)
-        ∙ ap (λ k. after_resolve k p e) is
+    pub more_few : (answered : Bool) → (answered ≡ false → length (place_or_open r p).forwards < MAX_EXTRAS) → KeepsFew (record { number = h.number; kept = h.kept + 1; answered = answered })
+    more_few answered room =
+        record {
+          few = omega (arith, row_left);
+          fewer = λ still. omega (arith, room_left (room still));
+        }
 
-    pub shown_added : (e : Event) → h.added < MAX_EXTRAS → shown (record { ring = record { items = slice_set a.ring.items index (record { number = h.number; added = h.added + 1; answer = h.answer }); capacity = a.ring.capacity }; first = a.first; extras = with_item a.extras (MAX_EXTRAS * wrapped a.ring.capacity (a.first_row + index) + h.added) e; first_row = a.first_row }) ≡ after_add r p e
-    shown_added e room =
-        ap (λ (ps : List Place). let k : Reordering = record { first = a.first; places = ps; depth = a.ring.capacity } in k) (places_added a has index h there awaited e room)
-        ∙ ap (λ k. after_add k p e) is
+    pub shown_resolved : shown (record { ring = record { items = slice_set a.ring.items index (record { number = h.number; kept = h.kept; answered = true }); capacity = a.ring.capacity }; first = a.first; rows = a.rows; first_row = a.first_row }) ≡ after_resolve r p None
+    shown_resolved =
+        ap (λ (ps : List Place). let k : Reordering = record { first = a.first; places = ps; depth = a.ring.capacity } in k) (places_resolved a has index h there)
+        ∙ ap (λ k. after_resolve k p None) is
 
--- a place and a cell were written: the rows stand as before
-pub rows_stand : (a : Inside) → HasRows a → (i cell : ℕ) (h : Handed) (e : Event) → h.added ≤ MAX_EXTRAS → HasRows (record { ring = record { items = slice_set a.ring.items i h; capacity = a.ring.capacity }; first = a.first; extras = with_item a.extras cell e; first_row = a.first_row })
-rows_stand a has i cell h e few =
+    pub shown_kept : (e : Event) (answered : Bool) → shown (record { ring = record { items = slice_set a.ring.items index (record { number = h.number; kept = h.kept + 1; answered = answered }); capacity = a.ring.capacity }; first = a.first; rows = with_item a.rows (MAX_FORWARDS * wrapped a.ring.capacity (a.first_row + index) + h.kept) e; first_row = a.first_row }) ≡ after_keep r p e answered
+    shown_kept e answered =
+        ap (λ (ps : List Place). let k : Reordering = record { first = a.first; places = ps; depth = a.ring.capacity } in k) (places_kept a has index h there e answered row_left)
+        ∙ ap (λ k. after_keep k p e answered) is
+
+    -- the place with its answer, before an event goes to its row
+    pub released_few : KeepsFew (record { number = h.number; kept = h.kept; answered = true })
+    released_few = record { few = (keeps_few a has index h there).few; fewer = λ still. absurd cc }
+
+-- an event that is added beside an open place's leaves it open
+pub added_open : (r : Reordering) (p : ℕ) (e : Event) → IsTrue (is_open (place_at r p)) → after_keep r p e false ≡ after_add r p e
+added_open r p e unresolved = by_place (place_at r p) refl unresolved
+  where
+    not_answered : (b : Bool) → IsTrue (not b) → b ≡ false
+    not_answered false o = refl
+    not_answered true o = absurd cc
+
+    by_place : (o : Option Place) → place_at r p ≡ o → IsTrue (is_open o) → after_keep r p e false ≡ after_add r p e
+    by_place None there still = absurd cc
+    by_place (Some x) there still =
+        let open_still : (place_or_open r p).answered ≡ false = ap (λ (y : Place). y.answered) (get_or_from_slice_get r.places _ x (open_place 0) there) ∙ not_answered x.answered still in
+        ap (λ b. after_keep r p e b) (sym open_still)
+
+-- a place was written: the rows stand as before
+pub rows_answered : (a : Inside) → HasRows a → (i : ℕ) (h : Handed) → KeepsFew h → HasRows (record { ring = record { items = slice_set a.ring.items i h; capacity = a.ring.capacity }; first = a.first; rows = a.rows; first_row = a.first_row })
+rows_answered a has i h few =
     record {
-      size = length-set a.extras.items cell e ∙ has.size;
+      size = has.size;
       start = has.start;
       places = omega (arith, length-set a.ring.items i h, has.places);
-      few = All-set (λ (y : Handed). y.added ≤ MAX_EXTRAS) a.ring.items i h few has.few;
+      few = All-set KeepsFew a.ring.items i h few has.few;
+    }
+
+-- and a cell besides
+pub rows_stand : (a : Inside) → HasRows a → (i cell : ℕ) (h : Handed) (e : Event) → KeepsFew h → HasRows (record { ring = record { items = slice_set a.ring.items i h; capacity = a.ring.capacity }; first = a.first; rows = with_item a.rows cell e; first_row = a.first_row })
+rows_stand a has i cell h e few =
+    record {
+      size = length-set a.rows.items cell e ∙ has.size;
+      start = has.start;
+      places = omega (arith, length-set a.ring.items i h, has.places);
+      few = All-set KeepsFew a.ring.items i h few has.few;
     }
 
 -- ---- the oldest place leaves
 
-module _ (extras : List Event) (n first : ℕ) where
-  pub places_advanced : (hs : List Handed) → first < n → length hs ≤ n → places_by (rows_from extras n (wrapped n (first + 1))) (drop 1 hs) ≡ drop 1 (places_by (rows_from extras n first) hs)
+module _ (all : List Event) (n first : ℕ) where
+  pub places_advanced : (hs : List Handed) → first < n → length hs ≤ n → places_by (rows_from all n (wrapped n (first + 1))) (drop 1 hs) ≡ drop 1 (places_by (rows_from all n first) hs)
   places_advanced [] within few = refl
   places_advanced (h ∷ hs) within few =
-      places_stay (λ i. rows_from extras n first (suc i)) (rows_from extras n (wrapped n (first + 1))) hs
-      (λ k y there. ap (λ row. in_row extras row y.added) (row_before n first k within (omega (arith, few, slice_get_within hs k y there)) ∙ ap (λ j. wrapped n (first + j)) (omega arith)))
+      places_stay (λ i. rows_from all n first (suc i)) (rows_from all n (wrapped n (first + 1))) hs
+      (λ k y there. ap (λ row. in_row all row y.kept) (row_before n first k within (omega (arith, few, slice_get_within hs k y there)) ∙ ap (λ j. wrapped n (first + j)) (omega arith)))
 
-pub rows_advanced : (a : Inside) → HasRows a → (first : ℕ) → HasRows (record { ring = buffer (drop 1 a.ring.items) a.ring.capacity; first = first; extras = a.extras; first_row = wrapped a.ring.capacity (a.first_row + 1) })
+pub rows_advanced : (a : Inside) → HasRows a → (first : ℕ) → HasRows (record { ring = buffer (drop 1 a.ring.items) a.ring.capacity; first = first; rows = a.rows; first_row = wrapped a.ring.capacity (a.first_row + 1) })
 rows_advanced a has first =
     record {
       size = has.size;
       start = λ some. let within = has.start some in wrapped_within a.ring.capacity (a.first_row + 1) (omega (arith, within));
       places = omega (arith, length-drop 1 a.ring.items, has.places);
-      few = All-drop (λ (y : Handed). y.added ≤ MAX_EXTRAS) 1 a.ring.items has.few;
+      few = All-drop KeepsFew 1 a.ring.items has.few;
     }
 
 pub shown_advanced : (a : Inside) (has : HasRows a) (r : Reordering) → shown a ≡ r → 0 < length r.places
-    → shown (record { ring = buffer (drop 1 a.ring.items) a.ring.capacity; first = (a.first + 1) % 2 ^ 64; extras = a.extras; first_row = wrapped a.ring.capacity (a.first_row + 1) }) ≡ without_oldest r
+    → shown (record { ring = buffer (drop 1 a.ring.items) a.ring.capacity; first = (a.first + 1) % 2 ^ 64; rows = a.rows; first_row = wrapped a.ring.capacity (a.first_row + 1) }) ≡ without_oldest r
 shown_advanced a has r is some =
     let count = ap (λ (k : Reordering). length k.places) is in
     let there : 0 < a.ring.capacity = omega (arith, count, some, places_length (rows a) a.ring.items, has.places) in
-    ap (λ (ps : List Place). let k : Reordering = record { first = (a.first + 1) % 2 ^ 64; places = ps; depth = a.ring.capacity } in k) (places_advanced a.extras.items a.ring.capacity a.first_row a.ring.items (has.start there) has.places)
+    ap (λ (ps : List Place). let k : Reordering = record { first = (a.first + 1) % 2 ^ 64; places = ps; depth = a.ring.capacity } in k) (places_advanced a.rows.items a.ring.capacity a.first_row a.ring.items (has.start there) has.places)
     ∙ ap without_oldest is

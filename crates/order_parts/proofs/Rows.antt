@@ -2,9 +2,9 @@
 use Rattle.std.proofs.Common.{◌≡◌, ◌≢◌, ℕ, ◌+◌, ◌-◌, ◌*◌, ◌<◌, ◌≤◌, ◌⊎◌, List, [], ◌∷◌, ◌++◌, length, get_or, set, take, drop, refl, ap, ◌∙◌, inl, inr, ⊎_elim, arith, length-drop, length-take-le, get_or-drop, get_or-take}
 use Rattle.std.proofs.lemmas.Bool.{cases_lt}
 use Rattle.std.proofs.lemmas.Bool.Decides.{nat_tests}
-use Rattle.std.proofs.lemmas.List.{drop-set-add, drop-set-lt, take-set-le, take_more_set}
+use Rattle.std.proofs.lemmas.List.{drop_more, drop-set-add, drop-set-lt, take-set-le, take_more_set}
 use Rattle.evt_types.specs.declared.event.Event.{Event}
-use Rattle.evt_types.specs.declared.event.TheConstants.{MAX_EXTRAS}
+use Rattle.evt_types.specs.declared.event.TheConstants.{MAX_FORWARDS}
 use Rattle.order_parts.specs.Reorder.{in_row, wrapped}
 
 pub wrapped_low : (n row : ℕ) → row < n → wrapped n row ≡ row
@@ -40,34 +40,39 @@ row_before n first i within low =
 
 -- ---- what a row holds
 
-module _ (extras : List Event) (row : ℕ) where
-  pub row_none : in_row extras row 0 ≡ []
+module _ (all : List Event) (row : ℕ) where
+  pub row_none : in_row all row 0 ≡ []
   unfolding in_row
   row_none = refl
 
-  pub row_length : (m : ℕ) → MAX_EXTRAS * row + m ≤ length extras → length (in_row extras row m) ≡ m
+  pub row_length : (m : ℕ) → MAX_FORWARDS * row + m ≤ length all → length (in_row all row m) ≡ m
   unfolding in_row
-  row_length m room = length-take-le m (drop (MAX_EXTRAS * row) extras) (omega (arith, room, length-drop (MAX_EXTRAS * row) extras))
+  row_length m room = length-take-le m (drop (MAX_FORWARDS * row) all) (omega (arith, room, length-drop (MAX_FORWARDS * row) all))
 
-  pub row_at : (m k : ℕ) (d : Event) → k < m → get_or (in_row extras row m) k d ≡ get_or extras (MAX_EXTRAS * row + k) d
+  pub row_at : (m k : ℕ) (d : Event) → k < m → get_or (in_row all row m) k d ≡ get_or all (MAX_FORWARDS * row + k) d
   unfolding in_row
-  row_at m k d below = get_or-take m (drop (MAX_EXTRAS * row) extras) k d below ∙ get_or-drop (MAX_EXTRAS * row) extras k d
+  row_at m k d below = get_or-take m (drop (MAX_FORWARDS * row) all) k d below ∙ get_or-drop (MAX_FORWARDS * row) all k d
+
+  -- one event
+  pub row_one : (d : Event) → MAX_FORWARDS * row < length all → in_row all row 1 ≡ get_or all (MAX_FORWARDS * row) d ∷ []
+  unfolding in_row
+  row_one d there = ap (take 1) (drop_more all (MAX_FORWARDS * row) d there)
 
   -- an event more
-  pub row_more : (m : ℕ) (e : Event) → MAX_EXTRAS * row + m < length extras → in_row (set extras (MAX_EXTRAS * row + m) e) row (m + 1) ≡ in_row extras row m ++ e ∷ []
+  pub row_more : (m : ℕ) (e : Event) → MAX_FORWARDS * row + m < length all → in_row (set all (MAX_FORWARDS * row + m) e) row (m + 1) ≡ in_row all row m ++ e ∷ []
   unfolding in_row
   row_more m e room =
-      ap (take (m + 1)) (drop-set-add (MAX_EXTRAS * row) extras m e)
-      ∙ take_more_set (drop (MAX_EXTRAS * row) extras) m e (omega (arith, room, length-drop (MAX_EXTRAS * row) extras))
+      ap (take (m + 1)) (drop-set-add (MAX_FORWARDS * row) all m e)
+      ∙ take_more_set (drop (MAX_FORWARDS * row) all) m e (omega (arith, room, length-drop (MAX_FORWARDS * row) all))
 
   -- the other rows stay
-  pub row_stays : (other m k : ℕ) (e : Event) → k < MAX_EXTRAS → m ≤ MAX_EXTRAS → other ≢ row → in_row (set extras (MAX_EXTRAS * row + k) e) other m ≡ in_row extras other m
+  pub row_stays : (other m k : ℕ) (e : Event) → k < MAX_FORWARDS → m ≤ MAX_FORWARDS → other ≢ row → in_row (set all (MAX_FORWARDS * row + k) e) other m ≡ in_row all other m
   unfolding in_row
   row_stays other m k e low few apart =
       ⊎_elim
       (λ before.
-      ap (λ i. take m (drop (MAX_EXTRAS * other) (set extras i e))) (omega (arith, before))
-      ∙ ap (take m) (drop-set-add (MAX_EXTRAS * other) extras (MAX_EXTRAS * row + k - MAX_EXTRAS * other) e)
-      ∙ take-set-le m (drop (MAX_EXTRAS * other) extras) (MAX_EXTRAS * row + k - MAX_EXTRAS * other) e (omega (arith, before, few)))
-      (λ behind. ap (take m) (drop-set-lt (MAX_EXTRAS * other) extras (MAX_EXTRAS * row + k) e (omega (arith, behind, apart, low))))
+      ap (λ i. take m (drop (MAX_FORWARDS * other) (set all i e))) (omega (arith, before))
+      ∙ ap (take m) (drop-set-add (MAX_FORWARDS * other) all (MAX_FORWARDS * row + k - MAX_FORWARDS * other) e)
+      ∙ take-set-le m (drop (MAX_FORWARDS * other) all) (MAX_FORWARDS * row + k - MAX_FORWARDS * other) e (omega (arith, before, few)))
+      (λ behind. ap (take m) (drop-set-lt (MAX_FORWARDS * other) all (MAX_FORWARDS * row + k) e (omega (arith, behind, apart, low))))
       (cases_lt other row)

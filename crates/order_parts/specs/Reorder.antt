@@ -5,8 +5,6 @@ use Rattle.evt_types.specs.Place.{Place}
 use Rattle.evt_types.specs.declared.event.Event.{Event}
 use Rattle.evt_types.specs.declared.event.Numbered.{Numbered}
 use Rattle.evt_types.specs.declared.event.TheConstants.{MAX_EXTRAS, MAX_FORWARDS}
-use Rattle.order_parts.specs.declared.reorder.Answer.{Answer}
-use Rattle.order_parts.specs.declared.reorder.Answer.TheVariants.{Awaited, Resolved}
 use Rattle.order_parts.specs.declared.reorder.Handed.{Handed}
 
 -- the places, oldest first; the number of the first one, of which the next ones count on modulo 2 ^ 64; how many there may be
@@ -22,22 +20,14 @@ pub record HasFew (x : Place) : Type 0 where
 
 -- ---- how the fields hold a place
 
-abbrev pub is_answered : Answer → Bool
-is_answered Awaited = false
-is_answered (Resolved e) = true
-
-abbrev pub forwards_of : Answer → List Event
-forwards_of Awaited = []
-forwards_of (Resolved e) = option_to_list e
-
--- the place of these fields, beside whose event these were added
+-- the place of these fields, which keeps these events
 abbrev pub place_of : List Event → Handed → Place
-place_of added h = record { number = h.number; answered = is_answered h.answer; forwards = added ++ forwards_of h.answer }
+place_of kept h = record { number = h.number; answered = h.answered; forwards = kept }
 
 -- the places, where `row i n` is what the first n events in the row of the i-th place are
 abbrev pub places_by : (ℕ → ℕ → List Event) → List Handed → List Place
 places_by row [] = []
-places_by row (h ∷ hs) = place_of (row 0 h.added) h ∷ places_by (λ i. row (suc i)) hs
+places_by row (h ∷ hs) = place_of (row 0 h.kept) h ∷ places_by (λ i. row (suc i)) hs
 
 -- where a row that is below 2 * n is, around the end of n rows
 unfoldable pub wrapped : ℕ → ℕ → ℕ
@@ -45,11 +35,11 @@ wrapped n row = if nat_lt row n then row else (row - n)
 
 -- the first m events of a row
 unfoldable pub in_row : List Event → ℕ → ℕ → List Event
-in_row extras row m = take m (drop (MAX_EXTRAS * row) extras)
+in_row all row m = take m (drop (MAX_FORWARDS * row) all)
 
 -- the rows of the places, of which the oldest has the row `first`
 abbrev pub rows_from : List Event → ℕ → ℕ → ℕ → ℕ → List Event
-rows_from extras n first i m = in_row extras (wrapped n (first + i)) m
+rows_from all n first i m = in_row all (wrapped n (first + i)) m
 
 -- ---- the calls
 
@@ -98,6 +88,13 @@ with_added x e = record { number = x.number; answered = x.answered; forwards = x
 
 abbrev pub after_add : Reordering → ℕ → Event → Reordering
 after_add r p e = record r { places = slice_set r.places (index_of r p) (with_added (place_or_open r p) e) }
+
+-- the place keeps an event more, and is answered or not
+abbrev pub with_kept : Place → Event → Bool → Place
+with_kept x e answered = record { number = x.number; answered = answered; forwards = x.forwards ++ e ∷ [] }
+
+abbrev pub after_keep : Reordering → ℕ → Event → Bool → Reordering
+after_keep r p e answered = record r { places = slice_set r.places (index_of r p) (with_kept (place_or_open r p) e answered) }
 
 abbrev pub after_resolve : Reordering → ℕ → Option Event → Reordering
 after_resolve r p e =

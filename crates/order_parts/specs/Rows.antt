@@ -1,12 +1,17 @@
--- The rows of a reorder buffer: the events that were added beside the event of each place.
-use Rattle.std.specs.Prelude.{◌≡◌, ◌*◌, ◌<◌, ◌≤◌, All, length}
-use Rattle.evt_types.specs.declared.event.TheConstants.{MAX_EXTRAS}
+-- The rows of a reorder buffer: the events that each place keeps.
+use Rattle.std.specs.Prelude.{◌≡◌, ◌*◌, ◌<◌, ◌≤◌, false, All, length}
+use Rattle.evt_types.specs.declared.event.TheConstants.{MAX_EXTRAS, MAX_FORWARDS}
 use Rattle.order_parts.specs.declared.reorder.Handed.{Handed}
 use Rattle.order_parts.specs.declared.reorder.Reorder.TheInside.{Inside}
 
+-- a place has no more events than fit in its row; while it is unanswered, there is room for the forward
+pub record KeepsFew (h : Handed) : Type 0 where
+  pub few : h.kept ≤ MAX_FORWARDS
+  pub fewer : h.answered ≡ false → h.kept ≤ MAX_EXTRAS
+
 -- there is a row for each place that there may be, and none has more events than fit
 pub record HasRows (a : Inside) : Type 0 where
-  pub size : length a.extras.items ≡ MAX_EXTRAS * a.ring.capacity
+  pub size : length a.rows.items ≡ MAX_FORWARDS * a.ring.capacity
   pub start : 0 < a.ring.capacity → a.first_row < a.ring.capacity
   pub places : length a.ring.items ≤ a.ring.capacity
-  pub few : All (λ (h : Handed). h.added ≤ MAX_EXTRAS) a.ring.items
+  pub few : All KeepsFew a.ring.items

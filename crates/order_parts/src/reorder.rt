@@ -1,7 +1,7 @@
 //! The reorder buffer of an ordered queue.
 
-ghost use Rattle.std.specs.Prelude.{◌≡◌, ◌+◌, ◌*◌, ◌%◌, ◌^◌, ◌<◌, ◌≤◌, ◌++◌, All, MatchOption, Some, length, nat_lt, slice_get, slice_index_or, is_some, option_map, option_to_list, IfOk, IsTrue};
-ghost use Rattle.order_parts.specs.Reorder.{HasFew, after_add, after_hand, after_leave, after_resolve, empty, forwards_of, is_answered, is_open, kept_of, left, left_plain, next_number, oldest_answered, open_place, place_at, place_or_open, without_oldest, wrapped};
+ghost use Rattle.std.specs.Prelude.{◌≡◌, false, ◌+◌, ◌*◌, ◌%◌, ◌^◌, ◌<◌, ◌≤◌, ◌++◌, All, MatchOption, Some, length, nat_lt, option_copied, None, slice_get, slice_index_or, is_some, option_map, IfOk, IsTrue};
+ghost use Rattle.order_parts.specs.Reorder.{HasFew, after_add, after_hand, after_keep, after_leave, after_resolve, empty, is_open, kept_of, left, left_plain, next_number, oldest_answered, open_place, place_at, place_or_open, without_oldest, wrapped};
 
 use crate::Memory;
 use arrayvec::ArrayVec;
@@ -10,19 +10,12 @@ use evt_types::{Event, MAX_EXTRAS, MAX_FORWARDS, Numbered};
 use std::alloc::Global;
 use std::marker::Model;
 
-/// What a place is resolved to, once its event is answered.
-#[derive(Clone, Copy, Debug)]
-enum Answer {
-    Awaited,
-    Resolved(Option<Event>),
-}
-
-/// A place: the number of the event that was handed out, how many events were added beside it, and its answer.
+/// A place: the number of the event that was handed out, how many events the place keeps, and whether its event is answered.
 #[derive(Clone, Copy, Debug)]
 struct Handed {
     number: u64,
-    added: usize,
-    answer: Answer,
+    kept: usize,
+    answered: bool,
 }
 
 /// The reorder buffer of an ordered queue: a ring of places, in the order in which its events were handed out. They are
@@ -31,9 +24,9 @@ struct Handed {
 pub struct Reorder {
     ring: HeapCircularBuffer<Handed>,
     first: u64,
-    /// A row of `MAX_EXTRAS` for the events that were added at each place; the rows turn with the ring. They stand apart,
-    /// so that a place to which nothing is added costs no more than its count.
-    extras: Vec<Event>,
+    /// A row of `MAX_FORWARDS` for the events that each place keeps: those that were added and behind them the forward. The
+    /// rows turn with the ring. They stand apart, so that a place whose event is released costs no more than its words.
+    rows: Vec<Event>,
     /// The row of the oldest place.
     first_row: usize,
 }
@@ -45,7 +38,7 @@ impl Model for Reorder {
 
     ghost use Rattle.order_parts.specs.Rows.{HasRows};
 
-    ghost view = { λ a. record { first = a.first; places = places_by (rows_from a.extras.items a.ring.capacity a.first_row) a.ring.items; depth = a.ring.capacity } };
+    ghost view = { λ a. record { first = a.first; places = places_by (rows_from a.rows.items a.ring.capacity a.first_row) a.ring.items; depth = a.ring.capacity } };
 
     ghost invariant = { HasRows };
 }
@@ -57,36 +50,13 @@ fn around(row: usize, rows: usize) -> usize
     if row < rows { row } else { row - rows }
 }
 
-/// Whether there is an answer.
-fn is_resolved(answer: &Answer) -> bool
-    ensures { result ≡ is_answered answer.now }
-{
-    match answer {
-        Answer::Resolved(_) => true,
-        Answer::Awaited => false,
-    }
-}
-
-/// What the answer forwards.
-fn forward_in(answer: Answer) -> Option<Event>
-    ensures { option_to_list result ≡ forwards_of answer }
-{
-    match answer {
-        Answer::Resolved(forward) => forward,
-        Answer::Awaited => None,
-    }
-}
-
-/// The events that were added, and the forward behind them.
-fn passed_on(added: &[Event], forward: Option<Event>) -> ArrayVec<Event, MAX_FORWARDS>
-    requires { length added.now ≤ MAX_EXTRAS }
-    ensures { result.items ≡ added.now ++ option_to_list forward }
+/// The events that leave with a place.
+fn passed_on(kept: &[Event]) -> ArrayVec<Event, MAX_FORWARDS>
+    requires { length kept.now ≤ MAX_FORWARDS }
+    ensures { result.items ≡ kept.now }
 {
     let mut events = ArrayVec::new();
-    let _ = events.try_extend_from_slice(added);
-    if let Some(event) = forward {
-        events.push(event);
-    }
+    let _ = events.try_extend_from_slice(kept);
     events
 }
 
@@ -97,12 +67,12 @@ impl Reorder {
     {
         let ring = HeapCircularBuffer::with_capacity(alloc, depth)?;
         // More events than can be counted are asked for as the most that can be, which no memory has.
-        let room = depth.checked_mul(MAX_EXTRAS).unwrap_or(usize::MAX);
-        let extras = vec![in alloc; Event::default(); room]?;
+        let room = depth.checked_mul(MAX_FORWARDS).unwrap_or(usize::MAX);
+        let rows = vec![in alloc; Event::default(); room]?;
         Ok(Reorder {
             ring,
             first: 0,
-            extras,
+            rows,
             first_row: 0,
         })
     }
@@ -129,10 +99,7 @@ impl Reorder {
         ensures within { result ≤ MAX_FORWARDS }
     {
         match self.ring.get(index) {
-            Some(handed) => match forward_in(handed.answer) {
-                Some(_) => handed.added + 1,
-                None => handed.added,
-            },
+            Some(handed) => handed.kept,
             None => 0,
         }
     }
@@ -143,16 +110,12 @@ impl Reorder {
         ensures { result ≡ slice_get (kept_of (slice_index_or self.now.places index (open_place 0))) nth }
     {
         let handed = self.ring.get(index)?;
-        let number = handed.number;
-        if nth < handed.added {
-            let row = around(self.first_row + index, self.ring.capacity());
-            let event = self.extras[MAX_EXTRAS * row + nth];
-            return Some(Numbered { number, event });
-        }
-        if nth > handed.added {
+        if nth >= handed.kept {
             return None;
         }
-        let event = forward_in(handed.answer)?;
+        let number = handed.number;
+        let row = around(self.first_row + index, self.ring.capacity());
+        let event = self.rows[MAX_FORWARDS * row + nth];
         Some(Numbered { number, event })
     }
 
@@ -165,8 +128,8 @@ impl Reorder {
         let place = self.first.wrapping_add(self.ring.len() as u64);
         self.ring.push_back(Handed {
             number,
-            added: 0,
-            answer: Answer::Awaited,
+            kept: 0,
+            answered: false,
         });
         place
     }
@@ -177,23 +140,47 @@ impl Reorder {
         requires room { length (place_or_open self.old place).forwards < MAX_EXTRAS }
         ensures { self.new ≡ after_add self.old place event }
     {
+        self.keep(place, &event, false);
+    }
+
+    /// The place keeps an event more, behind those that it keeps: the event of the place is answered by it, or it was added.
+    #[inline(always)]
+    fn keep(&mut self, place: u64, event: &Event, answered: bool)
+        requires open { IsTrue (is_open (place_at self.old place)) }
+        requires room { answered ≡ false → length (place_or_open self.old place).forwards < MAX_EXTRAS }
+        ensures { self.new ≡ after_keep self.old place event.now answered }
+    {
         let index = place.wrapping_sub(self.first) as usize;
-        let rows = self.ring.capacity();
+        let count = self.ring.capacity();
         if let Some(handed) = self.ring.get_mut(index) {
-            let row = around(self.first_row + index, rows);
-            self.extras[MAX_EXTRAS * row + handed.added] = event;
-            handed.added += 1;
+            let row = around(self.first_row + index, count);
+            self.rows[MAX_FORWARDS * row + handed.kept] = *event;
+            handed.kept += 1;
+            handed.answered = answered;
         }
     }
 
     /// The event of the place is answered, by a forward or by its release.
-    pub fn resolve(&mut self, place: u64, forward: Option<Event>)
+    #[inline(always)]
+    pub fn resolve(&mut self, place: u64, forward: Option<&Event>)
         requires { IsTrue (is_open (place_at self.old place)) }
-        ensures { self.new ≡ after_resolve self.old place forward }
+        ensures { self.new ≡ after_resolve self.old place (option_copied forward.entry) }
+    {
+        match forward {
+            Some(event) => self.keep(place, event, true),
+            None => self.release(place),
+        }
+    }
+
+    /// The event of the place is answered by its release.
+    #[inline(always)]
+    fn release(&mut self, place: u64)
+        requires { IsTrue (is_open (place_at self.old place)) }
+        ensures { self.new ≡ after_resolve self.old place None }
     {
         let index = place.wrapping_sub(self.first) as usize;
         if let Some(handed) = self.ring.get_mut(index) {
-            handed.answer = Answer::Resolved(forward);
+            handed.answered = true;
         }
     }
 
@@ -202,7 +189,7 @@ impl Reorder {
         ensures { result ≡ is_some (oldest_answered self.now.places) }
     {
         match self.ring.front() {
-            Some(oldest) => is_resolved(&oldest.answer),
+            Some(oldest) => oldest.answered,
             None => false,
         }
     }
@@ -214,37 +201,37 @@ impl Reorder {
         ensures rest { self.new ≡ after_leave self.old }
     {
         let oldest = self.ring.front().copied()?;
-        match oldest.answer {
-            Answer::Awaited => None,
-            Answer::Resolved(forward) => {
-                let row = MAX_EXTRAS * self.first_row;
-                let events = passed_on(&self.extras[row..row + oldest.added], forward);
-                self.advance();
-                Some((oldest.number, events))
-            }
+        if !oldest.answered {
+            return None;
         }
+        let row = MAX_FORWARDS * self.first_row;
+        let events = passed_on(&self.rows[row..row + oldest.kept]);
+        self.advance();
+        Some((oldest.number, events))
     }
 
-    /// The quick way to `leave`, which serves in any case, for a place to which nothing was added: either it does as that
+    /// The quick way to `leave`, which serves in any case, for a place that keeps one event at most: either it does as that
     /// would, or it gives nothing and changes nothing. So where this gives nothing, the oldest place may still leave.
+    #[inline(always)]
     pub fn leave_plain(&mut self) -> Option<(u64, Option<Event>)>
         ensures { MatchOption result (self.new ≡ self.old) (λ r. (oldest_answered self.old.places ≡ Some (left_plain r)) × (self.new ≡ after_leave self.old)) }
     {
         let plain = self.ring.front()?;
-        if plain.added > 0 {
+        if !plain.answered || plain.kept > 1 {
             return None;
         }
         let number = plain.number;
-        match plain.answer {
-            Answer::Awaited => None,
-            Answer::Resolved(forward) => {
-                self.advance();
-                Some((number, forward))
-            }
+        if plain.kept == 0 {
+            self.advance();
+            return Some((number, None));
         }
+        let event = self.rows[MAX_FORWARDS * self.first_row];
+        self.advance();
+        Some((number, Some(event)))
     }
 
     /// The oldest place leaves.
+    #[inline(always)]
     fn advance(&mut self)
         requires { 0 < length self.old.places }
         ensures { self.new ≡ without_oldest self.old }

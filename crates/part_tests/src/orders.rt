@@ -136,7 +136,7 @@ fn added_events_leave_before_the_forward(rt: HostRuntime) -> Result<(), Fail> {
     reorder.add(0, FIRST);
     reorder.add(0, SECOND);
     let early = leaves(&mut reorder, None);
-    reorder.resolve(0, Some(FORWARD));
+    reorder.resolve(0, Some(&FORWARD));
     let kept = (
         reorder.kept_count(0),
         reorder.kept_at(0, 1),
@@ -167,23 +167,24 @@ fn each_place_keeps_what_was_added_to_it(rt: HostRuntime) -> Result<(), Fail> {
     reorder.add(1, SECOND);
     reorder.resolve(1, None);
     let left = leaves(&mut reorder, Some((6, &[FIRST, THIRD, SECOND])));
-    reorder.resolve(2, Some(FORWARD));
+    reorder.resolve(2, Some(&FORWARD));
     let last = leaves(&mut reorder, Some((7, &[FIRST, FORWARD])));
     assert_eq!(rt; [oldest, left, last], [true; 3]);
     Ok(())
 }
 
-/// The quick way out is for a place to which nothing was added.
+/// The quick way out is for a place that keeps one event at most.
 #[test]
 fn a_plain_place_leaves_quickly(rt: HostRuntime) -> Result<(), Fail> {
     let mut reorder = reorder_of(rt.alloc(), 2)?;
     reorder.hand(5);
     reorder.hand(6);
     reorder.add(0, FIRST);
+    reorder.add(0, SECOND);
     reorder.resolve(0, None);
-    reorder.resolve(1, Some(FORWARD));
+    reorder.resolve(1, Some(&FORWARD));
     let early = reorder.leave_plain();
-    let oldest = leaves(&mut reorder, Some((5, &[FIRST])));
+    let oldest = leaves(&mut reorder, Some((5, &[FIRST, SECOND])));
     let plain = reorder.leave_plain();
     assert_eq!(rt;
         (early, oldest, plain),
@@ -230,7 +231,7 @@ fn turned_twice(alloc: Global) -> Result<Reorder, Memory>
 fn places_wrap_round_the_ring(rt: HostRuntime) -> Result<(), Fail> {
     let mut reorder = turned_twice(rt.alloc())?;
     let handed = [reorder.hand(16), reorder.hand(17)];
-    reorder.resolve(7, Some(FORWARD));
+    reorder.resolve(7, Some(&FORWARD));
     let early = leaves(&mut reorder, None);
     reorder.resolve(6, None);
     let oldest = leaves(&mut reorder, Some((16, &[])));

@@ -122,7 +122,7 @@ module _ (a : Inside) (i : ℕ) (old : Entries) (y : Entry) (core : IsCore a) (h
   pub core_adds : (e : Event) (es : Vec ℕ Global) (n m : ℕ) → es.items ≡ one_more a.extras.items i → e.queue < length a.shape.queues
       → inside_of (view_in a) < bound_of a.shape → entries_of (view_in a) < 2 ^ 63
       → n ≡ a.inside + kept_one (is_restoring (order_at a.orders y.queue)) → m ≡ a.entries + kept_one (is_restoring (order_at a.orders y.queue))
-      → IsCore (record { shape = a.shape; queues = a.queues; orders = added_orders a.orders y e; lanes = a.lanes; extras = es; pins = a.pins; links = a.links; ahead = a.ahead; slot_lanes = a.slot_lanes; bound = a.bound; inside = n; entries = m; shut = a.shut })
+      → IsCore (record { shape = a.shape; queues = a.queues; orders = added_orders a.orders y e; lanes = a.lanes; extras = es; pins = a.pins; links = a.links; ahead = a.ahead; slot_lanes = a.slot_lanes; bound = a.bound; log_room = a.log_room; inside = n; entries = m; shut = a.shut })
   core_adds e es n m more named room fewer counted entered =
       let r : Reordering = order_at a.orders y.queue in
       let there : y.queue < length a.shape.queues = oldest_known a i old y core h is oldest in
@@ -130,7 +130,7 @@ module _ (a : Inside) (i : ℕ) (old : Entries) (y : Entry) (core : IsCore a) (h
       let same : kept_one (is_restoring r) ≡ kept_one (is_ordered (queue_of a.shape y.queue).kind) = ap kept_one done.restoring in
       let once : kept_one (is_ordered (queue_of a.shape y.queue).kind) ≤ 1 = kept_few (is_ordered (queue_of a.shape y.queue).kind) in
       let count = core.places.count in
-      let keeps = kept_after a (record { shape = a.shape; queues = a.queues; orders = added_orders a.orders y e; lanes = a.lanes; extras = es; pins = a.pins; links = a.links; ahead = a.ahead; slot_lanes = a.slot_lanes; bound = a.bound; inside = n; entries = m; shut = a.shut }) y.queue (added_in r y.place e) refl (omega arith) in
+      let keeps = kept_after a (record { shape = a.shape; queues = a.queues; orders = added_orders a.orders y e; lanes = a.lanes; extras = es; pins = a.pins; links = a.links; ahead = a.ahead; slot_lanes = a.slot_lanes; bound = a.bound; log_room = a.log_room; inside = n; entries = m; shut = a.shut }) y.queue (added_in r y.place e) refl (omega arith) in
       let kept = done.kept in
       let inside = core.inside in
       let entries = core.entries in
@@ -146,6 +146,7 @@ module _ (a : Inside) (i : ℕ) (old : Entries) (y : Entry) (core : IsCore a) (h
         inside = omega arith;
         within = omega arith;
         bound = core.bound;
+        log_room = core.log_room;
         small = core.small;
         entries = omega arith;
         few = omega arith;
@@ -158,7 +159,7 @@ module _ (a : Inside) (i : ℕ) (old : Entries) (y : Entry) (core : IsCore a) (h
   -- ---- its view
 
   pub view_adds : (e : Event) (es : Vec ℕ Global) (n m : ℕ) → es.items ≡ one_more a.extras.items i → e.queue < length a.shape.queues
-      → view_in (record { shape = a.shape; queues = a.queues; orders = added_orders a.orders y e; lanes = a.lanes; extras = es; pins = a.pins; links = a.links; ahead = a.ahead; slot_lanes = a.slot_lanes; bound = a.bound; inside = n; entries = m; shut = a.shut }) ≡ after_more (view_in a) i e
+      → view_in (record { shape = a.shape; queues = a.queues; orders = added_orders a.orders y e; lanes = a.lanes; extras = es; pins = a.pins; links = a.links; ahead = a.ahead; slot_lanes = a.slot_lanes; bound = a.bound; log_room = a.log_room; inside = n; entries = m; shut = a.shut }) ≡ after_more (view_in a) i e
   view_adds e es n m more named =
       same_parts a.shape (map waiting_in a.queues) _ (map next_in a.queues) _ _ _ (map unanswered_in a.lanes) _ _ _ a.shut refl refl
       (map-set places_in a.orders y.queue (added_in r y.place e) ∙ (by_kind (is_ordered (queue_of a.shape y.queue).kind) refl done.shown ∙ sym (ap (λ x. places_with (view_in a) x e) (first_here a i old y h is oldest))))

@@ -178,7 +178,7 @@ pub core_answers : (a : Inside) (i : ℕ) (old new : Entries) (y : Entry) (f : O
     → ((e : Event) → f ≡ Some e → e.queue < length a.shape.queues) → entries_of (view_in a) + length (option_to_list f) ≤ 2 ^ 63
     → ps ≡ with_pin a.pins y.queue y.slot (unpinned (pin_in a.pins y.queue y.slot))
     → n + 1 ≡ a.inside + kept_more (is_restoring (order_at a.orders y.queue)) f → m ≡ a.entries + kept_more (is_restoring (order_at a.orders y.queue)) f
-    → IsCore (record { shape = a.shape; queues = a.queues; orders = resolved_orders a.orders y f; lanes = set a.lanes i new; extras = es; pins = ps; links = a.links; ahead = a.ahead; slot_lanes = a.slot_lanes; bound = a.bound; inside = n; entries = m; shut = a.shut })
+    → IsCore (record { shape = a.shape; queues = a.queues; orders = resolved_orders a.orders y f; lanes = set a.lanes i new; extras = es; pins = ps; links = a.links; ahead = a.ahead; slot_lanes = a.slot_lanes; bound = a.bound; log_room = a.log_room; inside = n; entries = m; shut = a.shut })
 core_answers a i old new y f es ps n m core h is oldest items capacity cleared named few unpins counted entered =
     let r : Reordering = order_at a.orders y.queue in
     let there : y.queue < length a.shape.queues = oldest_known a i old y core h is oldest in
@@ -190,7 +190,7 @@ core_answers a i old new y f es ps n m core h is oldest items capacity cleared n
     let less : length (unanswered_in new) + 1 ≡ length (unanswered_in old) = answered_length old new y oldest items in
     let held = held_sum a.lanes i old new h is in
     let count = core.places.count in
-    let keeps = kept_after a (record { shape = a.shape; queues = a.queues; orders = resolved_orders a.orders y f; lanes = set a.lanes i new; extras = es; pins = ps; links = a.links; ahead = a.ahead; slot_lanes = a.slot_lanes; bound = a.bound; inside = n; entries = m; shut = a.shut }) y.queue (resolved_in r y.place f) refl (omega arith) in
+    let keeps = kept_after a (record { shape = a.shape; queues = a.queues; orders = resolved_orders a.orders y f; lanes = set a.lanes i new; extras = es; pins = ps; links = a.links; ahead = a.ahead; slot_lanes = a.slot_lanes; bound = a.bound; log_room = a.log_room; inside = n; entries = m; shut = a.shut }) y.queue (resolved_in r y.place f) refl (omega arith) in
     let more = done.kept in
     let inside = core.inside in
     let within = core.within in
@@ -211,6 +211,7 @@ core_answers a i old new y f es ps n m core h is oldest items capacity cleared n
       inside = omega arith;
       within = omega arith;
       bound = core.bound;
+      log_room = core.log_room;
       small = core.small;
       entries = omega arith;
       few = omega arith;
@@ -244,7 +245,7 @@ some_inside a i old y core h is oldest =
 
 pub view_answers : (a : Inside) (i : ℕ) (old new : Entries) (y : Entry) (f : Option Event) (o : Outcome) (es : Vec ℕ Global) (ps : List (List Pin)) (n m : ℕ) → IsCore a → i < length a.lanes → old ≡ get_or a.lanes i old
     → slice_get old.entries 0 ≡ Some y → new.entries ≡ drop 1 old.entries → es.items ≡ set a.extras.items i 0 → ((e : Event) → f ≡ Some e → e.queue < length a.shape.queues) → outcome_of f ≡ o
-    → view_in (record { shape = a.shape; queues = a.queues; orders = resolved_orders a.orders y f; lanes = set a.lanes i new; extras = es; pins = ps; links = a.links; ahead = a.ahead; slot_lanes = a.slot_lanes; bound = a.bound; inside = n; entries = m; shut = a.shut }) ≡ after_answer (view_in a) i o
+    → view_in (record { shape = a.shape; queues = a.queues; orders = resolved_orders a.orders y f; lanes = set a.lanes i new; extras = es; pins = ps; links = a.links; ahead = a.ahead; slot_lanes = a.slot_lanes; bound = a.bound; log_room = a.log_room; inside = n; entries = m; shut = a.shut }) ≡ after_answer (view_in a) i o
 view_answers a i old new y f o es ps n m core h is oldest items cleared named same =
     same_parts a.shape (map waiting_in a.queues) _ (map next_in a.queues) _ _ _ _ _ _ _ a.shut refl refl
     (map-set places_in a.orders y.queue (resolved_in r y.place f) ∙ (by_kind (is_ordered (queue_of a.shape y.queue).kind) refl done.shown ∙ sym (ap (λ x. places_answered (view_in a) x o) (first_here a i old y h is oldest))))

@@ -142,7 +142,7 @@ waits_here_is qs i old h is = get_or_default qs i (no_waits 1 0) old h ∙ sym i
 
 pub core_accepts : (a : Inside) (i : ℕ) (old new : Waits) (e : Event) → IsCore a → inside_of (view_in a) < bound_of a.shape → entries_of (view_in a) < 2 ^ 63 → i < length a.queues → old ≡ get_or a.queues i old
     → new ≡ with_event old e → AreWaits new
-    → IsCore (record { shape = a.shape; queues = set a.queues i new; orders = a.orders; lanes = a.lanes; extras = a.extras; pins = a.pins; links = a.links; ahead = a.ahead; slot_lanes = a.slot_lanes; bound = a.bound; inside = a.inside + 1; entries = a.entries + 1; shut = a.shut })
+    → IsCore (record { shape = a.shape; queues = set a.queues i new; orders = a.orders; lanes = a.lanes; extras = a.extras; pins = a.pins; links = a.links; ahead = a.ahead; slot_lanes = a.slot_lanes; bound = a.bound; log_room = a.log_room; inside = a.inside + 1; entries = a.entries + 1; shut = a.shut })
 core_accepts a i old new e core fits fewer h is value waits =
     let more : length new.waiting ≡ length old.waiting + 1 = ap (λ (q : Waits). length q.waiting) value ∙ length_push old.waiting (record { number = old.next; event = e }) in
     let next : new.next ≡ old.next + 1 = ap (λ (q : Waits). q.next) value in
@@ -164,6 +164,7 @@ core_accepts a i old new e core fits fewer h is value waits =
       inside = omega arith;
       within = omega arith;
       bound = core.bound;
+      log_room = core.log_room;
       small = core.small;
       entries = omega arith;
       few = omega arith;
@@ -185,7 +186,7 @@ pub same_view : (p : Plan) (w w' : List (List Numbered)) (n n' : List ℕ) (r : 
 same_view p w w' n n' r u u' x b e f g = cc
 
 pub view_accepts : (a : Inside) (i : ℕ) (old new : Waits) (e : Event) → i < length a.queues → old ≡ get_or a.queues i old → new ≡ with_event old e
-    → view_in (record { shape = a.shape; queues = set a.queues i new; orders = a.orders; lanes = a.lanes; extras = a.extras; pins = a.pins; links = a.links; ahead = a.ahead; slot_lanes = a.slot_lanes; bound = a.bound; inside = a.inside + 1; entries = a.entries + 1; shut = a.shut }) ≡ after_accept (view_in a) i e
+    → view_in (record { shape = a.shape; queues = set a.queues i new; orders = a.orders; lanes = a.lanes; extras = a.extras; pins = a.pins; links = a.links; ahead = a.ahead; slot_lanes = a.slot_lanes; bound = a.bound; log_room = a.log_room; inside = a.inside + 1; entries = a.entries + 1; shut = a.shut }) ≡ after_accept (view_in a) i e
 view_accepts a i old new e h is value =
     same_view a.shape _ _ _ _ (map places_in a.orders) (map unanswered_in a.lanes) _ a.extras.items a.shut
     (map-set waiting_in a.queues i new ∙ ap (set (map waiting_in a.queues) i)
@@ -196,8 +197,8 @@ view_accepts a i old new e h is value =
 -- one event more is inside, and one more accepted
 pub accept_counts : (a : Inside) (i : ℕ) (old new : Waits) (e : Event) (v : View) → IsCore a → view_in a ≡ v → inside_of (view_in a) < bound_of a.shape → entries_of (view_in a) < 2 ^ 63 → i < length a.queues → old ≡ get_or a.queues i old
     → new ≡ with_event old e → AreWaits new
-    → (inside_of (view_in (record { shape = a.shape; queues = set a.queues i new; orders = a.orders; lanes = a.lanes; extras = a.extras; pins = a.pins; links = a.links; ahead = a.ahead; slot_lanes = a.slot_lanes; bound = a.bound; inside = a.inside + 1; entries = a.entries + 1; shut = a.shut })) ≡ inside_of v + 1)
-    × (entries_of (view_in (record { shape = a.shape; queues = set a.queues i new; orders = a.orders; lanes = a.lanes; extras = a.extras; pins = a.pins; links = a.links; ahead = a.ahead; slot_lanes = a.slot_lanes; bound = a.bound; inside = a.inside + 1; entries = a.entries + 1; shut = a.shut })) ≡ entries_of v + 1)
+    → (inside_of (view_in (record { shape = a.shape; queues = set a.queues i new; orders = a.orders; lanes = a.lanes; extras = a.extras; pins = a.pins; links = a.links; ahead = a.ahead; slot_lanes = a.slot_lanes; bound = a.bound; log_room = a.log_room; inside = a.inside + 1; entries = a.entries + 1; shut = a.shut })) ≡ inside_of v + 1)
+    × (entries_of (view_in (record { shape = a.shape; queues = set a.queues i new; orders = a.orders; lanes = a.lanes; extras = a.extras; pins = a.pins; links = a.links; ahead = a.ahead; slot_lanes = a.slot_lanes; bound = a.bound; log_room = a.log_room; inside = a.inside + 1; entries = a.entries + 1; shut = a.shut })) ≡ entries_of v + 1)
 accept_counts a i old new e v core same fits fewer h is value waits =
     let after = core_accepts a i old new e core fits fewer h is value waits in
     (sym after.inside ∙ ap (λ n. n + 1) (core.inside ∙ ap inside_of same), sym after.entries ∙ ap (λ n. n + 1) (core.entries ∙ ap entries_of same))

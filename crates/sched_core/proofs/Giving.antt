@@ -131,7 +131,7 @@ pub core_gives : (a : Inside) (i l : ℕ) (old new : Waits) (holder held : Entri
     → new ≡ without_number old w.number → AreWaits new → held.entries ≡ holder.entries ++ y ∷ [] → held.capacity ≡ holder.capacity
     → y.queue ≡ i → y.number ≡ w.number → y.slot ≡ slot_of a.shape i w.event.flow → (is_restoring (order_at a.orders i) ≡ true → y.place ≡ next_number (order_at a.orders i))
     → ps ≡ with_pin a.pins i y.slot (pinned (pin_in a.pins i y.slot) l)
-    → IsCore (record { shape = a.shape; queues = set a.queues i new; orders = handed_orders a.orders i w.number; lanes = set a.lanes l held; extras = a.extras; pins = ps; links = a.links; ahead = a.ahead; slot_lanes = a.slot_lanes; bound = a.bound; inside = a.inside; entries = a.entries; shut = a.shut })
+    → IsCore (record { shape = a.shape; queues = set a.queues i new; orders = handed_orders a.orders i w.number; lanes = set a.lanes l held; extras = a.extras; pins = ps; links = a.links; ahead = a.ahead; slot_lanes = a.slot_lanes; bound = a.bound; log_room = a.log_room; inside = a.inside; entries = a.entries; shut = a.shut })
 core_gives a i l old new holder held w y ps core offer h is k here waits value sound_new given room queue number slot place pins =
     let sound = queue_here a i old core h is in
     let same : waits_at a.queues i ≡ old = waits_here_is a.queues i old h is in
@@ -142,7 +142,7 @@ core_gives a i l old new holder held w y ps core offer h is k here waits value s
     let done = handed_by a l i w y core offer (subst (λ (q : Waits). Contains q.waiting w) (sym same) waits) (subst (λ (q : Waits). w.number < q.next) (sym same) below) k queue number place in
     let count = core.places.count in
     let there = offer.queue in
-    let keeps = kept_after a (record { shape = a.shape; queues = set a.queues i new; orders = handed_orders a.orders i w.number; lanes = set a.lanes l held; extras = a.extras; pins = ps; links = a.links; ahead = a.ahead; slot_lanes = a.slot_lanes; bound = a.bound; inside = a.inside; entries = a.entries; shut = a.shut }) i (handed (order_at a.orders i) w.number) refl (omega arith) in
+    let keeps = kept_after a (record { shape = a.shape; queues = set a.queues i new; orders = handed_orders a.orders i w.number; lanes = set a.lanes l held; extras = a.extras; pins = ps; links = a.links; ahead = a.ahead; slot_lanes = a.slot_lanes; bound = a.bound; log_room = a.log_room; inside = a.inside; entries = a.entries; shut = a.shut }) i (handed (order_at a.orders i) w.number) refl (omega arith) in
     let still = done.kept in
     let in_queues = waiting_sum a.queues i old new h is in
     let numbers = next_sum a.queues i old new h is in
@@ -166,6 +166,7 @@ core_gives a i l old new holder held w y ps core offer h is k here waits value s
       inside = omega arith;
       within = omega arith;
       bound = core.bound;
+      log_room = core.log_room;
       small = core.small;
       entries = omega arith;
       few = omega arith;
@@ -193,7 +194,7 @@ pub view_gives : (a : Inside) (i l : ℕ) (old new : Waits) (holder held : Entri
     → i < length a.queues → old ≡ get_or a.queues i old → l < length a.lanes → holder ≡ get_or a.lanes l holder → Contains old.waiting w
     → new ≡ without_number old w.number → held.entries ≡ holder.entries ++ y ∷ [] → held_of y ≡ record { queue = i; number = w.number; slot = slot_of a.shape i w.event.flow }
     → (is_restoring (order_at a.orders i) ≡ true → y.place ≡ next_number (order_at a.orders i))
-    → view_in (record { shape = a.shape; queues = set a.queues i new; orders = handed_orders a.orders i w.number; lanes = set a.lanes l held; extras = a.extras; pins = ps; links = a.links; ahead = a.ahead; slot_lanes = a.slot_lanes; bound = a.bound; inside = a.inside; entries = a.entries; shut = a.shut }) ≡ after_give (view_in a) l i w.number
+    → view_in (record { shape = a.shape; queues = set a.queues i new; orders = handed_orders a.orders i w.number; lanes = set a.lanes l held; extras = a.extras; pins = ps; links = a.links; ahead = a.ahead; slot_lanes = a.slot_lanes; bound = a.bound; log_room = a.log_room; inside = a.inside; entries = a.entries; shut = a.shut }) ≡ after_give (view_in a) l i w.number
 view_gives a i l old new holder held w y ps core offer h is k here waits value given entry place =
     let n : ℕ = w.number in
     let v : View = view_in a in

@@ -23,7 +23,7 @@ abbrev pub left_orders : List Reordering → ℕ → List Reordering
 left_orders rs q = set rs q (after_leave (order_at rs q))
 
 abbrev pub with_orders : Inside → List Reordering → ℕ → ℕ → Inside
-with_orders a rs n m = record { shape = a.shape; queues = a.queues; orders = rs; lanes = a.lanes; extras = a.extras; pins = a.pins; links = a.links; ahead = a.ahead; slot_lanes = a.slot_lanes; bound = a.bound; inside = n; entries = m; shut = a.shut }
+with_orders a rs n m = record { shape = a.shape; queues = a.queues; orders = rs; lanes = a.lanes; extras = a.extras; pins = a.pins; links = a.links; ahead = a.ahead; slot_lanes = a.slot_lanes; bound = a.bound; log_room = a.log_room; inside = n; entries = m; shut = a.shut }
 
 kept_left : (r : Reordering) (x : Place) → oldest_answered r.places ≡ Some x → kept_of (after_leave r).places + length x.forwards ≡ kept_of r.places
 kept_left r x e =
@@ -55,6 +55,7 @@ core_leaves a q n m x core h e counted entered =
       inside = omega arith;
       within = omega arith;
       bound = core.bound;
+      log_room = core.log_room;
       small = core.small;
       entries = omega arith;
       few = omega arith;

@@ -3,6 +3,7 @@ use Rattle.std.specs.Prelude.{ℕ, ◌≡◌, ◌≤◌, List, length, map, All,
 use Rattle.evt_types.specs.Fault.{IsWithinLimits}
 use Rattle.evt_types.specs.Plan.{bound_of, lanes_of}
 use Rattle.transcripts.specs.Standing.{View, inside_of, entries_of}
+use Rattle.transcripts.specs.Sweep.{sweep_room}
 use Rattle.transcripts.specs.Transcript.{Held}
 use Rattle.evt_types.specs.declared.event.Numbered.{Numbered}
 use Rattle.order_parts.specs.declared.history.Entry.{Entry}
@@ -56,6 +57,7 @@ pub record IsCore (a : Inside) : Type 0 where
   pub within : inside_of (view_in a) ≤ bound_of a.shape
   pub bound : a.bound ≡ bound_of a.shape
   pub small : bound_of a.shape < 2 ^ 64
+  pub log_room : a.log_room ≡ sweep_room a.shape
   pub entries : a.entries ≡ entries_of (view_in a)
   pub few : entries_of (view_in a) ≤ 2 ^ 63
   pub links : AreLinks a.shape (length a.shape.queues) a.links.items

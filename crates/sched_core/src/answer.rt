@@ -1,6 +1,6 @@
 //! Events are accepted, added and answered.
 
-ghost use Rattle.std.specs.Prelude.{◌≡◌, ◌+◌, ◌<◌, ◌≤◌, ◌^◌, true, false, [], ◌∷◌, ◌++◌, length, Some, All};
+ghost use Rattle.std.specs.Prelude.{◌≡◌, ◌+◌, ◌<◌, ◌≤◌, ◌^◌, true, false, [], ◌∷◌, ◌++◌, length, option_copied, Some, All};
 ghost use Rattle.evt_types.specs.Plan.{bound_of, lanes_of, queue_of, is_ordered};
 ghost use Rattle.transcripts.specs.Standing.{inside_of, entries_of, may_add, may_answer, oldest_at, events_of, accepts_from, after, after_accept, after_more};
 ghost use Rattle.evt_types.specs.declared.event.Event.{Event as EventValue};
@@ -13,13 +13,14 @@ use evt_types::{Event, Outcome, Source, Step};
 use order_parts::Entry;
 use step_log::StepLog;
 
-/// What an answered event is forwarded as.
-fn forward_of(outcome: Outcome) -> Option<Event>
-    ensures { outcome_of result ≡ outcome }
+/// How an event is answered, by what it is forwarded as.
+#[inline(always)]
+fn outcome_of(forward: Option<&Event>) -> Outcome
+    ensures { result ≡ outcome_of (option_copied forward.entry) }
 {
-    match outcome {
-        Outcome::Forwarded(event) => Some(event),
-        Outcome::Released => None,
+    match forward {
+        Some(event) => Outcome::Forwarded(*event),
+        None => Outcome::Released,
     }
 }
 
@@ -95,34 +96,40 @@ impl Core {
         entry
     }
 
-    /// The lane's oldest unanswered event is answered so. What an ordered queue's event is forwarded as is kept at first.
+    /// The lane's oldest unanswered event is answered, by a forward or by its release. What an ordered queue's event is forwarded as is kept at first.
     #[inline(always)]
-    pub(crate) fn answer<L: StepLog>(&mut self, lane: usize, outcome: Outcome, log: &mut L) -> Entry
+    pub(crate) fn answer<L: StepLog>(
+        &mut self,
+        lane: usize,
+        forward: Option<&Event>,
+        log: &mut L,
+    ) -> Entry
         requires lane { lane < lanes_of self.old.shape }
         requires some { may_answer self.old lane ≡ true }
-        requires outcome { All (λ (e : EventValue). e.queue < length self.old.shape.queues) (events_of outcome) }
-        requires entries { entries_of self.old + length (events_of outcome) ≤ 2 ^ 63 }
+        requires outcome { All (λ (e : EventValue). e.queue < length self.old.shape.queues) (events_of (outcome_of (option_copied forward))) }
+        requires entries { entries_of self.old + length (events_of (outcome_of (option_copied forward))) ≤ 2 ^ 63 }
         requires room { 0 < L.room log.old }
         ensures oldest { oldest_at self.old lane ≡ Some (held_of result) }
         ensures queue { result.queue < length self.old.shape.queues }
         ensures places { result.queue < length self.old.places }
-        ensures view { self.new ≡ after_answer self.old lane outcome }
-        ensures logged { L.steps log.new ≡ L.steps log.old ++ Step.Done lane outcome ∷ [] }
+        ensures view { self.new ≡ after_answer self.old lane (outcome_of (option_copied forward.entry)) }
+        ensures logged { L.steps log.new ≡ L.steps log.old ++ Step.Done lane (outcome_of (option_copied forward.entry)) ∷ [] }
         ensures fewer { is_ordered (queue_of self.old.shape result.queue).kind ≡ false → inside_of self.new < bound_of self.old.shape }
         ensures room { L.room log.old ≤ L.room log.new + 1 }
     {
         let entry = self.lanes.pop(lane);
         self.extras[lane] = 0;
         self.pins.unpin(entry.queue, entry.slot);
-        let kept = self
-            .orders
-            .resolve(entry.queue, entry.place, forward_of(outcome));
+        let kept = self.orders.resolve(entry.queue, entry.place, forward);
         if kept {
             self.entries += 1;
         } else {
             self.inside -= 1;
         }
-        log.push_step(Step::Done { lane, outcome });
+        log.push_step(Step::Done {
+            lane,
+            outcome: outcome_of(forward),
+        });
         entry
     }
 }

@@ -1,18 +1,20 @@
 //! A core in which nothing has happened.
 
-ghost use Rattle.std.specs.Prelude.{◌≡◌, ◌<◌, ◌≤◌, [], length, replicate, IfOk, IfErr};
+ghost use Rattle.std.specs.Prelude.{◌≡◌, ◌<◌, ◌≤◌, [], length, replicate, sum_by, IfOk, IfErr};
+ghost use Rattle.evt_types.specs.Plan as plans;
 ghost use Rattle.evt_types.specs.Plan.{lanes_of};
+ghost use Rattle.transcripts.specs.Sweep.{sweep_room};
 ghost use Rattle.transcripts.specs.Standing.{Stands, view_of};
 ghost use Rattle.sched_core.specs.Links.{AreLinks, AreLinksOf};
 ghost use Rattle.sched_core.specs.Service.{AreAhead, AreAheadOf};
 
 use crate::histories::Histories;
-use crate::orders::AllOrders;
+use crate::orders::{AllOrders, kept_room};
 use crate::pins::AllPins;
 use crate::queues::AllQueues;
 use crate::slot_lanes::slot_lanes;
 use crate::state::{Core, Memory};
-use evt_types::Shape;
+use evt_types::{MAX_FORWARDS, MAX_QUEUES, QueueDraft, Shape};
 use place_set::Places;
 use std::alloc::{AllocError, Global};
 
@@ -80,6 +82,28 @@ fn no_extras(alloc: Global, shape: &Shape) -> Result<Vec<usize>, AllocError>
     vec![in alloc; 0; shape.lanes()]
 }
 
+/// How many places all queues have: each may keep several events.
+fn all_kept_room(queues: &[QueueDraft]) -> usize
+    requires { length queues.now ≤ MAX_QUEUES }
+    ensures { result ≡ sum_by plans.kept_room queues.now }
+{
+    queues.iter().map(kept_room).sum()
+}
+
+/// How many steps a sweep may log: the shut step, for each reply taken an answer or an added event and one event accepted, the
+/// events that were kept, each event given, and each lane whose ring was full.
+fn log_room(shape: &Shape) -> usize
+    ensures { result ≡ sweep_room shape.now }
+{
+    // To read a limit makes known that the limits hold.
+    let _ = shape.limit();
+    let sweep = shape.sweep() as usize;
+    let queues = shape.queues();
+    let kept = MAX_FORWARDS * all_kept_room(queues);
+    let lanes = shape.lanes();
+    1 + 2 * sweep * lanes + kept + sweep * queues.len() + lanes
+}
+
 impl Core {
     /// A core that holds nothing. Where memory lacks the configuration comes back.
     pub fn new(alloc: Global, shape: Shape) -> Result<Core, (Memory, Shape)>
@@ -89,6 +113,7 @@ impl Core {
         ensures back { IfErr result (λ e. e.1 ≡ shape) }
     {
         let bound = shape.bound();
+        let log_room = log_room(&shape);
         let queues = match AllQueues::new(alloc, &shape) {
             Ok(queues) => queues,
             Err(memory) => return Err((memory, shape)),
@@ -134,6 +159,7 @@ impl Core {
             ahead,
             slot_lanes,
             bound,
+            log_room,
             inside: 0,
             entries: 0,
             shut: false,

@@ -1,6 +1,6 @@
 //! The reorder buffers of a device's queues.
 
-ghost use Rattle.std.specs.Prelude.{◌≡◌, ◌<◌, ◌≤◌, ◌^◌, ◌&&◌, true, length, map, slice_get, slice_set, slice_index_or, is_some, option_map, Some, IfNone, IfOk, IfSome, IsTrue};
+ghost use Rattle.std.specs.Prelude.{◌≡◌, ◌<◌, ◌≤◌, ◌^◌, ◌&&◌, true, length, map, slice_get, slice_set, slice_index_or, is_some, option_copied, option_map, Some, IfNone, IfOk, IfSome, IsTrue};
 ghost use Rattle.order_parts.specs.Reorder.{empty, next_number, place_at, place_or_open, is_open, kept_of, left, left_plain, oldest_answered, after_leave, open_place};
 ghost use Rattle.sched_core.specs.Orders.{IsBuffer, is_restoring, has_place, handed, added_in, resolved_in};
 ghost use Rattle.sched_core.specs.Ordered.{order_at};
@@ -65,6 +65,7 @@ impl AllOrders {
     }
 
     /// Whether an event of the queue may be handed out: there is a place for it, or it needs none.
+    #[inline(always)]
     pub fn has_place(&self, queue: usize) -> bool
         requires { queue < length self.now }
         ensures { result ≡ has_place (order_at self.now queue) }
@@ -76,6 +77,7 @@ impl AllOrders {
     }
 
     /// The queue's event of this number is handed out: its place, which means something where the queue restores an order.
+    #[inline(always)]
     pub fn hand(&mut self, queue: usize, number: u64) -> u64
         requires there { queue < length self.old }
         requires room { IsTrue (has_place (order_at self.old queue)) }
@@ -106,11 +108,12 @@ impl AllOrders {
     }
 
     /// The event of the place is answered, by a forward or by its release: whether the forward is kept.
-    pub fn resolve(&mut self, queue: usize, place: u64, forward: Option<Event>) -> bool
+    #[inline(always)]
+    pub fn resolve(&mut self, queue: usize, place: u64, forward: Option<&Event>) -> bool
         requires there { queue < length self.old }
         requires open { is_restoring (order_at self.old queue) ≡ true → IsTrue (is_open (place_at (order_at self.old queue) place)) }
-        ensures kept { result ≡ (is_restoring (order_at self.old queue) && is_some forward) }
-        ensures resolved { self.new ≡ slice_set self.old queue (resolved_in (order_at self.old queue) place forward) }
+        ensures kept { result ≡ (is_restoring (order_at self.old queue) && is_some (option_copied forward.entry)) }
+        ensures resolved { self.new ≡ slice_set self.old queue (resolved_in (order_at self.old queue) place (option_copied forward.entry)) }
     {
         match &mut self.queues[queue] {
             Some(order) => {
@@ -145,8 +148,9 @@ impl AllOrders {
         }
     }
 
-    /// The queue's oldest place leaves, where it is answered and nothing was added to it: its event's number, and what it was
-    /// forwarded as. Where it gives nothing it may be that an event was added.
+    /// The queue's oldest place leaves, where it is answered and keeps one event at most: its event's number, and what it keeps.
+    /// Where it gives nothing it may be that there are more.
+    #[inline(always)]
     pub fn leave_plain(&mut self, queue: usize) -> Option<(u64, Option<Event>)>
         requires { queue < length self.old }
         ensures value { IfSome result (λ x. oldest_answered (order_at self.old queue).places ≡ Some (left_plain x)) }

@@ -16,6 +16,7 @@ use evt_types::{Event, MAX_FORWARDS, Source, Step};
 use step_log::StepLog;
 
 /// How many events these are.
+#[inline(always)]
 fn count_of(forward: Option<Event>) -> usize
     ensures value { result ≡ length (option_to_list forward) }
     ensures few { result ≤ 1 }
@@ -43,8 +44,8 @@ impl Core {
         Some(left)
     }
 
-    /// The oldest place of the queue leaves, where it is answered and nothing was added to it: its event's number, and what it was
-    /// forwarded as. Where it gives nothing it may be that an event was added.
+    /// The oldest place of the queue leaves, where it is answered and keeps one event at most: its event's number, and what it keeps.
+    /// Where it gives nothing it may be that there are more.
     #[inline(always)]
     fn leave_plain(&mut self, queue: usize) -> Option<(u64, Option<Event>)>
         requires queue { queue < length self.old.shape.queues }
@@ -62,8 +63,8 @@ impl Core {
         Some(left)
     }
 
-    /// The oldest place leaves, where it is answered and nothing was added to it, and what it was forwarded as is accepted: whether
-    /// that is something, and of the number.
+    /// The oldest place leaves, where it is answered and keeps one event at most, and that is accepted: whether it is something, and of
+    /// the number.
     #[inline(always)]
     fn pass_plain<L: StepLog>(&mut self, queue: usize, answered: u64, log: &mut L) -> Option<bool>
         requires queue { queue < length self.old.shape.queues }
@@ -103,7 +104,7 @@ impl Core {
     }
 
     /// The oldest place leaves, where it is answered, and what it was passed on as is accepted: whether that is something, and of the
-    /// number. Mostly nothing was added to it.
+    /// number. Mostly it is one event at most.
     #[inline(always)]
     fn pass_on<L: StepLog>(&mut self, queue: usize, answered: u64, log: &mut L) -> Option<bool>
         requires queue { queue < length self.old.shape.queues }
@@ -125,7 +126,6 @@ impl Core {
 
     /// The answered places leave from the oldest on, and what they were passed on as is accepted: whether something of the number is
     /// among it.
-    #[cold]
     pub(crate) fn settle<L: StepLog>(&mut self, queue: usize, answered: u64, log: &mut L) -> bool
         requires queue { queue < length self.old.shape.queues }
         requires room { length (flush_steps self.old queue) ≤ L.room log.old }

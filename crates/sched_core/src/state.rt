@@ -11,10 +11,10 @@ ghost use Rattle.waiting_lists.specs.Lists.{delivery_of};
 ghost use Rattle.evt_types.specs.declared.step.Step.{Step as StepValue};
 
 use crate::histories::Histories;
-use crate::orders::{AllOrders, kept_room};
+use crate::orders::AllOrders;
 use crate::pins::AllPins;
 use crate::queues::AllQueues;
-use evt_types::{Delivery, KeptEvent, MAX_FORWARDS, MAX_QUEUES, QueueDraft, Shape};
+use evt_types::{Delivery, KeptEvent, MAX_FORWARDS, Shape};
 use place_set::Places;
 use std::alloc::AllocError;
 use std::marker::Model;
@@ -40,6 +40,8 @@ pub struct Core {
     pub(crate) slot_lanes: Vec<Option<usize>>,
     /// How many events may be inside for a NEW to be taken.
     pub(crate) bound: usize,
+    /// How many steps a sweep may log.
+    pub(crate) log_room: usize,
     /// How many events wait, are kept or are unanswered.
     pub(crate) inside: usize,
     /// How many events were accepted or are kept.
@@ -58,14 +60,6 @@ impl Model for Core {
     ghost view = { view_in };
 
     ghost invariant = { IsCore };
-}
-
-/// How many places all queues have: each may keep several events.
-fn all_kept_room(queues: &[QueueDraft]) -> usize
-    requires { length queues.now ≤ MAX_QUEUES }
-    ensures { result ≡ sum_by plans.kept_room queues.now }
-{
-    queues.iter().map(kept_room).sum()
 }
 
 impl Core {
@@ -91,11 +85,7 @@ impl Core {
         ensures kept { kept_in self.now ≤ MAX_FORWARDS * sum_by plans.kept_room self.now.shape.queues }
         ensures fits { (T : List StepValue) (s : Sweeping) → Stands T self.now → IsSweep self.now s → length (sweep_steps self.now s) ≤ result }
     {
-        let sweep = self.shape.sweep() as usize;
-        let queues = self.shape.queues();
-        let kept = MAX_FORWARDS * all_kept_room(queues);
-        let lanes = self.shape.lanes();
-        1 + 2 * sweep * lanes + kept + sweep * queues.len() + lanes
+        self.log_room
     }
 
     /// How many events of the queue wait.

@@ -168,7 +168,7 @@ impl Core {
         ensures took { result ≡ took_by Op.Forward self.old lane event.now }
         ensures room { L.room log.old ≤ L.room log.new + length (steps_by Op.Forward self.old lane event.now) }
     {
-        let Entry { queue, number, .. } = self.answer(lane, Outcome::Forwarded(*event), log);
+        let Entry { queue, number, .. } = self.answer(lane, Some(event), log);
         if self.restores_order(queue) {
             let passed = self.settle(queue, number, log);
             return if passed { Took::Accepted } else { Took::Kept };
@@ -190,7 +190,7 @@ impl Core {
     {
         // The use of a field makes known what holds of each core.
         let _ = &self.shape;
-        let Entry { queue, number, .. } = self.answer(lane, Outcome::Released, log);
+        let Entry { queue, number, .. } = self.answer(lane, None, log);
         if self.restores_order(queue) {
             self.settle(queue, number, log);
         }

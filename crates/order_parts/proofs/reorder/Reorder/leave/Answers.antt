@@ -1,9 +1,10 @@
-use Rattle.std.proofs.Common.{◌≡◌, ◌+◌, ◌-◌, ◌*◌, true, List, ◌++◌, slice_get, take, drop, None, Some, option_to_list, option_map, sym, ap, ◌∙◌}
+use Rattle.std.proofs.Common.{◌≡◌, ◌+◌, ◌-◌, ◌*◌, true, List, slice_get, take, drop, None, Some, option_map, sym, ap, ◌∙◌}
+use Rattle.std.proofs.lemmas.Bool.{not-false}
 use Rattle.evt_types.specs.Place.{Place}
 use Rattle.evt_types.specs.declared.event.Event.{Event}
-use Rattle.evt_types.specs.declared.event.TheConstants.{MAX_EXTRAS}
+use Rattle.evt_types.specs.declared.event.TheConstants.{MAX_FORWARDS}
 use Rattle.order_parts.specs.Reorder.{after_leaving, left, oldest_answered}
-use Rattle.order_parts.proofs.Fields.{oldest_added, oldest_few}
+use Rattle.order_parts.proofs.Fields.{oldest_kept, oldest_few}
 use Rattle.order_parts.proofs.Oldest.{none_oldest, resolved_oldest, some_place}
 use Rattle.order_parts.proofs.reorder.Reorder.leave.Goals as goal
 use Rattle.order_parts.proofs.reorder.Reorder.leave.Goals.{In_err-oldest, In_ok-oldest}
@@ -27,17 +28,17 @@ passed_on-events-requires c = rw c.deref.ensures.value (oldest_few c.self.inside
 pub advance-requires : goal.advance-requires
 advance-requires c = some_place c.self.inside c.args.self.now c.self.view_is c.in_ok-oldest.oldest (there (goal.at.advance-requires c).In_ok-oldest)
 
-pub returns-in-Resolved-clause-value : goal.returns-in-Resolved-clause-value
-returns-in-Resolved-clause-value c =
-    let first = MAX_EXTRAS * c.self.inside.first_row in
-    let oldest = there (goal.at.returns-in-Resolved-clause-value c).In_ok-oldest in
+pub returns-clause-value : goal.returns-clause-value
+returns-clause-value c =
+    let first = MAX_FORWARDS * c.self.inside.first_row in
+    let oldest = there (goal.at.returns-clause-value c).In_ok-oldest in
     ap (λ (es : List Event). let x : Place = record { number = c.in_ok-oldest.oldest.number; answered = true; forwards = es } in Some x)
     (c.passed_on-events.ensures
-    ∙ ap (λ (es : List Event). take (first + c.in_ok-oldest.oldest.added - first) (drop first es) ++ option_to_list c.in-Resolved.forward) c.deref.ensures.value
-    ∙ ap (λ (es : List Event). es ++ option_to_list c.in-Resolved.forward) (oldest_added c.self.inside c.self.invariant c.in_ok-oldest.oldest oldest))
-    ∙ sym (resolved_oldest c.self.inside c.args.self.now c.self.view_is c.in_ok-oldest.oldest oldest c.in-Resolved.forward c.in-Resolved.is)
+    ∙ ap (λ (es : List Event). take (first + c.in_ok-oldest.oldest.kept - first) (drop first es)) c.deref.ensures.value
+    ∙ oldest_kept c.self.inside c.self.invariant c.in_ok-oldest.oldest oldest)
+    ∙ sym (resolved_oldest c.self.inside c.args.self.now c.self.view_is c.in_ok-oldest.oldest oldest (not-false c.in_ok-oldest.oldest.answered c.if-not-oldest.false))
 
-pub returns-in-Resolved-clause-rest : goal.returns-in-Resolved-clause-rest
-returns-in-Resolved-clause-rest c =
+pub returns-clause-rest : goal.returns-clause-rest
+returns-clause-rest c =
     c.advance.ensures
-    ∙ sym (ap (after_leaving c.args.self.now) (resolved_oldest c.self.inside c.args.self.now c.self.view_is c.in_ok-oldest.oldest (there (goal.at.returns-in-Resolved-clause-rest c).In_ok-oldest) c.in-Resolved.forward c.in-Resolved.is))
+    ∙ sym (ap (after_leaving c.args.self.now) (resolved_oldest c.self.inside c.args.self.now c.self.view_is c.in_ok-oldest.oldest (there (goal.at.returns-clause-rest c).In_ok-oldest) (not-false c.in_ok-oldest.oldest.answered c.if-not-oldest.false)))

@@ -1,9 +1,22 @@
-use Rattle.std.proofs.Common.{option_copied, sym, ap, ◌∙◌, arith}
-use Rattle.order_parts.specs.Reorder.{after_leaving}
-use Rattle.order_parts.proofs.Oldest.{plain_oldest}
+use Rattle.std.proofs.Common.{◌≡◌, Some, slice_get, option_copied, sym, ap, ◌∙◌, arith}
+use Rattle.order_parts.specs.Reorder.{after_leaving, left_plain, oldest_answered}
+use Rattle.order_parts.proofs.Oldest.{bare_oldest, plain_oldest}
 use Rattle.order_parts.proofs.reorder.Reorder.leave_plain.Goals as goal
+use Rattle.order_parts.proofs.reorder.Reorder.leave_plain.Goals.{In_ok-plain}
 
-pub returns-in-Resolved : goal.returns-in-Resolved
-returns-in-Resolved c =
-    let oldest = plain_oldest c.self.inside c.args.self.now c.self.view_is c.in_ok-plain.plain.now (sym c.front.ensures ∙ ap option_copied c.in_ok-plain.was) c.in-Resolved.forward c.in-Resolved.is (omega arith) in
+there : (c : In_ok-plain) → slice_get c.self.inside.ring.items 0 ≡ Some c.in_ok-plain.plain.now
+there c = sym c.front.ensures ∙ ap option_copied c.in_ok-plain.was
+
+pub returns-then-plain-eq0 : goal.returns-then-plain-eq0
+returns-then-plain-eq0 c =
+    let oldest = bare_oldest c.self.inside c.args.self.now c.self.view_is c.in_ok-plain.plain.now (there (goal.at.returns-then-plain-eq0 c).In_ok-plain) c.if-not-plain.false (omega (arith, c.if-plain-eq0.true)) in
     (oldest, c.advance.ensures ∙ sym (ap (after_leaving c.args.self.now) oldest))
+
+pub returns : goal.returns
+returns c =
+    let here = there (goal.at.returns c).In_ok-plain in
+    let event = c.index-event.result.now in
+    let oldest : oldest_answered c.args.self.now.places ≡ Some (left_plain (c.in_ok-plain.plain.now.number, Some event)) =
+    plain_oldest c.self.inside c.args.self.now c.self.view_is c.in_ok-plain.plain.now here c.self.invariant event c.if-not-plain.false (omega (arith, c.if-plain-gt1.false, c.if-plain-eq0.false))
+    ∙ ap (λ e. Some (left_plain (c.in_ok-plain.plain.now.number, Some e))) (sym c.index-event.ensures) in
+    (oldest, c.advance-2.ensures ∙ sym (ap (after_leaving c.args.self.now) oldest))

@@ -1,56 +1,16 @@
-use Rattle.evt_types.specs.declared.event.TheConstants.{MAX_FORWARDS}
-use Rattle.evt_types.specs.declared.shape.TheConstants.{MAX_LANES, MAX_ORDER, MAX_QUEUES, MAX_SWEEP}
-use Rattle.std.proofs.Common.{◌≡◌, ℕ, ◌≤◌, ◌+◌, ◌*◌, length, sum_by, subst, sym, ap, arith, ◌∙◌}
-use Rattle.std.proofs.Math.Nat.{mul-le-mul}
-use Rattle.evt_types.specs.Plan.{Plan, kept_room, lanes_of}
+use Rattle.std.proofs.Common.{◌≤◌, length, subst, sym, ap, ◌∙◌}
 use Rattle.transcripts.specs.Standing.{View}
 use Rattle.transcripts.specs.Sweep.{sweep_room, sweep_steps}
 use Rattle.transcripts.proofs.Fewness.{AreSound, sound_kept}
 use Rattle.transcripts.proofs.Sweeps.{sweep_fits}
-use Rattle.sched_core.proofs.Cores.{few_kept}
 use Rattle.sched_core.proofs.Sound.{core_sound}
 use Rattle.sched_core.proofs.state.Core.log_room.Goals as goal
 
-pub overflow_mul-kept : goal.overflow_mul-kept
-overflow_mul-kept c =
-    let kept : c.all_kept_room-kept.result ≤ MAX_QUEUES * MAX_ORDER = subst (λ n. n ≤ MAX_QUEUES * MAX_ORDER) (sym (c.all_kept_room-kept.ensures ∙ ap (sum_by kept_room) c.queues-queues.ensures.value)) (few_kept c.self.inside.shape c.self.invariant.limits) in
-    omega arith
-
-pub overflow_add-result-2 : goal.overflow_add-result-2
-overflow_add-result-2 c =
-    let kept : c.all_kept_room-kept.result ≤ MAX_QUEUES * MAX_ORDER = subst (λ n. n ≤ MAX_QUEUES * MAX_ORDER) (sym (c.all_kept_room-kept.ensures ∙ ap (sum_by kept_room) c.queues-queues.ensures.value)) (few_kept c.self.inside.shape c.self.invariant.limits) in
-    let taken : c.sweep-sweep.result * c.lanes-lanes.result ≤ MAX_SWEEP * MAX_LANES = mul-le-mul c.sweep-sweep.ensures.range.1 c.lanes-lanes.ensures.few.1 in
-    omega arith
-
-pub overflow_add-result-3 : goal.overflow_add-result-3
-overflow_add-result-3 c =
-    let kept : c.all_kept_room-kept.result ≤ MAX_QUEUES * MAX_ORDER = subst (λ n. n ≤ MAX_QUEUES * MAX_ORDER) (sym (c.all_kept_room-kept.ensures ∙ ap (sum_by kept_room) c.queues-queues.ensures.value)) (few_kept c.self.inside.shape c.self.invariant.limits) in
-    let taken : c.sweep-sweep.result * c.lanes-lanes.result ≤ MAX_SWEEP * MAX_LANES = mul-le-mul c.sweep-sweep.ensures.range.1 c.lanes-lanes.ensures.few.1 in
-    let given : c.sweep-sweep.result * length c.queues-queues.result.now ≤ MAX_SWEEP * MAX_QUEUES = mul-le-mul c.sweep-sweep.ensures.range.1 c.queues-queues.ensures.few.1 in
-    omega arith
-
-pub overflow_add-result-4 : goal.overflow_add-result-4
-overflow_add-result-4 c =
-    let kept : c.all_kept_room-kept.result ≤ MAX_QUEUES * MAX_ORDER = subst (λ n. n ≤ MAX_QUEUES * MAX_ORDER) (sym (c.all_kept_room-kept.ensures ∙ ap (sum_by kept_room) c.queues-queues.ensures.value)) (few_kept c.self.inside.shape c.self.invariant.limits) in
-    let taken : c.sweep-sweep.result * c.lanes-lanes.result ≤ MAX_SWEEP * MAX_LANES = mul-le-mul c.sweep-sweep.ensures.range.1 c.lanes-lanes.ensures.few.1 in
-    let given : c.sweep-sweep.result * length c.queues-queues.result.now ≤ MAX_SWEEP * MAX_QUEUES = mul-le-mul c.sweep-sweep.ensures.range.1 c.queues-queues.ensures.few.1 in
-    omega arith
+pub returns-clause-value : goal.returns-clause-value
+returns-clause-value c = c.self.invariant.log_room ∙ ap (λ (v : View). sweep_room v.shape) c.self.view_is
 
 pub returns-clause-kept : goal.returns-clause-kept
 returns-clause-kept c = sound_kept c.args.self.now (subst AreSound c.self.view_is (core_sound c.self.inside c.self.invariant))
 
 pub returns-clause-fits : goal.returns-clause-fits
-returns-clause-fits c T s stands sweep =
-    let queues : length c.queues-queues.result.now ≡ length c.args.self.now.shape.queues =
-    ap length c.queues-queues.ensures.value ∙ ap (λ (v : View). length v.shape.queues) c.self.view_is in
-    let kept : c.all_kept_room-kept.result ≡ sum_by kept_room c.args.self.now.shape.queues =
-    c.all_kept_room-kept.ensures ∙ (ap (sum_by kept_room) c.queues-queues.ensures.value ∙ ap (λ (v : View). sum_by kept_room v.shape.queues) c.self.view_is) in
-    subst (λ n. length (sweep_steps c.args.self.now s) ≤ n)
-    (room_is c.args.self.now.shape c.sweep-sweep.result c.lanes-lanes.result c.all_kept_room-kept.result (length c.queues-queues.result.now)
-    (c.sweep-sweep.ensures.value ∙ ap (λ (v : View). v.shape.sweep) c.self.view_is)
-    (c.lanes-lanes.ensures.value ∙ ap (λ (v : View). lanes_of v.shape) c.self.view_is) kept queues)
-    (sweep_fits c.args.self.now T s stands sweep)
-  where
-    room_is : (p : Plan) (s l k n : ℕ) → s ≡ p.sweep → l ≡ lanes_of p → k ≡ sum_by kept_room p.queues → n ≡ length p.queues
-        → sweep_room p ≡ 1 + 2 * s * l + MAX_FORWARDS * k + s * n + l
-    room_is p s l k n sweep lanes kept queues = cc
+returns-clause-fits c T s stands sweep = subst (λ n. length (sweep_steps c.args.self.now s) ≤ n) (sym (returns-clause-value c)) (sweep_fits c.args.self.now T s stands sweep)

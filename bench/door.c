@@ -1,12 +1,14 @@
 /*
  * The rounds of `device_bench`, case `atomic-64-flows-tally`, through the C functions: a burst of NEWs, a sweep, a dequeue, a burst of
- * RELEASEs, which the next round's sweep takes. For counting instructions (`bench/instructions.py`).
+ * RELEASEs, which the next round's sweep takes. Prints nanoseconds of processor time per event (`bench/door.py`); `bench/instructions.py`
+ * counts its instructions.
  *
  *     door BURST ROUNDS
  */
 #include <evsched.h>
 #include <stdio.h>
 #include <stdlib.h>
+#include <time.h>
 
 enum { SOURCE, WORKER, PORTS, QUEUES = 2, FLOWS = 64, MOST = 32 };
 
@@ -42,11 +44,19 @@ static int rounds(struct evsched *dev, int burst, long count)
 	return 0;
 }
 
+static double now(void)
+{
+	struct timespec t;
+	clock_gettime(CLOCK_THREAD_CPUTIME_ID, &t);
+	return (double)t.tv_sec * 1e9 + (double)t.tv_nsec;
+}
+
 int main(int argc, char **argv)
 {
 	struct evsched_dev_config config = evsched_dev_default_config(QUEUES, PORTS);
 	struct evsched *dev;
 	int burst = argc == 3 ? atoi(argv[1]) : 0, status;
+	double start;
 	if (burst < 1 || burst > MOST)
 		return fail("takes the length of a burst, 1 to 32, and the number of rounds");
 	config.queue[0].nb_atomic_flows = EVSCHED_MAX_ATOMIC_FLOWS;
@@ -56,7 +66,9 @@ int main(int argc, char **argv)
 	config.port[WORKER].event_port_cfg = EVSCHED_PORT_CFG_DISABLE_IMPL_REL;
 	if (evsched_create(&config, &dev) < 0)
 		return fail("the device isn't made");
+	start = now();
 	status = rounds(dev, burst, atol(argv[2]));
+	printf("%.1f\n", (now() - start) / ((double)atol(argv[2]) * burst));
 	evsched_free(dev);
 	return status;
 }

@@ -29,7 +29,7 @@ use Rattle.std.proofs.lemmas.List.{length-map}
 use Rattle.transcripts.specs.Standing.{View, places_at, waiting_at}
 use Rattle.event_ports.specs.declared.port.Port.{Port}
 use Rattle.event_scheduler.specs.Scheduler.{Sight, IsAccepted, offered_at}
-use Rattle.event_recorder.specs.Device.{ControlSite, Device, number_of}
+use Rattle.event_recorder.specs.Device.{ControlSite, Device, SchedulerSite, number_of}
 use Rattle.event_recorder.specs.Ports.{AreByNumber}
 use Rattle.event_recorder.specs.Recorder.{Recorded}
 use Rattle.event_recorder.proofs.Members.{claim_parts, credit_parts, flow_lane_count, flows_counted, lanes_are_small, seats_are, sorted_are, sorted_count, links_agree}
@@ -49,6 +49,11 @@ use Rattle.event_recorder.proofs.FlowEnds.{answered_by_ends, held_by_ends, no_ne
 use Rattle.event_recorder.proofs.Found.{all_held, own_all}
 use Rattle.event_recorder.proofs.Settings.{all_ends, ends_count, few_held, left_count, limits_of, order_of, parts_are, map_map}
 use Rattle.event_recorder.proofs.recorder.Recorder.close.Goals as goal
+
+pub by_number-ports-requires-clause-known : goal.by_number-ports-requires-clause-known
+by_number-ports-requires-clause-known g c = λ k d there.
+    let of = c.requires.of in
+    omega (arith, (of.ports_are k d there).0, ap (λ (x : SchedulerSite). length x.plan.ports) of.scheduler_is, c.port_count-count.ensures.value)
 
 pub join_ports-credit-requires-clause-ports : goal.join_ports-credit-requires-clause-ports
 join_ports-credit-requires-clause-ports g c =

@@ -10,5 +10,4 @@ pub mod Rests
 pub mod Sites
 pub mod Stops
 pub mod Sweeps
-pub mod Words
 pub mod Writes

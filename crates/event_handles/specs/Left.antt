@@ -4,18 +4,17 @@ use Rattle.event_answers.specs.declared.report.Report.{Report}
 use Rattle.event_answers.specs.declared.report.Turned.{Turned}
 use Rattle.event_answers.specs.declared.report.Undelivered.{Undelivered}
 use Rattle.event_answers.specs.declared.report.Untaken.{Untaken}
-use Rattle.evt_types.specs.Word.{word_of}
 use Rattle.evt_types.specs.declared.event.Delivery.{Delivery}
 use Rattle.evt_types.specs.declared.event.Event.{Event}
 use Rattle.evt_types.specs.declared.event.KeptEvent.{KeptEvent}
 use Rattle.evt_types.specs.declared.event.Kind.{Kind}
-use Rattle.event_handles.specs.Events.{kind_in}
+use Rattle.event_handles.specs.Events.{c_event, kind_in}
 use Rattle.event_handles.specs.declared.event.CEvent.{CEvent}
 use Rattle.event_handles.specs.declared.event.CLeft.{CLeft}
 
 -- an event as it is, with the scheduling type of its queue
 abbrev pub shown : List Kind → Event → CEvent
-shown kinds e = record { word = word_of e (kind_in kinds e.queue); payload = e.payload }
+shown kinds e = c_event e (kind_in kinds e.queue)
 
 -- Each by its place, 0 to 4 in this order: it waits in a queue, a queue keeps it, a lane's holder didn't receive it, it wasn't taken
 -- from a lane, it was turned away. `lane` is that queue or lane; what wasn't accepted has no number.

@@ -4,7 +4,7 @@ ghost use Rattle.std.specs.Prelude.{◌≡◌};
 ghost use Rattle.event_handles.specs.Left.{kept_left, shown, turned_left, undelivered_left, untaken_left, waiting_left};
 
 use crate::errno::ENODEV;
-use crate::event::{CEvent, CLeft};
+use crate::event::{CEvent, CLeft, c_event, kind_at};
 use crate::hub::Hub;
 use crate::stopped::Stopped;
 use event_device::{Turned, Undelivered, Untaken};
@@ -17,14 +17,7 @@ const PARTS: usize = 5;
 fn shown(kinds: &[Kind; MAX_QUEUES], event: &Event) -> CEvent
     ensures { result ≡ shown kinds.now event.now }
 {
-    let kind = kinds
-        .get(usize::from(event.queue))
-        .copied()
-        .unwrap_or(Kind::Parallel);
-    CEvent {
-        word: event.word(kind),
-        payload: event.payload,
-    }
+    c_event(event, kind_at(kinds, usize::from(event.queue)))
 }
 
 fn waiting_left(kinds: &[Kind; MAX_QUEUES], delivery: &Delivery) -> CLeft

@@ -1,14 +1,14 @@
-use Rattle.std.proofs.Common.{◌<◌, ◌^◌, arith}
-use Rattle.event_handles.proofs.Words.{ordered_word}
+use Rattle.std.proofs.Common.{◌≡◌, ◌+◌, ◌*◌, ◌/◌, ◌%◌, ◌^◌, arith}
+use Rattle.evt_types.specs.Word.{op_code}
 use Rattle.event_handles.proofs.event.read.Goals as goal
 
 pub returns : goal.returns
 returns c =
-    -- each field of what was read is within its type
-    let within = rw c.in-Ok.is at c.from_word.type_inv in
-    let small : c.in-Ok.event.sub_type < 2 ^ 8 = omega arith in
+    let given = c.args.given.now in
+    let bits = given.flow_and_types in
+    let flow_and_types : bits % 2 ^ 20 + 2 ^ 20 * (bits / 2 ^ 20 % 2 ^ 8 + 2 ^ 8 * (bits / 2 ^ 28)) ≡ bits = omega arith in
+    let op : op_code c.op_of.result + 2 ^ 6 * 0 ≡ given.op_and_kind % 2 ^ 2 = omega arith in
     record {
-      word = ordered_word c.args.given.now.word c.in-Ok.event c.in-Ok.field-0-1 small (omega (arith, c.in-Ok.ensures.found.0));
-      payload = c.in-Ok.ensures.found.1;
-      fits = record { sub_type = small; queue = omega arith; priority = omega arith; impl_opaque = omega arith };
+      fields = cc;
+      fits = record { sub_type = omega arith; queue = omega arith; priority = omega arith; impl_opaque = omega arith };
     }

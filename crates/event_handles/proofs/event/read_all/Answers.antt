@@ -2,11 +2,13 @@ use Rattle.std.proofs.Common.{◌<◌, length, arith}
 use Rattle.std.proofs.lemmas.List.{take_more, take_more_set}
 use Rattle.std.proofs.lemmas.Slice.Zip.{all_zipped_more}
 use Rattle.event_handles.specs.Events.{IsRead}
+use Rattle.event_handles.specs.declared.event.CEvent.{CEvent}
 use Rattle.event_handles.proofs.event.read_all.Goals as goal
 
 pub loop-place-preserved : goal.loop-place-preserved
 loop-place-preserved c =
     let there : c.loop-place.place < length c.args.given.now = omega arith in
     let room : c.loop-place.place < length c.loop-place.events = omega arith in
-    rw (take_more c.args.given.now c.loop-place.place (record { word = 0; payload = 0 }) there, take_more_set _ _ c.read.result room)
+    let zero : CEvent = record { flow_and_types = 0; op_and_kind = 0; queue = 0; priority = 0; impl_opaque = 0; payload = 0 } in
+    rw (take_more c.args.given.now c.loop-place.place zero there, take_more_set _ _ c.read.result room)
     (all_zipped_more IsRead _ _ _ _ c.loop-place.invariant c.read.ensures)

@@ -1,4 +1,6 @@
+pub mod Buffers
 pub mod Changes
+pub mod EmptyLanes
 pub mod Fields
 pub mod HeldSlots
 pub mod Holds
@@ -6,4 +8,5 @@ pub mod Kept
 pub mod Oldest
 pub mod Places
 pub mod Rings
+pub mod Roomy
 pub mod Rows

@@ -1,6 +1,9 @@
 pub mod Held
+pub mod Histories
 pub mod History
+pub mod Orders
 pub mod Pins
+pub mod QueuePins
 pub mod Reorder
 pub mod Ring
 pub mod Rows

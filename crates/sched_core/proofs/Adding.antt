@@ -17,8 +17,8 @@ use Rattle.sched_core.proofs.Answering.{oldest_entry, oldest_known, restoring_is
 use Rattle.sched_core.proofs.Cores.{first_here, kept_after, places_here, same_parts}
 use Rattle.sched_core.proofs.OrderMoves.{added_place, added_plain, place_has_room}
 use Rattle.sched_core.specs.Inner.{held_of}
-use Rattle.sched_core.specs.Ordered.{ArePlaces, IsOrder, StandsIn, entry_at, kept_of, order_at, places_in}
-use Rattle.sched_core.specs.Orders.{added_in, is_restoring}
+use Rattle.sched_core.specs.Ordered.{ArePlaces, IsOrder, StandsIn, entry_at, kept_of, places_in}
+use Rattle.order_parts.specs.Orders.{order_at, added_in, is_restoring}
 use Rattle.sched_core.specs.View.{waiting_in, next_in, unanswered_in, entries_in, view_in, IsCore}
 use Rattle.sched_core.specs.declared.state.Core.TheInside.{Inside}
 

@@ -22,9 +22,10 @@ use Rattle.sched_core.proofs.Pinned.{oldest_known as known_of, oldest_pinned as 
 use Rattle.sched_core.specs.Answered.{places_answered, after_answer}
 use Rattle.sched_core.specs.Inner.{held_of}
 use Rattle.parked_queue.specs.Waits.{waits_at}
-use Rattle.sched_core.specs.Ordered.{ArePlaces, IsOrder, StandsIn, added_beside, entry_at, entries_at, kept_of, order_at, outcome_of, places_in}
-use Rattle.sched_core.specs.Orders.{is_restoring, resolved_in}
-use Rattle.sched_core.specs.Pinned.{ArePins, pins_at, pin_in, with_pin}
+use Rattle.sched_core.specs.Ordered.{ArePlaces, IsOrder, StandsIn, added_beside, entry_at, entries_at, kept_of, outcome_of, places_in}
+use Rattle.order_parts.specs.Orders.{order_at, is_restoring, resolved_in}
+use Rattle.sched_core.specs.Pinned.{ArePins}
+use Rattle.order_parts.specs.QueuePins.{pins_at, pin_in, with_pin}
 use Rattle.sched_core.specs.View.{waiting_in, next_in, unanswered_in, entries_in, view_in, IsCore}
 use Rattle.sched_core.specs.declared.state.Core.TheInside.{Inside}
 

@@ -18,8 +18,10 @@ use Rattle.evt_types.specs.declared.event.Event.{Event}
 use Rattle.evt_types.specs.declared.event.Numbered.{Numbered}
 use Rattle.order_parts.specs.Reorder.{Reordering, empty}
 use Rattle.sched_core.proofs.OrderMoves.{accepted_places}
-use Rattle.sched_core.specs.Inner.{IsQueueOf, HaveRoom, HaveSlots, held_of, slots_for}
-use Rattle.sched_core.specs.Ordered.{ArePlaces, kept_of, order_at, places_in}
+use Rattle.sched_core.specs.Inner.{IsQueueOf, HaveSlots, held_of, slots_for}
+use Rattle.order_parts.specs.Histories.{HaveRoom}
+use Rattle.sched_core.specs.Ordered.{ArePlaces, kept_of, places_in}
+use Rattle.order_parts.specs.Orders.{order_at}
 use Rattle.sched_core.specs.View.{waiting_in, next_in, unanswered_in, entries_in, view_in, IsCore}
 use Rattle.order_parts.specs.declared.history.Entry.{Entry}
 use Rattle.order_parts.specs.History.{Entries}

@@ -20,9 +20,10 @@ use Rattle.sched_core.proofs.Cores.{held_sum, in_view, kept_after, next_here, ne
 use Rattle.sched_core.proofs.OrderMoves.{given_place, given_plain}
 use Rattle.sched_core.proofs.Pinned.{alone_may, pin_room, slot_within, pins_given}
 use Rattle.sched_core.specs.Inner.{IsQueueOf, held_of}
-use Rattle.sched_core.specs.Ordered.{ArePlaces, entries_at, kept_of, order_at, places_in}
-use Rattle.sched_core.specs.Orders.{has_place, handed, is_restoring}
-use Rattle.sched_core.specs.Pinned.{slots_of, pin_in, with_pin, ArePins}
+use Rattle.sched_core.specs.Ordered.{ArePlaces, entries_at, kept_of, places_in}
+use Rattle.order_parts.specs.Orders.{order_at, has_place, handed, is_restoring}
+use Rattle.sched_core.specs.Pinned.{ArePins}
+use Rattle.order_parts.specs.QueuePins.{slots_of, pin_in, with_pin}
 use Rattle.sched_core.specs.View.{waiting_in, next_in, unanswered_in, entries_in, view_in, IsCore}
 use Rattle.parked_queue.specs.Waits.{Waits, AreWaits, without_number, waits_at}
 use Rattle.sched_core.specs.declared.state.Core.TheInside.{Inside}

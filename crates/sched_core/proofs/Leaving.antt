@@ -14,7 +14,8 @@ use Rattle.sched_core.proofs.OrderFacts.{leaving_keeps}
 use Rattle.sched_core.proofs.OrderMoves.{left_places}
 use Rattle.sched_core.proofs.Ordered.{leaving_is}
 use Rattle.sched_core.specs.Answered.{after_leave as view_leaves, rest_behind}
-use Rattle.sched_core.specs.Ordered.{kept_of, order_at, places_in}
+use Rattle.sched_core.specs.Ordered.{kept_of, places_in}
+use Rattle.order_parts.specs.Orders.{order_at}
 use Rattle.sched_core.specs.View.{waiting_in, next_in, unanswered_in, entries_in, view_in, IsCore}
 use Rattle.sched_core.specs.declared.state.Core.TheInside.{Inside}
 

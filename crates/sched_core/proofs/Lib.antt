@@ -2,11 +2,9 @@ pub mod Accepting
 pub mod Added
 pub mod Adding
 pub mod Answering
-pub mod Buffers
 pub mod Cores
 pub mod FirstOnes
 pub mod Giving
-pub mod Roomy
 pub mod KeptLists
 pub mod LaneSets
 pub mod OpenLanes

@@ -1,8 +1,7 @@
 -- A core in which nothing has happened.
-use Rattle.std.proofs.Common.{◌≡◌, ℕ, ◌+◌, ◌<◌, ◌≤◌, ◌^◌, false, true, Bool, cond, List, [], ◌∷◌, ◌++◌, length, map, replicate, All, get_or, Option, Vec, Global, ◌⊎◌, inl, inr, refl, sym, ap, ◌∙◌, subst, arith}
-use Rattle.std.proofs.lemmas.Bool.{cases_lt}
-use Rattle.std.proofs.lemmas.List.{get_or-map, get_or-replicate, length-map, length-replicate, length_push, get_or_append_left, get_or_push, map-append}
-use Rattle.std.proofs.lemmas.List.Elements.{All-nil, All-push, All-map, All-weaker}
+use Rattle.std.proofs.Common.{◌≡◌, ℕ, ◌+◌, ◌<◌, ◌≤◌, ◌^◌, false, true, Bool, cond, List, [], ◌∷◌, ◌++◌, length, map, replicate, All, get_or, Option, Vec, Global, refl, sym, ap, ◌∙◌, subst, arith}
+use Rattle.std.proofs.lemmas.List.{get_or-map, get_or-replicate, length-map, length-replicate, map-append}
+use Rattle.std.proofs.lemmas.List.Elements.{All-nil, All-map, All-weaker}
 use Rattle.std.proofs.lemmas.List.FromFn.{fill_by_all, length-map-range_with_len}
 use Rattle.std.proofs.lemmas.List.Sums.{sum-map}
 use Rattle.std.specs.List.{range_with_len, sum, sum_by}
@@ -10,7 +9,7 @@ use Rattle.lists.proofs.Ranges.{mapped_at, range_more}
 use Rattle.lists.proofs.Sums.{sum_of_map, sum_of_none}
 use Rattle.transcripts.proofs.WholeViews.{waiting_at_none, accepted_at_none, unanswered_at_none, places_at_none}
 use Rattle.evt_types.specs.Fault.{IsWithinLimits}
-use Rattle.evt_types.specs.Plan.{Plan, level_of, kept_room, lanes_of, depth_of, bound_of, queue_of, is_atomic}
+use Rattle.evt_types.specs.Plan.{Plan, level_of, kept_room, lanes_of, bound_of, queue_of, is_atomic}
 use Rattle.evt_types.specs.Place.{Place}
 use Rattle.transcripts.specs.Standing.{view_of, places}
 use Rattle.transcripts.specs.Sweep.{sweep_room}
@@ -20,11 +19,13 @@ use Rattle.evt_types.specs.declared.event.Numbered.{Numbered}
 use Rattle.order_parts.specs.Pins.{Pin}
 use Rattle.order_parts.specs.Reorder.{Reordering, empty}
 use Rattle.sched_core.proofs.OrderFacts.{new_places, order_small}
-use Rattle.sched_core.specs.Ordered.{kept_of, order_at, places_in}
-use Rattle.sched_core.specs.Inner.{IsQueueOf, AreEmptyQueues, IsBare, IsEmptyLane, AreEmptyLanes, held_of, queue_slots, slots_for}
+use Rattle.sched_core.specs.Ordered.{kept_of, places_in}
+use Rattle.order_parts.specs.Orders.{order_at}
+use Rattle.sched_core.specs.Inner.{IsQueueOf, AreEmptyQueues, held_of, queue_slots, slots_for}
+use Rattle.order_parts.specs.Histories.{IsBare, AreEmptyLanes}
 use Rattle.sched_core.specs.Links.{AreLinks}
 use Rattle.sched_core.specs.Service.{AreAhead}
-use Rattle.sched_core.specs.Pinned.{AreFreePins}
+use Rattle.order_parts.specs.QueuePins.{AreFreePins}
 use Rattle.sched_core.specs.SlotLanes.{AreSlotLanes, slot_lane_count}
 use Rattle.place_set.specs.declared.places.Places.{Places}
 use Rattle.sched_core.specs.View.{waiting_in, next_in, unanswered_in, entries_in, view_in, IsCore}
@@ -34,7 +35,7 @@ use Rattle.parked_queue.specs.Waits.{Waits, AreWaits, all_empty, no_waits, no_wa
 use Rattle.sched_core.proofs.Cores.{same_parts}
 use Rattle.sched_core.proofs.Pinned.{pins_new}
 
--- ---- empty queues and lanes
+-- ---- empty queues
 
 pub slots_more : (p : Plan) (n : ℕ) (ss : List ℕ) (s : ℕ) → ss ≡ queue_slots p n → s ≡ slots_for p n → ss ++ s ∷ [] ≡ queue_slots p (n + 1)
 slots_more p n ss s are is =
@@ -55,23 +56,6 @@ queues_new p ss room qs are is e =
           ∙ (get_or-map (no_waits_of room) ss k 0 d (omega arith)
           ∙ (ap (λ m. no_waits m room) (ap (λ xs. get_or xs k 0) are ∙ mapped_at (slots_for p) (length p.queues) k 0 (omega arith)) ∙ ap (no_waits (slots_for p k)) is));
     }
-
-pub lanes_none : (p : Plan) → AreEmptyLanes p 0 []
-lanes_none p = record { count = refl; room = λ k d h. absurd (omega arith); empty = All-nil IsBare }
-
-pub lanes_more : (p : Plan) (n : ℕ) (ls : List Entries) (l : Entries) → AreEmptyLanes p n ls → IsEmptyLane (depth_of p n) l → AreEmptyLanes p (n + 1) (ls ++ l ∷ [])
-lanes_more p n ls l all empty =
-    record {
-      count = length_push ls l ∙ ap (λ m. m + 1) all.count;
-      room = λ k d h. by_case k d (subst (λ m. k < m) (length_push ls l) h) (cases_lt k (length ls));
-      empty = All-push IsBare ls l all.empty (ap (λ (x : Entries). x.entries) empty);
-    }
-  where
-    by_case : (k : ℕ) (d : Entries) → k < length ls + 1 → (k < length ls) ⊎ (length ls ≤ k) → (get_or (ls ++ l ∷ []) k d).capacity ≡ depth_of p k
-    by_case k d h (inl lt) = ap (λ (x : Entries). x.capacity) (get_or_append_left ls (l ∷ []) d k lt) ∙ all.room k d lt
-    by_case k d h (inr le) =
-        let here : length ls ≡ k = omega arith in
-        ap (λ (x : Entries). x.capacity) (get_or_push ls l d k here ∙ empty) ∙ ap (depth_of p) (sym all.count ∙ here)
 
 -- ---- the core
 

@@ -22,12 +22,12 @@ use Rattle.sched_core.proofs.Pinned.{alone_may, free_may, may_is_alone, may_is_h
 use Rattle.order_parts.specs.History.{entries_of}
 use Rattle.order_parts.specs.Pins.{IsOn, holder_of, may_pin}
 use Rattle.sched_core.proofs.Cores.{unanswered_here}
-use Rattle.sched_core.proofs.Roomy.{lane_is}
-use Rattle.sched_core.specs.Histories.{AreRoomy, HasRoom, lane_in}
+use Rattle.order_parts.proofs.Roomy.{lane_is}
+use Rattle.order_parts.specs.Histories.{AreRoomy, HasRoom, lane_in}
 use Rattle.sched_core.specs.Inner.{held_of}
 use Rattle.sched_core.specs.Links.{AreLinksOf}
 use Rattle.sched_core.specs.Offered.{AreOpenLanes, FitsSlot, HasAllowed, HasPlace, IsOpenLane, MayHold, better_of}
-use Rattle.sched_core.specs.Pinned.{pin_in}
+use Rattle.order_parts.specs.QueuePins.{pin_in}
 use Rattle.sched_core.specs.View.{view_in, unanswered_in, IsCore}
 use Rattle.sched_core.specs.declared.state.Core.TheInside.{Inside}
 use Rattle.sched_core.specs.SlotLanes.{IsSlotLane, slot_lane_count}

@@ -9,7 +9,8 @@ use Rattle.evt_types.specs.declared.draft.QueueDraft.{QueueDraft}
 use Rattle.evt_types.specs.declared.event.Kind.TheVariants.{Parallel}
 use Rattle.order_parts.specs.Reorder.{Reordering, empty, oldest_answered}
 use Rattle.order_parts.specs.declared.history.Entry.{Entry}
-use Rattle.sched_core.specs.Ordered.{ArePlaces, IsOrder, KeepsFew, IsGivenOf, order_at, entries_at, entry_at, places_in}
+use Rattle.sched_core.specs.Ordered.{ArePlaces, IsOrder, KeepsFew, IsGivenOf, entries_at, entry_at, places_in}
+use Rattle.order_parts.specs.Orders.{order_at}
 use Rattle.parked_queue.specs.Waits.{Waits, waits_at}
 use Rattle.sched_core.proofs.Ordered.{leaving_is}
 

@@ -11,7 +11,8 @@ use Rattle.evt_types.specs.declared.event.Numbered.{Numbered}
 use Rattle.evt_types.specs.declared.event.TheConstants.{MAX_EXTRAS}
 use Rattle.order_parts.specs.Reorder.{Reordering, empty, next_number, place_at, place_or_open, is_open, after_hand, after_add, after_resolve, after_leave}
 use Rattle.order_parts.specs.declared.history.Entry.{Entry}
-use Rattle.sched_core.specs.Ordered.{ArePlaces, IsOrder, HavePlaces, HasPlace, AreOnce, StandsIn, added_beside, order_at, entries_at, entry_at}
+use Rattle.sched_core.specs.Ordered.{ArePlaces, IsOrder, HavePlaces, HasPlace, AreOnce, StandsIn, added_beside, entries_at, entry_at}
+use Rattle.order_parts.specs.Orders.{order_at}
 use Rattle.parked_queue.specs.Waits.{Waits, no_waits, with_event, without_number, waits_at}
 use Rattle.lists.proofs.Writes.{slice_get-drop_one}
 use Rattle.sched_core.proofs.Added.{room_beside, order_adds, stands_added, stands_beside}

@@ -15,7 +15,8 @@ use Rattle.transcripts.specs.Transcript.{Held}
 use Rattle.evt_types.specs.declared.draft.QueueDraft.{QueueDraft}
 use Rattle.evt_types.specs.declared.event.Kind.TheVariants.{Parallel}
 use Rattle.order_parts.specs.Pins.{Pin, free, holder_of, pin_at, may_pin, pinned, unpinned}
-use Rattle.sched_core.specs.Pinned.{slots_of, pins_at, pin_in, with_pin, AreFreePins, entries_at, is_of, count_of, count_on, ArePins}
+use Rattle.sched_core.specs.Pinned.{entries_at, is_of, count_of, count_on, ArePins}
+use Rattle.order_parts.specs.QueuePins.{slots_of, pins_at, pin_in, with_pin, AreFreePins}
 
 -- ---- how many events are of a slot
 

@@ -1,10 +1,9 @@
 -- The parts of a core: what waits in a queue, what is unanswered on a lane, and what holds of each.
-use Rattle.std.specs.Prelude.{ℕ, ◌≡◌, ◌<◌, List, [], length, map, slice_index_or, All, if◌then◌else◌}
+use Rattle.std.specs.Prelude.{ℕ, ◌≡◌, ◌<◌, List, length, map, slice_index_or, if◌then◌else◌}
 use Rattle.std.specs.List.{range_with_len}
-use Rattle.evt_types.specs.Plan.{Plan, bound_of, depth_of, is_atomic, queue_of}
+use Rattle.evt_types.specs.Plan.{Plan, bound_of, is_atomic, queue_of}
 use Rattle.transcripts.specs.Transcript.{Held}
 use Rattle.order_parts.specs.declared.history.Entry.{Entry}
-use Rattle.order_parts.specs.History.{Entries, entries_of}
 use Rattle.parked_queue.specs.Waits.{Waits, AreWaits, no_waits}
 
 -- a queue of this room
@@ -32,19 +31,3 @@ pub record AreEmptyQueues (p : Plan) (n : ℕ) (qs : List Waits) : Type 0 where
 -- an unanswered event, without its place
 abbrev pub held_of : Entry → Held
 held_of y = record { queue = y.queue; number = y.number; slot = y.slot }
-
-abbrev pub IsEmptyLane : ℕ → Entries → Type 0
-IsEmptyLane depth l = l ≡ entries_of [] depth
-
--- each lane has room for just what its holder may hold
-abbrev pub HaveRoom : Plan → List Entries → Type 0
-HaveRoom p ls = (k : ℕ) (d : Entries) → k < length ls → (slice_index_or ls k d).capacity ≡ depth_of p k
-
-abbrev pub IsBare : Entries → Type 0
-IsBare l = l.entries ≡ []
-
--- the first lanes of a device, with nothing unanswered
-pub record AreEmptyLanes (p : Plan) (n : ℕ) (ls : List Entries) : Type 0 where
-  pub count : length ls ≡ n
-  pub room : HaveRoom p ls
-  pub empty : All IsBare ls

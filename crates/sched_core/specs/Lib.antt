@@ -1,10 +1,8 @@
 pub mod Answered
-pub mod Histories
 pub mod Inner
 pub mod Links
 pub mod Offered
 pub mod Ordered
-pub mod Orders
 pub mod Pinned
 pub mod PlaceSets
 pub mod Busy

@@ -6,13 +6,10 @@ use Rattle.evt_types.specs.declared.event.Event.{Event}
 use Rattle.evt_types.specs.declared.event.Numbered.{Numbered}
 use Rattle.evt_types.specs.declared.step.Outcome.{Outcome}
 use Rattle.evt_types.specs.declared.step.Outcome.TheVariants.{Forwarded, Released}
-use Rattle.order_parts.specs.Reorder.{HasFew, Reordering, empty, number_of}
+use Rattle.order_parts.specs.Orders.{order_at}
+use Rattle.order_parts.specs.Reorder.{HasFew, Reordering, number_of}
 use Rattle.order_parts.specs.declared.history.Entry.{Entry}
 use Rattle.parked_queue.specs.Waits.{Waits, waits_at}
-
--- the buffer of a queue
-abbrev pub order_at : List Reordering → ℕ → Reordering
-order_at rs q = slice_index_or rs q (empty 0)
 
 -- what a view has of a buffer
 abbrev pub places_in : Reordering → List Place

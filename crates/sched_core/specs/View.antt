@@ -7,7 +7,8 @@ use Rattle.transcripts.specs.Sweep.{sweep_room}
 use Rattle.transcripts.specs.Transcript.{Held}
 use Rattle.evt_types.specs.declared.event.Numbered.{Numbered}
 use Rattle.order_parts.specs.declared.history.Entry.{Entry}
-use Rattle.sched_core.specs.Inner.{IsQueueOf, HaveRoom, HaveSlots, held_of}
+use Rattle.sched_core.specs.Inner.{IsQueueOf, HaveSlots, held_of}
+use Rattle.order_parts.specs.Histories.{HaveRoom}
 use Rattle.order_parts.specs.History.{Entries}
 use Rattle.sched_core.specs.Links.{AreLinks}
 use Rattle.sched_core.specs.Ordered.{ArePlaces, places_in}

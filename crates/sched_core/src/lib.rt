@@ -4,12 +4,9 @@
 
 mod answer;
 mod give;
-mod histories;
 mod lanes;
 mod new;
 mod offer;
-mod orders;
-mod pins;
 mod propose;
 mod queues;
 mod settle;

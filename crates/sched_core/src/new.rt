@@ -1,20 +1,17 @@
 //! A core in which nothing has happened.
 
-ghost use Rattle.std.specs.Prelude.{◌≡◌, ◌<◌, ◌≤◌, [], length, replicate, sum_by, IfOk, IfErr};
-ghost use Rattle.evt_types.specs.Plan as plans;
+ghost use Rattle.std.specs.Prelude.{◌≡◌, ◌<◌, [], length, replicate, IfOk, IfErr};
 ghost use Rattle.evt_types.specs.Plan.{lanes_of};
 ghost use Rattle.transcripts.specs.Sweep.{sweep_room};
 ghost use Rattle.transcripts.specs.Standing.{Stands, view_of};
 ghost use Rattle.sched_core.specs.Links.{AreLinks, AreLinksOf};
 ghost use Rattle.sched_core.specs.Service.{AreAhead, AreAheadOf};
 
-use crate::histories::Histories;
-use crate::orders::{AllOrders, kept_room};
-use crate::pins::AllPins;
 use crate::queues::AllQueues;
 use crate::slot_lanes::slot_lanes;
 use crate::state::{Core, Memory};
-use evt_types::{MAX_FORWARDS, MAX_QUEUES, QueueDraft, Shape};
+use evt_types::{MAX_FORWARDS, Shape};
+use order_parts::{AllOrders, AllPins, Histories, all_kept_room};
 use place_set::Places;
 use std::alloc::{AllocError, Global};
 
@@ -80,14 +77,6 @@ fn no_extras(alloc: Global, shape: &Shape) -> Result<Vec<usize>, AllocError>
     ensures { IfOk result (λ es. es.items ≡ replicate (lanes_of shape.now) 0) }
 {
     vec![in alloc; 0; shape.lanes()]
-}
-
-/// How many places all queues have: each may keep several events.
-fn all_kept_room(queues: &[QueueDraft]) -> usize
-    requires { length queues.now ≤ MAX_QUEUES }
-    ensures { result ≡ sum_by plans.kept_room queues.now }
-{
-    queues.iter().map(kept_room).sum()
 }
 
 /// How many steps a sweep may log: the shut step, for each reply taken an answer or an added event and one event accepted, the

@@ -10,11 +10,9 @@ ghost use Rattle.order_parts.specs.Reorder.{open_place};
 ghost use Rattle.waiting_lists.specs.Lists.{delivery_of};
 ghost use Rattle.evt_types.specs.declared.step.Step.{Step as StepValue};
 
-use crate::histories::Histories;
-use crate::orders::AllOrders;
-use crate::pins::AllPins;
 use crate::queues::AllQueues;
 use evt_types::{Delivery, KeptEvent, MAX_FORWARDS, Shape};
+use order_parts::{AllOrders, AllPins, Histories};
 use place_set::Places;
 use std::alloc::AllocError;
 use std::marker::Model;

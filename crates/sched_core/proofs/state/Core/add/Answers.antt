@@ -7,8 +7,8 @@ use Rattle.transcripts.specs.Standing.{View, after_more, entries_of, extras_at, 
 use Rattle.sched_core.proofs.Adding.{add_leaves, add_room, addable, core_adds, kept_one, view_adds}
 use Rattle.sched_core.proofs.Answering.{oldest_known, resolve_is_open}
 use Rattle.sched_core.proofs.Cores.{first_here}
-use Rattle.sched_core.proofs.Roomy.{lane_is}
-use Rattle.sched_core.specs.Histories.{lane_in}
+use Rattle.order_parts.proofs.Roomy.{lane_is}
+use Rattle.order_parts.specs.Histories.{lane_in}
 use Rattle.sched_core.specs.Inner.{held_of}
 use Rattle.sched_core.specs.View.{view_in}
 use Rattle.sched_core.proofs.state.Core.add.Goals as goal

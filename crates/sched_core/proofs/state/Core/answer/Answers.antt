@@ -7,12 +7,12 @@ use Rattle.evt_types.specs.declared.event.Event.{Event}
 use Rattle.order_parts.specs.History as histories
 use Rattle.std.proofs.lemmas.Bool.{ltb-true}
 use Rattle.sched_core.proofs.OpenLanes.{held_here}
-use Rattle.sched_core.proofs.Roomy.{lane_is}
-use Rattle.sched_core.specs.Histories.{lane_in}
+use Rattle.order_parts.proofs.Roomy.{lane_is}
+use Rattle.order_parts.specs.Histories.{lane_in}
 use Rattle.sched_core.proofs.Answering.{answer_leaves_room, core_answers, forwards_one, more_none, more_one, named_of, oldest_known, oldest_pinned, resolve_is_open, some_inside, view_answers}
 use Rattle.sched_core.specs.Answered.{after_answer}
-use Rattle.sched_core.specs.Orders.{is_restoring}
-use Rattle.sched_core.specs.Ordered.{order_at, outcome_of, places_in}
+use Rattle.order_parts.specs.Orders.{is_restoring, order_at}
+use Rattle.sched_core.specs.Ordered.{outcome_of, places_in}
 use Rattle.sched_core.specs.View.{view_in}
 use Rattle.sched_core.proofs.state.Core.answer.Goals as goal
 use Rattle.sched_core.proofs.state.Core.answer.Goals.{then-kept, else-kept}

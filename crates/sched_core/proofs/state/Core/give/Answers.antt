@@ -5,9 +5,9 @@ use Rattle.evt_types.specs.declared.step.Step.TheVariants.{Give}
 use Rattle.transcripts.proofs.WholeStands.{stands_give, offer_is_accepted}
 use Rattle.evt_types.specs.Plan.{level_of}
 use Rattle.order_parts.specs.History.{entries_of}
-use Rattle.sched_core.proofs.Roomy.{lane_is}
+use Rattle.order_parts.proofs.Roomy.{lane_is}
 use Rattle.sched_core.proofs.OpenLanes.{room_here}
-use Rattle.sched_core.specs.Histories.{lane_in}
+use Rattle.order_parts.specs.Histories.{lane_in}
 use Rattle.sched_core.proofs.Giving.{core_gives, offer_may, offer_place, offer_room, view_gives}
 use Rattle.sched_core.proofs.Cores.{waits_here, level_below, only_event}
 use Rattle.sched_core.proofs.FirstOnes.{slot_in_queue}

@@ -7,7 +7,7 @@ use Rattle.transcripts.specs.Standing.{View, places_at}
 use Rattle.order_parts.specs.Reorder.{kept_of, open_place}
 use Rattle.sched_core.proofs.KeptLists.{IsBegun, one_listed}
 use Rattle.sched_core.proofs.OrderFacts.{places_here}
-use Rattle.sched_core.specs.Ordered.{order_at}
+use Rattle.order_parts.specs.Orders.{order_at}
 use Rattle.sched_core.proofs.state.Core.list_place.Goals as goal
 use Rattle.sched_core.proofs.state.Core.list_place.Goals.{in-Some, in_default}
 

@@ -4,7 +4,7 @@ use Rattle.place_set.specs.Places.{Has}
 use Rattle.sched_core.proofs.Offers.{not_itself}
 use Rattle.sched_core.proofs.OpenLanes.{free_holds, has_low, hold_is_holder, may_hold}
 use Rattle.sched_core.proofs.Pinned.{holder_may}
-use Rattle.sched_core.specs.Pinned.{pin_in}
+use Rattle.order_parts.specs.QueuePins.{pin_in}
 use Rattle.sched_core.proofs.state.Core.port_for.Goals as goal
 
 pub returns-in-Some-clause-fits : goal.returns-in-Some-clause-fits

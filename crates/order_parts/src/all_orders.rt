@@ -1,0 +1,207 @@
+//! The reorder buffers of a device's queues.
+
+ghost use Rattle.std.specs.Prelude.{◌≡◌, ◌<◌, ◌≤◌, ◌^◌, ◌&&◌, true, length, map, slice_get, slice_set, slice_index_or, sum_by, is_some, option_copied, option_map, Some, IfNone, IfOk, IfSome, IsTrue};
+ghost use Rattle.order_parts.specs.Reorder.{empty, next_number, place_at, place_or_open, is_open, kept_of, left, left_plain, oldest_answered, after_leave, open_place};
+ghost use Rattle.order_parts.specs.Orders.{IsBuffer, is_restoring, has_place, handed, added_in, resolved_in, order_at};
+ghost use Rattle.evt_types.specs.Plan as plans;
+
+use crate::Memory;
+use crate::reorder::Reorder;
+use arrayvec::ArrayVec;
+use evt_types::{Event, MAX_EXTRAS, MAX_FORWARDS, MAX_QUEUES, Numbered, QueueDraft};
+use std::alloc::Global;
+use std::marker::Model;
+
+/// An ordered queue has a buffer with a place for each of its open events; any other queue restores no order and has none.
+#[derive(Debug, Drop)]
+pub struct AllOrders {
+    queues: Vec<Option<Reorder>>,
+}
+
+impl Model for AllOrders {
+    ghost use Rattle.std.specs.Prelude.{List, map};
+    ghost use Rattle.order_parts.specs.Reorder.{Reordering};
+    ghost use Rattle.order_parts.specs.Orders.{shown, AreOrders};
+
+    ghost Value = { List Reordering };
+
+    ghost view = { λ a. map shown a.queues.items };
+
+    ghost invariant = { AreOrders };
+}
+
+/// How many places the queue has: none where it restores no order.
+fn kept_room(queue: &QueueDraft) -> usize
+    ensures value { result ≡ plans.kept_room queue.now }
+    ensures small { result < 2 ^ 32 }
+{
+    if queue.kind.is_ordered() {
+        queue.order as usize
+    } else {
+        0
+    }
+}
+
+/// How many places all queues have: each may keep several events.
+pub fn all_kept_room(queues: &[QueueDraft]) -> usize
+    requires { length queues.now ≤ MAX_QUEUES }
+    ensures { result ≡ sum_by plans.kept_room queues.now }
+{
+    queues.iter().map(kept_room).sum()
+}
+
+/// The buffer of the queue, if it restores an order.
+fn buffer(alloc: Global, queue: &QueueDraft) -> Result<Option<Reorder>, Memory>
+    ensures { IfOk result (λ o. IsBuffer (plans.kept_room queue.now) o) }
+{
+    match kept_room(queue) {
+        0 => Ok(None),
+        depth => Ok(Some(Reorder::new(alloc, depth)?)),
+    }
+}
+
+impl AllOrders {
+    /// The buffers of these queues, without places.
+    pub fn new(alloc: Global, queues: &[QueueDraft]) -> Result<AllOrders, Memory>
+        ensures { IfOk result (λ o. o ≡ map (λ q. empty (plans.kept_room q)) queues.now) }
+    {
+        let mut orders = Vec::with_capacity(alloc, queues.len())?;
+        for queue in queues {
+            orders.push(buffer(alloc, queue)?)?;
+        }
+        Ok(AllOrders { queues: orders })
+    }
+
+    /// Whether an event of the queue may be handed out: there is a place for it, or it needs none.
+    #[inline(always)]
+    pub fn has_place(&self, queue: usize) -> bool
+        requires { queue < length self.now }
+        ensures { result ≡ has_place (order_at self.now queue) }
+    {
+        match &self.queues[queue] {
+            Some(order) => order.room(),
+            None => true,
+        }
+    }
+
+    /// The queue's event of this number is handed out: its place, which means something where the queue restores an order.
+    #[inline(always)]
+    pub fn hand(&mut self, queue: usize, number: u64) -> u64
+        requires there { queue < length self.old }
+        requires room { IsTrue (has_place (order_at self.old queue)) }
+        ensures place { is_restoring (order_at self.old queue) ≡ true → result ≡ next_number (order_at self.old queue) }
+        ensures handed { self.new ≡ slice_set self.old queue (handed (order_at self.old queue) number) }
+    {
+        match &mut self.queues[queue] {
+            Some(order) => order.hand(number),
+            None => 0,
+        }
+    }
+
+    /// The event is added beside that of the place, which is unanswered: whether it is kept there.
+    pub fn add(&mut self, queue: usize, place: u64, event: Event) -> bool
+        requires there { queue < length self.old }
+        requires open { is_restoring (order_at self.old queue) ≡ true → IsTrue (is_open (place_at (order_at self.old queue) place)) }
+        requires room { is_restoring (order_at self.old queue) ≡ true → length (place_or_open (order_at self.old queue) place).forwards < MAX_EXTRAS }
+        ensures kept { result ≡ is_restoring (order_at self.old queue) }
+        ensures added { self.new ≡ slice_set self.old queue (added_in (order_at self.old queue) place event) }
+    {
+        match &mut self.queues[queue] {
+            Some(order) => {
+                order.add(place, event);
+                true
+            }
+            None => false,
+        }
+    }
+
+    /// The event of the place is answered, by a forward or by its release: whether the forward is kept.
+    #[inline(always)]
+    pub fn resolve(&mut self, queue: usize, place: u64, forward: Option<&Event>) -> bool
+        requires there { queue < length self.old }
+        requires open { is_restoring (order_at self.old queue) ≡ true → IsTrue (is_open (place_at (order_at self.old queue) place)) }
+        ensures kept { result ≡ (is_restoring (order_at self.old queue) && is_some (option_copied forward.entry)) }
+        ensures resolved { self.new ≡ slice_set self.old queue (resolved_in (order_at self.old queue) place (option_copied forward.entry)) }
+    {
+        match &mut self.queues[queue] {
+            Some(order) => {
+                order.resolve(place, forward);
+                forward.is_some()
+            }
+            None => false,
+        }
+    }
+
+    /// Whether the queue's oldest place may leave: there is one, and it is answered.
+    #[inline(always)]
+    pub fn leaves(&self, queue: usize) -> bool
+        requires { queue < length self.now }
+        ensures { result ≡ is_some (oldest_answered (order_at self.now queue).places) }
+    {
+        match &self.queues[queue] {
+            Some(order) => order.leaves(),
+            None => false,
+        }
+    }
+
+    /// The queue's oldest place leaves, where it is answered: its event's number, and what it was passed on as.
+    pub fn leave(&mut self, queue: usize) -> Option<(u64, ArrayVec<Event, MAX_FORWARDS>)>
+        requires { queue < length self.old }
+        ensures value { option_map left result ≡ oldest_answered (order_at self.old queue).places }
+        ensures rest { self.new ≡ slice_set self.old queue (after_leave (order_at self.old queue)) }
+    {
+        match &mut self.queues[queue] {
+            Some(order) => order.leave(),
+            None => None,
+        }
+    }
+
+    /// The queue's oldest place leaves, where it is answered and keeps one event at most: its event's number, and what it keeps.
+    /// Where it gives nothing it may be that there are more.
+    #[inline(always)]
+    pub fn leave_plain(&mut self, queue: usize) -> Option<(u64, Option<Event>)>
+        requires { queue < length self.old }
+        ensures value { IfSome result (λ x. oldest_answered (order_at self.old queue).places ≡ Some (left_plain x)) }
+        ensures rest { IfSome result (λ x. self.new ≡ slice_set self.old queue (after_leave (order_at self.old queue))) }
+        ensures same { IfNone result (self.new ≡ self.old) }
+    {
+        match &mut self.queues[queue] {
+            Some(order) => order.leave_plain(),
+            None => None,
+        }
+    }
+
+    /// How many places of the queue there are.
+    pub fn len(&self, queue: usize) -> usize
+        requires { queue < length self.now }
+        ensures { result ≡ length (order_at self.now queue).places }
+    {
+        match &self.queues[queue] {
+            Some(order) => order.len(),
+            None => 0,
+        }
+    }
+
+    /// How many events the place at this index, counted from the oldest, keeps.
+    pub fn kept_count(&self, queue: usize, index: usize) -> usize
+        requires { queue < length self.now }
+        ensures value { result ≡ length (slice_index_or (order_at self.now queue).places index (open_place 0)).forwards }
+        ensures within { result ≤ MAX_FORWARDS }
+    {
+        match &self.queues[queue] {
+            Some(order) => order.kept_count(index),
+            None => 0,
+        }
+    }
+
+    /// The nth event that the place at this index keeps, under its event's number.
+    pub fn kept_at(&self, queue: usize, index: usize, nth: usize) -> Option<Numbered>
+        requires { queue < length self.now }
+        ensures { result ≡ slice_get (kept_of (slice_index_or (order_at self.now queue).places index (open_place 0))) nth }
+    {
+        match &self.queues[queue] {
+            Some(order) => order.kept_at(index, nth),
+            None => None,
+        }
+    }
+}

@@ -1,0 +1,116 @@
+//! Which lane holds each slot of each queue.
+
+ghost use Rattle.std.specs.Prelude.{◌≡◌, ℕ, ◌<◌, ◌↔◌, length, IfOk, IsTrue};
+ghost use Rattle.evt_types.specs.Plan.{atomic_slots};
+ghost use Rattle.order_parts.specs.Pins.{IsOn, holder_of, may_pin, pinned, unpinned};
+ghost use Rattle.place_set.specs.Places.{Has};
+ghost use Rattle.order_parts.specs.QueuePins.{AreFreePins, pins_at, pin_in, with_pin};
+
+use crate::Memory;
+use crate::pins::Pins;
+use evt_types::{MAX_DEPTH, QueueDraft, Shape};
+use place_set::Places;
+use std::alloc::Global;
+use std::marker::Model;
+
+/// The pins of the slots of each queue. Only an atomic queue's slots have any: a slot without a pin counts as free, and
+/// pinning it does nothing, so that no caller asks for the queue's kind.
+#[derive(Debug, Drop)]
+pub struct AllPins {
+    queues: Vec<Pins>,
+}
+
+impl Model for AllPins {
+    ghost use Rattle.std.specs.Prelude.{List};
+    ghost use Rattle.order_parts.specs.Pins.{Pin};
+
+    ghost Value = { List (List Pin) };
+
+    ghost view = { λ a. a.queues.items };
+}
+
+/// How many slots of the queue have a pin.
+fn slots_of(queue: &QueueDraft) -> usize
+    ensures value { result ≡ atomic_slots queue.now }
+{
+    if queue.kind.is_atomic() {
+        queue.slots as usize
+    } else {
+        0
+    }
+}
+
+impl AllPins {
+    /// The pins of the configuration's queues, all free.
+    pub fn free(alloc: Global, shape: &Shape) -> Result<AllPins, Memory>
+        ensures { IfOk result (λ ps. AreFreePins shape.now (length shape.now.queues) ps) }
+    {
+        // To read a limit makes known that the limits hold.
+        let _ = shape.limit();
+        let drafts = shape.queues();
+        let count = drafts.len();
+        let mut queues = Vec::with_capacity(alloc, count)?;
+        for queue in 0..count {
+            queues.push(Pins::new(alloc, slots_of(&drafts[queue]))?)?;
+        }
+        Ok(AllPins { queues })
+    }
+
+    /// Whether an event of the slot may go to the lane: the slot is free, or this lane has it.
+    pub fn may(&self, queue: usize, slot: usize, lane: usize) -> bool
+        requires { queue < length self.now }
+        ensures { result ≡ may_pin (pin_in self.now queue slot) lane }
+    {
+        let pins = &self.queues[queue];
+        pins.slots() <= slot || pins.may(slot, lane)
+    }
+
+    /// The lane that has the slot, if one has it. A slot without a pin is free.
+    #[inline(always)]
+    pub fn holder(&self, queue: usize, slot: usize) -> Option<usize>
+        requires { queue < length self.now }
+        ensures { result ≡ holder_of (pin_in self.now queue slot) }
+    {
+        let pins = &self.queues[queue];
+        if slot < pins.slots() {
+            pins.holder(slot)
+        } else {
+            None
+        }
+    }
+
+    /// The slots that stand on none of these lanes: they are free, or stand on another one. Of a slot that stands on a lane beyond the
+    /// first 64 nothing is said.
+    pub fn slots_off(&self, queue: usize, lanes: Places) -> Places
+        requires { queue < length self.now }
+        ensures { (s : ℕ) → s < 64 → (0 < (pin_in self.now queue s).count → (pin_in self.now queue s).lane < 64) → Has result s ↔ ((l : ℕ) → Has lanes l → ¬ IsOn (pin_in self.now queue s) l) }
+    {
+        let pins = &self.queues[queue];
+        pins.slots_off(lanes)
+    }
+
+    /// One event more of the slot goes to the lane.
+    pub fn pin(&mut self, queue: usize, slot: usize, lane: usize)
+        requires there { queue < length self.old }
+        requires may { IsTrue (may_pin (pin_in self.old queue slot) lane) }
+        requires room { (pin_in self.old queue slot).count < MAX_DEPTH }
+        ensures { self.new ≡ with_pin self.old queue slot (pinned (pin_in self.old queue slot) lane) }
+    {
+        let pins = &mut self.queues[queue];
+        if slot < pins.slots() {
+            pins.pin(slot, lane);
+        }
+    }
+
+    /// One event of the slot was answered. The slot is free once all of them were.
+    pub fn unpin(&mut self, queue: usize, slot: usize)
+        requires there { queue < length self.old }
+        requires held { slot < length (pins_at self.old queue) → 0 < (pin_in self.old queue slot).count }
+        ensures { self.new ≡ with_pin self.old queue slot (unpinned (pin_in self.old queue slot)) }
+    {
+        let pins = &mut self.queues[queue];
+        if slot < pins.slots() {
+            pins.unpin(slot);
+        }
+    }
+}

@@ -7,7 +7,7 @@ use Rattle.evt_types.specs.Plan.{level_of}
 use Rattle.evt_types.specs.declared.event.Event.{Event}
 use Rattle.evt_types.specs.declared.event.Numbered.{Numbered}
 use Rattle.place_set.specs.Places.{Has}
-use Rattle.waiting_lists.specs.Lists.{Lists, list_at, total_of, with_last}
+use Rattle.parked_queue.specs.Lists.{Lists, list_at, total_of, with_last}
 use Rattle.parked_queue.specs.Marks.{Kept, marks_at}
 use Rattle.parked_queue.specs.Merge.{lists_of}
 use Rattle.parked_queue.specs.Parted.{Parted, below_at, list_in, place_of, places, with_waits}

@@ -14,7 +14,7 @@ use Rattle.parked_queue.specs.Merge.{is_in}
 use Rattle.parked_queue.specs.Parted.{Parted, HasMarks, HasNoneParked, IsBest, IsFirstParked, IsNoLater, IsParkedAllowed, below_at, list_in, parked_place, place_of}
 use Rattle.parked_queue.specs.Waits.{AreWaits, slot_of}
 use Rattle.std.specs.Option.{is_some}
-use Rattle.waiting_lists.specs.Lists.{list_at}
+use Rattle.parked_queue.specs.Lists.{list_at}
 use Rattle.parked_queue.proofs.Holding.{Holds, count_held, list_held, place_if_not, place_if_parked}
 use Rattle.parked_queue.proofs.Splits.{Split, first_least, first_split, first_there, none_first}
 

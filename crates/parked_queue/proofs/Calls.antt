@@ -10,7 +10,7 @@ use Rattle.evt_types.specs.declared.event.Event.{Event}
 use Rattle.evt_types.specs.declared.event.Numbered.{Numbered}
 use Rattle.place_set.specs.Places.{Has, SameBut}
 use Rattle.place_set.specs.declared.places.Places.{Places}
-use Rattle.waiting_lists.specs.Lists.{Lists, has_number, list_at, total_of, with_last, with_list, without_first}
+use Rattle.parked_queue.specs.Lists.{Lists, has_number, list_at, total_of, with_last, with_list, without_first}
 use Rattle.parked_queue.specs.Marks.{marks_at}
 use Rattle.parked_queue.specs.Merge.{is_in}
 use Rattle.parked_queue.specs.Parkings.{AreParkings, count_in, kept, parking_at, parted_at, parteds_in, segment, waiting_in}

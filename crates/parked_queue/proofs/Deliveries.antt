@@ -18,7 +18,7 @@ use Rattle.parked_queue.specs.Parts.{all_parts, parts_of}
 use Rattle.parked_queue.specs.Waits.{AreWaits}
 use Rattle.parked_queue.proofs.Holding.{back}
 use Rattle.parked_queue.proofs.Merges.{by_number_length, by_number_sum}
-use Rattle.waiting_lists.specs.Lists.{delivery_of}
+use Rattle.parked_queue.specs.Lists.{delivery_of}
 use borrow.Rule.Slice.PartMut.{mid_of, put_mid}
 
 -- ---- one list after the other

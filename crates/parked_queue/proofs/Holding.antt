@@ -8,7 +8,7 @@ use Rattle.evt_types.specs.Plan.{level_of}
 use Rattle.evt_types.specs.declared.event.Numbered.{Numbered}
 use Rattle.place_set.specs.Places.{Has}
 use Rattle.place_set.specs.declared.places.Places.{Places}
-use Rattle.waiting_lists.specs.Lists.{Lists, list_at}
+use Rattle.parked_queue.specs.Lists.{Lists, list_at}
 use Rattle.parked_queue.specs.Marks.{Kept, AreMarks, IsParking, marks_at, mask_of, parted_in}
 use Rattle.parked_queue.specs.Merge.{by_number, in_list, lists_of}
 use Rattle.parked_queue.specs.Parted.{Parted, below_at, is_parked, list_in, no_parted, parked_place, place_of, places}

@@ -18,3 +18,11 @@ pub mod Segments
 pub mod Calls
 pub mod Levels
 pub mod News
+pub mod Busy
+pub mod ChainDeliveries
+pub mod ChainFirsts
+pub mod Changes
+pub mod Nodes
+pub mod Paths
+pub mod Stores
+pub mod Views

@@ -10,8 +10,8 @@ use Rattle.lists.proofs.Ranges.{mapped_at, mapped_same}
 use Rattle.evt_types.specs.declared.event.Numbered.{Numbered}
 use Rattle.place_set.specs.Places.{Has}
 use Rattle.place_set.specs.declared.places.Places.{Places}
-use Rattle.waiting_lists.specs.Lists.{Lists, list_at, total_of}
-use Rattle.waiting_lists.specs.Lists as lists
+use Rattle.parked_queue.specs.Lists.{Lists, list_at, total_of}
+use Rattle.parked_queue.specs.Lists as lists
 use Rattle.parked_queue.specs.Marks.{Kept, mask_of}
 use Rattle.parked_queue.specs.Parkings.{AreApart, AreFirstParkings, AreNewParkings, AreParkings, IsNewParking, are_waits, count_in, kept, no_parking, no_parted_of, no_parteds, parking_at, parted_of, parteds_in, segment, waiting_in, waits_in}
 use Rattle.parked_queue.specs.Parted.{no_parted, places}

@@ -6,7 +6,7 @@ use Rattle.std.proofs.lemmas.List.FromFn.{length-map-range_with_len}
 use Rattle.std.proofs.lemmas.List.Sums.{get_or-le-sum_by, sum_by-set}
 use Rattle.lists.proofs.Ranges.{mapped_at}
 use Rattle.lists.proofs.Sums.{sum_of_map}
-use Rattle.waiting_lists.specs.Lists.{Lists, list_at, total_of}
+use Rattle.parked_queue.specs.Lists.{Lists, list_at, total_of}
 use Rattle.parked_queue.specs.Marks.{IsParking, parted_in}
 use Rattle.parked_queue.specs.Parkings.{AreApart, AreParkings, are_waits, count_in, kept, no_parking, parking_at, parted_at, parted_of, parteds_in, segment, waiting_in, waits_in}
 use Rattle.parked_queue.specs.Parted.{Parted, list_in, no_parted, places, with_below}

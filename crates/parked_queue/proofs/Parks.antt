@@ -8,7 +8,7 @@ use Rattle.evt_types.specs.Plan.{level_of}
 use Rattle.evt_types.specs.declared.event.Numbered.{Numbered}
 use Rattle.place_set.specs.Places.{Has, SameBut}
 use Rattle.place_set.specs.declared.places.Places.{Places}
-use Rattle.waiting_lists.specs.Lists.{Lists, list_at, total_of, with_last, without_first}
+use Rattle.parked_queue.specs.Lists.{Lists, list_at, total_of, with_last, without_first}
 use Rattle.parked_queue.specs.Marks.{Kept, AreMarks, marks_at}
 use Rattle.parked_queue.specs.Merge.{is_in, in_list, lists_of}
 use Rattle.parked_queue.specs.Parted.{Parted, below_at, list_in, own_first, parked_place, place_of, places, with_below}

@@ -4,7 +4,7 @@ use Rattle.std.proofs.lemmas.Bool.{cases_eq}
 use Rattle.std.proofs.lemmas.List.{length-map, set-get_or}
 use Rattle.place_set.specs.Places.{Has, SameBut}
 use Rattle.place_set.specs.declared.places.Places.{Places}
-use Rattle.waiting_lists.specs.Lists.{Lists}
+use Rattle.parked_queue.specs.Lists.{Lists}
 use Rattle.parked_queue.specs.Levels.{HaveLevels}
 use Rattle.parked_queue.specs.Parkings.{AreParkings, are_waits, no_parking, parking_at, parted_at, parteds_in, waiting_in, waits_in}
 use Rattle.parked_queue.specs.Parted.{Parted}

@@ -5,7 +5,7 @@ use Rattle.std.proofs.lemmas.List.FromFn.{length-map-range_with_len}
 use Rattle.std.proofs.lemmas.List.Sums.{sum_by-set}
 use Rattle.lists.proofs.Ranges.{mapped_at, mapped_changed, mapped_same}
 use Rattle.evt_types.specs.declared.event.Numbered.{Numbered}
-use Rattle.waiting_lists.specs.Lists.{Lists, list_at, total_of, with_last, with_list, without_first}
+use Rattle.parked_queue.specs.Lists.{Lists, list_at, total_of, with_last, with_list, without_first}
 use Rattle.parked_queue.specs.Parkings.{segment}
 
 -- what stands in one of them

@@ -7,7 +7,7 @@ use Rattle.std.proofs.lemmas.List.Sums.{length-filter, count_by-le-length}
 use Rattle.evt_types.specs.Plan.{level_of}
 use Rattle.evt_types.specs.declared.event.Numbered.{Numbered}
 use Rattle.place_set.specs.Places.{Has}
-use Rattle.waiting_lists.specs.Lists.{Lists, has_number, list_at, with_list, without_first}
+use Rattle.parked_queue.specs.Lists.{Lists, has_number, list_at, with_list, without_first}
 use Rattle.parked_queue.specs.Marks.{Kept, marks_at}
 use Rattle.parked_queue.specs.Merge.{is_in, lists_of}
 use Rattle.parked_queue.specs.Parted.{Parted, below_at, list_in, own_first, parked_place, place_for, place_of, places, with_waits}

@@ -4,7 +4,7 @@ use Rattle.std.proofs.lemmas.List.{length-drop}
 use Rattle.std.proofs.lemmas.List.Sums.{sum_by-set}
 use Rattle.std.proofs.lemmas.Option.{slice_get_within}
 use Rattle.evt_types.specs.declared.event.Numbered.{Numbered}
-use Rattle.waiting_lists.specs.Lists.{Lists, list_at, total_of, without_first}
+use Rattle.parked_queue.specs.Lists.{Lists, list_at, total_of, without_first}
 
 pub total_without : (l : Lists) (k : ℕ) (w : Numbered) → k < length l.lists → slice_get (list_at l k) 0 ≡ Some w → total_of (without_first l k) + 1 ≡ total_of l
 total_without l k w lt e =

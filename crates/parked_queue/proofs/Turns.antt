@@ -7,7 +7,7 @@ use Rattle.std.proofs.lemmas.Bool.{false≢true}
 use Rattle.std.proofs.lemmas.Option.{none-some, same_Some}
 use Rattle.lists.proofs.Lists.{eqb_other, eqb_same, filter-all, slice_get-some}
 use Rattle.evt_types.specs.declared.event.Numbered.{Numbered}
-use Rattle.waiting_lists.specs.Lists.{Lists, has_number, list_at, total_of, with_last, with_list, without_first}
+use Rattle.parked_queue.specs.Lists.{Lists, has_number, list_at, total_of, with_last, with_list, without_first}
 use Rattle.parked_queue.specs.Turns.{turned, turns}
 use Rattle.parked_queue.specs.Waits.{IsRising, is_other}
 use Rattle.parked_queue.proofs.Merges.{rest_higher}

@@ -1,8 +1,12 @@
+pub mod Busy
+pub mod Chains
 pub mod Levels
+pub mod Lists
 pub mod Marks
 pub mod Merge
 pub mod Parkings
 pub mod Parted
 pub mod Parts
+pub mod Store
 pub mod Turns
 pub mod Waits

@@ -7,7 +7,7 @@ use Rattle.place_set.specs.declared.places.Places.{Places}
 use Rattle.parked_queue.specs.Merge.{by_number, lists_of}
 use Rattle.parked_queue.specs.Parted.{Parted, below_at, place_of, places}
 use Rattle.parked_queue.specs.Waits.{AreWaits, slot_of}
-use Rattle.waiting_lists.specs.Lists.{Lists}
+use Rattle.parked_queue.specs.Lists.{Lists}
 
 -- A queue's lists, its slots, what leaves a flow's slot, for each level the number below which its events are parked and the slots that
 -- may have such an event, and the next event's number.

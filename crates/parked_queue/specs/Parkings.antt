@@ -3,7 +3,7 @@ use Rattle.std.specs.Prelude.{ℕ, ◌≡◌, ◌+◌, ◌*◌, ◌<◌, ◌≤�
 use Rattle.std.specs.List.{range_with_len}
 use Rattle.place_set.specs.Places.{Has}
 use Rattle.place_set.specs.declared.places.Places.{Places}
-use Rattle.waiting_lists.specs.Lists.{Lists, list_at, total_of}
+use Rattle.parked_queue.specs.Lists.{Lists, list_at, total_of}
 use Rattle.parked_queue.specs.Marks.{Kept, IsParking, mask_of, parted_in}
 use Rattle.parked_queue.specs.Parted.{Parted, no_parted, places}
 use Rattle.parked_queue.specs.Waits.{Waits}

@@ -129,44 +129,6 @@ impl Parkings {
         self.first_main(queue, level, allowed)
     }
 
-    /// The first event of the level whose slot is allowed, where it is the first of the level's own list: then no parked event has
-    /// an allowed slot.
-    #[inline(always)]
-    pub(crate) fn head(&self, queue: usize, level: usize, allowed: Places) -> Option<Found>
-        requires queue { queue < length self.now }
-        requires level { level < 4 }
-        ensures first { IfSome result (λ f. IsFirstAllowed (parted_at self.now queue).waits level allowed f.waiting) }
-        ensures slot { IfSome result (λ f. f.slot ≡ slot_of (parted_at self.now queue).waits.slots f.waiting) }
-        ensures waits { AreWaits (parted_at self.now queue).waits }
-    {
-        if !self.marks(queue, level).both(allowed).is_empty() {
-            return None;
-        }
-        let waiting = self.front(queue, level)?;
-        let flow = waiting.event.flow;
-        let slot = self.slot(queue, flow);
-        if allowed.has(slot) {
-            Some(Found {
-                slot,
-                flow,
-                waiting: *waiting,
-            })
-        } else {
-            None
-        }
-    }
-
-    /// Whether all events of the level are set aside, and none of them has an allowed slot.
-    #[inline(always)]
-    pub(crate) fn is_blocked(&self, queue: usize, level: usize, allowed: Places) -> bool
-        requires queue { queue < length self.now }
-        requires level { level < 4 }
-        ensures { IsTrue result → HasNoneAllowed (parted_at self.now queue).waits level allowed }
-    {
-        let marks = self.marks(queue, level);
-        !marks.is_empty() && marks.both(allowed).is_empty() && self.front(queue, level).is_none()
-    }
-
     /// Whether no event of the level waits. It may say no where none does, until the marks of its slots are gone.
     #[inline(always)]
     pub(crate) fn is_level_empty(&self, queue: usize, level: usize) -> bool

@@ -1,12 +1,16 @@
 //! What waits in queues, so that the oldest event of a level whose slot is allowed is found in constant time, whatever waits
-//! before it: an event whose slot isn't allowed is set aside once, into a list of its slot's own.
+//! before it: an event whose slot isn't allowed is set aside once, into a list of its slot's own. All lists stand in one store of
+//! nodes: the memory in use is that of the events that wait, and an event comes or goes in constant time.
 #![tactic(auto)]
 
+mod chain;
 mod first;
 mod parking;
 mod queues;
 mod slot;
 mod turn;
+mod waiting;
 
 pub use first::Found;
 pub use queues::ParkedQueues;
+pub use waiting::WaitingLists;

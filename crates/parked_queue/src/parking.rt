@@ -5,15 +5,15 @@ ghost use Rattle.parked_queue.specs.Parts.{all_parts};
 ghost use Rattle.parked_queue.specs.Parted.{HasMarks, list_in, own_first, parked_place, place_for, with_below, with_waits};
 ghost use Rattle.parked_queue.specs.Parkings.{AreNewParkings, IsNewParking, are_waits, no_parteds, parted_at, waiting_in};
 ghost use Rattle.parked_queue.specs.Waits.{AreSlots, AreWaits, IsOnlyOf, slot_of, with_event, without_number};
-ghost use Rattle.waiting_lists.specs.Lists.{delivery_of};
+ghost use Rattle.parked_queue.specs.Lists.{delivery_of};
 
 use crate::slot::{LEVELS, mask_for, parked_list, slot_in};
 use crate::turn::take_number;
+use crate::waiting::WaitingLists;
 use evt_types::{Delivery, Event, Numbered};
 use place_set::Places;
 use std::alloc::{AllocError, Global};
 use std::marker::Model;
-use waiting_lists::WaitingLists;
 
 /// How the events of one queue are parted. From `base` on there is a list for each level, by the level's number, and behind these
 /// a list for each slot and level, for the events that are set aside: the level's events whose number is below `below`. `parked`

@@ -1,8 +1,9 @@
 //! What waits in several queues.
 
 ghost use Rattle.std.specs.Prelude.{◌≡◌, ◌+◌, ◌<◌, ◌≤◌, ◌^◌, ◌%◌, ◌++◌, length, map, slice_set, vec_len, vec_capacity, IsTrue, IfOk, IfSome, IfNone};
+ghost use Rattle.parked_queue.specs.Busy.{AreBusy};
 ghost use Rattle.parked_queue.specs.Waits.{AreLevels, AreSlots, AreWaits, HasNoneAllowed, IsFirstAllowed, IsOnlyOf, all_empty, all_waiting, slot_of, waits_at, with_event, without_number};
-ghost use Rattle.waiting_lists.specs.Lists.{delivery_of};
+ghost use Rattle.parked_queue.specs.Lists.{delivery_of};
 
 use crate::first::Found;
 use crate::parking::Parkings;
@@ -12,25 +13,28 @@ use std::alloc::{AllocError, Global};
 use std::marker::Model;
 
 /// For each queue the events that wait, the number of the next event, and a word of the levels of which an event waits, so that an
-/// empty level is looked at once. All queues share the memory for what waits.
+/// empty level is looked at once; and a word of the queues in which something waits, so that an empty queue is never asked. All
+/// queues share the memory for what waits.
 #[derive(Drop)]
 pub struct ParkedQueues {
     parkings: Parkings,
     /// For each queue the levels of which an event waits. One that has become empty leaves when it is next looked at.
     levels: Vec<Places>,
+    /// The queues in which something waits.
+    busy: Places,
 }
 
 impl Model for ParkedQueues {
     ghost use Rattle.std.specs.Prelude.{List};
     ghost use Rattle.parked_queue.specs.Parkings.{are_waits};
     ghost use Rattle.parked_queue.specs.Waits.{Waits};
-    ghost use Rattle.parked_queue.specs.Levels.{HaveLevels};
+    ghost use Rattle.parked_queue.specs.Busy.{AreNoted};
 
     ghost Value = { List Waits };
 
     ghost view = { λ a. are_waits a.parkings };
 
-    ghost invariant = { λ a. HaveLevels (are_waits a.parkings) a.levels.items };
+    ghost invariant = { λ a. AreNoted (are_waits a.parkings) a.levels.items a.busy };
 }
 
 impl ParkedQueues {
@@ -42,7 +46,11 @@ impl ParkedQueues {
     {
         let parkings = Parkings::new(alloc, slots, room)?;
         let levels = vec![in alloc; Places::none(); slots.len()]?;
-        Ok(ParkedQueues { parkings, levels })
+        Ok(ParkedQueues {
+            parkings,
+            levels,
+            busy: Places::none(),
+        })
     }
 
     /// How many queues there are.
@@ -64,7 +72,15 @@ impl ParkedQueues {
         // The read makes the field's range known, and so the level's.
         let _priority = event.priority;
         self.levels[queue].add(event.level());
+        self.busy.add(queue);
         self.parkings.accept(queue, event);
+    }
+
+    /// The queues in which something waits.
+    pub fn busy(&self) -> Places
+        ensures { AreBusy self.now result }
+    {
+        self.busy
     }
 
     /// The levels of the queue of which an event waits, and perhaps some that have become empty.
@@ -114,7 +130,21 @@ impl ParkedQueues {
         ensures slot { IfSome result (λ f. f.slot ≡ slot_of (waits_at self.now queue).slots f.waiting) }
         ensures waits { AreWaits (waits_at self.now queue) }
     {
-        self.parkings.head(queue, level, allowed)
+        if !self.parkings.marks(queue, level).both(allowed).is_empty() {
+            return None;
+        }
+        let waiting = self.parkings.front(queue, level)?;
+        let flow = waiting.event.flow;
+        let slot = self.parkings.slot(queue, flow);
+        if allowed.has(slot) {
+            Some(Found {
+                slot,
+                flow,
+                waiting: *waiting,
+            })
+        } else {
+            None
+        }
     }
 
     /// Whether all events of the queue's level are set aside, and none of them has an allowed slot.
@@ -124,7 +154,10 @@ impl ParkedQueues {
         requires level { level < 4 }
         ensures { IsTrue result → HasNoneAllowed (waits_at self.now queue) level allowed }
     {
-        self.parkings.is_blocked(queue, level, allowed)
+        let marks = self.parkings.marks(queue, level);
+        !marks.is_empty()
+            && marks.both(allowed).is_empty()
+            && self.parkings.front(queue, level).is_none()
     }
 
     /// Takes the event of this number out of the queue, which is of the level and the slot. At the head of its list it goes at once;
@@ -139,6 +172,9 @@ impl ParkedQueues {
         ensures waits { AreWaits (without_number (waits_at self.old queue) number) }
     {
         self.parkings.remove(queue, level, slot, number);
+        if self.parkings.count(queue) == 0 {
+            self.busy.remove(queue);
+        }
     }
 
     /// How many events of the queue wait.

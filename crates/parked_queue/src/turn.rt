@@ -3,9 +3,9 @@
 ghost use Rattle.std.specs.Prelude.{◌≡◌, ◌<◌, ◌≤◌, length, filter};
 ghost use Rattle.parked_queue.specs.Turns.{turned};
 ghost use Rattle.parked_queue.specs.Waits.{IsRising, is_other};
-ghost use Rattle.waiting_lists.specs.Lists.{list_at, total_of, with_list};
+ghost use Rattle.parked_queue.specs.Lists.{list_at, total_of, with_list};
 
-use waiting_lists::WaitingLists;
+use crate::waiting::WaitingLists;
 
 /// Brings the first event of the list to its end, or out of it where it has the number.
 fn turn_one(lists: &mut WaitingLists, list: usize, number: u64)

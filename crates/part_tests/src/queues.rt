@@ -3,14 +3,13 @@
 
 ghost use Rattle.std.specs.Prelude.{◌≡◌, ◌<◌, ◌≤◌, [], ◌∷◌, length, vec_len, vec_capacity, IfOk};
 ghost use Rattle.parked_queue.specs.Waits.{all_empty, waits_at};
-ghost use Rattle.waiting_lists.specs.Lists as lists;
+ghost use Rattle.parked_queue.specs.Lists as lists;
 
 use evt_types::{Delivery, Event, Numbered, Op};
-use parked_queue::ParkedQueues;
+use parked_queue::{ParkedQueues, WaitingLists};
 use place_set::Places;
 use std::alloc::{AllocError, Global};
 use std::test::Fail;
-use waiting_lists::WaitingLists;
 
 /// A new event of a middle priority, of this flow and payload.
 macro_rules! event_of {

@@ -1,16 +1,10 @@
--- What waits in a queue, and the word of those in which something waits.
-use Rattle.std.proofs.Common.{◌≡◌, ℕ, ◌<◌, ◌≤◌, List, [], length, get_or, ◌⊎◌, inl, inr, ⊎_elim, sym, ap, ◌∙◌, subst, arith}
+-- What waits in a queue.
+use Rattle.std.proofs.Common.{◌≡◌, ℕ, ◌<◌, ◌≤◌, List, [], length, get_or, ◌⊎◌, inl, inr, sym, ap, ◌∙◌, subst}
 use Rattle.std.specs.Prelude.{map}
 use Rattle.std.proofs.lemmas.Bool.{cases_lt}
 use Rattle.std.proofs.lemmas.List.{get_or_default, get_or_past, get_or-map, length-map}
-use Rattle.evt_types.specs.Fault.{IsWithinLimits}
-use Rattle.evt_types.specs.Plan.{Plan}
 use Rattle.transcripts.specs.Standing.{waiting_at}
 use Rattle.parked_queue.specs.Waits.{Waits, no_waits, waits_at}
-use Rattle.place_set.specs.Places.{IsEmpty}
-use Rattle.place_set.specs.declared.places.Places.{Places}
-use Rattle.sched_core.specs.Inner.{AreEmptyQueues}
-use Rattle.sched_core.specs.Busy.{AreBusy}
 use Rattle.sched_core.specs.View.{view_in, waiting_in}
 use Rattle.sched_core.specs.declared.state.Core.TheInside.{Inside}
 
@@ -20,17 +14,6 @@ waits_is qs i h = get_or_default qs i (no_waits 1 0) (waits_at qs i) h
 -- nothing waits in a queue that isn't there
 pub past_queues : (qs : List Waits) (q : ℕ) → length qs ≤ q → (waits_at qs q).waiting ≡ []
 past_queues qs q past = ap waiting_in (get_or_past qs q (no_waits 1 0) past)
-
--- in no queue does anything wait
-pub none_busy : (p : Plan) (qs : List Waits) (busy : Places) → IsWithinLimits p → AreEmptyQueues p (length p.queues) qs → IsEmpty busy → AreBusy qs busy
-none_busy p qs busy limits empty none =
-    let few = limits.queue_count.1 in
-    let count = empty.count in
-    record {
-      few = omega (arith, few, count);
-      there = λ q has. absurd (none q has);
-      rest = λ q _. ⊎_elim (λ h. ap waiting_in (empty.empty q (no_waits 1 0) h)) (past_queues qs q) (cases_lt q (length qs));
-    }
 
 -- what waits in a queue of the core
 pub waiting_there : (a : Inside) (q : ℕ) → waiting_at (view_in a) q ≡ (waits_at a.queues q).waiting

@@ -11,7 +11,7 @@ use Rattle.sched_core.proofs.Busy.{waiting_there}
 use Rattle.sched_core.proofs.Cores.{waiting_here, waits_here}
 use Rattle.sched_core.proofs.News.{slots_range}
 use Rattle.sched_core.proofs.Offers.{HasNoneBeside, levels_beside, none_waits}
-use Rattle.sched_core.specs.Busy.{AreBusy}
+use Rattle.parked_queue.specs.Busy.{AreBusy}
 use Rattle.sched_core.specs.Inner.{slots_for}
 use Rattle.sched_core.specs.Offered.{HasNoneAllowedIn, IsFirstIn, slot_at}
 use Rattle.sched_core.specs.View.{view_in, IsCore}

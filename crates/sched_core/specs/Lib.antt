@@ -5,7 +5,6 @@ pub mod Offered
 pub mod Ordered
 pub mod Pinned
 pub mod PlaceSets
-pub mod Busy
 pub mod Service
 pub mod Settling
 pub mod Shutting

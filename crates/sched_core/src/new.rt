@@ -7,7 +7,7 @@ ghost use Rattle.transcripts.specs.Standing.{Stands, view_of};
 ghost use Rattle.sched_core.specs.Links.{AreLinks, AreLinksOf};
 ghost use Rattle.sched_core.specs.Service.{AreAhead, AreAheadOf};
 
-use crate::queues::AllQueues;
+use crate::queues::empty_queues;
 use crate::slot_lanes::slot_lanes;
 use crate::state::{Core, Memory};
 use evt_types::{MAX_FORWARDS, Shape};
@@ -103,7 +103,7 @@ impl Core {
     {
         let bound = shape.bound();
         let log_room = log_room(&shape);
-        let queues = match AllQueues::new(alloc, &shape) {
+        let queues = match empty_queues(alloc, &shape) {
             Ok(queues) => queues,
             Err(memory) => return Err((memory, shape)),
         };

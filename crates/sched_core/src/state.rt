@@ -7,12 +7,12 @@ ghost use Rattle.transcripts.specs.Transcript as transcripts;
 ghost use Rattle.transcripts.specs.Transcript.{kept_events};
 ghost use Rattle.evt_types.specs.Plan as plans;
 ghost use Rattle.order_parts.specs.Reorder.{open_place};
-ghost use Rattle.waiting_lists.specs.Lists.{delivery_of};
+ghost use Rattle.parked_queue.specs.Lists.{delivery_of};
 ghost use Rattle.evt_types.specs.declared.step.Step.{Step as StepValue};
 
-use crate::queues::AllQueues;
 use evt_types::{Delivery, KeptEvent, MAX_FORWARDS, Shape};
 use order_parts::{AllOrders, AllPins, Histories};
+use parked_queue::ParkedQueues;
 use place_set::Places;
 use std::alloc::AllocError;
 use std::marker::Model;
@@ -24,7 +24,7 @@ pub type Memory = AllocError;
 #[derive(Drop)]
 pub struct Core {
     pub(crate) shape: Shape,
-    pub(crate) queues: AllQueues,
+    pub(crate) queues: ParkedQueues,
     pub(crate) orders: AllOrders,
     pub(crate) lanes: Histories,
     /// For each lane how many events were added beside its oldest unanswered event.

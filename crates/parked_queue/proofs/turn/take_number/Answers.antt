@@ -1,5 +1,5 @@
 use Rattle.std.proofs.Common.{◌∙◌, ap, refl, sym}
-use Rattle.waiting_lists.specs.Lists.{list_at, with_list}
+use Rattle.parked_queue.specs.Lists.{list_at, with_list}
 use Rattle.parked_queue.proofs.Turns.{first_out}
 use Rattle.parked_queue.proofs.turn.take_number.Goals as goal
 

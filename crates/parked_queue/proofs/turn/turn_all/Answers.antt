@@ -1,5 +1,5 @@
 use Rattle.std.proofs.Common.{◌∙◌, ap, arith}
-use Rattle.waiting_lists.specs.Lists.{list_at, with_list}
+use Rattle.parked_queue.specs.Lists.{list_at, with_list}
 use Rattle.parked_queue.specs.Turns.{turns}
 use Rattle.parked_queue.proofs.Turns.{there_still, turn_first, turn_next, turns_all}
 use Rattle.parked_queue.proofs.turn.turn_all.Goals as goal

@@ -1,5 +1,5 @@
 use Rattle.std.proofs.Common.{◌≡◌, ◌≤◌}
-use Rattle.waiting_lists.specs.Lists.{list_at, total_of, with_list}
+use Rattle.parked_queue.specs.Lists.{list_at, total_of, with_list}
 use Rattle.parked_queue.specs.Turns.{turns}
 use Rattle.parked_queue.proofs.turn.turn_all.Given as goal
 

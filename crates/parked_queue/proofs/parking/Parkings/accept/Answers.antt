@@ -1,6 +1,6 @@
 use Rattle.std.proofs.Common.{◌≡◌, ◌+◌, ◌<◌, ◌∙◌, ap, arith}
 use Rattle.evt_types.specs.Plan.{level_of}
-use Rattle.waiting_lists.specs.Lists.{with_last}
+use Rattle.parked_queue.specs.Lists.{with_last}
 use Rattle.parked_queue.specs.Parkings.{parking_at}
 use Rattle.parked_queue.specs.declared.parking.Parking.{Parking}
 use Rattle.parked_queue.proofs.Calls.{accepted}

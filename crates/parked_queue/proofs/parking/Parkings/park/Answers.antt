@@ -3,7 +3,7 @@ use Rattle.parked_queue.specs.Parkings.{kept, parking_at, parted_at}
 use Rattle.std.proofs.lemmas.List.{length-set}
 use Rattle.evt_types.specs.Plan.{level_of}
 use Rattle.evt_types.specs.declared.event.Numbered.{Numbered}
-use Rattle.waiting_lists.specs.Lists.{Lists, list_at}
+use Rattle.parked_queue.specs.Lists.{Lists, list_at}
 use Rattle.parked_queue.specs.Parted.{own_first, places}
 use Rattle.parked_queue.specs.Waits.{slot_of}
 use Rattle.parked_queue.proofs.Calls.{aside, first_is, level_place, placed, room_after, slot_place}

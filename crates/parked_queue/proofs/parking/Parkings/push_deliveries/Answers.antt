@@ -1,5 +1,5 @@
 use Rattle.std.proofs.Common.{◌≡◌, ◌+◌, ◌++◌, ◌<◌, ◌∙◌, ap, arith, length, map}
-use Rattle.waiting_lists.specs.Lists.{delivery_of, list_at}
+use Rattle.parked_queue.specs.Lists.{delivery_of, list_at}
 use Rattle.parked_queue.specs.Parts.{parts_of}
 use Rattle.parked_queue.specs.Parkings.{parking_at, parted_at}
 use Rattle.parked_queue.specs.Parted.{places}

@@ -1,7 +1,7 @@
 use Rattle.std.proofs.Common.{◌≡◌, ◌++◌, map, vec_capacity}
 use Rattle.parked_queue.specs.Parts.{parts_of}
 use Rattle.parked_queue.specs.Parkings.{parted_at}
-use Rattle.waiting_lists.specs.Lists.{delivery_of}
+use Rattle.parked_queue.specs.Lists.{delivery_of}
 use Rattle.parked_queue.proofs.parking.Parkings.push_deliveries.Given as goal
 
 abbrev pub invariant-loop-list : goal.invariant-loop-list

@@ -1,6 +1,6 @@
 use Rattle.std.proofs.Common.{◌≡◌, ◌-◌, ◌<◌, ◌∙◌, ap, arith, set, subst, sym}
 use Rattle.parked_queue.specs.Parkings.{AreParkings, parking_at, parted_at, parteds_in}
-use Rattle.waiting_lists.specs.Lists.{total_of}
+use Rattle.parked_queue.specs.Lists.{total_of}
 use Rattle.parked_queue.specs.Parted.{place_for, places, with_waits}
 use Rattle.parked_queue.specs.Waits.{IsRising, without_number}
 use Rattle.parked_queue.specs.declared.parking.Parking.{Parking}

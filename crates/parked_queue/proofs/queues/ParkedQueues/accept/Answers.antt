@@ -1,10 +1,12 @@
 use Rattle.std.proofs.Common.{◌≡◌, ◌^◌, ◌<◌, ◌∙◌, ap, arith, length, set, subst, sym}
 use Rattle.evt_types.specs.Plan.{level_of}
 use Rattle.place_set.specs.Places.{Has, SameBut}
-use Rattle.parked_queue.specs.Levels.{HaveLevels, levels_at}
+use Rattle.parked_queue.specs.Busy.{AreNoted}
+use Rattle.parked_queue.specs.Levels.{levels_at}
 use Rattle.parked_queue.specs.Parkings.{are_waits, parted_at}
 use Rattle.parked_queue.specs.Parted.{with_waits}
 use Rattle.parked_queue.specs.Waits.{AreLevels, AreWaits, Waits, waits_at, with_event}
+use Rattle.parked_queue.proofs.Busy.{busy_set}
 use Rattle.parked_queue.proofs.Firsts.{levels_with}
 use Rattle.parked_queue.proofs.Levels.{levels_read, levels_set}
 use Rattle.parked_queue.proofs.Parkings.{waits_read, waits_set}
@@ -18,13 +20,17 @@ invariant_of-self c =
     let new : are_waits c.accept.new.self ≡ set qs c.args.queue (with_event (parted_at c.self.inside.parkings c.args.queue).waits c.args.event.now) =
     ap are_waits c.accept.ensures.value ∙ waits_set c.self.inside.parkings c.args.queue (with_waits (parted_at c.self.inside.parkings c.args.queue) (with_event (parted_at c.self.inside.parkings c.args.queue).waits c.args.event.now)) in
     let same = waits_read c.self.inside.parkings c.args.queue in
-    let was = c.index_mut.ensures.value ∙ levels_read qs c.self.inside.levels.items c.args.queue c.self.invariant lt c.index_mut.result.now in
-    let old = subst (AreLevels (parted_at c.self.inside.parkings c.args.queue).waits) (sym was) (subst (λ w. AreLevels w (levels_at c.self.inside.levels.items c.args.queue)) same (c.self.invariant.each c.args.queue lt)) in
+    let was = c.index_mut.ensures.value ∙ levels_read qs c.self.inside.levels.items c.args.queue c.self.invariant.levels lt c.index_mut.result.now in
+    let old = subst (AreLevels (parted_at c.self.inside.parkings c.args.queue).waits) (sym was) (subst (λ w. AreLevels w (levels_at c.self.inside.levels.items c.args.queue)) same (c.self.invariant.levels.each c.args.queue lt)) in
     let level : level_of c.args.event.now < 4 = omega arith in
-    subst (λ ws. HaveLevels ws (set c.self.inside.levels.items c.args.queue c.add.new.self)) (sym new)
-    (levels_set qs c.self.inside.levels.items c.args.queue c.self.invariant lt (with_event (parted_at c.self.inside.parkings c.args.queue).waits c.args.event.now) c.add.new.self
-    (levels_with (parted_at c.self.inside.parkings c.args.queue).waits c.args.event.now c.index_mut.result.now c.add.new.self level
-    (subst (Has c.add.new.self) c.level.ensures c.add.ensures.there) (subst (λ k. SameBut k c.index_mut.result.now c.add.new.self) c.level.ensures c.add.ensures.others) old))
+    let after = with_event (parted_at c.self.inside.parkings c.args.queue).waits c.args.event.now in
+    subst (λ ws. AreNoted ws (set c.self.inside.levels.items c.args.queue c.add.new.self) c.add-2.new.self) (sym new)
+    (record {
+      levels = levels_set qs c.self.inside.levels.items c.args.queue c.self.invariant.levels lt after c.add.new.self
+          (levels_with (parted_at c.self.inside.parkings c.args.queue).waits c.args.event.now c.index_mut.result.now c.add.new.self level
+          (subst (Has c.add.new.self) c.level.ensures c.add.ensures.there) (subst (λ k. SameBut k c.index_mut.result.now c.add.new.self) c.level.ensures c.add.ensures.others) old);
+      busy = busy_set qs c.args.queue after c.self.inside.busy c.add-2.new.self c.self.invariant.busy lt c.add-2.ensures.others (λ never. absurd (never c.add-2.ensures.there));
+    })
 
 pub returns-clause-value : goal.returns-clause-value
 returns-clause-value c =
@@ -37,9 +43,12 @@ returns-clause-value c =
 
 pub index_mut-requires : goal.index_mut-requires
 index_mut-requires c =
-    let count = c.self.invariant.count in
+    let count = c.self.invariant.levels.count in
     let view = ap length c.self.view_is in
     omega (arith, c.requires.there, c.self.inside.levels.ok.0)
+
+pub add-requires-2 : goal.add-requires-2
+add-requires-2 c = let view = ap length c.self.view_is in omega (arith, c.requires.there, c.self.invariant.busy.few)
 
 pub accept-requires-clause-there : goal.accept-requires-clause-there
 accept-requires-clause-there c = seen_there c.self.inside.parkings c.args.self.now c.args.queue c.self.view_is c.requires.there

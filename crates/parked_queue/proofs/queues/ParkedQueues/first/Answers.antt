@@ -1,5 +1,5 @@
 use Rattle.std.proofs.Common.{◌≡◌, ◌∙◌, IfNone, IfSome, ap, arith, length, refl, subst, sym}
-use Rattle.parked_queue.specs.Levels.{HaveLevels}
+use Rattle.parked_queue.specs.Busy.{AreBusy, AreNoted}
 use Rattle.parked_queue.specs.Waits.{AreWaits, HasNoneAllowed, IsFirstAllowed, slot_of}
 use Rattle.parked_queue.proofs.Seen.{emptied, seen_there, seen_waits}
 use Rattle.parked_queue.proofs.queues.ParkedQueues.first.Goals as goal
@@ -13,19 +13,23 @@ is_level_empty-requires-clause-queue c = seen_there c.first-first.new.self c.arg
 
 pub index_mut-requires : goal.index_mut-requires
 index_mut-requires c =
-    let count = c.self.invariant.count in
+    let count = c.self.invariant.levels.count in
     let view = ap length c.self.view_is in
     omega (arith, c.requires.there, c.self.inside.levels.ok.0)
 
 pub invariant_of-self : goal.invariant_of-self
 invariant_of-self c =
-    emptied c.self.inside.parkings c.first-first.new.self c.args.self.now c.self.inside.levels.items c.args.queue c.args.level c.first-first.ensures.same c.self.view_is c.self.invariant c.requires.there c.index_mut.result.now c.remove.new.self c.index_mut.ensures.value c.remove.ensures.others c.remove.ensures.gone (c.if-is_level_empty.ensures refl)
+    record {
+      levels =
+          emptied c.self.inside.parkings c.first-first.new.self c.args.self.now c.self.inside.levels.items c.args.queue c.args.level c.first-first.ensures.same c.self.view_is c.self.invariant.levels c.requires.there c.index_mut.result.now c.remove.new.self c.index_mut.ensures.value c.remove.ensures.others c.remove.ensures.gone (c.if-is_level_empty.ensures refl);
+      busy = subst (λ ws. AreBusy ws c.self.inside.busy) (sym c.first-first.ensures.same) c.self.invariant.busy;
+    }
 
 pub invariant_of-self-else-is_level_empty : goal.invariant_of-self-else-is_level_empty
-invariant_of-self-else-is_level_empty c = subst (λ ws. HaveLevels ws c.self.inside.levels.items) (sym c.first-first.ensures.same) c.self.invariant
+invariant_of-self-else-is_level_empty c = subst (λ ws. AreNoted ws c.self.inside.levels.items c.self.inside.busy) (sym c.first-first.ensures.same) c.self.invariant
 
 pub invariant_of-self-else-is_none : goal.invariant_of-self-else-is_none
-invariant_of-self-else-is_none c = subst (λ ws. HaveLevels ws c.self.inside.levels.items) (sym c.first-first.ensures.same) c.self.invariant
+invariant_of-self-else-is_none c = subst (λ ws. AreNoted ws c.self.inside.levels.items c.self.inside.busy) (sym c.first-first.ensures.same) c.self.invariant
 
 pub returns-then-is_level_empty-clause-same : goal.returns-then-is_level_empty-clause-same
 returns-then-is_level_empty-clause-same c = c.first-first.ensures.same ∙ c.self.view_is

@@ -6,7 +6,7 @@ use Rattle.parked_queue.specs.Parkings.{parted_at}
 use Rattle.parked_queue.proofs.Deliveries.{listed, number_of}
 use Rattle.parked_queue.proofs.Parkings.{waits_read}
 use Rattle.parked_queue.proofs.Seen.{seen_there, seen_waits}
-use Rattle.waiting_lists.specs.Lists.{delivery_of}
+use Rattle.parked_queue.specs.Lists.{delivery_of}
 use Rattle.parked_queue.proofs.queues.ParkedQueues.list_waiting.Goals as goal
 
 pub returns-clause-listed : goal.returns-clause-listed

@@ -4,7 +4,7 @@ use Rattle.transcripts.proofs.WholeStands.{waiting_is}
 use Rattle.sched_core.proofs.Cores.{waiting_here}
 use Rattle.sched_core.proofs.Busy.{waits_is}
 use Rattle.parked_queue.specs.Waits.{waits_at}
-use Rattle.waiting_lists.specs.Lists.{delivery_of}
+use Rattle.parked_queue.specs.Lists.{delivery_of}
 use Rattle.sched_core.proofs.state.Core.list_waiting.Goals as goal
 
 pub returns-clause-listed : goal.returns-clause-listed

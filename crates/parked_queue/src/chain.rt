@@ -1,0 +1,78 @@
+//! A list of events as a chain of nodes in a store that many chains share.
+
+ghost use Rattle.std.specs.Prelude.{◌≡◌, ◌+◌, ◌<◌, ◌^◌, vec_len, vec_capacity};
+ghost use Rattle.parked_queue.specs.Chains.{IsLinked, IsPlaced, alone, final, longer, shorter};
+
+use evt_types::Numbered;
+
+/// An event, and the place of the node behind it, which counts only where the chain goes on.
+#[derive(Clone, Copy, Debug)]
+pub(crate) struct Node {
+    pub(crate) item: Numbered,
+    pub(crate) next: usize,
+}
+
+/// How many nodes a chain has, and the places of its first and its last one, which count only where it has any.
+#[derive(Clone, Copy, Debug)]
+pub(crate) struct Chain {
+    pub(crate) first: usize,
+    pub(crate) last: usize,
+    pub(crate) len: usize,
+}
+
+/// Puts a node with the event at a place that no chain has: the one that became free last, or else a new one.
+pub(crate) fn take_place(nodes: &mut Vec<Node>, free: &mut Vec<usize>, item: Numbered) -> usize
+    requires last { 0 < vec_len free.old → final 0 free.old.items < vec_len nodes.old }
+    requires room { vec_len free.old ≡ 0 → vec_len nodes.old < vec_capacity nodes.old }
+    ensures placed { IsPlaced nodes.old.items nodes.new.items free.old.items free.new.items item result }
+    ensures nodes { vec_capacity nodes.new ≡ vec_capacity nodes.old }
+    ensures free { vec_capacity free.new ≡ vec_capacity free.old }
+{
+    match free.pop() {
+        Some(place) => {
+            nodes[place].item = item;
+            place
+        }
+        None => {
+            nodes.push_reserved(Node { item, next: 0 });
+            nodes.len() - 1
+        }
+    }
+}
+
+/// Lets the node lead to the next one.
+fn link(nodes: &mut Vec<Node>, place: usize, next: usize)
+    requires { place < vec_len nodes.old }
+    ensures linked { IsLinked nodes.old.items nodes.new.items place next }
+    ensures capacity { vec_capacity nodes.new ≡ vec_capacity nodes.old }
+{
+    nodes[place].next = next;
+}
+
+/// Makes the node at the place the chain's last one.
+pub(crate) fn append(nodes: &mut Vec<Node>, chain: &mut Chain, place: usize)
+    requires last { 0 < chain.old.len → chain.old.last < vec_len nodes.old }
+    requires fits { chain.old.len + 1 < 2 ^ 64 }
+    ensures alone { chain.old.len ≡ 0 → chain.new ≡ alone place }
+    ensures kept { chain.old.len ≡ 0 → nodes.new ≡ nodes.old }
+    ensures longer { 0 < chain.old.len → chain.new ≡ longer chain.old place }
+    ensures linked { 0 < chain.old.len → IsLinked nodes.old.items nodes.new.items chain.old.last place }
+    ensures capacity { vec_capacity nodes.new ≡ vec_capacity nodes.old }
+{
+    if chain.len == 0 {
+        chain.first = place;
+    } else {
+        link(nodes, chain.last, place);
+    }
+    chain.last = place;
+    chain.len += 1;
+}
+
+/// Takes the first node off the chain, which goes on at the next one.
+pub(crate) fn shorten(chain: &mut Chain, next: usize)
+    requires { 0 < chain.old.len }
+    ensures { chain.new ≡ shorter chain.old next }
+{
+    chain.first = next;
+    chain.len -= 1;
+}

@@ -1,13 +1,12 @@
 -- The first event of a level, as a queue finds it and as a core's view has it.
-use Rattle.std.proofs.Common.{◌≡◌, ◌≢◌, ℕ, ◌%◌, ◌<◌, ◌≤◌, Bool, true, false, cond, length, get_or, All, Contains, Option, Some, None, refl, sym, ap, ◌∙◌, subst, arith}
-use Rattle.std.specs.Option.{IfSome, IfNone}
+use Rattle.std.proofs.Common.{◌≡◌, ◌≢◌, ℕ, ◌%◌, ◌<◌, ◌≤◌, Bool, true, false, cond, List, length, get_or, All, Contains, refl, sym, ap, ◌∙◌, subst, arith}
 use Rattle.std.proofs.lemmas.Nat.{mod_below}
 use Rattle.evt_types.specs.Fault.{IsWithinLimits}
 use Rattle.evt_types.specs.Plan.{Plan, level_of, queue_of, slot_of, is_atomic}
 use Rattle.evt_types.specs.declared.event.Numbered.{Numbered}
 use Rattle.place_set.specs.Places.{Has}
 use Rattle.place_set.specs.declared.places.Places.{Places}
-use Rattle.sched_core.proofs.Busy.{waiting_there}
+use Rattle.sched_core.proofs.Busy.{waiting_there, waits_is}
 use Rattle.sched_core.proofs.Cores.{waiting_here, waits_here}
 use Rattle.sched_core.proofs.News.{slots_range}
 use Rattle.sched_core.proofs.Offers.{HasNoneBeside, levels_beside, none_waits}
@@ -16,7 +15,6 @@ use Rattle.sched_core.specs.Inner.{slots_for}
 use Rattle.sched_core.specs.Offered.{HasNoneAllowedIn, IsFirstIn, slot_at}
 use Rattle.sched_core.specs.View.{view_in, IsCore}
 use Rattle.parked_queue.specs.Waits.{AreLevels, Waits, HasNoneAllowed, IsFirstAllowed, waits_at}
-use Rattle.parked_queue.specs.declared.first.Found.{Found}
 use Rattle.sched_core.specs.declared.state.Core.TheInside.{Inside}
 use Rattle.transcripts.specs.Choice.{Passed, HasNone}
 use Rattle.transcripts.specs.Standing.{View}
@@ -66,19 +64,25 @@ module _ (a : Inside) (i : ℕ) (old : Waits) (core : IsCore a) (h : i < length 
             (first.first here.0 u here.1 (subst (λ (x : Numbered). level_of x.event ≡ c) (sym here.2) level) (subst (λ (x : Numbered). Has allowed (x.event.flow % old.slots)) (sym here.2) (subst (Has allowed) (sym (slot_in_queue u)) has)));
       }
 
-  pub head_of_view : (c : ℕ) (allowed : Places) (o : Option Found) → IfSome o (λ (f : Found). IsFirstAllowed old c allowed f.waiting) → IfSome o (λ (f : Found). IsFirstIn (view_in a) i c allowed f.waiting)
-  head_of_view c allowed None first = tt
-  head_of_view c allowed (Some f) first = first_of_view c allowed f.waiting first
-
-  pub head_slot_of_view : (o : Option Found) → IfSome o (λ (f : Found). f.slot ≡ f.waiting.event.flow % old.slots) → IfSome o (λ (f : Found). f.slot ≡ slot_at (view_in a) i f.waiting)
-  head_slot_of_view None slot = tt
-  head_slot_of_view (Some f) slot = slot ∙ slot_in_queue f.waiting
-
-  pub none_in_view : (c : ℕ) (allowed : Places) → HasNoneAllowed old c allowed → HasNoneAllowedIn (view_in a) i c allowed
+  none_in_view : (c : ℕ) (allowed : Places) → HasNoneAllowed old c allowed → HasNoneAllowedIn (view_in a) i c allowed
   none_in_view c allowed none = λ u waits level has.
       let here : Contains old.waiting u = waits_here a i old u h is waits in
       none here.0 u here.1 (subst (λ (x : Numbered). level_of x.event ≡ c) (sym here.2) level) (subst (λ (x : Numbered). Has allowed (x.event.flow % old.slots)) (sym here.2) (subst (Has allowed) (sym (slot_in_queue u)) has))
 
-  pub none_of_view : (c : ℕ) (allowed : Places) (o : Option Found) → IfNone o (HasNoneAllowed old c allowed) → IfNone o (HasNoneAllowedIn (view_in a) i c allowed)
-  none_of_view c allowed None none = none_in_view c allowed none
-  none_of_view c allowed (Some f) none = tt
+-- the core with other queues
+abbrev pub with_queues : Inside → List Waits → Inside
+with_queues a qs = record a { queues = qs }
+
+-- what a queue finds is what the core's view has
+module _ (a : Inside) (v : View) (q : ℕ) (core : IsCore a) (view : view_in a ≡ v) (within : q < length v.shape.queues) where
+  queue_there : q < length a.queues
+  queue_there = let count = core.queues in let same = ap (λ (u : View). length u.shape.queues) view in omega arith
+
+  pub found_first : (c : ℕ) (allowed : Places) (w : Numbered) → IsFirstAllowed (waits_at a.queues q) c allowed w → IsFirstIn v q c allowed w
+  found_first c allowed w first = subst (λ u. IsFirstIn u q c allowed w) view (first_of_view a q (waits_at a.queues q) core queue_there (waits_is a.queues q queue_there) c allowed w first)
+
+  pub found_slot : (slot : ℕ) (w : Numbered) → slot ≡ w.event.flow % (waits_at a.queues q).slots → slot ≡ slot_at v q w
+  found_slot slot w is = is ∙ (slot_in_queue a q (waits_at a.queues q) core queue_there (waits_is a.queues q queue_there) w ∙ ap (λ u. slot_at u q w) view)
+
+  pub found_none : (c : ℕ) (allowed : Places) → HasNoneAllowed (waits_at a.queues q) c allowed → HasNoneAllowedIn v q c allowed
+  found_none c allowed none = subst (λ u. HasNoneAllowedIn u q c allowed) view (none_in_view a q (waits_at a.queues q) core queue_there (waits_is a.queues q queue_there) c allowed none)

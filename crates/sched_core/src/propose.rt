@@ -1,6 +1,6 @@
 //! The choice of the event that is given next, and of its lane.
 
-ghost use Rattle.std.specs.Prelude.{◌≡◌, ℕ, ◌<◌, List, length, Some, IsTrue, IfSome, IfNone};
+ghost use Rattle.std.specs.Prelude.{◌≡◌, ℕ, ◌<◌, List, length, Some, IfSome, IfNone};
 ghost use Rattle.transcripts.specs.Allowed.{Allowed};
 ghost use Rattle.transcripts.specs.Choice.{HasNone, HasNoChoice, IsChoice, IsOffer};
 ghost use Rattle.transcripts.specs.Standing.{Stands};
@@ -8,14 +8,12 @@ ghost use Rattle.place_set.specs.Places.{Has, IsEmpty};
 ghost use Rattle.transcripts.specs.Transcript.{event_at};
 ghost use Rattle.evt_types.specs.declared.step.Step.{Step as StepValue};
 ghost use Rattle.evt_types.specs.declared.step.Step.TheVariants as steps;
-ghost use Rattle.sched_core.specs.Offered.{numbered_in, AreOpenLanes, HasAllowed, HasNoneAllowedIn, HasNoneIn, IsFirstIn, IsOfferIn, IsOfferOf, slot_at};
+ghost use Rattle.sched_core.specs.Offered.{numbered_in, AreOpenLanes, HasAllowed, HasNoneIn, IsOfferIn, IsOfferOf};
 ghost use Rattle.sched_core.specs.Service.{IsServedFirst};
 
 use crate::offer::Offer;
 use crate::skips::Skips;
-use crate::slot_lanes::SLOTS;
 use crate::state::Core;
-use parked_queue::Found;
 use place_set::{MAX_PLACES, Places};
 
 impl Core {
@@ -104,7 +102,7 @@ impl Core {
             return offer;
         }
         let allowed = self.allowed(queue, lanes, skips);
-        if self.is_blocked(queue, level, allowed) {
+        if self.queues.is_blocked(queue, level, allowed) {
             return None;
         }
         let offer = self.offer_at_head(queue, level, lanes, allowed, skips);
@@ -131,33 +129,9 @@ impl Core {
         requires allowed { HasAllowed self.now skips.now queue allowed }
         ensures { IfSome result (λ o. (o.delivery.queue ≡ queue) × IsOfferIn self.now skips.now queue level o.lane (numbered_in o.delivery)) }
     {
-        // The use of a field makes known what holds of each core.
-        let _ = &self.shape;
-        let found = self.head_in(queue, level, allowed)?;
+        let found = self.queues.head(queue, level, allowed)?;
         let lane = self.lane_for(queue, found.slot, lanes, skips)?;
         Some(Offer::of(queue, level, lane, found))
-    }
-
-    /// The first event of the queue's level whose slot is allowed, where it is found at once.
-    #[inline(always)]
-    fn head_in(&self, queue: usize, level: usize, allowed: Places) -> Option<Found>
-        requires queue { queue < length self.now.shape.queues }
-        requires level { level < 4 }
-        ensures first { IfSome result (λ f. IsFirstIn self.now queue level allowed f.waiting) }
-        ensures slot { IfSome result (λ f. f.slot ≡ slot_at self.now queue f.waiting) }
-        ensures few { IfSome result (λ f. f.slot < SLOTS) }
-    {
-        self.queues.head(queue, level, allowed)
-    }
-
-    /// Whether it is known at once that no event of the queue's level has an allowed slot.
-    #[inline(always)]
-    fn is_blocked(&self, queue: usize, level: usize, allowed: Places) -> bool
-        requires queue { queue < length self.now.shape.queues }
-        requires level { level < 4 }
-        ensures { IsTrue result → HasNoneAllowedIn self.now queue level allowed }
-    {
-        self.queues.is_blocked(queue, level, allowed)
     }
 
     /// The first event of the queue's level that some lane may take, for the best lane, as it is searched. A slot whose event no
@@ -182,26 +156,12 @@ impl Core {
         // The use of a field makes known what holds of each core.
         let _ = &self.shape;
         let mut left = allowed;
-        while let Some(found) = self.first_in(queue, level, left) {
+        while let Some(found) = self.queues.first(queue, level, left) {
             if let Some(lane) = self.lane_for(queue, found.slot, lanes, skips) {
                 return Some(Offer::of(queue, level, lane, found));
             }
             left.remove(found.slot);
         }
         None
-    }
-
-    /// The first event of the queue's level whose slot is allowed.
-    #[inline(always)]
-    fn first_in(&mut self, queue: usize, level: usize, allowed: Places) -> Option<Found>
-        requires queue { queue < length self.old.shape.queues }
-        requires level { level < 4 }
-        ensures same { self.new ≡ self.old }
-        ensures first { IfSome result (λ f. IsFirstIn self.old queue level allowed f.waiting) }
-        ensures slot { IfSome result (λ f. f.slot ≡ slot_at self.old queue f.waiting) }
-        ensures few { IfSome result (λ f. f.slot < SLOTS) }
-        ensures none { IfNone result (HasNoneAllowedIn self.old queue level allowed) }
-    {
-        self.queues.first(queue, level, allowed)
     }
 }

@@ -1,9 +1,12 @@
-use Rattle.std.proofs.Common.{subst}
+use Rattle.std.proofs.Common.{subst, arith}
 use Rattle.evt_types.specs.Fault.{IsWithinLimits}
 use Rattle.transcripts.specs.Standing.{View}
-use Rattle.sched_core.proofs.FirstOnes.{slots_within}
+use Rattle.sched_core.proofs.FirstOnes.{found_first, found_slot, slots_within}
 use Rattle.sched_core.proofs.Offers.{offer_in, offer_made}
 use Rattle.sched_core.proofs.state.Core.offer_at_head.Goals as goal
+
+pub lane_for-requires-clause-slot : goal.lane_for-requires-clause-slot
+lane_for-requires-clause-slot c = let waits = c.in_ok-found.ensures.waits in omega (arith, c.in_ok-found.ensures.slot, waits.some, waits.few)
 
 pub returns : goal.returns
 returns c =
@@ -11,5 +14,7 @@ returns c =
     let limits : IsWithinLimits v.shape = subst (λ (u : View). IsWithinLimits u.shape) c.self.view_is c.self.invariant.limits in
     let found = c.in_ok-found.found in
     offer_made v c.args.skips.now c.args.queue c.args.level c.in_ok-lane.lane found.waiting c.of.result c.of.ensures.lane c.of.ensures.queue c.of.ensures.event
-    (offer_in v c.args.skips.now c.args.queue c.args.level c.in_ok-lane.lane found.slot c.args.allowed found.waiting c.requires.allowed (slots_within v c.args.queue limits c.requires.queue) c.in_ok-found.ensures.first c.in_ok-found.ensures.slot
+    (offer_in v c.args.skips.now c.args.queue c.args.level c.in_ok-lane.lane found.slot c.args.allowed found.waiting c.requires.allowed (slots_within v c.args.queue limits c.requires.queue)
+    (found_first c.self.inside v c.args.queue c.self.invariant c.self.view_is c.requires.queue c.args.level c.args.allowed found.waiting c.in_ok-found.ensures.first)
+    (found_slot c.self.inside v c.args.queue c.self.invariant c.self.view_is c.requires.queue found.slot found.waiting c.in_ok-found.ensures.slot)
     c.in_ok-lane.ensures.fits c.in_ok-lane.ensures.best)

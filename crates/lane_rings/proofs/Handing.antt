@@ -1,5 +1,5 @@
 -- What a pocket is made of, and what is handed out as its first item leaves.
-use Rattle.std.proofs.Common.{◌≡◌, ℕ, ◌-◌, ◌≤◌, List, [], ◌∷◌, ◌++◌, length, take, drop, arith, ap, None, Some, refl, subst, sym, ◌∙◌, length-append}
+use Rattle.std.proofs.Common.{◌≡◌, ◌≢◌, ℕ, ◌-◌, ◌≤◌, List, [], ◌∷◌, ◌++◌, length, take, drop, arith, ap, None, Some, refl, subst, sym, ◌∙◌, length-append}
 use Rattle.std.specs.Prelude.{Option, IfNone, IfSome, MatchOption, option_copied, slice_get}
 use Rattle.std.proofs.Math.Seq.{take-append_seam}
 use Rattle.std.proofs.lemmas.Grind.{common_steps}
@@ -82,6 +82,17 @@ module _ {T : Type 0} where
 
   pub prefix-next : (ws xs ks : List T) (x y : T) → IsPrefix ws xs → xs ≡ x ∷ ks → slice_get ws 0 ≡ Some y → x ≡ y
   prefix-next ws xs ks x y p e s = same_Some x y (ap (λ (zs : List T). slice_get zs 0) (sym e) ∙ prefix-first ws xs y p s)
+
+-- the first of both rows is the first of the one that leaves first
+pub first-taken : {T : Type 0} (ws ks : List T) (x : T) → ws ≢ [] → slice_get (ws ++ ks) 0 ≡ Some x → take 1 ws ≡ x ∷ []
+first-taken [] ks x some e = absurd (some refl)
+first-taken (w ∷ ws) ks x some e = ap (λ z. z ∷ []) (same_Some w x e)
+
+pub first-dropped : {T : Type 0} (ws ks : List T) → ws ≢ [] → drop 1 ws ++ ks ≡ drop 1 (ws ++ ks)
+first-dropped [] ks some = absurd (some refl)
+first-dropped (w ∷ ws) ks some = refl
+
+pub ruleset of_passing = (first-taken, first-dropped)
 
 pub ruleset of_rows = (row-empty, row-filled, take-first)
 

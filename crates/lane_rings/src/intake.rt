@@ -34,7 +34,7 @@ impl<T: Copy> Intake<T> {
         Ok(Intake { ring, pocket })
     }
 
-    /// Where nothing is in the pocket, takes at most `most` items out of the ring.
+    /// Where nothing is in the pocket, takes at most `most` items out of the ring. A ring that shows nothing costs one load.
     #[inline(always)]
     pub(crate) fn look(&mut self, most: usize)
         ensures ring { SameConsumer self.old.ring self.new.ring }
@@ -45,9 +45,14 @@ impl<T: Copy> Intake<T> {
         ensures stays { inside self.old.pocket ≢ [] → inside self.new.pocket ≡ inside self.old.pocket }
         ensures short { inside self.old.pocket ≡ [] → length (inside self.new.pocket) < most → most ≤ consumer_capacity self.old.ring → known_items self.new.ring ≡ [] }
     {
-        if self.pocket.is_empty() {
-            self.pocket.fill(&mut self.ring, most);
+        if !self.pocket.is_empty() {
+            return;
         }
+        let there = self.ring.slots();
+        if there == 0 {
+            return;
+        }
+        self.pocket.fill(&mut self.ring, most);
     }
 
     /// The oldest item, which leaves. Wants what is seen to be in the pocket, unless nothing is.

@@ -56,6 +56,7 @@ impl Near {
 
     /// Takes at most `most` replies out of the ring, by one store; where some are left that were fetched before, it does nothing.
     /// Until they are taken one by one, by `take`, they are untaken; the holder may give as many more.
+    #[inline(always)]
     pub fn fetch(&mut self, most: usize)
         ensures lane { near_id self.new ≡ near_id self.old }
         ensures lists { (offered self.new ≡ offered self.old) × (hidden_offers self.new ≡ hidden_offers self.old) × (taken self.new ≡ taken self.old) }
@@ -82,6 +83,7 @@ impl Near {
 
     /// The oldest reply that was fetched and not taken, where it lies: the next `take` gives the same one. `None` where none is
     /// fetched.
+    #[inline(always)]
     #[tactic(auto, using(crate::proofs::Handing::of_looks))]
     pub fn fetched(&self) -> Option<&Reply>
         ensures next { IfSome result (λ r. next_reply self.now ≡ Some r.now) }
@@ -91,6 +93,7 @@ impl Near {
     }
 
     /// Takes the oldest reply: out of the ring, where none is left that was fetched. `None` where no reply is seen.
+    #[inline(always)]
     pub fn take(&mut self) -> Option<Reply>
         ensures lane { near_id self.new ≡ near_id self.old }
         ensures offered { (offered self.new ≡ offered self.old) × (hidden_offers self.new ≡ hidden_offers self.old) }
@@ -103,5 +106,20 @@ impl Near {
     {
         self.fetch(1);
         self.replies.next()
+    }
+
+    /// Takes the oldest reply that was fetched, which is the one that `fetched` gives: nothing of it is copied. Where none is fetched
+    /// it does nothing.
+    #[inline(always)]
+    #[tactic(auto, using(crate::proofs::Handing::of_passing))]
+    pub fn pass(&mut self)
+        ensures lane { near_id self.new ≡ near_id self.old }
+        ensures offered { (offered self.new ≡ offered self.old) × (hidden_offers self.new ≡ hidden_offers self.old) }
+        ensures taken { (r : Reply) → fetched_replies self.old ≢ [] → next_reply self.old ≡ Some r → taken self.new ≡ taken self.old ++ r ∷ [] }
+        ensures fetched { fetched_replies self.new ≡ drop 1 (fetched_replies self.old) }
+        ensures none { fetched_replies self.old ≡ [] → (taken self.new ≡ taken self.old) × (seen_replies self.new ≡ seen_replies self.old) }
+        ensures seen { fetched_replies self.old ≢ [] → seen_replies self.new ≡ drop 1 (seen_replies self.old) }
+    {
+        self.replies.pass();
     }
 }

@@ -1,7 +1,7 @@
 //! The writing side of a ring: items are gathered, and go into the ring at once.
 
-ghost use Rattle.std.specs.Prelude.{◌≤◌, length, vec_capacity};
-ghost use Rattle.rtrb.specs.Ring.{known_free, producer_capacity};
+ghost use Rattle.std.specs.Prelude.{◌≡◌, ◌+◌, ◌≤◌, ◌++◌, length, vec_capacity};
+ghost use Rattle.rtrb.specs.Ring.{sent, known_free, producer_capacity, SameProducer};
 
 use rtrb::Producer;
 use std::alloc::{AllocError, Global};
@@ -82,10 +82,26 @@ impl<T: Copy> Outlet<T> {
         if self.pocket.is_empty() {
             return;
         }
-        let Ok(()) = self.ring.push_entire_slice(&self.pocket) else {
-            unreachable!()
-        };
+        push_all(&mut self.ring, &self.pocket);
         self.free -= self.pocket.len();
         self.pocket.clear();
     }
+}
+
+/// Puts the items into the ring, which has free slots for them, by one store. A single item goes without the loops over a row.
+#[inline(always)]
+#[tactic(auto, using(crate::proofs::Singles::of_singles))]
+fn push_all<T: Copy>(ring: &mut Producer<T>, items: &[T])
+    requires { length items.now ≤ known_free ring.old }
+    ensures ring { SameProducer ring.old ring.new }
+    ensures sent { sent ring.new ≡ sent ring.old ++ items.now }
+    ensures free { known_free ring.old ≤ known_free ring.new + length items.now }
+{
+    if items.len() == 1 {
+        ring.push_reserved(items[0]);
+        return;
+    }
+    let Ok(()) = ring.push_entire_slice(items) else {
+        unreachable!()
+    };
 }

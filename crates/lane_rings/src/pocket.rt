@@ -81,6 +81,7 @@ impl<T: Copy> Pocket<T> {
     }
 
     /// Takes at most `most` items out of the ring, and no more than there are places for. Wants nothing to be in the pocket.
+    #[inline(always)]
     pub(crate) fn fill(&mut self, ring: &mut Consumer<T>, most: usize)
         requires { inside self.old ≡ [] }
         ensures ring { SameConsumer ring.old ring.new }
@@ -96,9 +97,29 @@ impl<T: Copy> Pocket<T> {
     }
 }
 
-/// Takes at most `most` items out of the ring, by one store, to the first of these places; how many.
-#[tactic(auto, using(crate::proofs::Handing::of_rows))]
+/// Takes at most `most` items out of the ring, by one store, to the first of these places; how many. Where a single one was seen in the
+/// ring it goes without the loops over a row.
+#[inline(always)]
+#[tactic(auto, using(crate::proofs::Singles::of_singles))]
 fn pop_some<T: Copy>(ring: &mut Consumer<T>, places: &mut [T], most: usize) -> usize
+    ensures ring { SameConsumer ring.old ring.new }
+    ensures received { received ring.new ≡ received ring.old ++ take result places.new }
+    ensures known { IsPrefix (known_items ring.old) (take result places.new ++ known_items ring.new) }
+    ensures none { 0 < length places.old → 0 < most → result ≡ 0 → known_items ring.new ≡ [] }
+    ensures short { result < most → most ≤ length places.old → known_items ring.new ≡ [] }
+    ensures few { (result ≤ most) × (result ≤ length places.old) }
+    ensures places { length places.new ≡ length places.old }
+{
+    if ring.cached_slots() == 1 && most > 0 && !places.is_empty() {
+        places[0] = ring.pop_known();
+        return 1;
+    }
+    pop_row(ring, places, most)
+}
+
+/// The same of a row of items.
+#[tactic(auto, using(crate::proofs::Handing::of_rows))]
+fn pop_row<T: Copy>(ring: &mut Consumer<T>, places: &mut [T], most: usize) -> usize
     ensures ring { SameConsumer ring.old ring.new }
     ensures received { received ring.new ≡ received ring.old ++ take result places.new }
     ensures known { IsPrefix (known_items ring.old) (take result places.new ++ known_items ring.new) }

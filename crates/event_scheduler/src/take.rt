@@ -53,24 +53,29 @@ impl Scheduler {
         }
         let op = reply.event.op;
         let took = self.core.take_from(lane, reply, log);
-        near.take();
+        near.pass();
         self.pocket = self.pocket.wrapping_add(turned_by(took));
         self.accepted_new = self.accepted_new.wrapping_add(entered_by(op, took));
         true
     }
 
-    /// Brings replies of the lane out of its ring, no more than these. They are untaken still.
-    fn fetch(&mut self, lane: usize, most: usize)
+    /// Brings replies of the lane out of its ring, no more than these; whether there is one. They are untaken still.
+    #[inline(always)]
+    fn fetch(&mut self, lane: usize, most: usize) -> bool
         requires { lane < lanes_of self.old.core.shape }
         ensures takes { (log : List StepValue) → Takes (only lane 0) 0 (sight_of self.old) log (sight_of self.new) log }
         ensures core { self.new.core ≡ self.old.core }
         ensures others { (l : ℕ) → l ≢ lane → seen_at (sight_of self.new) l ≡ seen_at (sight_of self.old) l }
+        ensures none { IsFalse result → 0 < most → seen_at (sight_of self.new) lane ≡ [] }
     {
-        self.lanes[lane].fetch(most);
+        let near = &mut self.lanes[lane];
+        near.fetch(most);
+        near.fetched().is_some()
     }
 
     /// Takes replies of the lane, no more than the sweep quantum, until none is seen or one may not be taken. The ring gives by one
-    /// store what is there at the begin.
+    /// store what is there at the begin; a lane in which there is nothing costs that one look.
+    #[inline(always)]
     fn take_lane<L: StepLog>(&mut self, lane: usize, log: &mut L) -> usize
         requires lane { lane < lanes_of self.old.core.shape }
         requires room { kept_in self.old.core + 2 * self.old.core.shape.sweep ≤ L.room log.old }
@@ -81,7 +86,9 @@ impl Scheduler {
         ensures others { (l : ℕ) → l ≢ lane → seen_at (sight_of self.new) l ≡ seen_at (sight_of self.old) l }
     {
         let most = self.core.shape().sweep() as usize;
-        self.fetch(lane, most);
+        if !self.fetch(lane, most) {
+            return 0;
+        }
         self.take_each(lane, log)
     }
 

@@ -25,6 +25,7 @@ class Case:
     waiting: int = 0
     blocked: int = 0
     queues: int = 1
+    busy: int = 1
     ports: int = 1
     burst: int = 1
 

@@ -25,8 +25,10 @@ pub struct Asked {
     pub waiting: u64,
     /// How many events wait in front of all these and can't be given.
     pub blocked: u64,
-    /// How many queues there are. The events are in one of them.
+    /// How many queues there are.
     pub queues: u32,
+    /// To how many of them the workers' events go, by turns.
+    pub busy: u8,
     /// How many worker ports there are.
     pub ports: u64,
     /// How many events are released, and as many handed out, in a round.
@@ -52,9 +54,20 @@ fn number(word: &str) -> Option<u64> {
 
 /// What the words ask for.
 pub fn read_words(words: &[String]) -> Result<Asked, BenchFault>
-    ensures { IfOk result (λ a. 1 ≤ a.flows) }
+    ensures { IfOk result (λ a. (1 ≤ a.flows) × (1 ≤ a.busy)) }
 {
-    let [held, flows, waiting, blocked, queues, ports, burst, rounds] = words else {
+    let [
+        held,
+        flows,
+        waiting,
+        blocked,
+        queues,
+        busy,
+        ports,
+        burst,
+        rounds,
+    ] = words
+    else {
         return Err(BenchFault::WordCount);
     };
     let held = within(MAX_HELD, held).ok_or(BenchFault::Held)?;
@@ -62,6 +75,7 @@ pub fn read_words(words: &[String]) -> Result<Asked, BenchFault>
     let waiting = number(waiting).ok_or(BenchFault::Waiting)?;
     let blocked = number(blocked).ok_or(BenchFault::Blocked)?;
     let queues = within(MAX_QUEUES as u64, queues).ok_or(BenchFault::Queues)?;
+    let busy = within(queues, busy).ok_or(BenchFault::Busy)?;
     let ports = within(MAX_WORKERS, ports).ok_or(BenchFault::Ports)?;
     let burst = within(MAX_BURST, burst).ok_or(BenchFault::Burst)?;
     let rounds = number(rounds).ok_or(BenchFault::Rounds)?;
@@ -74,6 +88,7 @@ pub fn read_words(words: &[String]) -> Result<Asked, BenchFault>
         waiting,
         blocked,
         queues: queues as u32,
+        busy: busy as u8,
         ports,
         burst,
         rounds,

@@ -1,5 +1,4 @@
-//! The device of a run: an atomic queue that takes all events, queues that stay empty, a port that brings events in, one that is kept
-//! busy, and worker ports.
+//! The device of a run: an atomic queue, parallel ones, a port that brings events in, one that is kept busy, and worker ports.
 
 use crate::fault::BenchFault;
 use evt_types::{

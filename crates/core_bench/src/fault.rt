@@ -5,7 +5,7 @@ use std::alloc::{AllocError, AllocFailed};
 /// Why a run stops before its end.
 #[derive(Clone, Copy, Debug, PartialEq, Eq)]
 pub enum BenchFault {
-    /// The command line has not eight words.
+    /// The command line has not nine words.
     WordCount,
     /// The first word is no number of 1 to 64.
     Held,
@@ -17,13 +17,15 @@ pub enum BenchFault {
     Blocked,
     /// The fifth word is no number of 1 to 32.
     Queues,
-    /// The sixth word is no number of 1 to 30.
+    /// The sixth word is no number of 1 to the fifth.
+    Busy,
+    /// The seventh word is no number of 1 to 30.
     Ports,
-    /// The seventh word is no number of 1 to 32.
+    /// The eighth word is no number of 1 to 32.
     Burst,
-    /// The eighth word is no number of rounds.
+    /// The ninth word is no number of rounds.
     Rounds,
-    /// The first word is less than the seventh: a burst couldn't be released.
+    /// The first word is less than the eighth: a burst couldn't be released.
     FewHeld,
     /// The line couldn't be written.
     Write,
@@ -40,13 +42,14 @@ impl BenchFault {
     pub fn text(self) -> &'static str {
         match self {
             BenchFault::WordCount => {
-                "eight words are wanted: the unanswered events, the flows, the waiting events, the blocked events, the queues, the worker ports, the burst and the rounds"
+                "nine words are wanted: the unanswered events, the flows, the waiting events, the blocked events, the queues, those that are busy, the worker ports, the burst and the rounds"
             },
             BenchFault::Held => "the unanswered events must be a number of 1 to 64",
             BenchFault::Flows => "the flows must be a number of 1 to 63",
             BenchFault::Waiting => "the waiting events must be a number",
             BenchFault::Blocked => "the blocked events must be a number",
             BenchFault::Queues => "the queues must be a number of 1 to 32",
+            BenchFault::Busy => "the busy queues must be a number of 1 to that of the queues",
             BenchFault::Ports => "the worker ports must be a number of 1 to 30",
             BenchFault::Burst => "the burst must be a number of 1 to 32",
             BenchFault::Rounds => "the rounds must be a number",
@@ -67,6 +70,7 @@ impl BenchFault {
             | BenchFault::Waiting
             | BenchFault::Blocked
             | BenchFault::Queues
+            | BenchFault::Busy
             | BenchFault::Ports
             | BenchFault::Burst
             | BenchFault::Rounds

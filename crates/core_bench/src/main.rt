@@ -38,12 +38,13 @@ fn print_rounds<R: AllocGlobal + Env + Print>(rt: &R) -> Result<(), BenchFault> 
         waiting,
         blocked,
         queues,
+        busy,
         ports,
         burst,
         rounds,
     } = asked;
     match println!(rt;
-        "held={held} flows={flows} waiting={waiting} blocked={blocked} queues={queues} ports={ports} burst={burst} rounds={rounds} inside={inside}"
+        "held={held} flows={flows} waiting={waiting} blocked={blocked} queues={queues} busy={busy} ports={ports} burst={burst} rounds={rounds} inside={inside}"
     ) {
         Ok(()) => Ok(()),
         Err(_) => Err(BenchFault::Write),

@@ -61,7 +61,7 @@ impl Run {
 /// How many events are inside after the rounds that are asked for: as many as the workers were to hold, as were to wait and to be
 /// blocked, and as the busy port holds.
 pub fn inside_after(alloc: Global, asked: Asked) -> Result<usize, BenchFault>
-    requires { 1 ≤ asked.flows }
+    requires { (1 ≤ asked.flows) × (1 ≤ asked.busy) }
 {
     let mut run = Run::new(alloc, asked)?;
     run.fill_busy()?;

@@ -23,6 +23,10 @@ pub struct Run {
     last_flow: u8,
     /// The flow of the next one of these events that is brought in.
     next_flow: u8,
+    /// The last one of the queues that these events go to, which are counted from 0.
+    last_queue: u8,
+    /// The queue of the next one of them.
+    next_queue: u8,
 }
 
 impl Model for Run {
@@ -37,24 +41,29 @@ impl Model for Run {
     ghost invariant = { λ a. IsReady a.core a.lanes.items (vec_capacity a.log) };
 }
 
-/// A new event of the flow.
-pub fn new_event(flow: u8, payload: u64) -> Event {
+/// A number's next one, where the last one is followed by 0.
+fn next(number: u8, last: u8) -> u8 {
+    if number < last { number + 1 } else { 0 }
+}
+
+/// A new event of the flow for the queue.
+pub fn new_event(flow: u8, queue: u8) -> Event {
     Event {
         flow: u32::from(flow),
         sub_type: 0,
         event_type: 0,
         op: Op::New,
-        queue: 0,
+        queue,
         priority: 128,
         impl_opaque: 0,
-        payload,
+        payload: u64::from(flow),
     }
 }
 
 impl Run {
     /// A run of the device that is asked for, in which nothing has happened.
     pub fn new(alloc: Global, asked: Asked) -> Result<Run, BenchFault>
-        requires { 1 ≤ asked.flows }
+        requires { (1 ≤ asked.flows) × (1 ≤ asked.busy) }
     {
         let shape = bench_shape(alloc, asked.queues, asked.ports)?;
         match Core::new(alloc, shape) {
@@ -67,6 +76,8 @@ impl Run {
                     lanes,
                     last_flow: asked.flows - 1,
                     next_flow: 0,
+                    last_queue: asked.busy - 1,
+                    next_queue: 0,
                 })
             }
             Err((memory, _)) => Err(BenchFault::from(memory)),
@@ -88,11 +99,12 @@ impl Run {
         }
     }
 
-    /// A new event of the next flow is taken.
+    /// A new event of the next flow is taken, for the next queue.
     pub fn enter(&mut self) -> Result<(), BenchFault> {
-        let flow = self.next_flow;
-        self.next_flow = if flow < self.last_flow { flow + 1 } else { 0 };
-        self.bring(new_event(flow, u64::from(flow)))
+        let event = new_event(self.next_flow, self.next_queue);
+        self.next_flow = next(self.next_flow, self.last_flow);
+        self.next_queue = next(self.next_queue, self.last_queue);
+        self.bring(event)
     }
 
     /// The release of the workers' oldest unanswered event is taken.

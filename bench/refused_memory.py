@@ -106,17 +106,17 @@ RUNS = (
 )
 # The calls whose refusals tests meet, the crate of the tests, and the tests: all of a module, or one by its path.
 TESTS = (
-    ("Shape::build", "part_tests", "shapes"),
-    ("Pins::new, Reorder::new, History::new", "part_tests", "orders"),
-    ("WaitingLists::new, ParkedQueues::new", "part_tests", "queues"),
-    ("Levels::new", "part_tests", "levels"),
-    ("Core::new", "part_tests", "core_again"),
-    ("Tail::new, Tally::new", "part_tests", "logs"),
-    ("Credits::new", "ring_tests", "credits::credit_calls"),
-    ("lane", "ring_tests", "lanes"),
-    ("Claims::new", "claim_tests", "calls"),
-    ("Claims::new", "claim_tests", "memory"),
-    ("Claims::new", "claim_tests", "port"),
+    ("Shape::build", "core_part_tests", "shapes"),
+    ("Pins::new, Reorder::new, History::new", "core_part_tests", "orders"),
+    ("WaitingLists::new, ParkedQueues::new", "core_part_tests", "queues"),
+    ("Levels::new", "core_part_tests", "levels"),
+    ("Core::new", "core_part_tests", "core_again"),
+    ("Tail::new, Tally::new", "core_part_tests", "logs"),
+    ("Credits::new", "lane_tests", "credits::credit_calls"),
+    ("lane", "lane_tests", "lanes"),
+    ("Claims::new", "lane_tests", "calls"),
+    ("Claims::new", "lane_tests", "memory"),
+    ("Claims::new", "lane_tests", "port"),
     ("device, Scheduler::sweep, Recorder::sweep, stop", "device_tests", "again"),
 )
 A_TEST = re.compile(r"^#\[test\]\n(?:#.*\n)*fn (\w+)", re.MULTILINE)

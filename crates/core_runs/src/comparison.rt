@@ -5,8 +5,8 @@ use crate::drawn_moves::{Counts, Drawing};
 use crate::fault::RunFault;
 use crate::moves::{Made, Move};
 use crate::pair::Pair;
+use core_oracle::PlainTook;
 use evt_types::{Kind, MAX_EXTRAS, Serving};
-use plain_core::PlainTook;
 use std::alloc::Global;
 
 /// How many seeds a device is run with.

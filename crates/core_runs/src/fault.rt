@@ -1,7 +1,7 @@
 //! Why a run stops before its end.
 
+use core_oracle::PlainFault;
 use evt_types::ShapeFault;
-use plain_core::PlainFault;
 use std::alloc::{AllocError, AllocFailed};
 
 /// Why a run stops before its end.

@@ -1,7 +1,7 @@
 //! The moves that a core is put through, and what comes of them.
 
+use core_oracle::{PlainOffer, PlainTook};
 use evt_types::{Event, Op};
-use plain_core::{PlainOffer, PlainTook};
 
 /// What a table or a drawing says of an event. All else of it is 0.
 #[derive(Clone, Copy, Debug, PartialEq, Eq)]

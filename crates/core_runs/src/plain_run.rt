@@ -3,7 +3,7 @@
 use crate::device::Device;
 use crate::fault::RunFault;
 use crate::moves::{Made, Move};
-use plain_core::{PlainCore, PlainSkips};
+use core_oracle::{PlainCore, PlainSkips};
 use std::alloc::{AllocError, Global};
 
 /// A plain core, and what its sweep passes over.

@@ -2,8 +2,8 @@
 
 use crate::device::Device;
 use crate::moves::Packet;
+use core_oracle::PlainTook;
 use evt_types::{Kind, Op, Serving};
-use plain_core::PlainTook;
 
 /// An atomic and a parallel queue of a middle priority, with four slots or open events.
 pub(crate) const ATOMIC: (Kind, u8, u32) = (Kind::Atomic, 128, 4);

@@ -3,10 +3,10 @@
 use crate::device::Device;
 use crate::fault::RunFault;
 use crate::moves::{Made, Move};
+use core_oracle::{PlainOffer, PlainTook};
 use evt_types::{
     Delivery, Event, KeptEvent, MAX_FORWARDS, MAX_LANES, MAX_QUEUES, MAX_SWEEP, Reply, Step,
 };
-use plain_core::{PlainOffer, PlainTook};
 use sched_core::{Core, Offer, Skips, Took};
 use std::alloc::Global;
 

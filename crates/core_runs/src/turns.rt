@@ -4,8 +4,8 @@ use crate::device::Device;
 use crate::fault::RunFault;
 use crate::moves::{Made, Move, Packet};
 use crate::run::Run;
+use core_oracle::{PlainOffer, PlainTook};
 use evt_types::{Delivery, KeptEvent, Outcome, Source, Step};
-use plain_core::{PlainOffer, PlainTook};
 use std::alloc::Global;
 
 /// A run of which is known what comes of each turn.

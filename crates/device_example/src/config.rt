@@ -37,7 +37,7 @@ pub fn shape(alloc: Global) -> Result<Shape> {
 }
 
 /// A new event of flow 7 for queue 0.
-pub fn new_event(payload: u64) -> Event {
+fn new_event(payload: u64) -> Event {
     Event {
         flow: 7,
         sub_type: 0,
@@ -48,4 +48,13 @@ pub fn new_event(payload: u64) -> Event {
         impl_opaque: 0,
         payload,
     }
+}
+
+/// Ten new events, with the payloads from 0 to 9.
+pub fn new_events() -> [Event; 10] {
+    let mut events = [new_event(0); 10];
+    for (place, event) in events.iter_mut().enumerate() {
+        event.payload = place as u64;
+    }
+    events
 }

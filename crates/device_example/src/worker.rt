@@ -1,35 +1,33 @@
 //! The worker thread.
 
 ghost use Rattle.std.specs.Prelude.{◌≡◌};
-ghost use Rattle.event_recorder.specs.Device.{site_of};
+ghost use Rattle.event_device.specs.Device.{site_of};
 
-use event_device::Port;
+use event_device::{Handler, Port, serve};
 use evt_types::Delivery;
-use std::sync::Wait;
-use std::thread::yield_now;
 
-/// Handles the events of a burst: adds their payloads up.
-fn handle(deliveries: &[Delivery]) -> u64 {
-    let mut sum = 0u64;
-    for delivery in deliveries {
-        sum = sum.wrapping_add(delivery.event.payload);
-    }
-    sum
+/// How many events the worker dequeues at once.
+const BURST: usize = 4;
+
+/// Adds the payloads up. What it doesn't answer the next dequeue releases.
+#[derive(Drop)]
+struct Sum {
+    sum: u64,
 }
 
-/// Dequeues bursts of at most four events, and handles them, until the device is shut.
-pub fn work(rt: &impl Wait, mut port: Port) -> (Port, u64)
+impl Handler for Sum {
+    fn handle(&mut self, _port: &mut Port, deliveries: &[Delivery]) {
+        for delivery in deliveries {
+            self.sum = self.sum.wrapping_add(delivery.event.payload);
+        }
+    }
+}
+
+/// Handles events until the device is shut, and gives the port back with the sum of their payloads.
+pub fn work(port: Port) -> (Port, u64)
     ensures { site_of result.0 ≡ site_of port }
 {
-    let mut sum = 0u64;
-    for _ in rt.forever() {
-        if port.shut_seen() {
-            break;
-        }
-        if let Ok(deliveries) = port.dequeue(4) {
-            sum = sum.wrapping_add(handle(&deliveries));
-        }
-        yield_now();
-    }
-    (port, sum)
+    let mut handler = Sum { sum: 0 };
+    let port = serve(port, BURST, &mut handler);
+    (port, handler.sum)
 }

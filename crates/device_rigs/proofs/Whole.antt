@@ -10,37 +10,16 @@ use Rattle.credit_pool.specs.Accounts.{Stays}
 use Rattle.evt_types.specs.Plan.{Plan}
 use Rattle.event_ports.specs.Ports.{Place, account_of, place_of}
 use Rattle.event_ports.specs.declared.port.Port.{Port}
-use Rattle.event_recorder.specs.Control.{control_of}
-use Rattle.event_recorder.specs.Device.{ControlSite, Device, IsDevice, IsPortOf, PortSite, SchedulerSite, control_site, number_of, port_site, scheduler_of, scheduler_site, site_of}
-use Rattle.event_recorder.specs.Ports.{DifferInNumber}
-use Rattle.event_recorder.specs.Recorder.{Recorded}
-use Rattle.event_recorder.specs.Stop.{AreOf}
-use Rattle.event_recorder.specs.declared.control.Control.{Control}
+pub use Rattle.event_device.proofs.Keeping.{same_site}
+use Rattle.event_device.specs.Control.{control_of}
+use Rattle.event_device.specs.Device.{ControlSite, Device, IsDevice, IsPortOf, PortSite, SchedulerSite, control_site, number_of, port_site, scheduler_of, scheduler_site, site_of}
+use Rattle.event_device.specs.Ports.{DifferInNumber}
+use Rattle.event_device.specs.Recorder.{Recorded}
+use Rattle.event_device.specs.Stop.{AreOf}
+use Rattle.event_device.specs.declared.control.Control.{Control}
 use Rattle.device_rigs.specs.Whole.{IsWhole, device_at}
 
 -- ---- calls
-
--- the site of a port in this place with so many parts of the credits
-abbrev site_at : Place → ℕ → PortSite
-site_at w parts =
-    record {
-      pool = w.pool;
-      claims = w.lanes.flows.claims;
-      lane = Some w.lanes.own;
-      links = w.lanes.flows.links;
-      number = w.number;
-      depth = w.lanes.depth;
-      queues = w.queues;
-      implicit = w.implicit;
-      quantum = w.quantum;
-      threshold = w.threshold;
-      credit_parts = parts;
-      claim_parts = w.lanes.flows.parts;
-    }
-
--- a port keeps its site
-pub same_site : (p q : Port) → place_of q ≡ place_of p → Stays (account_of p) (account_of q) → site_of q ≡ site_of p
-same_site p q place stays = ap (λ w. site_at w (account_of q).parts) place ∙ ap (site_at (place_of p)) stays.parts
 
 -- so do all where one of them was called
 pub same_sites : (ports : List Port) (n : ℕ) (p q : Port) → slice_get ports n ≡ Some p → place_of q ≡ place_of p → Stays (account_of p) (account_of q) → map site_of (set ports n q) ≡ map site_of ports

@@ -1,7 +1,7 @@
 -- A device of which nothing is missing.
 use Rattle.std.specs.Prelude.{◌≡◌, List, length, map}
 use Rattle.std.specs.List.{range_with_len}
-use Rattle.event_recorder.specs.Device.{ControlSite, Device, IsDevice, PortSite, SchedulerSite, control_site, port_site, scheduler_site}
+use Rattle.event_device.specs.Device.{ControlSite, Device, IsDevice, PortSite, SchedulerSite, control_site, port_site, scheduler_site}
 
 -- the device of which the scheduler and the control are
 abbrev pub device_at : SchedulerSite → ControlSite → Device

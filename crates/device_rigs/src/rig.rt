@@ -1,8 +1,8 @@
 //! A device in one thread, and the calls that are made on it.
 
 ghost use Rattle.std.specs.Prelude.{map};
-ghost use Rattle.event_recorder.specs.Control.{control_of};
-ghost use Rattle.event_recorder.specs.Device.{scheduler_of, site_of};
+ghost use Rattle.event_device.specs.Control.{control_of};
+ghost use Rattle.event_device.specs.Device.{scheduler_of, site_of};
 ghost use Rattle.device_rigs.specs.Whole.{IsWhole};
 
 use crate::fault::RigFault;

@@ -1,8 +1,8 @@
 //! A producer, workers and the scheduler, each in a thread of its own, pass many events from queue to queue.
 
 ghost use Rattle.std.specs.Prelude.{◌≡◌, map, IfOk};
-ghost use Rattle.event_recorder.specs.Control.{control_of};
-ghost use Rattle.event_recorder.specs.Device.{scheduler_of, site_of};
+ghost use Rattle.event_device.specs.Control.{control_of};
+ghost use Rattle.event_device.specs.Device.{scheduler_of, site_of};
 
 use crate::logged_queue::FLOWS;
 use crate::rig::Rig;

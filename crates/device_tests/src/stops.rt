@@ -4,7 +4,7 @@
 //! for want of memory alone (`again`).
 
 ghost use Rattle.std.specs.Prelude.{◌≡◌, [], ◌∷◌, ◌++◌, IfOk, IfSome};
-ghost use Rattle.event_recorder.specs.Stop.{AreOf};
+ghost use Rattle.event_device.specs.Stop.{AreOf};
 
 use crate::left::{Left, NOTHING};
 use crate::plans::ONE_QUEUE;

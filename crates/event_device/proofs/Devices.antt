@@ -11,13 +11,13 @@ use Rattle.flow_claims.specs.Claims as claims
 use Rattle.lane_rings.specs.Identity.{LaneId, far_id, near_id}
 use Rattle.lane_rings.specs.declared.far.Far.{Far}
 use Rattle.lane_rings.specs.declared.near.Near.{Near}
-use Rattle.event_recorder.specs.Device.{IsDevice, depth_in, room_in}
+use Rattle.event_device.specs.Device.{IsDevice, depth_in, room_in}
 use Rattle.event_device.specs.Ends.{AreAdded, IsUnusedNear}
 use Rattle.evt_types.proofs.FlowLanes.{lanes_are}
 use Rattle.flow_claims.specs.Laws.{IsUnused}
 use Rattle.std.proofs.lemmas.List.Elements.{All-nil}
 use Rattle.event_device.specs.Prepared.{device_by, device_with}
-use Rattle.event_recorder.specs.Device.{Device}
+use Rattle.event_device.specs.Device.{Device}
 use Rattle.event_device.specs.declared.shared.Shared.{Shared}
 
 -- numbers in two parts

@@ -9,7 +9,7 @@ use Rattle.flow_claims.specs.Laws.{IsUnused}
 use Rattle.lane_rings.specs.Identity.{LaneId, far_id, near_id}
 use Rattle.lane_rings.specs.declared.far.Far.{Far}
 use Rattle.lane_rings.specs.declared.near.Near.{Near}
-use Rattle.event_recorder.specs.Device.{depth_in, room_in}
+use Rattle.event_device.specs.Device.{depth_in, room_in}
 use Rattle.event_device.specs.Ends.{AreAdded, IsUnusedNear}
 
 map_push : {X Y : Type 0} (f : X → Y) (xs : List X) (x : X) → map f (xs ++ x ∷ []) ≡ map f xs ++ f x ∷ []

@@ -15,7 +15,7 @@ use Rattle.flow_claims.specs.Laws.{IsUnused}
 use Rattle.lane_rings.specs.Identity.{LaneId, far_id}
 use Rattle.lane_rings.specs.declared.far.Far.{Far}
 use Rattle.event_ports.specs.declared.port.Port.{Port}
-use Rattle.event_recorder.specs.Device.{Device, IsDevice, depth_in, port_site, site_of}
+use Rattle.event_device.specs.Device.{Device, IsDevice, depth_in, port_site, site_of}
 use Rattle.event_device.specs.Prepared.{AreNewPorts, FitsPlan, IsEmptyPort, IsNewPort, IsUncounted, IsUndrawn, device_by}
 use Rattle.event_device.specs.Seats.{AreSeats, claim_parts, credit_parts}
 use Rattle.event_device.specs.declared.shared.Seats.{Seats}

@@ -11,7 +11,7 @@ use Rattle.evt_types.proofs.Plans.{port_read}
 use Rattle.std.proofs.lemmas.List.{length-map}
 use Rattle.event_ports.specs.Ports.{Place, account_of, place_of}
 use Rattle.event_ports.specs.declared.port.Port.{Port}
-use Rattle.event_recorder.specs.Device.{Device, PortSite, port_site, site_of}
+use Rattle.event_device.specs.Device.{Device, PortSite, port_site, site_of}
 
 abbrev pub site_by : Place → Account → PortSite
 site_by place account =

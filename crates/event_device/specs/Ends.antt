@@ -7,7 +7,7 @@ use Rattle.lane_rings.specs.Ends.{hidden_offers, offered, taken}
 use Rattle.lane_rings.specs.Identity.{far_id, near_id}
 use Rattle.lane_rings.specs.declared.far.Far.{Far}
 use Rattle.lane_rings.specs.declared.near.Near.{Near}
-use Rattle.event_recorder.specs.Device.{depth_in, room_in}
+use Rattle.event_device.specs.Device.{depth_in, room_in}
 
 -- nothing was offered to the lane or taken from it
 abbrev pub IsUnusedNear : Near → Type 0

@@ -11,7 +11,7 @@ use Rattle.event_ports.specs.Counts.{no_counts}
 use Rattle.event_ports.specs.Lanes.{IsEmptyHand}
 use Rattle.event_ports.specs.Ports.{account_of, counts_of, hand, pocket_of}
 use Rattle.event_ports.specs.declared.port.Port.{Port}
-use Rattle.event_recorder.specs.Device.{Device, IsDevice, port_site, site_of}
+use Rattle.event_device.specs.Device.{Device, IsDevice, port_site, site_of}
 use Rattle.event_device.specs.Ends.{IsUnusedNear}
 use Rattle.event_device.specs.Seats.{AreSeats, IsUnusedCredit, credit_parts}
 use Rattle.event_device.specs.declared.shared.Shared.{Shared}

@@ -4,10 +4,10 @@ ghost use Rattle.std.specs.Prelude.{◌-◌, ◌≤◌, IfOk};
 ghost use Rattle.evt_types.specs.Plan.{lanes_of};
 ghost use Rattle.event_device.specs.Ends.{AreAdded};
 
-use event_recorder::Memory;
 use evt_types::Shape;
 use lane_rings::{Far, Near, lane};
 use std::alloc::Global;
+use step_log::Memory;
 
 /// Makes the lanes of these numbers, and adds the scheduler's ends of them to the others. The holders' ends are the answer.
 pub(crate) fn add_lanes(

@@ -6,17 +6,17 @@ ghost use Rattle.evt_types.specs.Plan.{depth_of};
 ghost use Rattle.flow_claims.specs.Claims.{port_of};
 ghost use Rattle.flow_claims.specs.Laws.{IsUnused};
 ghost use Rattle.lane_rings.specs.Identity.{LaneId, far_id};
-ghost use Rattle.event_recorder.specs.Device.{IsDevice};
+ghost use Rattle.event_device.specs.Device.{IsDevice};
 ghost use Rattle.event_device.specs.Prepared.{AreNewPorts, FitsPlan, IsNewPort, device_by, device_with};
 ghost use Rattle.event_device.specs.Seats.{AreSeats};
 
 use crate::fault::Want;
 use crate::shared::{Seats, Shared};
 use event_ports::{Parts, Port};
-use event_recorder::Memory;
 use evt_types::Shape;
 use lane_rings::Far;
 use std::alloc::Global;
+use step_log::Memory;
 
 /// Makes the port of this number, with these seats and this end of its own lane.
 fn make_port(

@@ -9,11 +9,11 @@ ghost use Rattle.event_device.specs.Seats.{AreSeats, claim_parts, credit_parts};
 
 use crate::fault::Want;
 use credit_pool::{CreditSeat, Credits};
-use event_recorder::Memory;
 use flow_claims::{ClaimSeat, Claims};
 use lane_rings::{Far, Hints};
 use std::alloc::{AllocError, Global};
 use std::sync::Arc;
+use step_log::Memory;
 
 /// The credits of a device, and the claims and the hints of its flow lanes.
 #[derive(Drop)]

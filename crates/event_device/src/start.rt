@@ -5,13 +5,13 @@ ghost use Rattle.event_device.specs.Fault.{shape_in};
 ghost use Rattle.event_device.specs.Prepared.{IsPrepared};
 ghost use Rattle.event_device.specs.Start.{IsMade};
 
+use crate::control::Control;
 use crate::fault::{DeviceFault, Want};
 use crate::lanes::add_lanes;
 use crate::ports::make_ports;
 use crate::shared::{Seats, Shared};
 use credit_pool::{CreditSeat, Credits};
 use event_ports::Port;
-use event_recorder::Control;
 use event_scheduler::Scheduler;
 use evt_types::Shape;
 use lane_rings::Near;

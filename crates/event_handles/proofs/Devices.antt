@@ -7,9 +7,9 @@ use Rattle.std.proofs.lemmas.List.FromFn.{get_or-map-range_with_len, length-map-
 use Rattle.std.proofs.lemmas.Option.{get_or_from_slice_get, slice_get_within}
 use Rattle.event_device.specs.Start.{IsMade}
 use Rattle.event_ports.specs.declared.port.Port.{Port}
-use Rattle.event_recorder.specs.Control.{control_of}
-use Rattle.event_recorder.specs.Device.{ControlSite, Device, IsDevice, IsPortOf, PortSite, control_site, number_of, port_site, scheduler_of, scheduler_site, site_of}
-use Rattle.event_recorder.specs.declared.control.Control.{Control}
+use Rattle.event_device.specs.Control.{control_of}
+use Rattle.event_device.specs.Device.{ControlSite, Device, IsDevice, IsPortOf, PortSite, control_site, number_of, port_site, scheduler_of, scheduler_site, site_of}
+use Rattle.event_device.specs.declared.control.Control.{Control}
 use Rattle.event_scheduler.specs.Scheduler.{Serves, Sight, sight_of}
 use Rattle.event_scheduler.specs.declared.scheduler.Scheduler.{Scheduler}
 use Rattle.evt_types.specs.Plan.{Plan}

@@ -7,7 +7,6 @@ pub mod Ones
 pub mod Places
 pub mod Refusals
 pub mod Rests
-pub mod Sites
 pub mod Stops
 pub mod Sweeps
 pub mod Writes

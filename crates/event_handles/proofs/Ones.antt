@@ -6,12 +6,12 @@ use Rattle.std.specs.declared.alloc.AllocError.{AllocError}
 use Rattle.std.proofs.lemmas.List.{length-set}
 use Rattle.event_answers.specs.declared.answer.Swept.{Swept}
 use Rattle.event_ports.specs.declared.port.Port.{Port}
-use Rattle.event_recorder.specs.Control.{control_of}
-use Rattle.event_recorder.specs.Device.{IsDevice, IsPortOf, SchedulerSite, control_site, number_of, scheduler_of, scheduler_site}
-use Rattle.event_recorder.specs.Ports.{DifferInNumber}
-use Rattle.event_recorder.specs.Recorder.{Recorded}
-use Rattle.event_recorder.specs.Stop.{AreOf}
-use Rattle.event_recorder.specs.declared.control.Control.{Control}
+use Rattle.event_device.specs.Control.{control_of}
+use Rattle.event_device.specs.Device.{IsDevice, IsPortOf, SchedulerSite, control_site, number_of, scheduler_of, scheduler_site}
+use Rattle.event_device.specs.Ports.{DifferInNumber}
+use Rattle.event_device.specs.Recorder.{Recorded}
+use Rattle.event_device.specs.Stop.{AreOf}
+use Rattle.event_device.specs.declared.control.Control.{Control}
 use Rattle.event_scheduler.specs.Scheduler.{Serves}
 use Rattle.event_scheduler.specs.Swept.{Sweeps}
 use Rattle.event_handles.specs.Config.{kinds_in}

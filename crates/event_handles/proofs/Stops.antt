@@ -4,10 +4,10 @@ use Rattle.std.specs.Prelude.{Option, Contains, IsSome, slice_get}
 use Rattle.std.proofs.lemmas.List.{length-map, map-append}
 use Rattle.std.proofs.lemmas.List.Elements.{All-map, All-same}
 use Rattle.event_ports.specs.declared.port.Port.{Port}
-use Rattle.event_recorder.specs.Device.{number_of}
-use Rattle.event_recorder.specs.Ports.{IsAbsent}
-use Rattle.event_recorder.specs.Recorder.{Recorded}
-use Rattle.event_recorder.specs.declared.control.Control.{Control}
+use Rattle.event_device.specs.Device.{number_of}
+use Rattle.event_device.specs.Ports.{IsAbsent}
+use Rattle.event_device.specs.Recorder.{Recorded}
+use Rattle.event_device.specs.declared.control.Control.{Control}
 use Rattle.event_handles.specs.Parts.{IsOne, Parts}
 use Rattle.event_handles.specs.Stop.{AreHome, IsIncomplete}
 use Rattle.event_handles.proofs.Places.{in_all}

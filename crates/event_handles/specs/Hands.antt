@@ -3,9 +3,9 @@ use Rattle.std.specs.Prelude.{ℕ, ℤ, pos, ◌≡◌, ◌≢◌, ◌+◌, ◌�
 use Rattle.std.specs.Prelude.Option.{Some, None}
 use Rattle.event_answers.specs.declared.answer.Swept.{Swept}
 use Rattle.event_ports.specs.declared.port.Port.{Port}
-use Rattle.event_recorder.specs.Control.{control_of, was_shut}
-use Rattle.event_recorder.specs.Device.{IsPortOf, control_site, number_of}
-use Rattle.event_recorder.specs.declared.control.Control.{Control}
+use Rattle.event_device.specs.Control.{control_of, was_shut}
+use Rattle.event_device.specs.Device.{IsPortOf, control_site, number_of}
+use Rattle.event_device.specs.declared.control.Control.{Control}
 use Rattle.event_scheduler.specs.Swept.{Sweeps}
 use Rattle.event_handles.specs.Hub.{Changes, parts_of}
 use Rattle.event_handles.specs.Numbers.{busy, no_device, no_memory}

@@ -2,10 +2,10 @@
 use Rattle.std.specs.Prelude.{ℕ, ◌≡◌, ◌≤◌, List, length, slice_get, Option}
 use Rattle.std.specs.Prelude.Option.{Some}
 use Rattle.event_ports.specs.declared.port.Port.{Port}
-use Rattle.event_recorder.specs.Control.{control_of}
-use Rattle.event_recorder.specs.Device.{Device, IsDevice, IsPortOf, SchedulerSite, control_site, number_of, scheduler_of, scheduler_site}
-use Rattle.event_recorder.specs.Recorder.{Recorded}
-use Rattle.event_recorder.specs.declared.control.Control.{Control}
+use Rattle.event_device.specs.Control.{control_of}
+use Rattle.event_device.specs.Device.{Device, IsDevice, IsPortOf, SchedulerSite, control_site, number_of, scheduler_of, scheduler_site}
+use Rattle.event_device.specs.Recorder.{Recorded}
+use Rattle.event_device.specs.declared.control.Control.{Control}
 use Rattle.event_scheduler.specs.Scheduler.{Serves}
 use Rattle.evt_types.specs.Plan.{Plan, bound_of, lanes_of}
 use Rattle.evt_types.specs.declared.event.Kind.{Kind}

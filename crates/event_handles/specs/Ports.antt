@@ -12,7 +12,7 @@ use Rattle.event_ports.specs.Ports.{Bursts, StopsAt, account_of, counts_of, hand
 use Rattle.event_ports.specs.declared.counts.PortCounts.{PortCounts}
 use Rattle.event_ports.specs.declared.lane.Lane.TheVariants.{Own}
 use Rattle.event_ports.specs.declared.port.Port.{Port}
-use Rattle.event_recorder.specs.Device.{site_of}
+use Rattle.event_device.specs.Device.{site_of}
 use Rattle.evt_types.specs.declared.event.Delivery.{Delivery}
 use Rattle.evt_types.specs.declared.event.Event.{Event}
 use Rattle.evt_types.specs.declared.event.Op.TheVariants as ops

@@ -8,9 +8,9 @@ use Rattle.event_ports.specs.Counts.{no_counts}
 use Rattle.event_ports.specs.Lanes.{IsEmptyHand}
 use Rattle.event_ports.specs.Ports.{account_of, counts_of, hand, pocket_of}
 use Rattle.event_ports.specs.declared.port.Port.{Port}
-use Rattle.event_recorder.specs.Control.{control_of, was_shut}
-use Rattle.event_recorder.specs.Device.{IsDevice, control_site, port_site, scheduler_of, scheduler_site, site_of}
-use Rattle.event_recorder.specs.declared.control.Control.{Control}
+use Rattle.event_device.specs.Control.{control_of, was_shut}
+use Rattle.event_device.specs.Device.{IsDevice, control_site, port_site, scheduler_of, scheduler_site, site_of}
+use Rattle.event_device.specs.declared.control.Control.{Control}
 use Rattle.event_scheduler.specs.Scheduler.{Serves}
 use Rattle.event_handles.specs.Config.{early_fault, fault_in, kinds_in, late_fault, plan_of_config}
 use Rattle.event_handles.specs.Hub.{parts_of}

@@ -2,8 +2,8 @@
 use Rattle.std.specs.Prelude.{ℤ, pos, ◌≡◌, ◌⊎◌, List, map, Contains, Option}
 use Rattle.std.specs.Prelude.Option.{Some, None}
 use Rattle.event_ports.specs.declared.port.Port.{Port}
-use Rattle.event_recorder.specs.Stop.{IsReport}
-use Rattle.event_recorder.specs.declared.control.Control.{Control}
+use Rattle.event_device.specs.Stop.{IsReport}
+use Rattle.event_device.specs.declared.control.Control.{Control}
 use Rattle.event_handles.specs.Hub.{Changes, parts_of}
 use Rattle.event_handles.specs.Logs.{steps_logged}
 use Rattle.event_handles.specs.Numbers.{busy, no_device, no_memory}

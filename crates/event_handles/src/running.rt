@@ -27,7 +27,7 @@ pub(crate) struct Running {
 
 impl Running {
     ghost use Rattle.std.specs.Prelude.{◌⊎◌, pos, IsSome};
-    ghost use Rattle.event_recorder.specs.Device.{IsPortOf};
+    ghost use Rattle.event_device.specs.Device.{IsPortOf};
     ghost use Rattle.event_handles.specs.Hands.{ComesBack, IsThere, MayLeave, MaySweep};
     ghost use Rattle.event_handles.specs.Hub.{parts_of};
     ghost use Rattle.event_handles.specs.Parts.{device_of};

@@ -2,10 +2,10 @@
 use Rattle.std.proofs.Common.{◌≡◌, ℕ, ◌<◌, List, Option, Some, None, Err, length, refl, sym, ap, subst, ◌∙◌}
 use Rattle.std.proofs.lemmas.Bool.{lt-ltb}
 use Rattle.play_documents.specs.Document.{IsNamedDoc, document_of}
-use Rattle.play_command.specs.Input.{IsInputFault}
+use Rattle.command_line.specs.Input.{IsInputFault}
 use Rattle.pipeline_app.specs.Play.{IsEarlyFault}
-use Rattle.play_command.specs.declared.fault.AppFault.{AppFault}
-use Rattle.play_command.specs.declared.fault.AppFault.TheVariants.{Read, Write, Document, Memory, NoSeat, Strayed}
+use Rattle.command_line.specs.declared.fault.AppFault.{AppFault}
+use Rattle.command_line.specs.declared.fault.AppFault.TheVariants.{Read, Write, Document, Memory, NoSeat, Strayed}
 use Rattle.play_documents.specs.declared.fault.DocFault.{DocFault}
 use Rattle.play_documents.specs.declared.fault.DocFault.TheVariants.{TooLong}
 use Rattle.play_documents.specs.declared.document.TheConstants.{MAX_INPUT}

@@ -10,13 +10,13 @@ use Rattle.lists.proofs.Lists.{All-slice_get}
 use Rattle.event_answers.specs.declared.answer.StopFault.{StopFault}
 use Rattle.event_answers.specs.declared.answer.StopFault.TheVariants.{Missing}
 use Rattle.event_ports.specs.declared.port.Port.{Port}
-use Rattle.event_recorder.specs.Control.{control_of}
-use Rattle.event_recorder.specs.Device.{Device, IsPortOf, PortSite, SchedulerSite, control_site, number_of, port_site, site_of}
-use Rattle.event_recorder.specs.Ports.{DifferInNumber, IsAbsent, IsThere, Refuses}
-use Rattle.event_recorder.specs.Stop.{AreOf}
-use Rattle.event_recorder.specs.declared.control.Control.{Control}
+use Rattle.event_device.specs.Control.{control_of}
+use Rattle.event_device.specs.Device.{Device, IsPortOf, PortSite, SchedulerSite, control_site, number_of, port_site, site_of}
+use Rattle.event_device.specs.Ports.{DifferInNumber, IsAbsent, IsThere, Refuses}
+use Rattle.event_device.specs.Stop.{AreOf}
+use Rattle.event_device.specs.declared.control.Control.{Control}
 use Rattle.evt_types.specs.Plan.{Plan}
-use Rattle.event_recorder.specs.Recorder.{Recorded}
+use Rattle.event_device.specs.Recorder.{Recorded}
 use Rattle.evt_types.specs.declared.draft.QueueDraft.{QueueDraft}
 use Rattle.evt_types.specs.declared.step.Source.TheVariants.{New, Of}
 use Rattle.evt_types.specs.declared.step.Step.{Step}

@@ -1,3 +1,4 @@
 pub mod Calls
 pub mod Rig
 pub mod Play
+pub mod Runs

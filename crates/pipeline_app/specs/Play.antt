@@ -4,15 +4,15 @@ use Rattle.std.specs.declared.alloc.Global.{Global}
 use Rattle.std.specs.declared.vec.Vec.{Vec}
 use Rattle.std.specs.Io.KnownBytes.{Appends, Keeps}
 use Rattle.event_answers.specs.declared.report.Report.{Report}
-use Rattle.event_recorder.specs.Control.{control_of, was_shut}
-use Rattle.event_recorder.specs.Device.{Device, control_site}
-use Rattle.event_recorder.specs.Stop.{IsReport, steps_in}
-use Rattle.event_recorder.specs.declared.control.Control.{Control}
+use Rattle.event_device.specs.Control.{control_of, was_shut}
+use Rattle.event_device.specs.Device.{Device, control_site}
+use Rattle.event_device.specs.Stop.{IsReport, steps_in}
+use Rattle.event_device.specs.declared.control.Control.{Control}
 use Rattle.evt_types.specs.declared.step.Step.{Step}
 use Rattle.evt_types.specs.Plan.{Plan}
-use Rattle.play_command.specs.Output.{AppendsPrefix}
-use Rattle.play_command.specs.declared.fault.AppFault.{AppFault}
-use Rattle.play_command.specs.declared.fault.AppFault.TheVariants as app
+use Rattle.command_line.specs.Output.{AppendsPrefix}
+use Rattle.command_line.specs.declared.fault.AppFault.{AppFault}
+use Rattle.command_line.specs.declared.fault.AppFault.TheVariants as app
 use Rattle.play_documents.specs.Command.{Line}
 use Rattle.play_documents.specs.Document.{Planned, IsNamedDoc, document_of}
 use Rattle.play_text.specs.Text.{text_of}

@@ -9,9 +9,9 @@ use Rattle.event_answers.specs.declared.answer.Swept.{Swept}
 use Rattle.event_ports.specs.Lanes.{IsEmptyHand}
 use Rattle.event_ports.specs.Ports.{account_of, hand, pocket_of}
 use Rattle.event_ports.specs.declared.port.Port.{Port}
-use Rattle.event_recorder.specs.Control.{control_of, was_shut}
-use Rattle.event_recorder.specs.Device.{Device, IsDevice, control_site, port_site, scheduler_of, scheduler_site, site_of}
-use Rattle.event_recorder.specs.Recorder.{Recorded}
+use Rattle.event_device.specs.Control.{control_of, was_shut}
+use Rattle.event_device.specs.Device.{Device, IsDevice, control_site, port_site, scheduler_of, scheduler_site, site_of}
+use Rattle.event_device.specs.Recorder.{Recorded}
 use Rattle.event_scheduler.specs.Scheduler.{Serves}
 use Rattle.event_scheduler.specs.Swept.{Sweeps}
 use Rattle.evt_types.specs.Plan.{Plan}

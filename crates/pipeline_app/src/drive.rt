@@ -2,11 +2,11 @@
 
 ghost use Rattle.std.specs.Prelude.{IfOk, IfErr, List, ℕ, Option, OnOk, map, string_bytes, Some};
 ghost use Rattle.play_documents.specs.Command.{AllPortsThere, line_of};
-ghost use Rattle.play_command.specs.Input.{HasRead};
+ghost use Rattle.command_line.specs.Input.{HasRead};
 ghost use Rattle.pipeline_app.specs.Play.{IsRun, HasRun, WritesRun, AfterFault, IsEarlyFault, IsFaultOf};
 
 use crate::rig::Rig;
-use play_command::{AppFault, read_all, write_text};
+use command_line::{AppFault, read_all, write_text};
 use play_documents::{Document, read_document};
 use play_text::text_of;
 use std::alloc::Global;

@@ -5,7 +5,9 @@
 mod drive;
 mod obey;
 mod rig;
+mod run;
 
+pub use command_line::{AppFault, Choice, choice, fault_line};
 pub use drive::play;
-pub use pipeline_runs::{Gate, OpenGate, run_trace};
-pub use play_command::{AppFault, Choice, choice, fault_line};
+pub use pipeline_threads::{Gate, OpenGate};
+pub use run::{pipeline_text, run_trace};

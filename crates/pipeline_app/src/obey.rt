@@ -1,7 +1,7 @@
 //! The commands of a script are carried out on a device.
 
 ghost use Rattle.std.specs.Prelude.{◌≡◌, ◌<◌, All, IfOk, length, map};
-ghost use Rattle.event_recorder.specs.Control.{control_of};
+ghost use Rattle.event_device.specs.Control.{control_of};
 ghost use Rattle.play_documents.specs.Command.{IsPortThere, fields_of, line_of};
 ghost use Rattle.pipeline_app.specs.Rig.{ArePlayed, IsAnswerTo, PortDequeues, PortEnqueues, outcome_of, scene_of};
 

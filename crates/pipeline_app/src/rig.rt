@@ -1,14 +1,14 @@
 //! A device that one thread plays.
 
 ghost use Rattle.std.specs.Prelude.{ℕ, ◌<◌, IfErr, IfOk, List, Option, length};
-ghost use Rattle.event_recorder.specs.Ports.{IsThere};
-ghost use Rattle.event_recorder.specs.Stop.{AreOf, IsReport, steps_in};
+ghost use Rattle.event_device.specs.Ports.{IsThere};
+ghost use Rattle.event_device.specs.Stop.{AreOf, IsReport, steps_in};
 ghost use Rattle.pipeline_app.specs.Play.{IsEarlyFault};
 ghost use Rattle.pipeline_app.specs.Rig.{IsNew};
 
+use command_line::AppFault;
 use event_device::{Control, DeviceFault, Port, Recorder, Report, StopFault, device};
 use evt_types::Shape;
-use play_command::AppFault;
 use std::alloc::{AllocError, Global};
 
 /// A device: its scheduler with the log of all sweeps, its ports by number, and its control.

@@ -3,29 +3,7 @@ use Rattle.std.proofs.Common.{◌≡◌, ℕ, [], Some, ap, ◌∙◌}
 use Rattle.credit_pool.specs.Accounts.{Stays}
 use Rattle.event_ports.specs.Ports.{Place, account_of, links, place_of}
 use Rattle.event_ports.specs.declared.port.Port.{Port}
-use Rattle.event_recorder.specs.Device.{PortSite, site_of}
-
--- the site of a port in this place with so many parts of the credits
-abbrev site_at : Place → ℕ → PortSite
-site_at w parts =
-    record {
-      pool = w.pool;
-      claims = w.lanes.flows.claims;
-      lane = Some w.lanes.own;
-      links = w.lanes.flows.links;
-      number = w.number;
-      depth = w.lanes.depth;
-      queues = w.queues;
-      implicit = w.implicit;
-      quantum = w.quantum;
-      threshold = w.threshold;
-      credit_parts = parts;
-      claim_parts = w.lanes.flows.parts;
-    }
-
--- a call keeps the site
-pub same_site : (p q : Port) → place_of q ≡ place_of p → Stays (account_of p) (account_of q) → site_of q ≡ site_of p
-same_site p q place stays = ap (λ w. site_at w (account_of q).parts) place ∙ ap (site_at (place_of p)) stays.parts
+use Rattle.event_device.specs.Device.{PortSite, site_of}
 
 -- a port with the same site has the same links
 pub same_links : (p q : Port) → site_of q ≡ site_of p → links p ≡ [] → links q ≡ []

@@ -6,10 +6,10 @@ use Rattle.std.proofs.lemmas.List.FromFn.{get_or-map-range_with_len, length-map-
 use Rattle.std.proofs.lemmas.Option.{slice_get-get_or}
 use Rattle.event_ports.specs.Ports.{links}
 use Rattle.event_ports.specs.declared.port.Port.{Port}
-use Rattle.event_recorder.specs.Control.{control_of}
-use Rattle.event_recorder.specs.Device.{Device, IsPortOf, PortSite, SchedulerSite, number_of, port_site, scheduler_of, site_of}
-use Rattle.event_recorder.specs.Ports.{DifferInNumber, IsThere}
-use Rattle.event_recorder.specs.Stop.{AreOf}
+use Rattle.event_device.specs.Control.{control_of}
+use Rattle.event_device.specs.Device.{Device, IsPortOf, PortSite, SchedulerSite, number_of, port_site, scheduler_of, site_of}
+use Rattle.event_device.specs.Ports.{DifferInNumber, IsThere}
+use Rattle.event_device.specs.Stop.{AreOf}
 use Rattle.evt_types.specs.Plan.{Plan, flow_lanes, flow_links, lanes_of, linked_places}
 use Rattle.evt_types.specs.declared.draft.Serving.TheVariants.{Ports}
 use Rattle.pipeline_threads.specs.Run.{IsEngineOf}

@@ -6,8 +6,8 @@ use Rattle.std.proofs.lemmas.Bool.{cases_lt}
 use Rattle.event_ports.specs.Ports.{hand, links}
 use Rattle.event_ports.specs.declared.lane.Lane.TheVariants.{Own}
 use Rattle.event_ports.specs.declared.port.Port.{Port}
-use Rattle.event_recorder.specs.Device.{Device, number_of, port_site, site_of}
-use Rattle.event_recorder.specs.Stop.{AreStints}
+use Rattle.event_device.specs.Device.{Device, number_of, port_site, site_of}
+use Rattle.event_device.specs.Stop.{AreStints}
 use Rattle.flow_claims.specs.declared.seating.Past.{Past}
 use Rattle.evt_types.specs.Operation.{is_new_reply}
 use Rattle.evt_types.specs.Plan.{Plan, flow_lanes, lanes_of}

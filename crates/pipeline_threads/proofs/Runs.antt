@@ -4,9 +4,9 @@ use Rattle.std.proofs.lemmas.List.{map-append}
 use Rattle.std.proofs.lemmas.List.Elements.{All-head}
 use Rattle.lists.proofs.Lists.{All-back, All-front}
 use Rattle.event_ports.specs.declared.port.Port.{Port}
-use Rattle.event_recorder.specs.Control.{control_of}
-use Rattle.event_recorder.specs.Device.{scheduler_of, site_of}
-use Rattle.event_recorder.specs.Recorder.{Recorded}
+use Rattle.event_device.specs.Control.{control_of}
+use Rattle.event_device.specs.Device.{scheduler_of, site_of}
+use Rattle.event_device.specs.Recorder.{Recorded}
 use Rattle.pipeline_laws.specs.declared.stage.Action.{Action}
 use Rattle.pipeline_laws.specs.declared.stage.Entry.{Entry}
 use Rattle.pipeline_threads.specs.Ports.{IsIdle, ReturnsWorker}

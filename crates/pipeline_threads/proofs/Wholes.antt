@@ -1,7 +1,7 @@
 -- A whole run: from the threads that were joined to the log that the stop hands out.
 use Rattle.std.proofs.Common.{◌≡◌, ℕ, ◌+◌, ◌<◌, List, Vec, Global, length, sym, ap, subst, ◌∙◌}
 use Rattle.event_answers.specs.declared.report.Report.{Report}
-use Rattle.event_recorder.specs.Stop.{AreOf, AreStints, IsReport, steps_in}
+use Rattle.event_device.specs.Stop.{AreOf, AreStints, IsReport, steps_in}
 use Rattle.evt_types.specs.Plan.{Plan, flow_lanes}
 use Rattle.evt_types.specs.declared.step.Step.{Step}
 use Rattle.pipeline_laws.proofs.Promised.{promised_first, promised_worked}

@@ -5,7 +5,7 @@ use Rattle.event_ports.specs.Ports.{hand, links}
 use Rattle.event_ports.specs.declared.lane.Lane.{Lane}
 use Rattle.event_ports.specs.declared.lane.Lane.TheVariants.{Own}
 use Rattle.event_ports.specs.declared.port.Port.{Port}
-use Rattle.event_recorder.specs.Device.{site_of}
+use Rattle.event_device.specs.Device.{site_of}
 use Rattle.evt_types.specs.Operation.{is_new_reply}
 use Rattle.evt_types.specs.declared.event.Delivery.{Delivery}
 use Rattle.evt_types.specs.declared.event.Reply.{Reply}

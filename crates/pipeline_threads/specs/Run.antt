@@ -1,9 +1,9 @@
 -- A device that threads run, and what is known of it once they are joined.
 use Rattle.std.specs.Prelude.{◌≡◌, ◌<◌, List, [], ◌∷◌, length, map, All}
 use Rattle.event_ports.specs.declared.port.Port.{Port}
-use Rattle.event_recorder.specs.Control.{control_of}
-use Rattle.event_recorder.specs.Device.{Device, IsDevice, control_site, port_site, scheduler_of, scheduler_site, site_of}
-use Rattle.event_recorder.specs.Recorder.{Recorded}
+use Rattle.event_device.specs.Control.{control_of}
+use Rattle.event_device.specs.Device.{Device, IsDevice, control_site, port_site, scheduler_of, scheduler_site, site_of}
+use Rattle.event_device.specs.Recorder.{Recorded}
 use Rattle.evt_types.specs.Plan.{Plan}
 use Rattle.evt_types.specs.declared.draft.Serving.TheVariants.{Ports}
 use Rattle.evt_types.specs.declared.step.Step.{Step}

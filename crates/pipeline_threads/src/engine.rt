@@ -1,8 +1,8 @@
 //! A device whose ports are handed to threads.
 
 ghost use Rattle.std.specs.Prelude.{◌≡◌, IfOk, OnOk, length, All};
-ghost use Rattle.event_recorder.specs.Device.{scheduler_of};
-ghost use Rattle.event_recorder.specs.Stop.{IsReport};
+ghost use Rattle.event_device.specs.Device.{scheduler_of};
+ghost use Rattle.event_device.specs.Stop.{IsReport};
 ghost use Rattle.transcripts.specs.Replies.{new_count};
 ghost use Rattle.transcripts.specs.Transcript as transcripts;
 ghost use Rattle.pipeline_threads.specs.Run.{IsEngineOf, IsReady};

@@ -3,7 +3,7 @@
 ghost use Rattle.std.specs.Prelude.{◌≡◌, ◌≤◌, [], true, All, IsTrue, length, MatchOption};
 ghost use Rattle.event_ports.specs.Lanes.{reply_of};
 ghost use Rattle.event_ports.specs.Ports.{hand};
-ghost use Rattle.event_recorder.specs.Device.{site_of};
+ghost use Rattle.event_device.specs.Device.{site_of};
 ghost use Rattle.evt_types.specs.Operation.{is_answer_op};
 ghost use Rattle.pipeline_laws.specs.Pipeline.{IsProper};
 ghost use Rattle.pipeline_laws.specs.Promises.{said_to};

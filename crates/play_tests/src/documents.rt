@@ -1,7 +1,7 @@
 //! Documents with the texts of their runs, and the play of a document over memory.
 
+use command_line::AppFault;
 use pipeline_app::play;
-use play_command::AppFault;
 use play_documents::DocFault;
 use std::alloc::Global;
 use std::process::Abort;

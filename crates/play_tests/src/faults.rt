@@ -1,7 +1,7 @@
 //! The lines and statuses of the faults that no short document shows.
 
 use arrayvec::ArrayString;
-use play_command::{AppFault, fault_line};
+use command_line::{AppFault, fault_line};
 use play_documents::DocFault;
 
 /// Faults with their lines and statuses.

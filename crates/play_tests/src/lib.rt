@@ -5,8 +5,6 @@
 #[cfg(test)]
 mod causes;
 #[cfg(test)]
-mod command_line;
-#[cfg(test)]
 mod cuts;
 #[cfg(test)]
 mod documents;
@@ -18,3 +16,5 @@ mod lengths;
 mod misuse;
 #[cfg(test)]
 mod streams;
+#[cfg(test)]
+mod words;

@@ -1,8 +1,8 @@
 //! Readers and writers that give and take little, and fail.
 
 use crate::documents::{FIRST_EVENT, FIRST_EVENT_TEXT};
+use command_line::{AppFault, read_all, write_text};
 use pipeline_app::play;
-use play_command::{AppFault, read_all, write_text};
 use play_documents::DocFault;
 use std::alloc::Global;
 use std::io::{Error, ErrorKind, Read, Result as IoResult, Write};

@@ -3,7 +3,7 @@
 ghost use Rattle.std.specs.Prelude.{◌≡◌, if◌then◌else◌};
 ghost use Rattle.run_bench.specs.Fault.{is_of_words};
 
-use pipeline_runs::AppFault;
+use pipeline_app::AppFault;
 use play_documents::ReadFault;
 use std::alloc::{AllocError, AllocFailed};
 

@@ -5,7 +5,7 @@ ghost use Rattle.run_bench.specs.Run.{HasLength};
 
 use crate::fault::BenchFault;
 use crate::trace::entries;
-use pipeline_runs::{Gate, pipeline_text};
+use pipeline_app::{Gate, pipeline_text};
 use run_documents::{Pipeline, read_pipeline};
 use std::alloc::Global;
 use std::sync::Wait;

@@ -1,6 +1,6 @@
 //! How long the threads of a run take.
 
-use pipeline_runs::Gate;
+use pipeline_app::Gate;
 use std::sync::atomic::{AtomicU64, Ordering};
 use std::time::{Clock, Instant};
 

@@ -8,8 +8,8 @@ use Rattle.pipeline_laws.specs.Worked.{IsLogOf, new_event}
 use Rattle.run_tests.specs.Logs.{log_with}
 use Rattle.transcripts.proofs.Whole.{Lawful-steps}
 use Rattle.transcripts.specs.Transcript.{accepted, out, answers, unanswered, ended, extras, sent, forwards, hand, waiting, taken, sources, kept, open_of, inside}
-use Rattle.worked_logs.proofs.Sound.{StepsLawful-test}
-use Rattle.worked_logs.specs.Check.{is_lawful}
+use Rattle.worked_examples.proofs.Sound.{StepsLawful-test}
+use Rattle.worked_examples.specs.Check.{is_lawful}
 
 -- the fact on the flow adds nothing
 pub entry_is : (fits : 7 < 2 ^ 20) → new_event (record { flow = 7; priority = 128; payload = 1; flow_fits = fits }) ≡ new_event (entry_with 1)

@@ -1,5 +1,5 @@
 use Rattle.std.proofs.Common.{◌≡◌}
-use Rattle.event_recorder.specs.Device.{site_of}
+use Rattle.event_device.specs.Device.{site_of}
 use Rattle.device_rigs.proofs.runs.add_extras.Given as goal
 
 abbrev pub invariant-loop-place : goal.invariant-loop-place

@@ -1,5 +1,5 @@
 use Rattle.std.proofs.Common.{ap, arith, sym, ◌∙◌}
-use Rattle.event_recorder.specs.Device.{site_of}
+use Rattle.event_device.specs.Device.{site_of}
 use Rattle.device_rigs.proofs.Whole.{map_by_place}
 use Rattle.device_rigs.proofs.runs.serve_all.Goals as goal
 

@@ -1,7 +1,7 @@
 use Rattle.std.proofs.Common.{subst}
 use Rattle.std.specs.Prelude.{map}
-use Rattle.event_recorder.specs.Control.{control_of}
-use Rattle.event_recorder.specs.Device.{scheduler_of, site_of}
+use Rattle.event_device.specs.Control.{control_of}
+use Rattle.event_device.specs.Device.{scheduler_of, site_of}
 use Rattle.device_rigs.specs.Whole.{IsWhole}
 use Rattle.device_rigs.proofs.Whole.{both_are_of, second_is_of}
 use Rattle.device_tests.proofs.stops.make_parts.Goals as goal

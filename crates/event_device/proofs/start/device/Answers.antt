@@ -2,7 +2,7 @@
 use Rattle.std.proofs.Common.{◌∙◌, ap, map, refl}
 use Rattle.std.specs.Arc.{arc_value}
 use Rattle.evt_types.specs.Plan.{Plan}
-use Rattle.event_recorder.specs.Device.{scheduler_of}
+use Rattle.event_device.specs.Device.{scheduler_of}
 use Rattle.event_scheduler.specs.Scheduler.{Sight}
 use Rattle.lane_rings.specs.Identity.{near_id}
 use Rattle.event_device.specs.Prepared.{device_in}

@@ -4,7 +4,7 @@ use Rattle.std.specs.Arc.{arc_value}
 use Rattle.credit_pool.specs.declared.account.Account.{Account}
 use Rattle.evt_types.specs.Plan.{Plan}
 use Rattle.evt_types.proofs.FlowLanes.{lanes_are}
-use Rattle.event_recorder.specs.Device.{Device, IsDevice}
+use Rattle.event_device.specs.Device.{Device, IsDevice}
 use Rattle.event_device.specs.Prepared.{AreNewPorts}
 use Rattle.event_device.proofs.Credits.{part_unused, rest_unused}
 use Rattle.event_device.proofs.Devices.{all_lanes, by_nears, device_fits}

@@ -1,4 +1,4 @@
-use Rattle.play_command.proofs.Reading.{reads_fault, reads_whole}
+use Rattle.command_line.proofs.Reading.{reads_fault, reads_whole}
 use Rattle.pipeline_app.proofs.drive.play.Goals as goal
 
 pub returns-in_err-text-clause-reads : goal.returns-in_err-text-clause-reads

@@ -1,5 +1,5 @@
 use Rattle.std.proofs.Common.{rules}
-use Rattle.play_command.proofs.Reading.{reads_fault, reads_whole}
+use Rattle.command_line.proofs.Reading.{reads_fault, reads_whole}
 use Rattle.pipeline_app.proofs.EarlyFaults.{IsEarlyFault-input}
 use Rattle.pipeline_app.proofs.drive.played_text.Goals as goal
 

@@ -1,6 +1,6 @@
 use Rattle.std.proofs.Common.{Result, Ok, Err, ◌≡◌, ℕ, List, All, refl, sym, ap, subst, ◌∙◌, Vec, Global}
 use Rattle.std.specs.Prelude.{IfErr, IsErrAnd}
-use Rattle.play_command.specs.declared.fault.AppFault.{AppFault}
+use Rattle.command_line.specs.declared.fault.AppFault.{AppFault}
 use Rattle.event_answers.specs.declared.report.Report.{Report}
 use Rattle.evt_types.specs.declared.step.Step.{Step}
 use Rattle.evt_types.specs.declared.draft.QueueDraft.{QueueDraft}

@@ -1,5 +1,5 @@
 use Rattle.std.proofs.Common.{◌≡◌}
-use Rattle.event_recorder.specs.Device.{scheduler_of}
+use Rattle.event_device.specs.Device.{scheduler_of}
 use Rattle.pipeline_threads.proofs.engine.sweep_all.Given as goal
 
 abbrev pub invariant-loop : goal.invariant-loop

@@ -1,7 +1,7 @@
 use Rattle.std.proofs.Common.{◌≡◌}
 use Rattle.event_ports.specs.Lanes.{Rests}
 use Rattle.event_ports.specs.Ports.{hand}
-use Rattle.event_recorder.specs.Device.{site_of}
+use Rattle.event_device.specs.Device.{site_of}
 use Rattle.pipeline_threads.proofs.submit.submit.Given as goal
 
 abbrev pub invariant-loop : goal.invariant-loop

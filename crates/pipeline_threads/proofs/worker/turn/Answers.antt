@@ -1,7 +1,7 @@
 use Rattle.std.proofs.Common.{◌≡◌, ◌∙◌, Bool, true, false, refl}
-use Rattle.event_recorder.specs.Device.{site_of}
+use Rattle.event_device.specs.Device.{site_of}
 use Rattle.pipeline_threads.proofs.Answering.{answered_even, due_worked, even_worked, none_even, rests_even}
-use Rattle.pipeline_threads.proofs.Calls.{same_site}
+use Rattle.event_device.proofs.Keeping.{same_site}
 use Rattle.pipeline_threads.proofs.worker.turn.Goals as goal
 
 -- either way

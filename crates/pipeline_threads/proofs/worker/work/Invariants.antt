@@ -1,5 +1,5 @@
 use Rattle.std.proofs.Common.{◌≡◌}
-use Rattle.event_recorder.specs.Device.{site_of}
+use Rattle.event_device.specs.Device.{site_of}
 use Rattle.pipeline_threads.specs.Ports.{IsEven}
 use Rattle.pipeline_threads.proofs.worker.work.Given as goal
 

@@ -1,5 +1,5 @@
 use Rattle.std.proofs.Common.{rules, ◌≡◌, [], subst, sym}
-use Rattle.event_recorder.specs.Stop.{AreOf}
+use Rattle.event_device.specs.Stop.{AreOf}
 use Rattle.device_rigs.proofs.Whole.{none_are_of}
 use Rattle.device_rigs.proofs.rig.Rig.miss_ports.Goals as goal
 

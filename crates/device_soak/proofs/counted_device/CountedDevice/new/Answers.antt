@@ -1,6 +1,6 @@
 use Rattle.std.proofs.Common.{length, map, sym, ap, ◌∙◌}
 use Rattle.std.specs.List.{range_with_len}
-use Rattle.event_recorder.specs.Device.{port_site, scheduler_of}
+use Rattle.event_device.specs.Device.{port_site, scheduler_of}
 use Rattle.device_rigs.proofs.Whole.{whole_of}
 use Rattle.device_soak.proofs.counted_device.CountedDevice.new.Goals as goal
 

@@ -5,7 +5,7 @@ use Rattle.std.proofs.lemmas.Int.{ints}
 use Rattle.std.proofs.lemmas.List.{length-take, length-take-le, take_min}
 use Rattle.event_handles.specs.Events.{IsRead}
 use Rattle.event_handles.specs.declared.event.CEvent.{CEvent}
-use Rattle.event_handles.proofs.Sites.{same_site}
+use Rattle.event_device.proofs.Keeping.{same_site}
 use Rattle.event_handles.proofs.port.Seat.enqueue.Goals as goal
 
 pub returns : goal.returns

@@ -1,6 +1,6 @@
 use Rattle.std.proofs.Common.{◌∙◌, Some, map, length, refl, sym, ap, subst, inr}
 use Rattle.std.proofs.lemmas.Bool.{false≢true}
-use Rattle.event_recorder.specs.Ports.{Refuses}
+use Rattle.event_device.specs.Ports.{Refuses}
 use Rattle.event_handles.specs.Hub.{parts_of}
 use Rattle.event_handles.specs.Stop.{AreHome}
 use Rattle.event_handles.proofs.Ones.{one_are_of}

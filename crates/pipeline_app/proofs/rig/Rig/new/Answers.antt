@@ -1,5 +1,5 @@
 use Rattle.std.proofs.Common.{[], sym, ap, subst, ◌∙◌}
-use Rattle.event_recorder.specs.Device.{scheduler_of}
+use Rattle.event_device.specs.Device.{scheduler_of}
 use Rattle.event_scheduler.specs.Scheduler.{Serves}
 use Rattle.pipeline_app.proofs.rig.Rig.new.Goals as goal
 

@@ -1,5 +1,5 @@
 use Rattle.std.proofs.Common.{◌≡◌, take, map}
-use Rattle.event_recorder.specs.Control.{control_of}
+use Rattle.event_device.specs.Control.{control_of}
 use Rattle.play_documents.specs.Command.{line_of}
 use Rattle.pipeline_app.specs.Rig.{ArePlayed, scene_of}
 use Rattle.pipeline_app.proofs.rig.Rig.obey_all.Given as goal

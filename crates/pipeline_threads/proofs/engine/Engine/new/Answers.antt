@@ -1,5 +1,5 @@
 use Rattle.std.proofs.Common.{length, ap, ◌∙◌, arith}
-use Rattle.event_recorder.specs.Device.{scheduler_of}
+use Rattle.event_device.specs.Device.{scheduler_of}
 use Rattle.pipeline_threads.proofs.Engines.{port_count}
 use Rattle.pipeline_threads.proofs.engine.Engine.new.Goals as goal
 

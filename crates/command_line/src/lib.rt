@@ -1,0 +1,17 @@
+//! The program's edges: the words of its command line, the document that it reads, the text that it writes, and the line of a
+//! fault.
+#![tactic(auto)]
+
+mod fault;
+mod fault_text;
+mod input;
+mod options;
+mod output;
+mod words;
+
+pub use fault::AppFault;
+pub use fault_text::fault_line;
+pub use input::read_all;
+pub use options::Choice;
+pub use output::write_text;
+pub use words::choice;

@@ -1,2 +1,0 @@
-mod Sites
-mod Stopping

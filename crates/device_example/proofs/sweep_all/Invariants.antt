@@ -1,6 +1,0 @@
-use Rattle.std.proofs.Common.{◌≡◌}
-use Rattle.event_recorder.specs.Device.{scheduler_of}
-use Rattle.device_example.proofs.sweep_all.Given as goal
-
-abbrev pub invariant-loop : goal.invariant-loop
-invariant-loop l = scheduler_of l.recorder.sight ≡ scheduler_of l.initial.recorder.sight

@@ -1,0 +1,13 @@
+use Rattle.std.proofs.Common.{refl, sym, ◌∙◌, not, true, false, ap, arith}
+use Rattle.std.proofs.lemmas.Option.{slice_get_read}
+use Rattle.event_device.proofs.Stopping.{filled_more}
+use Rattle.event_device.proofs.halt.first_lent.Goals as goal
+
+pub loop-number-preserved : goal.loop-number-preserved
+loop-number-preserved c =
+    let place = c.index-places-number.result in
+    let here = slice_get_read c.args.places.now _ c.loop-number.number place refl (omega arith) c.index-places-number.is in
+    filled_more c.args.places.now c.loop-number.number place c.loop-number.invariant here c.if-is_none.ensures
+
+pub returns : goal.returns
+returns c = λ n low. c.loop-number.invariant n (omega (arith, low, c.loop-number-test.false))

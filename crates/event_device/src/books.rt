@@ -1,0 +1,64 @@
+//! What a recorder writes down: the log, and beside it the NEWs that were turned away.
+
+ghost use Rattle.std.specs.Prelude.{◌≡◌, ◌-◌, [], min, vec_capacity, vec_len};
+ghost use Rattle.std.proofs.Common.{rules};
+ghost use Rattle.event_device.specs.Listed.{turned_all, turned_by};
+
+use event_answers::Turned;
+use evt_types::Step;
+use std::alloc::Global;
+use step_log::{Memory, StepLog};
+
+/// The NEW that a step turned away.
+fn turned_in(step: &Step) -> Option<Turned>
+    ensures { result ≡ turned_by step.now }
+{
+    match *step {
+        Step::Turned { lane, event } => Some(Turned { lane, event }),
+        _ => None,
+    }
+}
+
+/// The log of a recorder, and the NEWs that were turned away, which the log need not keep: their payloads are the program's to free.
+#[derive(Drop)]
+pub(crate) struct Books<L: StepLog> {
+    pub(crate) log: L,
+    pub(crate) turned: Vec<Turned>,
+    pub ghost turned_are: { turned.items ≡ turned_all (L.steps log) },
+}
+
+impl<L: StepLog> Books<L> {
+    ghost use Rattle.std.specs.Prelude.{◌≡◌, []};
+
+    /// Begins with this log, which has no step yet.
+    pub(crate) fn new(alloc: Global, log: L) -> Books<L>
+        requires { L.steps log ≡ [] }
+        ensures { result.log ≡ log }
+    {
+        Books {
+            log,
+            turned: Vec::new(alloc),
+        }
+    }
+}
+
+/// Its steps are the log's. Each step may be one that turns an event away, so that there is room for as many of these.
+impl<L: StepLog> StepLog for Books<L> {
+    ghost steps = { λ books. L.steps books.log };
+
+    ghost room = { λ books. min (L.room books.log) (vec_capacity books.turned - vec_len books.turned) };
+
+    ghost short = { λ books. L.short books.log };
+
+    fn push_step(&mut self, step: Step) {
+        if let Some(turned) = turned_in(&step) {
+            self.turned.push_reserved(turned);
+        }
+        self.log.push_step(step);
+    }
+
+    fn make_room(&mut self, count: usize) -> Result<(), Memory> {
+        self.turned.reserve(count)?;
+        self.log.make_room(count)
+    }
+}

@@ -1,0 +1,160 @@
+//! A device that runs.
+
+ghost use Rattle.std.specs.Prelude.{◌≡◌, ◌≤◌, Some, [], map, vec_len, vec_capacity};
+
+use crate::control::Control;
+use crate::fault::DeviceFault;
+use crate::recorder::Recorder;
+use crate::start::device;
+use event_answers::{Swept, Turned};
+use event_ports::Port;
+use evt_types::Shape;
+use flow_claims::Claims;
+use std::alloc::Global;
+use std::marker::Model;
+use std::snapshot::Snapshot;
+use std::thread::yield_now;
+use step_log::{Counted, Memory, StepLog};
+use step_tally::Tally;
+
+/// A device that runs, with all of its parts that aren't lent: its recorder, its control, and its ports, each in the place of its
+/// number. A port is lent to the thread that uses it, and comes back before the stop.
+#[derive(Drop)]
+pub struct Device<L: StepLog = Tally<Counted>> {
+    pub(crate) recorder: Recorder<L>,
+    pub(crate) control: Option<Control>,
+    /// Those of the control, which may be lent.
+    pub(crate) claims: Snapshot<Claims>,
+    pub(crate) ports: Vec<Option<Port>>,
+    pub(crate) alloc: Global,
+}
+
+impl<L: StepLog> Model for Device<L> {
+    ghost use Rattle.event_device.specs.Parts.{IsOne, Parts};
+
+    ghost Value = { Parts };
+
+    ghost view = { λ a. record { recorded = a.recorder; control = a.control; claims = a.claims.value; ports = a.ports.items } };
+
+    ghost invariant = { λ a. IsOne (record { recorded = a.recorder; control = a.control; claims = a.claims.value; ports = a.ports.items }) };
+}
+
+/// Puts all ports into their places, of which none is there yet.
+pub(crate) fn place_all(places: &mut Vec<Option<Port>>, ports: Vec<Port>)
+    requires empty { places.old.items ≡ [] }
+    requires room { vec_len ports ≤ vec_capacity places.old }
+    ensures { places.new.items ≡ map Some ports.items }
+{
+    for port in ports {
+        places.push_reserved(Some(port));
+    }
+}
+
+impl Device<Tally<Counted>> {
+    ghost use Rattle.std.specs.Prelude.{◌≡◌, IfOk, IfErr};
+    ghost use Rattle.event_device.specs.Fault.{shape_in};
+    ghost use Rattle.event_device.specs.Start.{IsFresh};
+
+    /// Makes a device of this configuration, and all of its parts are at home. Its log counts the steps by queue and by lane, and
+    /// keeps none, so that it may run for as long as it likes. After a refusal the configuration comes back.
+    pub fn new(alloc: Global, shape: Shape) -> Result<Device<Tally<Counted>>, DeviceFault>
+        ensures fresh { IfOk result (IsFresh shape) }
+        ensures back { IfErr result (λ e. shape_in e ≡ shape) }
+    {
+        match Tally::new(alloc, Counted::new()) {
+            Ok(log) => Device::with_log(alloc, log, shape),
+            Err(_) => Err(DeviceFault::Memory(shape)),
+        }
+    }
+}
+
+impl<L: StepLog> Device<L> {
+    ghost use Rattle.std.specs.Prelude.{◌≡◌, ℕ, ◌<◌, ◌^◌, [], IfOk, IfErr, IsErr};
+    ghost use Rattle.event_scheduler.specs.Swept.{Sweeps};
+    ghost use Rattle.event_device.specs.Fault.{shape_in};
+    ghost use Rattle.event_device.specs.Lent.{Keeps, SweepsAll, SweepsTimes};
+    ghost use Rattle.event_device.specs.Listed.{turned_all};
+    ghost use Rattle.event_device.specs.Parts.{device_of};
+    ghost use Rattle.event_device.specs.Start.{IsFresh};
+    ghost use Rattle.transcripts.specs.Replies.{new_count};
+    ghost use Rattle.transcripts.specs.Transcript as transcripts;
+
+    /// Makes a device of this configuration with this log, which has no step yet. All of its parts are at home. After a refusal the
+    /// configuration comes back.
+    pub fn with_log(alloc: Global, log: L, shape: Shape) -> Result<Device<L>, DeviceFault>
+        requires { L.steps log ≡ [] }
+        ensures fresh { IfOk result (IsFresh shape) }
+        ensures back { IfErr result (λ e. shape_in e ≡ shape) }
+    {
+        // To read these makes known that they are within their limits.
+        let _limits = (shape.bound(), shape.lanes());
+        let _queues = shape.queues();
+        let Ok(mut places) = Vec::with_capacity(alloc, shape.ports().len()) else {
+            return Err(DeviceFault::Memory(shape));
+        };
+        let (scheduler, ports, control) = device(alloc, shape)?;
+        place_all(&mut places, ports);
+        Ok(Device {
+            recorder: Recorder::begin_with(alloc, log, scheduler),
+            claims: Snapshot::of(&control.claims),
+            control: Some(control),
+            ports: places,
+            alloc,
+        })
+    }
+
+    /// One sweep of the scheduler. After want of memory nothing has changed.
+    pub fn sweep(&mut self) -> Result<Swept, Memory>
+        ensures sweeps { IfOk result (λ n. Sweeps n self.old.recorded.sight self.old.recorded.log self.new.recorded.sight self.new.recorded.log) }
+        ensures memory { IsErr result → self.new ≡ self.old }
+        ensures others { Keeps self.old self.new }
+        ensures device { device_of self.new ≡ device_of self.old }
+    {
+        self.recorder.sweep()
+    }
+
+    /// Sweeps until nothing is inside, at most so many times, and lets other threads run after each: how many events are inside then.
+    pub fn sweep_all(&mut self, most: u64) -> Result<usize, Memory>
+        ensures sweeps { IfOk result (λ left. SweepsAll most left self.old self.new) }
+        ensures memory { IsErr result → (count : ℕ) × SweepsTimes count self.old self.new }
+        ensures device { device_of self.new ≡ device_of self.old }
+    {
+        for _swept in 0..most {
+            self.sweep()?;
+            if self.inside() == 0 {
+                return Ok(0);
+            }
+            yield_now();
+        }
+        Ok(self.inside())
+    }
+
+    /// The log, to be read.
+    pub fn log(&self) -> &L
+        ensures { L.steps result.now ≡ self.now.recorded.log }
+    {
+        self.recorder.log()
+    }
+
+    /// The NEWs that were turned away so far, in the order in which they were taken.
+    pub fn turned(&self) -> &[Turned]
+        ensures { result.now ≡ turned_all self.now.recorded.log }
+    {
+        self.recorder.turned()
+    }
+
+    /// How many events wait, are kept or are unanswered.
+    pub fn inside(&self) -> usize
+        ensures value { result ≡ transcripts.inside self.now.recorded.sight.core.shape self.now.recorded.log }
+        ensures few { result < 2 ^ 63 }
+    {
+        self.recorder.inside()
+    }
+
+    /// How many events were accepted as new.
+    pub fn accepted_new(&self) -> u64
+        ensures { result ≡ new_count self.now.recorded.log }
+    {
+        self.recorder.accepted_new()
+    }
+}

@@ -1,0 +1,36 @@
+-- The faults of the reading and of the pipeline are faults of the run.
+use Rattle.std.proofs.Common.{◌≡◌, ℕ, ◌<◌, List, Option, Some, None, Err, Ok, length, refl, sym, ap, subst, ◌∙◌}
+use Rattle.std.proofs.lemmas.Bool.{lt-ltb}
+use Rattle.command_line.specs.Input.{IsInputFault}
+use Rattle.command_line.specs.declared.fault.AppFault.{AppFault}
+use Rattle.command_line.specs.declared.fault.AppFault.TheVariants.{Read, Write, Document, Memory, NoSeat, Strayed}
+use Rattle.play_documents.specs.Document.{IsNamedDoc}
+use Rattle.play_documents.specs.declared.document.TheConstants.{MAX_INPUT}
+use Rattle.play_documents.specs.declared.fault.DocFault.{DocFault}
+use Rattle.play_documents.specs.declared.fault.DocFault.TheVariants.{TooLong}
+use Rattle.pipeline_app.specs.Runs.{IsEarlyFault, IsRunFault}
+use Rattle.run_documents.specs.Pipelines.{Planned, pipeline_of}
+
+too_long : (workers : ℕ) (input : List ℕ) → MAX_INPUT < length input → pipeline_of workers input ≡ Err TooLong
+unfolding pipeline_of
+too_long workers input h = rw (lt-ltb MAX_INPUT (length input) h) refl
+
+long_named : (f : DocFault) → f ≡ TooLong → IsNamedDoc f
+long_named f e = subst IsNamedDoc (sym e) tt
+
+pub early_input : (workers : ℕ) (known : Option (List ℕ)) (e : AppFault) → IsInputFault known e → IsEarlyFault workers known e
+early_input workers known Read h = tt
+early_input workers known Write h = absurd h
+early_input workers None (Document f) h = (long_named f h.0, tt)
+early_input workers (Some input) (Document f) h = (long_named f h.0, too_long workers input h.1 ∙ ap Err (sym h.0))
+early_input workers known Memory h = tt
+early_input workers known NoSeat h = absurd h
+early_input workers known Strayed h = absurd h
+
+pub early_run : (workers : ℕ) (bytes : List ℕ) (said : Planned) (e : AppFault) → pipeline_of workers bytes ≡ Ok said → IsRunFault said.plan e → IsEarlyFault workers (Some bytes) e
+early_run workers bytes said Read is h = tt
+early_run workers bytes said Write is h = absurd h
+early_run workers bytes said (Document f) is h = absurd h
+early_run workers bytes said Memory is h = tt
+early_run workers bytes said NoSeat is h = tt
+early_run workers bytes said Strayed is h = record { said = said; flows = h; document = is }

@@ -1,0 +1,17 @@
+use Rattle.std.proofs.Common.{rules}
+use Rattle.command_line.proofs.Reading.{reads_fault, reads_whole}
+use Rattle.pipeline_app.proofs.RunFaults.{early_input}
+use Rattle.pipeline_app.proofs.run.ran_text.Goals as goal
+
+pub returns-in_err-bytes-clause-fault : goal.returns-in_err-bytes-clause-fault
+returns-in_err-bytes-clause-fault g c =
+    let early = early_input c.args.workers _ _ c.in_err-bytes.ensures.err in
+    search rules
+
+pub returns-in_err-bytes-clause-reads : goal.returns-in_err-bytes-clause-reads
+returns-in_err-bytes-clause-reads g c =
+    reads_fault _ _ c.read_all.result c.from_residual.result _ c.in_err-bytes.was c.from_residual.ensures.1 c.read_all.ensures.reads
+
+pub returns-clause-reads : goal.returns-clause-reads
+returns-clause-reads g c =
+    reads_whole _ _ c.read_all.result c.document_text.result c.in_ok-bytes.bytes c.in_ok-bytes.was c.read_all.ensures.reads

@@ -1,0 +1,147 @@
+//! A pipeline's document is run.
+
+ghost use Rattle.std.specs.Prelude.{◌≡◌, ◌≤◌, ◌↔◌, true, All, IfOk, IfErr, OnOk, length, string_bytes, Some};
+ghost use Rattle.evt_types.specs.declared.draft.Serving.TheVariants.{Ports};
+ghost use Rattle.pipeline_laws.specs.Pipeline.{IsProper};
+ghost use Rattle.pipeline_laws.specs.RunText.{plain_text, run_text};
+ghost use Rattle.pipeline_laws.specs.Worked.{AnswersAreDue, IsLogOf, logged};
+ghost use Rattle.transcripts.specs.Laws.{AddsNone};
+ghost use Rattle.command_line.specs.Input.{HasRead};
+ghost use Rattle.pipeline_app.specs.Runs.{AfterFault, HasText, IsEarlyFault, IsFaultOf, IsRunFault, IsRunnable, WritesText, run_fault};
+ghost use Rattle.run_documents.specs.Pipelines.{planned_of};
+
+use command_line::{AppFault, read_all, write_text};
+use evt_types::{Serving, Step};
+use pipeline_laws::{Action, answers_are_due, write_run};
+use pipeline_threads::{Gate, RunFault, run_pipeline};
+use run_documents::{Pipeline, read_pipeline};
+use std::alloc::{AllocError, Global};
+use std::io::{Read, Write};
+use std::sync::Wait;
+use std::thread::Threads;
+
+/// The text of a finished log of so many stages.
+fn log_text(alloc: Global, stages: usize, log: &[Step]) -> Result<String, AllocError>
+    ensures { IfOk result (λ text. string_bytes text ≡ run_text stages (logged log.now)) }
+{
+    let mut text = String::new(alloc);
+    write_run(alloc, stages, log, &mut text)?;
+    Ok(text)
+}
+
+/// Whether each answer of the log is its stage's action, and no event was added beside another. Where the ports serve the workers'
+/// promises say so; where flow lanes change hands the log itself is looked through.
+fn is_worked(
+    alloc: Global,
+    serving: Serving,
+    queues: usize,
+    lanes: usize,
+    actions: &[Action],
+    log: &[Step],
+) -> Result<bool, AllocError>
+    requires actions { All IsProper actions.now }
+    requires few { length actions.now ≤ 255 }
+    requires log { IsLogOf queues lanes log.now }
+    requires promised { serving ≡ Ports → AddsNone log.now × AnswersAreDue actions.now log.now }
+    ensures due { IfOk result (λ b. (b ≡ true) ↔ (AddsNone log.now × AnswersAreDue actions.now log.now)) }
+    ensures ports { serving ≡ Ports → IfOk result (λ b. b ≡ true) }
+{
+    match serving {
+        Serving::Ports => Ok(true),
+        Serving::Flows => answers_are_due(alloc, queues, lanes, actions, log),
+    }
+}
+
+/// The fault of a run that came to no end.
+fn run_fault(fault: RunFault) -> AppFault
+    ensures { result ≡ run_fault fault }
+{
+    match fault {
+        RunFault::Memory => AppFault::Memory,
+        RunFault::NoSeat => AppFault::NoSeat,
+    }
+}
+
+/// Runs the pipeline's trace through its stages, each port in a thread of its own, and gives the text of what each stage accepted, by
+/// flow and level. Whatever the schedule, it is that of the plain pipeline.
+pub fn pipeline_text<R: Threads + Wait + Sync, G: Gate>(
+    rt: &R,
+    alloc: Global,
+    pipeline: Pipeline,
+    gate: &G,
+) -> Result<String, AppFault>
+    requires { IsRunnable (planned_of pipeline) }
+    ensures text { IfOk result (λ text. string_bytes text ≡ plain_text pipeline.actions.items pipeline.trace.items) }
+    ensures fault { IfErr result (IsRunFault pipeline.shape) }
+{
+    let Pipeline {
+        shape,
+        actions,
+        trace,
+    } = pipeline;
+    let serving = shape.serving();
+    let queues = shape.queues().len();
+    let lanes = shape.lanes();
+    let report = match run_pipeline(rt, alloc, shape, &actions, &trace, gate) {
+        Ok(report) => report,
+        Err(fault) => return Err(run_fault(fault)),
+    };
+    if !is_worked(alloc, serving, queues, lanes, &actions, &report.log)? {
+        return Err(AppFault::Strayed);
+    }
+    Ok(log_text(alloc, actions.len(), &report.log)?)
+}
+
+/// The text of the run of the document of these bytes.
+fn document_text<R: Threads + Wait + Sync, G: Gate>(
+    rt: &R,
+    alloc: Global,
+    bytes: &[u8],
+    workers: u32,
+    gate: &G,
+) -> Result<String, AppFault>
+    requires { 1 ≤ workers }
+    ensures text { IfOk result (λ text. HasText workers (Some bytes.now) (string_bytes text)) }
+    ensures fault { IfErr result (IsEarlyFault workers (Some bytes.now)) }
+{
+    let pipeline = read_pipeline(alloc, bytes, workers as usize)?;
+    pipeline_text(rt, alloc, pipeline, gate)
+}
+
+/// The text of the run of the document that the reader gives.
+fn ran_text<R: Threads + Wait + Sync, I: Read, G: Gate>(
+    rt: &R,
+    alloc: Global,
+    reader: &mut I,
+    workers: u32,
+    gate: &G,
+) -> Result<String, AppFault>
+    requires { 1 ≤ workers }
+    ensures text { IfOk result (λ text. HasText workers (I.remaining reader.old) (string_bytes text)) }
+    ensures fault { IfErr result (IsEarlyFault workers (I.remaining reader.old)) }
+    ensures reads { HasRead (I.remaining reader.old) (I.remaining reader.new) result }
+{
+    let bytes = read_all(alloc, reader)?;
+    document_text(rt, alloc, &bytes, workers, gate)
+}
+
+/// Reads a pipeline's document, runs its trace through the stages with so many workers, each in a thread of its own, and writes what
+/// each stage accepted, by flow and level. Whatever the schedule, the text is that of the plain pipeline; it is built whole and then
+/// written. Each worker passes the gate before each event's action.
+pub fn run_trace<R: Threads + Wait + Sync, I: Read, W: Write, G: Gate>(
+    rt: &R,
+    alloc: Global,
+    reader: &mut I,
+    workers: u32,
+    gate: &G,
+    writer: &mut W,
+) -> Result<(), AppFault>
+    requires { (1 ≤ workers) × (workers ≤ 8) }
+    ensures ok { OnOk result (WritesText workers (I.remaining reader.old) (W.contents writer.old) (W.contents writer.new)) }
+    ensures err { IfErr result (AfterFault workers (I.remaining reader.old) (W.contents writer.old) (W.contents writer.new)) }
+    ensures fault { IfErr result (IsFaultOf workers (I.remaining reader.old)) }
+    ensures reads { HasRead (I.remaining reader.old) (I.remaining reader.new) result }
+{
+    let text = ran_text(rt, alloc, reader, workers, gate)?;
+    write_text(writer, text.as_bytes())
+}

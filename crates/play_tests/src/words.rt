@@ -1,0 +1,44 @@
+//! The command line.
+
+use command_line::{Choice, choice};
+
+/// The words after the program's name, what they ask for or the status to end with, and a part of what is printed.
+static LINES: [(&[&str], Result<Choice, u8>, &str); 15] = [
+    (&["play"], Ok(Choice::Play), ""),
+    (&["--help"], Err(0), "Usage: evsched <COMMAND>"),
+    (&["help"], Err(0), "docs/FORMATS.md"),
+    (&["--version"], Err(0), "evsched 0.1.0\n"),
+    (&["play", "--help"], Err(0), "Usage: evsched play"),
+    (
+        &["help", "play"],
+        Err(0),
+        "evsched play < examples/first-event.toml",
+    ),
+    (&[], Err(2), "play"),
+    (&["stop"], Err(2), "stop"),
+    (&["play", "now"], Err(2), "now"),
+    (&["run"], Ok(Choice::Run { workers: 2 }), ""),
+    (
+        &["run", "--workers", "1"],
+        Ok(Choice::Run { workers: 1 }),
+        "",
+    ),
+    (
+        &["run", "--workers", "8"],
+        Ok(Choice::Run { workers: 8 }),
+        "",
+    ),
+    (&["run", "--workers", "0"], Err(2), "0"),
+    (&["run", "--workers", "9"], Err(2), "9"),
+    (&["run", "--help"], Err(0), "Usage: evsched run [OPTIONS]"),
+];
+
+#[test]
+fn reads_the_command_line(rt: HostRuntime) {
+    for (words, wanted, part) in &LINES {
+        let mut text = String::new(rt.alloc());
+        assert_eq!(rt; choice(rt.alloc(), words, &mut text), *wanted);
+        assert_eq!(rt; text.is_empty(), wanted.is_ok());
+        assert!(rt; text.as_str().contains(part));
+    }
+}

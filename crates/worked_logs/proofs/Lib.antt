@@ -1,3 +1,0 @@
-pub mod LogsLawful
-pub mod Refused
-pub mod Sound

@@ -1,4 +1,0 @@
-pub mod Added
-pub mod Early
-pub mod Refused
-pub mod Slot

@@ -1,5 +1,0 @@
-use Rattle.worked_worlds.proofs.Refused.{added_refused, many_refused, twice_refused, unreceived_refused, unsubmitted_refused}
-use Rattle.worked_worlds.proofs.worlds.wrong_moves_are_refused.Goals as goal
-
-pub returns : goal.returns
-returns c = record { unreceived = unreceived_refused; added = added_refused; many = many_refused; twice = twice_refused; unsubmitted = unsubmitted_refused }

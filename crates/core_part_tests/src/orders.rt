@@ -7,7 +7,7 @@ ghost use Rattle.order_parts.specs.Reorder.{after_leave, empty};
 
 use evt_types::{Event, Numbered, Op};
 use order_parts::{Entry, History, Memory, Pins, Reorder};
-use place_set::Places;
+use small_set::SmallSet;
 use std::alloc::Global;
 use std::test::Fail;
 
@@ -81,7 +81,7 @@ fn a_slot_is_free_once_all_are_answered(rt: HostRuntime) -> Result<(), Fail> {
 fn off(pins: &Pins, lane: usize) -> [bool; 3]
     requires { lane < 64 }
 {
-    let mut lanes = Places::none();
+    let mut lanes = SmallSet::none();
     lanes.add(lane);
     let slots = pins.slots_off(lanes);
     [slots.has(0), slots.has(1), slots.has(2)]

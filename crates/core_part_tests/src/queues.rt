@@ -7,7 +7,7 @@ ghost use Rattle.parked_queue.specs.Lists as lists;
 
 use evt_types::{Delivery, Event, Numbered, Op};
 use parked_queue::{ParkedQueues, WaitingLists};
-use place_set::Places;
+use small_set::SmallSet;
 use std::alloc::{AllocError, Global};
 use std::test::Fail;
 
@@ -77,8 +77,8 @@ fn no_deliveries(alloc: Global, count: usize) -> Result<Vec<Delivery>, AllocErro
 }
 
 /// These slots.
-fn set_of(slots: &[usize]) -> Places {
-    let mut set = Places::none();
+fn set_of(slots: &[usize]) -> SmallSet {
+    let mut set = SmallSet::none();
     for slot in slots {
         if *slot < 64 {
             set.add(*slot);
@@ -88,7 +88,7 @@ fn set_of(slots: &[usize]) -> Places {
 }
 
 /// How many events wait in the queue, and the levels of which one may; none where there is no such queue, as below.
-fn waiting_in(queues: &ParkedQueues, queue: usize) -> Option<(usize, Places)> {
+fn waiting_in(queues: &ParkedQueues, queue: usize) -> Option<(usize, SmallSet)> {
     if queue < queues.len() {
         Some((queues.count(queue), queues.levels(queue)))
     } else {

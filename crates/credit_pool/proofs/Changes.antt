@@ -4,7 +4,7 @@ use Rattle.std.proofs.lemmas.List.{length-set, get_or-set_same}
 use mathlib.Core.Option.{some}
 use lib.ListN.{get_elem?}
 use Rattle.atomic_table.proofs.Lists.{set_here, at_longer, at_last}
-use Rattle.seat_sums.proofs.Sums.{place_below, other_place, sum_by-changed, sum_by-split, sum_by-joined}
+use Rattle.lists.proofs.SeatSums.{place_below, other_place, sum_by-changed, sum_by-split, sum_by-joined}
 use Rattle.credit_pool.specs.declared.account.Account.{Account}
 use Rattle.credit_pool.specs.Accounts.{free_of, is_shut, IsShut, Stays, rest_of, part_of, after_join, spent_account}
 use Rattle.credit_pool.specs.Rule.{Pool, word_of, free_in, drawn_in, returned_in, parts_in, HasSeat, Balanced}

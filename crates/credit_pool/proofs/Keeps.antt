@@ -8,9 +8,9 @@ use lib.ListN.{get_elem?}
 use prog.Atomic.{either}
 use Rattle.atomic_table.specs.Table.{step, Act, keeps, Valid, carried_after, stepped, Allows, Splits, Joins}
 use Rattle.atomic_table.proofs.Lists.{exchanged}
-use Rattle.seat_sums.specs.Sums.{count}
-use Rattle.seat_sums.proofs.Counts.{to_count, count_le, count-or}
-use Rattle.seat_sums.proofs.Sums.{All-at, other_place, sum_by-changed, sum_by-split, sum_by-joined, term_le, terms_le}
+use Rattle.lists.specs.Counts.{count}
+use Rattle.lists.proofs.Counts.{to_count, count_le, count-or}
+use Rattle.lists.proofs.SeatSums.{All-at, other_place, sum_by-changed, sum_by-split, sum_by-joined, term_le, terms_le}
 use Rattle.credit_pool.specs.declared.account.Account.{Account}
 use Rattle.credit_pool.specs.Accounts.{free_of, is_shut, IsShut, IsOpen, rest_of, part_of, after_join, spent_account}
 use Rattle.credit_pool.specs.Rule.{Pool, word_of, HasSeat, IsEmpty, Balanced}

@@ -4,9 +4,9 @@ use Rattle.std.proofs.lemmas.List.Sums.{sum_by-cons}
 use Rattle.std.proofs.lemmas.List.Elements.{All-nil, All-push}
 use mathlib.Core.Option.{some}
 use lib.ListN.{get_elem?}
-use Rattle.seat_sums.specs.Sums.{count}
-use Rattle.seat_sums.proofs.Counts.{of_count, to_count, to_count_none}
-use Rattle.seat_sums.proofs.Sums.{All-at, all_of}
+use Rattle.lists.specs.Counts.{count}
+use Rattle.lists.proofs.Counts.{of_count, to_count, to_count_none}
+use Rattle.lists.proofs.SeatSums.{All-at, all_of}
 use Rattle.credit_pool.specs.declared.account.Account.{Account}
 use Rattle.credit_pool.specs.Accounts.{in_use, IsShut, first_account}
 use Rattle.credit_pool.specs.Rule.{Pool, word_of, drawn_in, returned_in, HasSeat, IsEmpty, Balanced, HasSetter, Reads, first_pool}

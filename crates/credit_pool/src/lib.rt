@@ -18,5 +18,5 @@ pub use laws::{
     a_split_and_a_join_change_no_sum, a_step_changes_one_account, credits_add_up,
     every_step_keeps_the_rule, parts_add_up, the_bit_has_its_cause,
 };
-pub use pool::{CreditSeat, Credits, Memory};
+pub use pool::{CreditSeat, Credits};
 pub use rule::CreditRule;

@@ -7,9 +7,6 @@ use crate::rule::{Both, CreditRule, DrawExchange, FetchOr, GiveExchange, Load, O
 use atomic_table::{Seat, Table};
 use std::alloc::{AllocError, Global};
 
-/// Want of memory.
-pub type Memory = AllocError;
-
 /// A pool of credits. Threads share it by reference.
 #[derive(Drop)]
 pub struct Credits {
@@ -36,7 +33,7 @@ impl Credits {
     ghost use Rattle.credit_pool.specs.Pool.{account, limit_of, pool_id, IsSeatOf};
 
     /// A pool of `limit` credits, at most 2^32, all free, and its first seat, which has all 64 parts.
-    pub fn new(alloc: Global, limit: u64) -> Result<(Credits, CreditSeat), Memory>
+    pub fn new(alloc: Global, limit: u64) -> Result<(Credits, CreditSeat), AllocError>
         requires { limit ≤ 2 ^ 32 }
         ensures limit { IfOk result (λ r. limit_of r.0 ≡ limit) }
         ensures seat { IfOk result (λ r. IsSeatOf r.0 r.1) }

@@ -8,7 +8,7 @@ use Rattle.std.proofs.lemmas.List.FromFn.{get_or-map-range_with_len, length-map-
 use Rattle.std.proofs.lemmas.Option.{get_or_from_slice_get}
 use Rattle.credit_pool.specs.Accounts.{Stays}
 use Rattle.evt_types.specs.Plan.{Plan}
-use Rattle.event_ports.specs.Ports.{Place, account_of, place_of}
+use Rattle.event_ports.specs.Ports.{DeskSite, account_of, own_site}
 use Rattle.event_ports.specs.declared.port.Port.{Port}
 pub use Rattle.event_device.proofs.Keeping.{same_site}
 use Rattle.event_device.specs.Control.{control_of}
@@ -22,9 +22,9 @@ use Rattle.device_rigs.specs.Whole.{IsWhole, device_at}
 -- ---- calls
 
 -- so do all where one of them was called
-pub same_sites : (ports : List Port) (n : ℕ) (p q : Port) → slice_get ports n ≡ Some p → place_of q ≡ place_of p → Stays (account_of p) (account_of q) → map site_of (set ports n q) ≡ map site_of ports
-same_sites ports n p q is place stays =
-    map-set_same site_of ports n q p (same_site p q place stays ∙ ap site_of (sym (get_or_from_slice_get ports n p p is)))
+pub same_sites : (ports : List Port) (n : ℕ) (p q : Port) → slice_get ports n ≡ Some p → own_site q ≡ own_site p → Stays (account_of p) (account_of q) → map site_of (set ports n q) ≡ map site_of ports
+same_sites ports n p q is site stays =
+    map-set_same site_of ports n q p (same_site p q site stays ∙ ap site_of (sym (get_or_from_slice_get ports n p p is)))
 
 -- ---- a device just made
 
@@ -98,8 +98,8 @@ none_are_of r c ports whole =
 -- ---- calls on a whole device
 
 -- it stays whole where one of its ports was called
-pub whole_called : (s : SchedulerSite) (c : ControlSite) (ports : List Port) (n : ℕ) (p q : Port) → IsWhole s c (map site_of ports) → slice_get ports n ≡ Some p → place_of q ≡ place_of p → Stays (account_of p) (account_of q) → IsWhole s c (map site_of (set ports n q))
-whole_called s c ports n p q whole is place stays = subst (IsWhole s c) (sym (same_sites ports n p q is place stays)) whole
+pub whole_called : (s : SchedulerSite) (c : ControlSite) (ports : List Port) (n : ℕ) (p q : Port) → IsWhole s c (map site_of ports) → slice_get ports n ≡ Some p → own_site q ≡ own_site p → Stays (account_of p) (account_of q) → IsWhole s c (map site_of (set ports n q))
+whole_called s c ports n p q whole is site stays = subst (IsWhole s c) (sym (same_sites ports n p q is site stays)) whole
 
 -- ---- a device with two ports
 

@@ -7,7 +7,7 @@ use Rattle.credit_pool.specs.Pockets.{IsPocket}
 use Rattle.event_answers.specs.declared.report.Report.{Report}
 use Rattle.event_ports.specs.Handed.{flow_count}
 use Rattle.event_ports.specs.Lanes.{counted, held_of, pair_in}
-use Rattle.event_ports.specs.Ports.{account_of, hand, mores_by, news_by, place_of, pocket_of, releases_by}
+use Rattle.event_ports.specs.Ports.{account_of, hand, mores_by, news_by, own_site, pocket_of, releases_by}
 use Rattle.event_ports.specs.Stop.{IsPaid, flows_in}
 use Rattle.event_ports.specs.declared.lane.Lane.TheVariants.{Own}
 use Rattle.event_ports.specs.declared.port.Port.{Port}
@@ -46,7 +46,7 @@ pub record AreEndsOf (owns ends : List Far) (sorted : List Port) : Type 0 where
   pub held : map held_list owns ≡ map (λ q. map pair_in (held_of Own (hand q).holding)) sorted
   pub holding : sum_by (λ q. length (hand q).holding) sorted ≡ sum_by (λ q. length (held_of Own (hand q).holding)) sorted + sum_by (λ far. length (unanswered far)) ends
   pub flows : (P : Reply → Bool) → sum_by (λ far. count_by P (answered far)) ends ≡ sum_by (flows_in P (length ends)) sorted
-  pub counts : All (λ q. flow_count (place_of q).lanes ≡ length ends) sorted
+  pub counts : All (λ q. flow_count (own_site q).lanes ≡ length ends) sorted
 
 -- The ports and the scheduler paid for what they had, and the rest is in their pockets; what was drawn and not returned is no longer
 -- free.
@@ -92,14 +92,14 @@ own_sum m f g owns sorted same = sym (sum_of_map m f owns) ∙ (ap (sum_by m) sa
 
 -- how many of the replies to all lanes pass the test
 submitted : (P : Reply → Bool) (p : Plan) (nears : List Near) (owns ends : List Far) (sorted : List Port) → length nears ≡ lanes_of p → length (owns ++ ends) ≡ lanes_of p
-    → AreEndsOf owns ends sorted → sum_by (λ l. count_by P (rest_at nears (owns ++ ends) l).answered) (lanes p) ≡ sum_by (λ q. counted P (flow_count (place_of q).lanes) (hand q).said) sorted
+    → AreEndsOf owns ends sorted → sum_by (λ l. count_by P (rest_at nears (owns ++ ends) l).answered) (lanes p) ≡ sum_by (λ q. counted P (flow_count (own_site q).lanes) (hand q).said) sorted
 submitted P p nears owns ends sorted near_count far_count are =
     let own : Port → ℕ = λ q. count_by P ((hand q).said Own) in
     let by_end = lane_sum (λ r. count_by P r.answered) (λ far. count_by P (answered far)) nears (owns ++ ends) (lanes_of p) (λ a b. refl) near_count far_count in
     let parts = sum_by-append (λ far. count_by P (answered far)) owns ends in
     let owned = own_sum (count_by P) answered (λ q. (hand q).said Own) owns sorted are.answered_is in
     let both = sum_plus own (flows_in P (length ends)) sorted in
-    let same = sum_agree (λ q. own q + flows_in P (length ends) q) (λ q. counted P (flow_count (place_of q).lanes) (hand q).said) sorted
+    let same = sum_agree (λ q. own q + flows_in P (length ends) q) (λ q. counted P (flow_count (own_site q).lanes) (hand q).said) sorted
     (λ i d lt. ap (λ n. own (get_or sorted i d) + flows_in P n (get_or sorted i d)) (sym (are.counts i d lt))) in
     omega (arith, are.flows P)
 

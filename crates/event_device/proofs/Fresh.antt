@@ -14,7 +14,7 @@ use Rattle.event_scheduler.specs.declared.scheduler.Scheduler.{Scheduler}
 use Rattle.evt_types.specs.Plan.{Plan}
 use Rattle.event_device.specs.Parts.{IsOne, IsSmall, Parts, device_at, device_of}
 use Rattle.event_device.specs.Start.{IsFresh, IsMade}
-use Rattle.event_device.proofs.Places.{there_in_all}
+use Rattle.event_device.proofs.Homes.{there_in_all}
 
 -- ports with the sites of a device's ports, in their order
 module _ (d : Device) (ports : List Port) (n : ℕ) (sites : map site_of ports ≡ map (port_site d) (range_with_len 0 n)) where
@@ -26,7 +26,7 @@ module _ (d : Device) (ports : List Port) (n : ℕ) (sites : map site_of ports �
       let low : i < n = omega (arith, port_count, there) in
       sym (get_or-map site_of ports i x (site_of x) there) ∙ (ap (λ xs. get_or xs i (site_of x)) sites ∙ get_or-map-range_with_len (port_site d) 0 n i i (site_of x) low (zero-add i))
 
-  -- the port at a place has that number, and is the device's
+  -- the port at a home has that number, and is the device's
   port_here : n ≡ length d.plan.ports → (i : ℕ) (x : Port) → slice_get ports i ≡ Some x → (number_of x ≡ i) × IsPortOf d x
   port_here count i x here =
       let there : i < length ports = slice_get_within ports i x here in

@@ -1,12 +1,12 @@
 -- No call of a port changes of which device it is.
 use Rattle.std.proofs.Common.{◌≡◌, ℕ, Some, ap, ◌∙◌}
 use Rattle.credit_pool.specs.Accounts.{Stays}
-use Rattle.event_ports.specs.Ports.{Place, account_of, place_of}
+use Rattle.event_ports.specs.Ports.{DeskSite, account_of, own_site}
 use Rattle.event_ports.specs.declared.port.Port.{Port}
 use Rattle.event_device.specs.Device.{PortSite, site_of}
 
--- the site of a port in this place with so many parts of the credits
-abbrev site_at : Place → ℕ → PortSite
+-- the site of a port in this site with so many parts of the credits
+abbrev site_at : DeskSite → ℕ → PortSite
 site_at w parts =
     record {
       pool = w.pool;
@@ -24,5 +24,5 @@ site_at w parts =
     }
 
 -- a port keeps its site
-pub same_site : (p q : Port) → place_of q ≡ place_of p → Stays (account_of p) (account_of q) → site_of q ≡ site_of p
-same_site p q place stays = ap (λ w. site_at w (account_of q).parts) place ∙ ap (site_at (place_of p)) stays.parts
+pub same_site : (p q : Port) → own_site q ≡ own_site p → Stays (account_of p) (account_of q) → site_of q ≡ site_of p
+same_site p q site stays = ap (λ w. site_at w (account_of q).parts) site ∙ ap (site_at (own_site p)) stays.parts

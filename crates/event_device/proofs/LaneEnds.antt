@@ -24,7 +24,7 @@ ends_meet nears fars n a b lanes first second =
 pub pair_count : (nears : List Near) (fars : List Far) → map near_id nears ≡ map far_id fars → length (enumerate_from 0 (zip nears fars)) ≡ length nears
 pair_count nears fars lanes = omega (arith, length-enumerate_from 0 (zip nears fars), length-zip nears fars, as_many_ends nears fars lanes)
 
--- what stands at a place of the pairs: its number, and the two ends of one lane
+-- what stands at a home of the pairs: its number, and the two ends of one lane
 pub record IsTurn (nears : List Near) (fars : List Far) (n l : ℕ) (a : Near) (b : Far) : Type 0 where
   pub within : n < length nears
   pub lane : l ≡ n

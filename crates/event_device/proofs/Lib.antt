@@ -13,7 +13,7 @@ pub mod Logs
 pub mod Making
 pub mod Members
 pub mod Ones
-pub mod Places
+pub mod Homes
 pub mod Pockets
 pub mod Queues
 pub mod Rooms

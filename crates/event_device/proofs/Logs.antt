@@ -22,7 +22,7 @@ use Rattle.transcripts.specs.Replies.{replies_in, said}
 use Rattle.transcripts.specs.Transcript.{out}
 use Rattle.world_laws.specs.Rest.{AreRests}
 
--- what stands at a place, and beyond the end
+-- what stands at a home, and beyond the end
 item_at : {X Y : Type 0} (f : X → Y) (xs : List X) (l : ℕ) (x : X) (d : Y) → slice_get xs l ≡ Some x → get_or (map f xs) l d ≡ f x
 item_at f xs l x d is = get_or_from_slice_get (map f xs) l (f x) d (slice_get-map f xs l ∙ ap (option_map f) is)
 

@@ -20,7 +20,7 @@ use Rattle.flow_claims.specs.declared.claims.Claims.{Claims}
 use Rattle.lane_rings.specs.Identity.{LaneId, far_id, near_id}
 use Rattle.lane_rings.specs.declared.near.Near.{Near}
 use Rattle.event_ports.specs.Handed.{flow_count}
-use Rattle.event_ports.specs.Ports.{account_of, links, place_of}
+use Rattle.event_ports.specs.Ports.{account_of, links, own_site}
 use Rattle.event_ports.specs.Stop as ports
 use Rattle.event_ports.specs.declared.port.Port.{Port}
 use Rattle.event_device.specs.Device.{Device, IsDevice, IsPortOf, PortSite, depth_in, number_of, room_in}
@@ -69,9 +69,9 @@ lanes_from {X} {Y} number own ys (x ∷ xs) k all e =
     ap (λ zs. own x ∷ zs) rest ∙ ap (take (suc (length xs))) (sym (drop-slice_get ys k (own x) at))
 
 -- the ports' own lanes are the first of the device's
-pub own_lanes : (d : Device) (unsorted sorted : List Port) → All (IsPortOf d) sorted → AreByNumber (length d.plan.ports) unsorted sorted → map (λ p. (place_of p).lanes.own) sorted ≡ take (length d.plan.ports) d.lanes
+pub own_lanes : (d : Device) (unsorted sorted : List Port) → All (IsPortOf d) sorted → AreByNumber (length d.plan.ports) unsorted sorted → map (λ p. (own_site p).lanes.own) sorted ≡ take (length d.plan.ports) d.lanes
 own_lanes d unsorted sorted all by =
-    let own : Port → LaneId = λ p. (place_of p).lanes.own in
+    let own : Port → LaneId = λ p. (own_site p).lanes.own in
     let count : length sorted ≡ length d.plan.ports = sorted_count (length d.plan.ports) unsorted sorted by in
     let there : All (λ p. slice_get d.lanes (number_of p) ≡ Some (own p)) sorted = λ k p short. sym (ap (λ (s : PortSite). s.lane) (all k p short).1) in
     lanes_from number_of own d.lanes sorted 0 there (by.numbers ∙ ap (range_with_len 0) (sym count)) ∙ ap (λ n. take n d.lanes) count
@@ -84,8 +84,8 @@ all_ones f (x ∷ xs) all = omega (arith, sum_by-cons f x xs, All-head (λ y. f 
 pub credit_parts : (d : Device) (sorted : List Port) → All (IsPortOf d) sorted → sum_by (λ p. (account_of p).parts) sorted ≡ length sorted
 credit_parts d sorted all = all_ones (λ p. (account_of p).parts) sorted (λ k p short. ap (λ (s : PortSite). s.credit_parts) (all k p short).1)
 
-pub claim_parts : (d : Device) (sorted : List Port) → All (IsPortOf d) sorted → sum_by (λ p. (place_of p).lanes.flows.parts) sorted ≡ length sorted
-claim_parts d sorted all = all_ones (λ p. (place_of p).lanes.flows.parts) sorted (λ k p short. ap (λ (s : PortSite). s.claim_parts) (all k p short).1)
+pub claim_parts : (d : Device) (sorted : List Port) → All (IsPortOf d) sorted → sum_by (λ p. (own_site p).lanes.flows.parts) sorted ≡ length sorted
+claim_parts d sorted all = all_ones (λ p. (own_site p).lanes.flows.parts) sorted (λ k p short. ap (λ (s : PortSite). s.claim_parts) (all k p short).1)
 
 -- the seats of each are of the device's credits and claims
 pub seats_are : (d : Device) (sorted : List Port) (pool : Credits) (all_claims : Claims) → All (IsPortOf d) sorted → d.pool ≡ pool → d.claims ≡ all_claims → All (ports.IsPortOf pool all_claims) sorted
@@ -102,12 +102,12 @@ links_agree d sorted all k p short j there =
     ap (has j) (sym same) ∙ there
 
 -- and may hold as much as its number's depth
-pub depths_small : (d : Device) (sorted : List Port) → IsWithinLimits d.plan → All (IsPortOf d) sorted → All (λ p. (place_of p).lanes.depth ≤ 64) sorted
+pub depths_small : (d : Device) (sorted : List Port) → IsWithinLimits d.plan → All (IsPortOf d) sorted → All (λ p. (own_site p).lanes.depth ≤ 64) sorted
 depths_small d sorted within all k p short =
     let is = all k p short in
     let none : PortPlan = record { threshold = 0; depth = 0; replies = 0; implicit = false; links = [] } in
     omega (arith, ap (λ (s : PortSite). s.depth) is.1, (within.depths (number_of (get_or sorted k p)) none is.0).1)
 
 -- the flow lanes of each are the device's
-pub flows_counted : (d : Device) (sorted : List Port) (n : ℕ) → All (IsPortOf d) sorted → length (claims.lanes_of d.claims) ≡ n → All (λ p. flow_count (place_of p).lanes ≡ n) sorted
+pub flows_counted : (d : Device) (sorted : List Port) (n : ℕ) → All (IsPortOf d) sorted → length (claims.lanes_of d.claims) ≡ n → All (λ p. flow_count (own_site p).lanes ≡ n) sorted
 flows_counted d sorted n all count k p short = ap (λ (s : PortSite). length (claims.lanes_of s.claims)) (all k p short).1 ∙ count

@@ -18,7 +18,7 @@ use Rattle.event_scheduler.specs.Swept.{Sweeps}
 use Rattle.event_device.specs.Parts.{IsOne, IsSmall, Parts, device_at, device_of}
 use Rattle.event_device.specs.Home.{AreHome}
 use Rattle.event_device.specs.Lent.{IsAway, Leaves, MayLeave}
-use Rattle.event_device.proofs.Places.{in_all, option_cases, read_written}
+use Rattle.event_device.proofs.Homes.{in_all, option_cases, read_written}
 use Rattle.event_device.proofs.Served.{still_serves}
 
 module _ (r : Parts) (one : IsOne r) where
@@ -34,13 +34,13 @@ module _ (r : Parts) (one : IsOne r) where
         serves = one.serves;
       }
 
-  -- a place becomes empty
+  -- a home becomes empty
   pub one_without : (n : ℕ) → IsOne (record r { ports = slice_set r.ports n None })
   one_without n =
       with_ports (slice_set r.ports n None) (length-set r.ports n None)
       (λ m x here. ⊎_elim (λ written. cc written.1) (λ there. one.ports_are m x there) (read_written r.ports n m None (Some x) here))
 
-  -- a port of the device is put in its place
+  -- a port of the device is put in its home
   pub one_with : (port : Port) → IsPortOf (device_of r) port → IsOne (record r { ports = slice_set r.ports (number_of port) (Some port) })
   one_with port is =
       with_ports (slice_set r.ports (number_of port) (Some port)) (length-set r.ports (number_of port) (Some port))
@@ -48,23 +48,23 @@ module _ (r : Parts) (one : IsOne r) where
       ⊎_elim (λ written. let same : port ≡ x = cc written.1 in (subst (λ y. number_of y ≡ m) same written.0, subst (IsPortOf (device_of r)) same is)) (λ there. one.ports_are m x there)
       (read_written r.ports (number_of port) m (Some port) (Some x) here))
 
-  -- the port that was in a place left it, or none was there
-  module _ (n : ℕ) (place after : Option Port) (here : slice_get r.ports n ≡ Some place) (gone : after ≡ None) where
-    stays_away : place ≡ None → IsAway n r × (record r { ports = set r.ports n after } ≡ r)
+  -- the port that was in a home left it, or none was there
+  module _ (n : ℕ) (home after : Option Port) (here : slice_get r.ports n ≡ Some home) (gone : after ≡ None) where
+    stays_away : home ≡ None → IsAway n r × (record r { ports = set r.ports n after } ≡ r)
     stays_away empty =
-        let as_before : set r.ports n place ≡ r.ports = ap (set r.ports n) (sym (get_or_from_slice_get r.ports n place place here)) ∙ set-get_or r.ports n place in (
+        let as_before : set r.ports n home ≡ r.ports = ap (set r.ports n) (sym (get_or_from_slice_get r.ports n home home here)) ∙ set-get_or r.ports n home in (
           λ port there. cc (here, there, empty),
           ap (λ p. record r { ports = set r.ports n p }) (gone ∙ sym empty) ∙ ap (λ ports. record r { ports = ports }) as_before,
         )
 
-    leaves : (port : Port) → place ≡ Some port → Leaves n port r (record r { ports = set r.ports n after })
+    leaves : (port : Port) → home ≡ Some port → Leaves n port r (record r { ports = set r.ports n after })
     leaves port there =
         let home : slice_get r.ports n ≡ Some (Some port) = here ∙ ap Some there in
         let is = one.ports_are n port home in
         record { was_home = home; number = is.0; of_device = is.1; away = ap (λ p. record r { ports = set r.ports n p }) gone }
 
-    pub may_leave : MayLeave n place r (record r { ports = set r.ports n after })
-    may_leave = option_cases (λ o. MayLeave n o r (record r { ports = set r.ports n after })) place stays_away leaves
+    pub may_leave : MayLeave n home r (record r { ports = set r.ports n after })
+    may_leave = option_cases (λ o. MayLeave n o r (record r { ports = set r.ports n after })) home stays_away leaves
 
   pub one_with_control : (c : Option Control) → ((x : Control) → c ≡ Some x → control_of x ≡ control_site (device_of r)) → IsOne (record r { control = c })
   one_with_control c each =

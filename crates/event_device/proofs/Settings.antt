@@ -12,7 +12,7 @@ use Rattle.flow_claims.specs.Claims as claims
 use Rattle.lane_rings.specs.Ends.{offered, taken}
 use Rattle.lane_rings.specs.Identity.{far_id, near_id}
 use Rattle.lane_rings.specs.declared.far.Far.{Far}
-use Rattle.event_ports.specs.Ports.{hand, place_of}
+use Rattle.event_ports.specs.Ports.{hand, own_site}
 use Rattle.event_ports.specs.Stop.{AreLeft}
 use Rattle.event_ports.specs.declared.rest.Rest.{Rest}
 use Rattle.event_ports.specs.declared.port.Port.{Port}
@@ -53,7 +53,7 @@ parts_are d s parts n seen is =
 
 pub left_count : (sorted : List Port) (rests : List Rest) → AreLeft sorted rests → length rests ≡ length sorted
 left_count sorted rests left =
-    omega (arith, ap length left.numbers, length-map rests (λ (r : Rest). r.number), length-map sorted (λ (p : Port). (place_of p).number))
+    omega (arith, ap length left.numbers, length-map rests (λ (r : Rest). r.number), length-map sorted (λ (p : Port). (own_site p).number))
 
 -- no more is held than there is room for
 pub few_held : (d : Device) (sorted : List Port) (rests : List Rest) → IsWithinLimits d.plan → All (IsPortOf d) sorted → AreLeft sorted rests → sum_by (λ (r : Rest). length r.held.items) rests ≤ 64 * length sorted

@@ -9,44 +9,44 @@ use Rattle.evt_types.specs.Plan.{Plan, flow_lanes, flow_links, PortPlan, is_link
 use Rattle.evt_types.specs.declared.draft.PortDraft.{PortDraft}
 use Rattle.evt_types.proofs.Plans.{port_read}
 use Rattle.std.proofs.lemmas.List.{length-map}
-use Rattle.event_ports.specs.Ports.{Place, account_of, place_of}
+use Rattle.event_ports.specs.Ports.{DeskSite, account_of, own_site}
 use Rattle.event_ports.specs.declared.port.Port.{Port}
 use Rattle.event_device.specs.Device.{Device, PortSite, port_site, site_of}
 
-abbrev pub site_by : Place → Account → PortSite
-site_by place account =
+abbrev pub site_by : DeskSite → Account → PortSite
+site_by site account =
     record {
-      pool = place.pool;
-      claims = place.lanes.flows.claims;
-      lane = Some place.lanes.own;
-      links = place.lanes.flows.links;
-      number = place.number;
-      depth = place.lanes.depth;
-      queues = place.queues;
-      implicit = place.implicit;
-      quantum = place.quantum;
-      threshold = place.threshold;
+      pool = site.pool;
+      claims = site.lanes.flows.claims;
+      lane = Some site.lanes.own;
+      links = site.lanes.flows.links;
+      number = site.number;
+      depth = site.lanes.depth;
+      queues = site.queues;
+      implicit = site.implicit;
+      quantum = site.quantum;
+      threshold = site.threshold;
       credit_parts = account.parts;
-      claim_parts = place.lanes.flows.parts;
+      claim_parts = site.lanes.flows.parts;
     }
 
--- place and account are those of the device's port of the number
-pub record Agrees (d : Device) (n : ℕ) (place : Place) (account : Account) : Type 0 where
-  pub pool : place.pool ≡ d.pool
-  pub claims : place.lanes.flows.claims ≡ d.claims
-  pub lane : slice_get d.lanes n ≡ Some place.lanes.own
-  pub links : place.lanes.flows.links ≡ flow_links d.plan n
-  pub number : place.number ≡ n
-  pub depth : place.lanes.depth ≡ (port_of d.plan n).depth
-  pub queues : place.queues ≡ length d.plan.queues
-  pub implicit : place.implicit ≡ (port_of d.plan n).implicit
-  pub quantum : place.quantum ≡ d.plan.quantum
-  pub threshold : place.threshold ≡ (port_of d.plan n).threshold
+-- site and account are those of the device's port of the number
+pub record Agrees (d : Device) (n : ℕ) (site : DeskSite) (account : Account) : Type 0 where
+  pub pool : site.pool ≡ d.pool
+  pub claims : site.lanes.flows.claims ≡ d.claims
+  pub lane : slice_get d.lanes n ≡ Some site.lanes.own
+  pub links : site.lanes.flows.links ≡ flow_links d.plan n
+  pub number : site.number ≡ n
+  pub depth : site.lanes.depth ≡ (port_of d.plan n).depth
+  pub queues : site.queues ≡ length d.plan.queues
+  pub implicit : site.implicit ≡ (port_of d.plan n).implicit
+  pub quantum : site.quantum ≡ d.plan.quantum
+  pub threshold : site.threshold ≡ (port_of d.plan n).threshold
   pub credit_parts : account.parts ≡ 1
-  pub claim_parts : place.lanes.flows.parts ≡ 1
+  pub claim_parts : site.lanes.flows.parts ≡ 1
 
-agreed : (d : Device) (n : ℕ) (place : Place) (account : Account) → Agrees d n place account → site_by place account ≡ port_site d n
-agreed d n place account e =
+agreed : (d : Device) (n : ℕ) (site : DeskSite) (account : Account) → Agrees d n site account → site_by site account ≡ port_site d n
+agreed d n site account e =
     let lane = sym e.lane in
     λ i. record {
       pool = e.pool i;
@@ -63,9 +63,9 @@ agreed d n place account e =
       claim_parts = e.claim_parts i;
     }
 
-pub site_is : (d : Device) (n : ℕ) (port : Port) (place : Place) (account : Account) → place_of port ≡ place → account_of port ≡ account
-    → Agrees d n place account → site_of port ≡ port_site d n
-site_is d n port place account same known e = (λ i. site_by (same i) (known i)) ∙ agreed d n place account e
+pub site_is : (d : Device) (n : ℕ) (port : Port) (site : DeskSite) (account : Account) → own_site port ≡ site → account_of port ≡ account
+    → Agrees d n site account → site_of port ≡ port_site d n
+site_is d n port site account same known e = (λ i. site_by (same i) (known i)) ∙ agreed d n site account e
 
 -- ---- the configuration
 
@@ -98,5 +98,5 @@ below_bound n k d there =
 pub links_there : (p : Plan) (n : ℕ) → All (λ lane. lane < length (flow_lanes p)) (flow_links p n)
 unfolding linked_places
 links_there p n =
-    All-filter (λ place. is_linked_flow (port_of p n).links (slice_get (flow_lanes p) place)) (λ lane. lane < length (flow_lanes p))
+    All-filter (λ site. is_linked_flow (port_of p n).links (slice_get (flow_lanes p) site)) (λ lane. lane < length (flow_lanes p))
     (range_with_len 0 (length (flow_lanes p))) (below_bound (length (flow_lanes p)))

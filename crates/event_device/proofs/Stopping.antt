@@ -1,4 +1,4 @@
--- A stop of a device that runs: its parts at home, taken out of their places and put back.
+-- A stop of a device that runs: its parts at home, taken out of their homes and put back.
 use Rattle.std.proofs.Common.{◌≡◌, ℕ, ◌+◌, ◌<◌, ◌≤◌, suc, true, false, is_some, inl, inr, List, [], ◌∷◌, ◌++◌, length, map, get_or, All, Some, None, refl, sym, ap, ◌∙◌, arith, append_assoc}
 use Rattle.std.specs.Prelude.{Option, IsSome, slice_get}
 use Rattle.std.proofs.Math.Nat.{eq-or-lt_of_le}
@@ -13,28 +13,28 @@ use Rattle.event_device.specs.Recorder.{Recorded}
 use Rattle.event_device.specs.declared.control.Control.{Control}
 use Rattle.event_device.specs.Home.{AreHome, IsFilled}
 use Rattle.event_device.specs.Parts.{IsOne, Parts}
-use Rattle.event_device.proofs.Places.{in_all}
+use Rattle.event_device.proofs.Homes.{in_all}
 
--- ---- places
+-- ---- homes
 
 -- where all have a port, none is empty
-pub all_filled : (places : List (Option Port)) (ports : List Port) → places ≡ map Some ports → All (λ place. IsSome place) places
-all_filled places ports is = All-same (λ place. IsSome place) places (map Some ports) is (All-map (λ place. IsSome place) Some ports (λ k d there. refl))
+pub all_filled : (homes : List (Option Port)) (ports : List Port) → homes ≡ map Some ports → All (λ home. IsSome home) homes
+all_filled homes ports is = All-same (λ home. IsSome home) homes (map Some ports) is (All-map (λ home. IsSome home) Some ports (λ k d there. refl))
 
--- one place more has an item
-pub filled_more : {X : Type 0} (places : List (Option X)) (i : ℕ) (place : Option X) → ((n : ℕ) → n < i → (x : X) × (slice_get places n ≡ Some (Some x))) → slice_get places i ≡ Some place → is_some place ≡ true
-    → (n : ℕ) → n < i + 1 → (x : X) × (slice_get places n ≡ Some (Some x))
-filled_more places i None before here there n low = absurd (false≢true there)
-filled_more places i (Some x) before here there n low =
+-- one home more has an item
+pub filled_more : {X : Type 0} (homes : List (Option X)) (i : ℕ) (home : Option X) → ((n : ℕ) → n < i → (x : X) × (slice_get homes n ≡ Some (Some x))) → slice_get homes i ≡ Some home → is_some home ≡ true
+    → (n : ℕ) → n < i + 1 → (x : X) × (slice_get homes n ≡ Some (Some x))
+filled_more homes i None before here there n low = absurd (false≢true there)
+filled_more homes i (Some x) before here there n low =
     let most : n ≤ i = omega (arith, low) in
     elim (eq-or-lt_of_le most) [
-      | inl same ↦ (x, ap (slice_get places) same ∙ here)
+      | inl same ↦ (x, ap (slice_get homes) same ∙ here)
       | inr lower ↦ before n lower
     ]
 
--- one more is taken out of its place
-pub one_taken : {X : Type 0} (xs ys : List X) (x : X) (place : Option X) (left rest all : List (Option X)) → ys ≡ xs ++ x ∷ [] → place ≡ Some x → left ≡ place ∷ rest → map Some xs ++ left ≡ all → map Some ys ++ rest ≡ all
-one_taken xs ys x place left rest all more there first is =
+-- one more is taken out of its home
+pub one_taken : {X : Type 0} (xs ys : List X) (x : X) (home : Option X) (left rest all : List (Option X)) → ys ≡ xs ++ x ∷ [] → home ≡ Some x → left ≡ home ∷ rest → map Some xs ++ left ≡ all → map Some ys ++ rest ≡ all
+one_taken xs ys x home left rest all more there first is =
     ap (λ zs. map Some zs ++ rest) more
     ∙ (ap (λ ps. ps ++ rest) (map-append Some xs (x ∷ []))
     ∙ (append_assoc (map Some xs) (Some x ∷ []) rest
@@ -42,16 +42,16 @@ one_taken xs ys x place left rest all more there first is =
 
 -- ---- parts
 
--- what is in all places
-all_items : {X : Type 0} (places : List (Option X)) → ((n : ℕ) → n < length places → (x : X) × (slice_get places n ≡ Some (Some x))) → (xs : List X) × (places ≡ map Some xs)
+-- what is in all homes
+all_items : {X : Type 0} (homes : List (Option X)) → ((n : ℕ) → n < length homes → (x : X) × (slice_get homes n ≡ Some (Some x))) → (xs : List X) × (homes ≡ map Some xs)
 all_items [] filled = ([], refl)
-all_items (place ∷ places) filled =
+all_items (home ∷ homes) filled =
     let first = filled 0 (omega arith) in
-    let rest = all_items places (λ n low. filled (suc n) (omega (arith, low))) in
-    (first.0 ∷ rest.0, ap (λ o. o ∷ places) (same_Some place (Some first.0) first.1) ∙ ap (λ ps. Some first.0 ∷ ps) rest.1)
+    let rest = all_items homes (λ n low. filled (suc n) (omega (arith, low))) in
+    (first.0 ∷ rest.0, ap (λ o. o ∷ homes) (same_Some home (Some first.0) first.1) ∙ ap (λ ps. Some first.0 ∷ ps) rest.1)
 
-pub all_ports : (places : List (Option Port)) → ((n : ℕ) → n < length places → IsFilled places n) → (ports : List Port) × (places ≡ map Some ports)
-all_ports places filled = all_items places filled
+pub all_ports : (homes : List (Option Port)) → ((n : ℕ) → n < length homes → IsFilled homes n) → (ports : List Port) × (homes ≡ map Some ports)
+all_ports homes filled = all_items homes filled
 
 -- then no port is missing at a stop
 pub none_missing : (r : Parts) → IsOne r → (control : Control) (ports : List Port) → AreHome r control ports → (n : ℕ) → n < length r.recorded.sight.core.shape.ports → IsAbsent ports n → ⊥

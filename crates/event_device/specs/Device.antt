@@ -6,7 +6,7 @@ use Rattle.credit_pool.specs.declared.pool.Credits.{Credits}
 use Rattle.flow_claims.specs.Claims.{lanes_of}
 use Rattle.flow_claims.specs.declared.claims.Claims.{Claims}
 use Rattle.lane_rings.specs.Identity.{LaneId, far_id}
-use Rattle.event_ports.specs.Ports.{account_of, place_of}
+use Rattle.event_ports.specs.Ports.{account_of, own_site}
 use Rattle.event_ports.specs.declared.port.Port.{Port}
 use Rattle.event_scheduler.specs.Scheduler.{Sight}
 
@@ -51,23 +51,23 @@ pub record PortSite : Type 0 where
   pub claim_parts : ℕ
 
 abbrev pub number_of : Port → ℕ
-number_of p = (place_of p).number
+number_of p = (own_site p).number
 
 abbrev pub site_of : Port → PortSite
 site_of p =
     record {
-      pool = (place_of p).pool;
-      claims = (place_of p).lanes.flows.claims;
-      lane = Some (place_of p).lanes.own;
-      links = (place_of p).lanes.flows.links;
-      number = (place_of p).number;
-      depth = (place_of p).lanes.depth;
-      queues = (place_of p).queues;
-      implicit = (place_of p).implicit;
-      quantum = (place_of p).quantum;
-      threshold = (place_of p).threshold;
+      pool = (own_site p).pool;
+      claims = (own_site p).lanes.flows.claims;
+      lane = Some (own_site p).lanes.own;
+      links = (own_site p).lanes.flows.links;
+      number = (own_site p).number;
+      depth = (own_site p).lanes.depth;
+      queues = (own_site p).queues;
+      implicit = (own_site p).implicit;
+      quantum = (own_site p).quantum;
+      threshold = (own_site p).threshold;
       credit_parts = (account_of p).parts;
-      claim_parts = (place_of p).lanes.flows.parts;
+      claim_parts = (own_site p).lanes.flows.parts;
     }
 
 -- the device's port of a number

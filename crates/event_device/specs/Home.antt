@@ -10,9 +10,9 @@ use Rattle.event_device.specs.declared.control.Control.{Control}
 use Rattle.event_device.specs.declared.fault.NotStopped.{NotStopped}
 use Rattle.event_device.specs.declared.fault.NotStopped.TheVariants.{PortLent, ControlLent, Memory}
 
--- a port is in the place of the number
+-- a port is in the home of the number
 abbrev pub IsFilled : List (Option Port) → ℕ → Type 0
-IsFilled places n = (port : Port) × (slice_get places n ≡ Some (Some port))
+IsFilled homes n = (port : Port) × (slice_get homes n ≡ Some (Some port))
 
 -- the control and all ports are at home
 pub record AreHome (r : Parts) (control : Control) (ports : List Port) : Type 0 where

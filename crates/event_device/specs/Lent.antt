@@ -50,7 +50,7 @@ abbrev pub MayLeave : ℕ → Option Port → Parts → Parts → Type 0
 MayLeave n None r q = IsAway n r × (q ≡ r)
 MayLeave n (Some port) r q = Leaves n port r q
 
--- the port is in the place of its number, where none was, and all others are where they were
+-- the port is in the home of its number, where none was, and all others are where they were
 pub record ComesBack (port : Port) (r q : Parts) : Type 0 where
   pub was_away : slice_get r.ports (number_of port) ≡ Some None
   pub at_home : q ≡ record r { ports = slice_set r.ports (number_of port) (Some port) }

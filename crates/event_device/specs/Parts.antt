@@ -32,7 +32,7 @@ pub record IsSmall (p : Plan) : Type 0 where
   pub queues : length p.queues ≤ MAX_QUEUES
   pub lanes : lanes_of p ≤ MAX_LANES
 
--- They are all of one device: the control where it is at home, and each port that is at home, in the place of its number.
+-- They are all of one device: the control where it is at home, and each port that is at home, in the home of its number.
 pub record IsOne (r : Parts) : Type 0 where
   pub fits : IsDevice (device_of r)
   pub scheduler_is : scheduler_of r.recorded.sight ≡ scheduler_site (device_of r)

@@ -4,36 +4,36 @@ ghost use Rattle.std.specs.Prelude.{ℕ, ◌≡◌, ◌<◌, ◌≤◌, [], Some
 ghost use Rattle.event_device.specs.Home.{IsFilled};
 
 use crate::fault::NotStopped;
-use crate::running::{Device, place_all};
+use crate::running::{Device, put_all};
 use event_answers::{Report, StopFault};
 use event_ports::Port;
 use step_log::StepLog;
 
 /// The number of the first port that is lent.
-fn first_lent(places: &[Option<Port>]) -> Option<usize>
+fn first_lent(homes: &[Option<Port>]) -> Option<usize>
     ensures { MatchOption result
-        ((n : ℕ) → n < length places.now → IsFilled places.now n)
-        (λ n. (slice_get places.now n ≡ Some None) × ((k : ℕ) → k < n → IsFilled places.now k)) }
+        ((n : ℕ) → n < length homes.now → IsFilled homes.now n)
+        (λ n. (slice_get homes.now n ≡ Some None) × ((k : ℕ) → k < n → IsFilled homes.now k)) }
 {
-    for (number, place) in places.iter().enumerate() {
-        if place.is_none() {
+    for (number, home) in homes.iter().enumerate() {
+        if home.is_none() {
             return Some(number);
         }
     }
     None
 }
 
-/// Takes all ports out of their places, in their order.
-fn gather(places: &mut Vec<Option<Port>>, mut ports: Vec<Port>) -> Vec<Port>
-    requires home { All (λ place. IsSome place) places.old.items }
+/// Takes all ports out of their homes, in their order.
+fn gather(homes: &mut Vec<Option<Port>>, mut ports: Vec<Port>) -> Vec<Port>
+    requires home { All (λ home. IsSome home) homes.old.items }
     requires empty { ports.items ≡ [] }
-    requires room { vec_len places.old ≤ vec_capacity ports }
-    ensures gathered { places.old.items ≡ map Some result.items }
-    ensures empty { places.new.items ≡ [] }
-    ensures capacity { vec_capacity places.new ≡ vec_capacity places.old }
+    requires room { vec_len homes.old ≤ vec_capacity ports }
+    ensures gathered { homes.old.items ≡ map Some result.items }
+    ensures empty { homes.new.items ≡ [] }
+    ensures capacity { vec_capacity homes.new ≡ vec_capacity homes.old }
 {
-    for place in places.drain(..) {
-        let Some(port) = place else { unreachable!() };
+    for home in homes.drain(..) {
+        let Some(port) = home else { unreachable!() };
         ports.push_reserved(port);
     }
     ports
@@ -62,23 +62,23 @@ impl<L: StepLog> Device<L> {
             recorder,
             control,
             claims,
-            ports: mut places,
+            ports: mut homes,
             alloc,
         } = self;
         let Some(control) = control else {
             unreachable!()
         };
-        let ports = gather(&mut places, room);
+        let ports = gather(&mut homes, room);
         match recorder.stop(alloc, control, ports) {
             Ok(report) => Ok(report),
             Err((StopFault::Missing { .. }, ..)) => unreachable!(),
             Err((StopFault::Memory, recorder, control, ports)) => {
-                place_all(&mut places, ports);
+                put_all(&mut homes, ports);
                 let device = Device {
                     recorder,
                     control: Some(control),
                     claims,
-                    ports: places,
+                    ports: homes,
                     alloc,
                 };
                 Err((NotStopped::Memory, device))

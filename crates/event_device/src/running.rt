@@ -17,7 +17,7 @@ use std::thread::yield_now;
 use step_log::{Counted, Memory, StepLog};
 use step_tally::Tally;
 
-/// A device that runs, with all of its parts that aren't lent: its recorder, its control, and its ports, each in the place of its
+/// A device that runs, with all of its parts that aren't lent: its recorder, its control, and its ports, each in the home of its
 /// number. A port is lent to the thread that uses it, and comes back before the stop.
 #[derive(Drop)]
 pub struct Device<L: StepLog = Tally<Counted>> {
@@ -39,14 +39,14 @@ impl<L: StepLog> Model for Device<L> {
     ghost invariant = { λ a. IsOne (record { recorded = a.recorder; control = a.control; claims = a.claims.value; ports = a.ports.items }) };
 }
 
-/// Puts all ports into their places, of which none is there yet.
-pub(crate) fn place_all(places: &mut Vec<Option<Port>>, ports: Vec<Port>)
-    requires empty { places.old.items ≡ [] }
-    requires room { vec_len ports ≤ vec_capacity places.old }
-    ensures { places.new.items ≡ map Some ports.items }
+/// Puts all ports into their homes, of which none is there yet.
+pub(crate) fn put_all(homes: &mut Vec<Option<Port>>, ports: Vec<Port>)
+    requires empty { homes.old.items ≡ [] }
+    requires room { vec_len ports ≤ vec_capacity homes.old }
+    ensures { homes.new.items ≡ map Some ports.items }
 {
     for port in ports {
-        places.push_reserved(Some(port));
+        homes.push_reserved(Some(port));
     }
 }
 
@@ -89,16 +89,16 @@ impl<L: StepLog> Device<L> {
         // To read these makes known that they are within their limits.
         let _limits = (shape.bound(), shape.lanes());
         let _queues = shape.queues();
-        let Ok(mut places) = Vec::with_capacity(alloc, shape.ports().len()) else {
+        let Ok(mut homes) = Vec::with_capacity(alloc, shape.ports().len()) else {
             return Err(DeviceFault::Memory(shape));
         };
         let (scheduler, ports, control) = device(alloc, shape)?;
-        place_all(&mut places, ports);
+        put_all(&mut homes, ports);
         Ok(Device {
             recorder: Recorder::begin_with(alloc, log, scheduler),
             claims: Snapshot::of(&control.claims),
             control: Some(control),
-            ports: places,
+            ports: homes,
             alloc,
         })
     }

@@ -8,7 +8,7 @@ use Rattle.event_ports.specs.Counts.{after_behind, after_burst, after_dequeue, p
 use Rattle.event_ports.specs.Draws.{Settles}
 use Rattle.event_ports.specs.Lanes as lanes
 use Rattle.event_ports.specs.Lanes.{Releases, SubmitsAll}
-use Rattle.event_ports.specs.Ports.{Bursts, StopsAt, account_of, counts_of, hand, links, place_of, pocket_of, released_first, seen_by, was_filled}
+use Rattle.event_ports.specs.Ports.{Bursts, StopsAt, account_of, counts_of, hand, links, own_site, pocket_of, released_first, seen_by, was_filled}
 use Rattle.event_ports.specs.declared.counts.PortCounts.{PortCounts}
 use Rattle.event_ports.specs.declared.lane.Lane.TheVariants.{Own}
 use Rattle.event_ports.specs.declared.port.Port.{Port}
@@ -27,7 +27,7 @@ use Rattle.event_handles.specs.declared.port.Seat.{Seat}
 -- Of these events the first n were taken, and then came the end or a refusal: all that `Port::enqueue_burst` says. The port is still the
 -- same one of its device.
 pub record Submits (p : Port) (events : List Event) (n : ℕ) (end : Option Refused) (q : Port) : Type 0 where
-  pub place : place_of q ≡ place_of p
+  pub place : own_site q ≡ own_site p
   pub credit : Stays (account_of p) (account_of q)
   pub site : site_of q ≡ site_of p
   pub count : n ≤ length events
@@ -60,27 +60,27 @@ IsEnqueue None None given answer = answer ≡ no_device
 -- At most so many deliveries came, with what is released first: all that `Port::dequeue_burst` says where it is `Ok`. The port is still
 -- the same one of its device.
 pub record Receives (p : Port) (max : ℕ) (deliveries : List Delivery) (q : Port) : Type 0 where
-  pub place : place_of q ≡ place_of p
+  pub place : own_site q ≡ own_site p
   pub credit : Stays (account_of p) (account_of q)
   pub site : site_of q ≡ site_of p
   pub received : lanes.Dequeues (links p) (released_first p) (hand p) (hand q) deliveries
-  pub few : (length deliveries ≤ max) × (length (hand q).holding ≤ (place_of p).lanes.depth)
-  pub drained : length deliveries < max → length (hand q).holding < (place_of p).lanes.depth → seen_by q ≡ []
+  pub few : (length deliveries ≤ max) × (length (hand q).holding ≤ (own_site p).lanes.depth)
+  pub drained : length deliveries < max → length (hand q).holding < (own_site p).lanes.depth → seen_by q ≡ []
   pub own_first : length ((hand q).got Own) ≢ length ((hand p).got Own) + length deliveries → seen_by q ≡ []
-  pub settled : Settles (place_of p).quantum ((pocket_of p + released_first p) % 2 ^ 64) (account_of p) (pocket_of q) (account_of q)
+  pub settled : Settles (own_site p).quantum ((pocket_of p + released_first p) % 2 ^ 64) (account_of p) (pocket_of q) (account_of q)
   pub counted : counts_of q ≡ after_dequeue (released_first p) (length deliveries) (counts_of p)
 
 -- A reply ring had no room for all that is released first, and nothing came: all that `Port::dequeue_burst` says of `Behind`. The port
 -- is still the same one of its device.
 pub record FallsBehind (p : Port) (released : ℕ) (q : Port) : Type 0 where
-  pub place : place_of q ≡ place_of p
+  pub place : own_site q ≡ own_site p
   pub credit : Stays (account_of p) (account_of q)
   pub site : site_of q ≡ site_of p
-  pub implicit : IsTrue (place_of p).implicit
+  pub implicit : IsTrue (own_site p).implicit
   pub some_held : released < length (hand p).holding
   pub releases : Releases released (hand p) (hand q)
   pub filled : was_filled q ops.Release
-  pub settled : Settles (place_of p).quantum ((pocket_of p + released) % 2 ^ 64) (account_of p) (pocket_of q) (account_of q)
+  pub settled : Settles (own_site p).quantum ((pocket_of p + released) % 2 ^ 64) (account_of p) (pocket_of q) (account_of q)
   pub counted : counts_of q ≡ after_behind released (counts_of p)
 
 -- the deliveries are written to the front of the array

@@ -12,8 +12,8 @@ use Rattle.event_ports.specs.declared.lane.Lane.{Lane}
 use Rattle.event_ports.specs.declared.lane.Lane.TheVariants.{Own, Flow}
 use Rattle.event_ports.specs.Holds.{AddedAll, GaveBack, Hands, HaveNoNew, Same, Says, held_on, stint_in}
 use Rattle.event_ports.specs.declared.lanes.Lanes.{Lanes}
-use Rattle.event_ports.specs.Flows.{FlowPlace, flow_place, hands_of}
-use Rattle.event_ports.specs.Handed.{CountsNone, CountsOne, flow_count, hand_of, lanes_place}
+use Rattle.event_ports.specs.Flows.{FlowSite, flow_site, hands_of}
+use Rattle.event_ports.specs.Handed.{CountsNone, CountsOne, flow_count, hand_of, lanes_site}
 use Rattle.event_ports.specs.Lanes.{AreOrdered, held_of, open_on, pair_in}
 use Rattle.event_ports.proofs.Calls.{AreIdle, gave_back, held_added, more_needs, says_no_new, same_no_new}
 use Rattle.event_ports.proofs.Submitted.{counts_none, counts_one}
@@ -43,18 +43,18 @@ module _ {E : Type 0} (h k : Hands) (lane : ℕ) (r : Reply) (result : Result (U
   added_still = by_answer result (λ says. added_said h k lane r says) (λ same. added_same h k same) lists
 
   pub idle_still : ((j : ℕ) → is_some (stint_in k j) ≡ is_some (stint_in h j)) → AreIdle h → AreIdle k
-  idle_still places idle j none = places j ∙ idle j (sym (held_still j) ∙ none)
+  idle_still entries idle j none = entries j ∙ idle j (sym (held_still j) ∙ none)
 
 -- what it counts
-pub counts_flow : {E : Type 0} (a b : Lanes) (lane : ℕ) (r : Reply) (result : Result (Unit {0}) E) → b.own ≡ a.own → flow_place b.flows ≡ flow_place a.flows → lane < flow_count (lanes_place a)
+pub counts_flow : {E : Type 0} (a b : Lanes) (lane : ℕ) (r : Reply) (result : Result (Unit {0}) E) → b.own ≡ a.own → flow_site b.flows ≡ flow_site a.flows → lane < flow_count (lanes_site a)
     → MatchResult result (λ _. Says lane r (hands_of a.flows) (hands_of b.flows)) (λ _. Same (hands_of a.flows) (hands_of b.flows))
     → MatchResult result (λ _. CountsOne r a b) (λ _. CountsNone a b)
-counts_flow a b lane r (Ok _) own place there says =
+counts_flow a b lane r (Ok _) own site there says =
     let before = (hand_of a).said in
     let after = (hand_of b).said in
-    let n = flow_count (lanes_place a) in
-    let m = flow_count (lanes_place b) in
-    let e : m ≡ n = ap (λ (p : FlowPlace). length (lanes_of p.claims)) place in
+    let n = flow_count (lanes_site a) in
+    let m = flow_count (lanes_site b) in
+    let e : m ≡ n = ap (λ (p : FlowSite). length (lanes_of p.claims)) site in
     let others : (l : Lane) → l ≢ Flow lane → after l ≡ before l =
     each_lane (λ l. l ≢ Flow lane → after l ≡ before l) (λ ne. ap answered own) (λ j ne. says.others.answered_is j (λ h. ne (ap Flow h))) in
     record {
@@ -62,12 +62,12 @@ counts_flow a b lane r (Ok _) own place there says =
       mores = counts_one is_more_reply n m before after (Flow lane) r e there says.answered_is others;
       releases = counts_one is_release_reply n m before after (Flow lane) r e there says.answered_is others;
     }
-counts_flow a b lane r (Err _) own place there same =
+counts_flow a b lane r (Err _) own site there same =
     let before = (hand_of a).said in
     let after = (hand_of b).said in
-    let n = flow_count (lanes_place a) in
-    let m = flow_count (lanes_place b) in
-    let e : m ≡ n = ap (λ (p : FlowPlace). length (lanes_of p.claims)) place in
+    let n = flow_count (lanes_site a) in
+    let m = flow_count (lanes_site b) in
+    let e : m ≡ n = ap (λ (p : FlowSite). length (lanes_of p.claims)) site in
     let still : (l : Lane) → after l ≡ before l = each_lane (λ l. after l ≡ before l) (ap answered own) same.answered_is in
     record {
       news = counts_none is_new_reply n m before after e still;

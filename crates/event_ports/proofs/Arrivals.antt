@@ -101,7 +101,7 @@ arrives_more lanes later all h k m b c e read a t = record {
       ∙ ap (λ r. h.holding ++ r) (sym (map-append (λ (x : Arrival). holding_of x.0 x.1) a.arrived t.arrived));
 }
 
--- from the links up to a later place, where those between were passed over
+-- from the links up to a later site, where those between were passed over
 pub arrives_past : (links : List ℕ) (from to : ℕ) (h k : Hand) (b c : List Delivery) → from ≤ to → ArrivesFrom (map Flow (take from links)) h k b c → ArrivesFrom (map Flow (take to links)) h k b c
 arrives_past links from to h k b c le a =
     let past : List ℕ = drop from (take to links) in
@@ -162,7 +162,7 @@ arrives links h k b c a = record {
   holding = a.holding;
 }
 
--- those that were received take their places
+-- those that were received take their entries
 pub room_less : (most depth : ℕ) (xs ys : List Holding) (lane : Lane) (ds es came : List Delivery) → HasRoomFor most depth xs ds → length es ≤ most
     → ys ≡ xs ++ map (holding_of lane) came → es ≡ ds ++ came → HasRoomFor most depth ys es
 room_less most depth xs ys lane ds es came r few e f =

@@ -5,17 +5,17 @@ use Rattle.std.proofs.lemmas.List.{length-map}
 use mathlib.Core.Logic.{dite}
 use native.Mathlib.Decide.{dec_le}
 use Rattle.lists.proofs.Sums.{sum_of_none, sum_changed}
-use Rattle.seat_sums.specs.Sums.{count}
+use Rattle.lists.specs.Counts.{count}
 use Rattle.evt_types.specs.Event.{pair_of}
 use Rattle.lane_rings.specs.declared.far.Far.{Far}
 use Rattle.event_ports.specs.declared.lane.Holding.{Holding}
 use Rattle.event_ports.specs.declared.lane.Lane.{Lane}
 use Rattle.event_ports.specs.declared.lane.Lane.TheVariants.{Own, Flow}
-use Rattle.event_ports.specs.Holds.{Hands, held_now, place_at}
+use Rattle.event_ports.specs.Holds.{Hands, held_now, entry_at}
 use Rattle.event_ports.specs.Lanes.{AreOf, AreOrdered, held_of, pair_in, same_lane}
 use Rattle.event_ports.proofs.Submitted.{IsThere}
 use Rattle.event_ports.proofs.Orders.{lane_same}
-use Rattle.event_ports.proofs.Places.{none_left, past_places}
+use Rattle.event_ports.proofs.Entries.{none_left, past_entries}
 use Rattle.event_ports.proofs.Totals.{sum_split}
 
 one_or_none : (x : Holding) (xs : List Holding) (b : Bool) → length (cond b (x ∷ xs) xs) ≡ count b + length xs
@@ -57,9 +57,9 @@ by_lanes n (x ∷ xs) none =
 
 -- what is noted of a flow lane that isn't there is nothing
 pub all_there : (own : Far) (h : Hands) (xs : List Holding) (n : ℕ) → length h.stints ≡ n → AreOrdered own h xs → AreOf n xs
-all_there own h xs n places ordered =
+all_there own h xs n entries ordered =
     by_lanes n xs
     (λ j le.
-    let free : place_at h.stints j ≡ None = past_places h.stints j (omega (arith, places, le)) in
+    let free : entry_at h.stints j ≡ None = past_entries h.stints j (omega (arith, entries, le)) in
     none_left (held_of (Flow j) xs)
     (omega (arith, ap length (ordered (Flow j)), length-map (held_of (Flow j) xs) pair_in, ap length (ap (λ o. map pair_of (held_now o)) free))))

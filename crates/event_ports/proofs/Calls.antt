@@ -9,7 +9,7 @@ use Rattle.evt_types.specs.declared.event.Op.{Op}
 use Rattle.evt_types.specs.declared.event.Op.TheVariants as ops
 use Rattle.evt_types.specs.declared.event.Reply.{Reply}
 use Rattle.evt_types.specs.Operation.{is_answer_op, is_more_op, is_more_reply, is_new_op, is_new_reply, needs_held}
-use Rattle.seat_sums.specs.Sums.{count}
+use Rattle.lists.specs.Counts.{count}
 use Rattle.lane_rings.specs.Ends.{answers_among}
 use Rattle.event_ports.specs.Holds.{Hands, stint_in, received_on, answered_on, held_on, Same, SameBut, Gets, Brings, Says, HaveNoNew, GaveBack, NoneSurrendered}
 use Rattle.event_ports.proofs.Submitted.{count_more}
@@ -22,21 +22,21 @@ AreIdle h = (j : ℕ) → held_on h j ≡ [] → is_some (stint_in h j) ≡ fals
 -- an answer, and then the lane is left
 pub idle_answered : (h k m : Hands) (lane : ℕ) (r : Reply) → Says lane r h k → ((j : ℕ) → is_some (stint_in k j) ≡ is_some (stint_in h j)) → Same k m
     → (held_on k lane ≡ [] → is_some (stint_in m lane) ≡ false) → ((j : ℕ) → j ≢ lane → is_some (stint_in m j) ≡ is_some (stint_in k j)) → AreIdle h → AreIdle m
-idle_answered h k m lane r says places same left elsewhere idle j none =
+idle_answered h k m lane r says entries same left elsewhere idle j none =
     let At : ℕ → Type 0 = λ i. is_some (stint_in m i) ≡ false in
     dite (ℕ_discrete j lane)
     (λ e. subst At (sym e) (left (sym (same.held lane) ∙ ap (held_on m) (sym e) ∙ none)))
-    (λ ne. elsewhere j ne ∙ places j ∙ idle j (sym (says.others.held j ne) ∙ sym (same.held j) ∙ none))
+    (λ ne. elsewhere j ne ∙ entries j ∙ idle j (sym (says.others.held j ne) ∙ sym (same.held j) ∙ none))
 
 -- a lane is held, something is received from it, and it is left
 pub idle_received : (h j k m : Hands) (lane : ℕ) (ds : List Delivery) → Same h j → ((i : ℕ) → i ≢ lane → is_some (stint_in j i) ≡ is_some (stint_in h i)) → Gets lane ds j k
     → ((i : ℕ) → is_some (stint_in k i) ≡ is_some (stint_in j i)) → Same k m
     → (held_on k lane ≡ [] → is_some (stint_in m lane) ≡ false) → ((i : ℕ) → i ≢ lane → is_some (stint_in m i) ≡ is_some (stint_in k i)) → AreIdle h → AreIdle m
-idle_received h j k m lane ds held elsewhere gets places same left others idle i none =
+idle_received h j k m lane ds held elsewhere gets entries same left others idle i none =
     let At : ℕ → Type 0 = λ x. is_some (stint_in m x) ≡ false in
     dite (ℕ_discrete i lane)
     (λ e. subst At (sym e) (left (sym (same.held lane) ∙ ap (held_on m) (sym e) ∙ none)))
-    (λ ne. others i ne ∙ places i ∙ elsewhere i ne ∙ idle i (sym (held.held i) ∙ sym (gets.others.held i ne) ∙ sym (same.held i) ∙ none))
+    (λ ne. others i ne ∙ entries i ∙ elsewhere i ne ∙ idle i (sym (held.held i) ∙ sym (gets.others.held i ne) ∙ sym (same.held i) ∙ none))
 
 -- an event is added beside a held one, and nothing that is held changes
 pub held_added : (h k : Hands) (lane : ℕ) (r : Reply) → is_more_reply r ≡ true → Says lane r h k → (j : ℕ) → held_on k j ≡ held_on h j

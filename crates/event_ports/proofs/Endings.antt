@@ -12,7 +12,7 @@ use native.Mathlib.Decide.{ℕ_discrete}
 use Rattle.evt_types.specs.declared.event.Delivery.{Delivery}
 use Rattle.lane_rings.specs.Ends.{unanswered}
 use Rattle.lane_rings.specs.declared.far.Far.{Far}
-use Rattle.seat_sums.specs.Sums.{count}
+use Rattle.lists.specs.Counts.{count}
 use Rattle.flow_claims.specs.declared.seating.LaneLists.{LaneLists}
 use Rattle.flow_claims.specs.declared.seating.Past.{Past}
 use Rattle.flow_claims.specs.Ends.{IsEnd}
@@ -20,7 +20,7 @@ use Rattle.flow_claims.specs.Lists.{no_lists}
 use Rattle.flow_claims.specs.Stints.{at_lane, gives_up, last_end, left_in, IsRecordFrom}
 use Rattle.event_ports.specs.Holds.{left_by, left_past, stints_at}
 use Rattle.event_ports.proofs.Unanswered.{given_back, surrendered}
-use Rattle.event_ports.proofs.Places.{none_left}
+use Rattle.event_ports.proofs.Entries.{none_left}
 
 abbrev left_count : Past → ℕ
 left_count p = length (left_by p)

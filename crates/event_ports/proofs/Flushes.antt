@@ -14,15 +14,15 @@ use Rattle.event_answers.specs.declared.answer.Refused.TheVariants.{Stopped, Bad
 use Rattle.event_ports.specs.declared.desk.Desk.{Desk}
 use Rattle.event_ports.specs.declared.lanes.Lanes.{Lanes}
 use Rattle.event_ports.specs.Draws.{FillsWithin, HasAsked, HasCredits, HasDrawn, HasLooked, SameSums, Settles, most_draws}
-use Rattle.event_ports.specs.Handed.{LanesPlace, lanes_place, hand_of, flow_count}
+use Rattle.event_ports.specs.Handed.{LanesSite, lanes_site, hand_of, flow_count}
 use Rattle.event_ports.specs.Lanes.{Hand, Releases, Rests, SubmitsTo, counted, lane_for, reply_of}
-use Rattle.event_ports.specs.Desks.{account_of, pocket_of, place_of, hand, was_filled, AsksPool, Bursts, DrawsPool, EndsWith, Gathers, GathersUpTo, IsFlushed, MaySpend, MaySpendMore, Pays, Refuses, StopsAt, SameCredits, Stocks}
+use Rattle.event_ports.specs.Desks.{account_of, pocket_of, own_site, hand, was_filled, AsksPool, Bursts, DrawsPool, EndsWith, Gathers, GathersUpTo, IsFlushed, MaySpend, MaySpendMore, Pays, Refuses, StopsAt, SameCredits, Stocks}
 
 -- a count of replies is one of what was said
-pub same_count : (P : Reply → Bool) (a b : Lanes) → lanes_place b ≡ lanes_place a → hand_of b ≡ hand_of a
-    → counted P (flow_count (lanes_place b)) (hand_of b).said ≡ counted P (flow_count (lanes_place a)) (hand_of a).said
-same_count P a b place hand =
-    ap (λ (p : LanesPlace). counted P (flow_count p) (hand_of b).said) place ∙ ap (λ (h : Hand). counted P (flow_count (lanes_place a)) h.said) hand
+pub same_count : (P : Reply → Bool) (a b : Lanes) → lanes_site b ≡ lanes_site a → hand_of b ≡ hand_of a
+    → counted P (flow_count (lanes_site b)) (hand_of b).said ≡ counted P (flow_count (lanes_site a)) (hand_of a).said
+same_count P a b site hand =
+    ap (λ (p : LanesSite). counted P (flow_count p) (hand_of b).said) site ∙ ap (λ (h : Hand). counted P (flow_count (lanes_site a)) h.said) hand
 
 module _ (q r : Desk) (f : IsFlushed q r) where
   same_sums : (v : Account) → SameSums v (account_of q) → SameSums v (account_of r)
@@ -44,18 +44,18 @@ module _ (q r : Desk) (f : IsFlushed q r) where
   same_spend : (p : Desk) (n m : ℕ) → m ≡ n → MaySpend p n q → MaySpend p m r
   same_spend p n m e may =
       subst (λ (k : ℕ). MaySpend p k r) (sym e)
-      (subst (λ (w : Account). HasCredits (place_of p).quantum (place_of p).threshold (pocket_of p) (account_of p) n w) (sym f.account) may)
+      (subst (λ (w : Account). HasCredits (own_site p).quantum (own_site p).threshold (pocket_of p) (account_of p) n w) (sym f.account) may)
 
   same_spend_more : (p : Desk) (n m : ℕ) → m ≡ n → MaySpendMore p n q → MaySpendMore p m r
   same_spend_more p n m e may =
       subst (λ (k : ℕ). MaySpendMore p k r) (sym e)
-      (subst (λ (w : Account). HasDrawn (place_of p).quantum (place_of p).threshold (pocket_of p) (account_of p) n w) (sym f.account) may)
+      (subst (λ (w : Account). HasDrawn (own_site p).quantum (own_site p).threshold (pocket_of p) (account_of p) n w) (sym f.account) may)
 
   same_asked : (p : Desk) (answer : Draw) → AsksPool p answer q → AsksPool p answer r
-  same_asked p answer asks = subst (λ (w : Account). HasAsked (place_of p).quantum (place_of p).threshold (account_of p) answer w) (sym f.account) asks
+  same_asked p answer asks = subst (λ (w : Account). HasAsked (own_site p).quantum (own_site p).threshold (account_of p) answer w) (sym f.account) asks
 
   same_drawn : (p : Desk) (answer : Draw) → DrawsPool p answer q → DrawsPool p answer r
-  same_drawn p answer drawn = subst (λ (w : Account). FillsWithin most_draws (place_of p).quantum (place_of p).threshold (account_of p) answer w) (sym f.account) drawn
+  same_drawn p answer drawn = subst (λ (w : Account). FillsWithin most_draws (own_site p).quantum (own_site p).threshold (account_of p) answer w) (sym f.account) drawn
 
   -- what was paid
   pub still_pays : (p : Desk) (o : Op) → Pays o p q → Pays o p r
@@ -65,8 +65,8 @@ module _ (q r : Desk) (f : IsFlushed q r) where
   still_pays p ops.Forward pays = (same_credits p pays.0, same_account p pays.1)
   still_pays p ops.Release pays =
       let came : ℕ = (pocket_of p + 1) % 2 ^ 64 in
-      subst (λ (n : ℕ). Settles (place_of p).quantum came (account_of p) n (account_of r)) (sym f.pocket)
-      (subst (λ (w : Account). Settles (place_of p).quantum came (account_of p) (pocket_of q) w) (sym f.account) pays)
+      subst (λ (n : ℕ). Settles (own_site p).quantum came (account_of p) n (account_of r)) (sym f.pocket)
+      (subst (λ (w : Account). Settles (own_site p).quantum came (account_of p) (pocket_of q) w) (sym f.account) pays)
   still_pays p ops.ForwardMore pays =
       let more : pocket_of r + 1 ≡ pocket_of q + 1 = ap (λ n. n + 1) f.pocket in
       (same_stocks p (pocket_of q + 1) (pocket_of r + 1) more pays.0, same_spend_more p (pocket_of q + 1) (pocket_of r + 1) more pays.1)
@@ -98,7 +98,7 @@ module _ (q r : Desk) (f : IsFlushed q r) where
     why.2,
     subst (λ (w : Account). IsOpen w.last) (sym f.account) why.3,
     why.4 ∙ ap (λ (w : Account). free_of w.last) (sym f.account),
-    subst (λ (w : Account). (place_of p).threshold < in_use (account_of p).limit w.last + (place_of p).quantum) (sym f.account) why.5,
+    subst (λ (w : Account). (own_site p).threshold < in_use (account_of p).limit w.last + (own_site p).quantum) (sym f.account) why.5,
     same_credits p why.6,
     (λ new. same_asked p (draws.Short free) (why.7 new)),
     (λ more. ((why.8 more).0, same_drawn p (draws.Short free) (why.8 more).1)),
@@ -147,7 +147,7 @@ module _ (q r : Desk) (f : IsFlushed q r) where
     event = stops.event;
     between = stops.between;
     is_next = stops.is_next;
-    place = stops.place;
+    site = stops.site;
     credit = stops.credit;
     submitted = stops.submitted;
     refused = still_refuses stops.between stops.event x stops.refused;
@@ -160,7 +160,7 @@ module _ (q r : Desk) (f : IsFlushed q r) where
     event,
     at,
     record {
-      place = f.place ∙ d.place;
+      site = f.site ∙ d.site;
       credit = subst (λ (w : Account). Stays (account_of p) w) (sym f.account) d.credit;
       rests = subst (λ (k : Hand). Rests (hand p) k) (sym f.hands) d.rests;
       why = still_refuses p event x d.why;

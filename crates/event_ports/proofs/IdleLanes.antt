@@ -9,7 +9,7 @@ use Rattle.event_ports.specs.declared.lanes.Lanes.{Lanes}
 use Rattle.event_ports.specs.Flows.{hands_of}
 use Rattle.event_ports.specs.Holds.{held_on}
 use Rattle.event_ports.specs.Lanes.{held_of, pair_in}
-use Rattle.event_ports.proofs.Places.{none_left, nothing_there}
+use Rattle.event_ports.proofs.Entries.{none_left, nothing_there}
 
 pub idle_lanes : (a : Lanes) (j : ℕ) → held_of (Flow j) a.order.items ≡ [] → is_some (stint_at (hands_of a.flows).view j) ≡ false
 idle_lanes a j none =

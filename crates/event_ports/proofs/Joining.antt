@@ -16,7 +16,7 @@ use Rattle.event_ports.specs.declared.lane.Lane.TheVariants.{Flow}
 use Rattle.event_ports.specs.Holds.{AreLinked, answered_past, left_past}
 use Rattle.event_ports.specs.declared.lane.Holding.{Holding}
 use Rattle.event_ports.specs.Lanes.{IsEndOf, held_of, pair_in}
-use Rattle.event_ports.specs.Ports.{hand, links, place_of}
+use Rattle.event_ports.specs.Ports.{hand, links, own_site}
 use Rattle.event_ports.proofs.Unanswered.{left_append}
 use Rattle.event_ports.specs.Stop.{counted_past, AreLinkedBy, AreStintsOf, HasNoNew, Joins, flows_in, LinksAgree}
 use Rattle.event_ports.proofs.Stops.{joined, past_append}
@@ -52,7 +52,7 @@ linked_more linked port before after j agree all =
     (All-append (λ (p : Past). linked p.port p.lane ≡ true) before.finished j.stints all
     (λ k d lt. let p : Past = get_or j.stints k d in ap (λ n. linked n p.lane) (j.linked k d lt).0 ∙ agree p.lane (j.linked k d lt).1))
 
-pub stints_more : (ports : List Port) (p : Port) (all its : List Past) → AreStintsOf ports all → IsEndOf (hand p) its → AreLinked (place_of p).number (links p) its → AreStintsOf (ports ++ p ∷ []) (all ++ its)
+pub stints_more : (ports : List Port) (p : Port) (all its : List Past) → AreStintsOf ports all → IsEndOf (hand p) its → AreLinked (own_site p).number (links p) its → AreStintsOf (ports ++ p ∷ []) (all ++ its)
 stints_more [] p all its none lists linked =
     record {
       its = its;

@@ -1,4 +1,4 @@
-pub mod Places
+pub mod Entries
 pub mod Extras
 pub mod Unanswered
 pub mod Turns

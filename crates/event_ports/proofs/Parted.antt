@@ -9,7 +9,7 @@ use Rattle.event_ports.specs.declared.lane.Lane.TheVariants.{Flow}
 use Rattle.event_ports.specs.Holds.{Hands, Ends, GaveBack, held_on, stint_in}
 use Rattle.event_ports.specs.Lanes.{AreOrdered, IsEndOf, got_on, said_on, pair_in}
 use Rattle.event_ports.proofs.Calls.{AreIdle}
-use Rattle.event_ports.proofs.Places.{none_left, nothing_there}
+use Rattle.event_ports.proofs.Entries.{none_left, nothing_there}
 use Rattle.event_ports.proofs.Unanswered.{nothing_left}
 
 pub end_of : (own : Far) (h : Hands) (xs : List Holding) (v : Seating) → AreOrdered own h xs → GaveBack h → AreIdle h → Ends h v

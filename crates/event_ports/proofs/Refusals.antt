@@ -7,7 +7,7 @@ use Rattle.evt_types.specs.declared.event.Op.{Op}
 use Rattle.evt_types.specs.declared.event.Op.TheVariants as ops
 use Rattle.evt_types.specs.declared.event.Reply.{Reply}
 use Rattle.evt_types.specs.declared.event.TheConstants.{MAX_EXTRAS}
-use Rattle.seat_sums.specs.Sums.{count}
+use Rattle.lists.specs.Counts.{count}
 use Rattle.lane_rings.specs.Ends.{answered, answers_among, unanswered}
 use Rattle.lane_rings.specs.Identity.{far_id, LaneId}
 use Rattle.lane_rings.specs.Refusal.{RefusesReply}

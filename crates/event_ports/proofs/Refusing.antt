@@ -16,7 +16,7 @@ use Rattle.credit_pool.specs.declared.answer.Draw.{Draw}
 use Rattle.credit_pool.specs.declared.answer.Draw.TheVariants as draws
 use Rattle.credit_pool.specs.Accounts.{IsOpen}
 use Rattle.event_ports.specs.Draws.{FillsWithin, HasLooked, most_draws}
-use Rattle.event_ports.specs.Desks.{Place, place_of, account_of, pocket_of, was_filled, AsksPool, HasNoCredit, HasStocked, MaySpend, Pays, SameCredits, Stocks, Refuses}
+use Rattle.event_ports.specs.Desks.{DeskSite, own_site, account_of, pocket_of, was_filled, AsksPool, HasNoCredit, HasStocked, MaySpend, Pays, SameCredits, Stocks, Refuses}
 
 pub rests_then : (lane : Lane) (r : Reply) (h k m : Hand) → Rests h k → Submits lane r k m → Submits lane r h m
 rests_then lane r h k m a b = record {
@@ -49,7 +49,7 @@ drew (suc n) quantum ceiling v after (inr (first, second, between, raced, furthe
     (rest.0 ∙ ap (λ (w : Account). w.drawn + quantum) raced.5, rest.1 ∙ ap (λ (w : Account). w.returned) raced.5)
 
 -- a draw after a call that changed no credits
-module _ (p k : Desk) (place : place_of k ≡ place_of p) (same : SameCredits p k) where
+module _ (p k : Desk) (site : own_site k ≡ own_site p) (same : SameCredits p k) where
   -- so many credits were there, or were drawn
   stocks : (m q : Desk) (n : ℕ) → HasStocked k m → account_of q ≡ account_of m → n ≡ pocket_of m → Stocks p n q
   stocks m q n h account n_is = (
@@ -59,23 +59,23 @@ module _ (p k : Desk) (place : place_of k ≡ place_of p) (same : SameCredits p 
         (n_is ∙ s.0 ∙ same.0, (ap (λ (w : Account). w.drawn) is ∙ same.1.0, ap (λ (w : Account). w.returned) is ∙ same.1.1))),
     (λ none.
         let s = h.of_pool (same.0 ∙ none) in
-        let d = drew most_draws (place_of k).quantum (place_of k).threshold (account_of k) (account_of m) s.1 in
-        let quantum : (place_of k).quantum ≡ (place_of p).quantum = ap (λ (x : Place). x.quantum) place in
+        let d = drew most_draws (own_site k).quantum (own_site k).threshold (account_of k) (account_of m) s.1 in
+        let quantum : (own_site k).quantum ≡ (own_site p).quantum = ap (λ (x : DeskSite). x.quantum) site in
         (n_is ∙ s.0 ∙ quantum, ap (λ (w : Account). w.drawn) account ∙ d.0 ∙ (λ i. same.1.0 i + quantum i), ap (λ (w : Account). w.returned) account ∙ d.1 ∙ same.1.1)),
   )
 
   -- a NEW, after a look that read an open word
   module _ (looked : HasLooked (account_of p) (account_of k)) (was_open : IsOpen (account_of k).last) where
-    asked : (answer : Draw) (q : Desk) → FillsWithin most_draws (place_of k).quantum (place_of k).threshold (account_of k) answer (account_of q) → AsksPool p answer q
+    asked : (answer : Draw) (q : Desk) → FillsWithin most_draws (own_site k).quantum (own_site k).threshold (account_of k) answer (account_of q) → AsksPool p answer q
     asked answer q filled = record {
       seen = account_of k;
       looked = looked;
       was_open = was_open;
-      asked = subst (λ (x : Place). FillsWithin most_draws x.quantum x.threshold (account_of k) answer (account_of q)) place filled;
+      asked = subst (λ (x : DeskSite). FillsWithin most_draws x.quantum x.threshold (account_of k) answer (account_of q)) site filled;
     }
 
     -- there is no credit for it
-    pub no_credit : (q : Desk) (e : Event) (f : Refused) → e.op ≡ ops.New → e.queue < (place_of p).queues → (account_of k).limit ≡ (account_of p).limit → HasNoCredit k f q → Refuses p e f q
+    pub no_credit : (q : Desk) (e : Event) (f : Refused) → e.op ≡ ops.New → e.queue < (own_site p).queues → (account_of k).limit ≡ (account_of p).limit → HasNoCredit k f q → Refuses p e f q
     no_credit q e Stopped new within limit r = (
       ap costs_credit new,
       r.0,
@@ -91,7 +91,7 @@ module _ (p k : Desk) (place : place_of k ≡ place_of p) (same : SameCredits p 
       sym same.0 ∙ r.3.empty,
       r.0,
       r.1,
-      omega (arith, r.2, limit, ap (λ (x : Place). x.quantum) place, ap (λ (x : Place). x.threshold) place),
+      omega (arith, r.2, limit, ap (λ (x : DeskSite). x.quantum) site, ap (λ (x : DeskSite). x.threshold) site),
       same_credits p k q same r.3.same,
       (λ _. asked (draws.Short free) q r.3.asked),
       (λ more. absurd (not_more e.op new more)),
@@ -119,9 +119,9 @@ module _ (p k : Desk) (place : place_of k ≡ place_of p) (same : SameCredits p 
       of_pocket = λ some. let s = h.of_pocket (λ z. some (sym same.0 ∙ z)) in (n_is ∙ s.0 ∙ same.0, account ∙ s.1);
       of_pool = λ none.
           let s = h.of_pool (same.0 ∙ none) in (
-            n_is ∙ s.0 ∙ ap (λ (x : Place). x.quantum) place,
-            subst (λ (w : Account). FillsWithin most_draws (place_of p).quantum (place_of p).threshold (account_of k) draws.Drawn w) (sym account)
-                (subst (λ (x : Place). FillsWithin most_draws x.quantum x.threshold (account_of k) draws.Drawn (account_of m)) place s.1),
+            n_is ∙ s.0 ∙ ap (λ (x : DeskSite). x.quantum) site,
+            subst (λ (w : Account). FillsWithin most_draws (own_site p).quantum (own_site p).threshold (account_of k) draws.Drawn w) (sym account)
+                (subst (λ (x : DeskSite). FillsWithin most_draws x.quantum x.threshold (account_of k) draws.Drawn (account_of m)) site s.1),
           );
     }
 
@@ -131,7 +131,7 @@ module _ (p k : Desk) (place : place_of k ≡ place_of p) (same : SameCredits p 
         subst (λ (x : Op). Pays x p q) (sym new) (stocks m q (pocket_of q + 1) h account pays, may_spend m q (pocket_of q + 1) h account pays)
     pays_new m q o (Err x) new h account pays = pays
 
-    pub refuses_full : (m q : Desk) (e : Event) (result : Result (Unit {0}) Refused) → e.op ≡ ops.New → e.queue < (place_of p).queues → HasStocked k m → account_of q ≡ account_of m
+    pub refuses_full : (m q : Desk) (e : Event) (result : Result (Unit {0}) Refused) → e.op ≡ ops.New → e.queue < (own_site p).queues → HasStocked k m → account_of q ≡ account_of m
         → IfErr result (λ x. (x ≡ Full) × was_filled q e.op × (pocket_of q ≡ pocket_of m)) → IfErr result (λ x. Refuses p e x q)
     refuses_full m q e (Ok _) new within h account full = full
     refuses_full m q e (Err x) new within h account full =

@@ -1,27 +1,27 @@
--- What is hidden of a port's flow lanes, where one place changes.
+-- What is hidden of a port's flow lanes, where one entry changes.
 use Rattle.std.proofs.Common.{◌≡◌, ◌≢◌, ℕ, ◌<◌, [], length, set, Option, Some, None, sym, ap, ◌∙◌, subst}
 use Rattle.std.proofs.lemmas.List.{get_or-set_same, get_or-set_other}
 use mathlib.Core.Logic.{dite}
 use native.Mathlib.Decide.{ℕ_discrete}
 use Rattle.flow_claims.specs.declared.claim.Stint.{Stint}
-use Rattle.event_ports.specs.Holds.{AreShown, hidden_in, place_at}
-use Rattle.event_ports.proofs.Places.{Stints}
+use Rattle.event_ports.specs.Holds.{AreShown, hidden_in, entry_at}
+use Rattle.event_ports.proofs.Entries.{Stints}
 
--- of the lanes that are meant nothing is hidden, where nothing is at the new place
+-- of the lanes that are meant nothing is hidden, where nothing is at the new entry
 pub shown_set : (P : ℕ → Type 0) (ss : Stints) (lane : ℕ) (o : Option Stint) → lane < length ss → (P lane → hidden_in o ≡ [])
-    → ((j : ℕ) → P j → hidden_in (place_at ss j) ≡ []) → (j : ℕ) → P j → hidden_in (place_at (set ss lane o) j) ≡ []
+    → ((j : ℕ) → P j → hidden_in (entry_at ss j) ≡ []) → (j : ℕ) → P j → hidden_in (entry_at (set ss lane o) j) ≡ []
 shown_set P ss lane o lt here there j is =
-    let At : ℕ → Type 0 = λ i. hidden_in (place_at (set ss lane o) i) ≡ [] in
+    let At : ℕ → Type 0 = λ i. hidden_in (entry_at (set ss lane o) i) ≡ [] in
     dite (ℕ_discrete j lane)
     (λ e. subst At (sym e) (ap hidden_in (get_or-set_same ss lane o None lt) ∙ here (subst P e is)))
     (λ ne. ap hidden_in (get_or-set_other ss lane j o None ne) ∙ there j is)
 
-pub none_set : (ss : Stints) (lane : ℕ) (o : Option Stint) → lane < length ss → hidden_in o ≡ [] → ((j : ℕ) → hidden_in (place_at ss j) ≡ []) → (j : ℕ) → hidden_in (place_at (set ss lane o) j) ≡ []
+pub none_set : (ss : Stints) (lane : ℕ) (o : Option Stint) → lane < length ss → hidden_in o ≡ [] → ((j : ℕ) → hidden_in (entry_at ss j) ≡ []) → (j : ℕ) → hidden_in (entry_at (set ss lane o) j) ≡ []
 none_set ss lane o lt here there j = shown_set (λ _. Unit {0}) ss lane o lt (λ _. here) (λ i _. there i) j tt
 
 pub touched_set : (touched : Option ℕ) (ss : Stints) (lane : ℕ) (o : Option Stint) → lane < length ss → (touched ≢ Some lane → hidden_in o ≡ []) → AreShown touched ss → AreShown touched (set ss lane o)
 touched_set touched ss lane o lt here shown = shown_set (λ j. touched ≢ Some j) ss lane o lt here shown
 
--- what was hidden at the place stays
-pub same_hidden : (touched : Option ℕ) (ss : Stints) (lane : ℕ) (o p : Option Stint) → place_at ss lane ≡ o → hidden_in p ≡ hidden_in o → AreShown touched ss → touched ≢ Some lane → hidden_in p ≡ []
+-- what was hidden at the entry stays
+pub same_hidden : (touched : Option ℕ) (ss : Stints) (lane : ℕ) (o p : Option Stint) → entry_at ss lane ≡ o → hidden_in p ≡ hidden_in o → AreShown touched ss → touched ≢ Some lane → hidden_in p ≡ []
 same_hidden touched ss lane o p at same shown ne = same ∙ ap hidden_in (sym at) ∙ shown lane ne

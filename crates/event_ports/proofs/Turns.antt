@@ -21,10 +21,10 @@ use Rattle.flow_claims.specs.Open.{IsOpen, received_so_far, answered_so_far}
 use Rattle.flow_claims.specs.Seats.{stint_at, find_lane, IsPorts}
 use Rattle.flow_claims.specs.Stints.{left_in, received_in, answered_in}
 use Rattle.flow_claims.proofs.Held.{nothing_held}
-use Rattle.event_ports.specs.Holds.{place_at, IsHeldAt, AreFlows, stints_at, received_past, answered_past, left_past, surrendered_past, left_on, LeavesFree, received_now, answered_now, extras_now, held_now, Hands, received_on, answered_on, extras_on, Kept, Same, SameBut, Gets, Brings, Says}
+use Rattle.event_ports.specs.Holds.{entry_at, IsHeldAt, AreFlows, stints_at, received_past, answered_past, left_past, surrendered_past, left_on, LeavesFree, received_now, answered_now, extras_now, held_now, Hands, received_on, answered_on, extras_on, Kept, Same, SameBut, Gets, Brings, Says}
 use Rattle.event_ports.proofs.Extras.{extras_push, none_extra}
 use Rattle.event_ports.proofs.Unanswered.{left_here, left_other, surrendered, none_surrendered, others_surrendered}
-use Rattle.event_ports.proofs.Places.{Stints, hands, each_place, moved, free_place, held_place, past_places, past_more, other_stints, same_but, received_here, answered_here, extras_here, held_here, all_same}
+use Rattle.event_ports.proofs.Entries.{Stints, hands, each_entry, moved, free_entry, held_at_entry, past_entries, past_more, other_stints, same_but, received_here, answered_here, extras_here, held_here, all_same}
 
 module _ (claims : Claims) (links : List ℕ) where
   ports_stay : (seat after : ClaimSeat) → KeepsPort seat after → IsPorts (port_of seat) (seating seat) → IsPorts (port_of after) (seating after)
@@ -42,9 +42,9 @@ module _ (claims : Claims) (links : List ℕ) where
   refused seat after ss are seat_of keeps held finished = record {
     seat_of = seat_of;
     port = port_stays seat after keeps are.port;
-    places = are.places;
+    entries = are.entries;
     links_exist = are.links_exist;
-    each = λ j. moved links (seating seat) (seating after) j (place_at ss j) (ap (find_lane j) held) (seat_of.1 ∙ sym are.seat_of.1) (are.each j);
+    each = λ j. moved links (seating seat) (seating after) j (entry_at ss j) (ap (find_lane j) held) (seat_of.1 ∙ sym are.seat_of.1) (are.each j);
     ports = ports_stay seat after keeps are.ports;
     linked = linked_stay (seating seat) (seating after) finished are.linked;
   }
@@ -56,17 +56,17 @@ module _ (claims : Claims) (links : List ℕ) where
   claimed seat after ss lane stint are seat_of keeps finished others lt linked same open_is = record {
     seat_of = seat_of;
     port = port_stays seat after keeps are.port;
-    places = length-set ss lane (Some stint) ∙ are.places;
+    entries = length-set ss lane (Some stint) ∙ are.entries;
     links_exist = are.links_exist;
-    each = each_place links (seating seat) (seating after) ss lane (Some stint) (omega (arith, are.places, lt)) (seat_of.1 ∙ sym are.seat_of.1) others are.each
-        (held_place links (seating after) lane stint (record { lane_is = same; open_is = open_is; linked = linked }));
+    each = each_entry links (seating seat) (seating after) ss lane (Some stint) (omega (arith, are.entries, lt)) (seat_of.1 ∙ sym are.seat_of.1) others are.each
+        (held_at_entry links (seating after) lane stint (record { lane_is = same; open_is = open_is; linked = linked }));
     ports = ports_stay seat after keeps are.ports;
     linked = linked_stay (seating seat) (seating after) finished are.linked;
   }
 
   -- the end of a stint
   pub ended : (seat after : ClaimSeat) (ss : Stints) (lane : ℕ) (stint : Stint) (gone : Bool) → AreFlows claims seat ss links → EndsStint claims gone stint seat after
-      → place_at ss lane ≡ Some stint → lane < length (lanes_of claims) → AreFlows claims after (set ss lane None) links
+      → entry_at ss lane ≡ Some stint → lane < length (lanes_of claims) → AreFlows claims after (set ss lane None) links
   ended seat after ss lane stint gone are ends at lt =
       let held : IsHeldAt links (seating seat) lane stint = (are.each lane).held stint at in
       let Linked : List Past → Type 0 = λ ps. All (λ p. has p.lane links ≡ true) ps in
@@ -74,41 +74,41 @@ module _ (claims : Claims) (links : List ℕ) where
       record {
         seat_of = ends.seat;
         port = port_stays seat after ends.port are.port;
-        places = length-set ss lane None ∙ are.places;
+        entries = length-set ss lane None ∙ are.entries;
         links_exist = are.links_exist;
-        each = each_place links (seating seat) (seating after) ss lane None (omega (arith, are.places, lt)) (ends.seat.1 ∙ sym are.seat_of.1)
-            (λ j ne. ends.others j (λ e. ne (e ∙ held.lane_is))) are.each (free_place links (seating after) lane (ap (stint_at (seating after)) (sym held.lane_is) ∙ ends.closed));
+        each = each_entry links (seating seat) (seating after) ss lane None (omega (arith, are.entries, lt)) (ends.seat.1 ∙ sym are.seat_of.1)
+            (λ j ne. ends.others j (λ e. ne (e ∙ held.lane_is))) are.each (free_entry links (seating after) lane (ap (stint_at (seating after)) (sym held.lane_is) ∙ ends.closed));
         ports = ports_stay seat after ends.port are.ports;
         linked = subst Linked (sym ends.piece.1)
             (All-push (λ p. has p.lane links ≡ true) (seating seat).finished ends.piece.0 are.linked (ap (λ n. has n links) its_lane ∙ held.linked));
       }
 
   -- a call through the stint's end
-  pub turned : (seat : ClaimSeat) (ss : Stints) (lane : ℕ) (stint new : Stint) → AreFlows claims seat ss links → place_at ss lane ≡ Some stint → lane < length (lanes_of claims)
+  pub turned : (seat : ClaimSeat) (ss : Stints) (lane : ℕ) (stint new : Stint) → AreFlows claims seat ss links → entry_at ss lane ≡ Some stint → lane < length (lanes_of claims)
       → new.lane ≡ stint.lane → (IsOpen (seating seat) stint → IsOpen (seating seat) new) → AreFlows claims seat (set ss lane (Some new)) links
   turned seat ss lane stint new are at lt same open_is =
       let held : IsHeldAt links (seating seat) lane stint = (are.each lane).held stint at in
       record {
         seat_of = are.seat_of;
         port = are.port;
-        places = length-set ss lane (Some new) ∙ are.places;
+        entries = length-set ss lane (Some new) ∙ are.entries;
         links_exist = are.links_exist;
-        each = each_place links (seating seat) (seating seat) ss lane (Some new) (omega (arith, are.places, lt)) refl (λ j ne. refl) are.each
-            (held_place links (seating seat) lane new (record { lane_is = same ∙ held.lane_is; open_is = open_is held.open_is; linked = held.linked }));
+        each = each_entry links (seating seat) (seating seat) ss lane (Some new) (omega (arith, are.entries, lt)) refl (λ j ne. refl) are.each
+            (held_at_entry links (seating seat) lane new (record { lane_is = same ∙ held.lane_is; open_is = open_is held.open_is; linked = held.linked }));
         ports = are.ports;
         linked = are.linked;
       }
 
   -- the lists after a claim
   pub claim_same : (seat after : ClaimSeat) (ss : Stints) (lane : ℕ) (stint : Stint) → AreFlows claims seat ss links → (seating after).finished ≡ (seating seat).finished
-      → ((j : ℕ) → j ≢ lane → stint_at (seating after) j ≡ stint_at (seating seat) j) → lane < length (lanes_of claims) → place_at ss lane ≡ None
+      → ((j : ℕ) → j ≢ lane → stint_at (seating after) j ≡ stint_at (seating seat) j) → lane < length (lanes_of claims) → entry_at ss lane ≡ None
       → received_so_far (seating after) stint ≡ [] → answered_so_far (seating after) stint ≡ [] → unanswered stint.far ≡ []
       → Same (hands (seating seat) ss) (hands (seating after) (set ss lane (Some stint)))
   claim_same seat after ss lane stint are finished others lt free received answered held =
       let v : Seating = seating seat in
       let w : Seating = seating after in
       let new : Option Stint = Some stint in
-      let within : lane < length ss = omega (arith, are.places, lt) in
+      let within : lane < length ss = omega (arith, are.entries, lt) in
       all_same lane (hands v ss) (hands w (set ss lane new)) (same_but links v w ss lane new others (λ j ne. ap (stints_at j) finished) are.each)
       (received_here links v w ss lane new within ∙ (λ i. received_past lane (finished i) ++ received i) ∙ sym (ap (λ o. received_past lane v.finished ++ received_now v o) free))
       (answered_here links v w ss lane new within ∙ (λ i. answered_past lane (finished i) ++ answered i) ∙ sym (ap (λ o. answered_past lane v.finished ++ answered_now v o) free))
@@ -116,12 +116,12 @@ module _ (claims : Claims) (links : List ℕ) where
       (λ j. ap (surrendered_past j) finished)
 
   -- after the end of a stint, but for what is held
-  module _ (seat after : ClaimSeat) (ss : Stints) (lane : ℕ) (stint : Stint) (gone : Bool) (are : AreFlows claims seat ss links) (ends : EndsStint claims gone stint seat after) (at : place_at ss lane ≡ Some stint) (lt : lane < length (lanes_of claims)) where
+  module _ (seat after : ClaimSeat) (ss : Stints) (lane : ℕ) (stint : Stint) (gone : Bool) (are : AreFlows claims seat ss links) (ends : EndsStint claims gone stint seat after) (at : entry_at ss lane ≡ Some stint) (lt : lane < length (lanes_of claims)) where
     held : IsHeldAt links (seating seat) lane stint
     held = (are.each lane).held stint at
 
     within : lane < length ss
-    within = omega (arith, are.places, lt)
+    within = omega (arith, are.entries, lt)
 
     its_lane : ends.piece.0.lane ≡ lane
     its_lane = ends.piece.2.lane ∙ held.lane_is
@@ -160,7 +160,7 @@ module _ (claims : Claims) (links : List ℕ) where
 
     pub ended_free : LeavesFree (hands (seating seat) ss) (hands (seating after) (set ss lane None))
     ended_free j none =
-        let ne : j ≢ lane = λ e. none-some stint (sym none ∙ ap (place_at ss) e ∙ at) in
+        let ne : j ≢ lane = λ e. none-some stint (sym none ∙ ap (entry_at ss) e ∙ at) in
         (get_or-set_other ss lane j None None ne ∙ none, others_surrendered (seating seat).finished (seating after).finished ends.piece.0 lane ends.piece.1 its_lane j ne)
 
     pub left_same : gone ≡ false → unanswered stint.far ≡ [] → Same (hands (seating seat) ss) (hands (seating after) (set ss lane None))
@@ -171,9 +171,9 @@ module _ (claims : Claims) (links : List ℕ) where
         (none_surrendered (seating seat).finished (seating after).finished ends.piece.0 lane ends.piece.1 its_lane (ends.piece.2.surrendered_is ∙ gives))
 
   -- after a call through the stint's end
-  module _ (seat : ClaimSeat) (ss : Stints) (lane : ℕ) (stint new : Stint) (are : AreFlows claims seat ss links) (at : place_at ss lane ≡ Some stint) (lt : lane < length (lanes_of claims)) where
+  module _ (seat : ClaimSeat) (ss : Stints) (lane : ℕ) (stint new : Stint) (are : AreFlows claims seat ss links) (at : entry_at ss lane ≡ Some stint) (lt : lane < length (lanes_of claims)) where
     inside : lane < length ss
-    inside = omega (arith, are.places, lt)
+    inside = omega (arith, are.entries, lt)
 
     but : SameBut lane (hands (seating seat) ss) (hands (seating seat) (set ss lane (Some new)))
     but = same_but links (seating seat) (seating seat) ss lane (Some new) (λ j ne. refl) (λ j ne. refl) are.each
@@ -259,14 +259,14 @@ all_kept lane h k others received answered left free =
       free = free;
     }
 
--- once there is nothing at any place, the seat holds no lane, and has what the port had
-pub none_at_all : (ss : Stints) (n : ℕ) → length ss ≡ n → ((j : ℕ) → j < n → place_at ss j ≡ None) → (j : ℕ) → place_at ss j ≡ None
-none_at_all ss n e none j = dite (dec_le (suc j) n) (λ lt. none j lt) (λ le. past_places ss j (omega (arith, le, e)))
+-- once there is nothing at any entry, the seat holds no lane, and has what the port had
+pub none_at_all : (ss : Stints) (n : ℕ) → length ss ≡ n → ((j : ℕ) → j < n → entry_at ss j ≡ None) → (j : ℕ) → entry_at ss j ≡ None
+none_at_all ss n e none j = dite (dec_le (suc j) n) (λ lt. none j lt) (λ le. past_entries ss j (omega (arith, le, e)))
 
-pub holds_none : (claims : Claims) (seat : ClaimSeat) (ss : Stints) (links : List ℕ) → AreFlows claims seat ss links → ((j : ℕ) → place_at ss j ≡ None) → (seating seat).held ≡ []
+pub holds_none : (claims : Claims) (seat : ClaimSeat) (ss : Stints) (links : List ℕ) → AreFlows claims seat ss links → ((j : ℕ) → entry_at ss j ≡ None) → (seating seat).held ≡ []
 holds_none claims seat ss links are none = nothing_held (seating seat).held (λ lane. (are.each lane).free (none lane))
 
 -- a lane of which something is unanswered is there
-pub lane_there : (claims : Claims) (seat : ClaimSeat) (ss : Stints) (links : List ℕ) (lane : ℕ) → AreFlows claims seat ss links → held_now (place_at ss lane) ≢ [] → lane < length (lanes_of claims)
+pub lane_there : (claims : Claims) (seat : ClaimSeat) (ss : Stints) (links : List ℕ) (lane : ℕ) → AreFlows claims seat ss links → held_now (entry_at ss lane) ≢ [] → lane < length (lanes_of claims)
 lane_there claims seat ss links lane are some =
-    dite (dec_le (suc lane) (length (lanes_of claims))) (λ lt. lt) (λ le. absurd (some (ap held_now (past_places ss lane (omega (arith, le, are.places))))))
+    dite (dec_le (suc lane) (length (lanes_of claims))) (λ lt. lt) (λ le. absurd (some (ap held_now (past_entries ss lane (omega (arith, le, are.entries))))))

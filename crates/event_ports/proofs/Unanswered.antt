@@ -10,7 +10,7 @@ use Rattle.evt_types.specs.declared.event.Delivery.{Delivery}
 use Rattle.flow_claims.specs.declared.seating.Past.{Past}
 use Rattle.flow_claims.specs.Stints.{left_in}
 use Rattle.event_ports.specs.Holds.{stints_at, surrendered_past, left_by, left_past}
-use Rattle.event_ports.proofs.Places.{more_stints, other_stints, past_more}
+use Rattle.event_ports.proofs.Entries.{more_stints, other_stints, past_more}
 
 -- that of the stints of two seats
 pub left_append : (j : ℕ) (xs ys : List Past) → left_past j (xs ++ ys) ≡ left_past j xs ++ left_past j ys

@@ -21,24 +21,24 @@ use Rattle.flow_claims.specs.Seats.{stint_at}
 use Rattle.event_ports.specs.declared.desk.Desk.{Desk}
 use Rattle.event_ports.specs.Flows.{hands_of}
 use Rattle.event_ports.specs.Lanes.{Hand, Rests, SubmitsAll, SubmitsTo, TakesMore, extras_in, lane_for, reply_of}
-use Rattle.event_ports.specs.Handed.{LanesPlace, lanes_place, seen_own, hand_of, mores_of, news_of, releases_of, IsFilled}
+use Rattle.event_ports.specs.Handed.{LanesSite, lanes_site, seen_own, hand_of, mores_of, news_of, releases_of, IsFilled}
 use Rattle.event_ports.specs.Draws.{FillsWithin, HasAsked, HasCredits, HasDrawn, HasLooked, SameSums, Settles, most_draws}
 
 -- what never changes of it
-pub record Place : Type 0 where
+pub record DeskSite : Type 0 where
   pub pool : Credits
-  pub lanes : LanesPlace
+  pub lanes : LanesSite
   pub number : ℕ
   pub queues : ℕ
   pub implicit : Bool
   pub quantum : ℕ
   pub threshold : ℕ
 
-abbrev pub place_of : Desk → Place
-place_of p =
+abbrev pub own_site : Desk → DeskSite
+own_site p =
     record {
       pool = arc_value p.pool;
-      lanes = lanes_place p.lanes;
+      lanes = lanes_site p.lanes;
       number = p.number;
       queues = p.queues;
       implicit = p.implicit;
@@ -62,7 +62,7 @@ seen_by p = seen_own p.lanes
 
 -- the flow lanes to which it is linked
 abbrev pub links : Desk → List ℕ
-links p = (place_of p).lanes.flows.links
+links p = (own_site p).lanes.flows.links
 
 -- how many NEWs, FORWARD_MOREs and RELEASEs it submitted, over all its lanes
 abbrev pub news_by : Desk → ℕ
@@ -86,30 +86,30 @@ SameCredits p q = (pocket_of q ≡ pocket_of p) × SameSums (account_of p) (acco
 abbrev pub Stocks : Desk → ℕ → Desk → Type 0
 Stocks p pocket q =
     (pocket_of p ≢ 0 → (pocket ≡ pocket_of p) × SameSums (account_of p) (account_of q))
-    × (pocket_of p ≡ 0 → (pocket ≡ (place_of p).quantum) × ((account_of q).drawn ≡ (account_of p).drawn + (place_of p).quantum) × ((account_of q).returned ≡ (account_of p).returned))
+    × (pocket_of p ≡ 0 → (pocket ≡ (own_site p).quantum) × ((account_of q).drawn ≡ (account_of p).drawn + (own_site p).quantum) × ((account_of q).returned ≡ (account_of p).returned))
 
 -- a NEW asked for a quantum, and was answered this
 abbrev pub AsksPool : Desk → Draw → Desk → Type 0
-AsksPool p answer q = HasAsked (place_of p).quantum (place_of p).threshold (account_of p) answer (account_of q)
+AsksPool p answer q = HasAsked (own_site p).quantum (own_site p).threshold (account_of p) answer (account_of q)
 
 -- a NEW had so many credits to spend
 abbrev pub MaySpend : Desk → ℕ → Desk → Type 0
-MaySpend p credits q = HasCredits (place_of p).quantum (place_of p).threshold (pocket_of p) (account_of p) credits (account_of q)
+MaySpend p credits q = HasCredits (own_site p).quantum (own_site p).threshold (pocket_of p) (account_of p) credits (account_of q)
 
 -- a FORWARD_MORE asked for a quantum, without a look before, and was answered this
 abbrev pub DrawsPool : Desk → Draw → Desk → Type 0
-DrawsPool p answer q = FillsWithin most_draws (place_of p).quantum (place_of p).threshold (account_of p) answer (account_of q)
+DrawsPool p answer q = FillsWithin most_draws (own_site p).quantum (own_site p).threshold (account_of p) answer (account_of q)
 
 -- a FORWARD_MORE had so many credits to spend
 abbrev pub MaySpendMore : Desk → ℕ → Desk → Type 0
-MaySpendMore p credits q = HasDrawn (place_of p).quantum (place_of p).threshold (pocket_of p) (account_of p) credits (account_of q)
+MaySpendMore p credits q = HasDrawn (own_site p).quantum (own_site p).threshold (pocket_of p) (account_of p) credits (account_of q)
 
 -- What an event that is taken costs: a NEW or FORWARD_MORE one credit of the pocket, a FORWARD nothing, and a RELEASE brings one, before
 -- the return rule.
 abbrev pub Pays : Op → Desk → Desk → Type 0
 Pays ops.New p q = Stocks p (pocket_of q + 1) q × MaySpend p (pocket_of q + 1) q
 Pays ops.Forward p q = SameCredits p q × (account_of q ≡ account_of p)
-Pays ops.Release p q = Settles (place_of p).quantum ((pocket_of p + 1) % 2 ^ 64) (account_of p) (pocket_of q) (account_of q)
+Pays ops.Release p q = Settles (own_site p).quantum ((pocket_of p + 1) % 2 ^ 64) (account_of p) (pocket_of q) (account_of q)
 Pays ops.ForwardMore p q = Stocks p (pocket_of q + 1) q × MaySpendMore p (pocket_of q + 1) q
 
 -- Why an event was refused, and what becomes of the credits: the port before, the event, the refusal and the port after.
@@ -120,24 +120,24 @@ Pays ops.ForwardMore p q = Stocks p (pocket_of q + 1) q × MaySpendMore p (pocke
 abbrev pub Refuses : Desk → Event → Refused → Desk → Type 0
 Refuses p e Stopped q =
     IsTrue (costs_credit e.op) × IsTrue (account_of q).saw_shut × SameCredits p q
-    × (e.op ≡ ops.New → (HasLooked (account_of p) (account_of q) × IsShut (account_of q).last) ⊎ ((e.queue < (place_of p).queues) × (pocket_of p ≡ 0) × AsksPool p draws.Shut q))
-    × (e.op ≡ ops.ForwardMore → (e.queue < (place_of p).queues) × TakesMore (hand p) × (pocket_of p ≡ 0) × DrawsPool p draws.Shut q)
+    × (e.op ≡ ops.New → (HasLooked (account_of p) (account_of q) × IsShut (account_of q).last) ⊎ ((e.queue < (own_site p).queues) × (pocket_of p ≡ 0) × AsksPool p draws.Shut q))
+    × (e.op ≡ ops.ForwardMore → (e.queue < (own_site p).queues) × TakesMore (hand p) × (pocket_of p ≡ 0) × DrawsPool p draws.Shut q)
 Refuses p e BadQueue q =
-    (e.op ≢ ops.Release) × ((place_of p).queues ≤ e.queue) × (e.op ≡ ops.New → IsOpen (account_of q).last) × SameCredits p q
+    (e.op ≢ ops.Release) × ((own_site p).queues ≤ e.queue) × (e.op ≡ ops.New → IsOpen (account_of q).last) × SameCredits p q
     × (e.op ≡ ops.New → HasLooked (account_of p) (account_of q)) × (e.op ≢ ops.New → account_of q ≡ account_of p)
 Refuses p e NothingHeld q =
-    (e.op ≢ ops.New) × (e.op ≢ ops.Release → e.queue < (place_of p).queues) × ((hand p).holding ≡ []) × SameCredits p q × (account_of q ≡ account_of p)
+    (e.op ≢ ops.New) × (e.op ≢ ops.Release → e.queue < (own_site p).queues) × ((hand p).holding ≡ []) × SameCredits p q × (account_of q ≡ account_of p)
 Refuses p e TooMany q =
-    (e.op ≡ ops.ForwardMore) × (e.queue < (place_of p).queues) × ((hand p).holding ≢ []) × (MAX_EXTRAS ≤ extras_in (hand p)) × SameCredits p q × (account_of q ≡ account_of p)
+    (e.op ≡ ops.ForwardMore) × (e.queue < (own_site p).queues) × ((hand p).holding ≢ []) × (MAX_EXTRAS ≤ extras_in (hand p)) × SameCredits p q × (account_of q ≡ account_of p)
 Refuses p e (Backpressure free) q =
-    IsTrue (costs_credit e.op) × (e.queue < (place_of p).queues) × (pocket_of p ≡ 0) × IsOpen (account_of q).last × (free ≡ free_of (account_of q).last)
-    × ((place_of p).threshold < in_use (account_of p).limit (account_of q).last + (place_of p).quantum) × SameCredits p q
+    IsTrue (costs_credit e.op) × (e.queue < (own_site p).queues) × (pocket_of p ≡ 0) × IsOpen (account_of q).last × (free ≡ free_of (account_of q).last)
+    × ((own_site p).threshold < in_use (account_of p).limit (account_of q).last + (own_site p).quantum) × SameCredits p q
     × (e.op ≡ ops.New → AsksPool p (draws.Short free) q) × (e.op ≡ ops.ForwardMore → TakesMore (hand p) × DrawsPool p (draws.Short free) q)
 Refuses p e (Raced first second) q =
-    IsTrue (costs_credit e.op) × (e.queue < (place_of p).queues) × (pocket_of p ≡ 0) × (first ≢ second) × ((account_of q).before ≡ first) × ((account_of q).last ≡ second)
+    IsTrue (costs_credit e.op) × (e.queue < (own_site p).queues) × (pocket_of p ≡ 0) × (first ≢ second) × ((account_of q).before ≡ first) × ((account_of q).last ≡ second)
     × SameCredits p q × (e.op ≡ ops.New → AsksPool p (draws.Raced first second) q) × (e.op ≡ ops.ForwardMore → TakesMore (hand p) × DrawsPool p (draws.Raced first second) q)
 Refuses p e Full q =
-    was_filled q e.op × (e.op ≢ ops.New → (hand p).holding ≢ []) × (e.op ≢ ops.Release → e.queue < (place_of p).queues) × (e.op ≡ ops.ForwardMore → TakesMore (hand p))
+    was_filled q e.op × (e.op ≢ ops.New → (hand p).holding ≢ []) × (e.op ≢ ops.Release → e.queue < (own_site p).queues) × (e.op ≡ ops.ForwardMore → TakesMore (hand p))
     × (IsTrue (costs_credit e.op) → Stocks p (pocket_of q) q) × (IsFalse (costs_credit e.op) → SameCredits p q × (account_of q ≡ account_of p))
     × (e.op ≡ ops.New → MaySpend p (pocket_of q) q) × (e.op ≡ ops.ForwardMore → MaySpendMore p (pocket_of q) q)
 
@@ -158,7 +158,7 @@ HasNoCredit p BadQueue q = ⊥
 HasNoCredit p NothingHeld q = ⊥
 HasNoCredit p (Backpressure free) q =
     IsOpen (account_of q).last × (free ≡ free_of (account_of q).last)
-    × ((place_of p).threshold < in_use (account_of p).limit (account_of q).last + (place_of p).quantum) × DrewNone p (draws.Short free) q
+    × ((own_site p).threshold < in_use (account_of p).limit (account_of q).last + (own_site p).quantum) × DrewNone p (draws.Short free) q
 HasNoCredit p (Raced first second) q =
     (first ≢ second) × ((account_of q).before ≡ first) × ((account_of q).last ≡ second) × DrewNone p (draws.Raced first second) q
 HasNoCredit p Full q = ⊥
@@ -170,11 +170,11 @@ holds_flow p j = is_some (stint_at (hands_of p.lanes.flows).view j)
 
 -- with implicit release a dequeue first releases all that is held
 abbrev pub released_first : Desk → ℕ
-released_first p = if (place_of p).implicit then length (hand p).holding else 0
+released_first p = if (own_site p).implicit then length (hand p).holding else 0
 
 -- An event was taken: what `Port::enqueue` says of one that it takes.
 pub record Enqueues (e : Event) (p q : Desk) : Type 0 where
-  pub place : place_of q ≡ place_of p
+  pub site : own_site q ≡ own_site p
   pub credit : Stays (account_of p) (account_of q)
   pub submitted : SubmitsTo (lane_for e.op (hand p).holding) (reply_of e) (hand p) (hand q)
   pub pays : Pays e.op p q
@@ -187,7 +187,7 @@ EnqueuesAll (e ∷ es) p q = (between : Desk) × Enqueues e p between × Enqueue
 
 -- a flush: all else stays
 pub record IsFlushed (p q : Desk) : Type 0 where
-  pub place : place_of q ≡ place_of p
+  pub site : own_site q ≡ own_site p
   pub account : account_of q ≡ account_of p
   pub pocket : pocket_of q ≡ pocket_of p
   pub hands : hand q ≡ hand p
@@ -195,7 +195,7 @@ pub record IsFlushed (p q : Desk) : Type 0 where
 
 -- an event was refused: what `Port::enqueue` says of one that it refuses
 pub record Declines (e : Event) (refusal : Refused) (p q : Desk) : Type 0 where
-  pub place : place_of q ≡ place_of p
+  pub site : own_site q ≡ own_site p
   pub credit : Stays (account_of p) (account_of q)
   pub rests : Rests (hand p) (hand q)
   pub why : Refuses p e refusal q
@@ -227,7 +227,7 @@ pub record StopsAt (p : Desk) (events : List Event) (n : ℕ) (refusal : Refused
   pub event : Event
   pub between : Desk
   pub is_next : slice_get events n ≡ Some event
-  pub place : place_of between ≡ place_of p
+  pub site : own_site between ≡ own_site p
   pub credit : Stays (account_of p) (account_of between)
   pub submitted : SubmitsAll (take n events) (hand p) (hand between)
   pub refused : Refuses between event refusal q

@@ -14,11 +14,11 @@ abbrev pub hands_of : FlowLanes → Hands
 hands_of f = record { view = seating f.seat; stints = f.stints.items }
 
 -- what never changes of them: the claims, the port and its links, and the parts of the port's seat
-pub record FlowPlace : Type 0 where
+pub record FlowSite : Type 0 where
   pub claims : Claims
   pub port : ℕ
   pub links : List ℕ
   pub parts : ℕ
 
-abbrev pub flow_place : FlowLanes → FlowPlace
-flow_place f = record { claims = arc_value f.claims; port = port_of f.seat; links = f.links.items; parts = (seating f.seat).parts }
+abbrev pub flow_site : FlowLanes → FlowSite
+flow_site f = record { claims = arc_value f.claims; port = port_of f.seat; links = f.links.items; parts = (seating f.seat).parts }

@@ -4,7 +4,7 @@ use Rattle.lists.specs.Lists.{has}
 use Rattle.evt_types.specs.Operation.{is_more_reply, is_new_reply, is_release_reply}
 use Rattle.evt_types.specs.declared.event.Delivery.{Delivery}
 use Rattle.evt_types.specs.declared.event.Reply.{Reply}
-use Rattle.seat_sums.specs.Sums.{count}
+use Rattle.lists.specs.Counts.{count}
 use Rattle.lane_rings.specs.Ends.{hidden_answers, seen_deliveries}
 use Rattle.lane_rings.specs.Identity.{far_id, LaneId}
 use Rattle.lane_rings.specs.declared.far.Refusal.{Refusal}
@@ -12,25 +12,25 @@ use Rattle.flow_claims.specs.Claims.{lanes_of}
 use Rattle.event_ports.specs.declared.lane.Lane.{Lane}
 use Rattle.event_ports.specs.declared.lane.Lane.TheVariants.{Own, Flow}
 use Rattle.event_ports.specs.declared.lanes.Lanes.{Lanes}
-use Rattle.event_ports.specs.Flows.{FlowPlace, flow_place, hands_of}
+use Rattle.event_ports.specs.Flows.{FlowSite, flow_site, hands_of}
 use Rattle.event_ports.specs.Holds.{NoneHidden}
 use Rattle.event_ports.specs.Lanes.{Hand, said_on, got_on, counted, IsFilledAt, RefusesFirst}
 
 -- what never changes of a port's lanes: the own one, the flow lanes, and how much may be held
-pub record LanesPlace : Type 0 where
+pub record LanesSite : Type 0 where
   pub own : LaneId
-  pub flows : FlowPlace
+  pub flows : FlowSite
   pub depth : ℕ
 
-abbrev pub lanes_place : Lanes → LanesPlace
-lanes_place a = record { own = far_id a.own; flows = flow_place a.flows; depth = a.order.capacity }
+abbrev pub lanes_site : Lanes → LanesSite
+lanes_site a = record { own = far_id a.own; flows = flow_site a.flows; depth = a.order.capacity }
 
 -- the flow lanes to which the port is linked
 abbrev pub links_of : Lanes → List ℕ
-links_of a = (flow_place a.flows).links
+links_of a = (flow_site a.flows).links
 
 -- how many flow lanes there are
-abbrev pub flow_count : LanesPlace → ℕ
+abbrev pub flow_count : LanesSite → ℕ
 flow_count p = length (lanes_of p.flows.claims)
 
 abbrev pub hand_of : Lanes → Hand
@@ -50,19 +50,19 @@ abbrev pub OwnFirst : Lanes → Lanes → List Delivery → Type 0
 OwnFirst a b came = length ((hand_of b).got Own) ≢ length ((hand_of a).got Own) + length came → seen_own b ≡ []
 
 -- the port may receive from the lane: its own one, or a flow lane to which it is linked
-abbrev pub IsReadable : LanesPlace → Lane → Type 0
+abbrev pub IsReadable : LanesSite → Lane → Type 0
 IsReadable p Own = Unit {0}
 IsReadable p (Flow j) = (j < flow_count p) × (has j p.flows.links ≡ true)
 
 -- how many NEWs, FORWARD_MOREs and RELEASEs were submitted, over all lanes
 abbrev pub news_of : Lanes → ℕ
-news_of a = counted is_new_reply (flow_count (lanes_place a)) (hand_of a).said
+news_of a = counted is_new_reply (flow_count (lanes_site a)) (hand_of a).said
 
 abbrev pub mores_of : Lanes → ℕ
-mores_of a = counted is_more_reply (flow_count (lanes_place a)) (hand_of a).said
+mores_of a = counted is_more_reply (flow_count (lanes_site a)) (hand_of a).said
 
 abbrev pub releases_of : Lanes → ℕ
-releases_of a = counted is_release_reply (flow_count (lanes_place a)) (hand_of a).said
+releases_of a = counted is_release_reply (flow_count (lanes_site a)) (hand_of a).said
 
 -- one reply more was submitted, or none
 pub record CountsOne (r : Reply) (a b : Lanes) : Type 0 where

@@ -1,4 +1,4 @@
--- What a port has of its flow lanes: a place for each lane, with the stint where the port holds the lane, and the seat's view.
+-- What a port has of its flow lanes: a entry for each lane, with the stint where the port holds the lane, and the seat's view.
 use Rattle.std.specs.Prelude.{◌≡◌, ◌≢◌, ℕ, ◌<◌, ◌≤◌, ◌==◌, List, [], ◌∷◌, ◌++◌, length, drop, filter, flat_map, count_by, true, false, if◌then◌else◌, Option, All, slice_index_or}
 use Rattle.std.specs.Prelude.Option.{Some, None}
 use Rattle.std.specs.Option.{ForNone, ForSome, is_some}
@@ -19,29 +19,29 @@ use Rattle.flow_claims.specs.Open.{IsOpen, received_so_far, answered_so_far}
 use Rattle.flow_claims.specs.Seats.{stint_at, IsPorts}
 use Rattle.flow_claims.specs.Stints.{left_in, received_in_all, answered_in_all}
 
--- what stands at the place of a lane; past the last there is nothing
-abbrev pub place_at : List (Option Stint) → ℕ → Option Stint
-place_at stints lane = slice_index_or stints lane None
+-- what stands at the entry of a lane; past the last there is nothing
+abbrev pub entry_at : List (Option Stint) → ℕ → Option Stint
+entry_at stints lane = slice_index_or stints lane None
 
--- the stint is open in the seat, of the lane whose place it has, and the port is linked to the lane
+-- the stint is open in the seat, of the lane whose entry it has, and the port is linked to the lane
 pub record IsHeldAt (links : List ℕ) (v : Seating) (lane : ℕ) (stint : Stint) : Type 0 where
   pub lane_is : stint.lane ≡ lane
   pub open_is : IsOpen v stint
   pub linked : has lane links ≡ true
 
--- the seat has a stint of the lane open exactly where the lane's place has it
-pub record IsPlace (links : List ℕ) (v : Seating) (lane : ℕ) (place : Option Stint) : Type 0 where
-  pub free : ForNone place (stint_at v lane ≡ None)
-  pub held : ForSome place (IsHeldAt links v lane)
+-- the seat has a stint of the lane open exactly where the lane's entry has it
+pub record IsEntry (links : List ℕ) (v : Seating) (lane : ℕ) (entry : Option Stint) : Type 0 where
+  pub free : ForNone entry (stint_at v lane ≡ None)
+  pub held : ForSome entry (IsHeldAt links v lane)
 
--- The seat belongs to the claims and to a port. Each place has what the seat has of its lane, and each stint, open or finished, is of
+-- The seat belongs to the claims and to a port. Each entry has what the seat has of its lane, and each stint, open or finished, is of
 -- the seat's port and of a lane to which that is linked.
 pub record AreFlows (claims : Claims) (seat : ClaimSeat) (stints : List (Option Stint)) (links : List ℕ) : Type 0 where
   pub seat_of : IsSeatOf claims seat
   pub port : port_of seat < 254
-  pub places : length stints ≡ length (lanes_of claims)
+  pub entries : length stints ≡ length (lanes_of claims)
   pub links_exist : All (λ lane. lane < length (lanes_of claims)) links
-  pub each : (lane : ℕ) → IsPlace links (seating seat) lane (place_at stints lane)
+  pub each : (lane : ℕ) → IsEntry links (seating seat) lane (entry_at stints lane)
   pub ports : IsPorts (port_of seat) (seating seat)
   pub linked : All (λ p. has p.lane links ≡ true) (seating seat).finished
 
@@ -97,7 +97,7 @@ hidden_in (Some stint) = hidden_answers stint.far
 
 -- of one lane at most something is hidden: of the one that was answered last
 abbrev pub AreShown : Option ℕ → List (Option Stint) → Type 0
-AreShown touched stints = (lane : ℕ) → touched ≢ Some lane → hidden_in (place_at stints lane) ≡ []
+AreShown touched stints = (lane : ℕ) → touched ≢ Some lane → hidden_in (entry_at stints lane) ≡ []
 
 -- what a port has of its flow lanes
 pub record Hands : Type 0 where
@@ -105,7 +105,7 @@ pub record Hands : Type 0 where
   pub stints : List (Option Stint)
 
 abbrev pub stint_in : Hands → ℕ → Option Stint
-stint_in h lane = place_at h.stints lane
+stint_in h lane = entry_at h.stints lane
 
 -- what the port received from the lane and answered to it, in all its stints one after the other, and what it holds of it
 abbrev pub received_on : Hands → ℕ → List Delivery
@@ -164,7 +164,7 @@ pub record Same (h k : Hands) : Type 0 where
 -- What was answered was made visible, and no more.
 pub record Flushed (h k : Hands) : Type 0 where
   pub same : Same h k
-  pub places : (lane : ℕ) → is_some (stint_in k lane) ≡ is_some (stint_in h lane)
+  pub entries : (lane : ℕ) → is_some (stint_in k lane) ≡ is_some (stint_in h lane)
   pub filled : (lane : ℕ) → IsFilledBy (stint_in h lane) → IsFilledBy (stint_in k lane)
 
 -- But for what is held: a lane may be surrendered, and what is unanswered of it is left.

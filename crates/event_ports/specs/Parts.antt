@@ -7,7 +7,7 @@ use Rattle.flow_claims.specs.Claims.{seating, port_of, lanes_of, IsSeatOf}
 use Rattle.flow_claims.specs.Laws.{IsUnused}
 use Rattle.flow_claims.specs.Seats.{HoldsNone}
 use Rattle.event_ports.specs.declared.parts.Parts.{Parts}
-use Rattle.event_ports.specs.Ports.{Place}
+use Rattle.event_ports.specs.Ports.{DeskSite}
 
 -- The seats belong to the pool and to the claims, the claim seat to the port of that number; the links are flow lanes that are there;
 -- a quantum fits under the threshold, and that within the limit; a dequeue hands out at most 64 deliveries.
@@ -30,8 +30,8 @@ pub record AreFresh (p : Parts) : Type 0 where
   pub own : IsUnused p.own
 
 -- what never changes of the port that is made of them
-abbrev pub place_by : Parts → Place
-place_by p =
+abbrev pub own_site_by : Parts → DeskSite
+own_site_by p =
     record {
       pool = arc_value p.pool;
       lanes = record {

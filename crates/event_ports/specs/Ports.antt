@@ -9,10 +9,10 @@ use Rattle.event_ports.specs.declared.counts.PortCounts.{PortCounts}
 use Rattle.event_ports.specs.declared.port.Port.{Port}
 use Rattle.event_ports.specs.Desks as desks
 use Rattle.event_ports.specs.Lanes.{Hand}
-pub use Rattle.event_ports.specs.Desks.{Place}
+pub use Rattle.event_ports.specs.Desks.{DeskSite}
 
-abbrev pub place_of : Port → Place
-place_of p = desks.place_of p.desk
+abbrev pub own_site : Port → DeskSite
+own_site p = desks.own_site p.desk
 
 abbrev pub account_of : Port → Account
 account_of p = desks.account_of p.desk

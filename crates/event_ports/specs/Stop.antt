@@ -15,7 +15,7 @@ use Rattle.event_ports.specs.declared.port.Port.{Port}
 use Rattle.event_ports.specs.Holds.{answered_past, left_past, AreLinked}
 use Rattle.event_ports.specs.Handed.{flow_count}
 use Rattle.event_ports.specs.Lanes.{AreOf, IsEndOf, pair_in, held_of}
-use Rattle.event_ports.specs.Ports.{place_of, account_of, pocket_of, hand, links, mores_by, news_by, releases_by}
+use Rattle.event_ports.specs.Ports.{own_site, account_of, pocket_of, hand, links, mores_by, news_by, releases_by}
 use Rattle.event_ports.specs.declared.rest.Rest.{Rest}
 use Rattle.event_ports.specs.declared.lane.Lane.TheVariants.{Own, Flow}
 use Rattle.credit_pool.specs.declared.pool.Credits.{Credits}
@@ -63,8 +63,8 @@ pub record Joins (port : Port) (before after : Seating) : Type 0 where
   pub stints : List Past
   pub finished : after.finished ≡ before.finished ++ stints
   pub lists : IsEndOf (hand port) stints
-  pub linked : AreLinked (place_of port).number (links port) stints
-  pub parts : after.parts ≡ before.parts + (place_of port).lanes.flows.parts
+  pub linked : AreLinked (own_site port).number (links port) stints
+  pub parts : after.parts ≡ before.parts + (own_site port).lanes.flows.parts
   pub none_open : HoldsNone after
 
 -- Of these stints the first are a port's, which are what it received from flow lanes and answered to them, and of lanes to which it is
@@ -74,7 +74,7 @@ pub record FirstStints (port : Port) (others : List Past → Type 0) (all : List
   pub rest : List Past
   pub both : all ≡ its ++ rest
   pub lists : IsEndOf (hand port) its
-  pub linked : AreLinked (place_of port).number (links port) its
+  pub linked : AreLinked (own_site port).number (links port) its
   pub others_are : others rest
 
 -- these are the stints of the ports, one port's after the other's
@@ -84,8 +84,8 @@ AreStintsOf (p ∷ ps) all = FirstStints p (AreStintsOf ps) all
 
 -- the port's seats are of these credits and claims
 pub record IsPortOf (pool : Credits) (claims : Claims) (p : Port) : Type 0 where
-  pub pool_is : (place_of p).pool ≡ pool
-  pub claims_are : (place_of p).lanes.flows.claims ≡ claims
+  pub pool_is : (own_site p).pool ≡ pool
+  pub claims_are : (own_site p).lanes.flows.claims ≡ claims
 
 -- what the port drew and what it released paid for what it returned, its NEWs and its FORWARD_MOREs, and the rest is in its pocket
 abbrev pub IsPaid : Port → Type 0
@@ -93,7 +93,7 @@ IsPaid p = IsPocket (pocket_of p) ((account_of p).drawn + releases_by p) ((accou
 
 -- all that the port holds is of its own lane or of a flow lane that is there
 abbrev pub IsCounted : Port → Type 0
-IsCounted p = AreOf (flow_count (place_of p).lanes) (hand p).holding
+IsCounted p = AreOf (flow_count (own_site p).lanes) (hand p).holding
 
 -- how many of a port's replies to so many flow lanes pass the test
 abbrev pub flows_in : (Reply → Bool) → ℕ → Port → ℕ
@@ -101,7 +101,7 @@ flows_in P n p = sum_by (λ j. count_by P ((hand p).said (Flow j))) (range_with_
 
 -- the lanes to which the port is linked are those that the test gives it
 abbrev pub LinksAgree : (ℕ → ℕ → Bool) → Port → Type 0
-LinksAgree linked p = (j : ℕ) → has j (links p) ≡ true → linked (place_of p).number j ≡ true
+LinksAgree linked p = (j : ℕ) → has j (links p) ≡ true → linked (own_site p).number j ≡ true
 
 -- The seats of all these ports were joined into one credit seat and one claim seat.
 pub record IsJoined (pool : Credits) (claims : Claims) (credit : CreditSeat) (claim : ClaimSeat) (ports : List Port) (credits_after : CreditSeat) (claims_after : ClaimSeat) : Type 0 where
@@ -112,7 +112,7 @@ pub record IsJoined (pool : Credits) (claims : Claims) (credit : CreditSeat) (cl
   pub returned : (credits.account credits_after).returned ≡ (credits.account credit).returned + sum_by (λ p. (account_of p).returned) ports
   pub parts : (credits.account credits_after).parts ≡ (credits.account credit).parts + sum_by (λ p. (account_of p).parts) ports
   pub bit : (credits.account credits_after).set_shut ≡ (credits.account credit).set_shut
-  pub flow_parts : (seating claims_after).parts ≡ (seating claim).parts + sum_by (λ p. (place_of p).lanes.flows.parts) ports
+  pub flow_parts : (seating claims_after).parts ≡ (seating claim).parts + sum_by (λ p. (own_site p).lanes.flows.parts) ports
   pub stints : List Past
   pub finished : (seating claims_after).finished ≡ (seating claim).finished ++ stints
   pub ports_are : AreStintsOf ports stints
@@ -123,12 +123,12 @@ pub record IsJoined (pool : Credits) (claims : Claims) (credit : CreditSeat) (cl
 
 -- what is left of each of these ports, in their order
 pub record AreLeft (ports : List Port) (rests : List Rest) : Type 0 where
-  pub numbers : map (λ r. r.number) rests ≡ map (λ p. (place_of p).number) ports
-  pub lanes : map (λ r. far_id r.own) rests ≡ map (λ p. (place_of p).lanes.own) ports
+  pub numbers : map (λ r. r.number) rests ≡ map (λ p. (own_site p).number) ports
+  pub lanes : map (λ r. far_id r.own) rests ≡ map (λ p. (own_site p).lanes.own) ports
   pub received : map (λ r. received_by r.own) rests ≡ map (λ p. (hand p).got Own) ports
   pub answered_is : map (λ r. answered r.own) rests ≡ map (λ p. (hand p).said Own) ports
   pub held : map (λ r. r.held.items) rests ≡ map (λ p. (hand p).holding) ports
   pub ordered : map (λ r. held_list r.own) rests ≡ map (λ p. map pair_in (held_of Own (hand p).holding)) ports
   pub pockets : map (λ r. r.pocket) rests ≡ map pocket_of ports
   -- no port held more than it might
-  pub within : All (λ p. length (hand p).holding ≤ (place_of p).lanes.depth) ports
+  pub within : All (λ p. length (hand p).holding ≤ (own_site p).lanes.depth) ports

@@ -4,7 +4,7 @@ ghost use Rattle.std.specs.Prelude.{◌≡◌, ◌≢◌, ◌+◌, ◌%◌, ◌^
 ghost use Rattle.evt_types.specs.declared.event.Op.TheVariants as ops;
 ghost use Rattle.credit_pool.specs.Accounts.{Stays};
 ghost use Rattle.event_ports.specs.Lanes.{Rests, Releases, Dequeues, Arrives, SubmitsTo, SubmitsAll, first_lane, release_reply};
-ghost use Rattle.event_ports.specs.Desks.{place_of, account_of, pocket_of, hand, seen_by, links, was_filled, released_first, Gathers, StopsAt};
+ghost use Rattle.event_ports.specs.Desks.{own_site, account_of, pocket_of, hand, seen_by, links, was_filled, released_first, Gathers, StopsAt};
 ghost use Rattle.event_ports.specs.Handed.{AllShown, OwnFirst};
 
 use crate::desk::Desk;
@@ -15,7 +15,7 @@ use evt_types::{Delivery, Event};
 impl Desk {
     // Enqueues the events, which the scheduler sees after the next `flush`.
     pub(crate) fn submit_burst(&mut self, events: &[Event]) -> (usize, Option<Refused>)
-        ensures place { place_of self.new ≡ place_of self.old }
+        ensures site { own_site self.new ≡ own_site self.old }
         ensures credit { Stays (account_of self.old) (account_of self.new) }
         ensures count { result.0 ≤ length events.now }
         ensures all { IsNone result.1 ↔ (result.0 ≡ length events.now) }
@@ -45,15 +45,15 @@ impl Desk {
         into: &mut ArrayVec<Delivery, 64>,
     ) -> Result<(), Behind>
         requires { into.old.items ≡ [] }
-        ensures place { place_of self.new ≡ place_of self.old }
+        ensures site { own_site self.new ≡ own_site self.old }
         ensures credit { account_of self.new ≡ account_of self.old }
         ensures ok { OnOk result (Dequeues (links self.old) (released_first self.old) (hand self.old) (hand self.new) into.new.items) }
-        ensures few { OnOk result ((length into.new.items ≤ max) × (length (hand self.new).holding ≤ (place_of self.old).lanes.depth)) }
-        ensures drained { OnOk result (length into.new.items < max → length (hand self.new).holding < (place_of self.old).lanes.depth → seen_by self.new ≡ []) }
+        ensures few { OnOk result ((length into.new.items ≤ max) × (length (hand self.new).holding ≤ (own_site self.old).lanes.depth)) }
+        ensures drained { OnOk result (length into.new.items < max → length (hand self.new).holding < (own_site self.old).lanes.depth → seen_by self.new ≡ []) }
         ensures own_first { OnOk result (OwnFirst self.old.lanes self.new.lanes into.new.items) }
         ensures shown { AllShown self.old.lanes → AllShown self.new.lanes }
         ensures none { IsErr result → into.new.items ≡ [] }
-        ensures behind { IfErr result (λ b. IsTrue (place_of self.old).implicit × (b.released < length (hand self.old).holding) × Releases b.released (hand self.old) (hand self.new) × was_filled self.new ops.Release) }
+        ensures behind { IfErr result (λ b. IsTrue (own_site self.old).implicit × (b.released < length (hand self.old).holding) × Releases b.released (hand self.old) (hand self.new) × was_filled self.new ops.Release) }
         ensures pocket { MatchResult result
             (λ _. pocket_of self.new ≡ (pocket_of self.old + released_first self.old) % 2 ^ 64)
             (λ b. pocket_of self.new ≡ (pocket_of self.old + b.released) % 2 ^ 64) }
@@ -73,11 +73,11 @@ impl Desk {
 
     fn receive(&mut self, max: usize, into: &mut ArrayVec<Delivery, 64>)
         requires { into.old.items ≡ [] }
-        ensures place { place_of self.new ≡ place_of self.old }
+        ensures site { own_site self.new ≡ own_site self.old }
         ensures credit { (account_of self.new ≡ account_of self.old) × (pocket_of self.new ≡ pocket_of self.old) × (pocket_of self.old < 2 ^ 64) }
         ensures arrived { Arrives (links self.old) (hand self.old) (hand self.new) [] into.new.items }
-        ensures few { (length into.new.items ≤ max) × (length (hand self.new).holding ≤ (place_of self.old).lanes.depth) }
-        ensures drained { length into.new.items < max → length (hand self.new).holding < (place_of self.old).lanes.depth → seen_by self.new ≡ [] }
+        ensures few { (length into.new.items ≤ max) × (length (hand self.new).holding ≤ (own_site self.old).lanes.depth) }
+        ensures drained { length into.new.items < max → length (hand self.new).holding < (own_site self.old).lanes.depth → seen_by self.new ≡ [] }
         ensures own_first { OwnFirst self.old.lanes self.new.lanes into.new.items }
         ensures shown { AllShown self.old.lanes → AllShown self.new.lanes }
     {
@@ -87,7 +87,7 @@ impl Desk {
 
     // Releases all that is held, oldest first, or as much as the reply rings take. The scheduler sees it.
     fn release_all(&mut self) -> Result<(), Behind>
-        ensures place { place_of self.new ≡ place_of self.old }
+        ensures site { own_site self.new ≡ own_site self.old }
         ensures credit { account_of self.new ≡ account_of self.old }
         ensures shown { AllShown self.new.lanes }
         ensures ok { OnOk result (Releases (length (hand self.old).holding) (hand self.old) (hand self.new) × (pocket_of self.new ≡ (pocket_of self.old + length (hand self.old).holding) % 2 ^ 64)) }
@@ -99,7 +99,7 @@ impl Desk {
     }
 
     fn release_each(&mut self) -> Result<(), Behind>
-        ensures place { place_of self.new ≡ place_of self.old }
+        ensures site { own_site self.new ≡ own_site self.old }
         ensures credit { account_of self.new ≡ account_of self.old }
         ensures ok { OnOk result (Releases (length (hand self.old).holding) (hand self.old) (hand self.new) × (pocket_of self.new ≡ (pocket_of self.old + length (hand self.old).holding) % 2 ^ 64)) }
         ensures behind { IfErr result (λ b. (b.released < length (hand self.old).holding) × Releases b.released (hand self.old) (hand self.new) × was_filled self.new ops.Release × (pocket_of self.new ≡ (pocket_of self.old + b.released) % 2 ^ 64)) }
@@ -116,7 +116,7 @@ impl Desk {
     // Releases the oldest that is held; false where its lane's reply ring has no room.
     fn release_oldest(&mut self) -> bool
         requires { (hand self.old).holding ≢ [] }
-        ensures place { place_of self.new ≡ place_of self.old }
+        ensures site { own_site self.new ≡ own_site self.old }
         ensures credit { account_of self.new ≡ account_of self.old }
         ensures released { IsTrue result → SubmitsTo (first_lane (hand self.old).holding) release_reply (hand self.old) (hand self.new) × (pocket_of self.new ≡ (pocket_of self.old + 1) % 2 ^ 64) }
         ensures behind { IsFalse result → Rests (hand self.old) (hand self.new) × was_filled self.new ops.Release × (pocket_of self.new ≡ pocket_of self.old) }

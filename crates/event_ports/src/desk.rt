@@ -4,7 +4,7 @@
 ghost use Rattle.std.specs.Prelude.{◌≡◌, ◌+◌, ◌<◌, ◌≤◌, false};
 ghost use Rattle.std.specs.Arc.{arc_value};
 ghost use Rattle.credit_pool.specs.Pool.{account, limit_of, IsSeatOf};
-ghost use Rattle.event_ports.specs.Handed.{lanes_place, mores_of, news_of, releases_of};
+ghost use Rattle.event_ports.specs.Handed.{lanes_site, mores_of, news_of, releases_of};
 ghost use Rattle.credit_pool.specs.Pockets.{IsPocket};
 
 use crate::fill::fill;
@@ -31,7 +31,7 @@ pub(crate) struct Desk {
     ghost seat_of: { IsSeatOf (arc_value pool) seat },
     ghost unset: { (account seat).set_shut ≡ false },
     ghost quantum_fits: { (0 < quantum) × (quantum ≤ threshold) × (threshold ≤ limit_of (arc_value pool)) },
-    ghost numbered: { (lanes_place lanes).flows.port ≡ number },
+    ghost numbered: { (lanes_site lanes).flows.port ≡ number },
     ghost paid: { IsPocket pocket ((account seat).drawn + releases_of lanes) ((account seat).returned + news_of lanes + mores_of lanes) },
 }
 
@@ -44,11 +44,11 @@ impl Desk {
     ghost use Rattle.event_ports.specs.Lanes.{Rests, SubmitsTo, TakesMore, lane_for, reply_of};
     ghost use Rattle.event_ports.specs.Draws.{HasLooked, Settles};
     ghost use Rattle.event_ports.specs.Handed.{AllShown};
-    ghost use Rattle.event_ports.specs.Desks.{place_of, account_of, pocket_of, hand, was_filled, SameCredits, HasStocked, HasNoCredit, IsFlushed, Pays, Refuses};
+    ghost use Rattle.event_ports.specs.Desks.{own_site, account_of, pocket_of, hand, was_filled, SameCredits, HasStocked, HasNoCredit, IsFlushed, Pays, Refuses};
 
     // Whether the device is shut, by one look at the credits.
     pub(crate) fn shut_seen(&mut self) -> bool
-        ensures place { place_of self.new ≡ place_of self.old }
+        ensures site { own_site self.new ≡ own_site self.old }
         ensures credit { Stays (account_of self.old) (account_of self.new) }
         ensures same { Rests (hand self.old) (hand self.new) × SameCredits self.old self.new }
         ensures seen { IsTrue result ↔ IsTrue (account_of self.new).saw_shut }
@@ -63,7 +63,7 @@ impl Desk {
     // Enqueues an event, which the scheduler sees after the next `flush`.
     #[inline(always)]
     pub(crate) fn submit(&mut self, event: &Event) -> Result<(), Refused>
-        ensures place { place_of self.new ≡ place_of self.old }
+        ensures site { own_site self.new ≡ own_site self.old }
         ensures credit { Stays (account_of self.old) (account_of self.new) }
         ensures submitted { MatchResult result (λ _. SubmitsTo (lane_for event.now.op (hand self.old).holding) (reply_of event.now) (hand self.old) (hand self.new)) (λ _. Rests (hand self.old) (hand self.new)) }
         ensures pays { OnOk result (Pays event.now.op self.old self.new) }
@@ -89,7 +89,7 @@ impl Desk {
     #[inline(always)]
     fn enqueue_new(&mut self, event: &Event) -> Result<(), Refused>
         requires { event.now.op ≡ ops.New }
-        ensures place { place_of self.new ≡ place_of self.old }
+        ensures site { own_site self.new ≡ own_site self.old }
         ensures credit { Stays (account_of self.old) (account_of self.new) }
         ensures submitted { MatchResult result (λ _. SubmitsTo (lane_for event.now.op (hand self.old).holding) (reply_of event.now) (hand self.old) (hand self.new)) (λ _. Rests (hand self.old) (hand self.new)) }
         ensures pays { OnOk result (Pays event.now.op self.old self.new) }
@@ -110,7 +110,7 @@ impl Desk {
 
     // Draws a quantum where the pocket is empty.
     fn stock(&mut self) -> Result<(), Refused>
-        ensures place { place_of self.new ≡ place_of self.old }
+        ensures site { own_site self.new ≡ own_site self.old }
         ensures credit { Stays (account_of self.old) (account_of self.new) }
         ensures same { Rests (hand self.old) (hand self.new) }
         ensures stocked { OnOk result (HasStocked self.old self.new × (0 < pocket_of self.new)) }
@@ -136,7 +136,7 @@ impl Desk {
         requires costs { costs_credit event.now.op ≡ true }
         requires takes { event.now.op ≡ ops.ForwardMore → TakesMore (hand self.old) }
         requires pocket { 0 < pocket_of self.old }
-        ensures place { place_of self.new ≡ place_of self.old }
+        ensures site { own_site self.new ≡ own_site self.old }
         ensures credit { account_of self.new ≡ account_of self.old }
         ensures submitted { MatchResult result (λ _. SubmitsTo (lane_for event.now.op (hand self.old).holding) (reply_of event.now) (hand self.old) (hand self.new)) (λ _. Rests (hand self.old) (hand self.new)) }
         ensures pays { OnOk result (pocket_of self.new + 1 ≡ pocket_of self.old) }
@@ -154,7 +154,7 @@ impl Desk {
     #[inline(always)]
     fn enqueue_forward(&mut self, event: &Event) -> Result<(), Refused>
         requires { event.now.op ≡ ops.Forward }
-        ensures place { place_of self.new ≡ place_of self.old }
+        ensures site { own_site self.new ≡ own_site self.old }
         ensures credit { Stays (account_of self.old) (account_of self.new) }
         ensures submitted { MatchResult result (λ _. SubmitsTo (lane_for event.now.op (hand self.old).holding) (reply_of event.now) (hand self.old) (hand self.new)) (λ _. Rests (hand self.old) (hand self.new)) }
         ensures pays { OnOk result (Pays event.now.op self.old self.new) }
@@ -174,7 +174,7 @@ impl Desk {
     #[inline(always)]
     fn enqueue_release(&mut self, event: &Event) -> Result<(), Refused>
         requires { event.now.op ≡ ops.Release }
-        ensures place { place_of self.new ≡ place_of self.old }
+        ensures site { own_site self.new ≡ own_site self.old }
         ensures credit { Stays (account_of self.old) (account_of self.new) }
         ensures submitted { MatchResult result (λ _. SubmitsTo (lane_for event.now.op (hand self.old).holding) (reply_of event.now) (hand self.old) (hand self.new)) (λ _. Rests (hand self.old) (hand self.new)) }
         ensures pays { OnOk result (Pays event.now.op self.old self.new) }
@@ -195,7 +195,7 @@ impl Desk {
     // The credit is there before the event is submitted, and is drawn only where the event may be added.
     fn enqueue_more(&mut self, event: &Event) -> Result<(), Refused>
         requires { event.now.op ≡ ops.ForwardMore }
-        ensures place { place_of self.new ≡ place_of self.old }
+        ensures site { own_site self.new ≡ own_site self.old }
         ensures credit { Stays (account_of self.old) (account_of self.new) }
         ensures submitted { MatchResult result (λ _. SubmitsTo (lane_for event.now.op (hand self.old).holding) (reply_of event.now) (hand self.old) (hand self.new)) (λ _. Rests (hand self.old) (hand self.new)) }
         ensures pays { OnOk result (Pays event.now.op self.old self.new) }
@@ -218,10 +218,10 @@ impl Desk {
 
     // The return rule: of two quanta or more in the pocket, all but one are given back, by one try.
     pub(crate) fn settle(&mut self)
-        ensures place { place_of self.new ≡ place_of self.old }
+        ensures site { own_site self.new ≡ own_site self.old }
         ensures credit { Stays (account_of self.old) (account_of self.new) }
         ensures lanes { self.new.lanes ≡ self.old.lanes }
-        ensures settled { Settles (place_of self.old).quantum (pocket_of self.old) (account_of self.old) (pocket_of self.new) (account_of self.new) }
+        ensures settled { Settles (own_site self.old).quantum (pocket_of self.old) (account_of self.old) (pocket_of self.new) (account_of self.new) }
     {
         if self.pocket / 2 < self.quantum {
             return;

@@ -10,7 +10,7 @@ use lane_rings::{Hints, LaneSet, Refusal};
 use std::alloc::{AllocError, Global};
 use std::sync::Arc;
 
-/// The flow lanes of a port. There is a place for each flow lane of the device, with the stint where the port holds the lane.
+/// The flow lanes of a port. There is a position for each flow lane of the device, with the stint where the port holds the lane.
 #[derive(Drop)]
 pub(crate) struct FlowLanes {
     claims: Arc<Claims, Global>,
@@ -38,9 +38,9 @@ impl FlowLanes {
     ghost use Rattle.flow_claims.specs.Claims.{seating, port_of, lanes_of, IsSeatOf};
     ghost use Rattle.flow_claims.specs.Seats.{HoldsNone};
     ghost use Rattle.event_ports.specs.Holds.{IsFilledBy, AreLinked, Brings, Flushed, NoneHidden, Same, Kept, Says, Ends, AreEmpty, extras_on, hidden_in, stint_in, held_on};
-    ghost use Rattle.event_ports.specs.Flows.{hands_of, flow_place, touched_of};
+    ghost use Rattle.event_ports.specs.Flows.{hands_of, flow_site, touched_of};
 
-    /// The flow lanes of a port whose seat has no stint, with a place for each.
+    /// The flow lanes of a port whose seat has no stint, with a position for each.
     pub(crate) fn new(
         claims: Arc<Claims, Global>,
         seat: ClaimSeat,
@@ -51,8 +51,8 @@ impl FlowLanes {
         requires seat { IsSeatOf (arc_value claims) seat × (port_of seat < 254) }
         requires fresh { HoldsNone (seating seat) × ((seating seat).finished ≡ []) }
         requires links { All (λ lane. lane < length (lanes_of (arc_value claims))) links.items }
-        requires places { stints.items ≡ replicate (length (lanes_of (arc_value claims))) None }
-        ensures place { flow_place result ≡ record { claims = arc_value claims; port = port_of seat; links = links.items; parts = (seating seat).parts } }
+        requires entries { stints.items ≡ replicate (length (lanes_of (arc_value claims))) None }
+        ensures site { flow_site result ≡ record { claims = arc_value claims; port = port_of seat; links = links.items; parts = (seating seat).parts } }
         ensures empty { AreEmpty (hands_of result) }
         ensures shown { NoneHidden (hands_of result) }
     {
@@ -71,19 +71,19 @@ impl FlowLanes {
 
     /// How many flow lanes the port is linked to.
     pub(crate) fn link_count(&self) -> usize
-        ensures { result ≡ length (flow_place self.now).links }
+        ensures { result ≡ length (flow_site self.now).links }
     {
         self.links.len()
     }
 
-    /// The flow lane at this place of the links.
-    pub(crate) fn link(&self, place: usize) -> usize
-        requires { place < length (flow_place self.now).links }
-        ensures exists { result < length (lanes_of (flow_place self.now).claims) }
-        ensures linked { has result (flow_place self.now).links ≡ true }
-        ensures at_place { slice_get (flow_place self.now).links place ≡ Some result }
+    /// The flow lane at this position of the links.
+    pub(crate) fn link(&self, position: usize) -> usize
+        requires { position < length (flow_site self.now).links }
+        ensures exists { result < length (lanes_of (flow_site self.now).claims) }
+        ensures linked { has result (flow_site self.now).links ≡ true }
+        ensures at_link { slice_get (flow_site self.now).links position ≡ Some result }
     {
-        self.links[place]
+        self.links[position]
     }
 
     /// The linked flow lanes that may have something: those with a hint, and those that the port holds.
@@ -96,28 +96,28 @@ impl FlowLanes {
         self.hints.lanes().either(self.open).both(self.linked)
     }
 
-    /// The next place of the links, from this one on, of a lane that is worth a look; past the last where there is none.
+    /// The next position of the links, from this one on, of a lane that is worth a look; past the last where there is none.
     #[inline(always)]
-    pub(crate) fn next_place(&self, place: usize, worthy: LaneSet) -> usize
-        requires { place ≤ length (flow_place self.now).links }
-        ensures { (place ≤ result) × (result ≤ length (flow_place self.now).links) }
+    pub(crate) fn next_link(&self, position: usize, worthy: LaneSet) -> usize
+        requires { position ≤ length (flow_site self.now).links }
+        ensures { (position ≤ result) × (result ≤ length (flow_site self.now).links) }
     {
-        let Some(from) = self.links.get(place) else {
-            return place;
+        let Some(from) = self.links.get(position) else {
+            return position;
         };
-        // The links rise, so before a lane's place come the lower ones.
+        // The links rise, so before a lane's position come the lower ones.
         let lane = worthy.first_from(*from);
         self.linked
             .count_below(lane)
-            .max(place)
+            .max(position)
             .min(self.links.len())
     }
 
     /// Holds the lane, where it isn't held already, by one try. False where it can't be had.
     pub(crate) fn hold(&mut self, lane: usize) -> bool
-        requires exists { lane < length (lanes_of (flow_place self.old).claims) }
-        requires linked { has lane (flow_place self.old).links ≡ true }
-        ensures place { flow_place self.new ≡ flow_place self.old }
+        requires exists { lane < length (lanes_of (flow_site self.old).claims) }
+        requires linked { has lane (flow_site self.old).links ≡ true }
+        ensures site { flow_site self.new ≡ flow_site self.old }
         ensures same { Same (hands_of self.old) (hands_of self.new) }
         ensures held { is_some (stint_in (hands_of self.new) lane) ≡ result }
         ensures elsewhere { (j : ℕ) → j ≢ lane → is_some (stint_in (hands_of self.new) j) ≡ is_some (stint_in (hands_of self.old) j) }
@@ -142,12 +142,12 @@ impl FlowLanes {
         most: usize,
         into: &mut ArrayVec<Delivery, 64>,
     )
-        requires exists { lane < length (lanes_of (flow_place self.old).claims) }
+        requires exists { lane < length (lanes_of (flow_site self.old).claims) }
         requires most { most ≤ 64 }
-        ensures place { flow_place self.new ≡ flow_place self.old }
+        ensures site { flow_site self.new ≡ flow_site self.old }
         ensures lists { Brings lane (hands_of self.old) into.old.items (hands_of self.new) into.new.items }
         ensures few { length into.old.items ≤ most → length into.new.items ≤ most }
-        ensures places { (j : ℕ) → is_some (stint_in (hands_of self.new) j) ≡ is_some (stint_in (hands_of self.old) j) }
+        ensures entries { (j : ℕ) → is_some (stint_in (hands_of self.new) j) ≡ is_some (stint_in (hands_of self.old) j) }
         ensures shown { NoneHidden (hands_of self.old) → NoneHidden (hands_of self.new) }
     {
         let Some(stint) = &mut self.stints[lane] else {
@@ -164,7 +164,7 @@ impl FlowLanes {
 
     /// How many events were added beside the oldest delivery that is held of the lane; 0 where the lane isn't held.
     pub(crate) fn extras(&self, lane: usize) -> usize
-        requires { lane < length (lanes_of (flow_place self.now).claims) }
+        requires { lane < length (lanes_of (flow_site self.now).claims) }
         ensures { result ≡ extras_on (hands_of self.now) lane }
     {
         match &self.stints[lane] {
@@ -175,12 +175,12 @@ impl FlowLanes {
 
     /// Answers the oldest delivery that is held of the lane, or adds an event beside it. The scheduler sees it after the next `flush`.
     pub(crate) fn answer(&mut self, lane: usize, event: &Event) -> Result<(), Refusal>
-        requires exists { lane < length (lanes_of (flow_place self.old).claims) }
+        requires exists { lane < length (lanes_of (flow_site self.old).claims) }
         requires held { held_on (hands_of self.old) lane ≢ [] }
         requires few { is_more_reply (reply_of event.now) ≡ true → extras_on (hands_of self.old) lane < MAX_EXTRAS }
-        ensures place { flow_place self.new ≡ flow_place self.old }
+        ensures site { flow_site self.new ≡ flow_site self.old }
         ensures lists { MatchResult result (λ _. Says lane (reply_of event.now) (hands_of self.old) (hands_of self.new)) (λ _. Same (hands_of self.old) (hands_of self.new)) }
-        ensures places { (j : ℕ) → is_some (stint_in (hands_of self.new) j) ≡ is_some (stint_in (hands_of self.old) j) }
+        ensures entries { (j : ℕ) → is_some (stint_in (hands_of self.new) j) ≡ is_some (stint_in (hands_of self.old) j) }
         ensures refused { IfErr result (λ e. (e ≡ Refusal.Full) × IsFilledBy (stint_in (hands_of self.new) lane)) }
     {
         self.turn_to(lane);
@@ -189,7 +189,7 @@ impl FlowLanes {
 
     // What was answered to another lane is flushed, so that there is one at most to be flushed.
     fn turn_to(&mut self, lane: usize)
-        ensures place { flow_place self.new ≡ flow_place self.old }
+        ensures site { flow_site self.new ≡ flow_site self.old }
         ensures flushed { Flushed (hands_of self.old) (hands_of self.new) }
         ensures touched { touched_of self.new ≡ Some lane }
     {
@@ -201,7 +201,7 @@ impl FlowLanes {
 
     /// Makes all that was answered visible to the scheduler.
     pub(crate) fn flush(&mut self)
-        ensures place { flow_place self.new ≡ flow_place self.old }
+        ensures site { flow_site self.new ≡ flow_site self.old }
         ensures flushed { Flushed (hands_of self.old) (hands_of self.new) }
         ensures shown { NoneHidden (hands_of self.new) }
     {
@@ -213,7 +213,7 @@ impl FlowLanes {
 
     // Makes what was answered to the lane visible, where it is held.
     fn flush_lane(&mut self, lane: usize)
-        ensures place { flow_place self.new ≡ flow_place self.old }
+        ensures site { flow_site self.new ≡ flow_site self.old }
         ensures flushed { Flushed (hands_of self.old) (hands_of self.new) }
         ensures here { hidden_in (stint_in (hands_of self.new) lane) ≡ [] }
         ensures touched { touched_of self.new ≡ touched_of self.old }
@@ -230,12 +230,12 @@ impl FlowLanes {
 
     fn answer_at(&mut self, lane: usize, event: &Event) -> Result<(), Refusal>
         requires touched { touched_of self.old ≡ Some lane }
-        requires exists { lane < length (lanes_of (flow_place self.old).claims) }
+        requires exists { lane < length (lanes_of (flow_site self.old).claims) }
         requires held { held_on (hands_of self.old) lane ≢ [] }
         requires few { is_more_reply (reply_of event.now) ≡ true → extras_on (hands_of self.old) lane < MAX_EXTRAS }
-        ensures place { flow_place self.new ≡ flow_place self.old }
+        ensures site { flow_site self.new ≡ flow_site self.old }
         ensures lists { MatchResult result (λ _. Says lane (reply_of event.now) (hands_of self.old) (hands_of self.new)) (λ _. Same (hands_of self.old) (hands_of self.new)) }
-        ensures places { (j : ℕ) → is_some (stint_in (hands_of self.new) j) ≡ is_some (stint_in (hands_of self.old) j) }
+        ensures entries { (j : ℕ) → is_some (stint_in (hands_of self.new) j) ≡ is_some (stint_in (hands_of self.old) j) }
         ensures refused { IfErr result (λ e. (e ≡ Refusal.Full) × IsFilledBy (stint_in (hands_of self.new) lane)) }
     {
         let Some(stint) = &mut self.stints[lane] else {
@@ -246,8 +246,8 @@ impl FlowLanes {
 
     /// Gives the lane back where nothing of it is unanswered.
     pub(crate) fn leave(&mut self, lane: usize)
-        requires { lane < length (lanes_of (flow_place self.old).claims) }
-        ensures place { flow_place self.new ≡ flow_place self.old }
+        requires { lane < length (lanes_of (flow_site self.old).claims) }
+        ensures site { flow_site self.new ≡ flow_site self.old }
         ensures same { Same (hands_of self.old) (hands_of self.new) }
         ensures left { held_on (hands_of self.old) lane ≡ [] → is_some (stint_in (hands_of self.new) lane) ≡ false }
         ensures elsewhere { (j : ℕ) → j ≢ lane → is_some (stint_in (hands_of self.new) j) ≡ is_some (stint_in (hands_of self.old) j) }
@@ -260,8 +260,8 @@ impl FlowLanes {
 
     // Flushes the lane where nothing of it is unanswered.
     fn flush_done(&mut self, lane: usize)
-        requires { lane < length (lanes_of (flow_place self.old).claims) }
-        ensures place { flow_place self.new ≡ flow_place self.old }
+        requires { lane < length (lanes_of (flow_site self.old).claims) }
+        ensures site { flow_site self.new ≡ flow_site self.old }
         ensures flushed { Flushed (hands_of self.old) (hands_of self.new) }
         ensures here { held_on (hands_of self.new) lane ≡ [] → hidden_in (stint_in (hands_of self.new) lane) ≡ [] }
         ensures shown { NoneHidden (hands_of self.old) → NoneHidden (hands_of self.new) }
@@ -276,9 +276,9 @@ impl FlowLanes {
     }
 
     fn give_back(&mut self, lane: usize)
-        requires exists { lane < length (lanes_of (flow_place self.old).claims) }
+        requires exists { lane < length (lanes_of (flow_site self.old).claims) }
         requires shown { held_on (hands_of self.old) lane ≡ [] → hidden_in (stint_in (hands_of self.old) lane) ≡ [] }
-        ensures place { flow_place self.new ≡ flow_place self.old }
+        ensures site { flow_site self.new ≡ flow_site self.old }
         ensures same { Same (hands_of self.old) (hands_of self.new) }
         ensures left { held_on (hands_of self.old) lane ≡ [] → is_some (stint_in (hands_of self.new) lane) ≡ false }
         ensures elsewhere { (j : ℕ) → j ≢ lane → is_some (stint_in (hands_of self.new) j) ≡ is_some (stint_in (hands_of self.old) j) }
@@ -297,9 +297,9 @@ impl FlowLanes {
 
     /// Surrenders the lane, where it is held.
     fn surrender(&mut self, lane: usize)
-        requires exists { lane < length (lanes_of (flow_place self.old).claims) }
+        requires exists { lane < length (lanes_of (flow_site self.old).claims) }
         requires shown { NoneHidden (hands_of self.old) }
-        ensures place { flow_place self.new ≡ flow_place self.old }
+        ensures site { flow_site self.new ≡ flow_site self.old }
         ensures kept { Kept (hands_of self.old) (hands_of self.new) }
         ensures free { stint_in (hands_of self.new) lane ≡ None }
         ensures elsewhere { (j : ℕ) → j ≢ lane → stint_in (hands_of self.new) j ≡ stint_in (hands_of self.old) j }
@@ -314,11 +314,11 @@ impl FlowLanes {
     /// The port's seat, once all lanes that are held were surrendered.
     pub(crate) fn into_seat(mut self) -> ClaimSeat
         requires { NoneHidden (hands_of self) }
-        ensures seat { IsSeatOf (flow_place self).claims result × (port_of result ≡ (flow_place self).port) }
-        ensures parts { (seating result).parts ≡ (flow_place self).parts }
+        ensures seat { IsSeatOf (flow_site self).claims result × (port_of result ≡ (flow_site self).port) }
+        ensures parts { (seating result).parts ≡ (flow_site self).parts }
         ensures none_open { HoldsNone (seating result) }
         ensures lists { Ends (hands_of self) (seating result) }
-        ensures linked { AreLinked (flow_place self).port (flow_place self).links (seating result).finished }
+        ensures linked { AreLinked (flow_site self).port (flow_site self).links (seating result).finished }
     {
         for lane in 0..self.stints.len() {
             self.surrender(lane);
@@ -332,7 +332,7 @@ ghost use Rattle.std.specs.Prelude.{◌≡◌, ◌↔◌, [], true, replicate, I
 ghost use Rattle.lane_rings.specs.Ends.{unanswered};
 
 /// Places for so many flow lanes, none of which is held.
-pub(crate) fn free_places(alloc: Global, lanes: usize) -> Result<Vec<Option<Stint>>, AllocError>
+pub(crate) fn free_entries(alloc: Global, lanes: usize) -> Result<Vec<Option<Stint>>, AllocError>
     ensures { IfOk result (λ v. v.items ≡ replicate lanes None) }
 {
     let mut stints = Vec::with_capacity(alloc, lanes)?;

@@ -11,7 +11,7 @@ ghost use Rattle.flow_claims.specs.Seats.{HoldsNone};
 ghost use Rattle.event_ports.specs.declared.lane.Lane.TheVariants as lanes;
 ghost use Rattle.credit_pool.specs.Pockets.{IsPocket};
 ghost use Rattle.event_ports.specs.Lanes.{held_of, pair_in};
-ghost use Rattle.event_ports.specs.Ports.{place_of, account_of, pocket_of, hand, mores_by, news_by, releases_by};
+ghost use Rattle.event_ports.specs.Ports.{own_site, account_of, pocket_of, hand, mores_by, news_by, releases_by};
 ghost use Rattle.event_ports.specs.Stop.{Joins, IsPortOf, IsPaid, IsCounted, IsJoined, AreLeft};
 
 use crate::port::Port;
@@ -27,17 +27,17 @@ pub fn join_port(
     claim: ClaimSeat,
     port: Port,
 ) -> (CreditSeat, ClaimSeat, Rest)
-    requires pool { credits.IsSeatOf pool.now credit × ((place_of port).pool ≡ pool.now) }
-    requires claims { IsSeatOf claims.now claim × HoldsNone (seating claim) × ((place_of port).lanes.flows.claims ≡ claims.now) }
+    requires pool { credits.IsSeatOf pool.now credit × ((own_site port).pool ≡ pool.now) }
+    requires claims { IsSeatOf claims.now claim × HoldsNone (seating claim) × ((own_site port).lanes.flows.claims ≡ claims.now) }
     ensures credit { credits.IsSeatOf pool.now result.0 × (credits.account result.0 ≡ after_join (credits.account credit) (account_of port)) }
     ensures bit { (credits.account result.0).set_shut ≡ (credits.account credit).set_shut }
     ensures claim { IsSeatOf claims.now result.1 × (port_of result.1 ≡ port_of claim) }
     ensures no_new { (j : ℕ) → count_by is_new_reply ((hand port).said (lanes.Flow j)) ≡ 0 }
     ensures stints { Joins port (seating claim) (seating result.1) }
-    ensures own { (far_id result.2.own ≡ (place_of port).lanes.own) × (received_by result.2.own ≡ (hand port).got lanes.Own) × (answered result.2.own ≡ (hand port).said lanes.Own) }
-    ensures number { result.2.number ≡ (place_of port).number }
+    ensures own { (far_id result.2.own ≡ (own_site port).lanes.own) × (received_by result.2.own ≡ (hand port).got lanes.Own) × (answered result.2.own ≡ (hand port).said lanes.Own) }
+    ensures number { result.2.number ≡ (own_site port).number }
     ensures held { result.2.held.items ≡ (hand port).holding }
-    ensures within { length (hand port).holding ≤ (place_of port).lanes.depth }
+    ensures within { length (hand port).holding ≤ (own_site port).lanes.depth }
     ensures counted { IsCounted port }
     ensures ordered { map pair_in (held_of lanes.Own (hand port).holding) ≡ held_list result.2.own }
     ensures paid { (result.2.pocket ≡ pocket_of port) × IsPocket result.2.pocket ((account_of port).drawn + releases_by port) ((account_of port).returned + news_by port + mores_by port) }

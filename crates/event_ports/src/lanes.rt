@@ -37,14 +37,14 @@ impl Lanes {
     ghost use Rattle.evt_types.specs.declared.event.Op.TheVariants as ops;
     ghost use Rattle.evt_types.specs.declared.event.TheConstants.{MAX_EXTRAS};
     ghost use Rattle.event_ports.specs.Lanes.{Rests, Submits, SubmitsTo, Arrives, ArrivesFrom, HasRoomFor, IsEmptyHand, IsEndOf, AreOf, TakesMore, extras_in, first_lane, lane_for, held_of, holding_of, pair_in, reply_of};
-    ghost use Rattle.event_ports.specs.Handed.{IsReadable, lanes_place, flow_count, links_of, seen_own, hand_of, mores_of, news_of, releases_of, CountsOne, CountsNone, IsFilled, RefusesOldest, AllShown, OwnFirst};
+    ghost use Rattle.event_ports.specs.Handed.{IsReadable, lanes_site, flow_count, links_of, seen_own, hand_of, mores_of, news_of, releases_of, CountsOne, CountsNone, IsFilled, RefusesOldest, AllShown, OwnFirst};
     ghost use Rattle.lane_rings.specs.Ends.{received_by, answered, hidden_answers, held_list};
     ghost use Rattle.evt_types.specs.declared.event.Op.{Op};
     ghost use Rattle.flow_claims.specs.Claims.{seating, port_of, IsSeatOf};
     ghost use Rattle.flow_claims.specs.Laws.{IsUnused};
     ghost use Rattle.flow_claims.specs.Seats.{HoldsNone};
     ghost use Rattle.event_ports.specs.Holds.{AreEmpty, AreLinked, NoneHidden};
-    ghost use Rattle.event_ports.specs.Flows.{flow_place};
+    ghost use Rattle.event_ports.specs.Flows.{flow_site};
     ghost use Rattle.event_ports.specs.declared.lane.Lane.TheVariants as lanes;
 
     /// The lanes of a port that received and answered nothing, and whose order has the room of its own lane's depth.
@@ -52,7 +52,7 @@ impl Lanes {
         requires own { IsUnused own }
         requires flows { AreEmpty (hands_of flows) × NoneHidden (hands_of flows) }
         requires order { (order.items ≡ []) × (order.capacity ≡ (far_id own).depth) × (order.capacity ≤ 64) }
-        ensures place { lanes_place result ≡ record { own = far_id own; flows = flow_place flows; depth = order.capacity } }
+        ensures site { lanes_site result ≡ record { own = far_id own; flows = flow_site flows; depth = order.capacity } }
         ensures empty { IsEmptyHand (hand_of result) }
         ensures none { (news_of result ≡ 0) × (mores_of result ≡ 0) × (releases_of result ≡ 0) }
         ensures shown { AllShown result }
@@ -63,7 +63,7 @@ impl Lanes {
     /// How many deliveries are held.
     pub(crate) fn held(&self) -> usize
         ensures value { result ≡ length (hand_of self.now).holding }
-        ensures within { result ≤ (lanes_place self.now).depth }
+        ensures within { result ≤ (lanes_site self.now).depth }
     {
         self.order.len()
     }
@@ -92,7 +92,7 @@ impl Lanes {
     pub(crate) fn submit(&mut self, event: &Event) -> Result<(), Refusal>
         requires costs { costs_credit event.now.op ≡ true }
         requires takes { event.now.op ≡ ops.ForwardMore → TakesMore (hand_of self.old) }
-        ensures place { lanes_place self.new ≡ lanes_place self.old }
+        ensures site { lanes_site self.new ≡ lanes_site self.old }
         ensures submitted { MatchResult result (λ _. SubmitsTo (lane_for event.now.op (hand_of self.old).holding) (reply_of event.now) (hand_of self.old) (hand_of self.new)) (λ _. Rests (hand_of self.old) (hand_of self.new)) }
         ensures counts { MatchResult result (λ _. CountsOne (reply_of event.now) self.old self.new) (λ _. CountsNone self.old self.new) }
         ensures refused { IfErr result (λ e. (e ≡ Refusal.Full) × IsFilled self.new (lane_for event.now.op (hand_of self.new).holding)) }
@@ -106,7 +106,7 @@ impl Lanes {
     #[inline(always)]
     fn submit_new(&mut self, event: &Event) -> Result<(), Refusal>
         requires { is_new_reply (reply_of event.now) ≡ true }
-        ensures place { lanes_place self.new ≡ lanes_place self.old }
+        ensures site { lanes_site self.new ≡ lanes_site self.old }
         ensures submitted { MatchResult result (λ _. Submits lanes.Own (reply_of event.now) (hand_of self.old) (hand_of self.new)) (λ _. Rests (hand_of self.old) (hand_of self.new)) }
         ensures counts { MatchResult result (λ _. CountsOne (reply_of event.now) self.old self.new) (λ _. CountsNone self.old self.new) }
         ensures refused { IfErr result (λ e. (e ≡ Refusal.Full) × IsFilled self.new (Some lanes.Own)) }
@@ -118,7 +118,7 @@ impl Lanes {
     fn add(&mut self, event: &Event) -> Result<(), Refusal>
         requires more { is_more_reply (reply_of event.now) ≡ true }
         requires takes { TakesMore (hand_of self.old) }
-        ensures place { lanes_place self.new ≡ lanes_place self.old }
+        ensures site { lanes_site self.new ≡ lanes_site self.old }
         ensures submitted { MatchResult result (λ _. SubmitsTo (first_lane (hand_of self.old).holding) (reply_of event.now) (hand_of self.old) (hand_of self.new)) (λ _. Rests (hand_of self.old) (hand_of self.new)) }
         ensures counts { MatchResult result (λ _. CountsOne (reply_of event.now) self.old self.new) (λ _. CountsNone self.old self.new) }
         ensures refused { IfErr result (λ e. (e ≡ Refusal.Full) × IsFilled self.new (first_lane (hand_of self.new).holding)) }
@@ -136,7 +136,7 @@ impl Lanes {
         requires more { is_more_reply (reply_of event.now) ≡ true }
         requires oldest { first_lane (hand_of self.old).holding ≡ Some lanes.Own }
         requires few { extras_of ((hand_of self.old).said lanes.Own) < MAX_EXTRAS }
-        ensures place { lanes_place self.new ≡ lanes_place self.old }
+        ensures site { lanes_site self.new ≡ lanes_site self.old }
         ensures submitted { MatchResult result (λ _. Submits lanes.Own (reply_of event.now) (hand_of self.old) (hand_of self.new)) (λ _. Rests (hand_of self.old) (hand_of self.new)) }
         ensures counts { MatchResult result (λ _. CountsOne (reply_of event.now) self.old self.new) (λ _. CountsNone self.old self.new) }
         ensures refused { IfErr result (λ e. (e ≡ Refusal.Full) × IsFilled self.new (Some lanes.Own)) }
@@ -148,7 +148,7 @@ impl Lanes {
         requires more { is_more_reply (reply_of event.now) ≡ true }
         requires oldest { first_lane (hand_of self.old).holding ≡ Some (lanes.Flow lane) }
         requires few { extras_of ((hand_of self.old).said (lanes.Flow lane)) < MAX_EXTRAS }
-        ensures place { lanes_place self.new ≡ lanes_place self.old }
+        ensures site { lanes_site self.new ≡ lanes_site self.old }
         ensures submitted { MatchResult result (λ _. Submits (lanes.Flow lane) (reply_of event.now) (hand_of self.old) (hand_of self.new)) (λ _. Rests (hand_of self.old) (hand_of self.new)) }
         ensures counts { MatchResult result (λ _. CountsOne (reply_of event.now) self.old self.new) (λ _. CountsNone self.old self.new) }
         ensures refused { IfErr result (λ e. (e ≡ Refusal.Full) × IsFilled self.new (Some (lanes.Flow lane))) }
@@ -160,7 +160,7 @@ impl Lanes {
     #[inline(always)]
     pub(crate) fn answer(&mut self, event: &Event) -> Result<(), Refusal>
         requires { is_answer (reply_of event.now) ≡ true }
-        ensures place { lanes_place self.new ≡ lanes_place self.old }
+        ensures site { lanes_site self.new ≡ lanes_site self.old }
         ensures submitted { MatchResult result (λ _. SubmitsTo (first_lane (hand_of self.old).holding) (reply_of event.now) (hand_of self.old) (hand_of self.new)) (λ _. Rests (hand_of self.old) (hand_of self.new)) }
         ensures counts { MatchResult result (λ _. CountsOne (reply_of event.now) self.old self.new) (λ _. CountsNone self.old self.new) }
         ensures refused { IfErr result (RefusesOldest self.new) }
@@ -178,7 +178,7 @@ impl Lanes {
     fn answer_own(&mut self, event: &Event) -> Result<(), Refusal>
         requires answer { is_answer (reply_of event.now) ≡ true }
         requires oldest { first_lane (hand_of self.old).holding ≡ Some lanes.Own }
-        ensures place { lanes_place self.new ≡ lanes_place self.old }
+        ensures site { lanes_site self.new ≡ lanes_site self.old }
         ensures submitted { MatchResult result (λ _. Submits lanes.Own (reply_of event.now) (hand_of self.old) (hand_of self.new)) (λ _. Rests (hand_of self.old) (hand_of self.new)) }
         ensures counts { MatchResult result (λ _. CountsOne (reply_of event.now) self.old self.new) (λ _. CountsNone self.old self.new) }
         ensures refused { IfErr result (RefusesOldest self.new) }
@@ -195,7 +195,7 @@ impl Lanes {
     fn answer_flow(&mut self, lane: usize, event: &Event) -> Result<(), Refusal>
         requires answer { is_answer (reply_of event.now) ≡ true }
         requires oldest { first_lane (hand_of self.old).holding ≡ Some (lanes.Flow lane) }
-        ensures place { lanes_place self.new ≡ lanes_place self.old }
+        ensures site { lanes_site self.new ≡ lanes_site self.old }
         ensures submitted { MatchResult result (λ _. Submits (lanes.Flow lane) (reply_of event.now) (hand_of self.old) (hand_of self.new)) (λ _. Rests (hand_of self.old) (hand_of self.new)) }
         ensures counts { MatchResult result (λ _. CountsOne (reply_of event.now) self.old self.new) (λ _. CountsNone self.old self.new) }
         ensures refused { IfErr result (RefusesOldest self.new) }
@@ -215,11 +215,11 @@ impl Lanes {
     #[inline(always)]
     pub(crate) fn receive_all(&mut self, max: usize, into: &mut ArrayVec<Delivery, 64>)
         requires { into.old.items ≡ [] }
-        ensures place { lanes_place self.new ≡ lanes_place self.old }
+        ensures site { lanes_site self.new ≡ lanes_site self.old }
         ensures counts { CountsNone self.old self.new }
         ensures arrived { Arrives (links_of self.old) (hand_of self.old) (hand_of self.new) [] into.new.items }
-        ensures few { (length into.new.items ≤ max) × (length (hand_of self.new).holding ≤ (lanes_place self.new).depth) }
-        ensures drained { length into.new.items < max → length (hand_of self.new).holding < (lanes_place self.new).depth → seen_own self.new ≡ [] }
+        ensures few { (length into.new.items ≤ max) × (length (hand_of self.new).holding ≤ (lanes_site self.new).depth) }
+        ensures drained { length into.new.items < max → length (hand_of self.new).holding < (lanes_site self.new).depth → seen_own self.new ≡ [] }
         ensures own_first { OwnFirst self.old self.new into.new.items }
         ensures shown { AllShown self.old → AllShown self.new }
     {
@@ -230,7 +230,7 @@ impl Lanes {
 
     /// Makes all that was submitted and answered visible to the scheduler.
     pub(crate) fn flush(&mut self)
-        ensures place { lanes_place self.new ≡ lanes_place self.old }
+        ensures site { lanes_site self.new ≡ lanes_site self.old }
         ensures hand { hand_of self.new ≡ hand_of self.old }
         ensures filled { (o : Op) → IsFilled self.old (lane_for o (hand_of self.old).holding) → IsFilled self.new (lane_for o (hand_of self.new).holding) }
         ensures shown { AllShown self.new }
@@ -243,15 +243,15 @@ impl Lanes {
     pub(crate) fn into_parts(self) -> (Far, ClaimSeat, HeapCircularBuffer<Holding>)
         requires { AllShown self }
         ensures shown { hidden_answers result.0 ≡ [] }
-        ensures own { (far_id result.0 ≡ (lanes_place self).own) × (received_by result.0 ≡ (hand_of self).got lanes.Own) × (answered result.0 ≡ (hand_of self).said lanes.Own) }
-        ensures seat { IsSeatOf (lanes_place self).flows.claims result.1 × (port_of result.1 ≡ (lanes_place self).flows.port) }
-        ensures parts { (seating result.1).parts ≡ (lanes_place self).flows.parts }
+        ensures own { (far_id result.0 ≡ (lanes_site self).own) × (received_by result.0 ≡ (hand_of self).got lanes.Own) × (answered result.0 ≡ (hand_of self).said lanes.Own) }
+        ensures seat { IsSeatOf (lanes_site self).flows.claims result.1 × (port_of result.1 ≡ (lanes_site self).flows.port) }
+        ensures parts { (seating result.1).parts ≡ (lanes_site self).flows.parts }
         ensures none_open { HoldsNone (seating result.1) }
         ensures lists { IsEndOf (hand_of self) (seating result.1).finished }
-        ensures linked { AreLinked (lanes_place self).flows.port (links_of self) (seating result.1).finished }
+        ensures linked { AreLinked (lanes_site self).flows.port (links_of self) (seating result.1).finished }
         ensures no_new { (j : ℕ) → count_by is_new_reply ((hand_of self).said (lanes.Flow j)) ≡ 0 }
         ensures held { result.2.items ≡ (hand_of self).holding }
-        ensures counted { AreOf (flow_count (lanes_place self)) (hand_of self).holding }
+        ensures counted { AreOf (flow_count (lanes_site self)) (hand_of self).holding }
         ensures ordered { map pair_in (held_of lanes.Own (hand_of self).holding) ≡ held_list result.0 }
     {
         let Lanes { own, flows, order } = self;
@@ -261,11 +261,11 @@ impl Lanes {
     // Receives from the port's own lane until `most` deliveries came in all, or none is seen.
     #[inline(always)]
     fn receive_own(&mut self, most: usize, into: &mut ArrayVec<Delivery, 64>)
-        requires room { HasRoomFor most (lanes_place self.old).depth (hand_of self.old).holding into.old.items }
-        ensures place { lanes_place self.new ≡ lanes_place self.old }
+        requires room { HasRoomFor most (lanes_site self.old).depth (hand_of self.old).holding into.old.items }
+        ensures site { lanes_site self.new ≡ lanes_site self.old }
         ensures counts { CountsNone self.old self.new }
         ensures arrived { ArrivesFrom (lanes.Own ∷ []) (hand_of self.old) (hand_of self.new) into.old.items into.new.items }
-        ensures room { HasRoomFor most (lanes_place self.new).depth (hand_of self.new).holding into.new.items }
+        ensures room { HasRoomFor most (lanes_site self.new).depth (hand_of self.new).holding into.new.items }
         ensures drained { length into.new.items < most → seen_own self.new ≡ [] }
         ensures shown { AllShown self.old → AllShown self.new }
     {
@@ -277,34 +277,34 @@ impl Lanes {
     // Receives from the linked flow lanes in their order, until `most` deliveries came in all. Those that aren't worth a look are
     // passed over.
     fn receive_flows(&mut self, most: usize, into: &mut ArrayVec<Delivery, 64>)
-        requires { HasRoomFor most (lanes_place self.old).depth (hand_of self.old).holding into.old.items }
-        ensures place { lanes_place self.new ≡ lanes_place self.old }
+        requires { HasRoomFor most (lanes_site self.old).depth (hand_of self.old).holding into.old.items }
+        ensures site { lanes_site self.new ≡ lanes_site self.old }
         ensures counts { CountsNone self.old self.new }
         ensures arrived { ArrivesFrom (map lanes.Flow (links_of self.old)) (hand_of self.old) (hand_of self.new) into.old.items into.new.items }
-        ensures room { HasRoomFor most (lanes_place self.new).depth (hand_of self.new).holding into.new.items }
+        ensures room { HasRoomFor most (lanes_site self.new).depth (hand_of self.new).holding into.new.items }
         ensures none { length into.old.items ≡ most → into.new.items ≡ into.old.items }
         ensures others { seen_own self.new ≡ seen_own self.old }
         ensures shown { AllShown self.old → AllShown self.new }
     {
         let worthy = self.flows.worth_a_look();
         let count = self.flows.link_count();
-        let mut place = self.flows.next_place(0, worthy);
-        while place < count && into.len() < most {
-            let lane = self.flows.link(place);
+        let mut position = self.flows.next_link(0, worthy);
+        while position < count && into.len() < most {
+            let lane = self.flows.link(position);
             self.receive_flow(lane, most, into);
-            place = self.flows.next_place(place + 1, worthy);
+            position = self.flows.next_link(position + 1, worthy);
         }
     }
 
     // Receives from a flow lane to which the port is linked, until `most` deliveries came in all, or none is seen. The lane is held by
     // one try, where it isn't held already, and is given back where nothing of it is unanswered.
     fn receive_flow(&mut self, lane: usize, most: usize, into: &mut ArrayVec<Delivery, 64>)
-        requires readable { IsReadable (lanes_place self.old) (lanes.Flow lane) }
-        requires room { HasRoomFor most (lanes_place self.old).depth (hand_of self.old).holding into.old.items }
-        ensures place { lanes_place self.new ≡ lanes_place self.old }
+        requires readable { IsReadable (lanes_site self.old) (lanes.Flow lane) }
+        requires room { HasRoomFor most (lanes_site self.old).depth (hand_of self.old).holding into.old.items }
+        ensures site { lanes_site self.new ≡ lanes_site self.old }
         ensures counts { CountsNone self.old self.new }
         ensures arrived { ArrivesFrom (lanes.Flow lane ∷ []) (hand_of self.old) (hand_of self.new) into.old.items into.new.items }
-        ensures room { HasRoomFor most (lanes_place self.new).depth (hand_of self.new).holding into.new.items }
+        ensures room { HasRoomFor most (lanes_site self.new).depth (hand_of self.new).holding into.new.items }
         ensures none { length into.old.items ≡ most → into.new.items ≡ into.old.items }
         ensures others { seen_own self.new ≡ seen_own self.old }
         ensures shown { AllShown self.old → AllShown self.new }
@@ -322,7 +322,7 @@ impl Lanes {
     }
 }
 
-// Notes the deliveries from this place on, which came from the lane, as held.
+// Notes the deliveries from this position on, which came from the lane, as held.
 fn note(
     order: &mut HeapCircularBuffer<Holding>,
     lane: Lane,
@@ -333,8 +333,8 @@ fn note(
     ensures noted { order.new.items ≡ order.old.items ++ map (holding_of lane) (drop from deliveries.now.items) }
     ensures room { order.new.capacity ≡ order.old.capacity }
 {
-    for place in from..deliveries.len() {
-        let Ok(()) = order.try_push_back(noted(lane, &deliveries[place])) else {
+    for position in from..deliveries.len() {
+        let Ok(()) = order.try_push_back(noted(lane, &deliveries[position])) else {
             unreachable!()
         };
     }

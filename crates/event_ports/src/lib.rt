@@ -17,9 +17,10 @@ mod stop;
 
 pub use counts::PortCounts;
 pub use event_answers::{Behind, Refused};
+pub use evt_types::Memory;
 pub use joined::{join_port, join_ports};
 pub use lane::{Holding, Lane};
-pub use parts::{Memory, Parts};
+pub use parts::Parts;
 pub use port::Port;
 pub use rest::{Left, Rest};
 pub use stop::{flow_lanes_at_stop, ports_at_stop};

@@ -13,26 +13,24 @@ ghost use Rattle.event_ports.specs.declared.lane.Lane.TheVariants as lanes;
 ghost use Rattle.event_ports.specs.Holds.{AreLinked};
 ghost use Rattle.event_ports.specs.Lanes.{IsEmptyHand, IsEndOf, held_of, pair_in};
 ghost use Rattle.credit_pool.specs.Pockets.{IsPocket};
-ghost use Rattle.event_ports.specs.Ports.{place_of, account_of, counts_of, pocket_of, hand, links, mores_by, news_by, releases_by};
+ghost use Rattle.event_ports.specs.Ports.{own_site, account_of, counts_of, pocket_of, hand, links, mores_by, news_by, releases_by};
 ghost use Rattle.event_ports.specs.Stop.{IsCounted};
 ghost use Rattle.event_ports.specs.Counts.{no_counts};
-ghost use Rattle.event_ports.specs.Parts.{FitTogether, AreFresh, place_by};
+ghost use Rattle.event_ports.specs.Parts.{FitTogether, AreFresh, own_site_by};
 
 use crate::counts::PortCounts;
 use crate::desk::Desk;
-use crate::flows::{FlowLanes, free_places};
+use crate::flows::{FlowLanes, free_entries};
 use crate::lanes::Lanes;
 use crate::port::Port;
 use crate::rest::Left;
 use circular_buffer::HeapCircularBuffer;
 use credit_pool::{CreditSeat, Credits};
+use evt_types::Memory;
 use flow_claims::{ClaimSeat, Claims};
 use lane_rings::{Far, Hints};
 use std::alloc::{AllocError, Global};
 use std::sync::Arc;
-
-/// Want of memory.
-pub type Memory = AllocError;
 
 /// What a port is made of.
 #[derive(Drop)]
@@ -65,13 +63,13 @@ impl Port {
     pub fn new(alloc: Global, parts: Parts) -> Result<Port, (Memory, Parts)>
         requires fit { FitTogether parts }
         requires fresh { AreFresh parts }
-        ensures place { IfOk result (λ p. place_of p ≡ place_by parts) }
+        ensures site { IfOk result (λ p. own_site p ≡ own_site_by parts) }
         ensures credit { IfOk result (λ p. account_of p ≡ credits.account parts.credit) }
         ensures empty { IfOk result (λ p. IsEmptyHand (hand p) × (pocket_of p ≡ 0)) }
         ensures counts { IfOk result (λ p. counts_of p ≡ no_counts) }
         ensures back { IfErr result (λ e. e.1 ≡ parts) }
     {
-        let Ok(stints) = free_places(alloc, parts.flows) else {
+        let Ok(stints) = free_entries(alloc, parts.flows) else {
             return Err((AllocError, parts));
         };
         let Ok(order) = HeapCircularBuffer::with_capacity(alloc, parts.depth) else {
@@ -112,15 +110,15 @@ impl Port {
 
     /// Takes the port apart. Each flow lane that it holds is surrendered: no claim gets it any more.
     pub fn into_left(self) -> Left
-        ensures credit { (credits.account result.credit ≡ account_of self) × credits.IsSeatOf (place_of self).pool result.credit }
+        ensures credit { (credits.account result.credit ≡ account_of self) × credits.IsSeatOf (own_site self).pool result.credit }
         ensures unset { (credits.account result.credit).set_shut ≡ false }
-        ensures claim { IsSeatOf (place_of self).lanes.flows.claims result.claim × (port_of result.claim ≡ (place_of self).number) }
-        ensures parts { (seating result.claim).parts ≡ (place_of self).lanes.flows.parts }
+        ensures claim { IsSeatOf (own_site self).lanes.flows.claims result.claim × (port_of result.claim ≡ (own_site self).number) }
+        ensures parts { (seating result.claim).parts ≡ (own_site self).lanes.flows.parts }
         ensures none_open { HoldsNone (seating result.claim) }
-        ensures own { (far_id result.own ≡ (place_of self).lanes.own) × (received_by result.own ≡ (hand self).got lanes.Own) × (answered result.own ≡ (hand self).said lanes.Own) }
+        ensures own { (far_id result.own ≡ (own_site self).lanes.own) × (received_by result.own ≡ (hand self).got lanes.Own) × (answered result.own ≡ (hand self).said lanes.Own) }
         ensures lists { IsEndOf (hand self) (seating result.claim).finished }
         ensures no_new { (j : ℕ) → count_by is_new_reply ((hand self).said (lanes.Flow j)) ≡ 0 }
-        ensures linked { AreLinked (place_of self).number (links self) (seating result.claim).finished }
+        ensures linked { AreLinked (own_site self).number (links self) (seating result.claim).finished }
         ensures held { result.held.items ≡ (hand self).holding }
         ensures counted { IsCounted self }
         ensures ordered { map pair_in (held_of lanes.Own (hand self).holding) ≡ held_list result.own }

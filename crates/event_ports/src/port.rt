@@ -31,11 +31,11 @@ impl Port {
     ghost use Rattle.event_ports.specs.declared.lane.Lane.TheVariants as lanes;
     ghost use Rattle.event_ports.specs.Draws.{HasLooked, Settles};
     ghost use Rattle.event_ports.specs.Counts.{after_behind, after_burst, after_dequeue, after_enqueue, plus};
-    ghost use Rattle.event_ports.specs.Ports.{place_of, account_of, counts_of, pocket_of, hand, seen_by, links, was_filled, SameCredits, Pays, Refuses, released_first, Bursts, StopsAt};
+    ghost use Rattle.event_ports.specs.Ports.{own_site, account_of, counts_of, pocket_of, hand, seen_by, links, was_filled, SameCredits, Pays, Refuses, released_first, Bursts, StopsAt};
 
     /// The port's number in the device, from 0.
     pub fn number(&self) -> usize
-        ensures { result ≡ (place_of self.now).number }
+        ensures { result ≡ (own_site self.now).number }
     {
         self.desk.number
     }
@@ -43,7 +43,7 @@ impl Port {
     /// How many deliveries were received and not answered.
     pub fn held(&self) -> usize
         ensures value { result ≡ length (hand self.now).holding }
-        ensures within { result ≤ (place_of self.now).lanes.depth }
+        ensures within { result ≤ (own_site self.now).lanes.depth }
     {
         self.desk.lanes.held()
     }
@@ -57,7 +57,7 @@ impl Port {
 
     /// Whether the device is shut, by one look at the credits. Once it was seen, every NEW is refused.
     pub fn shut_seen(&mut self) -> bool
-        ensures place { place_of self.new ≡ place_of self.old }
+        ensures site { own_site self.new ≡ own_site self.old }
         ensures credit { Stays (account_of self.old) (account_of self.new) }
         ensures same { Rests (hand self.old) (hand self.new) × SameCredits self.old self.new }
         ensures seen { IsTrue result ↔ IsTrue (account_of self.new).saw_shut }
@@ -76,7 +76,7 @@ impl Port {
     /// `BadQueue`, `NothingHeld`, `Full`; of a FORWARD_MORE `BadQueue`, `NothingHeld`, `TooMany`, then with an empty pocket `Stopped`,
     /// `Backpressure` or `Raced`, and `Full`. What was drawn before a `Full` stays in the pocket.
     pub fn enqueue(&mut self, event: Event) -> Result<(), Refused>
-        ensures place { place_of self.new ≡ place_of self.old }
+        ensures site { own_site self.new ≡ own_site self.old }
         ensures credit { Stays (account_of self.old) (account_of self.new) }
         ensures submitted { MatchResult result (λ _. SubmitsTo (lane_for event.op (hand self.old).holding) (reply_of event) (hand self.old) (hand self.new)) (λ _. Rests (hand self.old) (hand self.new)) }
         ensures pays { OnOk result (Pays event.op self.old self.new) }
@@ -95,16 +95,16 @@ impl Port {
     /// and goes back where nothing came. With implicit release all that is held is released first, oldest first; where a reply ring
     /// has no room for all of it, nothing is received and the rest stays held.
     pub fn dequeue(&mut self, max: usize) -> Result<ArrayVec<Delivery, 64>, Behind>
-        ensures place { place_of self.new ≡ place_of self.old }
+        ensures site { own_site self.new ≡ own_site self.old }
         ensures credit { Stays (account_of self.old) (account_of self.new) }
         ensures ok { IfOk result (λ v. Dequeues (links self.old) (released_first self.old) (hand self.old) (hand self.new) v.items) }
-        ensures few { IfOk result (λ v. (length v.items ≤ max) × (length (hand self.new).holding ≤ (place_of self.old).lanes.depth)) }
-        ensures drained { IfOk result (λ v. length v.items < max → length (hand self.new).holding < (place_of self.old).lanes.depth → seen_by self.new ≡ []) }
+        ensures few { IfOk result (λ v. (length v.items ≤ max) × (length (hand self.new).holding ≤ (own_site self.old).lanes.depth)) }
+        ensures drained { IfOk result (λ v. length v.items < max → length (hand self.new).holding < (own_site self.old).lanes.depth → seen_by self.new ≡ []) }
         ensures own_first { IfOk result (λ v. length ((hand self.new).got lanes.Own) ≢ length ((hand self.old).got lanes.Own) + length v.items → seen_by self.new ≡ []) }
-        ensures behind { IfErr result (λ b. IsTrue (place_of self.old).implicit × (b.released < length (hand self.old).holding) × Releases b.released (hand self.old) (hand self.new) × was_filled self.new ops.Release) }
+        ensures behind { IfErr result (λ b. IsTrue (own_site self.old).implicit × (b.released < length (hand self.old).holding) × Releases b.released (hand self.old) (hand self.new) × was_filled self.new ops.Release) }
         ensures settled { MatchResult result
-            (λ _. Settles (place_of self.old).quantum ((pocket_of self.old + released_first self.old) % 2 ^ 64) (account_of self.old) (pocket_of self.new) (account_of self.new))
-            (λ b. Settles (place_of self.old).quantum ((pocket_of self.old + b.released) % 2 ^ 64) (account_of self.old) (pocket_of self.new) (account_of self.new)) }
+            (λ _. Settles (own_site self.old).quantum ((pocket_of self.old + released_first self.old) % 2 ^ 64) (account_of self.old) (pocket_of self.new) (account_of self.new))
+            (λ b. Settles (own_site self.old).quantum ((pocket_of self.old + b.released) % 2 ^ 64) (account_of self.old) (pocket_of self.new) (account_of self.new)) }
         ensures counted { MatchResult result
             (λ v. counts_of self.new ≡ after_dequeue (released_first self.old) (length v.items) (counts_of self.old))
             (λ b. counts_of self.new ≡ after_behind b.released (counts_of self.old)) }
@@ -123,18 +123,18 @@ impl Port {
         max: usize,
         into: &mut ArrayVec<Delivery, 64>,
     ) -> Result<usize, Behind>
-        ensures place { place_of self.new ≡ place_of self.old }
+        ensures site { own_site self.new ≡ own_site self.old }
         ensures credit { Stays (account_of self.old) (account_of self.new) }
         ensures ok { OnOk result (Dequeues (links self.old) (released_first self.old) (hand self.old) (hand self.new) into.new.items) }
-        ensures few { OnOk result ((length into.new.items ≤ max) × (length (hand self.new).holding ≤ (place_of self.old).lanes.depth)) }
-        ensures drained { OnOk result (length into.new.items < max → length (hand self.new).holding < (place_of self.old).lanes.depth → seen_by self.new ≡ []) }
+        ensures few { OnOk result ((length into.new.items ≤ max) × (length (hand self.new).holding ≤ (own_site self.old).lanes.depth)) }
+        ensures drained { OnOk result (length into.new.items < max → length (hand self.new).holding < (own_site self.old).lanes.depth → seen_by self.new ≡ []) }
         ensures own_first { OnOk result (length ((hand self.new).got lanes.Own) ≢ length ((hand self.old).got lanes.Own) + length into.new.items → seen_by self.new ≡ []) }
         ensures count { IfOk result (λ n. n ≡ length into.new.items) }
         ensures none { IsErr result → into.new.items ≡ [] }
-        ensures behind { IfErr result (λ b. IsTrue (place_of self.old).implicit × (b.released < length (hand self.old).holding) × Releases b.released (hand self.old) (hand self.new) × was_filled self.new ops.Release) }
+        ensures behind { IfErr result (λ b. IsTrue (own_site self.old).implicit × (b.released < length (hand self.old).holding) × Releases b.released (hand self.old) (hand self.new) × was_filled self.new ops.Release) }
         ensures settled { MatchResult result
-            (λ _. Settles (place_of self.old).quantum ((pocket_of self.old + released_first self.old) % 2 ^ 64) (account_of self.old) (pocket_of self.new) (account_of self.new))
-            (λ b. Settles (place_of self.old).quantum ((pocket_of self.old + b.released) % 2 ^ 64) (account_of self.old) (pocket_of self.new) (account_of self.new)) }
+            (λ _. Settles (own_site self.old).quantum ((pocket_of self.old + released_first self.old) % 2 ^ 64) (account_of self.old) (pocket_of self.new) (account_of self.new))
+            (λ b. Settles (own_site self.old).quantum ((pocket_of self.old + b.released) % 2 ^ 64) (account_of self.old) (pocket_of self.new) (account_of self.new)) }
         ensures counted { MatchResult result
             (λ _. counts_of self.new ≡ after_dequeue (released_first self.old) (length into.new.items) (counts_of self.old))
             (λ b. counts_of self.new ≡ after_behind b.released (counts_of self.old)) }
@@ -159,7 +159,7 @@ impl Port {
     /// Enqueues the events one after the other, each as `enqueue` does, up to the first that is refused: how many were taken, and why
     /// the next one wasn't. What goes to one lane in a row goes into its ring by one store.
     pub fn enqueue_burst(&mut self, events: &[Event]) -> (usize, Option<Refused>)
-        ensures place { place_of self.new ≡ place_of self.old }
+        ensures site { own_site self.new ≡ own_site self.old }
         ensures credit { Stays (account_of self.old) (account_of self.new) }
         ensures count { result.0 ≤ length events.now }
         ensures all { IsNone result.1 ↔ (result.0 ≡ length events.now) }

@@ -11,7 +11,7 @@ mod sweep;
 mod take;
 
 pub use event_answers::Swept;
+pub use evt_types::Memory;
 pub use laws::a_full_ring_ends_a_lane;
 pub use parts::Parts;
 pub use scheduler::Scheduler;
-pub use sweep::Memory;

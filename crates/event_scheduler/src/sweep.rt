@@ -2,11 +2,8 @@
 
 use crate::scheduler::Scheduler;
 use event_answers::Swept;
-use std::alloc::AllocError;
+use evt_types::Memory;
 use step_log::StepLog;
-
-/// Want of memory.
-pub type Memory = AllocError;
 
 impl Scheduler {
     ghost use Rattle.std.specs.Prelude.{◌≡◌, IfOk, IsErr};

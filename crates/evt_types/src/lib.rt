@@ -23,3 +23,6 @@ pub use shape::{
 };
 pub use step::{Outcome, Source, Step};
 pub use word::WordFault;
+
+/// Want of memory.
+pub type Memory = std::alloc::AllocError;

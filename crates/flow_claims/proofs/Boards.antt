@@ -6,8 +6,8 @@ use native.Mathlib.Decide.{dec_le}
 use lib.ListN.{get_elem?}
 use Rattle.lane_rings.specs.Ends.{unanswered, hidden_answers}
 use Rattle.lane_rings.specs.declared.far.Far.{Far}
-use Rattle.seat_sums.proofs.Sums.{All-at, term_le, terms_le}
-use Rattle.seat_sums.proofs.Counts.{of_count}
+use Rattle.lists.proofs.SeatSums.{All-at, term_le, terms_le}
+use Rattle.lists.proofs.Counts.{of_count}
 use Rattle.flow_claims.specs.declared.seating.Begun.{Begun}
 use Rattle.flow_claims.specs.declared.seating.Past.{Past}
 use Rattle.flow_claims.specs.declared.seating.Seating.{Seating}

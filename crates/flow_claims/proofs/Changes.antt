@@ -9,7 +9,7 @@ use native.Mathlib.Decide.{ℕ_discrete, dec_le}
 use lib.ListN.{get_elem?}
 use Rattle.atomic_table.proofs.Lists.{set_here}
 use Rattle.lane_rings.specs.declared.far.Far.{Far}
-use Rattle.seat_sums.proofs.Sums.{sum_by-changed, sum_by-split, sum_by-joined, place_below, other_place}
+use Rattle.lists.proofs.SeatSums.{sum_by-changed, sum_by-split, sum_by-joined, place_below, other_place}
 use Rattle.flow_claims.specs.declared.seating.Begun.{Begun}
 use Rattle.flow_claims.specs.declared.seating.Past.{Past}
 use Rattle.flow_claims.specs.declared.seating.Seating.{Seating}

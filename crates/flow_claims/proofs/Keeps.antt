@@ -10,9 +10,9 @@ use Rattle.atomic_table.specs.Table.{step, Act, keeps, takes, gives, Valid, home
 use Rattle.atomic_table.proofs.Lists.{exchanged}
 use Rattle.lane_rings.specs.Ends.{unanswered, hidden_answers}
 use Rattle.lane_rings.specs.declared.far.Far.{Far}
-use Rattle.seat_sums.specs.Sums.{count}
+use Rattle.lists.specs.Counts.{count}
 use Rattle.std.proofs.lemmas.List.Sums.{sum_by-append}
-use Rattle.seat_sums.proofs.Sums.{All-at, sum_by-changed, term_le}
+use Rattle.lists.proofs.SeatSums.{All-at, sum_by-changed, term_le}
 use Rattle.flow_claims.specs.declared.seating.Begun.{Begun}
 use Rattle.flow_claims.specs.declared.seating.Past.{Past}
 use Rattle.flow_claims.specs.declared.seating.Seating.{Seating}

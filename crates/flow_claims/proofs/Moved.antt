@@ -8,9 +8,9 @@ use native.Mathlib.Decide.{ℕ_discrete}
 use lib.ListN.{get_elem?}
 use Rattle.atomic_table.proofs.Lists.{set_here, set_else}
 use Rattle.lane_rings.specs.declared.far.Far.{Far}
-use Rattle.seat_sums.specs.Sums.{count}
+use Rattle.lists.specs.Counts.{count}
 use Rattle.std.proofs.lemmas.List.Sums.{sum_by-append}
-use Rattle.seat_sums.proofs.Sums.{All-at, sum_by-changed, terms_le}
+use Rattle.lists.proofs.SeatSums.{All-at, sum_by-changed, terms_le}
 use Rattle.flow_claims.specs.declared.seating.Begun.{Begun}
 use Rattle.flow_claims.specs.declared.seating.Past.{Past}
 use Rattle.flow_claims.specs.declared.seating.Seating.{Seating}

@@ -5,9 +5,9 @@ use mathlib.Core.Option as O
 use lib.ListN.{get_elem?}
 use Rattle.atomic_table.specs.Table.{Splits, Joins}
 use Rattle.lane_rings.specs.declared.far.Far.{Far}
-use Rattle.seat_sums.specs.Sums.{count}
+use Rattle.lists.specs.Counts.{count}
 use Rattle.std.proofs.lemmas.List.Sums.{sum_by-append}
-use Rattle.seat_sums.proofs.Sums.{All-at, other_place, sum_by-split, sum_by-joined}
+use Rattle.lists.proofs.SeatSums.{All-at, other_place, sum_by-split, sum_by-joined}
 use Rattle.flow_claims.specs.declared.seating.Begun.{Begun}
 use Rattle.flow_claims.specs.declared.seating.Past.{Past}
 use Rattle.flow_claims.specs.declared.seating.Seating.{Seating}

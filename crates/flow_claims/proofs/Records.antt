@@ -4,7 +4,7 @@ use Rattle.std.proofs.lemmas.List.Elements.{All-nil, All-cons, All-head, All-tai
 use Rattle.std.proofs.lemmas.Option.{none-some, same_Some}
 use Rattle.evt_types.specs.declared.event.Delivery.{Delivery}
 use Rattle.evt_types.specs.declared.event.Reply.{Reply}
-use Rattle.seat_sums.specs.Sums.{count}
+use Rattle.lists.specs.Counts.{count}
 use Rattle.std.proofs.lemmas.List.Sums.{sum_by-cons, sum_by-append}
 use Rattle.flow_claims.specs.declared.seating.LaneLists.{LaneLists}
 use Rattle.flow_claims.specs.declared.seating.Past.{Past}

@@ -7,7 +7,7 @@ use mathlib.Core.Option as O
 use lib.ListN.{get_elem?}
 use Rattle.atomic_table.specs.Table.{Act, keeps, takes, gives, chain, rest, carried_after, homes_after, Valid}
 use Rattle.atomic_table.proofs.Lists.{set_here, set_else, set_again}
-use Rattle.seat_sums.proofs.Sums.{place_below}
+use Rattle.lists.proofs.SeatSums.{place_below}
 use Rattle.lane_rings.specs.declared.far.Far.{Far}
 use Rattle.flow_claims.specs.declared.seating.Begun.{Begun}
 use Rattle.flow_claims.specs.Seats.{find_lane, without, fronted, slot_of}

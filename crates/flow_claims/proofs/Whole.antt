@@ -7,8 +7,8 @@ use lib.ListN.{get_elem?}
 use Rattle.atomic_table.specs.Table.{step, takes, Allows}
 use Rattle.atomic_table.proofs.Lists.{set_here}
 use Rattle.lane_rings.specs.declared.far.Far.{Far}
-use Rattle.seat_sums.specs.Sums.{count}
-use Rattle.seat_sums.proofs.Sums.{All-at, term_le, place_below}
+use Rattle.lists.specs.Counts.{count}
+use Rattle.lists.proofs.SeatSums.{All-at, term_le, place_below}
 use Rattle.flow_claims.specs.declared.seating.LaneLists.{LaneLists}
 use Rattle.flow_claims.specs.declared.seating.Past.{Past}
 use Rattle.flow_claims.specs.declared.seating.Seating.{Seating}
@@ -20,7 +20,7 @@ use Rattle.flow_claims.specs.Rule.{Board, word_at, home_at, busy, opens, closed_
 use Rattle.flow_claims.specs.Steps.{Sitting, Closes}
 use Rattle.flow_claims.proofs.Choices.{by_number, All-place}
 use Rattle.flow_claims.proofs.Held.{none_open, none_of_lane}
-use Rattle.seat_sums.proofs.Counts.{of_count}
+use Rattle.lists.proofs.Counts.{of_count}
 use Rattle.flow_claims.proofs.Records.{below_step, some_stint, sums_received, sums_answered, pieces_received, pieces_answered, last_is, all_settled}
 use Rattle.flow_claims.proofs.Moved.{MayFollow, moved}
 use Rattle.flow_claims.proofs.WordReads.{busy_over, busy_held, all_finished, none_closed, busy_is, counted_all}

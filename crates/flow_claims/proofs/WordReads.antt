@@ -5,8 +5,8 @@ use Rattle.std.proofs.lemmas.List.Elements.{All-head, All-tail, All-weaker}
 use mathlib.Core.Option as O
 use lib.ListN.{get_elem?}
 use Rattle.lane_rings.specs.declared.far.Far.{Far}
-use Rattle.seat_sums.specs.Sums.{count}
-use Rattle.seat_sums.proofs.Sums.{All-at, all_of, term_le}
+use Rattle.lists.specs.Counts.{count}
+use Rattle.lists.proofs.SeatSums.{All-at, all_of, term_le}
 use Rattle.flow_claims.specs.declared.seating.Begun.{Begun}
 use Rattle.flow_claims.specs.declared.seating.Past.{Past}
 use Rattle.flow_claims.specs.declared.seating.Seating.{Seating}

@@ -3,7 +3,7 @@ use Rattle.std.specs.Prelude.{◌≡◌, ℕ, ◌+◌, ◌<◌, cond, nat_lt, �
 use Rattle.evt_types.specs.declared.event.Delivery.{Delivery}
 use Rattle.evt_types.specs.declared.event.Reply.{Reply}
 use Rattle.lane_rings.specs.Ends.{answers_among}
-use Rattle.seat_sums.specs.Sums.{count}
+use Rattle.lists.specs.Counts.{count}
 use Rattle.flow_claims.specs.declared.seating.LaneLists.{LaneLists}
 use Rattle.flow_claims.specs.declared.seating.Past.{Past}
 use Rattle.flow_claims.specs.Lists.{GoesOn}

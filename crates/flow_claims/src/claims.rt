@@ -8,12 +8,10 @@ use crate::ends::{unwrapped, wrapped};
 use crate::rule::{Both, ClaimExchange, ClaimRule, ClosingSwap, Front, OnePart, Probe, Return};
 use crate::seating::Seating;
 use atomic_table::{Refused, Seat, Table};
+use evt_types::Memory;
 use lane_rings::Far;
 use std::alloc::{AllocError, Global};
 use std::snapshot::Snapshot;
-
-/// Want of memory.
-pub type Memory = AllocError;
 
 /// How many stints a lane's word can count.
 pub const MAX_STINTS: u64 = (1 << 56) - 1;

@@ -1,4 +1,4 @@
--- Items come out of a ring into a pocket.
+-- Items come out of a ring into a batch.
 use Rattle.std.proofs.Common.{◌≡◌, ℕ, ◌-◌, List, [], ◌++◌, length, take, drop, arith, ap, sym, ◌∙◌, append_assoc, length-append}
 use Rattle.std.proofs.Math.Seq.{take-append_seam}
 use Rattle.std.proofs.lemmas.Grind.{common_steps}
@@ -11,7 +11,7 @@ module _ {T : Type 0} where
       let same : n ≡ length xs = omega arith in
       ap (λ (k : ℕ). take k (xs ++ drop (length xs) ys)) same ∙ take-append_seam xs (drop (length xs) ys)
 
-  -- what comes into an empty pocket is not handed out
+  -- what comes into an empty batch is not handed out
   pub none_handed : (rs us ws vs : List T) → us ≡ rs ++ vs → ws ≡ [] → take (length us - length vs) us ≡ take (length rs - length ws) rs
   none_handed rs us ws vs e f =
       let long : length us - length vs ≡ length rs = omega (arith, ap length e, length-append rs vs) in

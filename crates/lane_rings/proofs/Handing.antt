@@ -1,4 +1,4 @@
--- What a pocket is made of, and what is handed out as its first item leaves.
+-- What a batch is made of, and what is handed out as its first item leaves.
 use Rattle.std.proofs.Common.{◌≡◌, ◌≢◌, ℕ, ◌-◌, ◌≤◌, List, [], ◌∷◌, ◌++◌, length, take, drop, arith, ap, None, Some, refl, subst, sym, ◌∙◌, length-append}
 use Rattle.std.specs.Prelude.{Option, IfNone, IfSome, MatchOption, option_copied, slice_get}
 use Rattle.std.proofs.Math.Seq.{take-append_seam}

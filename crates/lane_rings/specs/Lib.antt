@@ -2,6 +2,6 @@ pub mod Ends
 pub mod Identity
 pub mod Intakes
 pub mod Outlets
-pub mod Pockets
+pub mod Batches
 pub mod Refusal
 pub mod Rest

@@ -3,7 +3,7 @@ use Rattle.std.specs.Prelude.{ℕ, ◌++◌, List}
 use Rattle.evt_types.specs.declared.event.Delivery.{Delivery}
 use Rattle.evt_types.specs.declared.event.Reply.{Reply}
 use Rattle.lane_rings.specs.Intakes.{ahead}
-use Rattle.lane_rings.specs.Pockets.{inside}
+use Rattle.lane_rings.specs.Batches.{inside}
 use Rattle.lane_rings.specs.declared.rests.Beside.{Beside}
 
 -- offered, and not received

@@ -8,7 +8,7 @@ ghost use Rattle.rtrb.specs.Ring.{consumer_capacity, known_items, SameConsumer};
 ghost use Rattle.evt_types.specs.Event.{pair_of};
 ghost use Rattle.lane_rings.specs.Intakes.{handed};
 ghost use Rattle.lane_rings.specs.Outlets.{put_in};
-ghost use Rattle.lane_rings.specs.Pockets.{inside};
+ghost use Rattle.lane_rings.specs.Batches.{inside};
 
 use crate::intake::Intake;
 use crate::outlet::Outlet;
@@ -53,7 +53,7 @@ pub struct Far {
     pub ghost fewer: { count_by is_answer (put_in replies) ≤ length (handed deliveries) },
     ghost history_is: { history.items ≡ map pair_of (drop (count_by is_answer (put_in replies)) (handed deliveries)) },
     ghost room: { history.capacity ≡ consumer_capacity deliveries.ring },
-    ghost all_received: { inside deliveries.pocket ≡ [] },
+    ghost all_received: { inside deliveries.batch ≡ [] },
     ghost extras_are: { extras ≡ extras_of (put_in replies) },
     ghost extras_few: { extras ≤ MAX_EXTRAS },
     pub ghost beside: { AreBeside (length (handed deliveries)) (put_in replies) },
@@ -95,13 +95,13 @@ fn hand_out(
     history: &mut HeapCircularBuffer<(usize, u64)>,
     into: &mut ArrayVec<Delivery, 64>,
 )
-    requires history { length history.old.items + length (inside from.old.pocket) ≤ history.old.capacity }
-    requires into { length into.old.items + length (inside from.old.pocket) ≤ 64 }
+    requires history { length history.old.items + length (inside from.old.batch) ≤ history.old.capacity }
+    requires into { length into.old.items + length (inside from.old.batch) ≤ 64 }
     ensures ring { SameConsumer from.old.ring from.new.ring × (known_items from.new.ring ≡ known_items from.old.ring) }
-    ensures handed { handed from.new ≡ handed from.old ++ inside from.old.pocket }
-    ensures none { inside from.new.pocket ≡ [] }
-    ensures history { (history.new.items ≡ history.old.items ++ map pair_of (inside from.old.pocket)) × (history.new.capacity ≡ history.old.capacity) }
-    ensures into { into.new.items ≡ into.old.items ++ inside from.old.pocket }
+    ensures handed { handed from.new ≡ handed from.old ++ inside from.old.batch }
+    ensures none { inside from.new.batch ≡ [] }
+    ensures history { (history.new.items ≡ history.old.items ++ map pair_of (inside from.old.batch)) × (history.new.capacity ≡ history.old.capacity) }
+    ensures into { into.new.items ≡ into.old.items ++ inside from.old.batch }
 {
     while let Some(delivery) = from.first() {
         history.push_back((delivery.queue, delivery.number));

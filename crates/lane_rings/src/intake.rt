@@ -2,9 +2,9 @@
 
 ghost use Rattle.std.specs.Prelude.{◌≡◌, ◌-◌, ◌++◌, length, take, max};
 ghost use Rattle.rtrb.specs.Ring.{received, consumer_capacity};
-ghost use Rattle.lane_rings.specs.Pockets.{inside, places_of};
+ghost use Rattle.lane_rings.specs.Batches.{inside, places_of};
 
-use crate::pocket::Pocket;
+use crate::batch::Batch;
 use rtrb::Consumer;
 use std::alloc::{AllocError, Global};
 
@@ -12,9 +12,9 @@ use std::alloc::{AllocError, Global};
 #[derive(Drop)]
 pub(crate) struct Intake<T> {
     pub(crate) ring: Consumer<T>,
-    pub(crate) pocket: Pocket<T>,
-    ghost room: { places_of pocket ≡ max 1 (consumer_capacity ring) },
-    ghost last: { received ring ≡ take (length (received ring) - length (inside pocket)) (received ring) ++ inside pocket },
+    pub(crate) batch: Batch<T>,
+    ghost room: { places_of batch ≡ max 1 (consumer_capacity ring) },
+    ghost last: { received ring ≡ take (length (received ring) - length (inside batch)) (received ring) ++ inside batch },
 }
 
 impl<T: Copy> Intake<T> {
@@ -29,61 +29,61 @@ impl<T: Copy> Intake<T> {
         ensures ring { IfOk result (λ i. i.ring ≡ ring) }
         ensures lists { IfOk result (λ i. (handed i ≡ []) × (ahead i ≡ known_items ring)) }
     {
-        // One place at least, so that an empty pocket tells that nothing was there.
-        let pocket = Pocket::empty(alloc, filler, ring.capacity().max(1))?;
-        Ok(Intake { ring, pocket })
+        // One place at least, so that an empty batch tells that nothing was there.
+        let batch = Batch::empty(alloc, filler, ring.capacity().max(1))?;
+        Ok(Intake { ring, batch })
     }
 
-    /// Where nothing is in the pocket, takes at most `most` items out of the ring. A ring that shows nothing costs one load.
+    /// Where nothing is in the batch, takes at most `most` items out of the ring. A ring that shows nothing costs one load.
     #[inline(always)]
     pub(crate) fn look(&mut self, most: usize)
         ensures ring { SameConsumer self.old.ring self.new.ring }
         ensures handed { handed self.new ≡ handed self.old }
         ensures ahead { IsPrefix (ahead self.old) (ahead self.new) }
-        ensures none { 0 < most → inside self.new.pocket ≡ [] → ahead self.new ≡ [] }
-        ensures few { inside self.old.pocket ≡ [] → length (inside self.new.pocket) ≤ most }
-        ensures stays { inside self.old.pocket ≢ [] → inside self.new.pocket ≡ inside self.old.pocket }
-        ensures short { inside self.old.pocket ≡ [] → length (inside self.new.pocket) < most → most ≤ consumer_capacity self.old.ring → known_items self.new.ring ≡ [] }
+        ensures none { 0 < most → inside self.new.batch ≡ [] → ahead self.new ≡ [] }
+        ensures few { inside self.old.batch ≡ [] → length (inside self.new.batch) ≤ most }
+        ensures stays { inside self.old.batch ≢ [] → inside self.new.batch ≡ inside self.old.batch }
+        ensures short { inside self.old.batch ≡ [] → length (inside self.new.batch) < most → most ≤ consumer_capacity self.old.ring → known_items self.new.ring ≡ [] }
     {
-        if !self.pocket.is_empty() {
+        if !self.batch.is_empty() {
             return;
         }
         let there = self.ring.slots();
         if there == 0 {
             return;
         }
-        self.pocket.fill(&mut self.ring, most);
+        self.batch.fill(&mut self.ring, most);
     }
 
-    /// The oldest item, which leaves. Wants what is seen to be in the pocket, unless nothing is.
+    /// The oldest item, which leaves. Wants what is seen to be in the batch, unless nothing is.
     #[tactic(auto, using(crate::proofs::Handing::of_handing))]
     pub(crate) fn next(&mut self) -> Option<T>
-        requires { inside self.old.pocket ≡ [] → ahead self.old ≡ [] }
+        requires { inside self.old.batch ≡ [] → ahead self.old ≡ [] }
         ensures ring { SameConsumer self.old.ring self.new.ring }
         ensures handed { MatchOption result (handed self.new ≡ handed self.old) (λ x. handed self.new ≡ handed self.old ++ x ∷ []) }
         ensures ahead { MatchOption result
             ((ahead self.old ≡ []) × (ahead self.new ≡ []))
             (λ x. ahead self.old ≡ x ∷ ahead self.new) }
-        ensures pocket { MatchOption result (inside self.new.pocket ≡ []) (λ x. inside self.old.pocket ≡ x ∷ inside self.new.pocket) }
+        ensures batch { MatchOption result (inside self.new.batch ≡ []) (λ x. inside self.old.batch ≡ x ∷ inside self.new.batch) }
     {
-        self.pocket.next()
+        self.batch.next()
     }
 
-    /// The oldest item of the pocket where it lies.
+    /// The oldest item of the batch where it lies.
     pub(crate) fn first(&self) -> Option<&T>
-        ensures none { IfNone result (inside self.now.pocket ≡ []) }
-        ensures first { IfSome result (λ x. inside self.now.pocket ≡ x.now ∷ drop 1 (inside self.now.pocket)) }
+        ensures none { IfNone result (inside self.now.batch ≡ []) }
+        ensures first { IfSome result (λ x. inside self.now.batch ≡ x.now ∷ drop 1 (inside self.now.batch)) }
     {
-        self.pocket.first()
+        self.batch.first()
     }
 
-    /// The oldest item of the pocket leaves.
+    /// The oldest item of the batch leaves.
     pub(crate) fn pass(&mut self)
         ensures ring { SameConsumer self.old.ring self.new.ring × (known_items self.new.ring ≡ known_items self.old.ring) }
-        ensures handed { handed self.new ≡ handed self.old ++ take 1 (inside self.old.pocket) }
-        ensures pocket { inside self.new.pocket ≡ drop 1 (inside self.old.pocket) }
+        ensures handed { handed self.new ≡ handed self.old ++ take 1 (inside self.old.batch) }
+        ensures batch { inside self.new.batch ≡ drop 1 (inside self.old.batch) }
     {
-        self.pocket.next();
+        self.batch.next();
     }
 
     /// The oldest item that was seen, which leaves.
@@ -93,7 +93,7 @@ impl<T: Copy> Intake<T> {
             ((ahead self.old ≡ []) × (ahead self.new ≡ []))
             (λ x. ahead self.old ≡ x ∷ ahead self.new) }
     {
-        let first = self.pocket.next();
+        let first = self.batch.next();
         if first.is_some() || self.ring.cached_slots() == 0 {
             return first;
         }

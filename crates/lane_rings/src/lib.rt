@@ -2,17 +2,18 @@
 //! Each end may move to a thread of its own.
 #![tactic(auto)]
 
+mod batch;
 mod far;
 mod hints;
 mod intake;
 mod near;
 mod outlet;
 mod pair;
-mod pocket;
 mod rests;
 
+pub use evt_types::Memory;
 pub use far::{AnswerFault, Far, Refusal};
 pub use hints::{Hints, LaneSet};
 pub use near::Near;
-pub use pair::{Memory, beside, lane};
+pub use pair::{beside, lane};
 pub use rests::Beside;

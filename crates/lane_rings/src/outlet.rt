@@ -10,12 +10,12 @@ use std::alloc::{AllocError, Global};
 #[derive(Drop)]
 pub(crate) struct Outlet<T> {
     pub(crate) ring: Producer<T>,
-    pub(crate) pocket: Vec<T>,
+    pub(crate) batch: Vec<T>,
     /// So many slots at least are free. The ring works this out of two places at each question.
     free: usize,
     pub(crate) ghost known: { free ≤ known_free ring },
-    pub(crate) ghost fits: { length pocket.items ≤ free },
-    ghost room: { producer_capacity ring ≤ vec_capacity pocket },
+    pub(crate) ghost fits: { length batch.items ≤ free },
+    ghost room: { producer_capacity ring ≤ vec_capacity batch },
 }
 
 impl<T: Copy> Outlet<T> {
@@ -29,10 +29,10 @@ impl<T: Copy> Outlet<T> {
         ensures ring { IfOk result (λ o. o.ring ≡ ring) }
         ensures lists { IfOk result (λ o. (put_in o ≡ []) × (kept_back o ≡ [])) }
     {
-        let pocket = Vec::with_capacity(alloc, ring.capacity())?;
+        let batch = Vec::with_capacity(alloc, ring.capacity())?;
         Ok(Outlet {
             ring,
-            pocket,
+            batch,
             free: 0,
         })
     }
@@ -47,7 +47,7 @@ impl<T: Copy> Outlet<T> {
         if !self.has_room() {
             return false;
         }
-        self.pocket.push_reserved(*item);
+        self.batch.push_reserved(*item);
         true
     }
 
@@ -55,22 +55,22 @@ impl<T: Copy> Outlet<T> {
     // used up.
     fn has_room(&mut self) -> bool
         ensures ring { SameProducer self.old.ring self.new.ring × (sent self.new.ring ≡ sent self.old.ring) }
-        ensures pocket { self.new.pocket ≡ self.old.pocket }
-        ensures room { IsTrue result → length self.new.pocket.items < self.new.free }
+        ensures batch { self.new.batch ≡ self.old.batch }
+        ensures room { IsTrue result → length self.new.batch.items < self.new.free }
         ensures full { IsFalse result → producer_capacity self.old.ring ≤ length (put_in self.old) }
     {
-        self.pocket.len() < self.free || self.look()
+        self.batch.len() < self.free || self.look()
     }
 
     #[cold]
     fn look(&mut self) -> bool
         ensures ring { SameProducer self.old.ring self.new.ring × (sent self.new.ring ≡ sent self.old.ring) }
-        ensures pocket { self.new.pocket ≡ self.old.pocket }
-        ensures room { IsTrue result → length self.new.pocket.items < self.new.free }
+        ensures batch { self.new.batch ≡ self.old.batch }
+        ensures room { IsTrue result → length self.new.batch.items < self.new.free }
         ensures full { IsFalse result → producer_capacity self.old.ring ≤ length (put_in self.old) }
     {
         self.free = self.ring.slots();
-        self.pocket.len() < self.free
+        self.batch.len() < self.free
     }
 
     /// Puts what was gathered into the ring, with one store.
@@ -79,12 +79,12 @@ impl<T: Copy> Outlet<T> {
         ensures put { put_in self.new ≡ put_in self.old }
         ensures all { kept_back self.new ≡ [] }
     {
-        if self.pocket.is_empty() {
+        if self.batch.is_empty() {
             return;
         }
-        push_all(&mut self.ring, &self.pocket);
-        self.free -= self.pocket.len();
-        self.pocket.clear();
+        push_all(&mut self.ring, &self.batch);
+        self.free -= self.batch.len();
+        self.batch.clear();
     }
 }
 

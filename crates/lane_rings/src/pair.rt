@@ -9,21 +9,18 @@ ghost use Rattle.lane_rings.specs.Outlets.{put_in};
 ghost use Rattle.lane_rings.specs.Rest.{undelivered, untaken, still_held};
 ghost use Rattle.rtrb.specs.Ring.{IsPair, consumer_capacity, producer_capacity};
 
+use crate::batch::Batch;
 use crate::far::Far;
 use crate::intake::Intake;
 use crate::near::Near;
 use crate::outlet::Outlet;
-use crate::pocket::Pocket;
 use crate::rests::Beside;
 use circular_buffer::HeapCircularBuffer;
-use evt_types::{Delivery, Event, Reply};
+use evt_types::{Delivery, Event, Memory, Reply};
 use rtrb::RingBuffer;
-use std::alloc::{AllocError, Global};
+use std::alloc::Global;
 
-/// Want of memory.
-pub type Memory = AllocError;
-
-/// What stands in the places of a pocket that nothing is in.
+/// What stands in the places of a batch that nothing is in.
 fn no_delivery() -> Delivery {
     Delivery {
         event: Event::release(),
@@ -107,9 +104,9 @@ pub fn beside(near: Near, far: Far) -> Beside
     takings.ring.slots_beside(&mut answers.ring);
     Beside {
         deliveries: receipts,
-        offered: Pocket::of(offers.pocket),
+        offered: Batch::of(offers.batch),
         replies: takings,
-        answered: Pocket::of(answers.pocket),
+        answered: Batch::of(answers.batch),
         held: history,
     }
 }

@@ -1,7 +1,7 @@
 //! What is left in a lane at rest.
 
+use crate::batch::Batch;
 use crate::intake::Intake;
-use crate::pocket::Pocket;
 use circular_buffer::HeapCircularBuffer;
 use evt_types::{Delivery, Reply};
 
@@ -9,9 +9,9 @@ use evt_types::{Delivery, Reply};
 #[derive(Drop)]
 pub struct Beside {
     pub(crate) deliveries: Intake<Delivery>,
-    pub(crate) offered: Pocket<Delivery>,
+    pub(crate) offered: Batch<Delivery>,
     pub(crate) replies: Intake<Reply>,
-    pub(crate) answered: Pocket<Reply>,
+    pub(crate) answered: Batch<Reply>,
     pub(crate) held: HeapCircularBuffer<(usize, u64)>,
 }
 

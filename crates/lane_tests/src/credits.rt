@@ -4,7 +4,8 @@ ghost use Rattle.std.specs.Prelude.{◌≡◌, ◌+◌, ◌≤◌, ◌^◌, IfOk
 ghost use Rattle.credit_pool.specs.Accounts.{first_account, Stays};
 ghost use Rattle.credit_pool.specs.Pool.{account, limit_of, IsSeatOf};
 
-use credit_pool::{CreditSeat, Credits, Draw, Give, Memory};
+use credit_pool::{CreditSeat, Credits, Draw, Give};
+use evt_types::Memory;
 use std::alloc::Global;
 use std::test::Fail;
 use std::thread::{Threads, join};

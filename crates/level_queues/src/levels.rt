@@ -6,12 +6,9 @@ ghost use Rattle.level_queues.specs.Lists.{no_events, list_at, item_at, with_las
 
 use crate::list::take_out;
 use circular_buffer::HeapCircularBuffer;
-use evt_types::Numbered;
-use std::alloc::{AllocError, Global};
+use evt_types::{Memory, Numbered};
+use std::alloc::Global;
 use std::marker::Model;
-
-/// Want of memory.
-pub type Memory = AllocError;
 
 /// The waiting events of a queue: a list for each level, from 0 for the one that is served first to 3. Each list has room
 /// for the same number of events, and has only events of its own level.

@@ -4,4 +4,5 @@
 mod levels;
 mod list;
 
-pub use levels::{Levels, Memory};
+pub use evt_types::Memory;
+pub use levels::Levels;

@@ -1,9 +1,11 @@
+pub mod Counts
 pub mod Filters
 pub mod Fronts
 pub mod Lists
 pub mod Once
 pub mod Parts
 pub mod Ranges
+pub mod SeatSums
 pub mod Sorted
 pub mod Sums
 pub mod Writes

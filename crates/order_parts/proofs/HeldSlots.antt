@@ -5,8 +5,8 @@ use Rattle.std.proofs.lemmas.Bool.{cases_lt, cases_eq, or_cases}
 use Rattle.std.proofs.lemmas.List.{get_or-set_same, get_or-set_other, get_or_past, length-set, length-replicate, get_or-replicate}
 use Rattle.order_parts.specs.Held.{AreHeld, IsHeldIn}
 use Rattle.order_parts.specs.Pins.{Pin, IsOn, cell_of, free, may_pin, pin_at, pinned, unpinned}
-use Rattle.place_set.specs.Places.{Has, SameBut, no_places, set_at}
-use Rattle.place_set.specs.declared.places.Places.{Places}
+use Rattle.small_set.specs.SmallSets.{Has, SameBut, no_places, set_at}
+use Rattle.small_set.specs.declared.set.SmallSet.{SmallSet}
 
 -- ---- the numbers under which lanes are noted
 
@@ -24,7 +24,7 @@ none_held n k s held =
     let e = ap (λ (p : Pin). p.count) (get_or-replicate n s free free lt) in
     omega (arith, held.some, e)
 
-pub new_held : (n : ℕ) (empty : Places) → n ≤ 64 → ((i : ℕ) → ¬ Has empty i) → AreHeld (replicate n free) (replicate 64 empty)
+pub new_held : (n : ℕ) (empty : SmallSet) → n ≤ 64 → ((i : ℕ) → ¬ Has empty i) → AreHeld (replicate n free) (replicate 64 empty)
 new_held n empty few none =
     record {
       few = omega (arith, few, length-replicate n free);
@@ -62,7 +62,7 @@ module _ (ps : List Pin) (slot : ℕ) (within : slot < length ps) (x : Pin) wher
 abbrev pub both_ways : {A B C : Type 0} → A ↔ B → B ↔ C → A ↔ C
 both_ways f g = (λ a. g.0 (f.0 a), λ c. f.1 (g.1 c))
 
-module _ (ps : List Pin) (sets : List Places) (are : AreHeld ps sets) (slot : ℕ) (within : slot < length ps) (x : Pin) (cell : ℕ) (low : cell < 64) (old new : Places) (is : set_at sets cell ≡ old) (others : SameBut slot old new) where
+module _ (ps : List Pin) (sets : List SmallSet) (are : AreHeld ps sets) (slot : ℕ) (within : slot < length ps) (x : Pin) (cell : ℕ) (low : cell < 64) (old new : SmallSet) (is : set_at sets cell ≡ old) (others : SameBut slot old new) where
   here : set_at (slice_set sets cell new) cell ≡ new
   here = get_or-set_same sets cell new no_places (omega (arith, low, are.cells))
 
@@ -88,7 +88,7 @@ module _ (ps : List Pin) (sets : List Places) (are : AreHeld ps sets) (slot : �
 
 -- ---- an event more of the slot
 
-module _ (ps : List Pin) (sets : List Places) (are : AreHeld ps sets) (slot : ℕ) (within : slot < length ps) (lane : ℕ) (old new : Places) where
+module _ (ps : List Pin) (sets : List SmallSet) (are : AreHeld ps sets) (slot : ℕ) (within : slot < length ps) (lane : ℕ) (old new : SmallSet) where
   abbrev more : Pin
   more = pinned (pin_at ps slot) lane
 
@@ -125,12 +125,12 @@ module _ (ps : List Pin) (sets : List Places) (are : AreHeld ps sets) (slot : �
 
 -- ---- an event of the slot is answered
 
-module _ (ps : List Pin) (sets : List Places) (are : AreHeld ps sets) (slot : ℕ) (within : slot < length ps) where
+module _ (ps : List Pin) (sets : List SmallSet) (are : AreHeld ps sets) (slot : ℕ) (within : slot < length ps) where
   abbrev fewer : Pin
   fewer = unpinned (pin_at ps slot)
 
   -- it was the last one
-  pub last_unpinned : (old new : Places) → (pin_at ps slot).count ≡ 1 → cell_of (pin_at ps slot).lane < 64 → set_at sets (cell_of (pin_at ps slot).lane) ≡ old → (Has new slot → ⊥) → SameBut slot old new
+  pub last_unpinned : (old new : SmallSet) → (pin_at ps slot).count ≡ 1 → cell_of (pin_at ps slot).lane < 64 → set_at sets (cell_of (pin_at ps slot).lane) ≡ old → (Has new slot → ⊥) → SameBut slot old new
       → AreHeld (slice_set ps slot (unpinned (pin_at ps slot))) (slice_set sets (cell_of (pin_at ps slot).lane) new)
   last_unpinned old new one low is gone others =
       record {
@@ -175,16 +175,16 @@ module _ (ps : List Pin) (sets : List Places) (are : AreHeld ps sets) (slot : �
 -- ---- which slots stand on none of some lanes
 
 -- none of the lanes that were walked over has the slot
-abbrev pub IsOff : List Places → Places → Places → ℕ → Type 0
+abbrev pub IsOff : List SmallSet → SmallSet → SmallSet → ℕ → Type 0
 IsOff sets all left s = (k : ℕ) → Has all k → ¬ Has left k → ¬ Has (set_at sets k) s
 
 -- the slots that are left after the sets of some of the lanes were taken out
-pub record AreOff (sets : List Places) (all left slots : Places) : Type 0 where
+pub record AreOff (sets : List SmallSet) (all left slots : SmallSet) : Type 0 where
   pub rest : (k : ℕ) → Has left k → Has all k
   pub low : (k : ℕ) → Has all k → ¬ Has left k → k < 64
   pub off : (s : ℕ) → s < 64 → Has slots s ↔ IsOff sets all left s
 
-pub first_off : (sets : List Places) (all slots : Places) → ((s : ℕ) → Has slots s ↔ (s < 64)) → AreOff sets all all slots
+pub first_off : (sets : List SmallSet) (all slots : SmallSet) → ((s : ℕ) → Has slots s ↔ (s < 64)) → AreOff sets all all slots
 first_off sets all slots below =
     record {
       rest = λ k has. has;
@@ -193,7 +193,7 @@ first_off sets all slots below =
     }
 
 -- one set more is taken out
-pub next_off : (sets : List Places) (all left rest slots less : Places) (k : ℕ) → k < 64 → Has left k → (Has rest k → ⊥) → SameBut k left rest
+pub next_off : (sets : List SmallSet) (all left rest slots less : SmallSet) (k : ℕ) → k < 64 → Has left k → (Has rest k → ⊥) → SameBut k left rest
     → ((i : ℕ) → Has less i ↔ (Has slots i × (Has (set_at sets k) i → ⊥))) → AreOff sets all left slots → AreOff sets all rest less
 next_off sets all left rest slots less k few here gone others is are =
     record {
@@ -211,7 +211,7 @@ held_within ps s some =
     ⊎_elim (λ lt. lt) (λ past. let none = ap (λ (p : Pin). p.count) (get_or_past ps s free past) in absurd (omega (arith, some, none))) (cases_lt s (length ps))
 
 -- all sets were taken out
-pub all_off : (ps : List Pin) (sets : List Places) (all left slots : Places) → AreHeld ps sets → ((k : ℕ) → Has left k → ⊥) → AreOff sets all left slots
+pub all_off : (ps : List Pin) (sets : List SmallSet) (all left slots : SmallSet) → AreHeld ps sets → ((k : ℕ) → Has left k → ⊥) → AreOff sets all left slots
     → (s : ℕ) → s < 64 → (0 < (pin_at ps s).count → (pin_at ps s).lane < 64) → Has slots s ↔ ((l : ℕ) → Has all l → ¬ IsOn (pin_at ps s) l)
 all_off ps sets all left slots held done are s lt low = both_ways (are.off s lt) (there, back)
   where

@@ -7,12 +7,12 @@ use Rattle.evt_types.proofs.FlowLanes.{depth_within}
 use Rattle.evt_types.specs.Fault.{IsWithinLimits}
 use Rattle.evt_types.specs.Plan.{Plan, lanes_of, depth_of}
 use Rattle.order_parts.specs.History.{Entries, entries_of}
-use Rattle.place_set.specs.Places.{Has, SameBut}
-use Rattle.place_set.specs.declared.places.Places.{Places}
+use Rattle.small_set.specs.SmallSets.{Has, SameBut}
+use Rattle.small_set.specs.declared.set.SmallSet.{SmallSet}
 use Rattle.order_parts.specs.Histories.{AreRoomy, HasRoom, lane_in, AreEmptyLanes}
 
 -- where nothing is unanswered, each lane has room
-pub all_roomy : (p : Plan) (ls : List Entries) (all : Places) → IsWithinLimits p → AreEmptyLanes p (lanes_of p) ls → ((l : ℕ) → Has all l ↔ (l < 64)) → AreRoomy ls all
+pub all_roomy : (p : Plan) (ls : List Entries) (all : SmallSet) → IsWithinLimits p → AreEmptyLanes p (lanes_of p) ls → ((l : ℕ) → Has all l ↔ (l < 64)) → AreRoomy ls all
 all_roomy p ls all limits empty below l h few =
     let capacity : (lane_in ls l).capacity ≡ depth_of p l = empty.room l (entries_of [] 0) h in
     let none : length (lane_in ls l).entries ≡ 0 = ap length (empty.empty l (entries_of [] 0) h) in
@@ -21,7 +21,7 @@ all_roomy p ls all limits empty below l h few =
     (λ has. omega (arith, capacity, none, some), λ room. (below l).1 few)
 
 -- a lane is changed, and its place alone
-pub roomy_set : (ls : List Entries) (i : ℕ) (new : Entries) (was now : Places) → i < length ls → SameBut i was now → (i < 64 → Has now i ↔ (length new.entries < new.capacity)) → AreRoomy ls was → AreRoomy (set ls i new) now
+pub roomy_set : (ls : List Entries) (i : ℕ) (new : Entries) (was now : SmallSet) → i < length ls → SameBut i was now → (i < 64 → Has now i ↔ (length new.entries < new.capacity)) → AreRoomy ls was → AreRoomy (set ls i new) now
 roomy_set ls i new was now here others mine roomy k h few = by_case (cases_eq k i)
   where
     by_case : (k ≡ i) ⊎ (k ≢ i) → Has now k ↔ HasRoom (set ls i new) k

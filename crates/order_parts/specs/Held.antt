@@ -1,8 +1,8 @@
 -- The slots of each lane, as sets, beside the pins.
 use Rattle.std.specs.Prelude.{ℕ, ◌≡◌, ◌<◌, ◌≤◌, ◌↔◌, List, length}
 use Rattle.order_parts.specs.Pins.{Pin, cell_of, pin_at}
-use Rattle.place_set.specs.Places.{Has, set_at}
-use Rattle.place_set.specs.declared.places.Places.{Places}
+use Rattle.small_set.specs.SmallSets.{Has, set_at}
+use Rattle.small_set.specs.declared.set.SmallSet.{SmallSet}
 
 -- unanswered events of the slot stand on a lane that is noted under this number
 pub record IsHeldIn (ps : List Pin) (k s : ℕ) : Type 0 where
@@ -11,7 +11,7 @@ pub record IsHeldIn (ps : List Pin) (k s : ℕ) : Type 0 where
   pub cell : cell_of (pin_at ps s).lane ≡ k
 
 -- each set has the slots that stand on its lanes
-pub record AreHeld (ps : List Pin) (sets : List Places) : Type 0 where
+pub record AreHeld (ps : List Pin) (sets : List SmallSet) : Type 0 where
   pub few : length ps ≤ 64
   pub cells : length sets ≡ 64
   pub held : (k s : ℕ) → k < 64 → Has (set_at sets k) s ↔ IsHeldIn ps k s

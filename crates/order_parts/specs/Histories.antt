@@ -2,8 +2,8 @@
 use Rattle.std.specs.Prelude.{ℕ, ◌≡◌, ◌<◌, ◌↔◌, List, [], length, slice_index_or, All}
 use Rattle.evt_types.specs.Plan.{Plan, depth_of}
 use Rattle.order_parts.specs.History.{Entries, entries_of}
-use Rattle.place_set.specs.Places.{Has}
-use Rattle.place_set.specs.declared.places.Places.{Places}
+use Rattle.small_set.specs.SmallSets.{Has}
+use Rattle.small_set.specs.declared.set.SmallSet.{SmallSet}
 
 -- the history of a lane
 abbrev pub lane_in : List Entries → ℕ → Entries
@@ -14,7 +14,7 @@ abbrev pub HasRoom : List Entries → ℕ → Type 0
 HasRoom ls l = length (lane_in ls l).entries < (lane_in ls l).capacity
 
 -- of the first lanes, as many as a set has places, these have room
-abbrev pub AreRoomy : List Entries → Places → Type 0
+abbrev pub AreRoomy : List Entries → SmallSet → Type 0
 AreRoomy ls roomy = (l : ℕ) → l < length ls → l < 64 → Has roomy l ↔ HasRoom ls l
 
 -- ---- new ones

@@ -5,10 +5,9 @@ ghost use Rattle.order_parts.specs.Reorder.{empty, next_number, place_at, place_
 ghost use Rattle.order_parts.specs.Orders.{IsBuffer, is_restoring, has_place, handed, added_in, resolved_in, order_at};
 ghost use Rattle.evt_types.specs.Plan as plans;
 
-use crate::Memory;
 use crate::reorder::Reorder;
 use arrayvec::ArrayVec;
-use evt_types::{Event, MAX_EXTRAS, MAX_FORWARDS, MAX_QUEUES, Numbered, QueueDraft};
+use evt_types::{Event, MAX_EXTRAS, MAX_FORWARDS, MAX_QUEUES, Memory, Numbered, QueueDraft};
 use std::alloc::Global;
 use std::marker::Model;
 

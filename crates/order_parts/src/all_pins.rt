@@ -3,13 +3,12 @@
 ghost use Rattle.std.specs.Prelude.{◌≡◌, ℕ, ◌<◌, ◌↔◌, length, IfOk, IsTrue};
 ghost use Rattle.evt_types.specs.Plan.{atomic_slots};
 ghost use Rattle.order_parts.specs.Pins.{IsOn, holder_of, may_pin, pinned, unpinned};
-ghost use Rattle.place_set.specs.Places.{Has};
+ghost use Rattle.small_set.specs.SmallSets.{Has};
 ghost use Rattle.order_parts.specs.QueuePins.{AreFreePins, pins_at, pin_in, with_pin};
 
-use crate::Memory;
 use crate::pins::Pins;
-use evt_types::{MAX_DEPTH, QueueDraft, Shape};
-use place_set::Places;
+use evt_types::{MAX_DEPTH, Memory, QueueDraft, Shape};
+use small_set::SmallSet;
 use std::alloc::Global;
 use std::marker::Model;
 
@@ -81,7 +80,7 @@ impl AllPins {
 
     /// The slots that stand on none of these lanes: they are free, or stand on another one. Of a slot that stands on a lane beyond the
     /// first 64 nothing is said.
-    pub fn slots_off(&self, queue: usize, lanes: Places) -> Places
+    pub fn slots_off(&self, queue: usize, lanes: SmallSet) -> SmallSet
         requires { queue < length self.now }
         ensures { (s : ℕ) → s < 64 → (0 < (pin_in self.now queue s).count → (pin_in self.now queue s).lane < 64) → Has result s ↔ ((l : ℕ) → Has lanes l → ¬ IsOn (pin_in self.now queue s) l) }
     {

@@ -5,10 +5,9 @@ ghost use Rattle.evt_types.specs.Plan.{lanes_of};
 ghost use Rattle.order_parts.specs.History.{entries_of};
 ghost use Rattle.order_parts.specs.Histories.{AreRoomy, HasRoom, lane_in, AreEmptyLanes};
 
-use crate::Memory;
 use crate::history::{Entry, History};
-use evt_types::Shape;
-use place_set::{MAX_PLACES, Places};
+use evt_types::{Memory, Shape};
+use small_set::{MAX_MEMBERS, SmallSet};
 use std::alloc::Global;
 use std::marker::Model;
 
@@ -17,7 +16,7 @@ use std::marker::Model;
 pub struct Histories {
     lanes: Vec<History>,
     /// Of the first lanes those that have room. The ports' lanes are among them.
-    roomy: Places,
+    roomy: SmallSet,
 }
 
 impl Model for Histories {
@@ -53,7 +52,7 @@ impl Histories {
         let _ = shape.limit();
         Ok(Histories {
             lanes: empty_lanes(alloc, shape)?,
-            roomy: Places::below(MAX_PLACES),
+            roomy: SmallSet::below(MAX_MEMBERS),
         })
     }
 
@@ -74,7 +73,7 @@ impl Histories {
     }
 
     /// Of the first lanes those that have room.
-    pub fn roomy(&self) -> Places
+    pub fn roomy(&self) -> SmallSet
         ensures { AreRoomy self.now result }
     {
         self.roomy
@@ -88,7 +87,7 @@ impl Histories {
     {
         let history = &mut self.lanes[lane];
         history.push(entry);
-        if history.is_full() && lane < MAX_PLACES {
+        if history.is_full() && lane < MAX_MEMBERS {
             self.roomy.remove(lane);
         }
     }
@@ -114,7 +113,7 @@ impl Histories {
         // To ask for the count makes known that no more are held than there is room for.
         let _ = history.len();
         let oldest = history.pop().unwrap();
-        if was_full && lane < MAX_PLACES {
+        if was_full && lane < MAX_MEMBERS {
             self.roomy.add(lane);
         }
         oldest

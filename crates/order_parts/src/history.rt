@@ -3,7 +3,7 @@
 ghost use Rattle.std.specs.Prelude.{◌≡◌, ◌^◌, ◌<◌, ◌≤◌, ◌==◌, [], ◌∷◌, ◌++◌, length, drop, slice_get, IfOk};
 ghost use Rattle.order_parts.specs.History.{entries_of};
 
-use crate::Memory;
+use evt_types::Memory;
 use std::alloc::Global;
 use std::marker::Model;
 

@@ -11,10 +11,8 @@ mod reorder;
 
 pub use all_orders::{AllOrders, all_kept_room};
 pub use all_pins::AllPins;
+pub use evt_types::Memory;
 pub use histories::Histories;
 pub use history::{Entry, History};
 pub use pins::Pins;
 pub use reorder::Reorder;
-
-/// Want of memory.
-pub type Memory = std::alloc::AllocError;

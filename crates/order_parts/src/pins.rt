@@ -3,11 +3,10 @@
 ghost use Rattle.std.specs.Prelude.{◌≡◌, ℕ, ◌<◌, ◌≤◌, ◌↔◌, length, replicate, slice_set, IfOk, IsTrue};
 ghost use Rattle.evt_types.specs.declared.shape.TheConstants.{MAX_DEPTH};
 ghost use Rattle.order_parts.specs.Pins.{IsOn, cell_of, free, holder_of, pin_at, may_pin, pinned, unpinned};
-ghost use Rattle.place_set.specs.Places.{Has};
+ghost use Rattle.small_set.specs.SmallSets.{Has};
 
-use crate::Memory;
-use evt_types::MAX_SLOTS;
-use place_set::{MAX_PLACES, Places};
+use evt_types::{MAX_SLOTS, Memory};
+use small_set::{MAX_MEMBERS, SmallSet};
 use std::alloc::Global;
 use std::marker::Model;
 
@@ -23,15 +22,15 @@ struct Hold {
 pub struct Pins {
     holds: Vec<Hold>,
     /// For each lane the slots that stand on it. Only the first lanes, as many as there are sets, have one of their own.
-    held: [Places; MAX_PLACES],
+    held: [SmallSet; MAX_MEMBERS],
 }
 
 /// The set of the lane's slots.
 fn cell_of(lane: usize) -> usize
     ensures value { result ≡ cell_of lane }
-    ensures within { result < MAX_PLACES }
+    ensures within { result < MAX_MEMBERS }
 {
-    lane % MAX_PLACES
+    lane % MAX_MEMBERS
 }
 
 impl Model for Pins {
@@ -55,7 +54,7 @@ impl Pins {
         let holds = vec![in alloc; Hold { count: 0, lane: 0 }; slots]?;
         Ok(Pins {
             holds,
-            held: [Places::none(); MAX_PLACES],
+            held: [SmallSet::none(); MAX_MEMBERS],
         })
     }
 
@@ -122,11 +121,11 @@ impl Pins {
 
     /// The slots that stand on none of these lanes: they are free, or stand on another one. Of a slot that stands on a lane beyond the
     /// first 64 nothing is said.
-    pub fn slots_off(&self, lanes: Places) -> Places
+    pub fn slots_off(&self, lanes: SmallSet) -> SmallSet
         ensures { (s : ℕ) → s < 64 → (0 < (pin_at self.now s).count → (pin_at self.now s).lane < 64) → Has result s ↔ ((l : ℕ) → Has lanes l → ¬ IsOn (pin_at self.now s) l) }
     {
         let mut left = lanes;
-        let mut slots = Places::below(MAX_PLACES);
+        let mut slots = SmallSet::below(MAX_MEMBERS);
         while let Some(lane) = left.pop() {
             slots = slots.except(self.held[lane]);
         }

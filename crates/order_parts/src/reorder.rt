@@ -3,10 +3,9 @@
 ghost use Rattle.std.specs.Prelude.{◌≡◌, false, ◌+◌, ◌*◌, ◌%◌, ◌^◌, ◌<◌, ◌≤◌, ◌++◌, All, MatchOption, Some, length, nat_lt, option_copied, None, slice_get, slice_index_or, is_some, option_map, IfOk, IsTrue};
 ghost use Rattle.order_parts.specs.Reorder.{HasFew, after_add, after_hand, after_keep, after_leave, after_resolve, empty, is_open, kept_of, left, left_plain, next_number, oldest_answered, open_place, place_at, place_or_open, without_oldest, wrapped};
 
-use crate::Memory;
 use arrayvec::ArrayVec;
 use circular_buffer::HeapCircularBuffer;
-use evt_types::{Event, MAX_EXTRAS, MAX_FORWARDS, Numbered};
+use evt_types::{Event, MAX_EXTRAS, MAX_FORWARDS, Memory, Numbered};
 use std::alloc::Global;
 use std::marker::Model;
 

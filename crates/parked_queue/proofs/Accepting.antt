@@ -6,14 +6,14 @@ use Rattle.std.proofs.lemmas.List.Quantifiers.{all_pairs_push}
 use Rattle.evt_types.specs.Plan.{level_of}
 use Rattle.evt_types.specs.declared.event.Event.{Event}
 use Rattle.evt_types.specs.declared.event.Numbered.{Numbered}
-use Rattle.place_set.specs.Places.{Has}
+use Rattle.small_set.specs.SmallSets.{Has}
 use Rattle.parked_queue.specs.Lists.{Lists, list_at, total_of, with_last}
 use Rattle.parked_queue.specs.Marks.{Kept, marks_at}
 use Rattle.parked_queue.specs.Merge.{lists_of}
-use Rattle.parked_queue.specs.Parted.{Parted, below_at, list_in, place_of, places, with_waits}
+use Rattle.parked_queue.specs.Parted.{Parted, below_at, list_in, list_of, places, with_waits}
 use Rattle.parked_queue.specs.Waits.{Waits, AreWaits, slot_of, with_event}
 use Rattle.parked_queue.proofs.Merges.{by_number_length, lists_with}
-use Rattle.parked_queue.proofs.Holding.{Holds, view_held, list_held, place_if_not}
+use Rattle.parked_queue.proofs.Holding.{Holds, view_held, list_held, list_if_not}
 
 -- as many wait as the lists have
 pub total_held : (a : Kept) (v : Parted) → Holds a v → total_of a.lists ≡ length v.waits.waiting
@@ -38,10 +38,10 @@ module _ (a : Kept) (v : Parted) (e : Event) (l : Lists) (h : Holds a v) (lt : l
   w = record { number = v.waits.next; event = e }
 
   -- no event is parked that comes only now
-  main : place_of v.waits.slots v.below w ≡ level_of e
-  main = place_if_not v.waits.slots v.below w (h.bounds (level_of e))
+  main : list_of v.waits.slots v.below w ≡ level_of e
+  main = list_if_not v.waits.slots v.below w (h.bounds (level_of e))
 
-  pub lists_accepted : l.lists ≡ lists_of (place_of v.waits.slots v.below) 0 (places v.waits.slots) (v.waits.waiting ++ w ∷ [])
+  pub lists_accepted : l.lists ≡ lists_of (list_of v.waits.slots v.below) 0 (places v.waits.slots) (v.waits.waiting ++ w ∷ [])
   lists_accepted =
       let some = h.waits.some in
       let within : level_of e < places v.waits.slots = omega arith in
@@ -49,8 +49,8 @@ module _ (a : Kept) (v : Parted) (e : Event) (l : Lists) (h : Holds a v) (lt : l
       ∙ (ap (λ n. set a.lists.lists (level_of e) (list_at a.lists (level_of e) ++ record { number = n; event = e } ∷ [])) h.next
       ∙ (ap (λ us. set a.lists.lists (level_of e) (us ++ w ∷ [])) (list_held a v (level_of e) h within)
       ∙ (ap (λ ls. set ls (level_of e) (list_in v (level_of e) ++ w ∷ [])) h.lists
-      ∙ sym (subst (λ k. lists_of (place_of v.waits.slots v.below) 0 (places v.waits.slots) (v.waits.waiting ++ w ∷ []) ≡ set (lists_of (place_of v.waits.slots v.below) 0 (places v.waits.slots) v.waits.waiting) k (list_in v k ++ w ∷ [])) main
-      (lists_with (place_of v.waits.slots v.below) (places v.waits.slots) v.waits.waiting w (subst (λ k. k < places v.waits.slots) (sym main) within))))))
+      ∙ sym (subst (λ k. lists_of (list_of v.waits.slots v.below) 0 (places v.waits.slots) (v.waits.waiting ++ w ∷ []) ≡ set (lists_of (list_of v.waits.slots v.below) 0 (places v.waits.slots) v.waits.waiting) k (list_in v k ++ w ∷ [])) main
+      (lists_with (list_of v.waits.slots v.below) (places v.waits.slots) v.waits.waiting w (subst (λ k. k < places v.waits.slots) (sym main) within))))))
 
   pub accepted_held : v.waits.next < 2 ^ 63 → length v.waits.waiting < v.waits.room → Holds (record a { lists = l; next = a.next + 1 }) (with_waits v (with_event v.waits e))
   accepted_held more room =

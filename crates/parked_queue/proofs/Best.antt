@@ -7,43 +7,43 @@ use Rattle.std.proofs.lemmas.List.Elements.{All-contains}
 use Rattle.lists.proofs.Lists.{eqb_is}
 use Rattle.evt_types.specs.Plan.{level_of}
 use Rattle.evt_types.specs.declared.event.Numbered.{Numbered}
-use Rattle.place_set.specs.Places.{Has, IsEmpty, SameBut}
-use Rattle.place_set.specs.declared.places.Places.{Places}
+use Rattle.small_set.specs.SmallSets.{Has, IsEmpty, SameBut}
+use Rattle.small_set.specs.declared.set.SmallSet.{SmallSet}
 use Rattle.parked_queue.specs.Marks.{Kept, marks_at}
 use Rattle.parked_queue.specs.Merge.{is_in}
-use Rattle.parked_queue.specs.Parted.{Parted, HasMarks, HasNoneParked, IsBest, IsFirstParked, IsNoLater, IsParkedAllowed, below_at, list_in, parked_place, place_of}
+use Rattle.parked_queue.specs.Parted.{Parted, HasMarks, HasNoneParked, IsBest, IsFirstParked, IsNoLater, IsParkedAllowed, below_at, list_in, list_of_slot, list_of}
 use Rattle.parked_queue.specs.Waits.{AreWaits, slot_of}
 use Rattle.std.specs.Option.{is_some}
 use Rattle.parked_queue.specs.Lists.{list_at}
-use Rattle.parked_queue.proofs.Holding.{Holds, count_held, list_held, place_if_not, place_if_parked}
+use Rattle.parked_queue.proofs.Holding.{Holds, count_held, list_held, list_if_not, list_if_parked}
 use Rattle.parked_queue.proofs.Splits.{Split, first_least, first_split, first_there, none_first}
 
 -- what it says of an event to be in the list of a slot's parked events
-in_aside : (slots : ℕ) (below : List ℕ) (c s : ℕ) (u : Numbered) → c < 4 → level_of u.event < 4 → is_in (place_of slots below) (parked_place s c) u ≡ true → (level_of u.event ≡ c) × (slot_of slots u ≡ s) × (u.number < below_at below c)
+in_aside : (slots : ℕ) (below : List ℕ) (c s : ℕ) (u : Numbered) → c < 4 → level_of u.event < 4 → is_in (list_of slots below) (list_of_slot s c) u ≡ true → (level_of u.event ≡ c) × (slot_of slots u ≡ s) × (u.number < below_at below c)
 in_aside slots below c s u lt level e =
-    let same : place_of slots below u ≡ parked_place s c = eqb_is (place_of slots below u) (parked_place s c) e in
+    let same : list_of slots below u ≡ list_of_slot s c = eqb_is (list_of slots below u) (list_of_slot s c) e in
     ⊎_elim
-    (λ parked. let p = place_if_parked slots below u parked in let here : level_of u.event ≡ c = omega arith in (here, omega arith, subst (λ k. u.number < below_at below k) here parked))
-    (λ main. let p = place_if_not slots below u main in absurd (omega arith))
+    (λ parked. let p = list_if_parked slots below u parked in let here : level_of u.event ≡ c = omega arith in (here, omega arith, subst (λ k. u.number < below_at below k) here parked))
+    (λ main. let p = list_if_not slots below u main in absurd (omega arith))
     (cases_lt u.number (below_at below (level_of u.event)))
 
 -- a parked event is in the list of its slot
-is_aside : (slots : ℕ) (below : List ℕ) (c s : ℕ) (u : Numbered) → level_of u.event ≡ c → slot_of slots u ≡ s → u.number < below_at below c → is_in (place_of slots below) (parked_place s c) u ≡ true
+is_aside : (slots : ℕ) (below : List ℕ) (c s : ℕ) (u : Numbered) → level_of u.event ≡ c → slot_of slots u ≡ s → u.number < below_at below c → is_in (list_of slots below) (list_of_slot s c) u ≡ true
 is_aside slots below c s u here slot lower =
-    eq-eqb (place_of slots below u) (parked_place s c)
-    (place_if_parked slots below u (subst (λ k. u.number < below_at below k) (sym here) lower) ∙ (ap (λ k. parked_place k (level_of u.event)) slot ∙ ap (parked_place s) here))
+    eq-eqb (list_of slots below u) (list_of_slot s c)
+    (list_if_parked slots below u (subst (λ k. u.number < below_at below k) (sym here) lower) ∙ (ap (λ k. list_of_slot k (level_of u.event)) slot ∙ ap (list_of_slot s) here))
 
 module _ (v : Parted) (c s : ℕ) (waits : AreWaits v.waits) (lt : c < 4) where
   abbrev test : Numbered → Bool
-  test = is_in (place_of v.waits.slots v.below) (parked_place s c)
+  test = is_in (list_of v.waits.slots v.below) (list_of_slot s c)
 
   -- nothing is parked there
-  pub none_aside : slice_get (list_in v (parked_place s c)) 0 ≡ None → All (λ (u : Numbered). level_of u.event ≡ c → u.number < below_at v.below c → slot_of v.waits.slots u ≢ s) v.waits.waiting
+  pub none_aside : slice_get (list_in v (list_of_slot s c)) 0 ≡ None → All (λ (u : Numbered). level_of u.event ≡ c → u.number < below_at v.below c → slot_of v.waits.slots u ≢ s) v.waits.waiting
   none_aside e k d h =
       let u : Numbered = get_or v.waits.waiting k d in
       λ here lower slot. false≢true (sym (none_first test v.waits.waiting e k d h) ∙ is_aside v.waits.slots v.below c s u here slot lower)
 
-  module _ (w : Numbered) (head : slice_get (list_in v (parked_place s c)) 0 ≡ Some w) where
+  module _ (w : Numbered) (head : slice_get (list_in v (list_of_slot s c)) 0 ≡ Some w) where
     aside : Split test v.waits.waiting w
     aside = first_split test v.waits.waiting w waits.rising head
 
@@ -53,7 +53,7 @@ module _ (v : Parted) (c s : ℕ) (waits : AreWaits v.waits) (lt : c < 4) where
     head_waits : Contains v.waits.waiting w
     head_waits = first_there test v.waits.waiting w aside
 
-    pub head_there : (allowed : Places) → Has allowed s → IsParkedAllowed v c allowed w
+    pub head_there : (allowed : SmallSet) → Has allowed s → IsParkedAllowed v c allowed w
     head_there allowed has = record { waits = head_waits; level = of_head.0; slot = subst (Has allowed) (sym of_head.1) has; parked = of_head.2 }
 
     pub head_least : All (λ (u : Numbered). level_of u.event ≡ c → u.number < below_at v.below c → slot_of v.waits.slots u ≡ s → w.number ≤ u.number) v.waits.waiting
@@ -63,19 +63,19 @@ module _ (v : Parted) (c s : ℕ) (waits : AreWaits v.waits) (lt : c < 4) where
 
 -- ---- the walk over the slots
 
-module _ (v : Parted) (c : ℕ) (allowed : Places) where
+module _ (v : Parted) (c : ℕ) (allowed : SmallSet) where
   -- nothing is looked at yet
   pub best_none : IsBest v c allowed allowed None
   best_none k d h here lower may left = left may
 
   -- the slot has no parked event
-  pub best_kept : (s : ℕ) (left less : Places) (best : Option Numbered) → AreWaits v.waits → c < 4 → slice_get (list_in v (parked_place s c)) 0 ≡ None → SameBut s left less → IsBest v c allowed left best → IsBest v c allowed less best
+  pub best_kept : (s : ℕ) (left less : SmallSet) (best : Option Numbered) → AreWaits v.waits → c < 4 → slice_get (list_in v (list_of_slot s c)) 0 ≡ None → SameBut s left less → IsBest v c allowed left best → IsBest v c allowed less best
   best_kept s left less best waits lt none but old k d h =
       let u : Numbered = get_or v.waits.waiting k d in
       λ here lower may gone. old k d h here lower may (λ has. gone ((but (slot_of v.waits.slots u) (none_aside v c s waits lt none k d h here lower)).1 has))
 
   -- the older one of the best and the slot's first
-  pub best_older : (s : ℕ) (left less : Places) (best : Option Numbered) (w r : Numbered) → AreWaits v.waits → c < 4 → slice_get (list_in v (parked_place s c)) 0 ≡ Some w → SameBut s left less
+  pub best_older : (s : ℕ) (left less : SmallSet) (best : Option Numbered) (w r : Numbered) → AreWaits v.waits → c < 4 → slice_get (list_in v (list_of_slot s c)) 0 ≡ Some w → SameBut s left less
       → ((n : ℕ) → IsNoLater best n ⊎ (w.number ≤ n) → r.number ≤ n) → IsBest v c allowed left best → IsBest v c allowed less (Some r)
   best_older s left less best w r waits lt head but older old k d h =
       let u : Numbered = get_or v.waits.waiting k d in
@@ -84,12 +84,12 @@ module _ (v : Parted) (c : ℕ) (allowed : Places) where
       (λ other. older u.number (inl (old k d h here lower may (λ has. gone ((but (slot_of v.waits.slots u) other).1 has)))))
       (cases_eq (slot_of v.waits.slots u) s)
 
-  pub one_older : (s : ℕ) (best : Option Numbered) (w r : Numbered) → AreWaits v.waits → c < 4 → slice_get (list_in v (parked_place s c)) 0 ≡ Some w → Has allowed s → (best ≡ Some r) ⊎ (r ≡ w) → IfSome best (IsParkedAllowed v c allowed) → IsParkedAllowed v c allowed r
+  pub one_older : (s : ℕ) (best : Option Numbered) (w r : Numbered) → AreWaits v.waits → c < 4 → slice_get (list_in v (list_of_slot s c)) 0 ≡ Some w → Has allowed s → (best ≡ Some r) ⊎ (r ≡ w) → IfSome best (IsParkedAllowed v c allowed) → IsParkedAllowed v c allowed r
   one_older s best w r waits lt head has one old = ⊎_elim (λ e. subst (λ o. IfSome o (IsParkedAllowed v c allowed)) e old) (λ e. subst (IsParkedAllowed v c allowed) (sym e) (head_there v c s waits lt w head allowed has)) one
 
 -- ---- a mark goes
 
-module _ (a : Kept) (v : Parted) (c s : ℕ) (p : Places) (h : Holds a v) (lt : c < 4) (none : slice_get (list_in v (parked_place s c)) 0 ≡ None) (but : SameBut s (marks_at a.parked c) p) (gone : ¬ Has p s) where
+module _ (a : Kept) (v : Parted) (c s : ℕ) (p : SmallSet) (h : Holds a v) (lt : c < 4) (none : slice_get (list_in v (list_of_slot s c)) 0 ≡ None) (but : SameBut s (marks_at a.parked c) p) (gone : ¬ Has p s) where
   here_after : marks_at (set a.parked c p) c ≡ p
   here_after = let four = h.levels in get_or-set_same a.parked c p (record { bits = 0 }) (omega arith)
 
@@ -136,14 +136,14 @@ none_if : (o : Option Numbered) → is_some o ≡ false → o ≡ None
 none_if None e = refl
 none_if (Some w) e = cc
 
-module _ (a : Kept) (v : Parted) (c s k : ℕ) (h : Holds a v) (lt : c < 4) (less : s < v.waits.slots) (list : k ≡ parked_place s c) where
+module _ (a : Kept) (v : Parted) (c s k : ℕ) (h : Holds a v) (lt : c < 4) (less : s < v.waits.slots) (list : k ≡ list_of_slot s c) where
   pub place_there : k < length a.lists.lists
   place_there = let count = count_held a v h in omega arith
 
-  pub first_aside : (r : Option Numbered) → r ≡ slice_get (list_at a.lists k) 0 → r ≡ slice_get (list_in v (parked_place s c)) 0
-  first_aside r e = e ∙ (ap (λ n. slice_get (list_at a.lists n) 0) list ∙ ap (λ us. slice_get us 0) (list_held a v (parked_place s c) h (omega arith)))
+  pub first_aside : (r : Option Numbered) → r ≡ slice_get (list_at a.lists k) 0 → r ≡ slice_get (list_in v (list_of_slot s c)) 0
+  first_aside r e = e ∙ (ap (λ n. slice_get (list_at a.lists n) 0) list ∙ ap (λ us. slice_get us 0) (list_held a v (list_of_slot s c) h (omega arith)))
 
-  pub mark_gone : (r : Option Numbered) (p : Places) → r ≡ slice_get (list_at a.lists k) 0 → is_some r ≡ false → SameBut s (marks_at a.parked c) p → ¬ Has p s → Holds (record a { parked = set a.parked c p }) v
+  pub mark_gone : (r : Option Numbered) (p : SmallSet) → r ≡ slice_get (list_at a.lists k) 0 → is_some r ≡ false → SameBut s (marks_at a.parked c) p → ¬ Has p s → Holds (record a { parked = set a.parked c p }) v
   mark_gone r p e none but gone = unmarked_held a v c s p h lt (sym (first_aside r e) ∙ none_if r none) but gone
 
 pub marks_held : (a : Kept) (v : Parted) (c : ℕ) → Holds a v → HasMarks v c (marks_at a.parked c)
@@ -159,10 +159,10 @@ marks_held a v c h =
 -- ---- when each slot is looked at
 
 -- what holds of a place but the one that is taken out of a set
-pub still_there : (Q : ℕ → Type 0) (s : ℕ) (left less : Places) → SameBut s left less → ¬ Has less s → ((k : ℕ) → Has left k → Q k) → (k : ℕ) → Has less k → Q k
+pub still_there : (Q : ℕ → Type 0) (s : ℕ) (left less : SmallSet) → SameBut s left less → ¬ Has less s → ((k : ℕ) → Has left k → Q k) → (k : ℕ) → Has less k → Q k
 still_there Q s left less but gone all k has = all k ((but k (λ e. gone (subst (Has less) e has))).0 has)
 
-module _ (v : Parted) (c : ℕ) (allowed left : Places) (empty : IsEmpty left) where
+module _ (v : Parted) (c : ℕ) (allowed left : SmallSet) (empty : IsEmpty left) where
   pub is_first : (best : Option Numbered) → IfSome best (IsParkedAllowed v c allowed) → IsBest v c allowed left best → IfSome best (IsFirstParked v c allowed)
   is_first None one best = tt
   is_first (Some w) one best = record { one = one; first = λ k d h. (λ here lower may. best k d h here lower may (empty (slot_of v.waits.slots (get_or v.waits.waiting k d)))) }

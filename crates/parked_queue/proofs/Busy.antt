@@ -2,13 +2,13 @@
 use Rattle.std.proofs.Common.{◌≡◌, ℕ, zero, suc, ◌<◌, ◌≤◌, List, [], ◌∷◌, length, set, ⊎_elim, refl, ap, ◌∙◌, subst, arith}
 use Rattle.std.proofs.lemmas.Bool.{cases_eq}
 use Rattle.std.proofs.lemmas.List.{get_or-set_other, get_or-set_same, length-map, length-set}
-use Rattle.place_set.specs.Places.{Has, IsEmpty, SameBut}
-use Rattle.place_set.specs.declared.places.Places.{Places}
+use Rattle.small_set.specs.SmallSets.{Has, IsEmpty, SameBut}
+use Rattle.small_set.specs.declared.set.SmallSet.{SmallSet}
 use Rattle.parked_queue.specs.Busy.{AreBusy}
 use Rattle.parked_queue.specs.Waits.{Waits, all_empty, no_waits, no_waits_of, waits_at}
 
 -- nothing waits in any queue
-pub busy_new : (room : ℕ) (slots : List ℕ) (none : Places) → length slots ≤ 64 → IsEmpty none → AreBusy (all_empty room slots) none
+pub busy_new : (room : ℕ) (slots : List ℕ) (none : SmallSet) → length slots ≤ 64 → IsEmpty none → AreBusy (all_empty room slots) none
 busy_new room slots none few empty =
     let a = length-map slots (no_waits_of room) in
     record {
@@ -23,7 +23,7 @@ busy_new room slots none few empty =
     nothing (s ∷ ss) (suc q) = nothing ss q
 
 -- a queue is another, and its place alone may change
-pub busy_set : (qs : List Waits) (q : ℕ) (w : Waits) (was now : Places) → AreBusy qs was → q < length qs → SameBut q was now → ((¬ Has now q) → w.waiting ≡ []) → AreBusy (set qs q w) now
+pub busy_set : (qs : List Waits) (q : ℕ) (w : Waits) (was now : SmallSet) → AreBusy qs was → q < length qs → SameBut q was now → ((¬ Has now q) → w.waiting ≡ []) → AreBusy (set qs q w) now
 busy_set qs q w was now are lt others none =
     let long = length-set qs q w in
     record {

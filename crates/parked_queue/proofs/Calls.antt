@@ -8,13 +8,13 @@ use Rattle.std.proofs.lemmas.List.Sums.{length-filter, count_by-le-length}
 use Rattle.evt_types.specs.Plan.{level_of}
 use Rattle.evt_types.specs.declared.event.Event.{Event}
 use Rattle.evt_types.specs.declared.event.Numbered.{Numbered}
-use Rattle.place_set.specs.Places.{Has, SameBut}
-use Rattle.place_set.specs.declared.places.Places.{Places}
+use Rattle.small_set.specs.SmallSets.{Has, SameBut}
+use Rattle.small_set.specs.declared.set.SmallSet.{SmallSet}
 use Rattle.parked_queue.specs.Lists.{Lists, has_number, list_at, total_of, with_last, with_list, without_first}
 use Rattle.parked_queue.specs.Marks.{marks_at}
 use Rattle.parked_queue.specs.Merge.{is_in}
 use Rattle.parked_queue.specs.Parkings.{AreParkings, count_in, kept, parking_at, parted_at, parteds_in, segment, waiting_in}
-use Rattle.parked_queue.specs.Parted.{Parted, list_in, no_parted, own_first, parked_place, place_for, place_of, places, with_below, with_waits}
+use Rattle.parked_queue.specs.Parted.{Parted, list_in, no_parted, own_first, list_of_slot, list_of_number, list_of, places, with_below, with_waits}
 use Rattle.parked_queue.specs.Waits.{IsOnlyOf, IsRising, is_other, slot_of, with_event, without_number}
 use Rattle.parked_queue.specs.declared.parking.Parking.{Parking}
 use Rattle.parked_queue.proofs.Accepting.{accepted_held, total_held}
@@ -23,7 +23,7 @@ use Rattle.parked_queue.proofs.Holding.{Holds}
 use Rattle.parked_queue.proofs.Parkings.{IsSeen, list_seen, parkings_after, seen_at, view_after}
 use Rattle.parked_queue.proofs.Parks.{set_aside}
 use Rattle.parked_queue.proofs.Segments.{IsBut, but_none, but_one, but_then, segment_at, segment_first, segment_last, segment_length, segment_with}
-use Rattle.parked_queue.proofs.Taking.{head_held, place_for_within, taken_held}
+use Rattle.parked_queue.proofs.Taking.{head_held, list_of_number_within, taken_held}
 use Rattle.parked_queue.proofs.Totals.{total_without}
 
 -- the queue's part is this one, and is seen as this
@@ -74,18 +74,18 @@ module _ (l : Lists) (ps : List Parking) (vs : List Parted) (are : AreParkings l
       (omega arith, omega arith, ap (λ b. list_at l (b + k)) base ∙ list_seen l ps vs q k s less)
 
   -- the list of a level, and of a level and a slot
-  pub level_place : (c : ℕ) → c < 4 → c < places v.waits.slots
-  level_place c less = let some = s.holds.waits.some in omega arith
+  pub level_list : (c : ℕ) → c < 4 → c < places v.waits.slots
+  level_list c less = let some = s.holds.waits.some in omega arith
 
-  pub slot_place : (c slot k : ℕ) → c < 4 → slot < v.waits.slots → k ≡ parked_place slot c → k < places v.waits.slots
-  slot_place c slot k level less list = omega arith
+  pub slot_list : (c slot k : ℕ) → c < 4 → slot < v.waits.slots → k ≡ list_of_slot slot c → k < places v.waits.slots
+  slot_list c slot k level less list = omega arith
 
   -- what stands first in a list
   pub first_is : (x : Parking) → x ≡ old → (k j : ℕ) → j < places v.waits.slots → k ≡ j → (o : Option Numbered) → o ≡ slice_get (list_at l (x.base + k)) 0 → o ≡ slice_get (list_in v j) 0
   first_is x is k j less list o e = e ∙ (ap (λ i. slice_get (list_at l (x.base + i)) 0) list ∙ ap (λ us. slice_get us 0) (placed x is j less).2)
 
   pub rises : (k : ℕ) → IsRising (list_in v k)
-  rises k = AllPairs-filter (λ (u w : Numbered). u.number < w.number) (is_in (place_of v.waits.slots v.below) k) v.waits.waiting s.holds.waits.rising
+  rises k = AllPairs-filter (λ (u w : Numbered). u.number < w.number) (is_in (list_of v.waits.slots v.below) k) v.waits.waiting s.holds.waits.rising
 
   -- ---- an event comes
 
@@ -113,7 +113,7 @@ module _ (l : Lists) (ps : List Parking) (vs : List Parted) (are : AreParkings l
 
   -- ---- an event is set aside
 
-  aside_old : (a m : Lists) (w : Numbered) (c slot k : ℕ) (marks : Places) → c ≡ level_of w.event → c < 4 → own_first v c ≡ Some w → slot ≡ slot_of v.waits.slots w → k ≡ parked_place slot c → k < n
+  aside_old : (a m : Lists) (w : Numbered) (c slot k : ℕ) (marks : SmallSet) → c ≡ level_of w.event → c < 4 → own_first v c ≡ Some w → slot ≡ slot_of v.waits.slots w → k ≡ list_of_slot slot c → k < n
       → a ≡ without_first l (old.base + c) → m ≡ with_last a (old.base + k) w → Has marks slot → SameBut slot (marks_at old.parked c) marks
       → IsChanged m ps vs q (record old { below = set old.below c (w.number + 1); parked = set old.parked c marks }) (with_below v c (w.number + 1))
   aside_old a m w c slot k marks level less head is list within gone come has but =
@@ -128,12 +128,12 @@ module _ (l : Lists) (ps : List Parking) (vs : List Parted) (are : AreParkings l
       has but)
       s.count still
 
-  pub aside : (x : Parking) → x ≡ old → (a m : Lists) (w : Numbered) (c slot k : ℕ) (marks : Places) → c ≡ level_of w.event → c < 4 → own_first v c ≡ Some w → slot ≡ slot_of v.waits.slots w → k ≡ parked_place slot c → k < n
+  pub aside : (x : Parking) → x ≡ old → (a m : Lists) (w : Numbered) (c slot k : ℕ) (marks : SmallSet) → c ≡ level_of w.event → c < 4 → own_first v c ≡ Some w → slot ≡ slot_of v.waits.slots w → k ≡ list_of_slot slot c → k < n
       → a ≡ without_first l (x.base + c) → m ≡ with_last a (x.base + k) w → Has marks slot → SameBut slot (marks_at x.parked c) marks
       → IsChanged m ps vs q (record x { below = set x.below c (w.number + 1); parked = set x.parked c marks }) (with_below v c (w.number + 1))
   aside x is =
       subst
-      (λ (y : Parking). (a m : Lists) (w : Numbered) (c slot k : ℕ) (marks : Places) → c ≡ level_of w.event → c < 4 → own_first v c ≡ Some w → slot ≡ slot_of v.waits.slots w → k ≡ parked_place slot c → k < n
+      (λ (y : Parking). (a m : Lists) (w : Numbered) (c slot k : ℕ) (marks : SmallSet) → c ≡ level_of w.event → c < 4 → own_first v c ≡ Some w → slot ≡ slot_of v.waits.slots w → k ≡ list_of_slot slot c → k < n
       → a ≡ without_first l (y.base + c) → m ≡ with_last a (y.base + k) w → Has marks slot → SameBut slot (marks_at y.parked c) marks
       → IsChanged m ps vs q (record y { below = set y.below c (w.number + 1); parked = set y.parked c marks }) (with_below v c (w.number + 1)))
       (sym is) aside_old
@@ -141,7 +141,7 @@ module _ (l : Lists) (ps : List Parking) (vs : List Parted) (are : AreParkings l
   -- there is room for it in another list
   pub room_after : (x : Parking) → x ≡ old → (a : Lists) (c : ℕ) (w : Numbered) → c < 4 → Some w ≡ slice_get (list_at l (x.base + c)) 0 → a ≡ without_first l (x.base + c) → total_of a < a.room
   room_after x is a c w less first gone =
-      let one = total_without l (x.base + c) w (placed x is c (level_place c less)).0 (sym first) in
+      let one = total_without l (x.base + c) w (placed x is c (level_list c less)).0 (sym first) in
       let same = ap total_of gone in
       let room : a.room ≡ l.room = ap (λ (y : Lists). y.room) gone in
       let total = s.total in
@@ -150,7 +150,7 @@ module _ (l : Lists) (ps : List Parking) (vs : List Parted) (are : AreParkings l
 
   -- ---- a slot is no longer looked at
 
-  unmarked_old : (c slot k : ℕ) (marks : Places) (r : Option Numbered) → c < 4 → slot < v.waits.slots → k ≡ parked_place slot c → r ≡ slice_get (list_at l (old.base + k)) 0 → is_some r ≡ false → SameBut slot (marks_at old.parked c) marks → ¬ Has marks slot
+  unmarked_old : (c slot k : ℕ) (marks : SmallSet) (r : Option Numbered) → c < 4 → slot < v.waits.slots → k ≡ list_of_slot slot c → r ≡ slice_get (list_at l (old.base + k)) 0 → is_some r ≡ false → SameBut slot (marks_at old.parked c) marks → ¬ Has marks slot
       → IsChanged l ps vs q (record old { parked = set old.parked c marks }) v
   unmarked_old c slot k marks r level less list first none but gone =
       let slots : old.slots ≡ v.waits.slots = s.holds.slots in
@@ -158,11 +158,11 @@ module _ (l : Lists) (ps : List Parking) (vs : List Parted) (are : AreParkings l
       (mark_gone (kept l old) v c slot k s.holds level less list r marks (first ∙ ap (λ us. slice_get us 0) (sym (segment_at l old.base n k (omega arith)))) none but gone)
       s.count still
 
-  pub unmarked : (x : Parking) → x ≡ old → (c slot k : ℕ) (marks : Places) (r : Option Numbered) → c < 4 → slot < v.waits.slots → k ≡ parked_place slot c → r ≡ slice_get (list_at l (x.base + k)) 0 → is_some r ≡ false → SameBut slot (marks_at x.parked c) marks → ¬ Has marks slot
+  pub unmarked : (x : Parking) → x ≡ old → (c slot k : ℕ) (marks : SmallSet) (r : Option Numbered) → c < 4 → slot < v.waits.slots → k ≡ list_of_slot slot c → r ≡ slice_get (list_at l (x.base + k)) 0 → is_some r ≡ false → SameBut slot (marks_at x.parked c) marks → ¬ Has marks slot
       → IsChanged l ps vs q (record x { parked = set x.parked c marks }) v
   unmarked x is =
       subst
-      (λ (y : Parking). (c slot k : ℕ) (marks : Places) (r : Option Numbered) → c < 4 → slot < v.waits.slots → k ≡ parked_place slot c → r ≡ slice_get (list_at l (y.base + k)) 0 → is_some r ≡ false → SameBut slot (marks_at y.parked c) marks → ¬ Has marks slot
+      (λ (y : Parking). (c slot k : ℕ) (marks : SmallSet) (r : Option Numbered) → c < 4 → slot < v.waits.slots → k ≡ list_of_slot slot c → r ≡ slice_get (list_at l (y.base + k)) 0 → is_some r ≡ false → SameBut slot (marks_at y.parked c) marks → ¬ Has marks slot
       → IsChanged l ps vs q (record y { parked = set y.parked c marks }) v)
       (sym is) unmarked_old
 
@@ -204,11 +204,11 @@ module _ (l : Lists) (ps : List Parking) (vs : List Parted) (are : AreParkings l
       → (1 ≤ y.count) × IsChanged m ps vs q (record y { count = y.count - 1 }) (with_waits v (without_number v.waits i)))
       (sym is) headless_old
 
-  taken_old : (m : Lists) (c slot i k : ℕ) → c < 4 → slot < v.waits.slots → IsOnlyOf v.waits c slot i → k ≡ place_for v.below c slot i → m ≡ with_list l (old.base + k) (filter (is_other i) (list_at l (old.base + k)))
+  taken_old : (m : Lists) (c slot i k : ℕ) → c < 4 → slot < v.waits.slots → IsOnlyOf v.waits c slot i → k ≡ list_of_number v.below c slot i → m ≡ with_list l (old.base + k) (filter (is_other i) (list_at l (old.base + k)))
       → (total_of m ≤ total_of l) × (total_of l - total_of m ≤ old.count) × IsChanged m ps vs q (record old { count = old.count - (total_of l - total_of m) }) (with_waits v (without_number v.waits i))
   taken_old m c slot i k level less only list gone =
       let slots : old.slots ≡ v.waits.slots = s.holds.slots in
-      let within : k < n = subst (λ j. k < places j) (sym slots) (subst (λ j. j < places v.waits.slots) (sym list) (place_for_within v.below c slot i v.waits.slots level less)) in
+      let within : k < n = subst (λ j. k < places j) (sym slots) (subst (λ j. j < places v.waits.slots) (sym list) (list_of_number_within v.below c slot i v.waits.slots level less)) in
       let moved : segment m old.base n ≡ with_list (segment l old.base n) k (filter (is_other i) (list_at (segment l old.base n) k)) =
       ap (λ (x : Lists). segment x old.base n) gone ∙ (segment_with l old.base n k (filter (is_other i) (list_at l (old.base + k))) within s.within
       ∙ ap (λ us. with_list (segment l old.base n) k (filter (is_other i) us)) (sym (segment_at l old.base n k within))) in
@@ -224,10 +224,10 @@ module _ (l : Lists) (ps : List Parking) (vs : List Parted) (are : AreParkings l
         changed m (record old { count = old.count - (total_of l - total_of m) }) (with_waits v (without_number v.waits i)) refl refl but holds (omega arith) (let total = s.total in let bound = s.bound in omega arith),
       )
 
-  pub taken : (x : Parking) → x ≡ old → (m : Lists) (c slot i k : ℕ) → c < 4 → slot < v.waits.slots → IsOnlyOf v.waits c slot i → k ≡ place_for v.below c slot i → m ≡ with_list l (x.base + k) (filter (is_other i) (list_at l (x.base + k)))
+  pub taken : (x : Parking) → x ≡ old → (m : Lists) (c slot i k : ℕ) → c < 4 → slot < v.waits.slots → IsOnlyOf v.waits c slot i → k ≡ list_of_number v.below c slot i → m ≡ with_list l (x.base + k) (filter (is_other i) (list_at l (x.base + k)))
       → (total_of m ≤ total_of l) × (total_of l - total_of m ≤ x.count) × IsChanged m ps vs q (record x { count = x.count - (total_of l - total_of m) }) (with_waits v (without_number v.waits i))
   taken x is =
       subst
-      (λ (y : Parking). (m : Lists) (c slot i k : ℕ) → c < 4 → slot < v.waits.slots → IsOnlyOf v.waits c slot i → k ≡ place_for v.below c slot i → m ≡ with_list l (y.base + k) (filter (is_other i) (list_at l (y.base + k)))
+      (λ (y : Parking). (m : Lists) (c slot i k : ℕ) → c < 4 → slot < v.waits.slots → IsOnlyOf v.waits c slot i → k ≡ list_of_number v.below c slot i → m ≡ with_list l (y.base + k) (filter (is_other i) (list_at l (y.base + k)))
       → (total_of m ≤ total_of l) × (total_of l - total_of m ≤ y.count) × IsChanged m ps vs q (record y { count = y.count - (total_of l - total_of m) }) (with_waits v (without_number v.waits i)))
       (sym is) taken_old

@@ -2,24 +2,24 @@
 use Rattle.std.proofs.Common.{◌≡◌, ◌≢◌, ℕ, suc, ◌-◌, ◌<◌, List, [], ◌∷◌, ◌++◌, length, drop, Option, Some, IsSome, Vec, refl, sym, ap, subst, ◌∙◌, arith, slice_get, slice_set, vec_len}
 use Rattle.std.specs.declared.alloc.Global.{Global}
 use Rattle.evt_types.specs.declared.event.Numbered.{Numbered}
-use Rattle.parked_queue.specs.Chains.{next_of, item_then, path, items, final, path_of, events_of, shorter, IsFresh, ArePlaces}
+use Rattle.parked_queue.specs.Chains.{next_of, item_then, path, items, final, path_of, events_of, shorter, IsFresh, AreNodes}
 use Rattle.parked_queue.specs.Store.{AreChains, chain_at}
 use Rattle.parked_queue.specs.declared.chain.Chain.{Chain}
 use Rattle.parked_queue.specs.declared.chain.Node.{Node}
-use Rattle.parked_queue.proofs.Nodes.{place_within}
+use Rattle.parked_queue.proofs.Nodes.{list_within}
 use Rattle.parked_queue.proofs.Paths.{final_rest, length_path, path_first, fresh_other, places_kept, places_longer}
 use Rattle.parked_queue.proofs.Stores.{owner_with, owned_new, owned_other, store_with}
 
 -- a path that is not empty has a node at its first place
-pub first_place : (at : ℕ → Option Node) (owner : ℕ → ℕ) (k h n : ℕ) → 0 < n → ArePlaces at owner k (path at h n) → IsSome (at h)
+pub first_place : (at : ℕ → Option Node) (owner : ℕ → ℕ) (k h n : ℕ) → 0 < n → AreNodes at owner k (path at h n) → IsSome (at h)
 first_place at owner k h n some p =
-    let placed : ArePlaces at owner k (h ∷ path at (next_of (at h)) (n - 1)) = subst (ArePlaces at owner k) (path_first at h n some) p in
+    let placed : AreNodes at owner k (h ∷ path at (next_of (at h)) (n - 1)) = subst (AreNodes at owner k) (path_first at h n some) p in
     placed.0
 
-pub rest_places : (at : ℕ → Option Node) (owner : ℕ → ℕ) (k h m : ℕ) (n : Node) → 0 < m → at h ≡ Some n → ArePlaces at owner k (path at h m) → ArePlaces at owner k (path at n.next (m - 1))
+pub rest_places : (at : ℕ → Option Node) (owner : ℕ → ℕ) (k h m : ℕ) (n : Node) → 0 < m → at h ≡ Some n → AreNodes at owner k (path at h m) → AreNodes at owner k (path at n.next (m - 1))
 rest_places at owner k h m n some e p =
-    let placed : ArePlaces at owner k (h ∷ path at (next_of (at h)) (m - 1)) = subst (ArePlaces at owner k) (path_first at h m some) p in
-    subst (λ (o : Option Node). ArePlaces at owner k (path at (next_of o) (m - 1))) e placed.3
+    let placed : AreNodes at owner k (h ∷ path at (next_of (at h)) (m - 1)) = subst (AreNodes at owner k) (path_first at h m some) p in
+    subst (λ (o : Option Node). AreNodes at owner k (path at (next_of o) (m - 1))) e placed.3
 
 -- its events are that of the node, and those behind it
 pub first_event : (at : ℕ → Option Node) (h m : ℕ) (n : Node) → 0 < m → at h ≡ Some n → items at (path at h m) ≡ n.item ∷ items at (path at n.next (m - 1))
@@ -32,7 +32,7 @@ module _ (at : ℕ → Option Node) (cs : List Chain) (k : ℕ) (c : Chain) (rea
   pub first_read : (free : List ℕ) → AreChains at free cs → 0 < c.len → IsSome (at c.first)
   first_read free d some =
       first_place at d.owner (suc k) c.first c.len some
-      (subst (λ (x : Chain). ArePlaces at d.owner (suc k) (path_of at x)) (sym read) (d.places k))
+      (subst (λ (x : Chain). AreNodes at d.owner (suc k) (path_of at x)) (sym read) (d.places k))
 
   pub front_read : (n : Node) → 0 < c.len → at c.first ≡ Some n → Some n.item ≡ slice_get (events_of at (chain_at cs k)) 0
   front_read n some e =
@@ -40,7 +40,7 @@ module _ (at : ℕ → Option Node) (cs : List Chain) (k : ℕ) (c : Chain) (rea
       (sym (first_event at c.first c.len n some e) ∙ ap (events_of at) read)
 
 pub first_within : (nodes : Vec Node Global) (free : List ℕ) (cs : List Chain) (k : ℕ) (c : Chain) → c ≡ chain_at cs k → AreChains (slice_get nodes.items) free cs → 0 < c.len → c.first < vec_len nodes
-first_within nodes free cs k c read d some = place_within nodes c.first (first_read (slice_get nodes.items) cs k c read free d some)
+first_within nodes free cs k c read d some = list_within nodes c.first (first_read (slice_get nodes.items) cs k c read free d some)
 
 module _ (at : ℕ → Option Node) (free : List ℕ) (cs : List Chain) (k : ℕ) (n : Node) (there : k < length cs) (d : AreChains at free cs) (some : 0 < (chain_at cs k).len) (found : at (chain_at cs k).first ≡ Some n) where
   abbrev rest : List ℕ
@@ -51,26 +51,26 @@ module _ (at : ℕ → Option Node) (free : List ℕ) (cs : List Chain) (k : ℕ
       path_first at (chain_at cs k).first (chain_at cs k).len some
       ∙ ap (λ (o : Option Node). (chain_at cs k).first ∷ path at (next_of o) ((chain_at cs k).len - 1)) found
 
-  placed : ArePlaces at d.owner (suc k) ((chain_at cs k).first ∷ rest)
-  placed = subst (ArePlaces at d.owner (suc k)) path_split (d.places k)
+  placed : AreNodes at d.owner (suc k) ((chain_at cs k).first ∷ rest)
+  placed = subst (AreNodes at d.owner (suc k)) path_split (d.places k)
 
   abbrev owner_new : ℕ → ℕ
   owner_new = owner_with d.owner (chain_at cs k).first 0
 
-  fresh_first : (m : ℕ) (is : List ℕ) → m ≢ suc k → ArePlaces at d.owner m is → IsFresh (chain_at cs k).first is
+  fresh_first : (m : ℕ) (is : List ℕ) → m ≢ suc k → AreNodes at d.owner m is → IsFresh (chain_at cs k).first is
   fresh_first m is differs p =
       fresh_other at d.owner m (chain_at cs k).first is
       (λ (e : d.owner (chain_at cs k).first ≡ m). differs (sym e ∙ placed.1))
       p
 
-  places_at : (m : ℕ) (is : List ℕ) → IsFresh (chain_at cs k).first is → ArePlaces at d.owner m is → ArePlaces at owner_new m is
+  places_at : (m : ℕ) (is : List ℕ) → IsFresh (chain_at cs k).first is → AreNodes at d.owner m is → AreNodes at owner_new m is
   places_at m is f p =
       places_kept at at d.owner owner_new m (chain_at cs k).first is
       (λ (x : ℕ) (differs : x ≢ (chain_at cs k).first) (s : IsSome (at x)). s)
       (owned_other d.owner (chain_at cs k).first 0)
       f p
 
-  places_other : (m : ℕ) (is : List ℕ) → m ≢ suc k → ArePlaces at d.owner m is → ArePlaces at owner_new m is
+  places_other : (m : ℕ) (is : List ℕ) → m ≢ suc k → AreNodes at d.owner m is → AreNodes at owner_new m is
   places_other m is differs p = places_at m is (fresh_first m is differs p) p
 
   last_rest : 0 < (chain_at cs k).len - 1 → final 0 rest ≡ (chain_at cs k).last

@@ -13,7 +13,7 @@ use Rattle.lists.proofs.Sums.{sum_of_map}
 use Rattle.evt_types.specs.declared.event.Delivery.{Delivery}
 use Rattle.evt_types.specs.declared.event.Numbered.{Numbered}
 use Rattle.parked_queue.specs.Merge.{is_in}
-use Rattle.parked_queue.specs.Parted.{Parted, list_in, place_of, places}
+use Rattle.parked_queue.specs.Parted.{Parted, list_in, list_of, places}
 use Rattle.parked_queue.specs.Parts.{all_parts, parts_of}
 use Rattle.parked_queue.specs.Waits.{AreWaits}
 use Rattle.parked_queue.proofs.Holding.{back}
@@ -145,7 +145,7 @@ joined_each P g (k ∷ ks) each = All-append P (g k) (flat_map g ks) (each k) (j
 -- what holds of all that waits holds of what is in the lists
 parts_each : (P : Numbered → Type 0) (v : Parted) → All P v.waits.waiting → All P (all_parts v)
 parts_each P v all =
-    joined_each P (λ k. list_in v k) (range_with_len 0 (places v.waits.slots)) (λ k. All-filter (is_in (place_of v.waits.slots v.below) k) P v.waits.waiting all)
+    joined_each P (λ k. list_in v k) (range_with_len 0 (places v.waits.slots)) (λ k. All-filter (is_in (list_of v.waits.slots v.below) k) P v.waits.waiting all)
 
 delivered_sum : (f : Delivery → ℕ) (q : ℕ) (v : Parted) → AreWaits v.waits → sum_by f (map (delivery_of q) (all_parts v)) ≡ sum_by f (map (delivery_of q) v.waits.waiting)
 delivered_sum f q v waits =

@@ -8,22 +8,22 @@ use Rattle.std.proofs.lemmas.Option.{slice_get_within}
 use Rattle.evt_types.specs.Plan.{level_of}
 use Rattle.evt_types.specs.declared.event.Event.{Event}
 use Rattle.evt_types.specs.declared.event.Numbered.{Numbered}
-use Rattle.place_set.specs.Places.{Has, IsEmpty, SameBut}
-use Rattle.place_set.specs.declared.places.Places.{Places}
+use Rattle.small_set.specs.SmallSets.{Has, IsEmpty, SameBut}
+use Rattle.small_set.specs.declared.set.SmallSet.{SmallSet}
 use Rattle.parked_queue.specs.Merge.{is_in}
-use Rattle.parked_queue.specs.Parted.{Parted, HasMarks, HasNoneParked, below_at, list_in, place_of, with_below}
+use Rattle.parked_queue.specs.Parted.{Parted, HasMarks, HasNoneParked, below_at, list_in, list_of, with_below}
 use Rattle.parked_queue.specs.Waits.{Waits, AreLevels, AreWaits, HasNoneAllowed, HasNoneOf, IsFirstAllowed, is_other, slot_of, with_event, without_number}
-use Rattle.parked_queue.proofs.Holding.{place_if_not}
+use Rattle.parked_queue.proofs.Holding.{list_if_not}
 use Rattle.parked_queue.proofs.Parks.{level_of_own, list_after, older}
 use Rattle.parked_queue.proofs.Splits.{Split, first_alone, first_least, first_split, first_there, none_first}
 
 -- an event of the level that is not parked is in the level's own list
-is_main : (slots : ℕ) (below : List ℕ) (c : ℕ) (u : Numbered) → level_of u.event ≡ c → below_at below c ≤ u.number → is_in (place_of slots below) c u ≡ true
-is_main slots below c u here le = eq-eqb (place_of slots below u) c (place_if_not slots below u (subst (λ k. below_at below k ≤ u.number) (sym here) le) ∙ here)
+is_main : (slots : ℕ) (below : List ℕ) (c : ℕ) (u : Numbered) → level_of u.event ≡ c → below_at below c ≤ u.number → is_in (list_of slots below) c u ≡ true
+is_main slots below c u here le = eq-eqb (list_of slots below u) c (list_if_not slots below u (subst (λ k. below_at below k ≤ u.number) (sym here) le) ∙ here)
 
-module _ (v : Parted) (c : ℕ) (allowed : Places) (waits : AreWaits v.waits) (lt : c < 4) (none : HasNoneParked v c allowed) where
+module _ (v : Parted) (c : ℕ) (allowed : SmallSet) (waits : AreWaits v.waits) (lt : c < 4) (none : HasNoneParked v c allowed) where
   abbrev test : Numbered → Bool
-  test = is_in (place_of v.waits.slots v.below) c
+  test = is_in (list_of v.waits.slots v.below) c
 
   -- nothing is left in the level's own list
   pub none_left : slice_get (list_in v c) 0 ≡ None → HasNoneAllowed v.waits c allowed
@@ -79,16 +79,16 @@ none_is None e = λ i. None
 none_is (Some w) e = absurd (false≢true (sym e))
 
 -- the level's own list is empty, and none of its slots is marked
-pub none_of_level : (v : Parted) (c : ℕ) (marks : Places) → HasMarks v c marks → IsEmpty marks → slice_get (list_in v c) 0 ≡ None → HasNoneOf v.waits c
+pub none_of_level : (v : Parted) (c : ℕ) (marks : SmallSet) → HasMarks v c marks → IsEmpty marks → slice_get (list_in v c) 0 ≡ None → HasNoneOf v.waits c
 none_of_level v c marks has empty e k d h =
     let u : Numbered = get_or v.waits.waiting k d in
     λ here. ⊎_elim
     (λ lower. empty (slot_of v.waits.slots u) (has.marked k d h here lower))
-    (λ le. false≢true (sym (none_first (is_in (place_of v.waits.slots v.below) c) v.waits.waiting e k d h) ∙ is_main v.waits.slots v.below c u here le))
+    (λ le. false≢true (sym (none_first (is_in (list_of v.waits.slots v.below) c) v.waits.waiting e k d h) ∙ is_main v.waits.slots v.below c u here le))
     (cases_lt u.number (below_at v.below c))
 
 -- the level of an event that comes is added
-pub levels_with : (v : Waits) (e : Event) (was now : Places) → level_of e < 4 → Has now (level_of e) → SameBut (level_of e) was now → AreLevels v was → AreLevels (with_event v e) now
+pub levels_with : (v : Waits) (e : Event) (was now : SmallSet) → level_of e < 4 → Has now (level_of e) → SameBut (level_of e) was now → AreLevels v was → AreLevels (with_event v e) now
 levels_with v e was now lt here others levels =
     record {
       there = λ k has. ⊎_elim (λ same. subst (λ n. n < 4) (sym same) lt) (λ ne. levels.there k ((others k ne).0 has)) (cases_eq k (level_of e));
@@ -98,5 +98,5 @@ levels_with v e was now lt here others levels =
     }
 
 -- an event that goes leaves no other level
-pub levels_without : (v : Waits) (n : ℕ) (levels : Places) → AreLevels v levels → AreLevels (without_number v n) levels
+pub levels_without : (v : Waits) (n : ℕ) (levels : SmallSet) → AreLevels v levels → AreLevels (without_number v n) levels
 levels_without v n levels are = record { there = are.there; rest = λ k never. All-filter (is_other n) (λ (u : Numbered). level_of u.event ≢ k) v.waiting (are.rest k never) }

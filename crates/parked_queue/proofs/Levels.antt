@@ -2,21 +2,21 @@
 use Rattle.std.proofs.Common.{◌≡◌, ℕ, zero, suc, ◌<◌, List, [], ◌∷◌, length, replicate, set, get_or, sym, subst, arith, ⊎_elim}
 use Rattle.std.proofs.lemmas.Bool.{cases_eq}
 use Rattle.std.proofs.lemmas.List.{get_or-replicate, get_or-set_other, get_or-set_same, get_or_default, length-map, length-replicate, length-set}
-use Rattle.place_set.specs.Places.{Has}
-use Rattle.place_set.specs.declared.places.Places.{Places}
+use Rattle.small_set.specs.SmallSets.{Has}
+use Rattle.small_set.specs.declared.set.SmallSet.{SmallSet}
 use Rattle.parked_queue.specs.Levels.{HaveLevels, levels_at}
 use Rattle.parked_queue.specs.Waits.{AreLevels, HasNoneOf, Waits, all_empty, no_waits, no_waits_of, waits_at}
 
-module _ (qs : List Waits) (ls : List Places) (q : ℕ) (have : HaveLevels qs ls) (lt : q < length qs) where
+module _ (qs : List Waits) (ls : List SmallSet) (q : ℕ) (have : HaveLevels qs ls) (lt : q < length qs) where
   pub levels_there : q < length ls
   levels_there = let e = have.count in omega arith
 
   -- the levels as they are read
-  pub levels_read : (d : Places) → get_or ls q d ≡ levels_at ls q
+  pub levels_read : (d : SmallSet) → get_or ls q d ≡ levels_at ls q
   levels_read d = get_or_default ls q d (record { bits = 0 }) levels_there
 
   -- another queue and other levels at one place
-  pub levels_set : (w : Waits) (l : Places) → AreLevels w l → HaveLevels (set qs q w) (set ls q l)
+  pub levels_set : (w : Waits) (l : SmallSet) → AreLevels w l → HaveLevels (set qs q w) (set ls q l)
   levels_set w l are =
       let a = length-set qs q w in
       let b = length-set ls q l in
@@ -45,7 +45,7 @@ module _ (qs : List Waits) (ls : List Places) (q : ℕ) (have : HaveLevels qs ls
       }
 
 -- nothing waits, of no level
-pub levels_new : (room : ℕ) (slots : List ℕ) (none : Places) → ((k : ℕ) → ¬ Has none k) → HaveLevels (all_empty room slots) (replicate (length slots) none)
+pub levels_new : (room : ℕ) (slots : List ℕ) (none : SmallSet) → ((k : ℕ) → ¬ Has none k) → HaveLevels (all_empty room slots) (replicate (length slots) none)
 levels_new room slots none empty =
     let a = length-map slots (no_waits_of room) in
     let b = length-replicate (length slots) none in

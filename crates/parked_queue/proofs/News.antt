@@ -8,8 +8,8 @@ use Rattle.std.proofs.lemmas.List.Sums.{sum_by-cons}
 use Rattle.std.proofs.lemmas.Nat.Bits.{bit_at-zero}
 use Rattle.lists.proofs.Ranges.{mapped_at, mapped_same}
 use Rattle.evt_types.specs.declared.event.Numbered.{Numbered}
-use Rattle.place_set.specs.Places.{Has}
-use Rattle.place_set.specs.declared.places.Places.{Places}
+use Rattle.small_set.specs.SmallSets.{Has}
+use Rattle.small_set.specs.declared.set.SmallSet.{SmallSet}
 use Rattle.parked_queue.specs.Lists.{Lists, list_at, total_of}
 use Rattle.parked_queue.specs.Lists as lists
 use Rattle.parked_queue.specs.Marks.{Kept, mask_of}
@@ -98,7 +98,7 @@ segment_none n room b k =
     (mapped_same (λ j. []) (λ j. list_at (lists.all_empty n room) (b + j)) k (λ j lt. none_at n room (b + j))
     ∙ sym (fill_by_all (λ j. []) (replicate k []) k [] (length-replicate k []) (λ j h. get_or-replicate k j [] [] h)))
 
-same_kept : (l m : Lists) (s t i j x y : ℕ) (b c : List ℕ) (p q : List Places) → l ≡ m → s ≡ t → i ≡ j → b ≡ c → p ≡ q → x ≡ y
+same_kept : (l m : Lists) (s t i j x y : ℕ) (b c : List ℕ) (p q : List SmallSet) → l ≡ m → s ≡ t → i ≡ j → b ≡ c → p ≡ q → x ≡ y
     → ◌≡◌ {A = Kept} (record { lists = l; slots = s; mask = i; below = b; parked = p; next = x }) (record { lists = m; slots = t; mask = j; below = c; parked = q; next = y })
 same_kept l m s t i j x y b c p q e f g h k o = cc
 

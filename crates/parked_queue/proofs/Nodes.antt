@@ -16,8 +16,8 @@ some_within [] i s = absurd (let e : false ≡ true = s in cc)
 some_within (n ∷ ns) zero s = omega arith
 some_within (n ∷ ns) (suc i) s = omega (arith, some_within ns i s)
 
-pub place_within : (nodes : Vec Node Global) (i : ℕ) → IsSome (slice_get nodes.items i) → i < vec_len nodes
-place_within nodes i s = omega (arith, some_within nodes.items i s, nodes.ok.0)
+pub list_within : (nodes : Vec Node Global) (i : ℕ) → IsSome (slice_get nodes.items i) → i < vec_len nodes
+list_within nodes i s = omega (arith, some_within nodes.items i s, nodes.ok.0)
 
 -- ---- another node at a place
 

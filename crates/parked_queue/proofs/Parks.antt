@@ -6,42 +6,42 @@ use Rattle.std.proofs.lemmas.List.Elements.{All-contains, All-tail}
 use Rattle.lists.proofs.Lists.{All-back, eqb_is, eqb_other}
 use Rattle.evt_types.specs.Plan.{level_of}
 use Rattle.evt_types.specs.declared.event.Numbered.{Numbered}
-use Rattle.place_set.specs.Places.{Has, SameBut}
-use Rattle.place_set.specs.declared.places.Places.{Places}
+use Rattle.small_set.specs.SmallSets.{Has, SameBut}
+use Rattle.small_set.specs.declared.set.SmallSet.{SmallSet}
 use Rattle.parked_queue.specs.Lists.{Lists, list_at, total_of, with_last, without_first}
 use Rattle.parked_queue.specs.Marks.{Kept, AreMarks, marks_at}
 use Rattle.parked_queue.specs.Merge.{is_in, in_list, lists_of}
-use Rattle.parked_queue.specs.Parted.{Parted, below_at, list_in, own_first, parked_place, place_of, places, with_below}
+use Rattle.parked_queue.specs.Parted.{Parted, below_at, list_in, own_first, list_of_slot, list_of, places, with_below}
 use Rattle.parked_queue.specs.Waits.{AreWaits, slot_of}
 use Rattle.parked_queue.proofs.Accepting.{total_held}
 use Rattle.parked_queue.proofs.Totals.{total_without}
-use Rattle.parked_queue.proofs.Holding.{Holds, count_held, list_held, place_if_not, place_if_parked, slot_within}
+use Rattle.parked_queue.proofs.Holding.{Holds, count_held, list_held, list_if_not, list_if_parked, slot_within}
 use Rattle.parked_queue.proofs.Splits.{Split, first_alone, first_least, first_split, first_there, left, lists_moved}
 
 -- where it says of an event in a level's own list
-pub in_main : (slots : ℕ) (below : List ℕ) (c : ℕ) (u : Numbered) → c < 4 → level_of u.event < 4 → is_in (place_of slots below) c u ≡ true → (level_of u.event ≡ c) × (below_at below c ≤ u.number)
+pub in_main : (slots : ℕ) (below : List ℕ) (c : ℕ) (u : Numbered) → c < 4 → level_of u.event < 4 → is_in (list_of slots below) c u ≡ true → (level_of u.event ≡ c) × (below_at below c ≤ u.number)
 in_main slots below c u lt level e =
-    let same : place_of slots below u ≡ c = eqb_is (place_of slots below u) c e in
+    let same : list_of slots below u ≡ c = eqb_is (list_of slots below u) c e in
     ⊎_elim
-    (λ parked. let p = place_if_parked slots below u parked in absurd (omega arith))
-    (λ not_parked. let p : place_of slots below u ≡ level_of u.event = place_if_not slots below u not_parked in let here : level_of u.event ≡ c = sym p ∙ same in (here, subst (λ k. below_at below k ≤ u.number) here not_parked))
+    (λ parked. let p = list_if_parked slots below u parked in absurd (omega arith))
+    (λ not_parked. let p : list_of slots below u ≡ level_of u.event = list_if_not slots below u not_parked in let here : level_of u.event ≡ c = sym p ∙ same in (here, subst (λ k. below_at below k ≤ u.number) here not_parked))
     (cases_lt u.number (below_at below (level_of u.event)))
 
 -- the first event of a level's own list is of the level
 pub level_of_own : (v : Parted) (c : ℕ) (w : Numbered) → AreWaits v.waits → c < 4 → own_first v c ≡ Some w → c ≡ level_of w.event
 level_of_own v c w waits lt head =
-    let main : Split (is_in (place_of v.waits.slots v.below) c) v.waits.waiting w = first_split (is_in (place_of v.waits.slots v.below) c) v.waits.waiting w waits.rising head in
-    sym (in_main v.waits.slots v.below c w lt (All-contains (λ (u : Numbered). level_of u.event < 4) v.waits.waiting w waits.levels (first_there (is_in (place_of v.waits.slots v.below) c) v.waits.waiting w main)) main.is.here).0
+    let main : Split (is_in (list_of v.waits.slots v.below) c) v.waits.waiting w = first_split (is_in (list_of v.waits.slots v.below) c) v.waits.waiting w waits.rising head in
+    sym (in_main v.waits.slots v.below c w lt (All-contains (λ (u : Numbered). level_of u.event < 4) v.waits.waiting w waits.levels (first_there (is_in (list_of v.waits.slots v.below) c) v.waits.waiting w main)) main.is.here).0
 
 module _ (v : Parted) (w : Numbered) (c : ℕ) (waits : AreWaits v.waits) (level : c ≡ level_of w.event) (lt : c < 4) (four : length v.below ≡ 4) (head : slice_get (list_in v c) 0 ≡ Some w) where
   abbrev pub grown : List ℕ
   grown = set v.below c (w.number + 1)
 
   abbrev was : Numbered → ℕ
-  was = place_of v.waits.slots v.below
+  was = list_of v.waits.slots v.below
 
   abbrev becomes : Numbered → ℕ
-  becomes = place_of v.waits.slots grown
+  becomes = list_of v.waits.slots grown
 
   pub split : Split (is_in was c) v.waits.waiting w
   split = first_split (is_in was c) v.waits.waiting w waits.rising head
@@ -57,10 +57,10 @@ module _ (v : Parted) (w : Numbered) (c : ℕ) (waits : AreWaits v.waits) (level
   grown_other k differs = get_or-set_other v.below c k (w.number + 1) 0 differs
 
   abbrev there : ℕ
-  there = parked_place (slot_of v.waits.slots w) c
+  there = list_of_slot (slot_of v.waits.slots w) c
 
-  comes : becomes w ≡ parked_place (slot_of v.waits.slots w) c
-  comes = place_if_parked v.waits.slots grown w (let e = grown_here in subst (λ k. w.number < below_at grown k) level (omega arith)) ∙ ap (λ k. parked_place (slot_of v.waits.slots w) k) (sym level)
+  comes : becomes w ≡ list_of_slot (slot_of v.waits.slots w) c
+  comes = list_if_parked v.waits.slots grown w (let e = grown_here in subst (λ k. w.number < below_at grown k) level (omega arith)) ∙ ap (λ k. list_of_slot (slot_of v.waits.slots w) k) (sym level)
 
   leaves : was w ≡ c
   leaves = eqb_is (was w) c split.is.here
@@ -69,15 +69,15 @@ module _ (v : Parted) (w : Numbered) (c : ℕ) (waits : AreWaits v.waits) (level
   same_place u h =
       ⊎_elim
       (λ here. ⊎_elim
-      (λ lower. let e = grown_here in let le = not_parked in place_if_parked v.waits.slots grown u (subst (λ k. u.number < below_at grown k) (sym here) (omega arith)) ∙ sym (place_if_parked v.waits.slots v.below u (subst (λ k. u.number < below_at v.below k) (sym here) lower)))
-      (λ higher. let e = grown_here in let le = not_parked in place_if_not v.waits.slots grown u (subst (λ k. below_at grown k ≤ u.number) (sym here) (omega arith)) ∙ sym (place_if_not v.waits.slots v.below u (subst (λ k. below_at v.below k ≤ u.number) (sym here) (omega arith))))
+      (λ lower. let e = grown_here in let le = not_parked in list_if_parked v.waits.slots grown u (subst (λ k. u.number < below_at grown k) (sym here) (omega arith)) ∙ sym (list_if_parked v.waits.slots v.below u (subst (λ k. u.number < below_at v.below k) (sym here) lower)))
+      (λ higher. let e = grown_here in let le = not_parked in list_if_not v.waits.slots grown u (subst (λ k. below_at grown k ≤ u.number) (sym here) (omega arith)) ∙ sym (list_if_not v.waits.slots v.below u (subst (λ k. below_at v.below k ≤ u.number) (sym here) (omega arith))))
       (h here))
-      (λ elsewhere. ap (λ n. cond (nat_lt u.number n) (parked_place (slot_of v.waits.slots u) (level_of u.event)) (level_of u.event)) (grown_other (level_of u.event) elsewhere))
+      (λ elsewhere. ap (λ n. cond (nat_lt u.number n) (list_of_slot (slot_of v.waits.slots u) (level_of u.event)) (level_of u.event)) (grown_other (level_of u.event) elsewhere))
       (cases_eq (level_of u.event) c)
 
   -- an event of the level that is not parked is in the level's own list
   stands : (u : Numbered) → level_of u.event ≡ c → below_at v.below c ≤ u.number → is_in was c u ≡ true
-  stands u here le = eq-eqb (was u) c (place_if_not v.waits.slots v.below u (subst (λ k. below_at v.below k ≤ u.number) (sym here) le) ∙ here)
+  stands u here le = eq-eqb (was u) c (list_if_not v.waits.slots v.below u (subst (λ k. below_at v.below k ≤ u.number) (sym here) le) ∙ here)
 
   as_before : All (λ (u : Numbered). becomes u ≡ was u) split.before
   as_before k d h =
@@ -100,11 +100,11 @@ module _ (v : Parted) (w : Numbered) (c : ℕ) (waits : AreWaits v.waits) (level
           let le = not_parked in
           ⊎_elim
           (λ parked.
-          let p = place_if_parked v.waits.slots v.below u parked in
+          let p = list_if_parked v.waits.slots v.below u parked in
           let here : level_of u.event ≡ c = omega arith in
           let lower : u.number < below_at v.below c = subst (λ k. u.number < below_at v.below k) here parked in
           omega arith)
-          (λ main. let p = place_if_not v.waits.slots v.below u main in omega arith)
+          (λ main. let p = list_if_not v.waits.slots v.below u main in omega arith)
           (cases_lt u.number (below_at v.below (level_of u.event)))
 
   apart : there ≢ c
@@ -129,7 +129,7 @@ module _ (v : Parted) (w : Numbered) (c : ℕ) (waits : AreWaits v.waits) (level
       let u : Numbered = get_or v.waits.waiting k d in
       λ here lower. ⊎_elim (λ lt. lt) (λ le. let least : w.number ≤ u.number = first_least (is_in was c) v.waits.waiting w split k d h (stands u here le) in absurd (omega arith)) (cases_lt u.number (below_at v.below c))
 
-  module _ (ps : List Places) (p : Places) (marks : AreMarks v ps) (five : length ps ≡ 4) (has : Has p (slot_of v.waits.slots w)) (but : SameBut (slot_of v.waits.slots w) (marks_at ps c) p) where
+  module _ (ps : List SmallSet) (p : SmallSet) (marks : AreMarks v ps) (five : length ps ≡ 4) (has : Has p (slot_of v.waits.slots w)) (but : SameBut (slot_of v.waits.slots w) (marks_at ps c) p) where
     marks_here : marks_at (set ps c p) c ≡ p
     marks_here = get_or-set_same ps c p (record { bits = 0 }) (omega arith)
 
@@ -176,7 +176,7 @@ module _ (v : Parted) (w : Numbered) (c : ℕ) (waits : AreWaits v.waits) (level
 
 module _ (a : Kept) (v : Parted) (w : Numbered) (c : ℕ) (h : Holds a v) (level : c ≡ level_of w.event) (lt : c < 4) (head : slice_get (list_in v c) 0 ≡ Some w) where
   abbrev aside : ℕ
-  aside = parked_place (slot_of v.waits.slots w) c
+  aside = list_of_slot (slot_of v.waits.slots w) c
 
   pub aside_within : aside < places v.waits.slots
   aside_within = let slot = slot_within v.waits.slots w h.waits.some in omega arith
@@ -184,7 +184,7 @@ module _ (a : Kept) (v : Parted) (w : Numbered) (c : ℕ) (h : Holds a v) (level
   pub main_within : c < places v.waits.slots
   main_within = let some = h.waits.some in omega arith
 
-  pub lists_parked : (l : Lists) → l ≡ with_last (without_first a.lists c) aside w → l.lists ≡ lists_of (place_of v.waits.slots (set v.below c (w.number + 1))) 0 (places v.waits.slots) v.waits.waiting
+  pub lists_parked : (l : Lists) → l ≡ with_last (without_first a.lists c) aside w → l.lists ≡ lists_of (list_of v.waits.slots (set v.below c (w.number + 1))) 0 (places v.waits.slots) v.waits.waiting
   lists_parked l is =
       ap (λ (x : Lists). x.lists) is
       ∙ (ap (λ us. set (set a.lists.lists c (drop 1 us)) aside (get_or (set a.lists.lists c (drop 1 us)) aside [] ++ w ∷ [])) (list_held a v c h main_within)
@@ -197,12 +197,12 @@ module _ (a : Kept) (v : Parted) (w : Numbered) (c : ℕ) (h : Holds a v) (level
       ⊎_elim
       (λ same.
       let e : below_at (set v.below c (w.number + 1)) k ≡ w.number + 1 = ap (below_at (set v.below c (w.number + 1))) same ∙ grown_here v w c h.waits level lt h.four head in
-      let less : w.number < v.waits.next = All-contains (λ (u : Numbered). u.number < v.waits.next) v.waits.waiting w h.waits.below (first_there (is_in (place_of v.waits.slots v.below) c) v.waits.waiting w (split v w c h.waits level lt h.four head)) in
+      let less : w.number < v.waits.next = All-contains (λ (u : Numbered). u.number < v.waits.next) v.waits.waiting w h.waits.below (first_there (is_in (list_of v.waits.slots v.below) c) v.waits.waiting w (split v w c h.waits level lt h.four head)) in
       omega arith)
       (λ differs. let e = grown_other v w c h.waits level lt h.four head k differs in let b = h.bounds k in omega arith)
       (cases_eq k c)
 
-  pub parked_held : (l : Lists) (p : Places) → l ≡ with_last (without_first a.lists c) aside w → Has p (slot_of v.waits.slots w) → SameBut (slot_of v.waits.slots w) (marks_at a.parked c) p
+  pub parked_held : (l : Lists) (p : SmallSet) → l ≡ with_last (without_first a.lists c) aside w → Has p (slot_of v.waits.slots w) → SameBut (slot_of v.waits.slots w) (marks_at a.parked c) p
       → Holds (record a { lists = l; below = set a.below c (w.number + 1); parked = set a.parked c p }) (with_below v c (w.number + 1))
   parked_held l p is has but =
       record {
@@ -224,7 +224,7 @@ module _ (a : Kept) (v : Parted) (w : Numbered) (c : ℕ) (h : Holds a v) (level
   pub main_there : c < length a.lists.lists
   main_there = let some = h.waits.some in omega (arith, count_held a v h)
 
-  pub aside_there : (l : Lists) (s k : ℕ) → s ≡ slot_of v.waits.slots w → k ≡ parked_place s c → l ≡ without_first a.lists c → k < length l.lists
+  pub aside_there : (l : Lists) (s k : ℕ) → s ≡ slot_of v.waits.slots w → k ≡ list_of_slot s c → l ≡ without_first a.lists c → k < length l.lists
   aside_there l s k slot list is =
       let same = ap (λ (x : Lists). length x.lists) is in
       let kept = length-set a.lists.lists c (drop 1 (list_at a.lists c)) in
@@ -243,14 +243,14 @@ module _ (a : Kept) (v : Parted) (w : Numbered) (c : ℕ) (h : Holds a v) (level
 
   pub number_fits : w.number < 2 ^ 63
   number_fits =
-      let less : w.number < v.waits.next = All-contains (λ (u : Numbered). u.number < v.waits.next) v.waits.waiting w h.waits.below (first_there (is_in (place_of v.waits.slots v.below) c) v.waits.waiting w (split v w c h.waits level lt h.four head)) in
+      let less : w.number < v.waits.next = All-contains (λ (u : Numbered). u.number < v.waits.next) v.waits.waiting w h.waits.below (first_there (is_in (list_of v.waits.slots v.below) c) v.waits.waiting w (split v w c h.waits level lt h.four head)) in
       let fits = h.waits.fits in
       omega arith
 
-  pub set_aside : (l m : Lists) (s k : ℕ) (p : Places) → s ≡ slot_of v.waits.slots w → k ≡ parked_place s c → l ≡ without_first a.lists c → m ≡ with_last l k w → Has p s → SameBut s (marks_at a.parked c) p
+  pub set_aside : (l m : Lists) (s k : ℕ) (p : SmallSet) → s ≡ slot_of v.waits.slots w → k ≡ list_of_slot s c → l ≡ without_first a.lists c → m ≡ with_last l k w → Has p s → SameBut s (marks_at a.parked c) p
       → Holds (record a { lists = m; below = set a.below c (w.number + 1); parked = set a.parked c p }) (with_below v c (w.number + 1))
   set_aside l m s k p slot list gone come has but =
-      parked_held m p (come ∙ (ap (λ x. with_last x k w) gone ∙ ap (λ n. with_last (without_first a.lists c) n w) (list ∙ ap (λ n. parked_place n c) slot)))
+      parked_held m p (come ∙ (ap (λ x. with_last x k w) gone ∙ ap (λ n. with_last (without_first a.lists c) n w) (list ∙ ap (λ n. list_of_slot n c) slot)))
       (subst (Has p) slot has)
       (subst (λ n. SameBut n (marks_at a.parked c) p) slot but)
 

@@ -1,7 +1,7 @@
 -- Paths of places in a store of nodes.
 use Rattle.std.proofs.Common.{◌≡◌, ◌≢◌, ℕ, zero, suc, ◌+◌, ◌-◌, ◌<◌, List, [], ◌∷◌, ◌++◌, length, Option, Some, None, IsSome, refl, sym, ap, subst, ◌∙◌, arith, add-one}
 use Rattle.evt_types.specs.declared.event.Numbered.{Numbered}
-use Rattle.parked_queue.specs.Chains.{next_of, item_then, path, items, final, IsFresh, ArePlaces}
+use Rattle.parked_queue.specs.Chains.{next_of, item_then, path, items, final, IsFresh, AreNodes}
 use Rattle.parked_queue.specs.declared.chain.Node.{Node}
 
 -- ---- places that are not in a list
@@ -43,7 +43,7 @@ module _ (at : ℕ → Option Node) where
       ap (λ (m : ℕ). h ∷ path at (next_of (at h)) m) less
 
   -- a place that has no node is in no list
-  pub fresh_vacant : (owner : ℕ → ℕ) (k j : ℕ) (is : List ℕ) → at j ≡ None → ArePlaces at owner k is → IsFresh j is
+  pub fresh_vacant : (owner : ℕ → ℕ) (k j : ℕ) (is : List ℕ) → at j ≡ None → AreNodes at owner k is → IsFresh j is
   fresh_vacant owner k j [] v p = tt
   fresh_vacant owner k j (i ∷ is) v p = (
     λ (e : i ≡ j). let none : IsSome {T = Node} None = subst (λ (o : Option Node). IsSome o) (ap at e ∙ v) p.0 in cc,
@@ -51,20 +51,20 @@ module _ (at : ℕ → Option Node) where
   )
 
   -- nor is one of another owner
-  pub fresh_other : (owner : ℕ → ℕ) (k j : ℕ) (is : List ℕ) → owner j ≢ k → ArePlaces at owner k is → IsFresh j is
+  pub fresh_other : (owner : ℕ → ℕ) (k j : ℕ) (is : List ℕ) → owner j ≢ k → AreNodes at owner k is → IsFresh j is
   fresh_other owner k j [] n p = tt
   fresh_other owner k j (i ∷ is) n p = (λ (e : i ≡ j). n (ap owner (sym e) ∙ p.1), fresh_other owner k j is n p.3)
 
-  final_place : (owner : ℕ → ℕ) (k d : ℕ) (is : List ℕ) → IsSome (at d) → owner d ≡ k → ArePlaces at owner k is → IsSome (at (final d is)) × (owner (final d is) ≡ k)
+  final_place : (owner : ℕ → ℕ) (k d : ℕ) (is : List ℕ) → IsSome (at d) → owner d ≡ k → AreNodes at owner k is → IsSome (at (final d is)) × (owner (final d is) ≡ k)
   final_place owner k d [] s o p = (s, o)
   final_place owner k d (i ∷ is) s o p = final_place owner k i is p.0 p.1 p.3
 
   -- the last place has a node, of the same owner
-  pub last_place : (owner : ℕ → ℕ) (k d : ℕ) (is : List ℕ) → 0 < length is → ArePlaces at owner k is → IsSome (at (final d is)) × (owner (final d is) ≡ k)
+  pub last_place : (owner : ℕ → ℕ) (k d : ℕ) (is : List ℕ) → 0 < length is → AreNodes at owner k is → IsSome (at (final d is)) × (owner (final d is) ≡ k)
   last_place owner k d [] l p = absurd (omega arith)
   last_place owner k d (i ∷ is) l p = final_place owner k i is p.0 p.1 p.3
 
-  pub places_longer : (owner : ℕ → ℕ) (k j : ℕ) (is : List ℕ) → IsSome (at j) → owner j ≡ k → IsFresh j is → ArePlaces at owner k is → ArePlaces at owner k (is ++ j ∷ [])
+  pub places_longer : (owner : ℕ → ℕ) (k j : ℕ) (is : List ℕ) → IsSome (at j) → owner j ≡ k → IsFresh j is → AreNodes at owner k is → AreNodes at owner k (is ++ j ∷ [])
   places_longer owner k j [] s o f p = (s, o, tt, tt)
   places_longer owner k j (i ∷ is) s o f p = (
     p.0,
@@ -74,7 +74,7 @@ module _ (at : ℕ → Option Node) where
   )
 
   -- the last place, and those before it
-  pub places_split : (owner : ℕ → ℕ) (k j : ℕ) (is : List ℕ) → ArePlaces at owner k (is ++ j ∷ []) → IsSome (at j) × (owner j ≡ k) × IsFresh j is × ArePlaces at owner k is
+  pub places_split : (owner : ℕ → ℕ) (k j : ℕ) (is : List ℕ) → AreNodes at owner k (is ++ j ∷ []) → IsSome (at j) × (owner j ≡ k) × IsFresh j is × AreNodes at owner k is
   places_split owner k j [] p = (p.0, p.1, tt, tt)
   places_split owner k j (i ∷ is) p =
       let behind = places_split owner k j is p.3 in
@@ -87,7 +87,7 @@ module _ (at : ℕ → Option Node) where
   length_then None ws s = cc
   length_then (Some n) ws s = refl
 
-  pub length_items : (owner : ℕ → ℕ) (k : ℕ) (is : List ℕ) → ArePlaces at owner k is → length (items at is) ≡ length is
+  pub length_items : (owner : ℕ → ℕ) (k : ℕ) (is : List ℕ) → AreNodes at owner k is → length (items at is) ≡ length is
   length_items owner k [] p = refl
   length_items owner k (i ∷ is) p = length_then (at i) (items at is) p.0 ∙ ap suc (length_items owner k is p.3)
 
@@ -119,7 +119,7 @@ module _ (at new : ℕ → Option Node) where
   items_same [] same = refl
   items_same (i ∷ is) same = same i (items new is) ∙ ap (item_then (at i)) (items_same is same)
 
-  pub places_kept : (owner after : ℕ → ℕ) (k j : ℕ) (is : List ℕ) → ((i : ℕ) → i ≢ j → IsSome (at i) → IsSome (new i)) → ((i : ℕ) → i ≢ j → after i ≡ owner i) → IsFresh j is → ArePlaces at owner k is → ArePlaces new after k is
+  pub places_kept : (owner after : ℕ → ℕ) (k j : ℕ) (is : List ℕ) → ((i : ℕ) → i ≢ j → IsSome (at i) → IsSome (new i)) → ((i : ℕ) → i ≢ j → after i ≡ owner i) → IsFresh j is → AreNodes at owner k is → AreNodes new after k is
   places_kept owner after k j [] some owned f p = tt
   places_kept owner after k j (i ∷ is) some owned f p = (
     some i f.0 p.0,
@@ -129,7 +129,7 @@ module _ (at new : ℕ → Option Node) where
   )
 
   module _ (owner : ℕ → ℕ) (k l j : ℕ) (linked : next_of (new l) ≡ j) (kept : (i : ℕ) → i ≢ l → new i ≡ at i) where
-    linked_from : (h n : ℕ) → final h (path at (next_of (at h)) n) ≡ l → ArePlaces at owner k (path at h (suc n)) → path new h (suc (suc n)) ≡ path at h (suc n) ++ j ∷ []
+    linked_from : (h n : ℕ) → final h (path at (next_of (at h)) n) ≡ l → AreNodes at owner k (path at h (suc n)) → path new h (suc (suc n)) ≡ path at h (suc n) ++ j ∷ []
     linked_from h zero e p = ap (λ (i : ℕ). h ∷ i ∷ []) (ap (λ (i : ℕ). next_of (new i)) e ∙ linked)
     linked_from h (suc n) e p =
         let behind = next_of (at h) in
@@ -138,6 +138,6 @@ module _ (at new : ℕ → Option Node) where
         ∙ ap (λ (is : List ℕ). h ∷ is) (linked_from behind n e p.3)
 
     -- the last node of the list is made to lead to a further one
-    pub path_linked : (h n : ℕ) → 0 < n → final 0 (path at h n) ≡ l → ArePlaces at owner k (path at h n) → path new h (n + 1) ≡ path at h n ++ j ∷ []
+    pub path_linked : (h n : ℕ) → 0 < n → final 0 (path at h n) ≡ l → AreNodes at owner k (path at h n) → path new h (n + 1) ≡ path at h n ++ j ∷ []
     path_linked h zero q e p = absurd (omega arith)
     path_linked h (suc n) q e p = ap (path new h) (add-one (suc n)) ∙ linked_from h n e p

@@ -2,8 +2,8 @@
 use Rattle.std.proofs.Common.{◌≡◌, ℕ, ◌<◌, List, get_or, length, set, sym, ap, ◌∙◌, subst, ⊎_elim, arith}
 use Rattle.std.proofs.lemmas.Bool.{cases_eq}
 use Rattle.std.proofs.lemmas.List.{length-map, set-get_or}
-use Rattle.place_set.specs.Places.{Has, SameBut}
-use Rattle.place_set.specs.declared.places.Places.{Places}
+use Rattle.small_set.specs.SmallSets.{Has, SameBut}
+use Rattle.small_set.specs.declared.set.SmallSet.{SmallSet}
 use Rattle.parked_queue.specs.Lists.{Lists}
 use Rattle.parked_queue.specs.Levels.{HaveLevels}
 use Rattle.parked_queue.specs.Parkings.{AreParkings, are_waits, no_parking, parking_at, parted_at, parteds_in, waiting_in, waits_in}
@@ -30,14 +30,14 @@ module _ (vs : List Parted) (qs : List Waits) (q : ℕ) (view : are_waits vs ≡
   seen_room lt = let n = waiting_same vs in let e = ap all_waiting view in let room = ap (λ (w : Waits). w.room) seen_waits in omega arith
 
 -- a level of which nothing waits is no longer looked at
-levels_less : (w : Waits) (c : ℕ) (was now : Places) → AreLevels w was → SameBut c was now → ¬ Has now c → HasNoneOf w c → AreLevels w now
+levels_less : (w : Waits) (c : ℕ) (was now : SmallSet) → AreLevels w was → SameBut c was now → ¬ Has now c → HasNoneOf w c → AreLevels w now
 levels_less w c was now are others gone none =
     record {
       there = λ k has. ⊎_elim (λ e. absurd (gone (subst (Has now) e has))) (λ ne. are.there k ((others k ne).0 has)) (cases_eq k c);
       rest = λ k never. ⊎_elim (λ e. subst (HasNoneOf w) (sym e) none) (λ ne. are.rest k (λ has. never ((others k ne).1 has))) (cases_eq k c);
     }
 
-pub emptied : (vs us : List Parted) (qs : List Waits) (ls : List Places) (q c : ℕ) → are_waits us ≡ are_waits vs → are_waits vs ≡ qs → HaveLevels (are_waits vs) ls → q < length qs → (was now : Places) → was ≡ get_or ls q was → SameBut c was now → ¬ Has now c
+pub emptied : (vs us : List Parted) (qs : List Waits) (ls : List SmallSet) (q c : ℕ) → are_waits us ≡ are_waits vs → are_waits vs ≡ qs → HaveLevels (are_waits vs) ls → q < length qs → (was now : SmallSet) → was ≡ get_or ls q was → SameBut c was now → ¬ Has now c
     → HasNoneOf (parted_at us q).waits c → HaveLevels (are_waits us) (set ls q now)
 emptied vs us qs ls q c same view have there was now read others gone none =
     let seen : HaveLevels (are_waits us) ls = subst (λ ws. HaveLevels ws ls) (sym same) have in

@@ -3,13 +3,13 @@ use Rattle.std.proofs.Common.{ℕ, get_or, ⊎_elim, arith}
 use Rattle.std.specs.Prelude.{◌↔◌}
 use Rattle.std.proofs.lemmas.Bool.{cases_lt}
 use Rattle.evt_types.specs.declared.event.Numbered.{Numbered}
-use Rattle.place_set.specs.Places.{Has, IsEmpty}
-use Rattle.place_set.specs.declared.places.Places.{Places}
+use Rattle.small_set.specs.SmallSets.{Has, IsEmpty}
+use Rattle.small_set.specs.declared.set.SmallSet.{SmallSet}
 use Rattle.parked_queue.specs.Parted.{Parted, HasMarks, HasNoneParked, IsFirstParked, below_at}
 use Rattle.parked_queue.specs.Waits.{IsFirstAllowed, slot_of}
 
 -- the oldest parked event of the slots that are marked and allowed
-module _ (v : Parted) (c : ℕ) (marks allowed marked : Places) (has : HasMarks v c marks) (both : (i : ℕ) → Has marked i ↔ (Has marks i × Has allowed i)) where
+module _ (v : Parted) (c : ℕ) (marks allowed marked : SmallSet) (has : HasMarks v c marks) (both : (i : ℕ) → Has marked i ↔ (Has marks i × Has allowed i)) where
   pub parked_first : (w : Numbered) → IsFirstParked v c marked w → IsFirstAllowed v.waits c allowed w
   parked_first w p =
       record {

@@ -6,11 +6,11 @@ use Rattle.std.proofs.lemmas.List.Kept.{AllPairs-filter}
 use Rattle.std.proofs.lemmas.List.Sums.{length-filter, count_by-le-length}
 use Rattle.evt_types.specs.Plan.{level_of}
 use Rattle.evt_types.specs.declared.event.Numbered.{Numbered}
-use Rattle.place_set.specs.Places.{Has}
+use Rattle.small_set.specs.SmallSets.{Has}
 use Rattle.parked_queue.specs.Lists.{Lists, has_number, list_at, with_list, without_first}
 use Rattle.parked_queue.specs.Marks.{Kept, marks_at}
 use Rattle.parked_queue.specs.Merge.{is_in, lists_of}
-use Rattle.parked_queue.specs.Parted.{Parted, below_at, list_in, own_first, parked_place, place_for, place_of, places, with_waits}
+use Rattle.parked_queue.specs.Parted.{Parted, below_at, list_in, own_first, list_of_slot, list_of_number, list_of, places, with_waits}
 use Rattle.parked_queue.specs.Waits.{Waits, AreWaits, IsOnlyOf, IsRising, is_other, slot_of, without_number}
 use Rattle.parked_queue.proofs.Holding.{Holds, count_held, list_held}
 use Rattle.parked_queue.proofs.Merges.{lists_without}
@@ -30,16 +30,16 @@ waits_without q n waits =
       few = waits.few;
     }
 
-pub place_for_within : (below : List ℕ) (c slot n slots : ℕ) → c < 4 → slot < slots → place_for below c slot n < places slots
-place_for_within below c slot n slots lt less = cond_both (nat_lt n (below_at below c)) (parked_place slot c) c (λ k. k < places slots) (λ _. omega arith) (λ _. omega arith)
+pub list_of_number_within : (below : List ℕ) (c slot n slots : ℕ) → c < 4 → slot < slots → list_of_number below c slot n < places slots
+list_of_number_within below c slot n slots lt less = cond_both (nat_lt n (below_at below c)) (list_of_slot slot c) c (λ k. k < places slots) (λ _. omega arith) (λ _. omega arith)
 
 -- where the event of the number is
-only_there : (v : Parted) (c slot n : ℕ) → IsOnlyOf v.waits c slot n → All (λ (w : Numbered). w.number ≡ n → place_of v.waits.slots v.below w ≡ place_for v.below c slot n) v.waits.waiting
+only_there : (v : Parted) (c slot n : ℕ) → IsOnlyOf v.waits c slot n → All (λ (w : Numbered). w.number ≡ n → list_of v.waits.slots v.below w ≡ list_of_number v.below c slot n) v.waits.waiting
 only_there v c slot n only k d h =
     let w : Numbered = get_or v.waits.waiting k d in
     λ same.
     let of = only k d h same in
-    ap (λ m. place_for v.below (level_of w.event) (slot_of v.waits.slots w) m) same ∙ (ap (λ m. place_for v.below m (slot_of v.waits.slots w) n) of.0 ∙ ap (λ m. place_for v.below c m n) of.1)
+    ap (λ m. list_of_number v.below (level_of w.event) (slot_of v.waits.slots w) m) same ∙ (ap (λ m. list_of_number v.below m (slot_of v.waits.slots w) n) of.0 ∙ ap (λ m. list_of_number v.below c m n) of.1)
 
 -- what each event of the number shows, where the first one has it
 numbered_first : (R : Type 0) (n : ℕ) (ws : List Numbered) → has_number n (slice_get ws 0) ≡ true → All (λ (w : Numbered). w.number ≡ n → R) ws → R
@@ -47,32 +47,32 @@ numbered_first R n [] has all = absurd (false≢true has)
 numbered_first R n (w ∷ ws) has all = All-head (λ (u : Numbered). u.number ≡ n → R) w ws all (eqb-true w.number n has)
 
 -- where the first event of the level's own list has the number, the event of the number is in that list
-own_list : (v : Parted) (c slot n : ℕ) → IsOnlyOf v.waits c slot n → has_number n (own_first v c) ≡ true → c ≡ place_for v.below c slot n
+own_list : (v : Parted) (c slot n : ℕ) → IsOnlyOf v.waits c slot n → has_number n (own_first v c) ≡ true → c ≡ list_of_number v.below c slot n
 own_list v c slot n only has =
-    let g : Numbered → ℕ = place_of v.waits.slots v.below in
-    numbered_first (c ≡ place_for v.below c slot n) n (list_in v c) has
+    let g : Numbered → ℕ = list_of v.waits.slots v.below in
+    numbered_first (c ≡ list_of_number v.below c slot n) n (list_in v c) has
     (λ k d h same.
     sym (eqb-true (g (get_or (list_in v c) k d)) c (filter_passes (is_in g c) v.waits.waiting k d h))
-    ∙ All-filter (is_in g c) (λ (w : Numbered). w.number ≡ n → g w ≡ place_for v.below c slot n) v.waits.waiting (only_there v c slot n only) k d h same)
+    ∙ All-filter (is_in g c) (λ (w : Numbered). w.number ≡ n → g w ≡ list_of_number v.below c slot n) v.waits.waiting (only_there v c slot n only) k d h same)
 
-module _ (a : Kept) (v : Parted) (c slot n k : ℕ) (h : Holds a v) (lt : c < 4) (less : slot < v.waits.slots) (list : k ≡ place_for v.below c slot n) where
+module _ (a : Kept) (v : Parted) (c slot n k : ℕ) (h : Holds a v) (lt : c < 4) (less : slot < v.waits.slots) (list : k ≡ list_of_number v.below c slot n) where
   within : k < places v.waits.slots
-  within = subst (λ m. m < places v.waits.slots) (sym list) (place_for_within v.below c slot n v.waits.slots lt less)
+  within = subst (λ m. m < places v.waits.slots) (sym list) (list_of_number_within v.below c slot n v.waits.slots lt less)
 
   pub list_there : k < length a.lists.lists
   list_there = subst (λ m. k < m) (sym (count_held a v h)) within
 
   pub list_rises : IsRising (list_at a.lists k)
-  list_rises = subst IsRising (sym (list_held a v k h within)) (AllPairs-filter (λ (u w : Numbered). u.number < w.number) (is_in (place_of v.waits.slots v.below) k) v.waits.waiting h.waits.rising)
+  list_rises = subst IsRising (sym (list_held a v k h within)) (AllPairs-filter (λ (u w : Numbered). u.number < w.number) (is_in (list_of v.waits.slots v.below) k) v.waits.waiting h.waits.rising)
 
   module _ (only : IsOnlyOf v.waits c slot n) (l : Lists) (is : l ≡ with_list a.lists k (filter (is_other n) (list_at a.lists k))) where
-    lists_taken : l.lists ≡ lists_of (place_of v.waits.slots v.below) 0 (places v.waits.slots) (filter (is_other n) v.waits.waiting)
+    lists_taken : l.lists ≡ lists_of (list_of v.waits.slots v.below) 0 (places v.waits.slots) (filter (is_other n) v.waits.waiting)
     lists_taken =
         ap (λ (x : Lists). x.lists) is
         ∙ (ap (λ us. set a.lists.lists k (filter (is_other n) us)) (list_held a v k h within)
         ∙ (ap (λ ls. set ls k (filter (is_other n) (list_in v k))) h.lists
-        ∙ sym (lists_without (place_of v.waits.slots v.below) (places v.waits.slots) v.waits.waiting n k within
-        (subst (λ m. All (λ (w : Numbered). w.number ≡ n → place_of v.waits.slots v.below w ≡ m) v.waits.waiting) (sym list) (only_there v c slot n only)))))
+        ∙ sym (lists_without (list_of v.waits.slots v.below) (places v.waits.slots) v.waits.waiting n k within
+        (subst (λ m. All (λ (w : Numbered). w.number ≡ n → list_of v.waits.slots v.below w ≡ m) v.waits.waiting) (sym list) (only_there v c slot n only)))))
 
     pub taken_held : Holds (record a { lists = l }) (with_waits v (without_number v.waits n))
     taken_held =

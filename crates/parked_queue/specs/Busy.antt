@@ -2,16 +2,16 @@
 use Rattle.std.specs.Prelude.{ℕ, ◌≡◌, ◌<◌, ◌≤◌, List, [], length}
 use Rattle.parked_queue.specs.Levels.{HaveLevels}
 use Rattle.parked_queue.specs.Waits.{Waits, waits_at}
-use Rattle.place_set.specs.Places.{Has}
-use Rattle.place_set.specs.declared.places.Places.{Places}
+use Rattle.small_set.specs.SmallSets.{Has}
+use Rattle.small_set.specs.declared.set.SmallSet.{SmallSet}
 
 -- these are numbers of queues, and each queue in which something waits is among them
-pub record AreBusy (qs : List Waits) (busy : Places) : Type 0 where
+pub record AreBusy (qs : List Waits) (busy : SmallSet) : Type 0 where
   pub few : length qs ≤ 64
   pub there : (q : ℕ) → Has busy q → q < length qs
   pub rest : (q : ℕ) → ¬ Has busy q → (waits_at qs q).waiting ≡ []
 
 -- the words say of which levels of each queue an event waits, and in which queues one does
-pub record AreNoted (qs : List Waits) (ls : List Places) (set : Places) : Type 0 where
+pub record AreNoted (qs : List Waits) (ls : List SmallSet) (set : SmallSet) : Type 0 where
   pub levels : HaveLevels qs ls
   pub busy : AreBusy qs set

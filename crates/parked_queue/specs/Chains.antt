@@ -37,9 +37,9 @@ IsFresh j [] = Unit {0}
 IsFresh j (i ∷ is) = (i ≢ j) × IsFresh j is
 
 -- each has a node that belongs to the owner k, and no two are the same
-abbrev pub ArePlaces : (ℕ → Option Node) → (ℕ → ℕ) → ℕ → List ℕ → Type 0
-ArePlaces at owner k [] = Unit {0}
-ArePlaces at owner k (i ∷ is) = IsSome (at i) × (owner i ≡ k) × IsFresh i is × ArePlaces at owner k is
+abbrev pub AreNodes : (ℕ → Option Node) → (ℕ → ℕ) → ℕ → List ℕ → Type 0
+AreNodes at owner k [] = Unit {0}
+AreNodes at owner k (i ∷ is) = IsSome (at i) × (owner i ≡ k) × IsFresh i is × AreNodes at owner k is
 
 -- ---- chains
 

@@ -2,10 +2,10 @@
 use Rattle.std.specs.Prelude.{ℕ, ◌≡◌, ◌-◌, ◌==◌, ◌<◌, ◌≤◌, List, length, slice_index_or, All, bit_and, if◌then◌else◌}
 use Rattle.evt_types.specs.Plan.{level_of}
 use Rattle.evt_types.specs.declared.event.Numbered.{Numbered}
-use Rattle.place_set.specs.Places.{Has}
-use Rattle.place_set.specs.declared.places.Places.{Places}
+use Rattle.small_set.specs.SmallSets.{Has}
+use Rattle.small_set.specs.declared.set.SmallSet.{SmallSet}
 use Rattle.parked_queue.specs.Merge.{by_number, lists_of}
-use Rattle.parked_queue.specs.Parted.{Parted, below_at, place_of, places}
+use Rattle.parked_queue.specs.Parted.{Parted, below_at, list_of, places}
 use Rattle.parked_queue.specs.Waits.{AreWaits, slot_of}
 use Rattle.parked_queue.specs.Lists.{Lists}
 
@@ -16,15 +16,15 @@ pub record Kept : Type 0 where
   pub slots : ℕ
   pub mask : ℕ
   pub below : List ℕ
-  pub parked : List Places
+  pub parked : List SmallSet
   pub next : ℕ
 
 -- the slots of a level that may have parked events
-abbrev pub marks_at : List Places → ℕ → Places
+abbrev pub marks_at : List SmallSet → ℕ → SmallSet
 marks_at parked c = slice_index_or parked c (record { bits = 0 })
 
 -- each slot with a parked event is marked, and there is no mark of a slot that isn't there
-pub record AreMarks (v : Parted) (parked : List Places) : Type 0 where
+pub record AreMarks (v : Parted) (parked : List SmallSet) : Type 0 where
   pub marked : All (λ (u : Numbered). u.number < below_at v.below (level_of u.event) → Has (marks_at parked (level_of u.event)) (slot_of v.waits.slots u)) v.waits.waiting
   pub there : (c slot : ℕ) → Has (marks_at parked c) slot → slot < v.waits.slots
 
@@ -38,7 +38,7 @@ parted_in a = record { waits = record { waiting = by_number a.lists.lists; next 
 -- the lists are those of what waits, the mask is that of the slots, no number below which events are parked is past the next one, and the slots are marked
 pub record IsParking (a : Kept) : Type 0 where
   pub waits : AreWaits (parted_in a).waits
-  pub lists : a.lists.lists ≡ lists_of (place_of a.slots a.below) 0 (places a.slots) (by_number a.lists.lists)
+  pub lists : a.lists.lists ≡ lists_of (list_of a.slots a.below) 0 (places a.slots) (by_number a.lists.lists)
   pub mask : a.mask ≡ mask_of a.slots
   pub bounds : (c : ℕ) → below_at a.below c ≤ a.next
   pub four : length a.below ≡ 4

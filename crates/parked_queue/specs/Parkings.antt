@@ -1,8 +1,8 @@
 -- How the events of several queues are parted into lists of one store.
 use Rattle.std.specs.Prelude.{ℕ, ◌≡◌, ◌+◌, ◌*◌, ◌<◌, ◌≤◌, ◌^◌, List, [], ◌∷◌, length, map, slice_index_or, sum_by}
 use Rattle.std.specs.List.{range_with_len}
-use Rattle.place_set.specs.Places.{Has}
-use Rattle.place_set.specs.declared.places.Places.{Places}
+use Rattle.small_set.specs.SmallSets.{Has}
+use Rattle.small_set.specs.declared.set.SmallSet.{SmallSet}
 use Rattle.parked_queue.specs.Lists.{Lists, list_at, total_of}
 use Rattle.parked_queue.specs.Marks.{Kept, IsParking, mask_of, parted_in}
 use Rattle.parked_queue.specs.Parted.{Parted, no_parted, places}
@@ -82,7 +82,7 @@ pub record IsNewParking (b n : ℕ) (p : Parking) : Type 0 where
   pub slots : p.slots ≡ n
   pub mask : p.mask ≡ mask_of n
   pub below : p.below ≡ 0 ∷ 0 ∷ 0 ∷ 0 ∷ []
-  pub parked : (marks : Places) × (p.parked ≡ marks ∷ marks ∷ marks ∷ marks ∷ []) × ((k : ℕ) → ¬ Has marks k)
+  pub parked : (marks : SmallSet) × (p.parked ≡ marks ∷ marks ∷ marks ∷ marks ∷ []) × ((k : ℕ) → ¬ Has marks k)
   pub next : p.next ≡ 0
   pub count : p.count ≡ 0
 

@@ -2,8 +2,8 @@
 use Rattle.std.specs.Prelude.{ℕ, ◌≡◌, ◌+◌, ◌*◌, ◌<◌, ◌≤◌, Bool, List, [], ◌∷◌, nat_lt, slice_get, slice_index_or, slice_set, Option, Some, None, All, Contains, if◌then◌else◌}
 use Rattle.evt_types.specs.Plan.{level_of}
 use Rattle.evt_types.specs.declared.event.Numbered.{Numbered}
-use Rattle.place_set.specs.Places.{Has}
-use Rattle.place_set.specs.declared.places.Places.{Places}
+use Rattle.small_set.specs.SmallSets.{Has}
+use Rattle.small_set.specs.declared.set.SmallSet.{SmallSet}
 use Rattle.parked_queue.specs.Merge.{in_list}
 use Rattle.parked_queue.specs.Waits.{Waits, no_waits, slot_of}
 
@@ -20,12 +20,12 @@ abbrev pub is_parked : List ℕ → Numbered → Bool
 is_parked below w = nat_lt w.number (below_at below (level_of w.event))
 
 -- the list of a slot's parked events of a level; a level's others are in the list of the level's own number
-abbrev pub parked_place : ℕ → ℕ → ℕ
-parked_place slot c = 4 * (slot + 1) + c
+abbrev pub list_of_slot : ℕ → ℕ → ℕ
+list_of_slot slot c = 4 * (slot + 1) + c
 
 -- the list that an event is in
-abbrev pub place_of : ℕ → List ℕ → Numbered → ℕ
-place_of slots below w = if is_parked below w then parked_place (slot_of slots w) (level_of w.event) else level_of w.event
+abbrev pub list_of : ℕ → List ℕ → Numbered → ℕ
+list_of slots below w = if is_parked below w then list_of_slot (slot_of slots w) (level_of w.event) else level_of w.event
 
 -- how many lists there are
 abbrev pub places : ℕ → ℕ
@@ -33,7 +33,7 @@ places slots = 4 * (slots + 1)
 
 -- the events in a list
 abbrev pub list_in : Parted → ℕ → List Numbered
-list_in v k = in_list (place_of v.waits.slots v.below) k v.waits.waiting
+list_in v k = in_list (list_of v.waits.slots v.below) k v.waits.waiting
 
 -- the first event of the level's own list
 abbrev pub own_first : Parted → ℕ → Option Numbered
@@ -53,7 +53,7 @@ with_below v c n = record v { below = slice_set v.below c n }
 -- ---- the first parked one
 
 -- a parked event of the level whose slot is allowed
-pub record IsParkedAllowed (v : Parted) (c : ℕ) (allowed : Places) (w : Numbered) : Type 0 where
+pub record IsParkedAllowed (v : Parted) (c : ℕ) (allowed : SmallSet) (w : Numbered) : Type 0 where
   pub waits : Contains v.waits.waiting w
   pub level : level_of w.event ≡ c
   pub slot : Has allowed (slot_of v.waits.slots w)
@@ -65,23 +65,23 @@ IsNoLater None n = ⊥
 IsNoLater (Some w) n = w.number ≤ n
 
 -- the best one is no later than each parked event of the level whose slot is allowed and not left to look at
-abbrev pub IsBest : Parted → ℕ → Places → Places → Option Numbered → Type 0
+abbrev pub IsBest : Parted → ℕ → SmallSet → SmallSet → Option Numbered → Type 0
 IsBest v c allowed left best = All (λ (u : Numbered). level_of u.event ≡ c → u.number < below_at v.below c → Has allowed (slot_of v.waits.slots u) → (¬ Has left (slot_of v.waits.slots u)) → IsNoLater best u.number) v.waits.waiting
 
 -- the oldest parked event of the level whose slot is allowed
-pub record IsFirstParked (v : Parted) (c : ℕ) (allowed : Places) (w : Numbered) : Type 0 where
+pub record IsFirstParked (v : Parted) (c : ℕ) (allowed : SmallSet) (w : Numbered) : Type 0 where
   pub one : IsParkedAllowed v c allowed w
   pub first : All (λ (u : Numbered). level_of u.event ≡ c → u.number < below_at v.below c → Has allowed (slot_of v.waits.slots u) → w.number ≤ u.number) v.waits.waiting
 
 -- no parked event of the level has an allowed slot
-abbrev pub HasNoneParked : Parted → ℕ → Places → Type 0
+abbrev pub HasNoneParked : Parted → ℕ → SmallSet → Type 0
 HasNoneParked v c allowed = All (λ (u : Numbered). level_of u.event ≡ c → u.number < below_at v.below c → ¬ Has allowed (slot_of v.waits.slots u)) v.waits.waiting
 
 -- each slot with a parked event of the level is among these, and each of these is there
-pub record HasMarks (v : Parted) (c : ℕ) (marks : Places) : Type 0 where
+pub record HasMarks (v : Parted) (c : ℕ) (marks : SmallSet) : Type 0 where
   pub marked : All (λ (u : Numbered). level_of u.event ≡ c → u.number < below_at v.below c → Has marks (slot_of v.waits.slots u)) v.waits.waiting
   pub there : (slot : ℕ) → Has marks slot → slot < v.waits.slots
 
 -- the list of the event of a number, which is of the level and the slot
-abbrev pub place_for : List ℕ → ℕ → ℕ → ℕ → ℕ
-place_for below c slot n = if nat_lt n (below_at below c) then parked_place slot c else c
+abbrev pub list_of_number : List ℕ → ℕ → ℕ → ℕ → ℕ
+list_of_number below c slot n = if nat_lt n (below_at below c) then list_of_slot slot c else c

@@ -3,8 +3,8 @@ use Rattle.std.specs.Prelude.{ℕ, ◌≡◌, ◌≢◌, ◌+◌, ◌%◌, ◌<�
 use Rattle.evt_types.specs.Plan.{level_of}
 use Rattle.evt_types.specs.declared.event.Event.{Event}
 use Rattle.evt_types.specs.declared.event.Numbered.{Numbered}
-use Rattle.place_set.specs.Places.{Has}
-use Rattle.place_set.specs.declared.places.Places.{Places}
+use Rattle.small_set.specs.SmallSets.{Has}
+use Rattle.small_set.specs.declared.set.SmallSet.{SmallSet}
 
 -- the events that wait, by rising number, the number of the next event, how many may wait, and how many slots there are
 pub record Waits : Type 0 where
@@ -69,14 +69,14 @@ abbrev pub without_number : Waits → ℕ → Waits
 without_number q n = record q { waiting = filter (is_other n) q.waiting }
 
 -- the event waits, is of the level, its slot is allowed, and no older one is so
-pub record IsFirstAllowed (v : Waits) (c : ℕ) (allowed : Places) (w : Numbered) : Type 0 where
+pub record IsFirstAllowed (v : Waits) (c : ℕ) (allowed : SmallSet) (w : Numbered) : Type 0 where
   pub waits : Contains v.waiting w
   pub level : level_of w.event ≡ c
   pub slot : Has allowed (slot_of v.slots w)
   pub first : All (λ (u : Numbered). level_of u.event ≡ c → Has allowed (slot_of v.slots u) → w.number ≤ u.number) v.waiting
 
 -- no event of the level has an allowed slot
-abbrev pub HasNoneAllowed : Waits → ℕ → Places → Type 0
+abbrev pub HasNoneAllowed : Waits → ℕ → SmallSet → Type 0
 HasNoneAllowed v c allowed = All (λ (u : Numbered). level_of u.event ≡ c → ¬ Has allowed (slot_of v.slots u)) v.waiting
 
 -- an event of the number is of the level and the slot
@@ -88,6 +88,6 @@ abbrev pub HasNoneOf : Waits → ℕ → Type 0
 HasNoneOf v c = All (λ (u : Numbered). level_of u.event ≢ c) v.waiting
 
 -- these are levels, and each level of which an event waits is among them
-pub record AreLevels (v : Waits) (levels : Places) : Type 0 where
+pub record AreLevels (v : Waits) (levels : SmallSet) : Type 0 where
   pub there : (c : ℕ) → Has levels c → c < 4
   pub rest : (c : ℕ) → ¬ Has levels c → HasNoneOf v c

@@ -21,7 +21,7 @@ pub(crate) struct Chain {
 }
 
 /// Puts a node with the event at a place that no chain has: the one that became free last, or else a new one.
-pub(crate) fn take_place(nodes: &mut Vec<Node>, free: &mut Vec<usize>, item: Numbered) -> usize
+pub(crate) fn take_node(nodes: &mut Vec<Node>, free: &mut Vec<usize>, item: Numbered) -> usize
     requires last { 0 < vec_len free.old → final 0 free.old.items < vec_len nodes.old }
     requires room { vec_len free.old ≡ 0 → vec_len nodes.old < vec_capacity nodes.old }
     ensures placed { IsPlaced nodes.old.items nodes.new.items free.old.items free.new.items item result }

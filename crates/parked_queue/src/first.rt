@@ -2,14 +2,14 @@
 
 ghost use Rattle.std.specs.Prelude.{◌≡◌, ℕ, ◌<◌, ◌≤◌, ◌⊎◌, length, Some, IsTrue, IfSome, IfNone};
 ghost use Rattle.evt_types.specs.declared.event.Numbered.{Numbered as NumberedValue};
-ghost use Rattle.place_set.specs.Places.{Has};
+ghost use Rattle.small_set.specs.SmallSets.{Has};
 ghost use Rattle.parked_queue.specs.Parkings.{are_waits, parted_at};
 ghost use Rattle.parked_queue.specs.Parted.{IsFirstParked, HasNoneParked, IsNoLater};
 ghost use Rattle.parked_queue.specs.Waits.{AreWaits, IsFirstAllowed, HasNoneAllowed, HasNoneOf, slot_of};
 
 use crate::parking::Parkings;
 use evt_types::Numbered;
-use place_set::Places;
+use small_set::SmallSet;
 
 /// An event that is found, and its flow and slot, which are read where it lies.
 #[derive(Clone, Copy)]
@@ -35,7 +35,7 @@ fn older(best: Option<Numbered>, head: Numbered) -> Numbered
 impl Parkings {
     /// The oldest parked event of the level whose slot is among these.
     #[cold]
-    fn first_parked(&mut self, queue: usize, level: usize, marked: Places) -> Option<Found>
+    fn first_parked(&mut self, queue: usize, level: usize, marked: SmallSet) -> Option<Found>
         requires queue { queue < length self.old }
         requires level { level < 4 }
         requires there { (k : ℕ) → Has marked k → k < (parted_at self.old queue).waits.slots }
@@ -67,7 +67,7 @@ impl Parkings {
 
     /// The same. Mostly no slot is among these, and then no call is made.
     #[inline(always)]
-    fn first_marked(&mut self, queue: usize, level: usize, marked: Places) -> Option<Found>
+    fn first_marked(&mut self, queue: usize, level: usize, marked: SmallSet) -> Option<Found>
         requires queue { queue < length self.old }
         requires level { level < 4 }
         requires there { (k : ℕ) → Has marked k → k < (parted_at self.old queue).waits.slots }
@@ -86,7 +86,7 @@ impl Parkings {
 
     /// The first event of the level's own list whose slot is allowed. Those before it are set aside.
     #[inline(always)]
-    fn first_main(&mut self, queue: usize, level: usize, allowed: Places) -> Option<Found>
+    fn first_main(&mut self, queue: usize, level: usize, allowed: SmallSet) -> Option<Found>
         requires queue { queue < length self.old }
         requires level { level < 4 }
         requires none { HasNoneParked (parted_at self.old queue) level allowed }
@@ -112,7 +112,7 @@ impl Parkings {
 
     /// The first event of the level whose slot is allowed. Those before it are set aside, each once.
     #[inline(always)]
-    pub(crate) fn first(&mut self, queue: usize, level: usize, allowed: Places) -> Option<Found>
+    pub(crate) fn first(&mut self, queue: usize, level: usize, allowed: SmallSet) -> Option<Found>
         requires queue { queue < length self.old }
         requires level { level < 4 }
         ensures same { are_waits self.new ≡ are_waits self.old }

@@ -2,7 +2,7 @@
 
 ghost use Rattle.std.specs.Prelude.{◌≡◌, ◌+◌, ◌<◌, ◌≤◌, ◌^◌, ◌%◌, ◌++◌, true, length, map, slice_get, slice_set, vec_len, vec_capacity, is_some, option_copied, All, IfOk, IfSome};
 ghost use Rattle.parked_queue.specs.Parts.{all_parts};
-ghost use Rattle.parked_queue.specs.Parted.{HasMarks, list_in, own_first, parked_place, place_for, with_below, with_waits};
+ghost use Rattle.parked_queue.specs.Parted.{HasMarks, list_in, own_first, list_of_slot, list_of_number, with_below, with_waits};
 ghost use Rattle.parked_queue.specs.Parkings.{AreNewParkings, IsNewParking, are_waits, no_parteds, parted_at, waiting_in};
 ghost use Rattle.parked_queue.specs.Waits.{AreSlots, AreWaits, IsOnlyOf, slot_of, with_event, without_number};
 ghost use Rattle.parked_queue.specs.Lists.{delivery_of};
@@ -11,7 +11,7 @@ use crate::slot::{LEVELS, mask_for, parked_list, slot_in};
 use crate::turn::take_number;
 use crate::waiting::WaitingLists;
 use evt_types::{Delivery, Event, Numbered};
-use place_set::Places;
+use small_set::SmallSet;
 use std::alloc::{AllocError, Global};
 use std::marker::Model;
 
@@ -24,7 +24,7 @@ pub(crate) struct Parking {
     slots: usize,
     mask: usize,
     below: [u64; LEVELS],
-    parked: [Places; LEVELS],
+    parked: [SmallSet; LEVELS],
     next: u64,
     count: usize,
 }
@@ -58,7 +58,7 @@ fn empty_parking(base: usize, slots: usize) -> Parking
         slots,
         mask: mask_for(slots),
         below: [0; LEVELS],
-        parked: [Places::none(); LEVELS],
+        parked: [SmallSet::none(); LEVELS],
         next: 0,
         count: 0,
     }
@@ -149,7 +149,7 @@ impl Parkings {
 
     /// The level's slots that may have parked events.
     #[inline(always)]
-    pub(crate) fn marks(&self, queue: usize, level: usize) -> Places
+    pub(crate) fn marks(&self, queue: usize, level: usize) -> SmallSet
         requires there { queue < length self.now }
         requires level { level < 4 }
         ensures marked { HasMarks (parted_at self.now queue) level result }
@@ -170,7 +170,7 @@ impl Parkings {
         requires level { level < 4 }
         requires slot { slot < (parted_at self.old queue).waits.slots }
         ensures same { self.new ≡ self.old }
-        ensures value { result ≡ slice_get (list_in (parted_at self.old queue) (parked_place slot level)) 0 }
+        ensures value { result ≡ slice_get (list_in (parted_at self.old queue) (list_of_slot slot level)) 0 }
     {
         let asked = &mut self.queues[queue];
         let list = asked.base + parked_list(level, slot);
@@ -262,7 +262,7 @@ impl Parkings {
 fn list_for(below: &[u64; LEVELS], level: usize, slot: usize, number: u64) -> usize
     requires level { level < 4 }
     requires slot { slot < 64 }
-    ensures { result ≡ place_for below.now level slot number }
+    ensures { result ≡ list_of_number below.now level slot number }
 {
     if number < below[level] {
         parked_list(level, slot)

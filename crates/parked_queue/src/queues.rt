@@ -8,7 +8,7 @@ ghost use Rattle.parked_queue.specs.Lists.{delivery_of};
 use crate::first::Found;
 use crate::parking::Parkings;
 use evt_types::{Delivery, Event};
-use place_set::Places;
+use small_set::SmallSet;
 use std::alloc::{AllocError, Global};
 use std::marker::Model;
 
@@ -19,9 +19,9 @@ use std::marker::Model;
 pub struct ParkedQueues {
     parkings: Parkings,
     /// For each queue the levels of which an event waits. One that has become empty leaves when it is next looked at.
-    levels: Vec<Places>,
+    levels: Vec<SmallSet>,
     /// The queues in which something waits.
-    busy: Places,
+    busy: SmallSet,
 }
 
 impl Model for ParkedQueues {
@@ -45,11 +45,11 @@ impl ParkedQueues {
         ensures { IfOk result (λ qs. qs ≡ all_empty room slots.now) }
     {
         let parkings = Parkings::new(alloc, slots, room)?;
-        let levels = vec![in alloc; Places::none(); slots.len()]?;
+        let levels = vec![in alloc; SmallSet::none(); slots.len()]?;
         Ok(ParkedQueues {
             parkings,
             levels,
-            busy: Places::none(),
+            busy: SmallSet::none(),
         })
     }
 
@@ -77,7 +77,7 @@ impl ParkedQueues {
     }
 
     /// The queues in which something waits.
-    pub fn busy(&self) -> Places
+    pub fn busy(&self) -> SmallSet
         ensures { AreBusy self.now result }
     {
         self.busy
@@ -85,7 +85,7 @@ impl ParkedQueues {
 
     /// The levels of the queue of which an event waits, and perhaps some that have become empty.
     #[inline(always)]
-    pub fn levels(&self, queue: usize) -> Places
+    pub fn levels(&self, queue: usize) -> SmallSet
         requires { queue < length self.now }
         ensures { AreLevels (waits_at self.now queue) result }
     {
@@ -104,7 +104,7 @@ impl ParkedQueues {
 
     /// The first event of the queue's level whose slot is allowed. The events before it are set aside, each once.
     #[inline(always)]
-    pub fn first(&mut self, queue: usize, level: usize, allowed: Places) -> Option<Found>
+    pub fn first(&mut self, queue: usize, level: usize, allowed: SmallSet) -> Option<Found>
         requires there { queue < length self.old }
         requires level { level < 4 }
         ensures same { self.new ≡ self.old }
@@ -123,7 +123,7 @@ impl ParkedQueues {
     /// The first event of the queue's level whose slot is allowed, where that is quick to see. Where it is not, the answer is `None`
     /// too.
     #[inline(always)]
-    pub fn head(&self, queue: usize, level: usize, allowed: Places) -> Option<Found>
+    pub fn head(&self, queue: usize, level: usize, allowed: SmallSet) -> Option<Found>
         requires there { queue < length self.now }
         requires level { level < 4 }
         ensures first { IfSome result (λ f. IsFirstAllowed (waits_at self.now queue) level allowed f.waiting) }
@@ -149,7 +149,7 @@ impl ParkedQueues {
 
     /// Whether all events of the queue's level are set aside, and none of them has an allowed slot.
     #[inline(always)]
-    pub fn is_blocked(&self, queue: usize, level: usize, allowed: Places) -> bool
+    pub fn is_blocked(&self, queue: usize, level: usize, allowed: SmallSet) -> bool
         requires there { queue < length self.now }
         requires level { level < 4 }
         ensures { IsTrue result → HasNoneAllowed (waits_at self.now queue) level allowed }

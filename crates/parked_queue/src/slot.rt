@@ -2,7 +2,7 @@
 
 ghost use Rattle.std.specs.Prelude.{◌≡◌, ◌%◌, ◌<◌, ◌≤◌};
 ghost use Rattle.parked_queue.specs.Marks.{mask_of};
-ghost use Rattle.parked_queue.specs.Parted.{parked_place};
+ghost use Rattle.parked_queue.specs.Parted.{list_of_slot};
 
 /// How many levels a queue has.
 pub(crate) const LEVELS: usize = 4;
@@ -49,7 +49,7 @@ pub(crate) fn slot_in(slots: usize, mask: usize, flow: u32) -> usize
 pub(crate) fn parked_list(level: usize, slot: usize) -> usize
     requires level { level < 4 }
     requires slot { slot < 64 }
-    ensures { result ≡ parked_place slot level }
+    ensures { result ≡ list_of_slot slot level }
 {
     LEVELS * (slot + 1) + level
 }

@@ -3,7 +3,7 @@
 ghost use Rattle.std.specs.Prelude.{◌≡◌, ◌+◌, ◌<◌, ◌≤◌, [], ◌++◌, length, map, slice_get, vec_len, vec_capacity, IfOk, IsFalse, IsTrue, option_copied};
 ghost use Rattle.parked_queue.specs.Lists.{list_at, total_of, all_empty, delivery_of, has_number, with_last, without_first};
 
-use crate::chain::{Chain, Node, append, shorten, take_place};
+use crate::chain::{Chain, Node, append, shorten, take_node};
 use evt_types::{Delivery, Numbered};
 use std::alloc::{AllocError, Global};
 use std::marker::Model;
@@ -98,7 +98,7 @@ impl WaitingLists {
         requires room { total_of self.old < self.old.room }
         ensures { self.new ≡ with_last self.old list item }
     {
-        let place = take_place(&mut self.nodes, &mut self.free, item);
+        let place = take_node(&mut self.nodes, &mut self.free, item);
         append(&mut self.nodes, &mut self.chains[list], place);
     }
 

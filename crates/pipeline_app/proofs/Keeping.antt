@@ -6,7 +6,7 @@ use Rattle.std.proofs.lemmas.List.{length-map}
 use Rattle.std.proofs.lemmas.Option.{get_or_from_slice_get}
 use Rattle.credit_pool.specs.Accounts.{Stays}
 use Rattle.event_answers.specs.declared.answer.Swept.{Swept}
-use Rattle.event_ports.specs.Ports.{Place, account_of, place_of}
+use Rattle.event_ports.specs.Ports.{DeskSite, account_of, own_site}
 use Rattle.event_ports.specs.declared.port.Port.{Port}
 use Rattle.event_device.proofs.Keeping.{same_site}
 use Rattle.event_device.specs.Device.{PortSite, SchedulerSite, scheduler_of, site_of}
@@ -22,9 +22,9 @@ use Rattle.pipeline_app.specs.Rig.{ArePlayed, IsAnswerTo, Scene}
 -- ---- a call
 
 -- so do all where one of them was called
-same_sites : (ports : List Port) (n : ℕ) (p q : Port) → slice_get ports n ≡ Some p → place_of q ≡ place_of p → Stays (account_of p) (account_of q) → map site_of (set ports n q) ≡ map site_of ports
-same_sites ports n p q is place stays =
-    map-set_same site_of ports n q p (same_site p q place stays ∙ ap site_of (sym (get_or_from_slice_get ports n p p is)))
+same_sites : (ports : List Port) (n : ℕ) (p q : Port) → slice_get ports n ≡ Some p → own_site q ≡ own_site p → Stays (account_of p) (account_of q) → map site_of (set ports n q) ≡ map site_of ports
+same_sites ports n p q is site stays =
+    map-set_same site_of ports n q p (same_site p q site stays ∙ ap site_of (sym (get_or_from_slice_get ports n p p is)))
 
 -- what never changes of a scheduler with this configuration
 abbrev scheduler_at : Plan → Site → ℕ → SchedulerSite
@@ -52,7 +52,7 @@ answer_keeps (Enqueue n fields) (answers.Enqueued port op outcome) s t h =
     let call = h.2 in
     record {
       scheduler = ap (λ r. scheduler_of r.sight) call.recorder;
-      ports = ap (map site_of) call.ports ∙ same_sites s.ports n call.port call.after call.port_is call.call.place call.call.credit;
+      ports = ap (map site_of) call.ports ∙ same_sites s.ports n call.port call.after call.port_is call.call.site call.call.credit;
     }
 answer_keeps (Enqueue n fields) (answers.Dequeued port outcome) s t h = absurd h
 answer_keeps (Enqueue n fields) (answers.Swept swept) s t h = absurd h
@@ -62,7 +62,7 @@ answer_keeps (Dequeue n max) (answers.Dequeued port outcome) s t h =
     let call = h.1 in
     record {
       scheduler = ap (λ r. scheduler_of r.sight) call.recorder;
-      ports = ap (map site_of) call.ports ∙ same_sites s.ports n call.port call.after call.port_is call.call.place call.call.credit;
+      ports = ap (map site_of) call.ports ∙ same_sites s.ports n call.port call.after call.port_is call.call.site call.call.credit;
     }
 answer_keeps (Dequeue n max) (answers.Swept swept) s t h = absurd h
 answer_keeps (Dequeue n max) answers.Shut s t h = absurd h

@@ -6,7 +6,7 @@ use Rattle.event_answers.specs.declared.answer.Refused.{Refused}
 use Rattle.event_answers.specs.declared.answer.Refused.TheVariants.{Stopped}
 use Rattle.event_ports.specs.Draws.{Settles}
 use Rattle.event_ports.specs.Lanes.{Dequeues, Releases, Rests, SubmitsTo, lane_for, reply_of}
-use Rattle.event_ports.specs.Ports.{Pays, Refuses, account_of, hand, links, place_of, pocket_of, released_first, seen_by, was_filled}
+use Rattle.event_ports.specs.Ports.{Pays, Refuses, account_of, hand, links, own_site, pocket_of, released_first, seen_by, was_filled}
 use Rattle.event_ports.specs.declared.lane.Lane.TheVariants.{Own}
 use Rattle.event_ports.specs.declared.port.Port.{Port}
 use Rattle.evt_types.specs.declared.event.Delivery.{Delivery}
@@ -16,7 +16,7 @@ use Rattle.evt_types.specs.declared.event.Op.TheVariants as ops
 -- The port enqueued the event, or refused it: what was taken was submitted and paid for; what was refused changed nothing that was
 -- submitted or is held.
 pub record IsEnqueue (p : Port) (e : Event) (outcome : Result (Unit {0}) Refused) (q : Port) : Type 0 where
-  pub place : place_of q ≡ place_of p
+  pub site : own_site q ≡ own_site p
   pub credit : Stays (account_of p) (account_of q)
   pub submitted : MatchResult outcome (λ _. SubmitsTo (lane_for e.op (hand p).holding) (reply_of e) (hand p) (hand q)) (λ _. Rests (hand p) (hand q))
   pub pays : OnOk outcome (Pays e.op p q)
@@ -26,13 +26,13 @@ pub record IsEnqueue (p : Port) (e : Event) (outcome : Result (Unit {0}) Refused
 -- The port dequeued at most so many events, of those that its lanes had, after it released what is released first, and saw its own
 -- lane empty where fewer came than may; or its reply rings hadn't room for all releases, and it received nothing.
 pub record IsDequeue (p : Port) (max : ℕ) (outcome : Result (List Delivery) Behind) (q : Port) : Type 0 where
-  pub place : place_of q ≡ place_of p
+  pub site : own_site q ≡ own_site p
   pub credit : Stays (account_of p) (account_of q)
   pub ok : IfOk outcome (λ deliveries. Dequeues (links p) (released_first p) (hand p) (hand q) deliveries)
-  pub few : IfOk outcome (λ deliveries. (length deliveries ≤ max) × (length (hand q).holding ≤ (place_of p).lanes.depth))
-  pub drained : IfOk outcome (λ deliveries. length deliveries < max → length (hand q).holding < (place_of p).lanes.depth → seen_by q ≡ [])
+  pub few : IfOk outcome (λ deliveries. (length deliveries ≤ max) × (length (hand q).holding ≤ (own_site p).lanes.depth))
+  pub drained : IfOk outcome (λ deliveries. length deliveries < max → length (hand q).holding < (own_site p).lanes.depth → seen_by q ≡ [])
   pub own_first : IfOk outcome (λ deliveries. length ((hand q).got Own) ≢ length ((hand p).got Own) + length deliveries → seen_by q ≡ [])
-  pub behind : IfErr outcome (λ b. IsTrue (place_of p).implicit × (b.released < length (hand p).holding) × Releases b.released (hand p) (hand q) × was_filled q ops.Release)
+  pub behind : IfErr outcome (λ b. IsTrue (own_site p).implicit × (b.released < length (hand p).holding) × Releases b.released (hand p) (hand q) × was_filled q ops.Release)
   pub settled : MatchResult outcome
-      (λ _. Settles (place_of p).quantum ((pocket_of p + released_first p) % 2 ^ 64) (account_of p) (pocket_of q) (account_of q))
-      (λ b. Settles (place_of p).quantum ((pocket_of p + b.released) % 2 ^ 64) (account_of p) (pocket_of q) (account_of q))
+      (λ _. Settles (own_site p).quantum ((pocket_of p + released_first p) % 2 ^ 64) (account_of p) (pocket_of q) (account_of q))
+      (λ b. Settles (own_site p).quantum ((pocket_of p + b.released) % 2 ^ 64) (account_of p) (pocket_of q) (account_of q))

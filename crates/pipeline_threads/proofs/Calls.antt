@@ -1,7 +1,7 @@
 -- What a port's calls leave as it was, one after the other.
 use Rattle.std.proofs.Common.{◌≡◌, ℕ, [], Some, ap, ◌∙◌}
 use Rattle.credit_pool.specs.Accounts.{Stays}
-use Rattle.event_ports.specs.Ports.{Place, account_of, links, place_of}
+use Rattle.event_ports.specs.Ports.{DeskSite, account_of, links, own_site}
 use Rattle.event_ports.specs.declared.port.Port.{Port}
 use Rattle.event_device.specs.Device.{PortSite, site_of}
 

@@ -4,8 +4,8 @@ use Rattle.std.proofs.lemmas.Nat.{mod_below}
 use Rattle.evt_types.specs.Fault.{IsWithinLimits}
 use Rattle.evt_types.specs.Plan.{Plan, level_of, queue_of, slot_of, is_atomic}
 use Rattle.evt_types.specs.declared.event.Numbered.{Numbered}
-use Rattle.place_set.specs.Places.{Has}
-use Rattle.place_set.specs.declared.places.Places.{Places}
+use Rattle.small_set.specs.SmallSets.{Has}
+use Rattle.small_set.specs.declared.set.SmallSet.{SmallSet}
 use Rattle.sched_core.proofs.Busy.{waiting_there, waits_is}
 use Rattle.sched_core.proofs.Cores.{waiting_here, waits_here}
 use Rattle.sched_core.proofs.News.{slots_range}
@@ -36,13 +36,13 @@ pub slots_within : (v : View) (q : ℕ) → IsWithinLimits v.shape → q < lengt
 slots_within v q limits h w = slot_below v.shape q w.event.flow limits h
 
 -- nothing can be given of the levels that a queue doesn't name
-pub levels_here : (a : Inside) (v : View) (s : Passed) (q : ℕ) (left : Places) → view_in a ≡ v → AreLevels (waits_at a.queues q) left → HasNoneBeside v s q left
+pub levels_here : (a : Inside) (v : View) (s : Passed) (q : ℕ) (left : SmallSet) → view_in a ≡ v → AreLevels (waits_at a.queues q) left → HasNoneBeside v s q left
 levels_here a v s q left view levels =
     subst (λ (u : View). HasNoneBeside u s q left) view
     (levels_beside (view_in a) s q left (λ c never. subst (All (λ (w : Numbered). level_of w.event ≢ c)) (sym (waiting_there a q)) (levels.rest c never)))
 
 -- nothing can be given of the queues in which nothing waits
-pub busy_none : (a : Inside) (v : View) (s : Passed) (busy : Places) → view_in a ≡ v → AreBusy a.queues busy → (r : ℕ) → (¬ Has busy r) → HasNone v s r
+pub busy_none : (a : Inside) (v : View) (s : Passed) (busy : SmallSet) → view_in a ≡ v → AreBusy a.queues busy → (r : ℕ) → (¬ Has busy r) → HasNone v s r
 busy_none a v s busy view all r never = subst (λ (u : View). HasNone u s r) view (none_waits (view_in a) s r (waiting_there a r ∙ all.rest r never))
 
 module _ (a : Inside) (i : ℕ) (old : Waits) (core : IsCore a) (h : i < length a.queues) (is : old ≡ get_or a.queues i old) where
@@ -52,7 +52,7 @@ module _ (a : Inside) (i : ℕ) (old : Waits) (core : IsCore a) (h : i < length 
   pub slot_in_queue : (w : Numbered) → w.event.flow % old.slots ≡ slot_at (view_in a) i w
   slot_in_queue w = ap (λ n. w.event.flow % n) slots_here ∙ slot_agrees a.shape i w.event.flow
 
-  first_of_view : (c : ℕ) (allowed : Places) (w : Numbered) → IsFirstAllowed old c allowed w → IsFirstIn (view_in a) i c allowed w
+  first_of_view : (c : ℕ) (allowed : SmallSet) (w : Numbered) → IsFirstAllowed old c allowed w → IsFirstIn (view_in a) i c allowed w
   first_of_view c allowed w first =
       record {
         waits = subst (λ ws. Contains ws w) (sym (waiting_here a i old h is)) first.waits;
@@ -64,7 +64,7 @@ module _ (a : Inside) (i : ℕ) (old : Waits) (core : IsCore a) (h : i < length 
             (first.first here.0 u here.1 (subst (λ (x : Numbered). level_of x.event ≡ c) (sym here.2) level) (subst (λ (x : Numbered). Has allowed (x.event.flow % old.slots)) (sym here.2) (subst (Has allowed) (sym (slot_in_queue u)) has)));
       }
 
-  none_in_view : (c : ℕ) (allowed : Places) → HasNoneAllowed old c allowed → HasNoneAllowedIn (view_in a) i c allowed
+  none_in_view : (c : ℕ) (allowed : SmallSet) → HasNoneAllowed old c allowed → HasNoneAllowedIn (view_in a) i c allowed
   none_in_view c allowed none = λ u waits level has.
       let here : Contains old.waiting u = waits_here a i old u h is waits in
       none here.0 u here.1 (subst (λ (x : Numbered). level_of x.event ≡ c) (sym here.2) level) (subst (λ (x : Numbered). Has allowed (x.event.flow % old.slots)) (sym here.2) (subst (Has allowed) (sym (slot_in_queue u)) has))
@@ -78,11 +78,11 @@ module _ (a : Inside) (v : View) (q : ℕ) (core : IsCore a) (view : view_in a �
   queue_there : q < length a.queues
   queue_there = let count = core.queues in let same = ap (λ (u : View). length u.shape.queues) view in omega arith
 
-  pub found_first : (c : ℕ) (allowed : Places) (w : Numbered) → IsFirstAllowed (waits_at a.queues q) c allowed w → IsFirstIn v q c allowed w
+  pub found_first : (c : ℕ) (allowed : SmallSet) (w : Numbered) → IsFirstAllowed (waits_at a.queues q) c allowed w → IsFirstIn v q c allowed w
   found_first c allowed w first = subst (λ u. IsFirstIn u q c allowed w) view (first_of_view a q (waits_at a.queues q) core queue_there (waits_is a.queues q queue_there) c allowed w first)
 
   pub found_slot : (slot : ℕ) (w : Numbered) → slot ≡ w.event.flow % (waits_at a.queues q).slots → slot ≡ slot_at v q w
   found_slot slot w is = is ∙ (slot_in_queue a q (waits_at a.queues q) core queue_there (waits_is a.queues q queue_there) w ∙ ap (λ u. slot_at u q w) view)
 
-  pub found_none : (c : ℕ) (allowed : Places) → HasNoneAllowed (waits_at a.queues q) c allowed → HasNoneAllowedIn v q c allowed
+  pub found_none : (c : ℕ) (allowed : SmallSet) → HasNoneAllowed (waits_at a.queues q) c allowed → HasNoneAllowedIn v q c allowed
   found_none c allowed none = subst (λ u. HasNoneAllowedIn u q c allowed) view (none_in_view a q (waits_at a.queues q) core queue_there (waits_is a.queues q queue_there) c allowed none)

@@ -27,7 +27,7 @@ use Rattle.sched_core.specs.Links.{AreLinks}
 use Rattle.sched_core.specs.Service.{AreAhead}
 use Rattle.order_parts.specs.QueuePins.{AreFreePins}
 use Rattle.sched_core.specs.SlotLanes.{AreSlotLanes, slot_lane_count}
-use Rattle.place_set.specs.declared.places.Places.{Places}
+use Rattle.small_set.specs.declared.set.SmallSet.{SmallSet}
 use Rattle.sched_core.specs.View.{waiting_in, next_in, unanswered_in, entries_in, view_in, IsCore}
 use Rattle.order_parts.specs.declared.history.Entry.{Entry}
 use Rattle.order_parts.specs.History.{Entries}
@@ -104,7 +104,7 @@ fresh_order p q h = get_or-map (λ (d : QueueDraft). empty (kept_room d)) p.queu
 nothing_held : (ls : List Entries) (p : Plan) (n : ℕ) → AreEmptyLanes p n ls → sum_by (λ (xs : List Held). length xs) (map unanswered_in ls) ≡ 0
 nothing_held ls p n empty = sum_of_map (λ (xs : List Held). length xs) unanswered_in ls ∙ sum_of_none (λ x. length (unanswered_in x)) ls (All-weaker IsBare (λ (l : Entries). length (unanswered_in l) ≡ 0) (λ l e. ap (λ (ys : List Entry). length (map held_of ys)) e) ls empty.empty)
 
-pub core_new : (p : Plan) (qs : List Waits) (ls : List Entries) (es : Vec ℕ Global) (ps : List (List Pin)) (ks hs : Vec Places Global) (os : Vec (Option ℕ) Global) → IsWithinLimits p → bound_of p < 2 ^ 64 → AreEmptyQueues p (length p.queues) qs → AreEmptyLanes p (lanes_of p) ls → es.items ≡ replicate (lanes_of p) 0 → AreFreePins p (length p.queues) ps → AreLinks p (length p.queues) ks.items → AreAhead p (length p.queues) hs.items → AreSlotLanes p (slot_lane_count p) os.items
+pub core_new : (p : Plan) (qs : List Waits) (ls : List Entries) (es : Vec ℕ Global) (ps : List (List Pin)) (ks hs : Vec SmallSet Global) (os : Vec (Option ℕ) Global) → IsWithinLimits p → bound_of p < 2 ^ 64 → AreEmptyQueues p (length p.queues) qs → AreEmptyLanes p (lanes_of p) ls → es.items ≡ replicate (lanes_of p) 0 → AreFreePins p (length p.queues) ps → AreLinks p (length p.queues) ks.items → AreAhead p (length p.queues) hs.items → AreSlotLanes p (slot_lane_count p) os.items
     → IsCore (record { shape = p; queues = qs; orders = new_orders p; lanes = ls; extras = es; pins = ps; links = ks; ahead = hs; slot_lanes = os; bound = bound_of p; log_room = sweep_room p; inside = 0; entries = 0; shut = false })
 core_new p qs ls es ps ks hs os limits small queues lanes none pins links ahead slot_lanes =
     let waits = nothing_waits p qs (length p.queues) queues in
@@ -135,7 +135,7 @@ core_new p qs ls es ps ks hs os limits small queues lanes none pins links ahead 
           (All-map (λ (ys : List Entry). ys ≡ []) entries_in ls lanes.empty);
     }
 
-pub view_new : (p : Plan) (qs : List Waits) (ls : List Entries) (es : Vec ℕ Global) (ps : List (List Pin)) (ks hs : Vec Places Global) (os : Vec (Option ℕ) Global) → AreEmptyQueues p (length p.queues) qs → AreEmptyLanes p (lanes_of p) ls → es.items ≡ replicate (lanes_of p) 0 → view_in (record { shape = p; queues = qs; orders = new_orders p; lanes = ls; extras = es; pins = ps; links = ks; ahead = hs; slot_lanes = os; bound = bound_of p; log_room = sweep_room p; inside = 0; entries = 0; shut = false }) ≡ view_of p []
+pub view_new : (p : Plan) (qs : List Waits) (ls : List Entries) (es : Vec ℕ Global) (ps : List (List Pin)) (ks hs : Vec SmallSet Global) (os : Vec (Option ℕ) Global) → AreEmptyQueues p (length p.queues) qs → AreEmptyLanes p (lanes_of p) ls → es.items ≡ replicate (lanes_of p) 0 → view_in (record { shape = p; queues = qs; orders = new_orders p; lanes = ls; extras = es; pins = ps; links = ks; ahead = hs; slot_lanes = os; bound = bound_of p; log_room = sweep_room p; inside = 0; entries = 0; shut = false }) ≡ view_of p []
 unfolding view_of extras
 view_new p qs ls es ps ks hs os queues lanes none =
     same_parts p _ _ _ _ _ _ _ _ _ _ false

@@ -16,8 +16,8 @@ use Rattle.evt_types.specs.declared.event.Kind.TheVariants.{Ordered, Atomic, Par
 use Rattle.evt_types.specs.declared.event.Numbered.{Numbered}
 use Rattle.evt_types.specs.declared.step.Step.{Step}
 use Rattle.evt_types.specs.declared.step.Step.TheVariants.{Give}
-use Rattle.place_set.specs.Places.{Has, IsEmpty, IsFirst, SameBut}
-use Rattle.place_set.specs.declared.places.Places.{Places}
+use Rattle.small_set.specs.SmallSets.{Has, IsEmpty, IsFirst, SameBut}
+use Rattle.small_set.specs.declared.set.SmallSet.{SmallSet}
 use Rattle.sched_core.specs.Inner.{slots_for}
 use Rattle.sched_core.specs.Offered.{numbered_in, FitsSlot, HasAllowed, HasNoneAllowedIn, HasNoneIn, IsFirstIn, IsOfferIn, IsOfferOf, slot_at}
 use Rattle.sched_core.specs.Service.{IsServedFirst}
@@ -55,15 +55,15 @@ pub fits_slot : (v : View) (s : Passed) (l q : ℕ) (w : Numbered) → Fits v s 
 fits_slot v s l q w fits = record { lane = fits.lane; ready = fits.ready; linked = fits.linked; room = fits.room; alone = fits.alone; places = fits.places }
 
 -- where no event of the level has an allowed slot no lane may take one of them
-pub none_in : (v : View) (s : Passed) (q c : ℕ) (allowed : Places) → HasAllowed v s q allowed → ((w : Numbered) → slot_at v q w < slots_for v.shape q) → HasNoneAllowedIn v q c allowed → HasNoneIn v s q c
+pub none_in : (v : View) (s : Passed) (q c : ℕ) (allowed : SmallSet) → HasAllowed v s q allowed → ((w : Numbered) → slot_at v q w < slots_for v.shape q) → HasNoneAllowedIn v q c allowed → HasNoneIn v s q c
 none_in v s q c allowed has within none w waits level m fits = none w waits level (has (slot_at v q w) (within w) (m, fits_slot v s m q w fits))
 
 -- where every slot is allowed none is missing
-pub all_allowed : (v : View) (s : Passed) (q : ℕ) (all : Places) → ((slot : ℕ) → slot < slots_for v.shape q → Has all slot) → HasAllowed v s q all
+pub all_allowed : (v : View) (s : Passed) (q : ℕ) (all : SmallSet) → ((slot : ℕ) → slot < slots_for v.shape q → Has all slot) → HasAllowed v s q all
 all_allowed v s q all has slot within some = has slot within
 
 -- the first event of an allowed slot, for the best lane that may take it
-pub offer_in : (v : View) (s : Passed) (q c l slot : ℕ) (allowed : Places) (w : Numbered) → HasAllowed v s q allowed → ((u : Numbered) → slot_at v q u < slots_for v.shape q) → IsFirstIn v q c allowed w → slot ≡ slot_at v q w
+pub offer_in : (v : View) (s : Passed) (q c l slot : ℕ) (allowed : SmallSet) (w : Numbered) → HasAllowed v s q allowed → ((u : Numbered) → slot_at v q u < slots_for v.shape q) → IsFirstIn v q c allowed w → slot ≡ slot_at v q w
     → FitsSlot v s q slot l → ((m : ℕ) → FitsSlot v s q slot m → ¬ IsBetterLane v m l) → IsOfferIn v s q c l w
 offer_in v s q c l slot allowed w has within first is fits best =
     record {
@@ -75,33 +75,33 @@ offer_in v s q c l slot allowed w has within first is fits best =
     }
 
 -- the slot of an event that no lane may take need not be asked again
-pub allowed_rest : (v : View) (s : Passed) (q slot : ℕ) (allowed rest : Places) → ((m : ℕ) → ¬ FitsSlot v s q slot m) → SameBut slot allowed rest → HasAllowed v s q allowed → HasAllowed v s q rest
+pub allowed_rest : (v : View) (s : Passed) (q slot : ℕ) (allowed rest : SmallSet) → ((m : ℕ) → ¬ FitsSlot v s q slot m) → SameBut slot allowed rest → HasAllowed v s q allowed → HasAllowed v s q rest
 allowed_rest v s q slot allowed rest none others has t within some =
     ⊎_elim (λ e. absurd (none some.0 (subst (λ k. FitsSlot v s q k some.0) e some.1))) (λ ne. (others t ne).1 (has t within some)) (cases_eq t slot)
 
 -- ---- a walk over places
 
 -- where the lowest place is taken out, what is beside the rest is that place or was beside before
-beside : (n r : ℕ) (left rest : Places) → SameBut n left rest → ¬ Has rest r → (r ≡ n) ⊎ (¬ Has left r)
+beside : (n r : ℕ) (left rest : SmallSet) → SameBut n left rest → ¬ Has rest r → (r ≡ n) ⊎ (¬ Has left r)
 beside n r left rest others never = ⊎_elim (λ e. inl e) (λ ne. inr (λ has. never ((others r ne).1 has))) (cases_eq r n)
 
 -- ---- the levels of a queue
 
 -- nothing can be given of the levels that aren't left to look at
-abbrev pub HasNoneBeside : View → Passed → ℕ → Places → Type 0
+abbrev pub HasNoneBeside : View → Passed → ℕ → SmallSet → Type 0
 HasNoneBeside v s q left = (c : ℕ) → (¬ Has left c) → HasNoneIn v s q c
 
 -- nothing waits of the levels that aren't looked at
-pub levels_beside : (v : View) (s : Passed) (q : ℕ) (left : Places) → ((c : ℕ) → (¬ Has left c) → All (λ (w : Numbered). level_of w.event ≢ c) (waiting_at v q)) → HasNoneBeside v s q left
+pub levels_beside : (v : View) (s : Passed) (q : ℕ) (left : SmallSet) → ((c : ℕ) → (¬ Has left c) → All (λ (w : Numbered). level_of w.event ≢ c) (waiting_at v q)) → HasNoneBeside v s q left
 levels_beside v s q left rest c never w waits here m fits = subst (λ (x : Numbered). level_of x.event ≢ c) waits.2 (rest c never waits.0 w waits.1) here
 
-pub level_more : (v : View) (s : Passed) (q c : ℕ) (left next : Places) → SameBut c left next → HasNoneIn v s q c → HasNoneBeside v s q left → HasNoneBeside v s q next
+pub level_more : (v : View) (s : Passed) (q c : ℕ) (left next : SmallSet) → SameBut c left next → HasNoneIn v s q c → HasNoneBeside v s q left → HasNoneBeside v s q next
 level_more v s q c left next others here none k never = ⊎_elim (λ e. subst (HasNoneIn v s q) (sym e) here) (λ was. none k was) (beside c k left next others never)
 
-pub none_beside : (v : View) (s : Passed) (q : ℕ) (left : Places) → IsEmpty left → HasNoneBeside v s q left → HasNone v s q
+pub none_beside : (v : View) (s : Passed) (q : ℕ) (left : SmallSet) → IsEmpty left → HasNoneBeside v s q left → HasNone v s q
 none_beside v s q left empty none w waits m fits = none (level_of w.event) (empty (level_of w.event)) w waits refl m fits
 
-not_earlier : (v : View) (s : Passed) (q c l : ℕ) (left : Places) (w : Numbered) → IsFirst left c → HasNoneBeside v s q left → IsOfferIn v s q c l w → (u : Numbered) (m : ℕ) → WaitsIn v q u → Fits v s m q u → is_earlier u w ≡ false
+not_earlier : (v : View) (s : Passed) (q c l : ℕ) (left : SmallSet) (w : Numbered) → IsFirst left c → HasNoneBeside v s q left → IsOfferIn v s q c l w → (u : Numbered) (m : ℕ) → WaitsIn v q u → Fits v s m q u → is_earlier u w ≡ false
 not_earlier v s q c l left w least none offer u m waits fits =
     false_from_ne_true (is_earlier u w) (λ earlier. ⊎_elim
     (λ lower. let under : level_of u.event < c = subst (λ n. level_of u.event < n) offer.level (ltb-true _ _ lower) in none (level_of u.event) (λ has. let le = least.first (level_of u.event) has in omega arith) u waits refl m fits)
@@ -123,7 +123,7 @@ IsOfferAt v s q c y = (y.delivery.queue ≡ q) × IsOfferIn v s q c y.lane (numb
 pub offer_made : (v : View) (s : Passed) (q c l : ℕ) (w : Numbered) (y : Offer) → y.lane ≡ l → y.delivery.queue ≡ q → numbered_in y.delivery ≡ w → IsOfferIn v s q c l w → IsOfferAt v s q c y
 offer_made v s q c l w y lane queue event offer = (queue, subst (λ k. IsOfferIn v s q c k (numbered_in y.delivery)) (sym lane) (subst (IsOfferIn v s q c l) (sym event) offer))
 
-pub offer_first : (v : View) (s : Passed) (q c : ℕ) (left : Places) (o : Option Offer) → IsFirst left c → HasNoneBeside v s q left → IfSome o (IsOfferAt v s q c) → IfSome o (IsOfferFrom v s q)
+pub offer_first : (v : View) (s : Passed) (q c : ℕ) (left : SmallSet) (o : Option Offer) → IsFirst left c → HasNoneBeside v s q left → IfSome o (IsOfferAt v s q c) → IfSome o (IsOfferFrom v s q)
 offer_first v s q c left None least none offer = tt
 offer_first v s q c left (Some y) least none offer =
     let this = offer.1 in (offer.0, record { waits = this.waits; fits = this.fits; best = this.best; first = not_earlier v s q c y.lane left (numbered_in y.delivery) least none this })
@@ -131,11 +131,11 @@ offer_first v s q c left (Some y) least none offer =
 -- ---- the queue
 
 -- nothing can be given of the queues that aren't left to look at
-abbrev pub NothingBeside : View → Passed → Places → Type 0
+abbrev pub NothingBeside : View → Passed → SmallSet → Type 0
 NothingBeside v s left = (q : ℕ) → (¬ Has left q) → HasQuota v s q → HasNone v s q
 
 -- what is left without a place was left before
-pub still : (n r : ℕ) (left rest : Places) → (¬ Has rest n) → SameBut n left rest → Has rest r → Has left r
+pub still : (n r : ℕ) (left rest : SmallSet) → (¬ Has rest n) → SameBut n left rest → Has rest r → Has left r
 still n r left rest gone others has = ⊎_elim (λ e. absurd (gone (subst (Has rest) e has))) (λ ne. (others r ne).0 has) (cases_eq r n)
 
 -- a queue's offer is the choice where the queues that are served before have none
@@ -143,7 +143,7 @@ choice_is : (v : View) (s : Passed) (q l : ℕ) (w : Numbered) → q < length v.
 choice_is v s q l w there quota offer before = record { there = there; quota = quota; waits = offer.waits; fits = offer.fits; lane = offer.best; event = offer.first; queue = λ r _ quota first. before r quota first }
 
 -- so is the offer of the queue that is served first of those that are left
-pub served_offer : (v : View) (s : Passed) (n : ℕ) (left : Places) (o : Option Offer) → IsServedFirst v.shape left n → NothingBeside v s left → n < length v.shape.queues → HasQuota v s n → IfSome o (IsOfferFrom v s n)
+pub served_offer : (v : View) (s : Passed) (n : ℕ) (left : SmallSet) (o : Option Offer) → IsServedFirst v.shape left n → NothingBeside v s left → n < length v.shape.queues → HasQuota v s n → IfSome o (IsOfferFrom v s n)
     → IfSome o (λ y. IsChoice v s y.lane y.delivery.queue (numbered_in y.delivery))
 served_offer v s n left None first nothing there quota offer = tt
 served_offer v s n left (Some y) first nothing there quota offer =

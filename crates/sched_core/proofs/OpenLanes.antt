@@ -14,8 +14,8 @@ use Rattle.std.proofs.lemmas.Nat.{div-mul-add, mod-mul-add}
 use Rattle.std.proofs.lemmas.Nat.Bits.{bit_at_above}
 use Rattle.std.proofs.lemmas.Option.{get_or_from_slice_get, slice_get_within}
 use Rattle.lists.specs.Lists.{has}
-use Rattle.place_set.specs.Places.{Has, IsEmpty, IsFirst, SameBut}
-use Rattle.place_set.specs.declared.places.Places.{Places}
+use Rattle.small_set.specs.SmallSets.{Has, IsEmpty, IsFirst, SameBut}
+use Rattle.small_set.specs.declared.set.SmallSet.{SmallSet}
 use Rattle.sched_core.proofs.Offers.{not_itself, not_better, not_better_too}
 use Rattle.sched_core.proofs.News.{slots_range}
 use Rattle.sched_core.proofs.Pinned.{alone_may, free_may, may_is_alone, may_is_holder, stands_on}
@@ -38,13 +38,13 @@ use Rattle.transcripts.specs.Standing.{View, unanswered_at}
 -- ---- a walk over lanes
 
 -- the best one of the lanes that were walked over: all but those that are left, which come after it
-pub record IsWalked (v : View) (lanes left : Places) (best : ℕ) : Type 0 where
+pub record IsWalked (v : View) (lanes left : SmallSet) (best : ℕ) : Type 0 where
   pub among : (m : ℕ) → Has left m → Has lanes m
   pub there : Has lanes best
   pub later : (m : ℕ) → Has left m → best < m
   pub least : (m : ℕ) → Has lanes m → ¬ Has left m → ¬ IsBetterLane v m best
 
-module _ (v : View) (lanes left rest : Places) (k : ℕ) (first : IsFirst left k) (gone : Has rest k → ⊥) (others : SameBut k left rest) where
+module _ (v : View) (lanes left rest : SmallSet) (k : ℕ) (first : IsFirst left k) (gone : Has rest k → ⊥) (others : SameBut k left rest) where
   stayed : (m : ℕ) → Has rest m → Has left m × (m ≢ k)
   stayed m has = let apart : m ≢ k = λ e. gone (subst (Has rest) e has) in ((others m apart).0 has, apart)
 
@@ -89,7 +89,7 @@ module _ (v : View) (lanes left rest : Places) (k : ℕ) (first : IsFirst left k
 -- ---- the lane of a pinned slot
 
 -- of the lanes those may hold the slot that its pin allows
-module _ (a : Inside) (v : View) (lanes : Places) (q slot : ℕ) (core : IsCore a) (view : view_in a ≡ v) (queue : q < length v.shape.queues) where
+module _ (a : Inside) (v : View) (lanes : SmallSet) (q slot : ℕ) (core : IsCore a) (view : view_in a ≡ v) (queue : q < length v.shape.queues) where
   pub may_hold : (l : ℕ) → Has lanes l → may_pin (pin_in a.pins q slot) l ≡ true → MayHold v lanes q slot l
   may_hold l has may = subst (λ w. MayHold w lanes q slot l) view (has, may_is_alone a.shape (map unanswered_in a.lanes) a.pins q slot l core.pins may)
 
@@ -107,7 +107,7 @@ module _ (a : Inside) (v : View) (lanes : Places) (q slot : ℕ) (core : IsCore 
   free_holds e (Some l) there = may_hold l there (free_may (pin_in a.pins q slot) l e)
 
 -- a set has numbers below 64 alone
-pub has_low : (lanes : Places) (l : ℕ) → lanes.bits < 2 ^ 64 → Has lanes l → l < 64
+pub has_low : (lanes : SmallSet) (l : ℕ) → lanes.bits < 2 ^ 64 → Has lanes l → l < 64
 has_low lanes l fits has = ⊎_elim (λ lt. lt) (λ ge. let zero = bit_at_above lanes.bits 64 l fits ge in absurd (omega arith)) (cases_lt l 64)
 
 -- ---- who serves a queue
@@ -165,28 +165,28 @@ fits_open v s q slot l ports fits =
     record { lane = own; ready = fits.ready; linked = port_serves v.shape l q slot own ∙ fits.linked; room = fits.room; places = fits.places }
 
 -- a lane that fits the slot is an open one that may hold it
-pub hold_fits : (v : View) (s : Passed) (q slot : ℕ) (lanes : Places) → AreOpenLanes v s q lanes → (l : ℕ) → MayHold v lanes q slot l → FitsSlot v s q slot l
+pub hold_fits : (v : View) (s : Passed) (q slot : ℕ) (lanes : SmallSet) → AreOpenLanes v s q lanes → (l : ℕ) → MayHold v lanes q slot l → FitsSlot v s q slot l
 hold_fits v s q slot lanes are l may = open_fits v s q slot l ((are l).0 may.0) may.1
 
-pub fits_hold : (v : View) (s : Passed) (q slot : ℕ) (lanes : Places) → has_flow_lanes v.shape q ≡ false → AreOpenLanes v s q lanes → (l : ℕ) → FitsSlot v s q slot l → MayHold v lanes q slot l
+pub fits_hold : (v : View) (s : Passed) (q slot : ℕ) (lanes : SmallSet) → has_flow_lanes v.shape q ≡ false → AreOpenLanes v s q lanes → (l : ℕ) → FitsSlot v s q slot l → MayHold v lanes q slot l
 fits_hold v s q slot lanes ports are l fits = ((are l).1 (fits_open v s q slot l ports fits), fits.alone)
 
-pub held_fits : (v : View) (s : Passed) (q slot : ℕ) (lanes : Places) (o : Option ℕ) → AreOpenLanes v s q lanes → IfSome o (MayHold v lanes q slot) → IfSome o (FitsSlot v s q slot)
+pub held_fits : (v : View) (s : Passed) (q slot : ℕ) (lanes : SmallSet) (o : Option ℕ) → AreOpenLanes v s q lanes → IfSome o (MayHold v lanes q slot) → IfSome o (FitsSlot v s q slot)
 held_fits v s q slot lanes None are holds = tt
 held_fits v s q slot lanes (Some l) are holds = hold_fits v s q slot lanes are l holds
 
-pub held_best : (v : View) (s : Passed) (q slot : ℕ) (lanes : Places) (o : Option ℕ) → has_flow_lanes v.shape q ≡ false → AreOpenLanes v s q lanes → IfSome o (λ l. (m : ℕ) → MayHold v lanes q slot m → ¬ IsBetterLane v m l)
+pub held_best : (v : View) (s : Passed) (q slot : ℕ) (lanes : SmallSet) (o : Option ℕ) → has_flow_lanes v.shape q ≡ false → AreOpenLanes v s q lanes → IfSome o (λ l. (m : ℕ) → MayHold v lanes q slot m → ¬ IsBetterLane v m l)
     → IfSome o (λ l. (m : ℕ) → FitsSlot v s q slot m → ¬ IsBetterLane v m l)
 held_best v s q slot lanes None ports are best = tt
 held_best v s q slot lanes (Some l) ports are best = λ m fits. best m (fits_hold v s q slot lanes ports are m fits)
 
-pub held_none : (v : View) (s : Passed) (q slot : ℕ) (lanes : Places) (o : Option ℕ) → has_flow_lanes v.shape q ≡ false → AreOpenLanes v s q lanes → IfNone o ((l : ℕ) → ¬ MayHold v lanes q slot l)
+pub held_none : (v : View) (s : Passed) (q slot : ℕ) (lanes : SmallSet) (o : Option ℕ) → has_flow_lanes v.shape q ≡ false → AreOpenLanes v s q lanes → IfNone o ((l : ℕ) → ¬ MayHold v lanes q slot l)
     → IfNone o ((l : ℕ) → ¬ FitsSlot v s q slot l)
 held_none v s q slot lanes None ports are none = λ l fits. none l (fits_hold v s q slot lanes ports are l fits)
 held_none v s q slot lanes (Some l) ports are none = tt
 
 -- where a queue has no place for an event more, no lane is open to it
-pub shut_open : (v : View) (s : Passed) (q : ℕ) (lanes : Places) → IsEmpty lanes → ¬ HasPlace v q → AreOpenLanes v s q lanes
+pub shut_open : (v : View) (s : Passed) (q : ℕ) (lanes : SmallSet) → IsEmpty lanes → ¬ HasPlace v q → AreOpenLanes v s q lanes
 shut_open v s q lanes none full l = (λ has. absurd (none l has), λ opened. absurd (full opened.places))
 
 -- how many events of a lane are unanswered
@@ -201,7 +201,7 @@ room_here a l core h =
     (λ less. omega (arith, less, held, room), λ less. omega (arith, less, held, room))
 
 -- the open ones are those that serve the queue and have room, without those that are passed over
-pub words_open : (a : Inside) (s : Passed) (q : ℕ) (links roomy both closed lanes : Places) → IsCore a → HasPlace (view_in a) q → AreLinksOf a.shape q links → AreRoomy a.lanes roomy
+pub words_open : (a : Inside) (s : Passed) (q : ℕ) (links roomy both closed lanes : SmallSet) → IsCore a → HasPlace (view_in a) q → AreLinksOf a.shape q links → AreRoomy a.lanes roomy
     → ((l : ℕ) → l < 64 → Has closed l ↔ (has_bounced s l ≡ true)) → ((l : ℕ) → Has both l ↔ (Has links l × Has roomy l)) → ((l : ℕ) → Has lanes l ↔ (Has both l × ¬ Has closed l)) → AreOpenLanes (view_in a) s q lanes
 words_open a s q links roomy both closed lanes core place are_links are_roomy are_closed are_both are_lanes l = (
   λ has.
@@ -232,11 +232,11 @@ words_open a s q links roomy both closed lanes core place are_links are_roomy ar
 -- ---- the slots of ports
 
 -- where no lane is open, no event of the queue may go
-pub none_allowed : (v : View) (s : Passed) (q : ℕ) (lanes slots : Places) → has_flow_lanes v.shape q ≡ false → AreOpenLanes v s q lanes → IsEmpty lanes → HasAllowed v s q slots
+pub none_allowed : (v : View) (s : Passed) (q : ℕ) (lanes slots : SmallSet) → has_flow_lanes v.shape q ≡ false → AreOpenLanes v s q lanes → IsEmpty lanes → HasAllowed v s q slots
 none_allowed v s q lanes slots ports are none t within some = absurd (none some.0 ((are some.0).1 (fits_open v s q t some.0 ports some.1)))
 
 -- a slot whose events an open lane may take stands on none of the lanes that aren't open
-pub ports_allowed : (a : Inside) (s : Passed) (q : ℕ) (lanes links closed slots : Places) → IsCore a → q < length a.shape.queues → has_flow_lanes a.shape q ≡ false → AreOpenLanes (view_in a) s q lanes
+pub ports_allowed : (a : Inside) (s : Passed) (q : ℕ) (lanes links closed slots : SmallSet) → IsCore a → q < length a.shape.queues → has_flow_lanes a.shape q ≡ false → AreOpenLanes (view_in a) s q lanes
     → ((l : ℕ) → Has closed l ↔ (Has links l × ¬ Has lanes l))
     → ((t : ℕ) → t < 64 → (0 < (pin_in a.pins q t).count → (pin_in a.pins q t).lane < 64) → Has slots t ↔ ((l : ℕ) → Has closed l → ¬ IsOn (pin_in a.pins q t) l)) → HasAllowed (view_in a) s q slots
 ports_allowed a s q lanes links closed slots core h ports are is off t within some =

@@ -1,7 +1,7 @@
 -- The ports' lanes that serve the queues.
 use Rattle.std.specs.Prelude.{ℕ, ◌≡◌, true, List, length}
 use Rattle.evt_types.specs.Plan.{Plan, serves}
-use Rattle.place_set.specs.declared.places.Places.{Places}
+use Rattle.small_set.specs.declared.set.SmallSet.{SmallSet}
 use Rattle.sched_core.specs.PlaceSets.{AreSets, AreThose}
 
 -- the port's lane serves the queue
@@ -9,9 +9,9 @@ abbrev pub Serves : Plan → ℕ → ℕ → Type 0
 Serves p q l = serves p l q 0 ≡ true
 
 -- these are the ports' lanes that serve the queue
-abbrev pub AreLinksOf : Plan → ℕ → Places → Type 0
+abbrev pub AreLinksOf : Plan → ℕ → SmallSet → Type 0
 AreLinksOf p q lanes = AreThose (Serves p q) (length p.ports) lanes
 
 -- for each of the first queues the ports' lanes that serve it
-abbrev pub AreLinks : Plan → ℕ → List Places → Type 0
+abbrev pub AreLinks : Plan → ℕ → List SmallSet → Type 0
 AreLinks p n links = AreSets (Serves p) (length p.ports) n links

@@ -3,8 +3,8 @@ use Rattle.std.specs.Prelude.{ℕ, ◌≡◌, ◌<◌, ◌≤◌, ◌↔◌, fal
 use Rattle.transcripts.specs.Choice.{Passed, Fits, HasNoOther, IsBetterLane, WaitsIn, has_bounced, is_earlier}
 use Rattle.evt_types.specs.Plan.{lanes_of, depth_of, queue_of, level_of, serves, slot_of, is_atomic, is_ordered}
 use Rattle.transcripts.specs.Standing.{View, places_at, unanswered_at}
-use Rattle.place_set.specs.Places.{Has}
-use Rattle.place_set.specs.declared.places.Places.{Places}
+use Rattle.small_set.specs.SmallSets.{Has}
+use Rattle.small_set.specs.declared.set.SmallSet.{SmallSet}
 use Rattle.sched_core.specs.Inner.{slots_for}
 use Rattle.evt_types.specs.declared.event.Delivery.{Delivery}
 use Rattle.evt_types.specs.declared.event.Numbered.{Numbered}
@@ -35,11 +35,11 @@ pub record IsOpenLane (v : View) (s : Passed) (q l : ℕ) : Type 0 where
   pub places : is_ordered (queue_of v.shape q).kind ≡ true → length (places_at v q) < (queue_of v.shape q).order
 
 -- these are the ports' lanes that are open to the queue
-abbrev pub AreOpenLanes : View → Passed → ℕ → Places → Type 0
+abbrev pub AreOpenLanes : View → Passed → ℕ → SmallSet → Type 0
 AreOpenLanes v s q lanes = (l : ℕ) → Has lanes l ↔ IsOpenLane v s q l
 
 -- one of the lanes, which may hold the slot
-abbrev pub MayHold : View → Places → ℕ → ℕ → ℕ → Type 0
+abbrev pub MayHold : View → SmallSet → ℕ → ℕ → ℕ → Type 0
 MayHold v lanes q slot l = Has lanes l × (is_atomic (queue_of v.shape q).kind ≡ true → HasNoOther v l q slot)
 
 -- some lane may take an event of the slot
@@ -47,7 +47,7 @@ abbrev pub IsAllowed : View → Passed → ℕ → ℕ → Type 0
 IsAllowed v s q slot = (l : ℕ) × FitsSlot v s q slot l
 
 -- none of the queue's slots is missing whose events some lane may take
-abbrev pub HasAllowed : View → Passed → ℕ → Places → Type 0
+abbrev pub HasAllowed : View → Passed → ℕ → SmallSet → Type 0
 HasAllowed v s q slots = (slot : ℕ) → slot < slots_for v.shape q → IsAllowed v s q slot → Has slots slot
 
 -- the slot of a waiting event of the queue
@@ -55,14 +55,14 @@ abbrev pub slot_at : View → ℕ → Numbered → ℕ
 slot_at v q w = slot_of v.shape q w.event.flow
 
 -- of the queue's level the first event whose slot is allowed
-pub record IsFirstIn (v : View) (q c : ℕ) (allowed : Places) (w : Numbered) : Type 0 where
+pub record IsFirstIn (v : View) (q c : ℕ) (allowed : SmallSet) (w : Numbered) : Type 0 where
   pub waits : WaitsIn v q w
   pub level : level_of w.event ≡ c
   pub slot : Has allowed (slot_at v q w)
   pub first : (u : Numbered) → WaitsIn v q u → level_of u.event ≡ c → Has allowed (slot_at v q u) → w.number ≤ u.number
 
 -- no event of the queue's level has an allowed slot
-abbrev pub HasNoneAllowedIn : View → ℕ → ℕ → Places → Type 0
+abbrev pub HasNoneAllowedIn : View → ℕ → ℕ → SmallSet → Type 0
 HasNoneAllowedIn v q c allowed = (w : Numbered) → WaitsIn v q w → level_of w.event ≡ c → ¬ Has allowed (slot_at v q w)
 
 -- no lane may take an event of the queue's level

@@ -3,23 +3,23 @@
 ghost use Rattle.std.specs.Prelude.{◌≡◌, ℕ, ◌<◌, ◌↔◌, true, IsTrue, length, IfSome, IfNone};
 ghost use Rattle.transcripts.specs.Choice.{HasNoOther, IsBetterLane};
 ghost use Rattle.evt_types.specs.Plan.{has_flow_lanes, lanes_of, queue_of, is_atomic};
-ghost use Rattle.place_set.specs.Places.{Has};
+ghost use Rattle.small_set.specs.SmallSets.{Has};
 ghost use Rattle.sched_core.specs.Offered.{AreOpenLanes, FitsSlot, HasAllowed, HasPlace, MayHold, better_of};
 
 use crate::skips::Skips;
 use crate::slot_lanes::SLOTS;
 use crate::state::Core;
 use evt_types::Serving;
-use place_set::{MAX_PLACES, Places};
+use small_set::{MAX_MEMBERS, SmallSet};
 
 impl Core {
     /// The ports' lanes that serve the queue, have room and aren't passed over.
-    pub(crate) fn open_lanes(&self, queue: usize, skips: &Skips) -> Places
+    pub(crate) fn open_lanes(&self, queue: usize, skips: &Skips) -> SmallSet
         requires { queue < length self.now.shape.queues }
         ensures { AreOpenLanes self.now skips.now queue result }
     {
         if !self.has_place(queue) {
-            return Places::none();
+            return SmallSet::none();
         }
         let links = self.links[queue];
         links.both(self.lanes.roomy()).except(skips.closed())
@@ -35,7 +35,7 @@ impl Core {
 
     /// The slots of the queue whose events some lane may take, and perhaps others: where flow lanes serve the queue, all of its slots.
     #[cold]
-    pub(crate) fn allowed(&self, queue: usize, lanes: Places, skips: &Skips) -> Places
+    pub(crate) fn allowed(&self, queue: usize, lanes: SmallSet, skips: &Skips) -> SmallSet
         requires queue { queue < length self.now.shape.queues }
         requires lanes { AreOpenLanes self.now skips.now queue lanes }
         ensures { HasAllowed self.now skips.now queue result }
@@ -43,7 +43,7 @@ impl Core {
         // The use of a field makes known what holds of each core.
         let _ = &self.shape;
         if self.has_flow_lanes(queue) {
-            return Places::below(MAX_PLACES);
+            return SmallSet::below(MAX_MEMBERS);
         }
         if lanes.is_empty() {
             return lanes;
@@ -66,7 +66,7 @@ impl Core {
         &self,
         queue: usize,
         slot: usize,
-        lanes: Places,
+        lanes: SmallSet,
         skips: &Skips,
     ) -> Option<usize>
         requires queue { queue < length self.now.shape.queues }
@@ -85,7 +85,7 @@ impl Core {
 
     /// Of these lanes the one that may hold the slot and has fewest unanswered events, of several the first.
     #[inline(always)]
-    fn port_for(&self, queue: usize, slot: usize, lanes: Places) -> Option<usize>
+    fn port_for(&self, queue: usize, slot: usize, lanes: SmallSet) -> Option<usize>
         requires queue { queue < length self.now.shape.queues }
         requires lanes { (l : ℕ) → Has lanes l → l < lanes_of self.now.shape }
         ensures fits { IfSome result (MayHold self.now lanes queue slot) }
@@ -93,7 +93,7 @@ impl Core {
         ensures none { IfNone result ((l : ℕ) → ¬ MayHold self.now lanes queue slot l) }
     {
         match self.pins.holder(queue, slot) {
-            Some(lane) if lane < MAX_PLACES && lanes.has(lane) => Some(lane),
+            Some(lane) if lane < MAX_MEMBERS && lanes.has(lane) => Some(lane),
             Some(_) => None,
             None => self.least_loaded(lanes),
         }
@@ -101,7 +101,7 @@ impl Core {
 
     /// Of these lanes the one with fewest unanswered events, of several the first.
     #[inline(always)]
-    fn least_loaded(&self, lanes: Places) -> Option<usize>
+    fn least_loaded(&self, lanes: SmallSet) -> Option<usize>
         requires { (l : ℕ) → Has lanes l → l < lanes_of self.now.shape }
         ensures there { IfSome result (Has lanes) }
         ensures best { IfSome result (λ l. (m : ℕ) → Has lanes m → ¬ IsBetterLane self.now m l) }

@@ -16,7 +16,8 @@ mod slot_lanes;
 mod state;
 mod take;
 
+pub use evt_types::Memory;
 pub use offer::Offer;
 pub use skips::Skips;
-pub use state::{Core, Memory};
+pub use state::Core;
 pub use take::Took;

@@ -9,20 +9,20 @@ ghost use Rattle.sched_core.specs.Service.{AreAhead, AreAheadOf};
 
 use crate::queues::empty_queues;
 use crate::slot_lanes::slot_lanes;
-use crate::state::{Core, Memory};
-use evt_types::{MAX_FORWARDS, Shape};
+use crate::state::Core;
+use evt_types::{MAX_FORWARDS, Memory, Shape};
 use order_parts::{AllOrders, AllPins, Histories, all_kept_room};
-use place_set::Places;
+use small_set::SmallSet;
 use std::alloc::{AllocError, Global};
 
 /// The ports' lanes that serve the queue.
-fn links_of(shape: &Shape, queue: usize) -> Places
+fn links_of(shape: &Shape, queue: usize) -> SmallSet
     requires { queue < length shape.now.queues }
     ensures { AreLinksOf shape.now queue result }
 {
     // To read a limit makes known that the limits hold.
     let _ = shape.limit();
-    let mut lanes = Places::none();
+    let mut lanes = SmallSet::none();
     for lane in 0..shape.ports().len() {
         if shape.serves(lane, queue, 0) {
             lanes.add(lane);
@@ -32,7 +32,7 @@ fn links_of(shape: &Shape, queue: usize) -> Places
 }
 
 /// The ports' lanes that serve each queue.
-fn all_links(alloc: Global, shape: &Shape) -> Result<Vec<Places>, AllocError>
+fn all_links(alloc: Global, shape: &Shape) -> Result<Vec<SmallSet>, AllocError>
     ensures { IfOk result (λ ls. AreLinks shape.now (length shape.now.queues) ls.items) }
 {
     let count = shape.queues().len();
@@ -44,14 +44,14 @@ fn all_links(alloc: Global, shape: &Shape) -> Result<Vec<Places>, AllocError>
 }
 
 /// The queues of a priority that is served before the queue's.
-fn ahead_of(shape: &Shape, queue: usize) -> Places
+fn ahead_of(shape: &Shape, queue: usize) -> SmallSet
     requires { queue < length shape.now.queues }
     ensures { AreAheadOf shape.now queue result }
 {
     // To read a limit makes known that the limits hold.
     let _ = shape.limit();
     let queues = shape.queues();
-    let mut ahead = Places::none();
+    let mut ahead = SmallSet::none();
     for other in 0..queues.len() {
         if queues[other].priority < queues[queue].priority {
             ahead.add(other);
@@ -61,7 +61,7 @@ fn ahead_of(shape: &Shape, queue: usize) -> Places
 }
 
 /// For each queue the queues of a priority that is served before its own.
-fn all_ahead(alloc: Global, shape: &Shape) -> Result<Vec<Places>, AllocError>
+fn all_ahead(alloc: Global, shape: &Shape) -> Result<Vec<SmallSet>, AllocError>
     ensures { IfOk result (λ sets. AreAhead shape.now (length shape.now.queues) sets.items) }
 {
     let count = shape.queues().len();

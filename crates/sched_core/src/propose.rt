@@ -4,7 +4,7 @@ ghost use Rattle.std.specs.Prelude.{◌≡◌, ℕ, ◌<◌, List, length, Some,
 ghost use Rattle.transcripts.specs.Allowed.{Allowed};
 ghost use Rattle.transcripts.specs.Choice.{HasNone, HasNoChoice, IsChoice, IsOffer};
 ghost use Rattle.transcripts.specs.Standing.{Stands};
-ghost use Rattle.place_set.specs.Places.{Has, IsEmpty};
+ghost use Rattle.small_set.specs.SmallSets.{Has, IsEmpty};
 ghost use Rattle.transcripts.specs.Transcript.{event_at};
 ghost use Rattle.evt_types.specs.declared.step.Step.{Step as StepValue};
 ghost use Rattle.evt_types.specs.declared.step.Step.TheVariants as steps;
@@ -14,7 +14,7 @@ ghost use Rattle.sched_core.specs.Service.{IsServedFirst};
 use crate::offer::Offer;
 use crate::skips::Skips;
 use crate::state::Core;
-use place_set::{MAX_PLACES, Places};
+use small_set::{MAX_MEMBERS, SmallSet};
 
 impl Core {
     /// What is given next: of the first queue, by priority and then number, that has an event which some lane may take,
@@ -44,7 +44,7 @@ impl Core {
 
     /// Of these queues the one that is served first: the first one by number, as long as none has a priority that is served before.
     #[inline(always)]
-    fn first_served(&self, queues: Places) -> Option<usize>
+    fn first_served(&self, queues: SmallSet) -> Option<usize>
         requires { (q : ℕ) → Has queues q → q < length self.now.shape.queues }
         ensures first { IfSome result (IsServedFirst self.now.shape queues) }
         ensures none { IfNone result (IsEmpty queues) }
@@ -84,7 +84,7 @@ impl Core {
         &mut self,
         queue: usize,
         level: usize,
-        lanes: Places,
+        lanes: SmallSet,
         skips: &Skips,
     ) -> Option<Offer>
         requires queue { queue < length self.old.shape.queues }
@@ -96,7 +96,7 @@ impl Core {
     {
         // The use of a field makes known what holds of each core.
         let _ = &self.shape;
-        let all = Places::below(MAX_PLACES);
+        let all = SmallSet::below(MAX_MEMBERS);
         let offer = self.offer_at_head(queue, level, lanes, all, skips);
         if offer.is_some() {
             return offer;
@@ -119,8 +119,8 @@ impl Core {
         &self,
         queue: usize,
         level: usize,
-        lanes: Places,
-        allowed: Places,
+        lanes: SmallSet,
+        allowed: SmallSet,
         skips: &Skips,
     ) -> Option<Offer>
         requires queue { queue < length self.now.shape.queues }
@@ -141,8 +141,8 @@ impl Core {
         &mut self,
         queue: usize,
         level: usize,
-        lanes: Places,
-        allowed: Places,
+        lanes: SmallSet,
+        allowed: SmallSet,
         skips: &Skips,
     ) -> Option<Offer>
         requires queue { queue < length self.old.shape.queues }

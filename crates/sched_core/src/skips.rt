@@ -2,21 +2,21 @@
 
 ghost use Rattle.std.specs.Prelude.{◌≡◌, ℕ, ◌+◌, ◌<◌, ◌↔◌, true, slice_set, slice_index, nat_lt};
 ghost use Rattle.transcripts.specs.Choice.{has_bounced};
-ghost use Rattle.place_set.specs.Places.{Has};
+ghost use Rattle.small_set.specs.SmallSets.{Has};
 ghost use Rattle.sched_core.specs.Skipped.{nothing_passed};
 
 use evt_types::{MAX_LANES, MAX_QUEUES, MAX_SWEEP};
-use place_set::{MAX_PLACES, Places};
+use small_set::{MAX_MEMBERS, SmallSet};
 use std::marker::Model;
 
 /// How many sets have a place for each lane.
-const SETS: usize = (MAX_LANES - 1) / MAX_PLACES + 1;
+const SETS: usize = (MAX_LANES - 1) / MAX_MEMBERS + 1;
 
 /// The lanes whose ring refused a delivery in this sweep, and how many events of each queue were given in it.
 #[derive(Drop)]
 pub struct Skips {
     /// The lanes in sets, one after another. The ports' lanes are in the first one.
-    bounced: [Places; SETS],
+    bounced: [SmallSet; SETS],
     given: [u8; MAX_QUEUES],
 }
 
@@ -39,7 +39,7 @@ impl Skips {
         ensures { result ≡ nothing_passed }
     {
         Skips {
-            bounced: [Places::none(); SETS],
+            bounced: [SmallSet::none(); SETS],
             given: [0; MAX_QUEUES],
         }
     }
@@ -49,9 +49,9 @@ impl Skips {
         requires { lane < MAX_LANES }
         ensures { self.new ≡ record self.old { bounced = slice_set self.old.bounced lane true } }
     {
-        let mut set = self.bounced[lane / MAX_PLACES];
-        set.add(lane % MAX_PLACES);
-        self.bounced[lane / MAX_PLACES] = set;
+        let mut set = self.bounced[lane / MAX_MEMBERS];
+        set.add(lane % MAX_MEMBERS);
+        self.bounced[lane / MAX_MEMBERS] = set;
     }
 
     /// An event of the queue was given.
@@ -64,8 +64,8 @@ impl Skips {
     }
 
     /// Of the first lanes, as many as a set has places, those that are passed over.
-    pub fn closed(&self) -> Places
-        ensures { (l : ℕ) → l < MAX_PLACES → Has result l ↔ (has_bounced self.now l ≡ true) }
+    pub fn closed(&self) -> SmallSet
+        ensures { (l : ℕ) → l < MAX_MEMBERS → Has result l ↔ (has_bounced self.now l ≡ true) }
     {
         self.bounced[0]
     }
@@ -74,7 +74,7 @@ impl Skips {
     pub fn has_bounced(&self, lane: usize) -> bool
         ensures { result ≡ has_bounced self.now lane }
     {
-        lane < MAX_LANES && self.bounced[lane / MAX_PLACES].has(lane % MAX_PLACES)
+        lane < MAX_LANES && self.bounced[lane / MAX_MEMBERS].has(lane % MAX_MEMBERS)
     }
 
     /// Whether fewer events of the queue were given than the sweep quantum.

@@ -13,12 +13,8 @@ ghost use Rattle.evt_types.specs.declared.step.Step.{Step as StepValue};
 use evt_types::{Delivery, KeptEvent, MAX_FORWARDS, Shape};
 use order_parts::{AllOrders, AllPins, Histories};
 use parked_queue::ParkedQueues;
-use place_set::Places;
-use std::alloc::AllocError;
+use small_set::SmallSet;
 use std::marker::Model;
-
-/// Want of memory.
-pub type Memory = AllocError;
 
 /// The scheduling core of a device.
 #[derive(Drop)]
@@ -31,9 +27,9 @@ pub struct Core {
     pub(crate) extras: Vec<usize>,
     pub(crate) pins: AllPins,
     /// For each queue the ports' lanes that serve it.
-    pub(crate) links: Vec<Places>,
+    pub(crate) links: Vec<SmallSet>,
     /// For each queue the queues of a priority that is served before its own.
-    pub(crate) ahead: Vec<Places>,
+    pub(crate) ahead: Vec<SmallSet>,
     /// The flow lane of each slot, by queue and slot.
     pub(crate) slot_lanes: Vec<Option<usize>>,
     /// How many events may be inside for a NEW to be taken.

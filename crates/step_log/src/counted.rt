@@ -3,9 +3,9 @@
 ghost use Rattle.std.specs.Prelude.{◌≡◌, ◌-◌, ◌^◌, ◌≤◌, [], length};
 ghost use Rattle.std.proofs.Common.{rules};
 
-use crate::log::{Memory, StepLog};
+use crate::log::StepLog;
 use crate::unkept::Unkept;
-use evt_types::Step;
+use evt_types::{Memory, Step};
 use std::alloc::AllocError;
 
 /// After so many steps a count has no room for more.

@@ -7,4 +7,5 @@ mod log;
 mod unkept;
 
 pub use counted::{Counted, MAX_STEPS};
-pub use log::{Memory, StepLog};
+pub use evt_types::Memory;
+pub use log::StepLog;

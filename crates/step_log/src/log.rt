@@ -4,11 +4,7 @@ ghost use Rattle.std.specs.Prelude.{◌≡◌, ℕ, ◌+◌, ◌-◌, ◌<◌, �
 ghost use Rattle.std.proofs.Common.{rules};
 ghost use Rattle.evt_types.specs.declared.step.Step.{Step as StepValue};
 
-use evt_types::Step;
-use std::alloc::AllocError;
-
-/// Want of memory.
-pub type Memory = AllocError;
+use evt_types::{Memory, Step};
 
 /// A log of steps. Its `steps` are all that were pushed, in their order, whether it keeps them or not; for so many more it has `room`.
 pub trait StepLog: Drop {

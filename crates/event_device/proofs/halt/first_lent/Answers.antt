@@ -5,9 +5,9 @@ use Rattle.event_device.proofs.halt.first_lent.Goals as goal
 
 pub loop-number-preserved : goal.loop-number-preserved
 loop-number-preserved c =
-    let place = c.index-places-number.result in
-    let here = slice_get_read c.args.places.now _ c.loop-number.number place refl (omega arith) c.index-places-number.is in
-    filled_more c.args.places.now c.loop-number.number place c.loop-number.invariant here c.if-is_none.ensures
+    let home = c.index-homes-number.result in
+    let here = slice_get_read c.args.homes.now _ c.loop-number.number home refl (omega arith) c.index-homes-number.is in
+    filled_more c.args.homes.now c.loop-number.number home c.loop-number.invariant here c.if-is_none.ensures
 
 pub returns : goal.returns
 returns c = λ n low. c.loop-number.invariant n (omega (arith, low, c.loop-number-test.false))

@@ -2,12 +2,12 @@ use Rattle.std.proofs.Common.{◌≡◌, ◌+◌, ◌≤◌, ◌++◌, Some, len
 use Rattle.std.specs.Vec.Iter.{drain_items, DrainKeeps}
 use Rattle.event_device.proofs.halt.gather.Given as goal
 
-abbrev pub invariant-loop-place : goal.invariant-loop-place
-invariant-loop-place l = record {
-  can : (goal.iterator-loop-place).can_next l.place-iterator;
-  finite : (goal.iterator-loop-place).is_finite l.place-iterator;
-  keeps : DrainKeeps l.initial.place-iterator l.place-iterator;
-  taken : map Some l.ports.items ++ drain_items l.place-iterator ≡ drain_items l.initial.place-iterator;
-  home : All (λ place. IsSome place) (drain_items l.place-iterator);
-  room : length l.ports.items + length (drain_items l.place-iterator) ≤ vec_capacity l.ports;
+abbrev pub invariant-loop-home : goal.invariant-loop-home
+invariant-loop-home l = record {
+  can : (goal.iterator-loop-home).can_next l.home-iterator;
+  finite : (goal.iterator-loop-home).is_finite l.home-iterator;
+  keeps : DrainKeeps l.initial.home-iterator l.home-iterator;
+  taken : map Some l.ports.items ++ drain_items l.home-iterator ≡ drain_items l.initial.home-iterator;
+  home : All (λ home. IsSome home) (drain_items l.home-iterator);
+  room : length l.ports.items + length (drain_items l.home-iterator) ≤ vec_capacity l.ports;
 }

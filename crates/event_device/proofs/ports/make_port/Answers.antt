@@ -51,7 +51,7 @@ returns-in-Ok c = λ lanes lane.
     let seats = c.requires.seats.0 in
     let shown = port_shown p c.ports.result.now n c.index-ports-number.result c.ports.ensures c.requires.number c.index-ports-number.is in
     record {
-      site = site_is (device_with p c.args.shared.now lanes) n c.in-Ok.port _ _ c.in-Ok.ensures.place c.in-Ok.ensures.credit (record {
+      site = site_is (device_with p c.args.shared.now lanes) n c.in-Ok.port _ _ c.in-Ok.ensures.site c.in-Ok.ensures.credit (record {
         pool = c.in_ok-pool.ensures.cases;
         claims = c.in_ok-claims.ensures.cases;
         lane = lane;

@@ -9,7 +9,7 @@ use Rattle.flow_claims.specs.Claims.{seating}
 use Rattle.event_ports.specs.declared.rest.Rest.{Rest}
 use Rattle.event_ports.specs.declared.lane.Lane.TheVariants.{Own, Flow}
 use Rattle.event_ports.specs.declared.port.Port.{Port}
-use Rattle.event_ports.specs.Ports.{place_of, account_of, pocket_of, hand, mores_by, news_by, releases_by}
+use Rattle.event_ports.specs.Ports.{own_site, account_of, pocket_of, hand, mores_by, news_by, releases_by}
 use Rattle.event_ports.specs.Lanes.{held_of, pair_in}
 use Rattle.event_ports.specs.Stop.{LinksAgree, flows_in, IsPaid, IsCounted}
 use Rattle.std.proofs.lemmas.List.Elements.{All-push}
@@ -44,7 +44,7 @@ loop-port-preserved c =
         returned = sum_one_more (λ p. (account_of p).returned) _ (account c.loop-port.credit).returned seat.returned ports port was.returned (ap (λ v. v.returned) now.credit.1);
         parts = sum_one_more (λ p. (account_of p).parts) _ (account c.loop-port.credit).parts seat.parts ports port was.parts (ap (λ v. v.parts) now.credit.1);
         bit = now.bit ∙ was.bit;
-        flow_parts = sum_one_more (λ p. (place_of p).lanes.flows.parts) _ (seating c.loop-port.claim).parts _ ports port was.flow_parts now.stints.parts;
+        flow_parts = sum_one_more (λ p. (own_site p).lanes.flows.parts) _ (seating c.loop-port.claim).parts _ ports port was.flow_parts now.stints.parts;
         stints = was.stints ++ now.stints.stints;
         finished = now.stints.finished ∙ (ap (λ ps. ps ++ now.stints.stints) was.finished ∙ append_assoc _ was.stints now.stints.stints);
         ports_are = stints_more ports port was.stints now.stints.stints was.ports_are now.stints.lists now.stints.linked;
@@ -56,14 +56,14 @@ loop-port-preserved c =
             (was.linked linked (All-front (LinksAgree linked) ports (port ∷ []) all) first);
       },
       record {
-        numbers = one_more (λ (r : Rest). r.number) (λ (p : Port). (place_of p).number) c.loop-port.into.items _ rest ports port c.push_reserved.ensures.items rests.numbers now.number;
-        lanes = one_more (λ (r : Rest). far_id r.own) (λ (p : Port). (place_of p).lanes.own) c.loop-port.into.items _ rest ports port c.push_reserved.ensures.items rests.lanes now.own.0;
+        numbers = one_more (λ (r : Rest). r.number) (λ (p : Port). (own_site p).number) c.loop-port.into.items _ rest ports port c.push_reserved.ensures.items rests.numbers now.number;
+        lanes = one_more (λ (r : Rest). far_id r.own) (λ (p : Port). (own_site p).lanes.own) c.loop-port.into.items _ rest ports port c.push_reserved.ensures.items rests.lanes now.own.0;
         received = one_more (λ (r : Rest). received_by r.own) (λ (p : Port). (hand p).got Own) c.loop-port.into.items _ rest ports port c.push_reserved.ensures.items rests.received now.own.1;
         answered_is = one_more (λ (r : Rest). answered r.own) (λ (p : Port). (hand p).said Own) c.loop-port.into.items _ rest ports port c.push_reserved.ensures.items rests.answered_is now.own.2;
         held = one_more (λ (r : Rest). r.held.items) (λ (p : Port). (hand p).holding) c.loop-port.into.items _ rest ports port c.push_reserved.ensures.items rests.held now.held;
         ordered = one_more (λ (r : Rest). held_list r.own) (λ (p : Port). map pair_in (held_of Own (hand p).holding)) c.loop-port.into.items _ rest ports port c.push_reserved.ensures.items rests.ordered (sym now.ordered);
         pockets = one_more (λ (r : Rest). r.pocket) pocket_of c.loop-port.into.items _ rest ports port c.push_reserved.ensures.items rests.pockets now.paid.0;
-        within = All-push (λ (p : Port). length (hand p).holding ≤ (place_of p).lanes.depth) ports port rests.within now.within;
+        within = All-push (λ (p : Port). length (hand p).holding ≤ (own_site p).lanes.depth) ports port rests.within now.within;
       },
       All-push IsPaid ports port c.loop-port.invariant.2 paid,
       All-push IsCounted ports port c.loop-port.invariant.3 now.counted,

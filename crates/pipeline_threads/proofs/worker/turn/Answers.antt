@@ -24,7 +24,7 @@ returns-in-None-clause-even g c on =
     let before = c.args.port.now in
     let between = c.receive.new.port in
     let after = c.shut_seen.new.self in
-    let kept : site_of after ≡ site_of between = same_site between after c.shut_seen.ensures.place c.shut_seen.ensures.credit in
+    let kept : site_of after ≡ site_of between = same_site between after c.shut_seen.ensures.site c.shut_seen.ensures.credit in
     rests_even c.args.actions.now between after (none_even c.args.actions.now before between c.requires.even c.in-None.ensures.received c.in-None.ensures.site) c.shut_seen.ensures.same.0 kept
 
 pub returns-in-None-clause-worked : goal.returns-in-None-clause-worked
@@ -32,5 +32,5 @@ returns-in-None-clause-worked g c =
     let before = c.args.port.now in
     let between = c.receive.new.port in
     let after = c.shut_seen.new.self in
-    let kept : site_of after ≡ site_of between = same_site between after c.shut_seen.ensures.place c.shut_seen.ensures.credit in
+    let kept : site_of after ≡ site_of between = same_site between after c.shut_seen.ensures.site c.shut_seen.ensures.credit in
     even_worked c.args.actions.now after (rests_even c.args.actions.now between after (none_even c.args.actions.now before between c.requires.even c.in-None.ensures.received c.in-None.ensures.site) c.shut_seen.ensures.same.0 kept)

@@ -7,4 +7,4 @@ pub invariant_of-self : goal.invariant_of-self
 invariant_of-self c =
     let before = c.index_mut-port.result.now in
     let there = slice_get_read c.args.self.now.ports.items _ c.args.port before refl (omega arith) c.index_mut-port.ensures.value in
-    record { whole = whole_called _ _ c.args.self.now.ports.items c.args.port before c.enqueue.new.self c.args.self.now.whole there c.enqueue.ensures.place c.enqueue.ensures.credit }
+    record { whole = whole_called _ _ c.args.self.now.ports.items c.args.port before c.enqueue.new.self c.args.self.now.whole there c.enqueue.ensures.site c.enqueue.ensures.credit }

@@ -5,17 +5,17 @@ use Rattle.event_device.specs.Device.{IsPortOf}
 use Rattle.event_device.specs.Lent.{ComesBack, IsThere}
 use Rattle.event_device.specs.Parts.{IsOne, Parts, device_of}
 use Rattle.event_device.proofs.Ones.{one_with}
-use Rattle.event_device.proofs.Places.{none_there, some_there}
+use Rattle.event_device.proofs.Homes.{none_there, some_there}
 use Rattle.event_device.proofs.running.Device.put_back.Goals as goal
 
 pub returns-then-is_some-clause-there : goal.returns-then-is_some-clause-there
 returns-then-is_some-clause-there g c =
     let r : Parts = record { recorded = c.self.inside.recorder; control = c.self.inside.control; claims = c.self.inside.claims.value; ports = c.self.inside.ports.items } in
-    let place = c.index.result.now in
+    let home = c.index.result.now in
     let of_it : IsPortOf (device_of r) c.args.port = subst (λ old. IsPortOf (device_of old) c.args.port) (sym c.self.view_is) c.requires in
     let there_is : c.number-number.result < length r.ports = omega (arith, of_it.0, c.number-number.ensures, c.self.invariant.count) in
-    let read = slice_get_read r.ports _ c.number-number.result place refl there_is c.index.ensures in
-    let there = some_there place (sym c.is_some.ensures ∙ c.if-is_some.true) in
+    let read = slice_get_read r.ports _ c.number-number.result home refl there_is c.index.ensures in
+    let there = some_there home (sym c.is_some.ensures ∙ c.if-is_some.true) in
     let is : IsThere c.args.port r r = record {
       other = there.0;
       was_home = ap (slice_get r.ports) (sym c.number-number.ensures) ∙ (read ∙ ap Some there.1);
@@ -32,11 +32,11 @@ invariant_of-self g c =
 pub returns-clause-back : goal.returns-clause-back
 returns-clause-back g c =
     let r : Parts = record { recorded = c.self.inside.recorder; control = c.self.inside.control; claims = c.self.inside.claims.value; ports = c.self.inside.ports.items } in
-    let place = c.index.result.now in
+    let home = c.index.result.now in
     let of_it : IsPortOf (device_of r) c.args.port = subst (λ old. IsPortOf (device_of old) c.args.port) (sym c.self.view_is) c.requires in
     let there_is : c.number-number.result < length r.ports = omega (arith, of_it.0, c.number-number.ensures, c.self.invariant.count) in
-    let read = slice_get_read r.ports _ c.number-number.result place refl there_is c.index.ensures in
-    let empty = none_there place (sym c.is_some.ensures ∙ c.if-is_some.false) in
+    let read = slice_get_read r.ports _ c.number-number.result home refl there_is c.index.ensures in
+    let empty = none_there home (sym c.is_some.ensures ∙ c.if-is_some.false) in
     let new : Parts = record r { ports = set r.ports c.number-number.result (Some c.args.port) } in
     let is : ComesBack c.args.port r new = record {
       was_away = ap (slice_get r.ports) (sym c.number-number.ensures) ∙ (read ∙ ap Some empty);

@@ -1,7 +1,7 @@
 use Rattle.std.proofs.Common.{refl, sym, subst, ◌∙◌}
 use Rattle.event_device.specs.Lent.{ControlIsThere}
 use Rattle.event_device.specs.Parts.{Parts}
-use Rattle.event_device.proofs.Places.{some_there}
+use Rattle.event_device.proofs.Homes.{some_there}
 use Rattle.event_device.proofs.running.Device.put_back_control.Goals as goal
 
 pub returns-then-is_some-clause-there : goal.returns-then-is_some-clause-there

@@ -5,7 +5,7 @@ use Rattle.event_device.specs.Parts.{Parts}
 use Rattle.event_device.specs.Ports.{Refuses}
 use Rattle.event_device.specs.declared.fault.NotStopped.TheVariants.{ControlLent, Memory, PortLent}
 use Rattle.event_device.proofs.Ones.{one_are_of}
-use Rattle.event_device.proofs.Places.{none_there, some_there}
+use Rattle.event_device.proofs.Homes.{none_there, some_there}
 use Rattle.event_device.proofs.Stopping.{all_filled, all_ports, none_missing, same_parts}
 use Rattle.event_device.proofs.running.Device.stop.Goals as goal
 
@@ -64,5 +64,5 @@ returns-in-Err-Memory-default-default-default-clause-refused g c =
     let back = c.in-Err-Memory-default-default-default.ensures.back in
     let home : AreHome r c.in-Some-control.control c.gather-ports.result.items = record { control_is = c.in-Some-control.is; ports_are = c.gather-ports.ensures.gathered } in (
       subst (IsWhy Memory) c.self.view_is (c.in-Some-control.control, c.gather-ports.result.items, home),
-      same_parts r _ _ _ back.0 (ap Some back.1 ∙ sym c.in-Some-control.is) (c.place_all.ensures ∙ (ap (λ ps. map Some ps.items) back.2 ∙ sym c.gather-ports.ensures.gathered)) ∙ c.self.view_is,
+      same_parts r _ _ _ back.0 (ap Some back.1 ∙ sym c.in-Some-control.is) (c.put_all.ensures ∙ (ap (λ ps. map Some ps.items) back.2 ∙ sym c.gather-ports.ensures.gathered)) ∙ c.self.view_is,
     )

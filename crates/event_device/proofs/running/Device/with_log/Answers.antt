@@ -6,8 +6,8 @@ use Rattle.evt_types.specs.declared.shape.TheConstants.{MAX_BOUND, MAX_LANES, MA
 use Rattle.event_device.proofs.Fresh.{made_is_fresh, made_is_one, port_count}
 use Rattle.event_device.proofs.running.Device.with_log.Goals as goal
 
-pub place_all-requires-clause-room : goal.place_all-requires-clause-room
-place_all-requires-clause-room g c =
+pub put_all-requires-clause-room : goal.put_all-requires-clause-room
+put_all-requires-clause-room g c =
     let made = c.in_ok-scheduler.ensures.made in
     omega (
       arith,
@@ -21,7 +21,7 @@ place_all-requires-clause-room g c =
 pub invariant_of-result : goal.invariant_of-result
 invariant_of-result g c =
     let parts = c.in_ok-scheduler in
-    made_is_one c.args.shape parts.scheduler parts.ports.items parts.control parts.ensures.made _ c.begin_with.ensures.sight c.begin_with.ensures.log (c.of.ensures ∙ c.deref.ensures) refl c.place_all.ensures
+    made_is_one c.args.shape parts.scheduler parts.ports.items parts.control parts.ensures.made _ c.begin_with.ensures.sight c.begin_with.ensures.log (c.of.ensures ∙ c.deref.ensures) refl c.put_all.ensures
     (record {
       bound = subst (λ n. n ≤ MAX_BOUND) c.bound.ensures.value c.bound.ensures.small;
       queues = subst (λ (qs : List QueueDraft). length qs ≤ MAX_QUEUES) c.queues-queues.ensures.value c.queues-queues.ensures.few.1;
@@ -31,4 +31,4 @@ invariant_of-result g c =
 pub returns-clause-fresh : goal.returns-clause-fresh
 returns-clause-fresh g c =
     let parts = c.in_ok-scheduler in
-    made_is_fresh c.args.shape parts.scheduler parts.ports.items parts.control parts.ensures.made _ c.begin_with.ensures.sight c.begin_with.ensures.log (c.of.ensures ∙ c.deref.ensures) refl c.place_all.ensures
+    made_is_fresh c.args.shape parts.scheduler parts.ports.items parts.control parts.ensures.made _ c.begin_with.ensures.sight c.begin_with.ensures.log (c.of.ensures ∙ c.deref.ensures) refl c.put_all.ensures

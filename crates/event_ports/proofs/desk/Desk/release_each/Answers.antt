@@ -12,7 +12,7 @@ pub loop-released-preserved : goal.loop-released-preserved
 loop-released-preserved c =
     let was = c.loop-released.invariant in
     let got = c.release_oldest.ensures.released (search rules) in (
-      c.release_oldest.ensures.place ∙ was.0,
+      c.release_oldest.ensures.site ∙ was.0,
       c.release_oldest.ensures.credit ∙ was.1,
       releases_more c.loop-released.released (hand c.args.self.now) (hand c.loop-released.self) (hand c.release_oldest.new.self) was.2 got.0,
       one_more_credit (pocket_of c.args.self.now) c.loop-released.released (pocket_of c.loop-released.self) (pocket_of c.release_oldest.new.self) was.3 got.1,

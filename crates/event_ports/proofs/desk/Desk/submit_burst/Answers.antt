@@ -12,7 +12,7 @@ returns-in-Err-clause-refused c =
       event = c.index-events-taken.result;
       between = c.loop-taken.self;
       is_next = read_next c.args.events.now c.loop-taken.taken c.index-events-taken.result c.loop-taken-test.true c.index-events-taken.is;
-      place = was.0;
+      site = was.0;
       credit = was.1;
       submitted = was.2;
       refused = c.in-Err.ensures.refused;
@@ -28,7 +28,7 @@ returns-in-Err-clause-chain c =
         c.index-events-taken.result,
         read_next c.args.events.now c.loop-taken.taken c.index-events-taken.result c.loop-taken-test.true c.index-events-taken.is,
         record {
-          place = c.submit.ensures.place;
+          site = c.submit.ensures.site;
           credit = c.submit.ensures.credit;
           rests = c.in-Err.ensures.submitted;
           why = c.in-Err.ensures.refused;
@@ -42,13 +42,13 @@ loop-taken-preserved c =
     let was = c.loop-taken.invariant in
     let at : slice_get c.args.events.now c.loop-taken.taken ≡ Some c.index-events-taken.result = read_next c.args.events.now c.loop-taken.taken c.index-events-taken.result c.loop-taken-test.true c.index-events-taken.is in
     let one : Enqueues c.index-events-taken.result c.loop-taken.self c.submit.new.self = record {
-      place = c.submit.ensures.place;
+      site = c.submit.ensures.site;
       credit = c.submit.ensures.credit;
       submitted = c.in_default.ensures.submitted;
       pays = c.in_default.ensures.pays;
       unshut = (search rules);
     } in (
-      c.submit.ensures.place ∙ was.0,
+      c.submit.ensures.site ∙ was.0,
       (search rules),
       taken_more c.args.events.now c.loop-taken.taken c.index-events-taken.result (hand c.args.self.now) (hand c.loop-taken.self) (hand c.submit.new.self) at was.2 c.in_default.ensures.submitted,
       chain_taken c.args.events.now c.loop-taken.taken c.index-events-taken.result c.args.self.now c.loop-taken.self c.submit.new.self at was.3 one,

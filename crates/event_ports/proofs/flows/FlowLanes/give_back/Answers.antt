@@ -6,8 +6,8 @@ use Rattle.flow_claims.specs.declared.claims.Claims.{Claims}
 use Rattle.lane_rings.specs.Ends.{unanswered}
 use Rattle.flow_claims.specs.Answers.{EndsStint}
 use Rattle.flow_claims.specs.Claims.{seating}
-use Rattle.event_ports.specs.Holds.{place_at, held_now, hidden_in, AreFlows, AreShown, NoneHidden, Same}
-use Rattle.event_ports.proofs.Places.{hands, place_read, put_back}
+use Rattle.event_ports.specs.Holds.{entry_at, held_now, hidden_in, AreFlows, AreShown, NoneHidden, Same}
+use Rattle.event_ports.proofs.Entries.{hands, place_read, put_back}
 use Rattle.event_ports.proofs.Shown.{none_set, touched_set}
 use Rattle.event_ports.proofs.Turns.{ended, left_same}
 use Rattle.event_ports.proofs.flows.FlowLanes.give_back.Goals as goal
@@ -15,8 +15,8 @@ use Rattle.event_ports.proofs.flows.FlowLanes.give_back.Goals as goal
 pub give_back-requires-clause-shown : goal.give_back-requires-clause-shown
 give_back-requires-clause-shown c =
     let are = c.args.self.now.are in
-    let within : c.args.lane < length c.args.self.now.stints.items = omega (arith, are.places, c.requires.exists) in
-    let at : place_at c.args.self.now.stints.items c.args.lane ≡ Some c.in-Some.stint =
+    let within : c.args.lane < length c.args.self.now.stints.items = omega (arith, are.entries, c.requires.exists) in
+    let at : entry_at c.args.self.now.stints.items c.args.lane ≡ Some c.in-Some.stint =
     place_read _ _ _ _ c.index_mut.ensures.value (sym c.take.ensures.value ∙ c.in-Some.is) within in
     let none : unanswered c.in-Some.stint.far ≡ [] = c.is_done.ensures.0 c.if-is_done.true in
     sym (ap hidden_in at) ∙ c.requires.shown (ap held_now at ∙ none)
@@ -24,8 +24,8 @@ give_back-requires-clause-shown c =
 pub invariant_of-self-then-is_done : goal.invariant_of-self-then-is_done
 invariant_of-self-then-is_done c =
     let are = c.args.self.now.are in
-    let within : c.args.lane < length c.args.self.now.stints.items = omega (arith, are.places, c.requires.exists) in
-    let at : place_at c.args.self.now.stints.items c.args.lane ≡ Some c.in-Some.stint =
+    let within : c.args.lane < length c.args.self.now.stints.items = omega (arith, are.entries, c.requires.exists) in
+    let at : entry_at c.args.self.now.stints.items c.args.lane ≡ Some c.in-Some.stint =
     place_read _ _ _ _ c.index_mut.ensures.value (sym c.take.ensures.value ∙ c.in-Some.is) within in
     let Ends : Claims → Type 0 = λ k. EndsStint k false c.in-Some.stint c.args.self.now.seat c.give_back.new.seat in
     let Are : Option Stint → Type 0 = λ o. AreFlows (arc_value c.args.self.now.claims) c.give_back.new.seat (set c.args.self.now.stints.items c.args.lane o) c.args.self.now.links.items in
@@ -38,8 +38,8 @@ invariant_of-self-then-is_done c =
 pub invariant_of-self-else-is_done : goal.invariant_of-self-else-is_done
 invariant_of-self-else-is_done c =
     let are = c.args.self.now.are in
-    let within : c.args.lane < length c.args.self.now.stints.items = omega (arith, are.places, c.requires.exists) in
-    let at : place_at c.args.self.now.stints.items c.args.lane ≡ Some c.in-Some.stint =
+    let within : c.args.lane < length c.args.self.now.stints.items = omega (arith, are.entries, c.requires.exists) in
+    let at : entry_at c.args.self.now.stints.items c.args.lane ≡ Some c.in-Some.stint =
     place_read _ _ _ _ c.index_mut.ensures.value (sym c.take.ensures.value ∙ c.in-Some.is) within in
     let Are : List (Option Stint) → Type 0 = λ ss. AreFlows (arc_value c.args.self.now.claims) c.args.self.now.seat ss c.args.self.now.links.items in
     let Shown : List (Option Stint) → Type 0 = λ ss. AreShown c.args.self.now.touched ss in
@@ -48,8 +48,8 @@ invariant_of-self-else-is_done c =
 pub returns-then-is_done-clause-same : goal.returns-then-is_done-clause-same
 returns-then-is_done-clause-same c =
     let are = c.args.self.now.are in
-    let within : c.args.lane < length c.args.self.now.stints.items = omega (arith, are.places, c.requires.exists) in
-    let at : place_at c.args.self.now.stints.items c.args.lane ≡ Some c.in-Some.stint =
+    let within : c.args.lane < length c.args.self.now.stints.items = omega (arith, are.entries, c.requires.exists) in
+    let at : entry_at c.args.self.now.stints.items c.args.lane ≡ Some c.in-Some.stint =
     place_read _ _ _ _ c.index_mut.ensures.value (sym c.take.ensures.value ∙ c.in-Some.is) within in
     let Ends : Claims → Type 0 = λ k. EndsStint k false c.in-Some.stint c.args.self.now.seat c.give_back.new.seat in
     let none : unanswered c.in-Some.stint.far ≡ [] = c.is_done.ensures.0 c.if-is_done.true in
@@ -60,8 +60,8 @@ returns-then-is_done-clause-same c =
 pub returns-then-is_done-clause-shown : goal.returns-then-is_done-clause-shown
 returns-then-is_done-clause-shown c none =
     let are = c.args.self.now.are in
-    let within : c.args.lane < length c.args.self.now.stints.items = omega (arith, are.places, c.requires.exists) in
-    let at : place_at c.args.self.now.stints.items c.args.lane ≡ Some c.in-Some.stint =
+    let within : c.args.lane < length c.args.self.now.stints.items = omega (arith, are.entries, c.requires.exists) in
+    let at : entry_at c.args.self.now.stints.items c.args.lane ≡ Some c.in-Some.stint =
     place_read _ _ _ _ c.index_mut.ensures.value (sym c.take.ensures.value ∙ c.in-Some.is) within in
     let Shown : Option Stint → Type 0 = λ o. NoneHidden (hands (seating c.give_back.new.seat) (set c.args.self.now.stints.items c.args.lane o)) in
     subst Shown (sym c.take.ensures.after) (none_set c.args.self.now.stints.items c.args.lane None within refl none)
@@ -69,8 +69,8 @@ returns-then-is_done-clause-shown c none =
 pub returns-else-is_done-clause-shown : goal.returns-else-is_done-clause-shown
 returns-else-is_done-clause-shown c none =
     let are = c.args.self.now.are in
-    let within : c.args.lane < length c.args.self.now.stints.items = omega (arith, are.places, c.requires.exists) in
-    let at : place_at c.args.self.now.stints.items c.args.lane ≡ Some c.in-Some.stint =
+    let within : c.args.lane < length c.args.self.now.stints.items = omega (arith, are.entries, c.requires.exists) in
+    let at : entry_at c.args.self.now.stints.items c.args.lane ≡ Some c.in-Some.stint =
     place_read _ _ _ _ c.index_mut.ensures.value (sym c.take.ensures.value ∙ c.in-Some.is) within in
     let Shown : List (Option Stint) → Type 0 = λ ss. NoneHidden (hands (seating c.args.self.now.seat) ss) in
     subst Shown (sym (put_back _ _ _ _ at)) none

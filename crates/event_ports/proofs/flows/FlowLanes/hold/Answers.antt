@@ -2,8 +2,8 @@
 use Rattle.std.proofs.Common.{◌≡◌, ◌<◌, length, arith, sym, ap, ◌∙◌, Some, None}
 use Rattle.std.specs.Arc.{arc_value}
 use Rattle.flow_claims.specs.Claims.{seating, claims_id, lanes_of, IsSeatOf}
-use Rattle.event_ports.specs.Holds.{place_at}
-use Rattle.event_ports.proofs.Places.{nothing_there, place_read}
+use Rattle.event_ports.specs.Holds.{entry_at}
+use Rattle.event_ports.proofs.Entries.{nothing_there, place_read}
 use Rattle.event_ports.proofs.Shown.{none_set, touched_set}
 use Rattle.event_ports.proofs.Turns.{refused, claimed, claim_same}
 use Rattle.event_ports.proofs.flows.FlowLanes.hold.Goals as goal
@@ -12,7 +12,7 @@ pub invariant_of-self-2 : goal.invariant_of-self-2
 invariant_of-self-2 c =
     let got = c.in-Held.ensures.answer in
     let seat_of : IsSeatOf (arc_value c.args.self.now.claims) c.claim.new.seat = (c.claim.ensures.seat.0 ∙ ap claims_id c.deref.ensures, c.claim.ensures.seat.1 ∙ ap lanes_of c.deref.ensures) in
-    let within : c.args.lane < length c.args.self.now.stints.items = omega (arith, c.args.self.now.are.places, c.requires.exists) in
+    let within : c.args.lane < length c.args.self.now.stints.items = omega (arith, c.args.self.now.are.entries, c.requires.exists) in
     record {
       are = claimed _ _ c.args.self.now.seat c.claim.new.seat _ _ _ c.args.self.now.are seat_of c.claim.ensures.port c.claim.ensures.finished c.claim.ensures.others
           c.requires.exists c.requires.linked got.0 got.3;
@@ -21,7 +21,7 @@ invariant_of-self-2 c =
 
 pub returns-clause-shown : goal.returns-clause-shown
 returns-clause-shown c none =
-    let within : c.args.lane < length c.args.self.now.stints.items = omega (arith, c.args.self.now.are.places, c.requires.exists) in
+    let within : c.args.lane < length c.args.self.now.stints.items = omega (arith, c.args.self.now.are.entries, c.requires.exists) in
     none_set c.args.self.now.stints.items c.args.lane (Some c.in-Held.stint) within c.in-Held.ensures.answer.2.3 none
 
 pub invariant_of-self-in_default : goal.invariant_of-self-in_default
@@ -33,8 +33,8 @@ invariant_of-self-in_default c =
 pub returns-clause-same : goal.returns-clause-same
 returns-clause-same c =
     let got = c.in-Held.ensures.answer in
-    let within : c.args.lane < length c.args.self.now.stints.items = omega (arith, c.args.self.now.are.places, c.requires.exists) in
-    let free : place_at c.args.self.now.stints.items c.args.lane ≡ None =
+    let within : c.args.lane < length c.args.self.now.stints.items = omega (arith, c.args.self.now.are.entries, c.requires.exists) in
+    let free : entry_at c.args.self.now.stints.items c.args.lane ≡ None =
     place_read _ _ c.index.result.now None c.index.ensures (nothing_there _ (sym c.is_some.ensures ∙ c.if-is_some.false)) within in
     claim_same _ _ c.args.self.now.seat c.claim.new.seat c.args.self.now.stints.items c.args.lane c.in-Held.stint c.args.self.now.are c.claim.ensures.finished c.claim.ensures.others
     c.requires.exists free got.4 got.5 got.2.2

@@ -1,4 +1,4 @@
--- Once all places are free, the seat holds no lane.
+-- Once all entries are free, the seat holds no lane.
 use Rattle.std.proofs.Common.{rules, ◌≤◌, length, arith, refl}
 use Rattle.event_ports.proofs.Turns.{holds_none, none_at_all}
 use Rattle.event_ports.proofs.flows.FlowLanes.into_seat.Goals as goal

@@ -2,9 +2,9 @@
 use Rattle.std.proofs.Common.{◌≡◌, ◌∙◌, Some, length, ◌<◌, refl, sym, ap, subst, arith}
 use Rattle.flow_claims.specs.Claims.{seating}
 use Rattle.event_ports.specs.Flows.{hands_of}
-use Rattle.event_ports.specs.Holds.{Brings, hidden_in, place_at}
+use Rattle.event_ports.specs.Holds.{Brings, hidden_in, entry_at}
 use Rattle.event_ports.proofs.Calls.{brings_none}
-use Rattle.event_ports.proofs.Places.{hands, place_read, same_list}
+use Rattle.event_ports.proofs.Entries.{hands, place_read, same_list}
 use Rattle.event_ports.proofs.Shown.{none_set, same_hidden, touched_set}
 use Rattle.event_ports.proofs.Turns.{turned, brought}
 use Rattle.event_ports.proofs.flows.FlowLanes.receive_some.Goals as goal
@@ -12,8 +12,8 @@ use Rattle.event_ports.proofs.flows.FlowLanes.receive_some.Goals as goal
 pub invariant_of-self-2 : goal.invariant_of-self-2
 invariant_of-self-2 c =
     let are = c.args.self.now.are in
-    let within : c.args.lane < length c.args.self.now.stints.items = omega (arith, are.places, c.requires.exists) in
-    let at : place_at c.args.self.now.stints.items c.args.lane ≡ Some c.in-Some.stint = place_read _ _ _ _ c.index_mut.ensures.value c.in-Some.is within in
+    let within : c.args.lane < length c.args.self.now.stints.items = omega (arith, are.entries, c.requires.exists) in
+    let at : entry_at c.args.self.now.stints.items c.args.lane ≡ Some c.in-Some.stint = place_read _ _ _ _ c.index_mut.ensures.value c.in-Some.is within in
     record {
       are = turned _ _ c.args.self.now.seat _ _ c.in-Some.stint _ are at c.requires.exists c.receive_some.ensures.lane.0 (c.receive_some.ensures.open _);
       shown = touched_set c.args.self.now.touched c.args.self.now.stints.items c.args.lane (Some c.receive_some.new.self) within
@@ -24,20 +24,20 @@ invariant_of-self-2 c =
 pub returns-clause-lists : goal.returns-clause-lists
 returns-clause-lists c =
     let are = c.args.self.now.are in
-    let within : c.args.lane < length c.args.self.now.stints.items = omega (arith, are.places, c.requires.exists) in
-    let at : place_at c.args.self.now.stints.items c.args.lane ≡ Some c.in-Some.stint = place_read _ _ _ _ c.index_mut.ensures.value c.in-Some.is within in
+    let within : c.args.lane < length c.args.self.now.stints.items = omega (arith, are.entries, c.requires.exists) in
+    let at : entry_at c.args.self.now.stints.items c.args.lane ≡ Some c.in-Some.stint = place_read _ _ _ _ c.index_mut.ensures.value c.in-Some.is within in
     brought _ _ c.args.self.now.seat _ _ c.in-Some.stint c.receive_some.new.self are at c.requires.exists c.args.into.now.items c.receive_some.new.into.items
     ((are.each c.args.lane).held c.in-Some.stint at).open_is c.receive_some.ensures.came c.receive_some.ensures.so_far c.receive_some.ensures.answered c.receive_some.ensures.far.1
 
 pub returns-clause-shown : goal.returns-clause-shown
 returns-clause-shown c none =
     let are = c.args.self.now.are in
-    let within : c.args.lane < length c.args.self.now.stints.items = omega (arith, are.places, c.requires.exists) in
-    let at : place_at c.args.self.now.stints.items c.args.lane ≡ Some c.in-Some.stint = place_read _ _ _ _ c.index_mut.ensures.value c.in-Some.is within in
+    let within : c.args.lane < length c.args.self.now.stints.items = omega (arith, are.entries, c.requires.exists) in
+    let at : entry_at c.args.self.now.stints.items c.args.lane ≡ Some c.in-Some.stint = place_read _ _ _ _ c.index_mut.ensures.value c.in-Some.is within in
     none_set c.args.self.now.stints.items c.args.lane (Some c.receive_some.new.self) within (c.receive_some.ensures.far.2 ∙ ap hidden_in (sym at) ∙ none c.args.lane) none
 
 pub returns-in_default-clause-lists : goal.returns-in_default-clause-lists
 returns-in_default-clause-lists c =
-    let within : c.args.lane < length c.args.self.now.stints.items = omega (arith, c.args.self.now.are.places, c.requires.exists) in
+    let within : c.args.lane < length c.args.self.now.stints.items = omega (arith, c.args.self.now.are.entries, c.requires.exists) in
     let same = same_list c.args.self.now.stints.items c.args.lane c.index_mut.result.now (place_read _ _ _ _ c.index_mut.ensures.value refl within) in
     subst (λ ss. Brings c.args.lane (hands_of c.args.self.now) c.args.into.now.items (hands (seating c.args.self.now.seat) ss) c.args.into.now.items) (sym same) (brings_none c.args.lane _ _)

@@ -5,8 +5,8 @@ use Rattle.flow_claims.specs.declared.claims.Claims.{Claims}
 use Rattle.flow_claims.specs.declared.claim.Stint.{Stint}
 use Rattle.flow_claims.specs.Answers.{EndsStint}
 use Rattle.flow_claims.specs.Claims.{seating}
-use Rattle.event_ports.specs.Holds.{place_at, hidden_in, AreFlows, AreShown, Kept, NoneHidden}
-use Rattle.event_ports.proofs.Places.{hands, place_read}
+use Rattle.event_ports.specs.Holds.{entry_at, hidden_in, AreFlows, AreShown, Kept, NoneHidden}
+use Rattle.event_ports.proofs.Entries.{hands, place_read}
 use Rattle.event_ports.proofs.Shown.{none_set, touched_set}
 use Rattle.event_ports.proofs.Turns.{ended, all_kept, ended_but, ended_received, ended_answered, ended_left, ended_free}
 use Rattle.event_ports.proofs.flows.FlowLanes.surrender.Goals as goal
@@ -14,16 +14,16 @@ use Rattle.event_ports.proofs.flows.FlowLanes.surrender.Goals as goal
 pub surrender-requires-clause-shown : goal.surrender-requires-clause-shown
 surrender-requires-clause-shown c =
     let are = c.args.self.now.are in
-    let within : c.args.lane < length c.args.self.now.stints.items = omega (arith, are.places, c.requires.exists) in
-    let at : place_at c.args.self.now.stints.items c.args.lane ≡ Some c.in-Some.stint =
+    let within : c.args.lane < length c.args.self.now.stints.items = omega (arith, are.entries, c.requires.exists) in
+    let at : entry_at c.args.self.now.stints.items c.args.lane ≡ Some c.in-Some.stint =
     place_read _ _ _ _ c.index_mut.ensures.value (sym c.take.ensures.value ∙ c.in-Some.is) within in
     sym (ap hidden_in at) ∙ c.requires.shown c.args.lane
 
 pub invariant_of-self-2 : goal.invariant_of-self-2
 invariant_of-self-2 c =
     let are = c.args.self.now.are in
-    let within : c.args.lane < length c.args.self.now.stints.items = omega (arith, are.places, c.requires.exists) in
-    let at : place_at c.args.self.now.stints.items c.args.lane ≡ Some c.in-Some.stint =
+    let within : c.args.lane < length c.args.self.now.stints.items = omega (arith, are.entries, c.requires.exists) in
+    let at : entry_at c.args.self.now.stints.items c.args.lane ≡ Some c.in-Some.stint =
     place_read _ _ _ _ c.index_mut.ensures.value (sym c.take.ensures.value ∙ c.in-Some.is) within in
     let Over : Claims → Type 0 = λ k. EndsStint k true c.in-Some.stint c.args.self.now.seat c.surrender.new.seat in
     let Are : Option Stint → Type 0 = λ o. AreFlows (arc_value c.args.self.now.claims) c.surrender.new.seat (set c.args.self.now.stints.items c.args.lane o) c.args.self.now.links.items in
@@ -36,8 +36,8 @@ invariant_of-self-2 c =
 pub returns-clause-kept : goal.returns-clause-kept
 returns-clause-kept c =
     let are = c.args.self.now.are in
-    let within : c.args.lane < length c.args.self.now.stints.items = omega (arith, are.places, c.requires.exists) in
-    let at : place_at c.args.self.now.stints.items c.args.lane ≡ Some c.in-Some.stint =
+    let within : c.args.lane < length c.args.self.now.stints.items = omega (arith, are.entries, c.requires.exists) in
+    let at : entry_at c.args.self.now.stints.items c.args.lane ≡ Some c.in-Some.stint =
     place_read _ _ _ _ c.index_mut.ensures.value (sym c.take.ensures.value ∙ c.in-Some.is) within in
     let Over : Claims → Type 0 = λ k. EndsStint k true c.in-Some.stint c.args.self.now.seat c.surrender.new.seat in
     let over = subst Over c.deref.ensures c.surrender.ensures in
@@ -54,6 +54,6 @@ returns-clause-kept c =
 
 pub returns-clause-shown : goal.returns-clause-shown
 returns-clause-shown c =
-    let within : c.args.lane < length c.args.self.now.stints.items = omega (arith, c.args.self.now.are.places, c.requires.exists) in
+    let within : c.args.lane < length c.args.self.now.stints.items = omega (arith, c.args.self.now.are.entries, c.requires.exists) in
     let Shown : Option Stint → Type 0 = λ o. NoneHidden (hands (seating c.surrender.new.seat) (set c.args.self.now.stints.items c.args.lane o)) in
     subst Shown (sym c.take.ensures.after) (none_set c.args.self.now.stints.items c.args.lane None within refl c.requires.shown)

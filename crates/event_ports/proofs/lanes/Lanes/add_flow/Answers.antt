@@ -37,11 +37,11 @@ invariant_of-self-clause-added c =
 pub invariant_of-self-clause-idle : goal.invariant_of-self-clause-idle
 invariant_of-self-clause-idle c =
     idle_still (hands_of c.args.self.now.flows) (hands_of c.answer.new.self) c.args.lane (reply_of c.args.event.now) c.answer.result c.requires.more c.answer.ensures.lists
-    c.answer.ensures.places c.args.self.now.idle
+    c.answer.ensures.entries c.args.self.now.idle
 
 pub returns-clause-counts : goal.returns-clause-counts
 returns-clause-counts c =
-    counts_flow c.args.self.now _ c.args.lane (reply_of c.args.event.now) c.answer.result refl c.answer.ensures.place
+    counts_flow c.args.self.now _ c.args.lane (reply_of c.args.event.now) c.answer.result refl c.answer.ensures.site
     (lane_there _ c.args.self.now.flows.seat _ _ c.args.lane c.args.self.now.flows.are
     (first_open c.args.self.now.order.items (Flow c.args.lane) (open_on c.args.self.now.own (hands_of c.args.self.now.flows)) c.requires.oldest c.args.self.now.ordered))
     c.answer.ensures.lists

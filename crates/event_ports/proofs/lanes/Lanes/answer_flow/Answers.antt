@@ -8,7 +8,7 @@ use Rattle.event_ports.specs.declared.lane.Holding.{Holding}
 use Rattle.event_ports.specs.declared.lane.Lane.{Lane}
 use Rattle.event_ports.specs.declared.lane.Lane.TheVariants.{Flow}
 use Rattle.event_ports.specs.Holds.{Says}
-use Rattle.event_ports.specs.Flows.{FlowPlace, flow_place, hands_of}
+use Rattle.event_ports.specs.Flows.{FlowSite, flow_site, hands_of}
 use Rattle.event_ports.specs.Lanes.{open_on, said_on, reply_of}
 use Rattle.event_ports.proofs.Orders.{Notes, each_lane, answered_first, first_open}
 use Rattle.event_ports.proofs.Submitted.{counts_one}
@@ -32,7 +32,7 @@ leave-requires c =
     let there : c.args.lane < length (lanes_of (arc_value c.args.self.now.flows.claims)) =
     lane_there _ c.args.self.now.flows.seat _ _ c.args.lane c.args.self.now.flows.are
     (first_open c.args.self.now.order.items (Flow c.args.lane) (open_on c.args.self.now.own (hands_of c.args.self.now.flows)) c.requires.oldest c.args.self.now.ordered) in
-    omega (arith, there, ap (λ (p : FlowPlace). length (lanes_of p.claims)) c.answer.ensures.place)
+    omega (arith, there, ap (λ (p : FlowSite). length (lanes_of p.claims)) c.answer.ensures.site)
 
 pub invariant_of-self-clause-ordered : goal.invariant_of-self-clause-ordered
 invariant_of-self-clause-ordered c =
@@ -62,7 +62,7 @@ invariant_of-self-clause-added c =
 
 pub invariant_of-self-clause-idle : goal.invariant_of-self-clause-idle
 invariant_of-self-clause-idle c =
-    idle_answered (hands_of c.args.self.now.flows) (hands_of c.answer.new.self) (hands_of c.leave.new.self) c.args.lane (reply_of c.args.event.now) c.in-Ok.ensures.lists c.answer.ensures.places
+    idle_answered (hands_of c.args.self.now.flows) (hands_of c.answer.new.self) (hands_of c.leave.new.self) c.args.lane (reply_of c.args.event.now) c.in-Ok.ensures.lists c.answer.ensures.entries
     c.leave.ensures.same c.leave.ensures.left c.leave.ensures.elsewhere c.args.self.now.idle
 
 pub returns-in-Ok-clause-counts : goal.returns-in-Ok-clause-counts
@@ -72,9 +72,9 @@ returns-in-Ok-clause-counts c =
     let there : c.args.lane < length (lanes_of (arc_value c.args.self.now.flows.claims)) =
     lane_there _ c.args.self.now.flows.seat _ _ c.args.lane c.args.self.now.flows.are
     (first_open c.args.self.now.order.items (Flow c.args.lane) (open_on c.args.self.now.own (hands_of c.args.self.now.flows)) c.requires.oldest c.args.self.now.ordered) in
-    let n = length (lanes_of (flow_place c.args.self.now.flows).claims) in
-    let m = length (lanes_of (flow_place c.leave.new.self).claims) in
-    let e : m ≡ n = ap (λ (p : FlowPlace). length (lanes_of p.claims)) (c.leave.ensures.place ∙ c.answer.ensures.place) in
+    let n = length (lanes_of (flow_site c.args.self.now.flows).claims) in
+    let m = length (lanes_of (flow_site c.leave.new.self).claims) in
+    let e : m ≡ n = ap (λ (p : FlowSite). length (lanes_of p.claims)) (c.leave.ensures.site ∙ c.answer.ensures.site) in
     let says : Says c.args.lane (reply_of c.args.event.now) (hands_of c.args.self.now.flows) (hands_of c.leave.new.self) =
     says_before _ (hands_of c.answer.new.self) _ c.args.lane (reply_of c.args.event.now) c.in-Ok.ensures.lists c.leave.ensures.same in
     let others : (l : Lane) → l ≢ Flow c.args.lane → after l ≡ before l =

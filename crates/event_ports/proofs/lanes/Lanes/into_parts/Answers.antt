@@ -5,7 +5,7 @@ use Rattle.event_ports.proofs.Parted.{end_of}
 use Rattle.event_ports.proofs.lanes.Lanes.into_parts.Goals as goal
 
 pub returns-clause-counted : goal.returns-clause-counted
-returns-clause-counted c = all_there c.args.self.own (hands_of c.args.self.flows) c.args.self.order.items _ c.args.self.flows.are.places c.args.self.ordered
+returns-clause-counted c = all_there c.args.self.own (hands_of c.args.self.flows) c.args.self.order.items _ c.args.self.flows.are.entries c.args.self.ordered
 
 pub returns-clause-lists : goal.returns-clause-lists
 returns-clause-lists c = end_of c.args.self.own (hands_of c.args.self.flows) c.args.self.order.items _ c.args.self.ordered c.args.self.gave_back c.args.self.idle c.into_seat.ensures.lists

@@ -3,7 +3,7 @@ use Rattle.std.proofs.Common.{◌≡◌, [], length}
 use Rattle.evt_types.specs.Operation.{is_more_reply, is_new_reply, is_release_reply}
 use Rattle.flow_claims.specs.Claims.{lanes_of}
 use Rattle.event_ports.specs.declared.lane.Lane.{Lane}
-use Rattle.event_ports.specs.Flows.{hands_of, flow_place}
+use Rattle.event_ports.specs.Flows.{hands_of, flow_site}
 use Rattle.event_ports.specs.Lanes.{said_on}
 use Rattle.event_ports.proofs.Submitted.{counts_zero}
 use Rattle.event_ports.proofs.Orders.{each_lane}
@@ -13,5 +13,5 @@ pub returns-clause-none : goal.returns-clause-none
 returns-clause-none c =
     let said = said_on c.args.own (hands_of c.args.flows) in
     let none : (l : Lane) → said l ≡ [] = each_lane (λ l. said l ≡ []) c.requires.own.1 c.requires.flows.0.answered_is in
-    let n = length (lanes_of (flow_place c.args.flows).claims) in
+    let n = length (lanes_of (flow_site c.args.flows).claims) in
     (counts_zero is_new_reply n said none, counts_zero is_more_reply n said none, counts_zero is_release_reply n said none)

@@ -2,7 +2,7 @@
 use Rattle.std.proofs.Common.{◌∙◌, ap, refl, subst, arith, List, [], ◌∷◌, ℕ, map}
 use Rattle.evt_types.specs.declared.event.Delivery.{Delivery}
 use Rattle.event_ports.specs.declared.lane.Lane.TheVariants.{Own, Flow}
-use Rattle.event_ports.specs.Handed.{LanesPlace, hand_of, links_of}
+use Rattle.event_ports.specs.Handed.{LanesSite, hand_of, links_of}
 use Rattle.event_ports.specs.Lanes.{ArrivesFrom, lanes_read}
 use Rattle.event_ports.proofs.Arrivals.{arrives, arrives_more, arrives_grows, arrives_length, flows_after, own_only}
 use Rattle.event_ports.proofs.lanes.Lanes.receive_all.Goals as goal
@@ -17,7 +17,7 @@ later : (c : After-receive_flows)
     → ArrivesFrom (map Flow (links_of c.args.self.now)) (hand_of c.receive_own.new.self) (hand_of c.receive_flows.new.self) c.receive_own.new.into.items c.receive_flows.new.into.items
 later c =
     let Links : List ℕ → Type 0 = λ ls. ArrivesFrom (map Flow ls) (hand_of c.receive_own.new.self) (hand_of c.receive_flows.new.self) c.receive_own.new.into.items c.receive_flows.new.into.items in
-    subst Links (ap (λ (p : LanesPlace). p.flows.links) c.receive_own.ensures.place) c.receive_flows.ensures.arrived
+    subst Links (ap (λ (p : LanesSite). p.flows.links) c.receive_own.ensures.site) c.receive_flows.ensures.arrived
 
 both : (c : After-receive_flows) → ArrivesFrom (lanes_read (links_of c.args.self.now)) (hand_of c.args.self.now) (hand_of c.receive_flows.new.self) [] c.receive_flows.new.into.items
 both c =
@@ -38,8 +38,8 @@ returns-clause-drained c few room =
       c.min-most.ensures,
       c.capacity.ensures.capacity,
       c.len.ensures.len,
-      ap (λ (p : LanesPlace). p.depth) c.receive_own.ensures.place,
-      ap (λ (p : LanesPlace). p.depth) c.receive_flows.ensures.place,
+      ap (λ (p : LanesSite). p.depth) c.receive_own.ensures.site,
+      ap (λ (p : LanesSite). p.depth) c.receive_flows.ensures.site,
       arrives_length _ (hand_of c.args.self.now) (hand_of c.receive_flows.new.self) _ (both c),
       arrives_grows _ _ _ _ _ (later c),
     ))

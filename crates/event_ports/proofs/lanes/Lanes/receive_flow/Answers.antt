@@ -7,7 +7,7 @@ use Rattle.event_ports.specs.declared.lane.Holding.{Holding}
 use Rattle.event_ports.specs.declared.lane.Lane.{Lane}
 use Rattle.event_ports.specs.declared.lane.Lane.TheVariants.{Flow}
 use Rattle.event_ports.specs.Holds.{Gets}
-use Rattle.event_ports.specs.Flows.{FlowPlace, flow_place, hands_of}
+use Rattle.event_ports.specs.Flows.{FlowSite, flow_site, hands_of}
 use Rattle.event_ports.specs.Lanes.{HasRoomFor, said_on, got_on, open_on}
 use Rattle.event_ports.proofs.Arrivals.{arrives_none, arrives_some, room_less}
 use Rattle.event_ports.proofs.Noting.{noted_are, note_fits}
@@ -52,7 +52,7 @@ invariant_of-self-2-clause-no_new c =
 pub invariant_of-self-2-clause-idle : goal.invariant_of-self-2-clause-idle
 invariant_of-self-2-clause-idle c =
     idle_received (hands_of c.args.self.now.flows) (hands_of c.hold.new.self) (hands_of c.receive_some.new.self) (hands_of c.leave.new.self) c.args.lane c.receive_some.ensures.lists.came
-    c.hold.ensures.same c.hold.ensures.elsewhere c.receive_some.ensures.lists.gets c.receive_some.ensures.places c.leave.ensures.same c.leave.ensures.left c.leave.ensures.elsewhere c.args.self.now.idle
+    c.hold.ensures.same c.hold.ensures.elsewhere c.receive_some.ensures.lists.gets c.receive_some.ensures.entries c.leave.ensures.same c.leave.ensures.left c.leave.ensures.elsewhere c.args.self.now.idle
 
 pub returns-clause-counts : goal.returns-clause-counts
 returns-clause-counts c =
@@ -61,9 +61,9 @@ returns-clause-counts c =
     gets_between _ (hands_of c.hold.new.self) (hands_of c.receive_some.new.self) _ c.args.lane came.came c.hold.ensures.same came.gets c.leave.ensures.same in
     let before = said_on c.args.self.now.own (hands_of c.args.self.now.flows) in
     let after = said_on c.args.self.now.own (hands_of c.leave.new.self) in
-    let n = length (lanes_of (flow_place c.args.self.now.flows).claims) in
-    let m = length (lanes_of (flow_place c.leave.new.self).claims) in
-    let e : m ≡ n = ap (λ (p : FlowPlace). length (lanes_of p.claims)) (c.leave.ensures.place ∙ c.receive_some.ensures.place ∙ c.hold.ensures.place) in
+    let n = length (lanes_of (flow_site c.args.self.now.flows).claims) in
+    let m = length (lanes_of (flow_site c.leave.new.self).claims) in
+    let e : m ≡ n = ap (λ (p : FlowSite). length (lanes_of p.claims)) (c.leave.ensures.site ∙ c.receive_some.ensures.site ∙ c.hold.ensures.site) in
     let same : (l : Lane) → after l ≡ before l = each_lane (λ l. after l ≡ before l) refl (λ j. gets_no_answer _ _ c.args.lane came.came gets j) in
     record { news = counts_none is_new_reply n m before after e same; mores = counts_none is_more_reply n m before after e same; releases = counts_none is_release_reply n m before after e same }
 
@@ -103,8 +103,8 @@ pub returns-then-not-hold-clause-counts : goal.returns-then-not-hold-clause-coun
 returns-then-not-hold-clause-counts c =
     let before = said_on c.args.self.now.own (hands_of c.args.self.now.flows) in
     let after = said_on c.args.self.now.own (hands_of c.hold.new.self) in
-    let n = length (lanes_of (flow_place c.args.self.now.flows).claims) in
-    let m = length (lanes_of (flow_place c.hold.new.self).claims) in
-    let e : m ≡ n = ap (λ (p : FlowPlace). length (lanes_of p.claims)) c.hold.ensures.place in
+    let n = length (lanes_of (flow_site c.args.self.now.flows).claims) in
+    let m = length (lanes_of (flow_site c.hold.new.self).claims) in
+    let e : m ≡ n = ap (λ (p : FlowSite). length (lanes_of p.claims)) c.hold.ensures.site in
     let same : (l : Lane) → after l ≡ before l = each_lane (λ l. after l ≡ before l) refl c.hold.ensures.same.answered_is in
     record { news = counts_none is_new_reply n m before after e same; mores = counts_none is_more_reply n m before after e same; releases = counts_none is_release_reply n m before after e same }

@@ -2,11 +2,11 @@ use Rattle.std.proofs.Common.{◌∙◌, ◌++◌, ap, arith, refl, subst, sym}
 use Rattle.std.proofs.lemmas.Bool.{false≢true}
 use mathlib.Core.List.{IsPrefix}
 use Rattle.rtrb.specs.Ring.{known_items, received}
-use Rattle.lane_rings.specs.Pockets.{inside}
+use Rattle.lane_rings.specs.Batches.{inside}
 use Rattle.lane_rings.proofs.Fetching.{none_handed, prefix-joined}
 use Rattle.lane_rings.proofs.intake.Intake.look.Goals as goal
 
--- something is in the pocket
+-- something is in the batch
 
 pub returns-then-not-is_empty-clause-handed : goal.returns-then-not-is_empty-clause-handed
 returns-then-not-is_empty-clause-handed g c = refl
@@ -27,7 +27,7 @@ returns-then-not-is_empty-clause-short g c none few within = absurd (false≢tru
 
 pub returns-clause-handed : goal.returns-clause-handed
 returns-clause-handed g c =
-    none_handed (received c.args.self.now.ring) (received c.fill.new.ring) (inside c.args.self.now.pocket) (inside c.fill.new.self)
+    none_handed (received c.args.self.now.ring) (received c.fill.new.ring) (inside c.args.self.now.batch) (inside c.fill.new.self)
     (c.fill.ensures.received ∙ ap (λ xs. xs ++ inside c.fill.new.self) c.slots-there.ensures.looked.1) (c.is_empty.ensures.0 c.if-not-is_empty.false)
 
 pub returns-clause-ahead : goal.returns-clause-ahead

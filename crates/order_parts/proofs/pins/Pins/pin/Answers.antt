@@ -3,7 +3,7 @@ use Rattle.order_parts.specs.Held.{AreHeld}
 use Rattle.order_parts.specs.Pins.{Pin, cell_of, pin_at, pinned}
 use Rattle.order_parts.proofs.HeldSlots.{pin_held, cell_low}
 use Rattle.order_parts.proofs.Holds.{set_pin}
-use Rattle.place_set.specs.Places.{SameBut, set_at}
+use Rattle.small_set.specs.SmallSets.{SameBut, set_at}
 use Rattle.order_parts.proofs.pins.Pins.pin.Goals as goal
 
 pub returns : goal.returns

@@ -1,5 +1,5 @@
 use Rattle.order_parts.proofs.HeldSlots.{AreOff}
-use Rattle.place_set.specs.Places.{weight}
+use Rattle.small_set.specs.SmallSets.{weight}
 use Rattle.order_parts.proofs.pins.Pins.slots_off.Given as goal
 
 abbrev pub invariant-loop-lane : goal.invariant-loop-lane

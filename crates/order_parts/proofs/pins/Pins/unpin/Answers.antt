@@ -3,7 +3,7 @@ use Rattle.order_parts.specs.Held.{AreHeld}
 use Rattle.order_parts.specs.Pins.{Pin, cell_of, pin_at, pin_of, unpinned}
 use Rattle.order_parts.proofs.HeldSlots.{last_unpinned, one_unpinned, cell_low}
 use Rattle.order_parts.proofs.Holds.{set_pin, pin_here}
-use Rattle.place_set.specs.Places.{SameBut, set_at}
+use Rattle.small_set.specs.SmallSets.{SameBut, set_at}
 use Rattle.order_parts.proofs.pins.Pins.unpin.Goals as goal
 
 pub returns-then-hold-eq0 : goal.returns-then-hold-eq0

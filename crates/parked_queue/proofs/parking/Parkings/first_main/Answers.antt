@@ -3,7 +3,7 @@ use Rattle.std.proofs.lemmas.Bool.{false≢true}
 use Rattle.std.proofs.lemmas.List.{length-set}
 use Rattle.std.specs.Option.{is_some}
 use Rattle.evt_types.specs.declared.event.Numbered.{Numbered}
-use Rattle.place_set.specs.Places.{Has}
+use Rattle.small_set.specs.SmallSets.{Has}
 use Rattle.parked_queue.specs.Parkings.{are_waits, parted_at}
 use Rattle.parked_queue.specs.Parted.{HasNoneParked, Parted, list_in, own_first, with_below}
 use Rattle.parked_queue.specs.Waits.{HasNoneAllowed, IsFirstAllowed, slot_of}

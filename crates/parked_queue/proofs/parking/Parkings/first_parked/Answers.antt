@@ -1,6 +1,6 @@
 use Rattle.std.proofs.Common.{◌≡◌, ◌<◌, ◌∙◌, Some, None, ap, slice_get, subst, sym, refl}
-use Rattle.place_set.specs.Places.{Has}
-use Rattle.parked_queue.specs.Parted.{HasNoneParked, IsFirstParked, list_in, parked_place}
+use Rattle.small_set.specs.SmallSets.{Has}
+use Rattle.parked_queue.specs.Parted.{HasNoneParked, IsFirstParked, list_in, list_of_slot}
 use Rattle.parked_queue.proofs.Best.{best_kept, best_none, best_older, one_older, has_none, is_first, still_there}
 use Rattle.parked_queue.specs.Waits.{slot_of}
 use Rattle.parked_queue.proofs.Options.{of_none, of_some}
@@ -25,7 +25,7 @@ loop-slot-smaller-in-Some-parked_front c = c.in-Some.ensures.lighter
 
 pub loop-slot-preserved-in-Some-parked_front : goal.loop-slot-preserved-in-Some-parked_front
 loop-slot-preserved-in-Some-parked_front c =
-    let head = subst (λ vs. slice_get (list_in (parted_at vs c.args.queue) (parked_place c.in-Some.slot c.args.level)) 0 ≡ Some c.in-Some-parked_front.head) c.loop-slot.invariant.same (sym c.in-Some-parked_front.ensures.value) in
+    let head = subst (λ vs. slice_get (list_in (parted_at vs c.args.queue) (list_of_slot c.in-Some.slot c.args.level)) 0 ≡ Some c.in-Some-parked_front.head) c.loop-slot.invariant.same (sym c.in-Some-parked_front.ensures.value) in
     record {
       same = c.parked_front.ensures.same ∙ c.loop-slot.invariant.same;
       there = still_there (λ k. Has c.args.marked k × (k < (parted_at c.args.self.now c.args.queue).waits.slots)) c.in-Some.slot c.loop-slot.left c.pop.new.self c.in-Some.ensures.others c.in-Some.ensures.gone c.loop-slot.invariant.there;
@@ -42,7 +42,7 @@ loop-slot-smaller c = c.in-Some.ensures.lighter
 
 pub loop-slot-preserved : goal.loop-slot-preserved
 loop-slot-preserved c =
-    let none = subst (λ vs. slice_get (list_in (parted_at vs c.args.queue) (parked_place c.in-Some.slot c.args.level)) 0 ≡ None) c.loop-slot.invariant.same (sym c.in_default-parked_front.ensures.value) in
+    let none = subst (λ vs. slice_get (list_in (parted_at vs c.args.queue) (list_of_slot c.in-Some.slot c.args.level)) 0 ≡ None) c.loop-slot.invariant.same (sym c.in_default-parked_front.ensures.value) in
     record {
       same = c.parked_front.ensures.same ∙ c.loop-slot.invariant.same;
       there = still_there (λ k. Has c.args.marked k × (k < (parted_at c.args.self.now c.args.queue).waits.slots)) c.in-Some.slot c.loop-slot.left c.pop.new.self c.in-Some.ensures.others c.in-Some.ensures.gone c.loop-slot.invariant.there;

@@ -1,5 +1,5 @@
 use Rattle.std.proofs.Common.{◌≡◌, ℕ, ◌<◌, IfSome}
-use Rattle.place_set.specs.Places.{Has, weight}
+use Rattle.small_set.specs.SmallSets.{Has, weight}
 use Rattle.parked_queue.specs.Parted.{IsBest, IsParkedAllowed}
 use Rattle.parked_queue.specs.Parkings.{parted_at}
 use Rattle.parked_queue.proofs.parking.Parkings.first_parked.Given as goal

@@ -2,7 +2,7 @@ use Rattle.std.proofs.Common.{◌≡◌, ◌∙◌, ◌<◌, arith, length, refl
 use Rattle.parked_queue.specs.Parkings.{parking_at, parted_at}
 use Rattle.parked_queue.specs.Parted.{with_waits}
 use Rattle.parked_queue.specs.Waits.{AreWaits, IsOnlyOf, without_number}
-use Rattle.parked_queue.proofs.Calls.{headless, level_place, placed}
+use Rattle.parked_queue.proofs.Calls.{headless, level_list, placed}
 use Rattle.parked_queue.proofs.Parkings.{parking_read, seen_at}
 use Rattle.parked_queue.proofs.Seen.{untouched}
 use Rattle.parked_queue.proofs.parking.Parkings.remove.Goals as goal
@@ -16,14 +16,14 @@ pub overflow_add-left : goal.overflow_add-left
 overflow_add-left c =
     let s = seen_at c.self.inside.lists c.self.inside.queues.items c.args.self.now c.self.invariant c.self.view_is c.args.queue c.requires.there in
     let is : c.index_mut-left.result.now ≡ parking_at c.self.inside.queues.items c.args.queue = c.index_mut-left.ensures.value ∙ parking_read c.self.inside.queues.items c.args.queue c.index_mut-left.result.now s.there in
-    let p = placed c.self.inside.lists c.self.inside.queues.items c.args.self.now c.self.invariant c.self.view_is c.args.queue c.requires.there c.index_mut-left.result.now is c.args.level (level_place c.self.inside.lists c.self.inside.queues.items c.args.self.now c.self.invariant c.self.view_is c.args.queue c.requires.there c.args.level c.requires.level) in
+    let p = placed c.self.inside.lists c.self.inside.queues.items c.args.self.now c.self.invariant c.self.view_is c.args.queue c.requires.there c.index_mut-left.result.now is c.args.level (level_list c.self.inside.lists c.self.inside.queues.items c.args.self.now c.self.invariant c.self.view_is c.args.queue c.requires.there c.args.level c.requires.level) in
     omega (arith, p.1)
 
 pub pop_number-requires : goal.pop_number-requires
 pop_number-requires c =
     let s = seen_at c.self.inside.lists c.self.inside.queues.items c.args.self.now c.self.invariant c.self.view_is c.args.queue c.requires.there in
     let is : c.index_mut-left.result.now ≡ parking_at c.self.inside.queues.items c.args.queue = c.index_mut-left.ensures.value ∙ parking_read c.self.inside.queues.items c.args.queue c.index_mut-left.result.now s.there in
-    (placed c.self.inside.lists c.self.inside.queues.items c.args.self.now c.self.invariant c.self.view_is c.args.queue c.requires.there c.index_mut-left.result.now is c.args.level (level_place c.self.inside.lists c.self.inside.queues.items c.args.self.now c.self.invariant c.self.view_is c.args.queue c.requires.there c.args.level c.requires.level)).0
+    (placed c.self.inside.lists c.self.inside.queues.items c.args.self.now c.self.invariant c.self.view_is c.args.queue c.requires.there c.index_mut-left.result.now is c.args.level (level_list c.self.inside.lists c.self.inside.queues.items c.args.self.now c.self.invariant c.self.view_is c.args.queue c.requires.there c.args.level c.requires.level)).0
 
 pub overflow_sub-left : goal.overflow_sub-left
 overflow_sub-left c =

@@ -1,6 +1,6 @@
 use Rattle.std.proofs.Common.{◌≡◌, ◌^◌, ◌<◌, ◌∙◌, ap, arith, length, set, subst, sym}
 use Rattle.evt_types.specs.Plan.{level_of}
-use Rattle.place_set.specs.Places.{Has, SameBut}
+use Rattle.small_set.specs.SmallSets.{Has, SameBut}
 use Rattle.parked_queue.specs.Busy.{AreNoted}
 use Rattle.parked_queue.specs.Levels.{levels_at}
 use Rattle.parked_queue.specs.Parkings.{are_waits, parted_at}

@@ -1,5 +1,5 @@
 use Rattle.std.proofs.Common.{◌%◌, ◌∙◌, refl, ap, sym, subst}
-use Rattle.place_set.specs.Places.{Has}
+use Rattle.small_set.specs.SmallSets.{Has}
 use Rattle.parked_queue.specs.Parkings.{parted_at}
 use Rattle.parked_queue.specs.Waits.{AreWaits, IsFirstAllowed, Waits}
 use Rattle.parked_queue.proofs.Firsts.{main_first}

@@ -1,7 +1,7 @@
 use Rattle.std.proofs.Common.{◌≡◌, ℕ, ◌<◌, ◌∙◌, List, [], ap, arith, filter, length, set, subst, sym}
 use Rattle.std.proofs.lemmas.List.{length-set, nil_from_length}
-use Rattle.place_set.specs.Places.{Has, SameBut}
-use Rattle.place_set.specs.declared.places.Places.{Places}
+use Rattle.small_set.specs.SmallSets.{Has, SameBut}
+use Rattle.small_set.specs.declared.set.SmallSet.{SmallSet}
 use Rattle.parked_queue.specs.Busy.{AreNoted}
 use Rattle.parked_queue.specs.Levels.{levels_at}
 use Rattle.parked_queue.specs.Parkings.{are_waits, parted_at, waits_in}
@@ -27,7 +27,7 @@ value_is vs us qs q n view is =
     ∙ ap (λ w. set qs q (without_number w n)) (sym (waits_read vs q) ∙ ap (λ ws. waits_at ws q) view)))
 
 -- the words once the event has left
-noted : (vs us : List Parted) (qs : List Waits) (ls : List Places) (q n : ℕ) (was now : Places) → are_waits vs ≡ qs → AreNoted (are_waits vs) ls was → q < length qs → us ≡ set vs q (with_waits (parted_at vs q) (without_number (parted_at vs q).waits n))
+noted : (vs us : List Parted) (qs : List Waits) (ls : List SmallSet) (q n : ℕ) (was now : SmallSet) → are_waits vs ≡ qs → AreNoted (are_waits vs) ls was → q < length qs → us ≡ set vs q (with_waits (parted_at vs q) (without_number (parted_at vs q).waits n))
     → SameBut q was now → ((¬ Has now q) → (without_number (parted_at vs q).waits n).waiting ≡ []) → AreNoted (are_waits us) ls now
 noted vs us qs ls q n was now view are there is others none =
     let ws = are_waits vs in

@@ -1,6 +1,6 @@
 use Rattle.std.proofs.Common.{ℕ, ◌≡◌, ◌<◌, true, subst}
 use Rattle.std.specs.Prelude.{◌↔◌}
-use Rattle.place_set.specs.Places.{Has, set_at}
+use Rattle.small_set.specs.SmallSets.{Has, set_at}
 use Rattle.transcripts.specs.Choice.{Passed, has_bounced}
 use Rattle.sched_core.proofs.LaneSets.{first_set}
 use Rattle.sched_core.proofs.skips.Skips.closed.Goals as goal

@@ -1,4 +1,4 @@
-use Rattle.place_set.specs.Places.{weight}
+use Rattle.small_set.specs.SmallSets.{weight}
 use Rattle.sched_core.proofs.OpenLanes.{IsWalked}
 use Rattle.sched_core.proofs.state.Core.least_loaded.Given as goal
 

@@ -1,6 +1,6 @@
 use Rattle.std.proofs.Common.{◌≡◌}
 use Rattle.sched_core.specs.Offered.{HasAllowed}
-use Rattle.place_set.specs.Places.{weight}
+use Rattle.small_set.specs.SmallSets.{weight}
 use Rattle.sched_core.proofs.state.Core.offer_behind.Given as goal
 
 abbrev pub invariant-loop-found : goal.invariant-loop-found

@@ -1,5 +1,5 @@
 use Rattle.std.proofs.Common.{◌≡◌, ℕ, ◌<◌}
-use Rattle.place_set.specs.Places.{Has, weight}
+use Rattle.small_set.specs.SmallSets.{Has, weight}
 use Rattle.sched_core.proofs.Offers.{HasNoneBeside}
 use Rattle.sched_core.proofs.state.Core.offer_from.Given as goal
 

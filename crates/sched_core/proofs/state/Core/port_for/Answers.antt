@@ -1,6 +1,6 @@
 use Rattle.std.proofs.Common.{rules, arith, ◌<◌, ◌^◌, sym, ◌∙◌, subst}
 use Rattle.std.proofs.lemmas.Bool.{false≢true}
-use Rattle.place_set.specs.Places.{Has}
+use Rattle.small_set.specs.SmallSets.{Has}
 use Rattle.sched_core.proofs.Offers.{not_itself}
 use Rattle.sched_core.proofs.OpenLanes.{free_holds, has_low, hold_is_holder, may_hold}
 use Rattle.sched_core.proofs.Pinned.{holder_may}
@@ -27,7 +27,7 @@ returns-in-Some-2-2-clause-none c l may =
     let same = hold_is_holder c.self.inside c.args.self.now c.args.lanes c.args.queue c.args.slot c.self.invariant c.self.view_is c.requires.queue c.in-Some.lane l (sym c.holder.ensures ∙ c.in-Some.is) may in
     let fits : c.args.lanes.bits < 2 ^ 64 = search rules in
     let low = has_low c.args.lanes l fits may.0 in
-    let past = c.if-lane-lt-MAX_PLACES.false in
+    let past = c.if-lane-lt-MAX_MEMBERS.false in
     omega arith
 
 pub returns-in-None-clause-fits : goal.returns-in-None-clause-fits

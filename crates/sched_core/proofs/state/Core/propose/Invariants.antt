@@ -1,5 +1,5 @@
 use Rattle.std.proofs.Common.{◌≡◌, ℕ, ◌<◌, length}
-use Rattle.place_set.specs.Places.{Has, weight}
+use Rattle.small_set.specs.SmallSets.{Has, weight}
 use Rattle.sched_core.proofs.Offers.{NothingBeside}
 use Rattle.sched_core.proofs.state.Core.propose.Given as goal
 

@@ -1,5 +1,0 @@
-use Rattle.place_set.proofs.Words.{in_both}
-use Rattle.place_set.proofs.places.Places.both.Goals as goal
-
-pub returns : goal.returns
-returns c i = in_both c.args.self.bits c.args.other.bits i

@@ -1,5 +1,0 @@
-use Rattle.place_set.proofs.Words.{in_either}
-use Rattle.place_set.proofs.places.Places.either.Goals as goal
-
-pub returns : goal.returns
-returns c i = in_either c.args.self.bits c.args.other.bits i

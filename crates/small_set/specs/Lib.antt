@@ -1,1 +1,1 @@
-pub mod SmallSet
+pub mod SmallSets

@@ -7,7 +7,6 @@ ghost use Rattle.order_parts.specs.Reorder.{after_leave, empty};
 
 use evt_types::{Event, Numbered, Op};
 use order_parts::{Entry, History, Memory, Pins, Reorder};
-use small_set::SmallSet;
 use std::alloc::Global;
 use std::test::Fail;
 
@@ -62,8 +61,6 @@ const FIRST: Event = event_of!(ForwardMore, 10);
 
 const SECOND: Event = event_of!(ForwardMore, 11);
 
-const THIRD: Event = event_of!(ForwardMore, 12);
-
 #[test]
 fn a_slot_is_free_once_all_are_answered(rt: HostRuntime) -> Result<(), Fail> {
     let mut pins = pins_of(rt.alloc(), 1)?;
@@ -74,28 +71,6 @@ fn a_slot_is_free_once_all_are_answered(rt: HostRuntime) -> Result<(), Fail> {
         (pins.slots(), held, pins.may(0, 1)),
         (1, (false, true), true)
     );
-    Ok(())
-}
-
-/// Which of the first three slots don't stand on the lane.
-fn off(pins: &Pins, lane: usize) -> [bool; 3]
-    requires { lane < 64 }
-{
-    let mut lanes = SmallSet::none();
-    lanes.add(lane);
-    let slots = pins.slots_off(lanes);
-    [slots.has(0), slots.has(1), slots.has(2)]
-}
-
-#[test]
-fn a_held_slot_stands_on_its_lane(rt: HostRuntime) -> Result<(), Fail> {
-    let mut pins = pins_of(rt.alloc(), 3)?;
-    pins.pin(1, 2);
-    let held = (pins.holder(0), pins.holder(1), off(&pins, 2), off(&pins, 0));
-    pins.unpin(1);
-    let free = (pins.holder(1), off(&pins, 2));
-    assert_eq!(rt; held, (None, Some(2), [true, false, true], [true; 3]));
-    assert_eq!(rt; free, (None, [true; 3]));
     Ok(())
 }
 
@@ -148,102 +123,6 @@ fn added_events_leave_before_the_forward(rt: HostRuntime) -> Result<(), Fail> {
         event: SECOND,
     };
     assert_eq!(rt; (kept, [early, all]), ((3, Some(second), None), [true; 2]));
-    Ok(())
-}
-
-/// What is added to places in turn leaves with its own place, and the ring has room for more of it then.
-#[test]
-fn each_place_keeps_what_was_added_to_it(rt: HostRuntime) -> Result<(), Fail> {
-    let mut reorder = reorder_of(rt.alloc(), 2)?;
-    reorder.hand(5);
-    reorder.hand(6);
-    reorder.add(1, FIRST);
-    reorder.add(0, SECOND);
-    reorder.add(1, THIRD);
-    reorder.resolve(0, None);
-    let oldest = leaves(&mut reorder, Some((5, &[SECOND])));
-    reorder.hand(7);
-    reorder.add(2, FIRST);
-    reorder.add(1, SECOND);
-    reorder.resolve(1, None);
-    let left = leaves(&mut reorder, Some((6, &[FIRST, THIRD, SECOND])));
-    reorder.resolve(2, Some(&FORWARD));
-    let last = leaves(&mut reorder, Some((7, &[FIRST, FORWARD])));
-    assert_eq!(rt; [oldest, left, last], [true; 3]);
-    Ok(())
-}
-
-/// The quick way out is for a place that keeps one event at most.
-#[test]
-fn a_plain_place_leaves_quickly(rt: HostRuntime) -> Result<(), Fail> {
-    let mut reorder = reorder_of(rt.alloc(), 2)?;
-    reorder.hand(5);
-    reorder.hand(6);
-    reorder.add(0, FIRST);
-    reorder.add(0, SECOND);
-    reorder.resolve(0, None);
-    reorder.resolve(1, Some(&FORWARD));
-    let early = reorder.leave_plain();
-    let oldest = leaves(&mut reorder, Some((5, &[FIRST, SECOND])));
-    let plain = reorder.leave_plain();
-    assert_eq!(rt;
-        (early, oldest, plain),
-        (None, true, Some((6, Some(FORWARD))))
-    );
-    Ok(())
-}
-
-/// A ring of three, once round.
-fn turned_once(alloc: Global) -> Result<Reorder, Memory>
-    ensures { IfOk result (λ r. r ≡ record { first = 3; places = []; depth = 3 }) }
-{
-    let mut reorder = reorder_of(alloc, 3)?;
-    reorder.hand(10);
-    reorder.hand(11);
-    reorder.hand(12);
-    reorder.resolve(2, None);
-    reorder.resolve(0, None);
-    reorder.leave();
-    reorder.resolve(1, None);
-    reorder.leave();
-    reorder.leave();
-    Ok(reorder)
-}
-
-/// Twice round.
-fn turned_twice(alloc: Global) -> Result<Reorder, Memory>
-    ensures { IfOk result (λ r. r ≡ record { first = 6; places = []; depth = 3 }) }
-{
-    let mut reorder = turned_once(alloc)?;
-    reorder.hand(13);
-    reorder.hand(14);
-    reorder.resolve(4, None);
-    reorder.hand(15);
-    reorder.resolve(3, None);
-    reorder.leave();
-    reorder.leave();
-    reorder.resolve(5, None);
-    reorder.leave();
-    Ok(reorder)
-}
-
-#[test]
-fn places_wrap_round_the_ring(rt: HostRuntime) -> Result<(), Fail> {
-    let mut reorder = turned_twice(rt.alloc())?;
-    let handed = [reorder.hand(16), reorder.hand(17)];
-    reorder.resolve(7, Some(&FORWARD));
-    let early = leaves(&mut reorder, None);
-    reorder.resolve(6, None);
-    let oldest = leaves(&mut reorder, Some((16, &[])));
-    let last = (reorder.hand(18), reorder.hand(19), reorder.room());
-    let left = [
-        early,
-        oldest,
-        leaves(&mut reorder, Some((17, &[FORWARD]))),
-        leaves(&mut reorder, None),
-    ];
-    assert_eq!(rt; (handed, last), ([6, 7], (8, 9, false)));
-    assert_eq!(rt; left, [true; 4]);
     Ok(())
 }
 

@@ -10,7 +10,8 @@ use Rattle.credit_pool.specs.Accounts.{Stays}
 use Rattle.evt_types.specs.Plan.{Plan}
 use Rattle.event_ports.specs.Ports.{DeskSite, account_of, own_site}
 use Rattle.event_ports.specs.declared.port.Port.{Port}
-pub use Rattle.event_device.proofs.Keeping.{same_site}
+use Rattle.event_device.proofs.InOrder.{are_ports, ports_differ}
+pub use Rattle.event_device.proofs.Keeping.{same_site, same_sites}
 use Rattle.event_device.specs.Control.{control_of}
 use Rattle.event_device.specs.Device.{ControlSite, Device, IsDevice, IsPortOf, PortSite, SchedulerSite, control_site, number_of, port_site, scheduler_of, scheduler_site, site_of}
 use Rattle.event_device.specs.Ports.{DifferInNumber}
@@ -18,13 +19,6 @@ use Rattle.event_device.specs.Recorder.{Recorded}
 use Rattle.event_device.specs.Stop.{AreOf}
 use Rattle.event_device.specs.declared.control.Control.{Control}
 use Rattle.device_rigs.specs.Whole.{IsWhole, device_at}
-
--- ---- calls
-
--- so do all where one of them was called
-pub same_sites : (ports : List Port) (n : ℕ) (p q : Port) → slice_get ports n ≡ Some p → own_site q ≡ own_site p → Stays (account_of p) (account_of q) → map site_of (set ports n q) ≡ map site_of ports
-same_sites ports n p q is site stays =
-    map-set_same site_of ports n q p (same_site p q site stays ∙ ap site_of (sym (get_or_from_slice_get ports n p p is)))
 
 -- ---- a device just made
 
@@ -42,31 +36,6 @@ whole_of d s c ports fits e f g =
       control_is = f ∙ ap control_site is;
       ports_are = g ∙ (ap (λ x. map (port_site x) (range_with_len 0 (length d.plan.ports))) is ∙ ap (λ (p : Plan). map (port_site (device_at s c)) (range_with_len 0 (length p.ports))) plan);
     }
-
--- ---- ports with the sites of a device's ports, in their order
-module _ (d : Device) (ports : List Port) (n : ℕ) (sites : map site_of ports ≡ map (port_site d) (range_with_len 0 n)) where
-  pub port_count : length ports ≡ n
-  port_count = sym (length-map ports site_of) ∙ (ap length sites ∙ length-map-range_with_len (port_site d) 0 n)
-
-  site_here : (i : ℕ) (x : Port) → i < length ports → site_of (get_or ports i x) ≡ port_site d i
-  site_here i x there =
-      let low : i < n = omega (arith, port_count, there) in
-      sym (get_or-map site_of ports i x (site_of x) there) ∙ (ap (λ xs. get_or xs i (site_of x)) sites ∙ get_or-map-range_with_len (port_site d) 0 n i i (site_of x) low (zero-add i))
-
-  -- the port at a place has that number
-  number_here : (i : ℕ) (x : Port) → i < length ports → number_of (get_or ports i x) ≡ i
-  number_here i x there = ap (λ (s : PortSite). s.number) (site_here i x there)
-
-  pub are_ports : n ≡ length d.plan.ports → All (IsPortOf d) ports
-  are_ports count i x there =
-      let number : number_of (get_or ports i x) ≡ i = number_here i x there in
-      (omega (arith, number, there, port_count, count), site_here i x there ∙ ap (port_site d) (sym number))
-
-  pub ports_differ : DifferInNumber ports
-  ports_differ i j x low there e =
-      let at_i : number_of (get_or ports i x) ≡ i = number_here i x (omega (arith, low, there)) in
-      let at_j : number_of (get_or ports j x) ≡ j = number_here j x there in
-      omega (arith, low, at_i, at_j, e)
 
 -- ---- the stop
 

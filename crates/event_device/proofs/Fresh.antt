@@ -15,24 +15,7 @@ use Rattle.evt_types.specs.Plan.{Plan}
 use Rattle.event_device.specs.Parts.{IsOne, IsSmall, Parts, device_at, device_of}
 use Rattle.event_device.specs.Start.{IsFresh, IsMade}
 use Rattle.event_device.proofs.Homes.{there_in_all}
-
--- ports with the sites of a device's ports, in their order
-module _ (d : Device) (ports : List Port) (n : ℕ) (sites : map site_of ports ≡ map (port_site d) (range_with_len 0 n)) where
-  pub port_count : length ports ≡ n
-  port_count = sym (length-map ports site_of) ∙ (ap length sites ∙ length-map-range_with_len (port_site d) 0 n)
-
-  site_here : (i : ℕ) (x : Port) → i < length ports → site_of (get_or ports i x) ≡ port_site d i
-  site_here i x there =
-      let low : i < n = omega (arith, port_count, there) in
-      sym (get_or-map site_of ports i x (site_of x) there) ∙ (ap (λ xs. get_or xs i (site_of x)) sites ∙ get_or-map-range_with_len (port_site d) 0 n i i (site_of x) low (zero-add i))
-
-  -- the port at a home has that number, and is the device's
-  port_here : n ≡ length d.plan.ports → (i : ℕ) (x : Port) → slice_get ports i ≡ Some x → (number_of x ≡ i) × IsPortOf d x
-  port_here count i x here =
-      let there : i < length ports = slice_get_within ports i x here in
-      let site : site_of x ≡ port_site d i = ap site_of (sym (get_or_from_slice_get ports i x x here)) ∙ site_here i x there in
-      let number : number_of x ≡ i = ap (λ (s : PortSite). s.number) site in
-      (number, (omega (arith, number, there, port_count, count), site ∙ ap (port_site d) (sym number)))
+use Rattle.event_device.proofs.InOrder.{port_count, port_here}
 
 module _ (p : Plan) (scheduler : Scheduler) (ports : List Port) (control : Control) (made : IsMade p scheduler ports control) (r : Parts)
     (sight : r.recorded.sight ≡ sight_of scheduler) (log : r.recorded.log ≡ []) (claims : r.claims ≡ (control_of control).claims) (control_home : r.control ≡ Some control)

@@ -5,6 +5,8 @@ pub mod Ends
 pub mod FlowEnds
 pub mod Found
 pub mod Fresh
+pub mod Homes
+pub mod InOrder
 pub mod Keeping
 pub mod LaneEnds
 pub mod LaneSums
@@ -13,7 +15,6 @@ pub mod Logs
 pub mod Making
 pub mod Members
 pub mod Ones
-pub mod Homes
 pub mod Pockets
 pub mod Queues
 pub mod Rooms

@@ -8,7 +8,7 @@ use Rattle.credit_pool.specs.Accounts.{Stays}
 use Rattle.event_answers.specs.declared.answer.Swept.{Swept}
 use Rattle.event_ports.specs.Ports.{DeskSite, account_of, own_site}
 use Rattle.event_ports.specs.declared.port.Port.{Port}
-use Rattle.event_device.proofs.Keeping.{same_site}
+use Rattle.event_device.proofs.Keeping.{same_sites}
 use Rattle.event_device.specs.Device.{PortSite, SchedulerSite, scheduler_of, site_of}
 use Rattle.event_scheduler.specs.Scheduler.{Sight, Site}
 use Rattle.event_scheduler.specs.Swept.{Sweeps}
@@ -18,13 +18,6 @@ use Rattle.play_documents.specs.Command.{Line, Enqueue, Dequeue, Sweep, Shut}
 use Rattle.play_text.specs.declared.answer.Answer.{Answer}
 use Rattle.play_text.specs.declared.answer.Answer.TheVariants as answers
 use Rattle.pipeline_app.specs.Rig.{ArePlayed, IsAnswerTo, Scene}
-
--- ---- a call
-
--- so do all where one of them was called
-same_sites : (ports : List Port) (n : ℕ) (p q : Port) → slice_get ports n ≡ Some p → own_site q ≡ own_site p → Stays (account_of p) (account_of q) → map site_of (set ports n q) ≡ map site_of ports
-same_sites ports n p q is site stays =
-    map-set_same site_of ports n q p (same_site p q site stays ∙ ap site_of (sym (get_or_from_slice_get ports n p p is)))
 
 -- what never changes of a scheduler with this configuration
 abbrev scheduler_at : Plan → Site → ℕ → SchedulerSite

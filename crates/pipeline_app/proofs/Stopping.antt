@@ -10,6 +10,7 @@ use Rattle.lists.proofs.Lists.{All-slice_get}
 use Rattle.event_answers.specs.declared.answer.StopFault.{StopFault}
 use Rattle.event_answers.specs.declared.answer.StopFault.TheVariants.{Missing}
 use Rattle.event_ports.specs.declared.port.Port.{Port}
+use Rattle.event_device.proofs.InOrder.{are_ports, are_there, port_count, ports_differ}
 use Rattle.event_device.specs.Control.{control_of}
 use Rattle.event_device.specs.Device.{Device, IsPortOf, PortSite, SchedulerSite, control_site, number_of, port_site, site_of}
 use Rattle.event_device.specs.Ports.{DifferInNumber, IsAbsent, IsThere, Refuses}
@@ -27,42 +28,6 @@ use Rattle.play_text.specs.declared.answer.Answer.{Answer}
 use Rattle.transcripts.specs.Lawful.{IsFormed}
 use Rattle.pipeline_app.specs.Rig.{ArePlayed, IsFresh, Scene}
 use Rattle.pipeline_app.proofs.Keeping.{played_keeps}
-
--- below a list's length there is an element
-element_at : {X : Type 0} (xs : List X) (i : ℕ) → i < length xs → (x : X) × (slice_get xs i ≡ Some x)
-element_at [] i lt = absurd (omega (arith, lt))
-element_at (x ∷ xs) zero lt = (x, refl)
-element_at (x ∷ xs) (suc i) lt = element_at xs i (omega (arith, lt))
-
--- ---- ports with the sites of a device's ports, in their order
-module _ (d : Device) (ports : List Port) (n : ℕ) (sites : map site_of ports ≡ map (port_site d) (range_with_len 0 n)) where
-  pub port_count : length ports ≡ n
-  port_count = sym (length-map ports site_of) ∙ (ap length sites ∙ length-map-range_with_len (port_site d) 0 n)
-
-  site_here : (i : ℕ) (x : Port) → i < length ports → site_of (get_or ports i x) ≡ port_site d i
-  site_here i x there =
-      let low : i < n = omega (arith, port_count, there) in
-      sym (get_or-map site_of ports i x (site_of x) there) ∙ (ap (λ xs. get_or xs i (site_of x)) sites ∙ get_or-map-range_with_len (port_site d) 0 n i i (site_of x) low (zero-add i))
-
-  -- the port at a place has that number
-  number_here : (i : ℕ) (x : Port) → i < length ports → number_of (get_or ports i x) ≡ i
-  number_here i x there = ap (λ (s : PortSite). s.number) (site_here i x there)
-
-  pub are_ports : n ≡ length d.plan.ports → All (IsPortOf d) ports
-  are_ports count i x there =
-      let number : number_of (get_or ports i x) ≡ i = number_here i x there in
-      (omega (arith, number, there, port_count, count), site_here i x there ∙ ap (port_site d) (sym number))
-
-  pub ports_differ : DifferInNumber ports
-  ports_differ i j x low there e =
-      let at_i : number_of (get_or ports i x) ≡ i = number_here i x (omega (arith, low, there)) in
-      let at_j : number_of (get_or ports j x) ≡ j = number_here j x there in
-      omega (arith, low, at_i, at_j, e)
-
-  pub are_there : (k : ℕ) → k < n → IsThere ports k
-  are_there k low =
-      let found = element_at ports k (omega (arith, port_count, low)) in
-      (k, found.0, found.1, sym (ap number_of (get_or_from_slice_get ports k found.0 found.0 found.1)) ∙ number_here k found.0 (omega (arith, port_count, low)))
 
 -- a port that is there isn't absent
 there_or_absent : (ports : List Port) (n : ℕ) → IsThere ports n → IsAbsent ports n → ⊥

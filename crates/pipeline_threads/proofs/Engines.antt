@@ -6,6 +6,7 @@ use Rattle.std.proofs.lemmas.List.FromFn.{get_or-map-range_with_len, length-map-
 use Rattle.std.proofs.lemmas.Option.{slice_get-get_or}
 use Rattle.event_ports.specs.Ports.{links}
 use Rattle.event_ports.specs.declared.port.Port.{Port}
+use Rattle.event_device.proofs.InOrder.{are_ports, ports_differ, site_here}
 use Rattle.event_device.specs.Control.{control_of}
 use Rattle.event_device.specs.Device.{Device, IsPortOf, PortSite, SchedulerSite, number_of, port_site, scheduler_of, site_of}
 use Rattle.event_device.specs.Ports.{DifferInNumber, IsThere}
@@ -30,41 +31,9 @@ pub own_lanes : (p : Plan) → p.serving ≡ Ports → lanes_of p ≡ length p.p
 unfolding lanes_of
 own_lanes p e = omega (arith, ap length (no_flows p e))
 
--- ---- ports with the sites of a device's ports, in their order
-module _ (d : Device) (ports : List Port) (n : ℕ) (sites : map site_of ports ≡ map (port_site d) (range_with_len 0 n)) where
-  pub port_count : length ports ≡ n
-  port_count = sym (length-map ports site_of) ∙ (ap length sites ∙ length-map-range_with_len (port_site d) 0 n)
-
-  pub site_here : (i : ℕ) (x : Port) → i < length ports → site_of (get_or ports i x) ≡ port_site d i
-  site_here i x there =
-      let low : i < n = omega (arith, port_count, there) in
-      sym (get_or-map site_of ports i x (site_of x) there) ∙ (ap (λ xs. get_or xs i (site_of x)) sites ∙ get_or-map-range_with_len (port_site d) 0 n i i (site_of x) low (zero-add i))
-
-  -- the port at a place has that number
-  pub number_here : (i : ℕ) (x : Port) → i < length ports → number_of (get_or ports i x) ≡ i
-  number_here i x there = ap (λ (s : PortSite). s.number) (site_here i x there)
-
-  are_ports : n ≡ length d.plan.ports → All (IsPortOf d) ports
-  are_ports count i x there =
-      let number : number_of (get_or ports i x) ≡ i = number_here i x there in
-      (omega (arith, number, there, port_count, count), site_here i x there ∙ ap (port_site d) (sym number))
-
-  ports_differ : DifferInNumber ports
-  ports_differ i j x low there e =
-      let at_i : number_of (get_or ports i x) ≡ i = number_here i x (omega (arith, low, there)) in
-      let at_j : number_of (get_or ports j x) ≡ j = number_here j x there in
-      omega (arith, low, at_i, at_j, e)
-
-  pub are_there : (k : ℕ) → k < n → IsThere ports k
-  are_there k low = at ports refl (omega (arith, port_count, low))
-    where
-      at : (xs : List Port) → xs ≡ ports → k < length ports → IsThere ports k
-      at [] e there = absurd (omega (arith, there, ap length e))
-      at (x ∷ xs) e there = (k, get_or ports k x, slice_get-get_or ports k x there, number_here k x there)
-
-  -- of a plan that is served by ports alone none is linked to a flow lane
-  pub none_linked : d.plan.serving ≡ Ports → All (λ (x : Port). links x ≡ []) ports
-  none_linked serving i x there = ap (λ (s : PortSite). s.links) (site_here i x there) ∙ no_links d.plan i serving
+-- of a plan that is served by ports alone none is linked to a flow lane
+pub none_linked : (d : Device) (ports : List Port) (n : ℕ) → map site_of ports ≡ map (port_site d) (range_with_len 0 n) → d.plan.serving ≡ Ports → All (λ (x : Port). links x ≡ []) ports
+none_linked d ports n sites serving i x there = ap (λ (s : PortSite). s.links) (site_here d ports n sites i x there) ∙ no_links d.plan i serving
 
 -- ---- an engine
 

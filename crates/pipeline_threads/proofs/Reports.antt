@@ -24,7 +24,7 @@ use Rattle.std.specs.List.{range_with_len}
 use Rattle.evt_types.specs.Event.{pair_of}
 use Rattle.transcripts.specs.Replies.{said}
 use Rattle.world_laws.specs.Rest.{IsRest, Rest}
-use Rattle.pipeline_threads.proofs.Engines.{number_here, port_count}
+use Rattle.event_device.proofs.InOrder.{number_here, port_count}
 
 -- what a lane's holder submitted and received
 abbrev pub lists_at : (ℕ → Rest) → ℕ → PortLists

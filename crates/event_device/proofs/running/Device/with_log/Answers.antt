@@ -3,7 +3,8 @@ use Rattle.std.proofs.lemmas.List.{length-map}
 use Rattle.evt_types.specs.Plan.{port_plan}
 use Rattle.evt_types.specs.declared.draft.QueueDraft.{QueueDraft}
 use Rattle.evt_types.specs.declared.shape.TheConstants.{MAX_BOUND, MAX_LANES, MAX_QUEUES}
-use Rattle.event_device.proofs.Fresh.{made_is_fresh, made_is_one, port_count}
+use Rattle.event_device.proofs.Fresh.{made_is_fresh, made_is_one}
+use Rattle.event_device.proofs.InOrder.{port_count}
 use Rattle.event_device.proofs.running.Device.with_log.Goals as goal
 
 pub put_all-requires-clause-room : goal.put_all-requires-clause-room

@@ -1,6 +1,6 @@
 use Rattle.std.proofs.Common.{length, ap, ◌∙◌, arith}
 use Rattle.event_device.specs.Device.{scheduler_of}
-use Rattle.pipeline_threads.proofs.Engines.{port_count}
+use Rattle.event_device.proofs.InOrder.{port_count}
 use Rattle.pipeline_threads.proofs.engine.Engine.new.Goals as goal
 
 pub returns-in-Ok-clause-made : goal.returns-in-Ok-clause-made

@@ -166,18 +166,36 @@ ended_rest gone lane far v b n found e =
     let whole = e ∙ ap (λ o. finished_by gone lane far o v) found in
     (ap (λ (x : Seating). x.parts) whole, ap (λ (x : Seating). x.closed) whole, ap (λ (x : Seating). x.lanes) whole)
 
+-- one end more is in its slot
+pub wrap_one : (before after : List (Option Far)) (r r' done : List Far) (far : Far)
+    → before ≡ map Some done → r' ≡ r ++ far ∷ [] → after ≡ before ++ Some far ∷ []
+    → ((x : List Far) × (after ≡ map Some x)) × (map Some r' ++ reverse before ≡ map Some r ++ reverse after) × (length r' + length before ≡ length r + length after)
+wrap_one before after r r' done far full popped pushed =
+    let there : reverse after ≡ Some far ∷ reverse before = ap reverse pushed ∙ reverse-append before (Some far ∷ []) in (
+      (done ++ far ∷ [], pushed ∙ ap (λ (l : List (Option Far)). l ++ Some far ∷ []) full ∙ sym (map_push Some done far)),
+      ap (λ (l : List Far). map Some l ++ reverse before) popped ∙ ap (λ (l : List (Option Far)). l ++ reverse before) (map_push Some r far)
+          ∙ append_assoc (map Some r) (Some far ∷ []) (reverse before) ∙ sym (ap (λ (l : List (Option Far)). map Some r ++ l) there),
+      omega (arith, ap length pushed, length-append before (Some far ∷ []), ap length popped, length-append r (far ∷ [])),
+    )
+
+-- ends in slots, from the last one on
+pub turned : (xs : List Far) → (more : List Far) × (reverse (map Some xs) ≡ map Some more)
+turned [] = ([], refl)
+turned (x ∷ xs) =
+    let t = turned xs in
+    (t.0 ++ x ∷ [], reverse-append (Some x ∷ []) (map Some xs) ∙ ap (λ (l : List (Option Far)). l ++ Some x ∷ []) t.1 ∙ sym (map_push Some t.0 x))
+
 -- one end more is out of its slot
-pub unwrap_one : (initial before after : List (Option Far)) (slot : Option Far) (ends r r' : List Far) (far : Far)
-    → before ≡ map Some ends → before ≡ after ++ slot ∷ [] → initial ≡ before ++ map Some (reverse r) → length initial ≡ length before + length r
-    → slot ≡ Some far → r' ≡ r ++ far ∷ []
-    → ((x : List Far) × (after ≡ map Some x)) × (initial ≡ after ++ map Some (reverse r')) × (length initial ≡ length after + length r')
-unwrap_one initial before after slot ends r r' far full popped all count is pushed =
-    let more = unpop after slot ends (sym popped ∙ full) in
-    let back : reverse r' ≡ far ∷ reverse r = ap reverse pushed ∙ reverse-append r (far ∷ []) in (
-      (more.0, more.1),
-      all ∙ ap (λ (l : List (Option Far)). l ++ map Some (reverse r)) popped ∙ append_assoc after (slot ∷ []) (map Some (reverse r))
-          ∙ ap (λ (o : Option Far). after ++ o ∷ map Some (reverse r)) is ∙ sym (ap (λ (l : List Far). after ++ map Some l) back),
-      omega (arith, count, ap length popped, length-append after (slot ∷ []), ap length pushed, length-append r (far ∷ [])),
+pub unwrap_one : (before after : List (Option Far)) (slot : Option Far) (more r r' : List Far) (far : Far)
+    → before ≡ map Some more → before ≡ after ++ slot ∷ [] → slot ≡ Some far → r' ≡ r ++ far ∷ []
+    → ((x : List Far) × (after ≡ map Some x)) × (map Some r' ++ reverse after ≡ map Some r ++ reverse before) × (length r' + length after ≡ length r + length before)
+unwrap_one before after slot more r r' far full popped is pushed =
+    let left = unpop after slot more (sym popped ∙ full) in
+    let back : reverse before ≡ Some far ∷ reverse after = ap reverse popped ∙ reverse-append after (slot ∷ []) ∙ ap (λ (o : Option Far). o ∷ reverse after) is in (
+      (left.0, left.1),
+      ap (λ (l : List Far). map Some l ++ reverse after) pushed ∙ ap (λ (l : List (Option Far)). l ++ reverse after) (map_push Some r far)
+          ∙ append_assoc (map Some r) (Some far ∷ []) (reverse after) ∙ sym (ap (λ (l : List (Option Far)). map Some r ++ l) back),
+      omega (arith, ap length popped, length-append after (slot ∷ []), ap length pushed, length-append r (far ∷ [])),
     )
 
 -- one lane more is closed

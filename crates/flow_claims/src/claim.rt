@@ -2,9 +2,10 @@
 
 ghost use Rattle.std.specs.Prelude.{◌+◌, ◌<◌, ◌^◌};
 
+use crate::boxed::BoxedFar;
 use arrayvec::ArrayVec;
 use evt_types::{Delivery, Event, MAX_EXTRAS, Reply};
-use lane_rings::{AnswerFault, Far, Refusal};
+use lane_rings::{AnswerFault, Refusal};
 
 /// A lane that a port holds, with the lane's end.
 #[derive(Drop)]
@@ -12,7 +13,7 @@ pub struct Stint {
     pub lane: usize,
     /// How many stints the lane had before.
     pub number: u64,
-    pub far: Far,
+    pub far: BoxedFar,
     pub ghost small: { number + 1 < 2 ^ 56 },
 }
 
@@ -50,7 +51,8 @@ impl Stint {
             (λ d. received_so_far v self.new ≡ received_so_far v self.old ++ d ∷ []) }
         ensures answered { (v : Seating) → answered_so_far v self.new ≡ answered_so_far v self.old }
     {
-        self.far.receive()
+        let far = &mut self.far;
+        far.end.receive()
     }
 
     /// `Far::receive_some` of the lane's end. The stint stays open in the seat that has it.
@@ -65,7 +67,8 @@ impl Stint {
         ensures so_far { (v : Seating) → IsOpen v self.old → (c : Comes self.old.far into.old.items self.new.far into.new.items) → received_so_far v self.new ≡ received_so_far v self.old ++ c.came }
         ensures answered { (v : Seating) → answered_so_far v self.new ≡ answered_so_far v self.old }
     {
-        self.far.receive_some(most, into);
+        let far = &mut self.far;
+        far.end.receive_some(most, into);
     }
 
     /// `Far::answer` of the lane's end. The stint stays open in the seat that has it.
@@ -79,7 +82,8 @@ impl Stint {
             (λ _. answered_so_far v self.new ≡ answered_so_far v self.old) }
         ensures received { (v : Seating) → received_so_far v self.new ≡ received_so_far v self.old }
     {
-        self.far.answer(reply)
+        let far = &mut self.far;
+        far.end.answer(reply)
     }
 
     /// `Far::stage` of the lane's end. The stint stays open in the seat that has it.
@@ -92,7 +96,8 @@ impl Stint {
             (λ _. answered_so_far v self.new ≡ answered_so_far v self.old) }
         ensures received { (v : Seating) → received_so_far v self.new ≡ received_so_far v self.old }
     {
-        self.far.stage(event)
+        let far = &mut self.far;
+        far.end.stage(event)
     }
 
     /// `Far::flush` of the lane's end. The stint stays open in the seat that has it.
@@ -103,7 +108,8 @@ impl Stint {
         ensures open { (v : Seating) → IsOpen v self.old → IsOpen v self.new }
         ensures so_far { (v : Seating) → (received_so_far v self.new ≡ received_so_far v self.old) × (answered_so_far v self.new ≡ answered_so_far v self.old) }
     {
-        self.far.flush();
+        let far = &mut self.far;
+        far.end.flush();
     }
 
     /// `Far::extras` of the lane's end.
@@ -112,6 +118,7 @@ impl Stint {
         ensures few { result ≤ MAX_EXTRAS }
         ensures beside { AreBeside (length (received_by self.now.far)) (answered self.now.far) }
     {
-        self.far.extras()
+        let far = &self.far;
+        far.end.extras()
     }
 }

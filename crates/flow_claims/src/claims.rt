@@ -3,6 +3,7 @@ ghost use Rattle.std.specs.Prelude.{◌≡◌, ◌≢◌, ◌+◌, ◌*◌, ◌/
 ghost use Rattle.lane_rings.specs.declared.far.Far.{Far};
 ghost use Rattle.flow_claims.specs.Seats.{slot_of};
 
+use crate::boxed::BoxedFar;
 use crate::claim::{Claim, Stint};
 use crate::ends::{unwrapped, wrapped};
 use crate::rule::{Both, ClaimExchange, ClaimRule, ClosingSwap, Front, OnePart, Probe, Return};
@@ -25,7 +26,7 @@ const SURRENDERED: u64 = 255;
 /// Lanes to be claimed. Threads share them by reference.
 #[derive(Drop)]
 pub struct Claims {
-    table: Table<Option<Far>, Seating, Snapshot<Vec<Far>>, ClaimRule, Global>,
+    table: Table<Option<BoxedFar>, Seating, Snapshot<Vec<Far>>, ClaimRule, Global>,
     ghost words: { table.shared.table_id.words ≡ length table.shared.key.value.items + 1 },
     ghost slots: { table.shared.table_id.slots ≡ length table.shared.key.value.items },
 }
@@ -33,7 +34,7 @@ pub struct Claims {
 /// A seat: its stints, which only the calls that are given the seat change, and the number of its port.
 #[derive(Drop)]
 pub struct ClaimSeat {
-    seat: Seat<Option<Far>, Seating>,
+    seat: Seat<Option<BoxedFar>, Seating>,
     port: usize,
     ghost slots: { seat.me.1 ≡ map slot_of seat.me.0.held },
     ghost has_part: { 0 < seat.me.0.parts },
@@ -74,7 +75,10 @@ impl Claims {
         let Ok(slots) = Vec::with_capacity(alloc, ends.len()) else {
             return Err((AllocError, ends));
         };
-        let (slots, rest) = wrapped(ends, slots);
+        let (slots, rest) = match wrapped(alloc, ends, slots) {
+            Ok(wrapped) => wrapped,
+            Err(ends) => return Err((AllocError, ends)),
+        };
         match Table::new(alloc, &words, slots, &about) {
             Ok((table, seat)) => Ok((
                 Claims { table },
@@ -206,7 +210,7 @@ impl Claims {
     }
 
     // Takes the lane's end where the lane's word is `word` still, which is that of a free lane; else the word that it found.
-    fn seize(&self, seat: &mut ClaimSeat, lane: usize, word: u64) -> Result<Far, u64>
+    fn seize(&self, seat: &mut ClaimSeat, lane: usize, word: u64) -> Result<BoxedFar, u64>
         requires seat { IsSeatOf self.now seat.old }
         requires port { port_of seat.old < 254 }
         requires lane { lane < length (lanes_of self.now) }
@@ -243,7 +247,7 @@ impl Claims {
     }
 
     // Takes the end of a lane out for good; the lanes below it were closed before.
-    fn close_one(&self, seat: &mut Seat<Option<Far>, Seating>, lane: usize) -> Far
+    fn close_one(&self, seat: &mut Seat<Option<BoxedFar>, Seating>, lane: usize) -> Far
         requires seat { (seat.old.table_id ≡ claims_id self.now) × (seat.old.me.0.lanes ≡ lanes_of self.now) }
         requires whole { (seat.old.me.0.parts ≡ 64) × (seat.old.me.0.closed ≡ lane) }
         requires none_open { HoldsNone seat.old.me.0 }
@@ -259,6 +263,6 @@ impl Claims {
         let Some(far) = shared.exchange(seat, lane, None) else {
             unreachable!()
         };
-        far
+        far.into_far()
     }
 }

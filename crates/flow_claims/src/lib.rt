@@ -5,6 +5,7 @@
 //! is in its slot or in just one seat's open stint, and the finished stints of all seats are each lane's record.
 #![tactic(auto)]
 
+mod boxed;
 mod claim;
 mod claims;
 mod ends;
@@ -12,6 +13,7 @@ mod laws;
 mod rule;
 mod seating;
 
+pub use boxed::BoxedFar;
 pub use claim::{Claim, Stint};
 pub use claims::{ClaimSeat, Claims, MAX_STINTS, NO_PORT};
 pub use evt_types::Memory;

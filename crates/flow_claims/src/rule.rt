@@ -3,6 +3,7 @@ ghost use Rattle.flow_claims.specs.Seats.{after_join, first_seating, part_of, re
 ghost use Rattle.flow_claims.specs.Rule.{Claimed};
 ghost use Rattle.flow_claims.specs.Steps.{Probes, Begins, Fronts, Finishes, Closes};
 
+use crate::boxed::BoxedFar;
 use crate::seating::Seating;
 use atomic_table::{Join, Play, Split, TableRule};
 use lane_rings::Far;
@@ -10,7 +11,7 @@ use std::snapshot::Snapshot;
 
 pub struct ClaimRule;
 
-impl TableRule<Option<Far>, Seating, Snapshot<Vec<Far>>> for ClaimRule {
+impl TableRule<Option<BoxedFar>, Seating, Snapshot<Vec<Far>>> for ClaimRule {
     ghost holds = { λ key. Claimed key.value.items };
 
     ghost first = { λ key. first_seating key.value.items };
@@ -18,31 +19,31 @@ impl TableRule<Option<Far>, Seating, Snapshot<Vec<Far>>> for ClaimRule {
 
 pub struct Probe;
 
-impl Play<Option<Far>, Seating> for Probe {
+impl Play<Option<BoxedFar>, Seating> for Probe {
     ghost then = { Probes };
 }
 
 pub struct ClaimExchange;
 
-impl Play<Option<Far>, Seating> for ClaimExchange {
+impl Play<Option<BoxedFar>, Seating> for ClaimExchange {
     ghost then = { Begins };
 }
 
 pub struct Front;
 
-impl Play<Option<Far>, Seating> for Front {
+impl Play<Option<BoxedFar>, Seating> for Front {
     ghost then = { Fronts };
 }
 
 pub struct Return;
 
-impl Play<Option<Far>, Seating> for Return {
+impl Play<Option<BoxedFar>, Seating> for Return {
     ghost then = { Finishes };
 }
 
 pub struct ClosingSwap;
 
-impl Play<Option<Far>, Seating> for ClosingSwap {
+impl Play<Option<BoxedFar>, Seating> for ClosingSwap {
     ghost then = { Closes };
 }
 

@@ -16,11 +16,11 @@ new-requires c =
     let words : c.deref.result.now ≡ replicate (length lanes + 1) 0 =
     c.deref.ensures.value ∙ c.in-Ok.ensures.items_if_clones_equal (λ y e. e) ∙ ap (λ (n : ℕ). replicate (n + 1) 0) count in
     let Starts : List Far → List ℕ → List (Option Far) → Type 0 = λ ls ws ss. Claimed ls (opening ws ss (first_seating ls)) in
-    subst (λ ls. Starts ls c.deref.result.now c.wrapped-slots.result.0.items) (sym about)
-    (subst (λ ws. Starts lanes ws c.wrapped-slots.result.0.items) (sym words)
-    (subst (Starts lanes (replicate (length lanes + 1) 0)) (sym c.wrapped-slots.ensures.slots) (starts lanes c.requires)))
+    subst (λ ls. Starts ls c.deref.result.now c.in-Ok-wrapped.wrapped.0.items) (sym about)
+    (subst (λ ws. Starts lanes ws c.in-Ok-wrapped.wrapped.0.items) (sym words)
+    (subst (Starts lanes (replicate (length lanes + 1) 0)) (sym c.in-Ok-wrapped.ensures.slots) (starts lanes c.requires)))
 
 pub returns-clause-back : goal.returns-clause-back
 returns-clause-back c =
-    let back : c.in-Err.field-0.slots.items ≡ c.wrapped-slots.result.0.items = search rules in
-    map_some c.unwrapped.result.items c.args.ends.items (c.unwrapped.ensures ∙ back ∙ c.wrapped-slots.ensures.slots)
+    let back : c.in-Err-new.field-0.slots.items ≡ c.in-Ok-wrapped.wrapped.0.items = search rules in
+    map_some c.unwrapped.result.items c.args.ends.items (c.unwrapped.ensures ∙ back ∙ c.in-Ok-wrapped.ensures.slots)

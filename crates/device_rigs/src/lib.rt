@@ -1,4 +1,4 @@
-//! Devices in threads of their own, and the checks of what they leave: what the tests of the device and its soak share.
+//! Devices in threads of their own, and the checks of what they leave, for the tests of the device.
 #![tactic(auto)]
 
 mod accounts;

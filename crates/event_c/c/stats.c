@@ -1,260 +1,281 @@
 /*
- * Random turns on random devices, in one thread, each counted beside the device: what every counter must show, what each event must look
- * like when it comes out, and that each payload comes out once: dequeued, drained or given back after the stop.
+ * Random calls on random devices, in one thread, refused ones among them, each counted beside the device: what every counter must show,
+ * what each event must look like when it comes out, and that each payload comes out once: dequeued, drained or given back after the stop.
+ * With `long` one device is called all the time, and nothing grows with the events.
  *
- *     stats [TURNS]
+ *     stats [ROUNDS]
+ *     stats long [SEED [SECONDS]]
  */
-#include <evsched.h>
-#include <stdio.h>
-#include <stdlib.h>
-#include <string.h>
+#define _DEFAULT_SOURCE
+#include "ledger.h"
+#include <sys/resource.h>
+#include <time.h>
 
-enum { STEPS = 400, PORTS = 4, QUEUES = 3, PAYLOADS = 1 << 16 };
+enum { STEPS = 400, PORTS = 4, PAYLOADS = 1 << 16, GROWN = 1024 };
 
-static int failures;
-static unsigned long turn;
+static uint64_t random_state;
+static struct evsched *dev;
+static struct evsched_dev_config config;
 
-#define CHECK(is) check((is), __LINE__, #is)
+/* What is known beside the device. A payload is a number, and has the slot of that number until it comes out. */
+static uint64_t payloads, word[PAYLOADS], inside[PAYLOADS]; /* 0, or the payload and 1 */
+static struct ledger ledger[PORTS];
+static struct evsched_port_stats on[EVSCHED_MAX_LANES];
+static unsigned char held[PORTS][EVSCHED_MAX_DEPTH]; /* the lanes of what a port holds, oldest first */
+static int n_held[PORTS], is_shut;
+static struct evsched_dev_stats at_shut;
 
-static void check(int is, int line, const char *text)
+static uint32_t draw(uint32_t below)
 {
-	if (!is && failures++ < 20)
-		printf("stats.c:%d: turn %lu: not so: %s\n", line, turn, text);
+	return any(&random_state, below);
 }
 
-static uint64_t seed;
-
-static uint32_t any(uint32_t below)
+static int is_atomic(uint32_t q)
 {
-	seed = seed * 6364136223846793005u + 1442695040888963407u;
-	return (uint32_t)((seed >> 33) % below);
+	return config.queue[q].schedule_type == EVSCHED_TYPE_ATOMIC;
 }
 
-/* What is known beside the device. */
-static uint64_t word[PAYLOADS];       /* as it was enqueued */
-static unsigned char inside[PAYLOADS];
-static uint64_t payloads, dequeued_in_all, held_in_all;
-static struct evsched_port_counters counted[PORTS];
-static uint64_t news, forwards, mores, releases, turned, new_to[QUEUES], forwarded_to[QUEUES];
-static uint8_t type_of[QUEUES];
-
-static void comes_out(struct evsched_event ev, int is_dequeued)
+/* The lane by which an event comes to a port. */
+static uint32_t lane_to(uint32_t p, const struct evsched_event *ev)
 {
-	struct evsched_event was;
-	CHECK(ev.u64 < payloads && inside[ev.u64 % PAYLOADS]);
-	inside[ev.u64 % PAYLOADS] = 0;
-	was.event = word[ev.u64 % PAYLOADS];
-	CHECK(ev.flow_id == was.flow_id && ev.sub_event_type == was.sub_event_type && ev.event_type == was.event_type);
-	CHECK(ev.queue_id == was.queue_id && ev.priority == was.priority && ev.impl_opaque == was.impl_opaque);
-	if (is_dequeued)
-		CHECK(ev.sched_type == type_of[ev.queue_id % QUEUES]);
+	uint32_t lane = PORTS, q;
+	if (!config.event_dev_cfg || !is_atomic(ev->queue_id))
+		return p;
+	for (q = 0; q < ev->queue_id; q++)
+		lane += is_atomic(q) ? config.queue[q].nb_atomic_flows : 0;
+	return lane + ev->flow_id % config.queue[ev->queue_id].nb_atomic_flows;
 }
 
-static void flushed(struct evsched *dev, struct evsched_event ev, void *arg)
+static void comes_out(const struct evsched_event *ev)
 {
-	(void)dev;
-	(void)arg;
-	comes_out(ev, 1);
-	dequeued_in_all++;
+	CHECK(inside[ev->u64 % PAYLOADS] == ev->u64 + 1);
+	inside[ev->u64 % PAYLOADS] = 0;
+	check_word(ev, word[ev->u64 % PAYLOADS]);
 }
 
-static struct evsched_dev_config random_config(void)
+static void is_dequeued(const struct evsched_event *ev)
 {
-	struct evsched_dev_config config = evsched_dev_default_config(QUEUES, PORTS);
+	comes_out(ev);
+	CHECK(ev->sched_type == config.queue[ev->queue_id].schedule_type);
+}
+
+static void draw_config(void)
+{
 	uint32_t i;
-	config.nb_events_limit = 16 + (int32_t)any(200);
-	config.credit_quanta = 1 + any(8);
-	config.sched_quanta = 1 + any(64);
-	config.event_dev_cfg = any(3) == 0 ? EVSCHED_DEV_CFG_FLOW_LANES : 0;
-	for (i = 0; i < QUEUES; i++) {
-		config.queue[i].schedule_type = type_of[i] = (uint8_t)any(3);
-		config.queue[i].nb_atomic_flows = 1 + any(42);
-		config.queue[i].nb_atomic_order_sequences = 1 + any(64);
-		config.queue[i].priority = (uint8_t)any(256);
-	}
+	config = evsched_dev_default_config(QUEUES, PORTS);
+	config.nb_events_limit = 16 + (int32_t)draw(200);
+	config.credit_quanta = 1 + draw(8);
+	config.sched_quanta = 1 + draw(64);
+	for (i = 0; i < QUEUES; i++)
+		draw_queue(&random_state, &config.queue[i]);
 	for (i = 0; i < PORTS; i++) {
-		config.port[i].new_event_threshold = config.nb_events_limit - (int32_t)any(8);
-		config.port[i].dequeue_depth = (uint16_t)(1 + any(64));
-		config.port[i].enqueue_depth = (uint16_t)(1 + any(64));
-		config.port[i].event_port_cfg = any(2);
-		config.port[i].links = i == 1 ? (1u << QUEUES) - 1 : i == 0 ? 0 : any(1u << QUEUES);
-	}
-	return config;
-}
-
-static void count_refusal(struct evsched_port_counters *c, int why)
-{
-	switch (why) {
-	case -ESHUTDOWN: c->stopped++; break;
-	case -EINVAL: c->bad_queue++; break;
-	case -ENOENT: c->nothing_held++; break;
-	case -ENOSPC: c->backpressure++; break;
-	case -EAGAIN: c->raced++; break;
-	case -ENOBUFS: c->full++; break;
-	case -E2BIG: c->too_many++; break;
-	default: CHECK(!"a cause that is known");
+		config.port[i].new_event_threshold = config.nb_events_limit - (int32_t)draw(8);
+		draw_port(&random_state, &config.port[i]);
+		config.port[i].links = i == 1 ? (1u << QUEUES) - 1 : i == 0 ? 0 : draw(1u << QUEUES);
 	}
 }
 
-static void count_enqueued(struct evsched_event ev)
+/* The port's oldest events are released. */
+static void release(uint32_t p, int n)
 {
-	if (ev.op == EVSCHED_OP_NEW) {
-		news++;
-		new_to[ev.queue_id]++;
-	} else if (ev.op == EVSCHED_OP_RELEASE) {
-		releases++;
+	for (int i = 0; i < n; i++)
+		on[held[p][i]].released++;
+	n_held[p] -= n;
+	memmove(held[p], held[p] + n, (size_t)n_held[p]);
+}
+
+static void is_enqueued(uint32_t p, const struct evsched_event *ev)
+{
+	if (ev->op == EVSCHED_OP_NEW) {
+		CHECK(!is_shut);
+		inside[ev->u64 % PAYLOADS] = ev->u64 + 1;
 		return;
-	} else {
-		*(ev.op == EVSCHED_OP_FORWARD ? &forwards : &mores) += 1;
-		forwarded_to[ev.queue_id]++;
 	}
-	inside[ev.u64] = 1;
+	CHECK(n_held[p] > 0);
+	if (ev->op == EVSCHED_OP_RELEASE) {
+		release(p, 1);
+		return;
+	}
+	inside[ev->u64 % PAYLOADS] = ev->u64 + 1;
+	if (ev->op == EVSCHED_OP_FORWARD_MORE) {
+		on[held[p][0]].added++;
+		return;
+	}
+	on[held[p][0]].forwarded++;
+	n_held[p]--;
+	memmove(held[p], held[p] + 1, (size_t)n_held[p]);
 }
 
 /* A burst of 0 to 99 random events; all bits of their words are random, but that a bad queue is rare. */
-static void enqueue(struct evsched *dev, uint32_t p)
+static void enqueue(uint32_t p)
 {
-	static struct evsched_event ev[100];
-	struct evsched_port *port = evsched_port(dev, p);
-	int n = (int)(any(8) ? any(9) : any(100)), only = any(2) ? (int)any(4) : -1, before = evsched_held(port), held = before, taken, i;
+	struct evsched_event ev[100];
+	int n = (int)(draw(8) ? draw(9) : draw(100)), only = draw(2) ? (int)draw(4) : -1, taken, i;
 	for (i = 0; i < n; i++) {
-		ev[i].event = (uint64_t)any(1u << 31) << 33 ^ (uint64_t)any(1u << 31) << 16 ^ any(1u << 16);
-		ev[i].queue_id = (uint8_t)(any(50) ? any(QUEUES) : any(256));
+		ev[i].event = (uint64_t)draw(1u << 31) << 33 ^ (uint64_t)draw(1u << 31) << 16 ^ draw(1u << 16);
+		ev[i].queue_id = (uint8_t)(draw(50) ? draw(QUEUES) : draw(256));
 		if (only >= 0)
 			ev[i].op = (uint8_t)only & 3;
-		word[payloads] = ev[i].event;
-		ev[i].u64 = payloads++;
+		while (inside[++payloads % PAYLOADS])
+			;
+		word[payloads % PAYLOADS] = ev[i].event;
+		ev[i].u64 = payloads;
 	}
-	taken = evsched_enqueue_burst(port, ev, (uint16_t)n);
-	CHECK(taken <= n && (evsched_errno(port) == 0) == (taken == n));
-	if (taken < n)
-		count_refusal(&counted[p], evsched_errno(port));
-	counted[p].enqueued += (uint64_t)taken;
-	for (i = 0; i < taken; i++) {
-		count_enqueued(ev[i]);
-		held -= ev[i].op == EVSCHED_OP_FORWARD || ev[i].op == EVSCHED_OP_RELEASE;
-	}
-	CHECK(held >= 0 && evsched_held(port) == held);
+	taken = enqueue_counted(&ledger[p], evsched_port(dev, p), ev, n);
+	for (i = 0; i < taken; i++)
+		is_enqueued(p, &ev[i]);
+	CHECK(evsched_held(evsched_port(dev, p)) == n_held[p]);
 }
 
-static void dequeue(struct evsched *dev, uint32_t p, const struct evsched_port_conf *conf)
+static void dequeue(uint32_t p)
 {
 	struct evsched_event ev[80];
 	struct evsched_port *port = evsched_port(dev, p);
-	int most = (int)any(80), before = evsched_held(port), n = evsched_dequeue_burst(port, ev, (uint16_t)most), after = evsched_held(port), i;
-	uint64_t released = (uint64_t)(before - after + (n > 0 ? n : 0));
-	CHECK(conf->event_port_cfg ? n >= 0 && released == 0 : n >= 0 ? after == n : n == -ENOBUFS && after > 0);
+	const struct evsched_port_conf *conf = &config.port[p];
+	int most = (int)draw(80), n = evsched_dequeue_burst(port, ev, (uint16_t)most), after = evsched_held(port), i;
+	int released = n_held[p] - after + (n > 0 ? n : 0);
+	CHECK(conf->event_port_cfg ? n >= 0 && released == 0 : n >= 0 ? after == n : n == -ENOBUFS && after > 0 && released >= 0);
 	CHECK(n <= most && n <= 64 && after <= conf->dequeue_depth);
-	counted[p].released += released;
-	releases += released;
-	counted[p].behind += n < 0;
-	counted[p].dequeued += (uint64_t)(n > 0 ? n : 0);
-	for (i = 0; i < n; i++)
-		comes_out(ev[i], 1);
-	dequeued_in_all += (uint64_t)(n > 0 ? n : 0);
-}
-
-static void check_counters(struct evsched *dev)
-{
-	struct evsched_port_counters counters;
-	for (uint32_t p = 0; p < PORTS; p++)
-		CHECK(evsched_port_counters(evsched_port(dev, p), &counters) == 0 && memcmp(&counters, &counted[p], sizeof(counters)) == 0);
-}
-
-/* After a drain all replies were taken and all events given and answered. */
-static void check_statistics(struct evsched *dev)
-{
-	struct evsched_queue_stats queue;
-	struct evsched_port_stats port, sum = {0, 0, 0, 0, 0, 0};
-	struct evsched_dev_stats all;
-	uint64_t rx_new = 0, rx_forwarded = 0, tx = 0, expected = 0;
-	for (uint32_t q = 0; q < QUEUES; q++) {
-		CHECK(evsched_queue_stats(dev, q, &queue) == 0);
-		CHECK(queue.rx_forwarded == forwarded_to[q] && queue.rx_new <= new_to[q] && queue.tx == queue.rx_new + queue.rx_forwarded);
-		rx_new += queue.rx_new;
-		rx_forwarded += queue.rx_forwarded;
-		tx += queue.tx;
+	release(p, released);
+	ledger[p].counted.released += (uint64_t)released;
+	ledger[p].counted.behind += n < 0;
+	for (i = 0; i < n; i++) {
+		is_dequeued(&ev[i]);
+		CHECK(conf->links >> ev[i].queue_id & 1);
+		held[p][n_held[p]++] = (unsigned char)lane_to(p, &ev[i]);
+		on[lane_to(p, &ev[i])].tx++;
+		ledger[p].dequeued[ev[i].queue_id]++;
+		ledger[p].counted.dequeued++;
 	}
-	for (uint32_t lane = 0; !evsched_port_stats(dev, lane, &port); lane++) {
-		sum.tx += port.tx;
-		sum.released += port.released;
-		sum.forwarded += port.forwarded;
-		sum.added += port.added;
-		sum.turned += port.turned;
-	}
-	turned = sum.turned;
-	expected = releases + held_in_all + dequeued_in_all;
-	CHECK(evsched_dev_stats(dev, &all) == 0 && all.rx_new == rx_new && all.inside == 0);
-	CHECK(rx_new + sum.turned == news && rx_forwarded == forwards + mores);
-	CHECK(sum.tx == tx && sum.forwarded == forwards && sum.added == mores && sum.released == expected);
 }
 
-static void stop(struct evsched *dev, int limit, int is_shut)
+static void call(void)
 {
-	struct evsched_report report;
-	struct evsched_left left[50];
-	uint64_t place[5] = {0, 0, 0, 0, 0}, held = 0;
-	int n, i;
-	for (uint32_t p = 0; p < PORTS; p++)
-		held += (uint64_t)evsched_held(evsched_port(dev, p));
-	CHECK(evsched_stop(dev) == 0 && evsched_report(dev, &report) == 0 && report.held == held);
-	while ((n = evsched_left(dev, left, any(50) + 1)) > 0)
-		for (i = 0; i < n; i++) {
-			CHECK(left[i].place < 5);
-			place[left[i].place % 5]++;
-			comes_out(left[i].event, 0);
-		}
-	CHECK(place[EVSCHED_LEFT_WAITING] == report.waiting && place[EVSCHED_LEFT_KEPT] == report.kept);
-	CHECK(place[EVSCHED_LEFT_UNDELIVERED] == report.undelivered && place[EVSCHED_LEFT_UNTAKEN] == report.untaken);
-	CHECK(place[EVSCHED_LEFT_TURNED] == report.turned && (is_shut || report.turned == 0));
-	CHECK(report.free + report.own + report.pockets + report.waiting + report.kept + report.undelivered + report.held + report.untaken
-		== (uint64_t)limit);
-	for (i = 0; i < (int)payloads; i++)
-		CHECK(!inside[i]);
+	uint32_t p = draw(PORTS), what = draw(100);
+	if (what < 40)
+		enqueue(p);
+	else if (what < 70)
+		dequeue(p);
+	else
+		CHECK(evsched_sweep(dev) >= 0);
+}
+
+static void shut(void)
+{
+	CHECK(evsched_shut(dev) == 0 && evsched_dev_stats(dev, &at_shut) == 0);
+	is_shut = 1;
+}
+
+static void begin(int has_flow_lanes)
+{
+	memset(inside, 0, sizeof(inside));
+	memset(ledger, 0, sizeof(ledger));
+	memset(on, 0, sizeof(on));
+	memset(n_held, 0, sizeof(n_held));
+	payloads = 0;
+	is_shut = 0;
+	draw_config();
+	config.event_dev_cfg = has_flow_lanes ? EVSCHED_DEV_CFG_FLOW_LANES : 0;
+	CHECK(evsched_create(&config, &dev) == 0);
+}
+
+/* Each lane counted what came and went by it, where nothing was to do for the last sweep. */
+static void check_lanes(const struct leftover *left)
+{
+	struct evsched_port_stats lane;
+	for (uint32_t l = 0; !evsched_port_stats(dev, l, &lane); l++) {
+		CHECK(lane.tx == on[l].tx + left->on[EVSCHED_LEFT_UNDELIVERED][l]);
+		CHECK(lane.released == on[l].released && lane.forwarded == on[l].forwarded && lane.added == on[l].added);
+	}
+}
+
+/* Ends a round or the long run in one of three ways: how many events it enqueued. */
+static uint64_t end(uint32_t way)
+{
+	static struct leftover left;
+	struct ledger all;
+	uint64_t holds = 0, p;
+	memset(&all, 0, sizeof(all));
+	for (p = 0; p < PORTS; p++) {
+		check_port(evsched_port(dev, (uint32_t)p), &ledger[p]);
+		add_ledger(&all, &ledger[p]);
+		holds += (uint64_t)n_held[p];
+	}
+	while (way == SETTLE && evsched_sweep(dev) > 0)
+		;
+	if (way == DRAIN)
+		drain_device(dev, &all, holds, is_dequeued);
+	stop_device(dev, config.nb_events_limit, &left, comes_out);
+	CHECK(left.report.held == (way == DRAIN ? 0 : holds) && (is_shut ? left.before.rx_new == at_shut.rx_new : left.report.turned == 0));
+	check_counts(dev, &all, &left, way != STOP);
+	if (way == SETTLE)
+		check_lanes(&left);
+	for (p = 0; p < PAYLOADS; p++)
+		CHECK(!inside[p]);
+	evsched_free(dev);
+	return all.counted.enqueued;
+}
+
+static uint64_t play_round(void)
+{
+	int step;
+	random_state = number * 7919 + 1;
+	begin(draw(3) == 0);
+	for (step = 0; step < STEPS; step++) {
+		call();
+		if (step > STEPS - 50 && draw(100) == 0)
+			shut();
+	}
+	return end(draw(ENDS));
+}
+
+static long peak(void)
+{
+	struct rusage usage;
+	CHECK(getrusage(RUSAGE_SELF, &usage) == 0);
+	return usage.ru_maxrss;
+}
+
+/* Calls one device until the seconds are over, by ports where the seed is odd, by flow lanes where it is even; then shuts it, and calls it
+ * a little more. */
+static uint64_t play_long(time_t seconds)
+{
+	time_t start = time(NULL), now = start;
+	long first = 0, last, i;
+	random_state = seed * 0x9e3779b97f4a7c15u;
+	numbered = "call";
+	begin(seed % 2 == 0);
+	while (now - start < seconds) {
+		for (i = 0; i < STEPS; i++, number++)
+			call();
+		now = time(NULL);
+		if (first == 0 && now - start > 0)
+			first = peak();
+	}
+	last = peak();
+	CHECK(first == 0 || last - first < GROWN);
+	printf("a peak of memory of %ld kB in the first second, and of %ld kB at the end\n", first, last);
+	for (i = 0; i < PORTS * 8; i++)
+		enqueue(draw(PORTS)); /* so that NEWs come too late */
+	shut();
+	for (i = 0; i < STEPS; i++)
+		call();
+	return end(SETTLE);
 }
 
 int main(int argc, char **argv)
 {
-	unsigned long turns = argc > 1 ? strtoul(argv[1], NULL, 10) : 300;
-	uint64_t events = 0;
-	for (turn = 0; turn < turns && failures == 0; turn++) {
-		struct evsched_dev_config config;
-		struct evsched *dev;
-		int is_shut = 0, is_drained;
-		seed = turn * 7919 + 1;
-		payloads = dequeued_in_all = held_in_all = news = forwards = mores = releases = turned = 0;
-		memset(inside, 0, sizeof(inside));
-		memset(counted, 0, sizeof(counted));
-		memset(new_to, 0, sizeof(new_to));
-		memset(forwarded_to, 0, sizeof(forwarded_to));
-		config = random_config();
-		CHECK(evsched_create(&config, &dev) == 0);
-		if (!dev)
-			break;
-		for (int step = 0; step < STEPS; step++) {
-			uint32_t p = any(PORTS), what = any(100);
-			if (what < 40)
-				enqueue(dev, p);
-			else if (what < 70)
-				dequeue(dev, p, &config.port[p]);
-			else if (what < 99 || step < STEPS - 50)
-				CHECK(evsched_sweep(dev) >= 0);
-			else
-				is_shut |= evsched_shut(dev) == 0;
-		}
-		check_counters(dev);
-		is_drained = any(2) != 0;
-		if (is_drained) {
-			for (uint32_t p = 0; p < PORTS; p++)
-				held_in_all += (uint64_t)evsched_held(evsched_port(dev, p));
-			dequeued_in_all = 0;
-			CHECK(evsched_drain(dev, flushed, NULL) == 0);
-			check_statistics(dev);
-		}
-		stop(dev, config.nb_events_limit, is_shut);
-		evsched_free(dev);
-		events += news + forwards + mores;
+	uint64_t events = 0, rounds = argc > 1 ? strtoull(argv[1], NULL, 10) : 300;
+	if (argc > 1 && !strcmp(argv[1], "long")) {
+		seed = argc > 2 ? strtoull(argv[2], NULL, 10) : 1;
+		printf("seed %llu\n", (unsigned long long)seed);
+		fflush(stdout);
+		events = play_long(argc > 3 ? strtol(argv[3], NULL, 10) : 30);
+		printf("stats: %llu calls, %llu events enqueued\n", (unsigned long long)number, (unsigned long long)events);
+		return 0;
 	}
-	printf("stats: %lu turns, %llu events, %d failures\n", turn, (unsigned long long)events, failures);
-	return failures > 0;
+	for (number = 0; number < rounds; number++)
+		events += play_round();
+	printf("stats: %llu rounds, %llu events enqueued\n", (unsigned long long)rounds, (unsigned long long)events);
+	return 0;
 }

@@ -1,6 +1,7 @@
 -- Many lists of waiting events, and how many events they may have in all.
 use Rattle.std.specs.Prelude.{ℕ, ◌==◌, Bool, false, List, [], ◌∷◌, ◌++◌, length, drop, Option, Some, None, replicate, slice_set, slice_index_or, sum_by}
 use Rattle.evt_types.specs.declared.event.Delivery.{Delivery}
+use Rattle.evt_types.specs.declared.event.Event.{Event}
 use Rattle.evt_types.specs.declared.event.Numbered.{Numbered}
 
 -- the lists, each oldest first
@@ -35,6 +36,10 @@ without_first v k = with_list v k (drop 1 (list_at v k))
 abbrev pub has_number : ℕ → Option Numbered → Bool
 has_number n None = false
 has_number n (Some w) = w.number == n
+
+-- the event under a number
+abbrev pub numbered : ℕ → Event → Numbered
+numbered n e = record { number = n; event = e }
 
 -- the queue's event as it is delivered
 abbrev pub delivery_of : ℕ → Numbered → Delivery

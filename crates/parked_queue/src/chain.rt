@@ -2,8 +2,9 @@
 
 ghost use Rattle.std.specs.Prelude.{◌≡◌, ◌+◌, ◌<◌, ◌^◌, vec_len, vec_capacity};
 ghost use Rattle.parked_queue.specs.Chains.{IsLinked, IsPlaced, alone, final, longer, shorter};
+ghost use Rattle.parked_queue.specs.Lists.{numbered};
 
-use evt_types::Numbered;
+use evt_types::{Event, Numbered};
 
 /// An event, and the place of the node behind it, which counts only where the chain goes on.
 #[derive(Clone, Copy, Debug)]
@@ -20,21 +21,36 @@ pub(crate) struct Chain {
     pub(crate) len: usize,
 }
 
-/// Puts a node with the event at a place that no chain has: the one that became free last, or else a new one.
-pub(crate) fn take_node(nodes: &mut Vec<Node>, free: &mut Vec<usize>, item: Numbered) -> usize
+/// Puts a node with the event at a place that no chain has: the one that became free last, or else a new one. The event is copied
+/// there from where it lies.
+#[inline(always)]
+pub(crate) fn take_node(
+    nodes: &mut Vec<Node>,
+    free: &mut Vec<usize>,
+    number: u64,
+    event: &Event,
+) -> usize
     requires last { 0 < vec_len free.old → final 0 free.old.items < vec_len nodes.old }
     requires room { vec_len free.old ≡ 0 → vec_len nodes.old < vec_capacity nodes.old }
-    ensures placed { IsPlaced nodes.old.items nodes.new.items free.old.items free.new.items item result }
+    ensures placed { IsPlaced nodes.old.items nodes.new.items free.old.items free.new.items (numbered number event.now) result }
     ensures nodes { vec_capacity nodes.new ≡ vec_capacity nodes.old }
     ensures free { vec_capacity free.new ≡ vec_capacity free.old }
 {
     match free.pop() {
         Some(place) => {
-            nodes[place].item = item;
+            let node = &mut nodes[place];
+            node.item.event = *event;
+            node.item.number = number;
             place
         }
         None => {
-            nodes.push_reserved(Node { item, next: 0 });
+            nodes.push_reserved(Node {
+                item: Numbered {
+                    number,
+                    event: *event,
+                },
+                next: 0,
+            });
             nodes.len() - 1
         }
     }

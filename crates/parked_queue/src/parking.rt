@@ -114,13 +114,7 @@ impl Parkings {
         entered.next = number + 1;
         entered.count += 1;
         let list = entered.base + event.level();
-        self.lists.push(
-            list,
-            Numbered {
-                number,
-                event: *event,
-            },
-        );
+        self.lists.push_event(list, number, event);
     }
 
     /// The first event of the level's own list, where it lies.

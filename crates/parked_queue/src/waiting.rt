@@ -1,10 +1,10 @@
 //! Many lists of waiting events.
 
 ghost use Rattle.std.specs.Prelude.{◌≡◌, ◌+◌, ◌<◌, ◌≤◌, [], ◌++◌, length, map, slice_get, vec_len, vec_capacity, IfOk, IsFalse, IsTrue, option_copied};
-ghost use Rattle.parked_queue.specs.Lists.{list_at, total_of, all_empty, delivery_of, has_number, with_last, without_first};
+ghost use Rattle.parked_queue.specs.Lists.{list_at, total_of, all_empty, delivery_of, has_number, numbered, with_last, without_first};
 
 use crate::chain::{Chain, Node, append, shorten, take_node};
-use evt_types::{Delivery, Numbered};
+use evt_types::{Delivery, Event, Numbered};
 use std::alloc::{AllocError, Global};
 use std::marker::Model;
 
@@ -98,7 +98,17 @@ impl WaitingLists {
         requires room { total_of self.old < self.old.room }
         ensures { self.new ≡ with_last self.old list item }
     {
-        let place = take_node(&mut self.nodes, &mut self.free, item);
+        self.push_event(list, item.number, &item.event);
+    }
+
+    /// The same of an event where it lies, under this number.
+    #[inline(always)]
+    pub fn push_event(&mut self, list: usize, number: u64, event: &Event)
+        requires list { list < length self.old.lists }
+        requires room { total_of self.old < self.old.room }
+        ensures { self.new ≡ with_last self.old list (numbered number event.now) }
+    {
+        let place = take_node(&mut self.nodes, &mut self.free, number, event);
         append(&mut self.nodes, &mut self.chains[list], place);
     }
 

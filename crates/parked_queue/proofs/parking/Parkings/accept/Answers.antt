@@ -39,8 +39,8 @@ overflow_add-list c =
     let level : level_of c.args.event.now < 4 = omega arith in
     omega (arith, c.level.ensures)
 
-pub push-requires-clause-list : goal.push-requires-clause-list
-push-requires-clause-list c =
+pub push_event-requires-clause-list : goal.push_event-requires-clause-list
+push_event-requires-clause-list c =
     let s = seen_at c.self.inside.lists c.self.inside.queues.items c.args.self.now c.self.invariant c.self.view_is c.args.queue c.requires.there in
     let is : c.index_mut-entered.result.now ≡ parking_at c.self.inside.queues.items c.args.queue = c.index_mut-entered.ensures.value ∙ parking_read c.self.inside.queues.items c.args.queue c.index_mut-entered.result.now s.there in
     let base = ap (λ (p : Parking). p.base) is in
@@ -50,8 +50,8 @@ push-requires-clause-list c =
     let level : level_of c.args.event.now < 4 = omega arith in
     omega (arith, c.level.ensures)
 
-pub push-requires-clause-room : goal.push-requires-clause-room
-push-requires-clause-room c =
+pub push_event-requires-clause-room : goal.push_event-requires-clause-room
+push_event-requires-clause-room c =
     let s = seen_at c.self.inside.lists c.self.inside.queues.items c.args.self.now c.self.invariant c.self.view_is c.args.queue c.requires.there in
     let room = s.holds.room in
     let total = s.total in
@@ -62,21 +62,21 @@ invariant_of-self c =
     let s = seen_at c.self.inside.lists c.self.inside.queues.items c.args.self.now c.self.invariant c.self.view_is c.args.queue c.requires.there in
     let is : c.index_mut-entered.result.now ≡ parking_at c.self.inside.queues.items c.args.queue = c.index_mut-entered.ensures.value ∙ parking_read c.self.inside.queues.items c.args.queue c.index_mut-entered.result.now s.there in
     let level : level_of c.args.event.now < 4 = omega arith in
-    let pushed = c.push.ensures ∙ ap (λ k. with_last c.self.inside.lists (c.index_mut-entered.result.now.base + k) (record { number = c.index_mut-entered.result.now.next; event = c.args.event.now })) c.level.ensures in
-    (accepted c.self.inside.lists c.self.inside.queues.items c.args.self.now c.self.invariant c.self.view_is c.args.queue c.requires.there c.index_mut-entered.result.now is c.push.new.self c.args.event.now level c.requires.room c.requires.numbers pushed).are
+    let pushed = c.push_event.ensures ∙ ap (λ k. with_last c.self.inside.lists (c.index_mut-entered.result.now.base + k) (record { number = c.index_mut-entered.result.now.next; event = c.args.event.now })) c.level.ensures in
+    (accepted c.self.inside.lists c.self.inside.queues.items c.args.self.now c.self.invariant c.self.view_is c.args.queue c.requires.there c.index_mut-entered.result.now is c.push_event.new.self c.args.event.now level c.requires.room c.requires.numbers pushed).are
 
 pub returns-clause-value : goal.returns-clause-value
 returns-clause-value c =
     let s = seen_at c.self.inside.lists c.self.inside.queues.items c.args.self.now c.self.invariant c.self.view_is c.args.queue c.requires.there in
     let is : c.index_mut-entered.result.now ≡ parking_at c.self.inside.queues.items c.args.queue = c.index_mut-entered.ensures.value ∙ parking_read c.self.inside.queues.items c.args.queue c.index_mut-entered.result.now s.there in
     let level : level_of c.args.event.now < 4 = omega arith in
-    let pushed = c.push.ensures ∙ ap (λ k. with_last c.self.inside.lists (c.index_mut-entered.result.now.base + k) (record { number = c.index_mut-entered.result.now.next; event = c.args.event.now })) c.level.ensures in
-    (accepted c.self.inside.lists c.self.inside.queues.items c.args.self.now c.self.invariant c.self.view_is c.args.queue c.requires.there c.index_mut-entered.result.now is c.push.new.self c.args.event.now level c.requires.room c.requires.numbers pushed).view
+    let pushed = c.push_event.ensures ∙ ap (λ k. with_last c.self.inside.lists (c.index_mut-entered.result.now.base + k) (record { number = c.index_mut-entered.result.now.next; event = c.args.event.now })) c.level.ensures in
+    (accepted c.self.inside.lists c.self.inside.queues.items c.args.self.now c.self.invariant c.self.view_is c.args.queue c.requires.there c.index_mut-entered.result.now is c.push_event.new.self c.args.event.now level c.requires.room c.requires.numbers pushed).view
 
 pub returns-clause-waits : goal.returns-clause-waits
 returns-clause-waits c =
     let s = seen_at c.self.inside.lists c.self.inside.queues.items c.args.self.now c.self.invariant c.self.view_is c.args.queue c.requires.there in
     let is : c.index_mut-entered.result.now ≡ parking_at c.self.inside.queues.items c.args.queue = c.index_mut-entered.ensures.value ∙ parking_read c.self.inside.queues.items c.args.queue c.index_mut-entered.result.now s.there in
     let level : level_of c.args.event.now < 4 = omega arith in
-    let pushed = c.push.ensures ∙ ap (λ k. with_last c.self.inside.lists (c.index_mut-entered.result.now.base + k) (record { number = c.index_mut-entered.result.now.next; event = c.args.event.now })) c.level.ensures in
-    (accepted c.self.inside.lists c.self.inside.queues.items c.args.self.now c.self.invariant c.self.view_is c.args.queue c.requires.there c.index_mut-entered.result.now is c.push.new.self c.args.event.now level c.requires.room c.requires.numbers pushed).holds.waits
+    let pushed = c.push_event.ensures ∙ ap (λ k. with_last c.self.inside.lists (c.index_mut-entered.result.now.base + k) (record { number = c.index_mut-entered.result.now.next; event = c.args.event.now })) c.level.ensures in
+    (accepted c.self.inside.lists c.self.inside.queues.items c.args.self.now c.self.invariant c.self.view_is c.args.queue c.requires.there c.index_mut-entered.result.now is c.push_event.new.self c.args.event.now level c.requires.room c.requires.numbers pushed).holds.waits

@@ -1,9 +1,10 @@
 //! The unanswered events of all lanes.
 
-ghost use Rattle.std.specs.Prelude.{◌≡◌, ◌<◌, ◌==◌, ◌∷◌, ◌++◌, [], length, drop, slice_get, slice_set, Some, IfOk};
+ghost use Rattle.std.specs.Prelude.{◌≡◌, ◌<◌, ◌==◌, ◌∷◌, ◌++◌, [], length, drop, slice_get, slice_set, Some, IfOk, IsTrue, IsFalse};
 ghost use Rattle.evt_types.specs.Plan.{lanes_of};
 ghost use Rattle.order_parts.specs.History.{entries_of};
 ghost use Rattle.order_parts.specs.Histories.{AreRoomy, HasRoom, lane_in, AreEmptyLanes};
+ghost use Rattle.small_set.specs.SmallSets.{Has, SameBut};
 
 use crate::history::{Entry, History};
 use evt_types::{Memory, Shape};
@@ -41,6 +42,40 @@ fn empty_lanes(alloc: Global, shape: &Shape) -> Result<Vec<History>, Memory>
         lanes.push(History::new(alloc, shape.depth_of(lane))?)?;
     }
     Ok(lanes)
+}
+
+/// The lane has no room any more, which is seldom so.
+#[cold]
+fn note_full(roomy: &mut SmallSet, lane: usize)
+    ensures others { SameBut lane roomy.old roomy.new }
+    ensures full { lane < 64 → ¬ Has roomy.new lane }
+{
+    if lane < MAX_MEMBERS {
+        roomy.remove(lane);
+    }
+}
+
+/// The lane has room again.
+#[cold]
+fn note_room(roomy: &mut SmallSet, lane: usize)
+    ensures others { SameBut lane roomy.old roomy.new }
+    ensures room { lane < 64 → Has roomy.new lane }
+{
+    if lane < MAX_MEMBERS {
+        roomy.add(lane);
+    }
+}
+
+/// An event leaves the lane, which has room then.
+#[inline(always)]
+fn leave(roomy: &mut SmallSet, lane: usize, is_full: bool)
+    ensures others { SameBut lane roomy.old roomy.new }
+    ensures room { IsTrue is_full → lane < 64 → Has roomy.new lane }
+    ensures same { IsFalse is_full → roomy.new ≡ roomy.old }
+{
+    if is_full {
+        note_room(roomy, lane);
+    }
 }
 
 impl Histories {
@@ -87,8 +122,8 @@ impl Histories {
     {
         let history = &mut self.lanes[lane];
         history.push(entry);
-        if history.is_full() && lane < MAX_MEMBERS {
-            self.roomy.remove(lane);
+        if history.is_full() {
+            note_full(&mut self.roomy, lane);
         }
     }
 
@@ -109,13 +144,9 @@ impl Histories {
         ensures rest { self.new ≡ slice_set self.old lane (entries_of (drop 1 (lane_in self.old lane).entries) (lane_in self.old lane).capacity) }
     {
         let history = &mut self.lanes[lane];
-        let was_full = history.is_full();
+        leave(&mut self.roomy, lane, history.is_full());
         // To ask for the count makes known that no more are held than there is room for.
         let _ = history.len();
-        let oldest = history.pop().unwrap();
-        if was_full && lane < MAX_MEMBERS {
-            self.roomy.add(lane);
-        }
-        oldest
+        history.pop().unwrap()
     }
 }

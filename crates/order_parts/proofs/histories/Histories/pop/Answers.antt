@@ -1,7 +1,10 @@
-use Rattle.std.proofs.Common.{◌≡◌, ◌<◌, List, [], length, subst, sym, ◌∙◌, arith}
+use Rattle.std.proofs.Common.{◌≡◌, ◌<◌, false, ⊎_elim, List, [], length, subst, sym, ◌∙◌, arith}
+use Rattle.std.proofs.lemmas.Bool.{cases_Bool, eqb-false}
 use Rattle.std.proofs.lemmas.List.{get_or_default}
 use Rattle.order_parts.specs.History.{Entries, entries_of}
 use Rattle.order_parts.proofs.Roomy.{roomy_set, one_left}
+use Rattle.small_set.specs.SmallSets.{Has}
+use Rattle.small_set.specs.declared.set.SmallSet.{SmallSet}
 use Rattle.order_parts.specs.Histories.{lane_in}
 use Rattle.order_parts.proofs.histories.Histories.pop.Goals as goal
 
@@ -13,5 +16,13 @@ invariant_of-self c =
     let some : 0 < length c.index_mut-history.result.now.entries = subst (λ (l : Entries). 0 < length l.entries) was (subst (λ (xs : List Entries). 0 < length (lane_in xs c.args.lane).entries) (sym c.self.view_is) c.requires.some) in
     let within = c.len.ensures.within.0 in
     let count = c.len.ensures.value in
-    roomy_set ls c.args.lane c.pop.new.self c.self.inside.roomy c.add.new.self here c.add.ensures.others
-    (λ few. (λ has. one_left c.index_mut-history.result.now c.pop.new.self (omega (arith, within, count)) some c.pop.ensures.rest, λ room. c.add.ensures.there)) c.self.invariant
+    let part : (c.is_full.result ≡ false) → length c.index_mut-history.result.now.entries < c.index_mut-history.result.now.capacity =
+    λ no. let differ = eqb-false _ _ (sym c.is_full.ensures ∙ no) in omega (arith, within, count, differ) in
+    roomy_set ls c.args.lane c.pop.new.self c.self.inside.roomy c.leave.new.roomy here c.leave.ensures.others
+    (λ few. (
+      λ has. one_left c.index_mut-history.result.now c.pop.new.self (omega (arith, within, count)) some c.pop.ensures.rest,
+      λ room. ⊎_elim (λ yes. c.leave.ensures.room yes few)
+          (λ no. subst (λ (r : SmallSet). Has r c.args.lane) (sym (c.leave.ensures.same no))
+          ((c.self.invariant c.args.lane here few).1 (subst (λ (l : Entries). length l.entries < l.capacity) (sym was) (part no)))) (cases_Bool c.is_full.result),
+    ))
+    c.self.invariant

@@ -80,6 +80,7 @@ impl AllPins {
 
     /// The slots that stand on none of these lanes: they are free, or stand on another one. Of a slot that stands on a lane beyond the
     /// first 64 nothing is said.
+    #[inline(always)]
     pub fn slots_off(&self, queue: usize, lanes: SmallSet) -> SmallSet
         requires { queue < length self.now }
         ensures { (s : ℕ) → s < 64 → (0 < (pin_in self.now queue s).count → (pin_in self.now queue s).lane < 64) → Has result s ↔ ((l : ℕ) → Has lanes l → ¬ IsOn (pin_in self.now queue s) l) }

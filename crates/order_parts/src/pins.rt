@@ -121,6 +121,7 @@ impl Pins {
 
     /// The slots that stand on none of these lanes: they are free, or stand on another one. Of a slot that stands on a lane beyond the
     /// first 64 nothing is said.
+    #[inline(always)]
     pub fn slots_off(&self, lanes: SmallSet) -> SmallSet
         ensures { (s : ℕ) → s < 64 → (0 < (pin_at self.now s).count → (pin_at self.now s).lane < 64) → Has result s ↔ ((l : ℕ) → Has lanes l → ¬ IsOn (pin_at self.now s) l) }
     {

@@ -1,9 +1,10 @@
 //! What waits in several queues.
 
-ghost use Rattle.std.specs.Prelude.{◌≡◌, ◌+◌, ◌<◌, ◌≤◌, ◌^◌, ◌%◌, ◌++◌, length, map, slice_set, vec_len, vec_capacity, IsTrue, IfOk, IfSome, IfNone};
+ghost use Rattle.std.specs.Prelude.{◌≡◌, ℕ, ◌+◌, ◌<◌, ◌≤◌, ◌^◌, ◌%◌, ◌++◌, length, map, slice_set, vec_len, vec_capacity, IsTrue, IfOk, IfSome, IfNone};
 ghost use Rattle.parked_queue.specs.Busy.{AreBusy};
 ghost use Rattle.parked_queue.specs.Waits.{AreLevels, AreSlots, AreWaits, HasNoneAllowed, IsFirstAllowed, IsOnlyOf, all_empty, all_waiting, slot_of, waits_at, with_event, without_number};
 ghost use Rattle.parked_queue.specs.Lists.{delivery_of};
+ghost use Rattle.small_set.specs.SmallSets.{Has};
 
 use crate::first::Found;
 use crate::parking::Parkings;
@@ -145,6 +146,16 @@ impl ParkedQueues {
         } else {
             None
         }
+    }
+
+    /// The slots of which events of the queue's level may be set aside.
+    #[inline(always)]
+    pub fn parked_slots(&self, queue: usize, level: usize) -> SmallSet
+        requires there { queue < length self.now }
+        requires level { level < 4 }
+        ensures { (slot : ℕ) → Has result slot → slot < (waits_at self.now queue).slots }
+    {
+        self.parkings.marks(queue, level)
     }
 
     /// Whether all events of the queue's level are set aside, and none of them has an allowed slot.

@@ -47,6 +47,10 @@ pub some_here : {X : Type 0} (o : Option X) (P : Type 0) → is_some o ≡ true 
 some_here None P h = absurd (false≢true h)
 some_here (Some x) P h = tt
 
+pub none_either : {X : Type 0} (o : Option X) (P : Type 0) → P → IfNone o P
+none_either None P p = p
+none_either (Some x) P p = tt
+
 -- a lane fits an event where it may take the event's slot
 pub slot_fits : (v : View) (s : Passed) (l q : ℕ) (w : Numbered) → FitsSlot v s q (slot_at v q w) l → Fits v s l q w
 slot_fits v s l q w fits = record { lane = fits.lane; ready = fits.ready; linked = fits.linked; room = fits.room; alone = fits.alone; places = fits.places }

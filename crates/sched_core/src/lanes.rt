@@ -34,7 +34,7 @@ impl Core {
     }
 
     /// The slots of the queue whose events some lane may take, and perhaps others: where flow lanes serve the queue, all of its slots.
-    #[cold]
+    #[inline(always)]
     pub(crate) fn allowed(&self, queue: usize, lanes: SmallSet, skips: &Skips) -> SmallSet
         requires queue { queue < length self.now.shape.queues }
         requires lanes { AreOpenLanes self.now skips.now queue lanes }

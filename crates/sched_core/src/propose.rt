@@ -56,7 +56,8 @@ impl Core {
         Some(first)
     }
 
-    /// The queue's first event that some lane may take, by level and then number, for the best lane.
+    /// The queue's first event that some lane may take, by level and then number, for the best lane. Mostly it is the first event of the
+    /// lowest level, or nothing of the only level may go; else the levels are walked.
     #[inline(always)]
     fn offer_from(&mut self, queue: usize, skips: &Skips) -> Option<Offer>
         requires { queue < length self.old.shape.queues }
@@ -67,6 +68,49 @@ impl Core {
         // The use of a field makes known what holds of each core.
         let _ = &self.shape;
         let lanes = self.open_lanes(queue, skips);
+        let mut others = self.queues.levels(queue);
+        let level = others.pop()?;
+        let allowed = self.allowed_at(queue, level, lanes, skips);
+        let offer = self.offer_at_head(queue, level, lanes, allowed, skips);
+        if offer.is_some() {
+            return offer;
+        }
+        if others.is_empty() && self.queues.is_blocked(queue, level, allowed) {
+            return None;
+        }
+        // Moved from a place of its own: memory for it is written only here.
+        let offer = self.offer_by_level(queue, lanes, skips)?;
+        Some(offer)
+    }
+
+    /// The slots of the queue whose events some lane may take, and perhaps others: all, as long as no event of the level is set aside.
+    #[inline(always)]
+    fn allowed_at(&self, queue: usize, level: usize, lanes: SmallSet, skips: &Skips) -> SmallSet
+        requires queue { queue < length self.now.shape.queues }
+        requires level { level < 4 }
+        requires lanes { AreOpenLanes self.now skips.now queue lanes }
+        ensures { HasAllowed self.now skips.now queue result }
+    {
+        // The use of a field makes known what holds of each core.
+        let _ = &self.shape;
+        if self.queues.parked_slots(queue, level).is_empty() {
+            SmallSet::below(MAX_MEMBERS)
+        } else {
+            self.allowed(queue, lanes, skips)
+        }
+    }
+
+    /// The queue's first event that some lane may take, by level and then number, for the best lane, as each level is searched.
+    #[cold]
+    fn offer_by_level(&mut self, queue: usize, lanes: SmallSet, skips: &Skips) -> Option<Offer>
+        requires queue { queue < length self.old.shape.queues }
+        requires lanes { AreOpenLanes self.old skips.now queue lanes }
+        ensures same { self.new ≡ self.old }
+        ensures offer { IfSome result (λ o. (o.delivery.queue ≡ queue) × IsOfferOf self.old skips.now queue o.lane (numbered_in o.delivery)) }
+        ensures none { IfNone result (HasNone self.old skips.now queue) }
+    {
+        // The use of a field makes known what holds of each core.
+        let _ = &self.shape;
         let mut left = self.queues.levels(queue);
         while let Some(level) = left.pop() {
             let offer = self.offer_in(queue, level, lanes, skips);
@@ -77,8 +121,7 @@ impl Core {
         None
     }
 
-    /// The first event of the queue's level that some lane may take, for the best lane. Mostly none of the level is set aside, and
-    /// the level's first event goes; else the slots whose events may go are found first.
+    /// The first event of the queue's level that some lane may take, for the best lane: the slots whose events may go are found first.
     #[inline(always)]
     fn offer_in(
         &mut self,
@@ -96,11 +139,6 @@ impl Core {
     {
         // The use of a field makes known what holds of each core.
         let _ = &self.shape;
-        let all = SmallSet::below(MAX_MEMBERS);
-        let offer = self.offer_at_head(queue, level, lanes, all, skips);
-        if offer.is_some() {
-            return offer;
-        }
         let allowed = self.allowed(queue, lanes, skips);
         if self.queues.is_blocked(queue, level, allowed) {
             return None;

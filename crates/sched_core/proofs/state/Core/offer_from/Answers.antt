@@ -1,38 +1,32 @@
-use Rattle.std.proofs.Common.{◌∙◌, subst, sym, arith}
-use Rattle.std.specs.Option.{IfSome, IfNone}
-use Rattle.transcripts.specs.Standing.{View}
+use Rattle.std.proofs.Common.{subst}
+use Rattle.evt_types.specs.Fault.{IsWithinLimits}
 use Rattle.transcripts.specs.Choice.{HasNone}
-use Rattle.sched_core.proofs.FirstOnes.{levels_here}
-use Rattle.sched_core.proofs.Offers.{IsOfferAt, level_more, none_beside, none_of, offer_first, some_here, still}
-use Rattle.sched_core.specs.Offered.{HasNoneIn}
+use Rattle.transcripts.specs.Standing.{View}
+use Rattle.sched_core.proofs.FirstOnes.{found_none, levels_here, slots_within}
+use Rattle.sched_core.proofs.Offers.{level_more, none_beside, none_either, none_in, offer_first}
 use Rattle.sched_core.proofs.state.Core.offer_from.Goals as goal
 
-pub loop-level-init : goal.loop-level-init
-loop-level-init c = ((λ i. c.args.self.now), c.levels-left.ensures.there, levels_here c.self.inside c.args.self.now c.args.skips.now c.args.queue c.levels-left.result c.self.view_is c.levels-left.ensures)
-
-pub offer_in-offer-requires-clause-level : goal.offer_in-offer-requires-clause-level
-offer_in-offer-requires-clause-level c = let lt = c.loop-level.invariant.1 c.in-Some.level c.in-Some.ensures.first.there in omega arith
-
-pub loop-level-preserved : goal.loop-level-preserved
-loop-level-preserved c =
-    let v : View = c.args.self.now in
-    let same = c.loop-level.invariant.0 in (
-      c.offer_in-offer.ensures.same ∙ same,
-      λ k has. c.loop-level.invariant.1 k (still c.in-Some.level k c.loop-level.left c.pop.new.self c.in-Some.ensures.gone c.in-Some.ensures.others has),
-      level_more v c.args.skips.now c.args.queue c.in-Some.level c.loop-level.left c.pop.new.self c.in-Some.ensures.others
-          (none_of c.offer_in-offer.result (HasNoneIn v c.args.skips.now c.args.queue c.in-Some.level) (sym c.is_some.ensures ∙ c.if-is_some.false)
-          (subst (λ u. IfNone c.offer_in-offer.result (HasNoneIn u c.args.skips.now c.args.queue c.in-Some.level)) same c.offer_in-offer.ensures.none))
-          c.loop-level.invariant.2,
-    )
+pub returns-in_err-level-clause-none : goal.returns-in_err-level-clause-none
+returns-in_err-level-clause-none c =
+    none_either c.from_residual.result (HasNone c.args.self.now c.args.skips.now c.args.queue)
+    (none_beside c.args.self.now c.args.skips.now c.args.queue c.levels-others.result c.in_err-level.ensures.none
+    (levels_here c.self.inside c.args.self.now c.args.skips.now c.args.queue c.levels-others.result c.self.view_is c.levels-others.ensures))
 
 pub returns-then-is_some-clause-offer : goal.returns-then-is_some-clause-offer
 returns-then-is_some-clause-offer c =
+    offer_first c.args.self.now c.args.skips.now c.args.queue c.in_ok-level.level c.levels-others.result c.offer_at_head-offer.result c.in_ok-level.ensures.first
+    (levels_here c.self.inside c.args.self.now c.args.skips.now c.args.queue c.levels-others.result c.self.view_is c.levels-others.ensures) c.offer_at_head-offer.ensures
+
+pub returns-then-is_blocked-clause-none : goal.returns-then-is_blocked-clause-none
+returns-then-is_blocked-clause-none c =
     let v : View = c.args.self.now in
-    offer_first v c.args.skips.now c.args.queue c.in-Some.level c.loop-level.left c.offer_in-offer.result c.in-Some.ensures.first c.loop-level.invariant.2
-    (subst (λ u. IfSome c.offer_in-offer.result (IsOfferAt u c.args.skips.now c.args.queue c.in-Some.level)) c.loop-level.invariant.0 c.offer_in-offer.ensures.offer)
-
-pub returns-clause-none : goal.returns-clause-none
-returns-clause-none c = none_beside c.args.self.now c.args.skips.now c.args.queue c.loop-level.left c.in_default.ensures.none c.loop-level.invariant.2
-
-pub returns-then-is_some-clause-none : goal.returns-then-is_some-clause-none
-returns-then-is_some-clause-none c = some_here c.offer_in-offer.result (HasNone c.args.self.now c.args.skips.now c.args.queue) (sym c.is_some.ensures ∙ c.if-is_some.true)
+    let s = c.args.skips.now in
+    let q = c.args.queue in
+    let level = c.in_ok-level.level in
+    let allowed = c.allowed_at-allowed.result in
+    let limits : IsWithinLimits v.shape = subst (λ (u : View). IsWithinLimits u.shape) c.self.view_is c.self.invariant.limits in
+    none_beside v s q c.pop.new.self (c.is_empty.ensures.0 c.if-is_empty.true)
+    (level_more v s q level c.levels-others.result c.pop.new.self c.in_ok-level.ensures.others
+    (none_in v s q level allowed c.allowed_at-allowed.ensures (slots_within v q limits c.requires)
+    (found_none c.self.inside v q c.self.invariant c.self.view_is c.requires level allowed (c.is_blocked.ensures c.if-is_blocked.true)))
+    (levels_here c.self.inside v s q c.levels-others.result c.self.view_is c.levels-others.ensures))

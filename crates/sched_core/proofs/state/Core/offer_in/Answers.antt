@@ -1,18 +1,10 @@
-use Rattle.std.proofs.Common.{◌∙◌, subst, sym, arith}
+use Rattle.std.proofs.Common.{◌∙◌, subst, sym}
 use Rattle.evt_types.specs.Fault.{IsWithinLimits}
 use Rattle.transcripts.specs.Standing.{View}
 use Rattle.sched_core.proofs.FirstOnes.{found_none, slots_within}
-use Rattle.sched_core.proofs.News.{slots_range}
-use Rattle.sched_core.proofs.Offers.{all_allowed, none_in, some_here}
+use Rattle.sched_core.proofs.Offers.{none_in, some_here}
 use Rattle.sched_core.specs.Offered.{HasNoneIn}
 use Rattle.sched_core.proofs.state.Core.offer_in.Goals as goal
-
-pub offer_at_head-offer-requires-clause-allowed : goal.offer_at_head-offer-requires-clause-allowed
-offer_at_head-offer-requires-clause-allowed c =
-    let v : View = c.args.self.now in
-    let limits : IsWithinLimits v.shape = subst (λ (u : View). IsWithinLimits u.shape) c.self.view_is c.self.invariant.limits in
-    let few = (slots_range v.shape c.args.queue limits c.requires.queue).1 in
-    all_allowed v c.args.skips.now c.args.queue c.below-all.result (λ slot within. (c.below-all.ensures slot).1 (omega (arith, few, within)))
 
 pub returns-then-is_blocked-clause-none : goal.returns-then-is_blocked-clause-none
 returns-then-is_blocked-clause-none c =
@@ -23,7 +15,3 @@ returns-then-is_blocked-clause-none c =
 
 pub returns-then-is_some-clause-none : goal.returns-then-is_some-clause-none
 returns-then-is_some-clause-none c = some_here c.offer_at_head-offer.result (HasNoneIn c.args.self.now c.args.skips.now c.args.queue c.args.level) (sym c.is_some.ensures ∙ c.if-is_some.true)
-
-pub returns-then-is_some-2-clause-none : goal.returns-then-is_some-2-clause-none
-returns-then-is_some-2-clause-none c =
-    some_here c.offer_at_head-offer-2.result (HasNoneIn c.args.self.now c.args.skips.now c.args.queue c.args.level) (sym c.is_some-2.ensures ∙ c.if-is_some-2.true)

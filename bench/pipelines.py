@@ -5,6 +5,10 @@ of a run of 200,000 events is more than 2.3 times that of a run of 100,000.
 
     pipelines.py [PROGRAM]
 
+Where DPDK's `dpdk-test-eventdev` is installed, its `perf_queue` over `event_sw` runs with the same stages (atomic, ordered, parallel) and
+as many workers, by turns with these, each of its threads on all processors: the events per second that it says itself, on the average
+of some seconds. A worker of it dequeues up to 16 events at once, one of these up to one.
+
 The program is `run_bench`; where none is named it is built. Each time is the best of three runs, and that of the check and the text
 less what a run with no event takes besides its threads. How much faster more workers are is no fault: how many processors there are
 decides that.
@@ -12,12 +16,14 @@ decides that.
 import os
 import pathlib
 import re
+import shutil
 import subprocess
 import sys
 import time
 
 SERVINGS, WORKERS, EVENTS, RUNS = ("ports", "flows"), (1, 2, 4, 8), 200_000, 3
 COUNTS, MOST = (100_000, 200_000), 2.3
+THEIR_SECONDS = 5
 CRATE = pathlib.Path(__file__).resolve().parent.parent / "crates" / "run_bench"
 
 
@@ -63,19 +69,38 @@ def seconds(program, serving, workers):
     return min(each[0] for each in runs[EVENTS]), rest[EVENTS] - rest[0]
 
 
+def theirs(workers):
+    """The events per second of `event_sw` in DPDK's own test, or why there are none."""
+    program = shutil.which("dpdk-test-eventdev")
+    if program is None:
+        return "not measured"
+    cores = f"({','.join(map(str, sorted(os.sched_getaffinity(0))))})"
+    # The main thread, the scheduler's, the producer's, and the workers'.
+    threads = ",".join(f"{number}@{cores}" for number in range(3 + workers))
+    words = ["--no-huge", "-m", "512", "--no-pci", "--no-telemetry", "--vdev=event_sw0", "--lcores", threads, "-s", "0x2", "--",
+             "--dev=0", "--test=perf_queue", "--plcores=2", f"--wlcores={','.join(str(3 + each) for each in range(workers))}",
+             "--stlist=a,o,p", "--nb_pkts=0", "--pool_sz=8192"]
+    child = subprocess.Popen([program, *words], stdout=subprocess.PIPE, stderr=subprocess.DEVNULL)
+    time.sleep(THEIR_SECONDS)
+    child.kill()
+    said = re.findall(r"avg ([0-9.]+) mpps", child.communicate()[0].decode())
+    return f"{float(said[-1]) * 1e6:,.0f}" if said else "none"
+
+
 def compare_speeds(program):
     """Prints the events per second of both servings, in all, by the threads and by the rest, and the ratio of the threads' speed to that
     of one worker.
     """
     print(f"{os.cpu_count()} processors, {EVENTS:,} events")
-    print(f"{'serving':7} {'workers':7} {'per second':>12} {'by threads':>12} {'ratio':>5} {'by the rest':>12}")
+    print(f"{'serving':7} {'workers':7} {'per second':>12} {'by threads':>12} {'ratio':>5} {'by the rest':>12} {'event_sw':>12}")
     for serving in SERVINGS:
         first = None
         for workers in WORKERS:
             threads, rest = seconds(program, serving, workers)
             first = first or threads
             speeds = [f"{EVENTS / each:12,.0f}" for each in (threads + rest, threads, rest)]
-            print(f"{serving:7} {workers:7} {speeds[0]} {speeds[1]} {first / threads:5.2f} {speeds[2]}")
+            other = theirs(workers) if serving == "ports" else ""
+            print(f"{serving:7} {workers:7} {speeds[0]} {speeds[1]} {first / threads:5.2f} {speeds[2]} {other:>12}")
 
 
 def compare_memory(program):

@@ -1,11 +1,11 @@
 -- Each lane's taking ended where it may.
-use Rattle.std.proofs.Common.{◌≡◌, ◌≢◌, ℕ, ◌+◌, ◌<◌, ◌≤◌, ◌==◌, true, false, cond, nat_lt, ◌⊎◌, inl, inr, List, [], ◌∷◌, ◌++◌, length, All, refl, sym, ap, ◌∙◌, subst, append-nil, arith}
-use Rattle.std.proofs.lemmas.Bool.{cases_eq, lt-ltb, le-ltb}
+use Rattle.std.proofs.Common.{add-zero, ◌≡◌, ◌≢◌, ℕ, ◌+◌, ◌<◌, ◌≤◌, ◌==◌, true, false, cond, nat_lt, ◌⊎◌, inl, inr, List, [], ◌∷◌, ◌++◌, length, All, refl, sym, ap, ◌∙◌, subst, append-nil, arith}
+use Rattle.std.proofs.lemmas.Bool.{cases_eq, cases_lt, lt-ltb, le-ltb}
 use Rattle.std.proofs.lemmas.List.Elements.{All-append, All-head, All-tail, All-weaker, filter-append}
 use Rattle.std.proofs.lemmas.List.Sums.{sum_by-cons}
 use Rattle.event_scheduler.proofs.Counts.{count-append, count-none}
 use Rattle.event_scheduler.proofs.Replies.{each_within, of_first_is, only_is}
-use Rattle.event_scheduler.proofs.Taking.{next_lane, takes_none, takes_within}
+use Rattle.event_scheduler.proofs.Taking.{next_lane, takes_both, takes_none, takes_within}
 use Rattle.event_scheduler.proofs.Replies.{first_within}
 use Rattle.event_scheduler.specs.Scheduler.{Sight, seen_at}
 use Rattle.event_scheduler.specs.Taking.{MayEnd, Takes, TakesAll, count_from, of_first, only, up_to}
@@ -128,6 +128,38 @@ one_more i q same n k s t u log mid longer is h m here others = record { takes =
         (subst (λ zs. End zs (count_from l (xs ++ ys)) (seen_at u l) l) (sym (part l below))
         (subst (λ c. End (up_to l xs) c (seen_at u l) l) (sym (count_part l below))
         (subst (λ seen. End (up_to l xs) (count_from l xs) seen l) (sym (others l ne)) (h.ends l below))))
+
+-- nothing is seen of the next lanes
+none_of : (xs : List (ℕ × Event)) → length xs ≡ 0 → xs ≡ []
+none_of [] none = refl
+none_of (x ∷ xs) none = absurd (omega (arith, none))
+
+wider : (i j q m : ℕ) → i ≤ j → of_first i q m ≤ of_first j q m
+wider i j q m within = by_place (cases_lt m i)
+  where
+    by_place : (m < i) ⊎ (i ≤ m) → of_first i q m ≤ of_first j q m
+    by_place (inl lt) = omega (arith, ap {B = ℕ} (λ t. cond t q 0) (lt-ltb m i lt), ap {B = ℕ} (λ t. cond t q 0) (lt-ltb m j (omega (arith, lt, within))))
+    by_place (inr past) = omega (arith, ap {B = ℕ} (λ t. cond t q 0) (le-ltb m i past))
+
+pub none_more : (i j q n : ℕ) (s t u : Sight) (log mid : List Step) → i ≤ j → TakesFirst i q n s log t mid → Takes (λ m. 0) 0 t mid u mid
+    → ((l : ℕ) → l < i → seen_at u l ≡ seen_at t l) → ((l : ℕ) → i ≤ l → l < j → seen_at u l ≡ []) → TakesFirst j q n s log u mid
+none_more i j q n s t u log mid within h m same none =
+    subst (λ k. TakesFirst j q k s log u mid) (add-zero n) (record { takes = both.0; ends = λ l lt. by_place l lt (cases_lt l i) })
+  where
+    both : (b : Takes (of_first j q) (n + 0) s log u mid) × (b.replies ≡ h.takes.replies ++ m.replies)
+    both =
+        takes_both (of_first i q) (λ m. 0) (of_first j q) n 0 s t u log mid mid h.takes m (λ a b some more. absurd (omega (arith, more)))
+        (λ a. omega (arith, wider i j q a within))
+
+    replies_are : both.0.replies ≡ h.takes.replies
+    replies_are = both.1 ∙ (ap (λ zs. h.takes.replies ++ zs) (none_of m.replies m.count) ∙ append-nil h.takes.replies)
+
+    At : List (ℕ × Event) → ℕ → List Reply → Type 0
+    At zs l seen = MayEnd q (after s.core (replies_steps s.core (up_to l zs))) l (count_from l zs) seen
+
+    by_place : (l : ℕ) → l < j → (l < i) ⊎ (i ≤ l) → At both.0.replies l (seen_at u l)
+    by_place l lt (inl below) = subst (λ zs. At zs l (seen_at u l)) (sym replies_are) (subst (At h.takes.replies l) (sym (same l below)) (h.ends l below))
+    by_place l lt (inr past) = inr (inl (none l past lt))
 
 -- all lanes
 pub all_ended : (i q n : ℕ) (s t : Sight) (log longer : List Step) → i ≡ lanes_of s.core.shape → TakesFirst i q n s log t longer → TakesAll q n s log t longer

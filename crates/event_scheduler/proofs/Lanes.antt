@@ -1,5 +1,5 @@
 -- The ends of all lanes where one of them changed.
-use Rattle.std.proofs.Common.{◌≡◌, ◌≢◌, ℕ, ◌<◌, ◌≤◌, List, [], length, map, set, get_or, ◌⊎◌, inl, inr, refl, sym, ap, ◌∙◌, subst, arith}
+use Rattle.std.proofs.Common.{◌≡◌, ◌≢◌, ℕ, ◌+◌, ◌<◌, ◌≤◌, List, [], length, map, set, get_or, ◌⊎◌, inl, inr, refl, sym, ap, ◌∙◌, subst, arith}
 use Rattle.std.proofs.lemmas.Bool.{cases_eq}
 use Rattle.std.proofs.lemmas.List.{get_or-set_other, get_or-set_same, get_or-map, get_or_past, length-map, map-set}
 use Rattle.std.proofs.Math.Seq.{map-set_same}
@@ -7,6 +7,7 @@ use Rattle.credit_pool.specs.declared.account.Account.{Account}
 use Rattle.credit_pool.specs.declared.pool.Credits.{Credits}
 use Rattle.event_scheduler.specs.Hidden.{NoneHidden, OneHidden, hidden_at}
 use Rattle.event_scheduler.specs.Scheduler.{Sight, sight}
+use Rattle.event_scheduler.specs.Seeking.{SameLanes, seen_in}
 use Rattle.evt_types.specs.declared.event.Delivery.{Delivery}
 use Rattle.evt_types.specs.declared.event.Reply.{Reply}
 use Rattle.lane_rings.specs.Ends.{hidden_offers, offered, seen_replies, taken}
@@ -61,6 +62,32 @@ seen_here lanes i after within =
 pub seen_elsewhere : (lanes : List Near) (i : ℕ) (after : Near) (l : ℕ) → l ≢ i → get_or (map seen_replies (set lanes i after)) l [] ≡ get_or (map seen_replies lanes) l []
 seen_elsewhere lanes i after l other =
     ap (λ xs. get_or xs l []) (map-set seen_replies lanes i after) ∙ get_or-set_other (map seen_replies lanes) i l (seen_replies after) [] other
+
+-- ---- a lane more is looked at
+
+pub same_lanes : (before lanes : List Near) (i : ℕ) (near after : Near) → SameLanes before lanes → near ≡ get_or lanes i near
+    → near_id after ≡ near_id near → offered after ≡ offered near → hidden_offers after ≡ hidden_offers near → taken after ≡ taken near → SameLanes before (set lanes i after)
+same_lanes before lanes i near after same is id offers hides takings =
+    record {
+      ids = same_lists near_id lanes i near after is id ∙ same.ids;
+      offers = same_lists offered lanes i near after is offers ∙ same.offers;
+      hidden = same_lists hidden_offers lanes i near after is hides ∙ same.hidden;
+      takings = same_lists taken lanes i near after is takings ∙ same.takings;
+    }
+
+pub none_before : (lanes : List Near) (from i : ℕ) (after : Near) → ((k : ℕ) → from ≤ k → k < i → seen_in lanes k ≡ []) → (k : ℕ) → from ≤ k → k < i → seen_in (set lanes i after) k ≡ []
+none_before lanes from i after none k past lt = seen_elsewhere lanes i after k (λ e. omega (arith, lt, e)) ∙ none k past lt
+
+pub none_to : (lanes : List Near) (from i : ℕ) (after : Near) → i < length lanes → ((k : ℕ) → from ≤ k → k < i → seen_in lanes k ≡ []) → seen_replies after ≡ []
+    → (k : ℕ) → from ≤ k → k < i + 1 → seen_in (set lanes i after) k ≡ []
+none_to lanes from i after within none here k past lt = by_place (cases_eq k i)
+  where
+    by_place : (k ≡ i) ⊎ (k ≢ i) → seen_in (set lanes i after) k ≡ []
+    by_place (inl same) = ap (λ j. seen_in (set lanes i after) j) same ∙ (seen_here lanes i after within ∙ here)
+    by_place (inr other) = seen_elsewhere lanes i after k other ∙ none k past (omega (arith, lt, other))
+
+pub still_seen : (before lanes : List Near) (from i : ℕ) (after : Near) → from ≤ i → ((k : ℕ) → k < from → seen_in lanes k ≡ seen_in before k) → (k : ℕ) → k < from → seen_in (set lanes i after) k ≡ seen_in before k
+still_seen before lanes from i after past same k lt = seen_elsewhere lanes i after k (λ e. omega (arith, lt, past, e)) ∙ same k lt
 
 -- ---- what is hidden
 

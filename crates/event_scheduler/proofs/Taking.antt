@@ -2,6 +2,7 @@
 use Rattle.std.proofs.Common.{add-zero, ◌≡◌, ℕ, ◌+◌, ◌*◌, ◌<◌, ◌≤◌, ◌%◌, ◌^◌, ◌==◌, Bool, true, false, cond, nat_lt, ◌&&◌, ◌||◌, ◌⊎◌, inl, inr, List, [], ◌∷◌, ◌++◌, length, map, set, get_or, All, refl, sym, ap, ◌∙◌, subst, append_assoc, append-nil, arith}
 use Rattle.std.proofs.lemmas.Bool.{cases_lt, false≢true, le-ltb}
 use Rattle.std.proofs.lemmas.List.{length-append, map-append}
+use Rattle.std.proofs.Math.Nat.{mul-le-mul_left}
 use Rattle.std.proofs.lemmas.List.Elements.{filter_map-append}
 use Rattle.credit_pool.specs.declared.account.Account.{Account}
 use Rattle.credit_pool.specs.declared.pool.Credits.{Credits}
@@ -11,6 +12,7 @@ use Rattle.event_scheduler.proofs.Looking.{append_none}
 use Rattle.event_scheduler.proofs.Replies.{after-append, by_lane-append, first_more, may-append, of_first_is, only_is, only_more, one_count, one_elsewhere, one_here, one_said, one_steps, steps-append}
 use Rattle.event_scheduler.proofs.Serving.{Adds, runs_by, runs_none, runs_runs, stays_same}
 use Rattle.credit_pool.specs.Pockets.{IsPocket}
+use Rattle.event_scheduler.specs.Seeking.{SameLanes}
 use Rattle.event_scheduler.specs.Scheduler.{IsAccepted, Runs, Serves, Sight, offered_at, sight, taken_at}
 use Rattle.evt_types.specs.declared.event.Delivery.{Delivery}
 use Rattle.evt_types.specs.declared.event.Reply.{Reply}
@@ -98,6 +100,19 @@ takes_looked pool core lanes v p n i near later most log is id offers takings =
     subst (λ ids. With ids (map offered now) (map taken now)) (sym (same_lists near_id lanes i near later is id))
     (subst (λ os. With (map near_id lanes) os (map taken now)) (sym (same_lists offered lanes i near later is offers))
     (subst (λ ts. With (map near_id lanes) (map offered lanes) ts) (sym (same_lists taken lanes i near later is takings)) (takes_seen most (sight pool core lanes v p n) (map seen_replies now) log)))
+
+-- none, and lanes were looked at
+pub takes_sought :
+    (pool : Credits) (core : View) (lanes now : List Near) (v : Account) (p n : ℕ) (most : ℕ → ℕ) (log : List Step)
+    → SameLanes lanes now → Takes most 0 (sight pool core lanes v p n) log (sight pool core now v p n) log
+takes_sought pool core lanes now v p n most log same =
+    let With : List LaneId → List (List Delivery) → List (List Reply) → Type 0 =
+    λ ids os ts.
+    Takes most 0 (sight pool core lanes v p n) log
+    (record { site = record { pool = pool; lanes = ids }; core = core; offered = os; taken = ts; seen = map seen_replies now; account = v; pocket = p; accepted_new = n }) log in
+    subst (λ ids. With ids (map offered now) (map taken now)) (sym same.ids)
+    (subst (λ os. With (map near_id lanes) os (map taken now)) (sym same.offers)
+    (subst (λ ts. With (map near_id lanes) (map offered lanes) ts) (sym same.takings) (takes_seen most (sight pool core lanes v p n) (map seen_replies now) log)))
 
 -- ---- one
 
@@ -271,20 +286,18 @@ lane_ends l n q s t u log mid longer few h k =
     within : (m : ℕ) → only l n m ≤ only l q m
     within m = within_by (m == l)
 
--- a lane's replies were fetched, and then taken
-pub after_fetch : (l q n : ℕ) (s t u : Sight) (log longer : List Step) → Takes (only l 0) 0 s log t log → Takes (only l q) n t log u longer → Takes (only l q) n s log u longer
-after_fetch l q n s t u log longer h k =
-    subst (λ k. Takes (only l q) k s log u longer) (omega arith)
-    (takes_takes (only l 0) (only l q) (only l q) 0 n s t u log log longer h k (λ i j some more. absurd (omega (arith, some, none i))) (λ m. omega (arith, none m)))
-  where
-    none_by : (b : Bool) → ◌≡◌ {A = ℕ} (cond b 0 0) 0
-    none_by true = refl
-    none_by false = refl
-
-    none : (m : ℕ) → only l 0 m ≡ 0
-    none m = none_by (m == l)
-
 -- ---- numbers
+
+-- the room and the count of the lanes up to a later one
+pub room_on : (q i j start free before now : ℕ) → i ≤ j → start + now ≤ free + before + 2 * q * i → start + now ≤ free + before + 2 * q * j
+room_on q i j start free before now within had =
+    let more : 2 * q * i ≤ 2 * q * j = mul-le-mul_left (2 * q) within in
+    omega (arith, more, had)
+
+pub count_on : (q i j n : ℕ) → i ≤ j → n ≤ q * i → n ≤ q * j
+count_on q i j n within few =
+    let more : q * i ≤ q * j = mul-le-mul_left q within in
+    omega (arith, more, few)
 
 -- the room of one lane more, and the replies of it
 pub lane_room : (q same i start free next before mid later : ℕ) → same ≡ q → start + mid ≤ free + before + 2 * q * i → free + later ≤ next + mid + 2 * same → start + later ≤ next + before + 2 * q * (i + 1)

@@ -7,6 +7,7 @@ mod laws;
 mod look;
 mod parts;
 mod scheduler;
+mod seek;
 mod sweep;
 mod take;
 

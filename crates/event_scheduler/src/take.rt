@@ -43,7 +43,9 @@ impl Scheduler {
         ensures room { L.room log.old + kept_in self.new.core ≤ L.room log.new + kept_in self.old.core + 2 }
     {
         let near = &mut self.lanes[lane];
-        near.fetch(1);
+        if !near.fetch(1) {
+            return false;
+        }
         // The reply stays where it was fetched to until the core has taken it.
         let Some(reply) = near.fetched() else {
             return false;
@@ -59,40 +61,10 @@ impl Scheduler {
         true
     }
 
-    /// Brings replies of the lane out of its ring, no more than these; whether there is one. They are untaken still.
-    #[inline(always)]
-    fn fetch(&mut self, lane: usize, most: usize) -> bool
-        requires { lane < lanes_of self.old.core.shape }
-        ensures takes { (log : List StepValue) → Takes (only lane 0) 0 (sight_of self.old) log (sight_of self.new) log }
-        ensures core { self.new.core ≡ self.old.core }
-        ensures others { (l : ℕ) → l ≢ lane → seen_at (sight_of self.new) l ≡ seen_at (sight_of self.old) l }
-        ensures none { IsFalse result → 0 < most → seen_at (sight_of self.new) lane ≡ [] }
-    {
-        let near = &mut self.lanes[lane];
-        near.fetch(most);
-        near.fetched().is_some()
-    }
-
     /// Takes replies of the lane, no more than the sweep quantum, until none is seen or one may not be taken. The ring gives by one
-    /// store what is there at the begin; a lane in which there is nothing costs that one look.
+    /// store what was there when the lane was found.
     #[inline(always)]
     fn take_lane<L: StepLog>(&mut self, lane: usize, log: &mut L) -> usize
-        requires lane { lane < lanes_of self.old.core.shape }
-        requires room { kept_in self.old.core + 2 * self.old.core.shape.sweep ≤ L.room log.old }
-        ensures takes { Takes (only lane self.old.core.shape.sweep) result (sight_of self.old) (L.steps log.old) (sight_of self.new) (L.steps log.new) }
-        ensures room { L.room log.old + kept_in self.new.core ≤ L.room log.new + kept_in self.old.core + 2 * self.old.core.shape.sweep }
-        ensures most { result ≤ self.old.core.shape.sweep }
-        ensures ends { MayEnd self.old.core.shape.sweep self.new.core lane result (seen_at (sight_of self.new) lane) }
-        ensures others { (l : ℕ) → l ≢ lane → seen_at (sight_of self.new) l ≡ seen_at (sight_of self.old) l }
-    {
-        let most = self.core.shape().sweep() as usize;
-        if !self.fetch(lane, most) {
-            return 0;
-        }
-        self.take_each(lane, log)
-    }
-
-    fn take_each<L: StepLog>(&mut self, lane: usize, log: &mut L) -> usize
         requires lane { lane < lanes_of self.old.core.shape }
         requires room { kept_in self.old.core + 2 * self.old.core.shape.sweep ≤ L.room log.old }
         ensures takes { Takes (only lane self.old.core.shape.sweep) result (sight_of self.old) (L.steps log.old) (sight_of self.new) (L.steps log.new) }
@@ -119,8 +91,14 @@ impl Scheduler {
         let count = self.core.shape().lanes();
         let _ = self.core.shape().sweep();
         let mut taken = 0;
-        for lane in 0..count {
+        let mut from = 0;
+        while from < count {
+            let lane = self.seek(from);
+            if lane >= count {
+                return taken;
+            }
             taken += self.take_lane(lane, log);
+            from = lane + 1;
         }
         taken
     }

@@ -18,7 +18,7 @@ pub(crate) struct Intake<T> {
 }
 
 impl<T: Copy> Intake<T> {
-    ghost use Rattle.std.specs.Prelude.{◌≡◌, ◌≢◌, ◌<◌, ◌≤◌, [], ◌∷◌, ◌++◌, length, drop, take, IfNone, IfOk, IfSome, MatchOption};
+    ghost use Rattle.std.specs.Prelude.{◌≡◌, ◌≢◌, ◌<◌, ◌≤◌, [], ◌∷◌, ◌++◌, length, drop, take, IsFalse, IsTrue, IfNone, IfOk, IfSome, MatchOption};
     ghost use mathlib.Core.List.{IsPrefix};
     ghost use Rattle.rtrb.specs.Ring.{received, known_items, consumer_capacity, SameConsumer};
     ghost use Rattle.lane_rings.specs.Intakes.{handed, ahead};
@@ -34,25 +34,29 @@ impl<T: Copy> Intake<T> {
         Ok(Intake { ring, batch })
     }
 
-    /// Where nothing is in the batch, takes at most `most` items out of the ring. A ring that shows nothing costs one load.
+    /// Where nothing is in the batch, takes at most `most` items out of the ring; whether something is in the batch then. A ring
+    /// that shows nothing costs one load.
     #[inline(always)]
-    pub(crate) fn look(&mut self, most: usize)
+    pub(crate) fn look(&mut self, most: usize) -> bool
         ensures ring { SameConsumer self.old.ring self.new.ring }
         ensures handed { handed self.new ≡ handed self.old }
         ensures ahead { IsPrefix (ahead self.old) (ahead self.new) }
+        ensures some { IsTrue result → inside self.new.batch ≢ [] }
+        ensures nothing { IsFalse result → inside self.new.batch ≡ [] }
         ensures none { 0 < most → inside self.new.batch ≡ [] → ahead self.new ≡ [] }
         ensures few { inside self.old.batch ≡ [] → length (inside self.new.batch) ≤ most }
         ensures stays { inside self.old.batch ≢ [] → inside self.new.batch ≡ inside self.old.batch }
         ensures short { inside self.old.batch ≡ [] → length (inside self.new.batch) < most → most ≤ consumer_capacity self.old.ring → known_items self.new.ring ≡ [] }
     {
         if !self.batch.is_empty() {
-            return;
+            return true;
         }
         let there = self.ring.slots();
         if there == 0 {
-            return;
+            return false;
         }
         self.batch.fill(&mut self.ring, most);
+        !self.batch.is_empty()
     }
 
     /// The oldest item, which leaves. Wants what is seen to be in the batch, unless nothing is.

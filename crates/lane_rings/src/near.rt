@@ -55,17 +55,19 @@ impl Near {
     }
 
     /// Takes at most `most` replies out of the ring, by one store; where some are left that were fetched before, it does nothing.
-    /// Until they are taken one by one, by `take`, they are untaken; the holder may give as many more.
+    /// Whether one is fetched. Until they are taken one by one, by `take`, they are untaken; the holder may give as many more.
     #[inline(always)]
-    pub fn fetch(&mut self, most: usize)
+    pub fn fetch(&mut self, most: usize) -> bool
         ensures lane { near_id self.new ≡ near_id self.old }
         ensures lists { (offered self.new ≡ offered self.old) × (hidden_offers self.new ≡ hidden_offers self.old) × (taken self.new ≡ taken self.old) }
         ensures seen { IsPrefix (seen_replies self.old) (seen_replies self.new) }
         ensures few { fetched_replies self.old ≡ [] → length (fetched_replies self.new) ≤ most }
         ensures stays { fetched_replies self.old ≢ [] → fetched_replies self.new ≡ fetched_replies self.old }
+        ensures some { IsTrue result → fetched_replies self.new ≢ [] }
+        ensures nothing { IsFalse result → fetched_replies self.new ≡ [] }
         ensures none { 0 < most → fetched_replies self.new ≡ [] → seen_replies self.new ≡ [] }
     {
-        self.replies.look(most);
+        self.replies.look(most)
     }
 
     /// The oldest reply that wasn't taken, which stays: the next `take` gives the same one. `None` where no reply is seen; the

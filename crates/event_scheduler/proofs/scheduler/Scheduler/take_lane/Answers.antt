@@ -1,22 +1,21 @@
-use Rattle.std.proofs.Common.{◌∙◌, arith, inl, inr, subst}
-use Rattle.event_scheduler.specs.Scheduler.{sight_of}
-use Rattle.event_scheduler.specs.Taking.{Takes, only}
-use Rattle.event_scheduler.proofs.Taking.{after_fetch, takes_none}
-use Rattle.transcripts.specs.Standing.{View}
+use Rattle.std.proofs.Common.{refl, ap, arith, ◌∙◌}
+use Rattle.event_scheduler.proofs.Taking.{lane_ends, lane_more, takes_none}
+use Rattle.evt_types.specs.Plan.{Plan}
 use Rattle.event_scheduler.proofs.scheduler.Scheduler.take_lane.Goals as goal
 
-pub returns-then-not-fetch-clause-takes : goal.returns-then-not-fetch-clause-takes
-returns-then-not-fetch-clause-takes g c = after_fetch c.args.lane _ _ _ _ _ _ _ (c.fetch.ensures.takes _) (takes_none _ _ _)
+pub loop-taken-init : goal.loop-taken-init
+loop-taken-init g c = (takes_none _ _ _, omega arith, λ j other. refl)
 
-pub returns-then-not-fetch-clause-ends : goal.returns-then-not-fetch-clause-ends
-returns-then-not-fetch-clause-ends g c = inr (inl (c.fetch.ensures.none c.if-not-fetch.true (omega (arith, c.sweep-most.ensures.range.0))))
+pub loop-taken-preserved : goal.loop-taken-preserved
+loop-taken-preserved g c = (
+  lane_more _ _ _ _ _ _ _ _ _ c.if-not-take_one.false c.loop-taken.invariant.0 c.take_one.ensures.takes,
+  omega (arith, c.loop-taken.invariant.1, c.take_one.ensures.room),
+  λ j other. c.take_one.ensures.others j other ∙ c.loop-taken.invariant.2 j other,
+)
 
-pub returns-clause-takes : goal.returns-clause-takes
-returns-clause-takes g c =
-    let each =
-    subst (λ (v : View). Takes (only c.args.lane v.shape.sweep) c.take_each.result (sight_of c.fetch.new.self) (g.L.StepLog.steps c.args.log.now) (sight_of c.take_each.new.self) (g.L.StepLog.steps c.take_each.new.log)) c.fetch.ensures.core
-    c.take_each.ensures.takes in
-    after_fetch c.args.lane _ _ _ _ _ _ _ (c.fetch.ensures.takes _) each
+pub returns-then-not-take_one-clause-ends : goal.returns-then-not-take_one-clause-ends
+returns-then-not-take_one-clause-ends g c = c.take_one.ensures.ends c.loop-taken.taken _ c.if-not-take_one.true
 
-pub returns-clause-others : goal.returns-clause-others
-returns-clause-others g c l other = c.take_each.ensures.others l other ∙ c.fetch.ensures.others l other
+pub returns-then-not-take_one-clause-takes : goal.returns-then-not-take_one-clause-takes
+returns-then-not-take_one-clause-takes g c =
+    lane_ends _ _ _ _ _ _ _ _ _ (omega (arith, c.loop-taken-test.true, c.sweep-most.ensures.value, ap (λ (p : Plan). p.sweep) c.shape.ensures)) c.loop-taken.invariant.0 c.if-not-take_one.ensures.takes

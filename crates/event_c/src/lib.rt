@@ -128,7 +128,7 @@ pub unsafe extern "C" fn evsched_hub_stop(at: *mut u8) -> i64
 pub unsafe extern "C" fn evsched_hub_inside(at: *mut u8) -> i64
     ghost value: { HubValue }
     requires* { sem 𝓛 (points_to hub_row at value) }
-    ensures* { sem 𝓛 (points_to hub_row at value) ∗ ⌜ result ≡ inside_in value.running value.stopped value.why ⌝ }
+    ensures* { sem 𝓛 (points_to hub_row at value) ∗ ⌜ result ≡ inside_in value.device value.stopped value.why ⌝ }
 {
     let hub = &*(at as *mut Hub);
     hub.inside()

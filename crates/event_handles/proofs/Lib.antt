@@ -1,12 +1,8 @@
 pub mod Changed
-pub mod Devices
 pub mod Fronts
-pub mod Insides
 pub mod KindLists
-pub mod Ones
-pub mod Places
 pub mod Refusals
 pub mod Rests
-pub mod Stops
+pub mod Sends
 pub mod Sweeps
 pub mod Writes

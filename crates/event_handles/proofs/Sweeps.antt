@@ -1,9 +1,8 @@
 -- A sweep logs at least one step for each reply that it takes and each event that it gives.
-use Rattle.std.proofs.Common.{◌≡◌, ℕ, ◌+◌, ◌<◌, ◌≤◌, ◌^◌, Bool, true, false, List, [], ◌∷◌, ◌++◌, length, count_by, if◌then◌else◌, sym, ap, subst, arith, length-append}
-use Rattle.std.proofs.Math.Logic.{∥∥₁_map}
+use Rattle.std.proofs.Common.{◌≡◌, ℕ, ◌+◌, ◌<◌, ◌≤◌, ◌^◌, Bool, true, false, List, [], ◌∷◌, ◌++◌, length, count_by, if◌then◌else◌, ap, arith, length-append}
 use Rattle.std.proofs.lemmas.List.Sums.{count_by-le-length}
 use Rattle.event_answers.specs.declared.answer.Swept.{Swept}
-use Rattle.event_scheduler.specs.Scheduler.{Serves, Sight}
+use Rattle.event_scheduler.specs.Scheduler.{Sight}
 use Rattle.event_scheduler.specs.Swept.{Sweeps}
 use Rattle.evt_types.specs.declared.event.Event.{Event}
 use Rattle.evt_types.specs.declared.event.Op.{Op}
@@ -45,7 +44,3 @@ module _ (n : Swept) (s : Sight) (log : List Step) (t : Sight) (longer : List St
   pub answer_fits : (counted : Counted) → steps_logged counted ≡ longer → n.taken + n.given < 2 ^ 63
   answer_fits counted same =
       omega (arith, counted.count_is, counted.few, ap length same, few_in_all s.core sweeps.sweeping, ap length sweeps.runs.logged, length-append log (sweep_steps s.core sweeps.sweeping), sweeps.count_taken, sweeps.count_given)
-
-  -- the scheduler stands at the longer log
-  pub still_serves : ∥ Serves log s ∥₁ → ∥ Serves longer t ∥₁
-  still_serves served = ∥∥₁_map served (λ serves. subst (λ T. Serves T t) (sym sweeps.runs.logged) (sweeps.runs.serves log serves))

@@ -8,11 +8,11 @@ use Rattle.step_tally.specs.declared.counts.LaneCounts.{LaneCounts}
 use Rattle.step_tally.specs.declared.counts.QueueCounts.{QueueCounts}
 use Rattle.transcripts.specs.Replies.{new_count}
 use Rattle.transcripts.specs.Transcript.{inside}
+use Rattle.event_device.specs.Parts.{Parts}
 use Rattle.event_handles.specs.Logs.{steps_logged}
 use Rattle.event_handles.specs.Numbers.{invalid, no_device}
 use Rattle.event_handles.specs.Report.{Fills, LeavesEmpty}
 use Rattle.event_handles.specs.declared.hub.Hub.{Hub}
-use Rattle.event_handles.specs.declared.running.Running.{Running}
 use Rattle.event_handles.specs.declared.stopped.Stopped.{Stopped}
 
 abbrev pub queue_list : QueueCounts → List ℕ
@@ -30,12 +30,12 @@ abbrev pub of_device : ℕ
 of_device = 192
 
 -- how many events were accepted as new, and how many are inside
-abbrev pub device_list : Running → List ℕ
-device_list r = new_count r.recorder.log ∷ inside r.recorder.sight.core.shape r.recorder.log ∷ []
+abbrev pub device_list : Parts → List ℕ
+device_list r = new_count r.recorded.log ∷ inside r.recorded.sight.core.shape r.recorded.log ∷ []
 
-abbrev pub CountsRunning : Running → ℕ → List ℕ → List ℕ → ℤ → Type 0
+abbrev pub CountsRunning : Parts → ℕ → List ℕ → List ℕ → ℤ → Type 0
 CountsRunning r what before after answer =
-    MatchBool (nat_lt what of_device) (Fills (numbers_of r.recorder.log what) before after answer)
+    MatchBool (nat_lt what of_device) (Fills (numbers_of r.recorded.log what) before after answer)
     (MatchBool (what == of_device) (Fills (device_list r) before after answer) (LeavesEmpty invalid before after answer))
 
 -- of a device that was stopped it isn't known how many are inside
@@ -44,10 +44,10 @@ CountsStopped s what before after answer =
     MatchBool (nat_lt what of_device) (Fills (numbers_of (steps_logged s.report.log) what) before after answer)
     (MatchBool (what == of_device) (LeavesEmpty no_device before after answer) (LeavesEmpty invalid before after answer))
 
-abbrev pub CountsOf : Option Running → Option Stopped → ℕ → List ℕ → List ℕ → ℤ → Type 0
+abbrev pub CountsOf : Option Parts → Option Stopped → ℕ → List ℕ → List ℕ → ℤ → Type 0
 CountsOf (Some r) s what before after answer = CountsRunning r what before after answer
 CountsOf None (Some s) what before after answer = CountsStopped s what before after answer
 CountsOf None None what before after answer = LeavesEmpty no_device before after answer
 
 abbrev pub IsCounted : Hub → ℕ → List ℕ → List ℕ → ℤ → Type 0
-IsCounted hub what before after answer = CountsOf hub.running hub.stopped what before after answer
+IsCounted hub what before after answer = CountsOf hub.device hub.stopped what before after answer

@@ -3,10 +3,10 @@ pub mod Counts
 pub mod Events
 pub mod Hands
 pub mod Hub
+pub mod Kinds
 pub mod Left
 pub mod Logs
 pub mod Numbers
-pub mod Parts
 pub mod Ports
 pub mod Pulls
 pub mod Refusals

@@ -54,11 +54,10 @@ impl Hub {
     pub fn counts(&self, what: usize, out: &mut [u64]) -> i64
         ensures { IsCounted self.now what out.old out.new result }
     {
-        match (&self.running, &self.stopped) {
-            (Some(running), _) if what < OF_DEVICE => count(running.recorder.log(), what, out),
-            (Some(running), _) if what == OF_DEVICE => {
-                let recorder = &running.recorder;
-                fill(&[recorder.accepted_new(), recorder.inside() as u64], out)
+        match (&self.device, &self.stopped) {
+            (Some(device), _) if what < OF_DEVICE => count(device.log(), what, out),
+            (Some(device), _) if what == OF_DEVICE => {
+                fill(&[device.accepted_new(), device.inside() as u64], out)
             }
             (None, Some(stopped)) if what < OF_DEVICE => count(&stopped.report.log, what, out),
             (None, Some(_)) if what == OF_DEVICE => ENODEV,

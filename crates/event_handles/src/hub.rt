@@ -1,22 +1,28 @@
 //! The hub of a device for C.
 
 ghost use Rattle.std.specs.Prelude.{◌≡◌};
+ghost use Rattle.std.specs.Option.{ForSome};
+ghost use Rattle.event_handles.specs.Kinds.{kinds_of};
 
 use crate::config::Config;
 use crate::control::ControlHandle;
-use crate::errno::{EBUSY, ENODEV};
-use crate::port::PortHandle;
-use crate::running::Running;
+use crate::errno::{EBUSY, ENODEV, ENOMEM};
+use crate::port::{PortHandle, Seat};
+use crate::start::start_device;
 use crate::stopped::Stopped;
+use event_device::Device;
+use evt_types::{Kind, MAX_QUEUES};
 use std::alloc::Global;
 
-/// A device for C: its scheduler, and all of its parts that are at home. Where it is refused it holds why, and once it is stopped its
-/// account.
+/// A device for C, with all of its parts that are at home. Where it is refused it holds why, and once it is stopped its account.
 #[derive(Drop)]
 pub struct Hub {
-    pub(crate) running: Option<Running>,
+    pub(crate) device: Option<Device>,
+    /// The scheduling types of the device's queues, where it runs.
+    pub(crate) kinds: [Kind; MAX_QUEUES],
     pub(crate) stopped: Option<Stopped>,
     pub(crate) why: i64,
+    pub ghost kinds_are: { ForSome device (λ r. kinds ≡ kinds_of r) },
 }
 
 impl Hub {
@@ -29,17 +35,25 @@ impl Hub {
     pub fn new(alloc: Global, config: &Config) -> Hub
         ensures { IsNew result config.now }
     {
-        match Running::new(alloc, config) {
-            Ok(running) => Hub {
-                running: Some(running),
-                stopped: None,
-                why: 0,
-            },
-            Err(why) => Hub {
-                running: None,
-                stopped: None,
-                why,
-            },
+        match start_device(alloc, config) {
+            Ok(started) => {
+                let kinds = started.1;
+                Hub {
+                    device: Some(started.0),
+                    kinds,
+                    stopped: None,
+                    why: 0,
+                }
+            }
+            Err(why) => {
+                let kinds = [Kind::Parallel; MAX_QUEUES];
+                Hub {
+                    device: None,
+                    kinds,
+                    stopped: None,
+                    why,
+                }
+            }
         }
     }
 
@@ -52,10 +66,10 @@ impl Hub {
 
     /// How many events wait, are kept or are unanswered. Where the device was refused, why; -19 once it is stopped.
     pub fn inside(&self) -> i64
-        ensures { result ≡ inside_in self.now.running self.now.stopped self.now.why }
+        ensures { result ≡ inside_in self.now.device self.now.stopped self.now.why }
     {
-        match (&self.running, &self.stopped) {
-            (Some(running), _) => running.recorder.inside() as i64,
+        match (&self.device, &self.stopped) {
+            (Some(device), _) => device.inside() as i64,
             (None, Some(_)) => ENODEV,
             (None, None) => self.why,
         }
@@ -65,11 +79,14 @@ impl Hub {
     pub fn hand_out(&mut self, number: usize) -> PortHandle
         ensures { Hands self.old number self.new result }
     {
-        match &mut self.running {
-            Some(running) => PortHandle {
-                seat: running.hand_out(number),
-            },
-            None => PortHandle { seat: None },
+        let Some(device) = &mut self.device else {
+            return PortHandle { seat: None };
+        };
+        let Some(port) = device.take_port(number) else {
+            return PortHandle { seat: None };
+        };
+        PortHandle {
+            seat: Some(Seat::new(port, self.kinds)),
         }
     }
 
@@ -79,13 +96,15 @@ impl Hub {
         requires { IsOf self.old port }
         ensures { Joins self.old port self.new result }
     {
-        let Some(running) = &mut self.running else {
+        let Some(device) = &mut self.device else {
             return ENODEV;
         };
-        let PortHandle { seat } = port;
-        match seat {
-            Some(seat) => running.join(seat),
-            None => ENODEV,
+        let Some(seat) = port.seat else {
+            return ENODEV;
+        };
+        match device.put_back(seat.port) {
+            Ok(()) => 0,
+            Err(_) => EBUSY,
         }
     }
 
@@ -93,11 +112,11 @@ impl Hub {
     pub fn hand_control(&mut self) -> ControlHandle
         ensures { HandsControl self.old self.new result }
     {
-        let Some(running) = &mut self.running else {
+        let Some(device) = &mut self.device else {
             return ControlHandle { control: None };
         };
         ControlHandle {
-            control: running.control.take(),
+            control: device.take_control(),
         }
     }
 
@@ -107,17 +126,16 @@ impl Hub {
         requires { IsControlOf self.old control }
         ensures { JoinsControl self.old control self.new result }
     {
-        let Some(running) = &mut self.running else {
+        let Some(device) = &mut self.device else {
             return ENODEV;
         };
         let Some(control) = control.control else {
             return ENODEV;
         };
-        if running.control.is_some() {
-            return EBUSY;
+        match device.put_back_control(control) {
+            Ok(()) => 0,
+            Err(_) => EBUSY,
         }
-        running.control = Some(control);
-        0
     }
 
     /// One sweep: how many replies it took and how many events it gave. -12 where memory ran out: nothing has changed then. -19 where
@@ -125,10 +143,15 @@ impl Hub {
     pub fn sweep(&mut self) -> i64
         ensures { IsSweep self.old self.new result }
     {
-        match &mut self.running {
-            Some(running) => running.sweep(),
-            None => ENODEV,
-        }
+        let Some(device) = &mut self.device else {
+            return ENODEV;
+        };
+        let Ok(swept) = device.sweep() else {
+            return ENOMEM;
+        };
+        // So many steps, and with them what was taken and given, can be counted.
+        let _log = device.log();
+        (swept.taken + swept.given) as i64
     }
 
     /// Lets go of all that it has.

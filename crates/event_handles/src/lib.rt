@@ -13,7 +13,6 @@ mod left;
 mod port;
 mod refusal;
 mod report;
-mod running;
 mod start;
 mod stop;
 mod stopped;

@@ -1,8 +1,0 @@
-use Rattle.std.proofs.Common.{◌≡◌, ◌≤◌, Some, length, map, vec_capacity}
-use Rattle.event_handles.proofs.start.at_home.Given as goal
-
-abbrev pub invariant-loop-port : goal.invariant-loop-port
-invariant-loop-port l = record {
-  placed : l.places.items ≡ map Some l.yielded;
-  room : length l.fn.ports.items ≤ vec_capacity l.places;
-}

@@ -1,8 +1,9 @@
 -- The first event of a level whose slot is allowed.
-use Rattle.std.proofs.Common.{◌≡◌, ◌≢◌, ℕ, ◌+◌, ◌<◌, ◌≤◌, Bool, true, false, List, length, set, get_or, Option, Some, None, slice_get, ⊎_elim, sym, ap, ◌∙◌, subst, arith, eq-eqb}
-use Rattle.std.proofs.lemmas.Bool.{cases_eq, cases_lt, false≢true}
+use Rattle.std.proofs.Common.{◌≡◌, ◌≢◌, ℕ, ◌+◌, ◌<◌, ◌≤◌, ◌==◌, Bool, true, false, List, [], ◌∷◌, length, set, get_or, Option, Some, None, slice_get, ⊎_elim, refl, sym, ap, ◌∙◌, subst, arith, eq-eqb}
+use Rattle.std.proofs.lemmas.Bool.{cases_eq, cases_lt, eqb-false, false≢true}
 use Rattle.std.proofs.lemmas.List.{length-drop, get_or-set_same}
 use Rattle.std.proofs.lemmas.List.Elements.{All-filter, All-push}
+use Rattle.std.specs.Int.{bit_at}
 use Rattle.std.specs.Option.{is_some}
 use Rattle.std.proofs.lemmas.Option.{slice_get_within}
 use Rattle.evt_types.specs.Plan.{level_of}
@@ -87,6 +88,30 @@ none_of_level v c marks has empty e k d h =
     (λ le. false≢true (sym (none_first (is_in (list_of v.waits.slots v.below) c) v.waits.waiting e k d h) ∙ is_main v.waits.slots v.below c u here le))
     (cases_lt u.number (below_at v.below c))
 
+pub not_empty : (xs ys : List Numbered) → xs ≡ ys → (length xs == 0) ≡ false → 0 < length ys
+not_empty xs ys same none = let differ = eqb-false (length xs) 0 none in let e = ap length same in omega (arith, differ, e)
+
+first_of : (xs : List Numbered) → 0 < length xs → (w : Numbered) × (slice_get xs 0 ≡ Some w)
+first_of [] some = absurd (omega arith)
+first_of (x ∷ xs) some = (x, refl)
+
+-- the level's own list has an event, which waits
+pub some_of_level : (v : Parted) (c : ℕ) → AreWaits v.waits → c < 4 → 0 < length (list_in v c) → ¬ HasNoneOf v.waits c
+some_of_level v c waits lt some none =
+    let first = first_of (list_in v c) some in
+    let w : Numbered = first.0 in
+    let test = is_in (list_of v.waits.slots v.below) c in
+    let here = first_there test v.waits.waiting w (first_split test v.waits.waiting w waits.rising first.1) in
+    none here.0 w here.1 (ap (λ (u : Numbered). level_of u.event) here.2 ∙ sym (level_of_own v c w waits lt first.1))
+
+-- a level of which an event waits is known
+pub level_known : (v : Waits) (c : ℕ) (levels : SmallSet) → AreLevels v levels → ¬ HasNoneOf v c → Has levels c
+level_known v c levels are some = ⊎_elim (λ has. has) (λ never. absurd (some (are.rest c never))) (cases_eq (bit_at levels.bits c) 1)
+
+-- of an empty queue no event of any level waits
+pub none_of_empty : (v : Waits) (c : ℕ) → v.waiting ≡ [] → HasNoneOf v c
+none_of_empty v c empty k d h = let e = ap length empty in absurd (omega (arith, h, e))
+
 -- the level of an event that comes is added
 pub levels_with : (v : Waits) (e : Event) (was now : SmallSet) → level_of e < 4 → Has now (level_of e) → SameBut (level_of e) was now → AreLevels v was → AreLevels (with_event v e) now
 levels_with v e was now lt here others levels =
@@ -96,6 +121,10 @@ levels_with v e was now lt here others levels =
           let ne : k ≢ level_of e = λ same. never (subst (Has now) (sym same) here) in
           All-push (λ (u : Numbered). level_of u.event ≢ k) v.waiting (record { number = v.next; event = e }) (levels.rest k (λ has. never ((others k ne).1 has))) (λ same. ne (sym same));
     }
+
+-- where an event of its level waits, an event that comes adds no level
+pub levels_still : (v : Waits) (e : Event) (levels : SmallSet) → level_of e < 4 → ¬ HasNoneOf v (level_of e) → AreLevels v levels → AreLevels (with_event v e) levels
+levels_still v e levels lt some are = levels_with v e levels levels lt (level_known v (level_of e) levels are some) (λ i ne. (λ has. has, λ has. has)) are
 
 -- an event that goes leaves no other level
 pub levels_without : (v : Waits) (n : ℕ) (levels : SmallSet) → AreLevels v levels → AreLevels (without_number v n) levels

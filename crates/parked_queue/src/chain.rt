@@ -1,6 +1,6 @@
 //! A list of events as a chain of nodes in a store that many chains share.
 
-ghost use Rattle.std.specs.Prelude.{◌≡◌, ◌+◌, ◌<◌, ◌^◌, vec_len, vec_capacity};
+ghost use Rattle.std.specs.Prelude.{◌≡◌, ◌==◌, ◌+◌, ◌<◌, ◌^◌, vec_len, vec_capacity};
 ghost use Rattle.parked_queue.specs.Chains.{IsLinked, IsPlaced, alone, final, longer, shorter};
 ghost use Rattle.parked_queue.specs.Lists.{numbered};
 
@@ -65,23 +65,27 @@ fn link(nodes: &mut Vec<Node>, place: usize, next: usize)
     nodes[place].next = next;
 }
 
-/// Makes the node at the place the chain's last one.
-pub(crate) fn append(nodes: &mut Vec<Node>, chain: &mut Chain, place: usize)
+/// Makes the node at the place the chain's last one: whether it is the only one.
+#[inline(always)]
+pub(crate) fn append(nodes: &mut Vec<Node>, chain: &mut Chain, place: usize) -> bool
     requires last { 0 < chain.old.len → chain.old.last < vec_len nodes.old }
     requires fits { chain.old.len + 1 < 2 ^ 64 }
+    ensures only { result ≡ (chain.old.len == 0) }
     ensures alone { chain.old.len ≡ 0 → chain.new ≡ alone place }
     ensures kept { chain.old.len ≡ 0 → nodes.new ≡ nodes.old }
     ensures longer { 0 < chain.old.len → chain.new ≡ longer chain.old place }
     ensures linked { 0 < chain.old.len → IsLinked nodes.old.items nodes.new.items chain.old.last place }
     ensures capacity { vec_capacity nodes.new ≡ vec_capacity nodes.old }
 {
-    if chain.len == 0 {
+    let only = chain.len == 0;
+    if only {
         chain.first = place;
     } else {
         link(nodes, chain.last, place);
     }
     chain.last = place;
     chain.len += 1;
+    only
 }
 
 /// Takes the first node off the chain, which goes on at the next one.

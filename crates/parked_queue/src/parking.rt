@@ -1,10 +1,11 @@
 //! The events that wait in all queues, parted into lists.
 
-ghost use Rattle.std.specs.Prelude.{◌≡◌, ◌+◌, ◌<◌, ◌≤◌, ◌^◌, ◌%◌, ◌++◌, true, length, map, slice_get, slice_set, vec_len, vec_capacity, is_some, option_copied, All, IfOk, IfSome};
+ghost use Rattle.std.specs.Prelude.{◌≡◌, ◌+◌, ◌<◌, ◌≤◌, ◌^◌, ◌%◌, ◌++◌, true, length, map, slice_get, slice_set, vec_len, vec_capacity, is_some, option_copied, All, IfOk, IfSome, IsFalse};
+ghost use Rattle.evt_types.specs.Plan.{level_of};
 ghost use Rattle.parked_queue.specs.Parts.{all_parts};
 ghost use Rattle.parked_queue.specs.Parted.{HasMarks, list_in, own_first, list_of_slot, list_of_number, with_below, with_waits};
 ghost use Rattle.parked_queue.specs.Parkings.{AreNewParkings, IsNewParking, are_waits, no_parteds, parted_at, waiting_in};
-ghost use Rattle.parked_queue.specs.Waits.{AreSlots, AreWaits, IsOnlyOf, slot_of, with_event, without_number};
+ghost use Rattle.parked_queue.specs.Waits.{AreSlots, AreWaits, HasNoneOf, IsOnlyOf, slot_of, with_event, without_number};
 ghost use Rattle.parked_queue.specs.Lists.{delivery_of};
 
 use crate::slot::{LEVELS, mask_for, parked_list, slot_in};
@@ -98,23 +99,25 @@ impl Parkings {
         self.queues.len()
     }
 
-    /// Lets the event wait in the queue, under the queue's next number.
+    /// Lets the event wait in the queue, under the queue's next number. It is of the level. Where the answer is no, others of the level
+    /// waited before.
     #[inline(always)]
-    pub(crate) fn accept(&mut self, queue: usize, event: &Event)
+    pub(crate) fn accept(&mut self, queue: usize, level: usize, event: &Event) -> bool
         requires there { queue < length self.old }
+        requires four { level < 4 }
+        requires level { level ≡ level_of event.now }
         requires room { waiting_in self.old < (parted_at self.old queue).waits.room }
         requires numbers { (parted_at self.old queue).waits.next < 2 ^ 63 }
         ensures value { self.new ≡ slice_set self.old queue (with_waits (parted_at self.old queue) (with_event (parted_at self.old queue).waits event.now)) }
         ensures waits { AreWaits (with_event (parted_at self.old queue).waits event.now) }
+        ensures others { IsFalse result → ¬ HasNoneOf (parted_at self.old queue).waits level }
     {
-        // The read makes the field's range known, and so the level's.
-        let _priority = event.priority;
         let entered = &mut self.queues[queue];
         let number = entered.next;
         entered.next = number + 1;
         entered.count += 1;
-        let list = entered.base + event.level();
-        self.lists.push_event(list, number, event);
+        let list = entered.base + level;
+        self.lists.push_event(list, number, event)
     }
 
     /// The first event of the level's own list, where it lies.

@@ -72,9 +72,11 @@ impl ParkedQueues {
     {
         // The read makes the field's range known, and so the level's.
         let _priority = event.priority;
-        self.levels[queue].add(event.level());
-        self.busy.add(queue);
-        self.parkings.accept(queue, event);
+        let level = event.level();
+        if self.parkings.accept(queue, level, event) {
+            self.levels[queue].add(level);
+            self.busy.add(queue);
+        }
     }
 
     /// The queues in which something waits.

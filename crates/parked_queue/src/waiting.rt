@@ -1,6 +1,6 @@
 //! Many lists of waiting events.
 
-ghost use Rattle.std.specs.Prelude.{◌≡◌, ◌+◌, ◌<◌, ◌≤◌, [], ◌++◌, length, map, slice_get, vec_len, vec_capacity, IfOk, IsFalse, IsTrue, option_copied};
+ghost use Rattle.std.specs.Prelude.{◌≡◌, ◌==◌, ◌+◌, ◌<◌, ◌≤◌, [], ◌++◌, length, map, slice_get, vec_len, vec_capacity, IfOk, IsFalse, IsTrue, option_copied};
 ghost use Rattle.parked_queue.specs.Lists.{list_at, total_of, all_empty, delivery_of, has_number, numbered, with_last, without_first};
 
 use crate::chain::{Chain, Node, append, shorten, take_node};
@@ -98,18 +98,19 @@ impl WaitingLists {
         requires room { total_of self.old < self.old.room }
         ensures { self.new ≡ with_last self.old list item }
     {
-        self.push_event(list, item.number, &item.event);
+        let _ = self.push_event(list, item.number, &item.event);
     }
 
-    /// The same of an event where it lies, under this number.
+    /// The same of an event where it lies, under this number: whether it is the list's only one.
     #[inline(always)]
-    pub fn push_event(&mut self, list: usize, number: u64, event: &Event)
+    pub fn push_event(&mut self, list: usize, number: u64, event: &Event) -> bool
         requires list { list < length self.old.lists }
         requires room { total_of self.old < self.old.room }
-        ensures { self.new ≡ with_last self.old list (numbered number event.now) }
+        ensures only { result ≡ (length (list_at self.old list) == 0) }
+        ensures value { self.new ≡ with_last self.old list (numbered number event.now) }
     {
         let place = take_node(&mut self.nodes, &mut self.free, number, event);
-        append(&mut self.nodes, &mut self.chains[list], place);
+        append(&mut self.nodes, &mut self.chains[list], place)
     }
 
     /// Takes the oldest event of the list out.

@@ -1,10 +1,10 @@
-use Rattle.std.proofs.Common.{◌<◌, ap, arith, slice_get, subst, sum_by}
+use Rattle.std.proofs.Common.{◌==◌, ◌<◌, ◌∙◌, ap, arith, slice_get, subst, sum_by}
 use Rattle.parked_queue.specs.declared.chain.Chain.{Chain}
 use Rattle.parked_queue.specs.Lists.{numbered}
 use Rattle.parked_queue.specs.Store.{len_of}
 use Rattle.parked_queue.proofs.Changes.{IsAppended, IsPushed, pushed, store_pushed, view_pushed}
 use Rattle.parked_queue.proofs.Stores.{free_within, last_read}
-use Rattle.parked_queue.proofs.Views.{chain_read, len_within, there_seen, total_seen, room_seen}
+use Rattle.parked_queue.proofs.Views.{chain_read, len_within, length_seen, there_seen, total_seen, room_seen}
 use Rattle.parked_queue.proofs.waiting.WaitingLists.push_event.Goals as goal
 
 -- fewer events wait than there is room for
@@ -57,7 +57,13 @@ invariant_of-self c =
     let room = room_seen c.self.inside.nodes c.self.inside.chains.items c.self.inside.room c.args.self.now c.self.view_is in
     store_pushed c.self.inside.nodes c.append.new.nodes c.self.inside.free c.take_node-place.new.free c.self.inside.chains.items c.self.inside.room c.args.list c.append.new.chain (numbered c.args.number c.args.event.now) there c.self.invariant (omega (arith, total, room, c.requires.room)) (is_pushed c)
 
-pub returns : goal.returns
-returns c =
+pub returns-clause-value : goal.returns-clause-value
+returns-clause-value c =
     let there = there_seen c.self.inside.nodes c.self.inside.chains.items c.self.inside.room c.args.self.now c.self.view_is c.args.list c.requires.list in
     view_pushed c.self.inside.nodes c.append.new.nodes c.self.inside.free c.take_node-place.new.free c.self.inside.chains.items c.self.inside.room c.args.list c.append.new.chain (numbered c.args.number c.args.event.now) c.args.self.now there c.self.view_is (is_pushed c)
+
+pub returns-clause-only : goal.returns-clause-only
+returns-clause-only c =
+    let there = there_seen c.self.inside.nodes c.self.inside.chains.items c.self.inside.room c.args.self.now c.self.view_is c.args.list c.requires.list in
+    c.append.ensures.only ∙ ap (λ n. n == 0) (ap len_of (chain_read c.self.inside.chains.items c.args.list c.index_mut.result.now there c.index_mut.ensures.value)
+    ∙ length_seen c.self.inside.nodes c.self.inside.chains.items c.self.inside.room c.args.self.now c.self.view_is c.self.inside.free c.self.invariant c.args.list)

@@ -8,7 +8,7 @@ ghost use Rattle.flow_claims.specs.Seats.{HoldsNone};
 
 use credit_pool::{CreditSeat, Credits};
 use flow_claims::{ClaimSeat, Claims};
-use std::alloc::{AllocError, Global};
+use std::alloc::Global;
 use std::sync::Arc;
 
 /// The control of a device: it shuts the device, and alone does so. It keeps what the ports and the scheduler didn't get of the credits
@@ -26,7 +26,7 @@ pub struct Control {
 }
 
 impl Control {
-    ghost use Rattle.std.specs.Prelude.{◌≡◌, true, IfOk};
+    ghost use Rattle.std.specs.Prelude.{◌≡◌, true};
     ghost use Rattle.event_device.specs.Control.{control_of, was_shut};
 
     /// The control with these seats, which drew, returned and claimed nothing.
@@ -49,13 +49,6 @@ impl Control {
             credit,
             claim,
         }
-    }
-
-    /// The claims of the device's flow lanes, which all its parts share.
-    pub fn claims(&self) -> Result<Arc<Claims, Global>, AllocError>
-        ensures { IfOk result (λ c. arc_value c ≡ (control_of self.now).claims) }
-    {
-        self.claims.clone()
     }
 
     /// Shuts the device: no port may bring a new event in from now on, and the scheduler turns away those that came and weren't taken.

@@ -151,7 +151,8 @@ impl Hub {
         };
         // So many steps, and with them what was taken and given, can be counted.
         let _log = device.log();
-        (swept.taken + swept.given) as i64
+        let count = (swept.taken + swept.given) as i64;
+        count
     }
 
     /// Lets go of all that it has.

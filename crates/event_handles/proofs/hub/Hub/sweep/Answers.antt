@@ -6,12 +6,12 @@ use Rattle.event_handles.proofs.Changed.{changed}
 use Rattle.event_handles.proofs.Sweeps.{answer_fits}
 use Rattle.event_handles.proofs.hub.Hub.sweep.Goals as goal
 
-pub overflow_add-result : goal.overflow_add-result
-overflow_add-result c =
+pub overflow_add-count : goal.overflow_add-count
+overflow_add-count c =
     let few = answer_fits c.in-Ok.swept _ _ _ _ c.in-Ok.ensures.sweeps c.log-log.result.now c.log-log.ensures in search rules
 
-pub overflow_cast-result : goal.overflow_cast-result
-overflow_cast-result c = record { sfits = answer_fits c.in-Ok.swept _ _ _ _ c.in-Ok.ensures.sweeps c.log-log.result.now c.log-log.ensures }
+pub overflow_cast-count : goal.overflow_cast-count
+overflow_cast-count c = record { sfits = answer_fits c.in-Ok.swept _ _ _ _ c.in-Ok.ensures.sweeps c.log-log.result.now c.log-log.ensures }
 
 pub returns : goal.returns
 returns c =

@@ -42,8 +42,8 @@ def copy_apart(room):
         shutil.copy(TOP / name, room / name)
     for name in ("propose", "give", "take"):
         file = room / f"crates/sched_core/src/{name}.rt"
-        calls = rf"(?: *#\[inline\(always\)\]\n)?( *)pub fn ({'|'.join(CALLS)})\("
-        file.write_text(re.sub(calls, r"\1#[inline(never)]\n\1pub fn \2(", file.read_text()))
+        calls = rf"(?: *#\[inline\(always\)\]\n)?( *)pub fn ({'|'.join(CALLS)})(?=[<(])"
+        file.write_text(re.sub(calls, r"\1#[inline(never)]\n\1pub fn \2", file.read_text()))
 
 
 def build_apart(room):
@@ -64,9 +64,9 @@ def spent(program, case, rounds, room):
     words = ["callgrind_annotate", "--inclusive=yes", "--threshold=100", profile]
     lines = subprocess.run(words, capture_output=True, text=True, check=True).stdout
     whole = re.search(r"^ *([\d,]+).*PROGRAM TOTALS", lines, re.M)
-    called = re.findall(rf"^ *([\d,]+).*sched_core::state::Core::(?:{'|'.join(CALLS)})(?= |$)", lines, re.M)
-    if whole is None or not called:
-        sys.exit(f"callgrind_annotate names no calls of the core: {lines[:2000]}")
+    called = re.findall(rf"^ *([\d,]+).*sched_core::state::Core::(?:{'|'.join(CALLS)})(?:::<#\w+>)?(?= |$)", lines, re.M)
+    if whole is None or len(called) != len(CALLS):
+        sys.exit(f"callgrind_annotate doesn't name each call of the core: {lines[:2000]}")
     number = lambda text: int(text.replace(",", ""))
     return number(whole[1]), sum(map(number, called))
 

@@ -22,12 +22,7 @@ hold_none count lists is q there = ap (λ ls. row ls q) is ∙ row_none count q
 
 accepts_none : (s : Step) (q : ℕ) → accepted_by_step s ≡ None → accepted_in q s ≡ None
 accepts_none (Accept r e x) q none = absurd (none-some (r, e) (sym none))
-accepts_none (Give l r n) q none = refl
-accepts_none (Done l o) q none = refl
-accepts_none (More l e) q none = refl
-accepts_none (Turned l e) q none = refl
-accepts_none (Bounced l) q none = refl
-accepts_none Shut q none = refl
+accepts_none s q none = refl
 
 pub hold_still : (T : List Step) (lists : List (Vec Event Global)) (s : Step) → accepted_by_step s ≡ None → HoldAccepted T lists → HoldAccepted (T ++ s ∷ []) lists
 hold_still T lists s none hold q there = hold q there ∙ sym (accepted-none T q s (accepts_none s q none))

@@ -71,14 +71,11 @@ answers_said T l =
 
     by_step : (s : Step) → answer_of l s ≡ then outcome_said (said_in l s)
     by_step (Accept q e (New m)) = no_answer (m == l) (said_by ops.New e) refl
-    by_step (Accept q e (Of r n)) = refl
-    by_step (Give m q n) = refl
     by_step (Done m (Forwarded e)) = one (m == l) (Forwarded e)
     by_step (Done m Released) = one (m == l) Released
     by_step (More m e) = no_answer (m == l) (said_by ops.ForwardMore e) refl
     by_step (Turned m e) = no_answer (m == l) (said_by ops.New e) refl
-    by_step (Bounced m) = refl
-    by_step Shut = refl
+    by_step s = refl
 
 -- a lane that isn't there answers nothing
 no_lane_answers : (p : Plan) (T : List Step) (l : ℕ) → Lawful p T → lanes_of p ≤ l → answers T l ≡ []
@@ -217,22 +214,11 @@ shut_split (s ∷ T) closed = by_test (is_shut s) refl closed (shut_split T)
   where
     not_new : (t : Step) → is_new t ≡ false → new_in t ≡ None
     not_new (Accept q e (New l)) h = absurd (false≢true (sym h))
-    not_new (Accept q e (Of r n)) h = refl
-    not_new (Give l q n) h = refl
-    not_new (Done l o) h = refl
-    not_new (More l e) h = refl
-    not_new (Turned l e) h = refl
-    not_new (Bounced l) h = refl
-    not_new Shut h = refl
+    not_new s h = refl
 
     shut_not_new : (t : Step) → is_shut t ≡ true → new_in t ≡ None
     shut_not_new Shut h = refl
-    shut_not_new (Accept q e c) h = absurd (false≢true h)
-    shut_not_new (Give l q n) h = absurd (false≢true h)
-    shut_not_new (Done l o) h = absurd (false≢true h)
-    shut_not_new (More l e) h = absurd (false≢true h)
-    shut_not_new (Turned l e) h = absurd (false≢true h)
-    shut_not_new (Bounced l) h = absurd (false≢true h)
+    shut_not_new s h = absurd (false≢true h)
 
     by_test : (b : Bool) → is_shut s ≡ b → All (λ t. is_new t ≡ false) (cond b T (since_shut T))
         → (All (λ t. is_new t ≡ false) (since_shut T) → (rest : List Step) × (until_shut T ++ rest ≡ T) × (newcomers rest ≡ []))
@@ -263,14 +249,11 @@ front_news p T front rest lawful first split unturned =
     by_step (Accept q e (New l)) there h =
         let test : (l == 0) ≡ true = ap (λ m. m == 0) (new_lane p T q e l lawful first there) in
         sym (ap (then new_said) (cond-true (l == 0) (Some (said_by ops.New e)) None test))
-    by_step (Accept q e (Of r n)) there h = refl
-    by_step (Give l q n) there h = refl
     by_step (Done l (Forwarded e)) there h = none (l == 0) (said_outcome (Forwarded e)) refl
     by_step (Done l Released) there h = none (l == 0) (said_outcome Released) refl
     by_step (More l e) there h = none (l == 0) (said_by ops.ForwardMore e) refl
     by_step (Turned l e) there h = absurd (false≢true (sym h))
-    by_step (Bounced l) there h = refl
-    by_step Shut there h = refl
+    by_step s there h = refl
 
 news_of_trace : (trace : List Entry) → filter_map new_said (map said_new trace) ≡ map new_event trace
 news_of_trace [] = refl

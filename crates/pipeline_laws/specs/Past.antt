@@ -26,12 +26,7 @@ HoldAccepted T lists = (q : ℕ) → q < length lists → row (rows lists) q ≡
 -- the event that a step accepts, with its queue
 abbrev pub accepted_by_step : Step → Option (ℕ × Event)
 accepted_by_step (Accept q e s) = Some (q, e)
-accepted_by_step (Give l q n) = None
-accepted_by_step (Done l o) = None
-accepted_by_step (More l e) = None
-accepted_by_step (Turned l e) = None
-accepted_by_step (Bounced l) = None
-accepted_by_step Shut = None
+accepted_by_step s = None
 
 -- it knows what each queue accepted, what each lane was given, and how many of these the lane answered
 pub record Follows (T : List Step) (past : Past) : Type 0 where

@@ -66,13 +66,7 @@ new_event t =
 
 abbrev pub new_in : Step → Option Event
 new_in (Accept q e (New l)) = Some e
-new_in (Accept q e (Of r n)) = None
-new_in (Give l q n) = None
-new_in (Done l o) = None
-new_in (More l e) = None
-new_in (Turned l e) = None
-new_in (Bounced l) = None
-new_in Shut = None
+new_in s = None
 
 -- the events that were accepted as new, in order
 unfoldable pub newcomers : List Step → List Event

@@ -21,7 +21,7 @@ use Rattle.evt_types.specs.declared.step.Outcome.TheVariants.{Forwarded, Release
 use Rattle.evt_types.specs.declared.step.Source.{Source}
 use Rattle.evt_types.specs.declared.step.Source.TheVariants.{New, Of}
 use Rattle.evt_types.specs.declared.step.Step.{Step}
-use Rattle.evt_types.specs.declared.step.Step.TheVariants.{Accept, Give, Done, More, Turned, Bounced, Shut}
+use Rattle.evt_types.specs.declared.step.Step.TheVariants.{Accept, Give}
 use Rattle.step_tally.specs.Counts.{is_new_to, is_passed_to, new_to, passed_to, is_released, is_forwarded, released_by, forwarded_by}
 
 -- ---- for every transcript
@@ -49,12 +49,7 @@ new_or_passed q (Accept r e (Of m n)) = by_queue (r == q) e
     by_queue : (b : Bool) (e : Event) → 0 + cond b 1 0 ≡ length (cons_option (cond b (Some e) None) [])
     by_queue true e = refl
     by_queue false e = refl
-new_or_passed q (Give l r n) = refl
-new_or_passed q (Done l o) = refl
-new_or_passed q (More l e) = refl
-new_or_passed q (Turned l e) = refl
-new_or_passed q (Bounced l) = refl
-new_or_passed q Shut = refl
+new_or_passed q step = refl
 
 pub accepted_by_source : (T : List Step) (q : ℕ) → new_to T q + passed_to T q ≡ length (accepted T q)
 unfolding new_to passed_to accepted
@@ -161,11 +156,7 @@ record Balanced (p : Plan) (T : List Step) : Type 0 where
 waits_push : (p : Plan) (P : List Step) (s : Step) (q : ℕ) → Facts p P → Allowed p P s → Waits P q → Waits (P ++ s ∷ []) q
 waits_push p P (Accept r e c) q f a h = waits_accept p P r e c q f h
 waits_push p P (Give l r n) q f a h = waits_give p P l r n q a h
-waits_push p P (Done l o) q f a h = waits_still P (Done l o) q refl refl h
-waits_push p P (More l e) q f a h = waits_still P (More l e) q refl refl h
-waits_push p P (Turned l e) q f a h = waits_still P (Turned l e) q refl refl h
-waits_push p P (Bounced l) q f a h = waits_still P (Bounced l) q refl refl h
-waits_push p P Shut q f a h = waits_still P Shut q refl refl h
+waits_push p P step q f a h = waits_still P step q refl refl h
 
 pub accepted_by_give : (p : Plan) (T : List Step) (q : ℕ) → Lawful p T → length (accepted T q) ≡ length (hand T q) + length (waiting T q)
 accepted_by_give p T q h =

@@ -13,7 +13,7 @@ use Rattle.evt_types.specs.declared.step.Outcome.{Outcome}
 use Rattle.evt_types.specs.declared.step.Outcome.TheVariants.{Forwarded, Released}
 use Rattle.evt_types.specs.declared.step.Source.TheVariants.{New, Of}
 use Rattle.evt_types.specs.declared.step.Step.{Step}
-use Rattle.evt_types.specs.declared.step.Step.TheVariants.{Accept, Give, Done, More, Turned, Bounced, Shut}
+use Rattle.evt_types.specs.declared.step.Step.TheVariants.{Accept, Give, Done, More, Turned, Bounced}
 use Rattle.step_tally.specs.Counts.{is_new_to, is_passed_to, new_to, passed_to, queue_counts, is_released, is_forwarded, is_added_on, is_turned_on, is_bounced_on, released_by, forwarded_by, added_by, turned_on, bounced_on, lane_counts}
 use Rattle.step_tally.specs.Tables.{queue_in, queue_after, lane_in, lane_after, HasFewOfQueue, HasFewOfLane}
 use Rattle.step_tally.specs.declared.counts.LaneCounts.{LaneCounts}
@@ -40,22 +40,6 @@ filter_map_few f (x ∷ xs) = omega (arith, filter_map_few f xs, one_more (f x) 
 
 -- ---- queues
 
-new_more : (T : List Step) (s : Step) (q : ℕ) → is_new_to q s ≡ true → new_to (T ++ s ∷ []) q ≡ new_to T q + 1
-unfolding new_to
-new_more T s q h = count_more (is_new_to q) T s h
-
-new_still : (T : List Step) (s : Step) (q : ℕ) → is_new_to q s ≡ false → new_to (T ++ s ∷ []) q ≡ new_to T q
-unfolding new_to
-new_still T s q h = count_still (is_new_to q) T s h
-
-passed_more : (T : List Step) (s : Step) (q : ℕ) → is_passed_to q s ≡ true → passed_to (T ++ s ∷ []) q ≡ passed_to T q + 1
-unfolding passed_to
-passed_more T s q h = count_more (is_passed_to q) T s h
-
-passed_still : (T : List Step) (s : Step) (q : ℕ) → is_passed_to q s ≡ false → passed_to (T ++ s ∷ []) q ≡ passed_to T q
-unfolding passed_to
-passed_still T s q h = count_still (is_passed_to q) T s h
-
 handed_more : (T : List Step) (s : Step) (q n : ℕ) → given_of q s ≡ Some n → length (hand (T ++ s ∷ []) q) ≡ length (hand T q) + 1
 handed_more T s q n h = ap length (hand-some T q s n h) ∙ length_push (hand T q) n
 
@@ -69,25 +53,23 @@ same_queue h j k = cc
 -- a step that isn't counted of the queue
 queue_still : (T : List Step) (s : Step) (q : ℕ) → is_new_to q s ≡ false → is_passed_to q s ≡ false → given_of q s ≡ None
     → queue_counts (T ++ s ∷ []) q ≡ queue_counts T q
+unfolding new_to passed_to
 queue_still T s q h j k =
-    same_queue (new_still T s q h) (passed_still T s q j) (handed_still T s q k)
+    same_queue (count_still (is_new_to q) T s h) (count_still (is_passed_to q) T s j) (handed_still T s q k)
 
 pub queue_counts-same : (T : List Step) (s : Step) (q : ℕ) → queue_in s ≡ Some q → queue_counts (T ++ s ∷ []) q ≡ queue_after (queue_counts T q) s
+unfolding new_to passed_to
 queue_counts-same T (Accept r e (New l)) q h =
     let s = Accept r e (New l) in
-    same_queue (new_more T s q (eq-eqb r q (same_Some r q h))) (passed_still T s q refl) (handed_still T s q refl)
+    same_queue (count_more (is_new_to q) T s (eq-eqb r q (same_Some r q h))) (count_still (is_passed_to q) T s refl) (handed_still T s q refl)
 queue_counts-same T (Accept r e (Of m n)) q h =
     let s = Accept r e (Of m n) in
-    same_queue (new_still T s q refl) (passed_more T s q (eq-eqb r q (same_Some r q h))) (handed_still T s q refl)
+    same_queue (count_still (is_new_to q) T s refl) (count_more (is_passed_to q) T s (eq-eqb r q (same_Some r q h))) (handed_still T s q refl)
 queue_counts-same T (Give l r n) q h =
     let s = Give l r n in
-    same_queue (new_still T s q refl) (passed_still T s q refl)
+    same_queue (count_still (is_new_to q) T s refl) (count_still (is_passed_to q) T s refl)
     (handed_more T s q n (cond-true (r == q) (Some n) None (eq-eqb r q (same_Some r q h))))
-queue_counts-same T (Done l o) q h = absurd (none-some q h)
-queue_counts-same T (More l e) q h = absurd (none-some q h)
-queue_counts-same T (Turned l e) q h = absurd (none-some q h)
-queue_counts-same T (Bounced l) q h = absurd (none-some q h)
-queue_counts-same T Shut q h = absurd (none-some q h)
+queue_counts-same T step q h = absurd (none-some q h)
 
 pub queue_counts-other : (T : List Step) (s : Step) (q : ℕ) → queue_in s ≢ Some q → queue_counts (T ++ s ∷ []) q ≡ queue_counts T q
 queue_counts-other T (Accept r e (New l)) q h =
@@ -95,11 +77,7 @@ queue_counts-other T (Accept r e (New l)) q h =
 queue_counts-other T (Accept r e (Of m n)) q h =
     queue_still T (Accept r e (Of m n)) q refl (eqb_other r q (λ same. h (ap Some same))) refl
 queue_counts-other T (Give l r n) q h = queue_still T (Give l r n) q refl refl (given_of-other l q r n (λ same. h (ap Some same)))
-queue_counts-other T (Done l o) q h = queue_still T (Done l o) q refl refl refl
-queue_counts-other T (More l e) q h = queue_still T (More l e) q refl refl refl
-queue_counts-other T (Turned l e) q h = queue_still T (Turned l e) q refl refl refl
-queue_counts-other T (Bounced l) q h = queue_still T (Bounced l) q refl refl refl
-queue_counts-other T Shut q h = queue_still T Shut q refl refl refl
+queue_counts-other T step q h = queue_still T step q refl refl refl
 
 pub queue_counts_few : (T : List Step) (q : ℕ) → length T < 2 ^ 63 → HasFewOfQueue (queue_counts T q)
 unfolding new_to passed_to hand
@@ -126,106 +104,78 @@ answers_other : (p : Outcome → Bool) (T : List Step) (s : Step) (l : ℕ) (o :
     → count_by p (answers (T ++ s ∷ []) l) ≡ count_by p (answers T l)
 answers_other p T s l o h k = ap (count_by p) (answers-some T l s o h) ∙ count_still p (answers T l) o k
 
-released_more : (T : List Step) (s : Step) (l : ℕ) → answer_of l s ≡ Some Released → released_by (T ++ s ∷ []) l ≡ released_by T l + 1
-unfolding released_by
-released_more T s l h = answers_more is_released T s l Released h refl
-
-released_other : (T : List Step) (s : Step) (l : ℕ) (e : Event) → answer_of l s ≡ Some (Forwarded e)
-    → released_by (T ++ s ∷ []) l ≡ released_by T l
-unfolding released_by
-released_other T s l e h = answers_other is_released T s l (Forwarded e) h refl
-
-released_still : (T : List Step) (s : Step) (l : ℕ) → answer_of l s ≡ None → released_by (T ++ s ∷ []) l ≡ released_by T l
-unfolding released_by
-released_still T s l h = ap (count_by is_released) (answers-none T l s h)
-
-forwarded_more : (T : List Step) (s : Step) (l : ℕ) (e : Event) → answer_of l s ≡ Some (Forwarded e)
-    → forwarded_by (T ++ s ∷ []) l ≡ forwarded_by T l + 1
-unfolding forwarded_by
-forwarded_more T s l e h = answers_more is_forwarded T s l (Forwarded e) h refl
-
-forwarded_other : (T : List Step) (s : Step) (l : ℕ) → answer_of l s ≡ Some Released → forwarded_by (T ++ s ∷ []) l ≡ forwarded_by T l
-unfolding forwarded_by
-forwarded_other T s l h = answers_other is_forwarded T s l Released h refl
-
-forwarded_still : (T : List Step) (s : Step) (l : ℕ) → answer_of l s ≡ None → forwarded_by (T ++ s ∷ []) l ≡ forwarded_by T l
-unfolding forwarded_by
-forwarded_still T s l h = ap (count_by is_forwarded) (answers-none T l s h)
-
-added_more : (T : List Step) (s : Step) (l : ℕ) → is_added_on l s ≡ true → added_by (T ++ s ∷ []) l ≡ added_by T l + 1
-unfolding added_by
-added_more T s l h = count_more (is_added_on l) T s h
-
-added_still : (T : List Step) (s : Step) (l : ℕ) → is_added_on l s ≡ false → added_by (T ++ s ∷ []) l ≡ added_by T l
-unfolding added_by
-added_still T s l h = count_still (is_added_on l) T s h
-
-turned_more : (T : List Step) (s : Step) (l : ℕ) → is_turned_on l s ≡ true → turned_on (T ++ s ∷ []) l ≡ turned_on T l + 1
-unfolding turned_on
-turned_more T s l h = count_more (is_turned_on l) T s h
-
-turned_still : (T : List Step) (s : Step) (l : ℕ) → is_turned_on l s ≡ false → turned_on (T ++ s ∷ []) l ≡ turned_on T l
-unfolding turned_on
-turned_still T s l h = count_still (is_turned_on l) T s h
-
-bounced_more : (T : List Step) (s : Step) (l : ℕ) → is_bounced_on l s ≡ true → bounced_on (T ++ s ∷ []) l ≡ bounced_on T l + 1
-unfolding bounced_on
-bounced_more T s l h = count_more (is_bounced_on l) T s h
-
-bounced_still : (T : List Step) (s : Step) (l : ℕ) → is_bounced_on l s ≡ false → bounced_on (T ++ s ∷ []) l ≡ bounced_on T l
-unfolding bounced_on
-bounced_still T s l h = count_still (is_bounced_on l) T s h
+answers_still : (p : Outcome → Bool) (T : List Step) (s : Step) (l : ℕ) → answer_of l s ≡ None
+    → count_by p (answers (T ++ s ∷ []) l) ≡ count_by p (answers T l)
+answers_still p T s l h = ap (count_by p) (answers-none T l s h)
 
 pub same_lane : {a b c d e f g h i j k m : ℕ} → a ≡ g → b ≡ h → c ≡ i → d ≡ j → e ≡ k → f ≡ m
     → ◌≡◌ {A = LaneCounts} (record { tx = a; released = b; forwarded = c; added = d; turned = e; bounced = f })
     (record { tx = g; released = h; forwarded = i; added = j; turned = k; bounced = m })
 same_lane n o p q r s = cc
 
+-- what neither gives nor adds, turns away or bounces an event
+lane_answered : (T : List Step) (s : Step) (l : ℕ) {r f : ℕ} → given_to l s ≡ None → is_added_on l s ≡ false → is_turned_on l s ≡ false
+    → is_bounced_on l s ≡ false → count_by is_released (answers (T ++ s ∷ []) l) ≡ r → count_by is_forwarded (answers (T ++ s ∷ []) l) ≡ f
+    → lane_counts (T ++ s ∷ []) l ≡ record (lane_counts T l) { released = r; forwarded = f }
+unfolding released_by forwarded_by added_by turned_on bounced_on
+lane_answered T s l g a t b released forwarded =
+    same_lane (out_still T s l g) released forwarded
+    (count_still (is_added_on l) T s a) (count_still (is_turned_on l) T s t) (count_still (is_bounced_on l) T s b)
+
 -- a step that isn't counted of the lane
 lane_still : (T : List Step) (s : Step) (l : ℕ) → given_to l s ≡ None → answer_of l s ≡ None → is_added_on l s ≡ false → is_turned_on l s ≡ false
     → is_bounced_on l s ≡ false → lane_counts (T ++ s ∷ []) l ≡ lane_counts T l
+unfolding released_by forwarded_by added_by turned_on bounced_on
 lane_still T s l g o a t b =
-    same_lane (out_still T s l g) (released_still T s l o) (forwarded_still T s l o)
-    (added_still T s l a) (turned_still T s l t) (bounced_still T s l b)
+    lane_answered T s l g a t b (answers_still is_released T s l o) (answers_still is_forwarded T s l o)
+
+-- an answer
+lane_done : (T : List Step) (m l : ℕ) (o : Outcome) → answer_of l (Done m o) ≡ Some o → lane_counts (T ++ Done m o ∷ []) l ≡ lane_after (lane_counts T l) (Done m o)
+unfolding released_by forwarded_by added_by turned_on bounced_on
+lane_done T m l Released here =
+    let s = Done m Released in
+    lane_answered T s l refl refl refl refl (answers_more is_released T s l Released here refl) (answers_other is_forwarded T s l Released here refl)
+lane_done T m l (Forwarded e) here =
+    let s = Done m (Forwarded e) in
+    lane_answered T s l refl refl refl refl (answers_other is_released T s l (Forwarded e) here refl) (answers_more is_forwarded T s l (Forwarded e) here refl)
+
+-- a step that is no answer
+lane_unanswered : (T : List Step) (s : Step) (l : ℕ) {g a t b : ℕ} → answer_of l s ≡ None → length (out (T ++ s ∷ []) l) ≡ g
+    → count_by (is_added_on l) (T ++ s ∷ []) ≡ a → count_by (is_turned_on l) (T ++ s ∷ []) ≡ t → count_by (is_bounced_on l) (T ++ s ∷ []) ≡ b
+    → lane_counts (T ++ s ∷ []) l ≡ record (lane_counts T l) { tx = g; added = a; turned = t; bounced = b }
+unfolding released_by forwarded_by added_by turned_on bounced_on
+lane_unanswered T s l o given added turned bounced =
+    same_lane given (answers_still is_released T s l o) (answers_still is_forwarded T s l o) added turned bounced
 
 pub lane_counts-same : (T : List Step) (s : Step) (l : ℕ) → lane_in s ≡ Some l → lane_counts (T ++ s ∷ []) l ≡ lane_after (lane_counts T l) s
-lane_counts-same T (Accept q e c) l h = absurd (none-some l h)
+unfolding released_by forwarded_by added_by turned_on bounced_on
 lane_counts-same T (Give m q n) l h =
     let s = Give m q n in
-    same_lane (out_more T s l (q, n) (cond-true (m == l) (Some (q, n)) None (eq-eqb m l (same_Some m l h)))) (released_still T s l refl)
-    (forwarded_still T s l refl) (added_still T s l refl) (turned_still T s l refl) (bounced_still T s l refl)
-lane_counts-same T (Done m Released) l h =
-    let s = Done m Released in
-    let here : answer_of l s ≡ Some Released = cond-true (m == l) (Some Released) None (eq-eqb m l (same_Some m l h)) in
-    same_lane (out_still T s l refl) (released_more T s l here)
-    (forwarded_other T s l here) (added_still T s l refl) (turned_still T s l refl) (bounced_still T s l refl)
-lane_counts-same T (Done m (Forwarded e)) l h =
-    let s = Done m (Forwarded e) in
-    let here : answer_of l s ≡ Some (Forwarded e) = cond-true (m == l) (Some (Forwarded e)) None (eq-eqb m l (same_Some m l h)) in
-    same_lane (out_still T s l refl) (released_other T s l e here)
-    (forwarded_more T s l e here) (added_still T s l refl) (turned_still T s l refl) (bounced_still T s l refl)
+    let here = out_more T s l (q, n) (cond-true (m == l) (Some (q, n)) None (eq-eqb m l (same_Some m l h))) in
+    lane_unanswered T s l refl here (count_still (is_added_on l) T s refl) (count_still (is_turned_on l) T s refl) (count_still (is_bounced_on l) T s refl)
+lane_counts-same T (Done m o) l h =
+    lane_done T m l o (cond-true (m == l) (Some o) None (eq-eqb m l (same_Some m l h)))
 lane_counts-same T (More m e) l h =
     let s = More m e in
-    same_lane (out_still T s l refl) (released_still T s l refl)
-    (forwarded_still T s l refl) (added_more T s l (eq-eqb m l (same_Some m l h))) (turned_still T s l refl) (bounced_still T s l refl)
+    let here = count_more (is_added_on l) T s (eq-eqb m l (same_Some m l h)) in
+    lane_unanswered T s l refl (out_still T s l refl) here (count_still (is_turned_on l) T s refl) (count_still (is_bounced_on l) T s refl)
 lane_counts-same T (Turned m e) l h =
     let s = Turned m e in
-    same_lane (out_still T s l refl) (released_still T s l refl)
-    (forwarded_still T s l refl) (added_still T s l refl) (turned_more T s l (eq-eqb m l (same_Some m l h))) (bounced_still T s l refl)
+    let here = count_more (is_turned_on l) T s (eq-eqb m l (same_Some m l h)) in
+    lane_unanswered T s l refl (out_still T s l refl) (count_still (is_added_on l) T s refl) here (count_still (is_bounced_on l) T s refl)
 lane_counts-same T (Bounced m) l h =
     let s = Bounced m in
-    same_lane (out_still T s l refl) (released_still T s l refl)
-    (forwarded_still T s l refl) (added_still T s l refl) (turned_still T s l refl) (bounced_more T s l (eq-eqb m l (same_Some m l h)))
-lane_counts-same T Shut l h = absurd (none-some l h)
+    let here = count_more (is_bounced_on l) T s (eq-eqb m l (same_Some m l h)) in
+    lane_unanswered T s l refl (out_still T s l refl) (count_still (is_added_on l) T s refl) (count_still (is_turned_on l) T s refl) here
+lane_counts-same T step l h = absurd (none-some l h)
 
 pub lane_counts-other : (T : List Step) (s : Step) (l : ℕ) → lane_in s ≢ Some l → lane_counts (T ++ s ∷ []) l ≡ lane_counts T l
-lane_counts-other T (Accept q e c) l h = lane_still T (Accept q e c) l refl refl refl refl refl
 lane_counts-other T (Give m q n) l h = lane_still T (Give m q n) l (given_to-other l m q n (λ same. h (ap Some same))) refl refl refl refl
 lane_counts-other T (Done m o) l h = lane_still T (Done m o) l refl (answer_of-other l m o (λ same. h (ap Some same))) refl refl refl
 lane_counts-other T (More m e) l h = lane_still T (More m e) l refl refl (eqb_other m l (λ same. h (ap Some same))) refl refl
 lane_counts-other T (Turned m e) l h = lane_still T (Turned m e) l refl refl refl (eqb_other m l (λ same. h (ap Some same))) refl
 lane_counts-other T (Bounced m) l h = lane_still T (Bounced m) l refl refl refl refl (eqb_other m l (λ same. h (ap Some same)))
-lane_counts-other T Shut l h = lane_still T Shut l refl refl refl refl refl
+lane_counts-other T step l h = lane_still T step l refl refl refl refl refl
 
 answers_few : (p : Outcome → Bool) (T : List Step) (l : ℕ) → count_by p (answers T l) ≤ length T
 unfolding answers

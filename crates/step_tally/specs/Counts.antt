@@ -6,7 +6,7 @@ use Rattle.evt_types.specs.declared.step.Outcome.{Outcome}
 use Rattle.evt_types.specs.declared.step.Outcome.TheVariants.{Forwarded, Released}
 use Rattle.evt_types.specs.declared.step.Source.TheVariants.{New, Of}
 use Rattle.evt_types.specs.declared.step.Step.{Step}
-use Rattle.evt_types.specs.declared.step.Step.TheVariants.{Accept, Give, Done, More, Turned, Bounced, Shut}
+use Rattle.evt_types.specs.declared.step.Step.TheVariants.{Accept, More, Turned, Bounced}
 use Rattle.step_tally.specs.declared.counts.LaneCounts.{LaneCounts}
 use Rattle.step_tally.specs.declared.counts.QueueCounts.{QueueCounts}
 
@@ -15,24 +15,12 @@ use Rattle.step_tally.specs.declared.counts.QueueCounts.{QueueCounts}
 -- an Accept of the queue from a NEW
 abbrev pub is_new_to : ℕ → Step → Bool
 is_new_to q (Accept r e (New l)) = r == q
-is_new_to q (Accept r e (Of s n)) = false
-is_new_to q (Give l r n) = false
-is_new_to q (Done l o) = false
-is_new_to q (More l e) = false
-is_new_to q (Turned l e) = false
-is_new_to q (Bounced l) = false
-is_new_to q Shut = false
+is_new_to q step = false
 
 -- an Accept of the queue of what an event was passed on as
 abbrev pub is_passed_to : ℕ → Step → Bool
 is_passed_to q (Accept r e (Of s n)) = r == q
-is_passed_to q (Accept r e (New l)) = false
-is_passed_to q (Give l r n) = false
-is_passed_to q (Done l o) = false
-is_passed_to q (More l e) = false
-is_passed_to q (Turned l e) = false
-is_passed_to q (Bounced l) = false
-is_passed_to q Shut = false
+is_passed_to q step = false
 
 -- how many events the queue accepted as new, and how many of what others were passed on as
 unfoldable pub new_to : List Step → ℕ → ℕ
@@ -57,30 +45,15 @@ is_forwarded Released = false
 -- an event that was added on the lane, a NEW of it that was turned away, a delivery that its ring had no room for
 abbrev pub is_added_on : ℕ → Step → Bool
 is_added_on l (More m e) = m == l
-is_added_on l (Accept q e s) = false
-is_added_on l (Give m q n) = false
-is_added_on l (Done m o) = false
-is_added_on l (Turned m e) = false
-is_added_on l (Bounced m) = false
-is_added_on l Shut = false
+is_added_on l step = false
 
 abbrev pub is_turned_on : ℕ → Step → Bool
 is_turned_on l (Turned m e) = m == l
-is_turned_on l (Accept q e s) = false
-is_turned_on l (Give m q n) = false
-is_turned_on l (Done m o) = false
-is_turned_on l (More m e) = false
-is_turned_on l (Bounced m) = false
-is_turned_on l Shut = false
+is_turned_on l step = false
 
 abbrev pub is_bounced_on : ℕ → Step → Bool
 is_bounced_on l (Bounced m) = m == l
-is_bounced_on l (Accept q e s) = false
-is_bounced_on l (Give m q n) = false
-is_bounced_on l (Done m o) = false
-is_bounced_on l (More m e) = false
-is_bounced_on l (Turned m e) = false
-is_bounced_on l Shut = false
+is_bounced_on l step = false
 
 -- how many of the lane's answers are RELEASEs, and how many FORWARDs
 unfoldable pub released_by : List Step → ℕ → ℕ

@@ -26,22 +26,14 @@ pub record AreTables (T : List Step) (by_queue : List QueueCounts) (by_lane : Li
 abbrev pub queue_in : Step → Option ℕ
 queue_in (Accept q e s) = Some q
 queue_in (Give l q n) = Some q
-queue_in (Done l o) = None
-queue_in (More l e) = None
-queue_in (Turned l e) = None
-queue_in (Bounced l) = None
-queue_in Shut = None
+queue_in step = None
 
 -- the counts of its queue after it
 abbrev pub queue_after : QueueCounts → Step → QueueCounts
 queue_after c (Accept q e (New l)) = record c { rx_new = c.rx_new + 1 }
 queue_after c (Accept q e (Of r n)) = record c { rx_forwarded = c.rx_forwarded + 1 }
 queue_after c (Give l q n) = record c { tx = c.tx + 1 }
-queue_after c (Done l o) = c
-queue_after c (More l e) = c
-queue_after c (Turned l e) = c
-queue_after c (Bounced l) = c
-queue_after c Shut = c
+queue_after c step = c
 
 -- the lane of which the step is counted
 abbrev pub lane_in : Step → Option ℕ
@@ -55,14 +47,13 @@ lane_in Shut = None
 
 -- the counts of its lane after it
 abbrev pub lane_after : LaneCounts → Step → LaneCounts
-lane_after c (Accept q e s) = c
 lane_after c (Give l q n) = record c { tx = c.tx + 1 }
 lane_after c (Done l Released) = record c { released = c.released + 1 }
 lane_after c (Done l (Forwarded e)) = record c { forwarded = c.forwarded + 1 }
 lane_after c (More l e) = record c { added = c.added + 1 }
 lane_after c (Turned l e) = record c { turned = c.turned + 1 }
 lane_after c (Bounced l) = record c { bounced = c.bounced + 1 }
-lane_after c Shut = c
+lane_after c step = c
 
 -- no count is at its greatest
 pub record HasFewOfQueue (c : QueueCounts) : Type 0 where

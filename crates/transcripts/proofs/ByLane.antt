@@ -43,13 +43,10 @@ weight_if w (Some x) = w x
 -- the weight of what was said where the step was taken, by whatever lane
 abbrev pub step_weight : (Said → ℕ) → Step → ℕ
 step_weight w (Accept q e (New l)) = w (said_by ops.New e)
-step_weight w (Accept q e (Of r n)) = 0
-step_weight w (Give l q n) = 0
 step_weight w (Done l o) = w (said_of o)
 step_weight w (More l e) = w (said_by ops.ForwardMore e)
 step_weight w (Turned l e) = w (said_by ops.New e)
-step_weight w (Bounced l) = 0
-step_weight w Shut = 0
+step_weight w s = 0
 
 weight_cons : (w : Said → ℕ) (o : Option Said) (xs : List Said) → sum_by w (cons_option o xs) ≡ weight_if w o + sum_by w xs
 unfolding weight_if
@@ -94,36 +91,18 @@ is_more_said x = is_more_op x.op
 
 news_weight : (s : Step) → step_weight (λ x. cond (is_new_said x) 1 0) s ≡ cond (is_new s) 1 0 + cond (is_turned s) 1 0
 news_weight (Accept q e (New l)) = refl
-news_weight (Accept q e (Of r n)) = refl
-news_weight (Give l q n) = refl
-news_weight (Done l (Forwarded e)) = refl
 news_weight (Done l Released) = refl
-news_weight (More l e) = refl
-news_weight (Turned l e) = refl
-news_weight (Bounced l) = refl
-news_weight Shut = refl
+news_weight s = refl
 
 releases_weight : (s : Step) → step_weight (λ x. cond (is_release_said x) 1 0) s ≡ cond (is_release s) 1 0
 releases_weight (Accept q e (New l)) = refl
-releases_weight (Accept q e (Of r n)) = refl
-releases_weight (Give l q n) = refl
-releases_weight (Done l (Forwarded e)) = refl
 releases_weight (Done l Released) = refl
-releases_weight (More l e) = refl
-releases_weight (Turned l e) = refl
-releases_weight (Bounced l) = refl
-releases_weight Shut = refl
+releases_weight s = refl
 
 mores_weight : (s : Step) → step_weight (λ x. cond (is_more_said x) 1 0) s ≡ cond (is_more s) 1 0
 mores_weight (Accept q e (New l)) = refl
-mores_weight (Accept q e (Of r n)) = refl
-mores_weight (Give l q n) = refl
-mores_weight (Done l (Forwarded e)) = refl
 mores_weight (Done l Released) = refl
-mores_weight (More l e) = refl
-mores_weight (Turned l e) = refl
-mores_weight (Bounced l) = refl
-mores_weight Shut = refl
+mores_weight s = refl
 
 -- the NEWs of all lanes were accepted or turned away
 pub news_by_lane : (p : Plan) (T : List Step) → All (HasLane p) T → sum_by (λ l. count_by is_new_said (replies_in T l)) (lanes p) ≡ new_count T + turned_count T

@@ -25,8 +25,7 @@ use Rattle.evt_types.specs.declared.step.Source.TheVariants.{New, Of}
 use Rattle.evt_types.specs.declared.step.Step.{Step}
 use Rattle.evt_types.specs.declared.step.Step.TheVariants.{Accept, Give, Done, More, Turned, Bounced, Shut}
 use Rattle.transcripts.proofs.AnsweredPlaces.{places_plain}
-use Rattle.lists.proofs.Lists.{eqb_same, eqb_other}
-use Rattle.transcripts.proofs.PlaceFacts.{Differ, answer_none, add_none, places_differ, place_forwards, places_fit, held_has_place}
+use Rattle.transcripts.proofs.PlaceFacts.{ChangesOnly, Differ, add_only, answer_only, changes_none, places_differ, place_forwards, places_fit, held_has_place}
 use Rattle.transcripts.proofs.Pushes.{events_few}
 use Rattle.transcripts.proofs.Replies.{accepts_of-of, added_of-of}
 use Rattle.lists.proofs.Sums.{sum_agree}
@@ -72,74 +71,37 @@ accepts_count q ps =
     length-flat_map (λ (x : Place). accepts_from q x.number x.forwards) ps
     ∙ sum_agree (λ (x : Place). length (accepts_from q x.number x.forwards)) sent_as ps (λ k d lt. length-map (get_or ps k d).forwards _)
 
--- of places with different numbers an answer adds one event at most
-answered_few : (n : ℕ) (o : Outcome) (ps : List Place) → AllPairs Differ ps → sent_by (map (answer_place n o) ps) ≤ sent_by ps + 1
-answered_few n o [] differ = omega arith
-answered_few n o (x ∷ ps) differ =
-    by_number (answered_few n o ps (λ i j d lt within. differ (suc i) (suc j) d (omega arith) (omega arith))) (cases_eq x.number n)
+-- where of places with different numbers one changes, which one event more at most was passed on as
+changed_few : (n : ℕ) (f g : Place → Place) (ps : List Place) → ChangesOnly n f g → ((x : Place) → sent_as (g x) ≤ sent_as x + 1) → AllPairs Differ ps
+    → sent_by (map f ps) ≤ sent_by ps + 1
+changed_few n f g [] only one differ = omega arith
+changed_few n f g (x ∷ ps) only one differ =
+    by_number (changed_few n f g ps only one (λ i j d lt within. differ (suc i) (suc j) d (omega arith) (omega arith))) (cases_eq x.number n)
   where
-    new : Place
-    new = record { number = n; answered = true; forwards = x.forwards ++ events_of o }
-
-    rest : List Place
-    rest = map (answer_place n o) ps
-
-    by_number : sent_by rest ≤ sent_by ps + 1 → (x.number ≡ n) ⊎ (x.number ≢ n) → sent_by (map (answer_place n o) (x ∷ ps)) ≤ sent_by (x ∷ ps) + 1
-    by_number more (inl same) =
-        let first : answer_place n o x ≡ new = cond-true (x.number == n) new x (ap (λ m. m == n) same ∙ eqb_same n) in
-        let others : rest ≡ ps = answer_none ps n o (λ k d lt e. differ 0 (suc k) d (omega arith) (omega arith) (same ∙ sym e)) in
-        omega (
-          arith,
-          sum_by-cons sent_as (answer_place n o x) rest,
-          ap sent_as first,
-          ap sent_by others,
-          length-append x.forwards (events_of o),
-          events_few o,
-          sum_by-cons sent_as x ps,
-        )
+    by_number : sent_by (map f ps) ≤ sent_by ps + 1 → (x.number ≡ n) ⊎ (x.number ≢ n) → sent_by (map f (x ∷ ps)) ≤ sent_by (x ∷ ps) + 1
+    by_number more (inl is) =
+        let others : map f ps ≡ ps = changes_none n f g ps only (λ k d lt e. differ 0 (suc k) d (omega arith) (omega arith) (is ∙ sym e)) in
+        omega (arith, sum_by-cons sent_as (f x) (map f ps), ap sent_as (only.here x is), one x, ap sent_by others, sum_by-cons sent_as x ps)
     by_number more (inr other) =
-        let first : answer_place n o x ≡ x = cond-false (x.number == n) new x (eqb_other x.number n other) in
-        omega (arith, sum_by-cons sent_as (answer_place n o x) rest, ap sent_as first, more, sum_by-cons sent_as x ps)
+        omega (arith, sum_by-cons sent_as (f x) (map f ps), ap sent_as (only.others x other), more, sum_by-cons sent_as x ps)
+
+-- an answer adds one event at most
+answered_few : (n : ℕ) (o : Outcome) (ps : List Place) → AllPairs Differ ps → sent_by (map (answer_place n o) ps) ≤ sent_by ps + 1
+answered_few n o ps differ =
+    changed_few n (answer_place n o) _ ps (answer_only n o) (λ x. omega (arith, length-append x.forwards (events_of o), events_few o)) differ
 
 -- and so does an addition
 added_few : (n : ℕ) (e : Event) (ps : List Place) → AllPairs Differ ps → sent_by (map (add_to_place n e) ps) ≤ sent_by ps + 1
-added_few n e [] differ = omega arith
-added_few n e (x ∷ ps) differ =
-    by_number (added_few n e ps (λ i j d lt within. differ (suc i) (suc j) d (omega arith) (omega arith))) (cases_eq x.number n)
-  where
-    new : Place
-    new = record { number = n; answered = x.answered; forwards = x.forwards ++ e ∷ [] }
-
-    rest : List Place
-    rest = map (add_to_place n e) ps
-
-    by_number : sent_by rest ≤ sent_by ps + 1 → (x.number ≡ n) ⊎ (x.number ≢ n) → sent_by (map (add_to_place n e) (x ∷ ps)) ≤ sent_by (x ∷ ps) + 1
-    by_number more (inl same) =
-        let first : add_to_place n e x ≡ new = cond-true (x.number == n) new x (ap (λ m. m == n) same ∙ eqb_same n) in
-        let others : rest ≡ ps = add_none ps n e (λ k d lt is. differ 0 (suc k) d (omega arith) (omega arith) (same ∙ sym is)) in
-        omega (
-          arith,
-          sum_by-cons sent_as (add_to_place n e x) rest,
-          ap sent_as first,
-          ap sent_by others,
-          length_push x.forwards e,
-          sum_by-cons sent_as x ps,
-        )
-    by_number more (inr other) =
-        let first : add_to_place n e x ≡ x = cond-false (x.number == n) new x (eqb_other x.number n other) in
-        omega (arith, sum_by-cons sent_as (add_to_place n e x) rest, ap sent_as first, more, sum_by-cons sent_as x ps)
+added_few n e ps differ = changed_few n (add_to_place n e) _ ps (add_only n e) (λ x. omega (arith, length_push x.forwards e)) differ
 
 -- ---- what is kept
 
 -- an event that was passed on and is accepted leaves the places as they are
 accept_keeps : (v : View) (s : Step) → is_from_of s ≡ true → (after_step v s).places ≡ v.places
-accept_keeps v (Accept q e c) h = refl
 accept_keeps v (Give l q n) h = absurd (false≢true h)
 accept_keeps v (Done l o) h = absurd (false≢true h)
 accept_keeps v (More l e) h = absurd (false≢true h)
-accept_keeps v (Turned l e) h = refl
-accept_keeps v (Bounced l) h = refl
-accept_keeps v Shut h = refl
+accept_keeps v s h = refl
 
 accepts_keep : (v : View) (steps : List Step) → All (λ s. is_from_of s ≡ true) steps → (after v steps).places ≡ v.places
 accepts_keep v [] all = refl

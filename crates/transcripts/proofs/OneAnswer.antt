@@ -87,13 +87,7 @@ record FromOf (s : Step) : Type 0 where
 
 from_of_is : (s : Step) → is_from_of s ≡ true → FromOf s
 from_of_is (Accept r e (Of q n)) h = record { into = r; event = e; queue = q; number = n; is = refl }
-from_of_is (Accept r e (New l)) h = absurd (false≢true h)
-from_of_is (Give l q n) h = absurd (false≢true h)
-from_of_is (Done l o) h = absurd (false≢true h)
-from_of_is (More l e) h = absurd (false≢true h)
-from_of_is (Turned l e) h = absurd (false≢true h)
-from_of_is (Bounced l) h = absurd (false≢true h)
-from_of_is Shut h = absurd (false≢true h)
+from_of_is s h = absurd (false≢true h)
 
 -- ---- a number that was passed over
 

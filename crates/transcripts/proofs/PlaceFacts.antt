@@ -1,6 +1,6 @@
 -- What holds of the places of an ordered queue wherever a core stands: they have different numbers, each was passed on as five events at
 -- most and as four where it waits for its answer, and each unanswered event has one that waits.
-use Rattle.std.proofs.Common.{◌≡◌, ◌≢◌, ℕ, zero, suc, ◌+◌, ◌<◌, ◌≤◌, true, false, ◌==◌, List, [], ◌∷◌, ◌++◌, length, map, set, take_while, get_or, All, AllPairs, Contains, ⊎_elim, refl, sym, ap, ◌∙◌, subst, arith}
+use Rattle.std.proofs.Common.{◌≡◌, ◌≢◌, ℕ, zero, suc, ◌+◌, ◌<◌, ◌≤◌, true, false, cond, ◌==◌, List, [], ◌∷◌, ◌++◌, length, map, set, take_while, get_or, All, AllPairs, Contains, ⊎_elim, refl, sym, ap, ◌∙◌, subst, arith}
 use Rattle.std.proofs.lemmas.Bool.{false≢true, cond-true, cond-false, cond_both}
 use Rattle.std.proofs.lemmas.List.{length-append, length-map, get_or-append-add}
 use Rattle.std.proofs.lemmas.List.Elements.{All-nil, All-head, All-tail, All-contains, All-drop, All-map, Contains-append_right}
@@ -40,61 +40,57 @@ Contains-map f [] x c = absurd (no_place c.0 c.1)
 Contains-map f (y ∷ ys) x (zero, within, is) = (zero, omega arith, ap f is)
 Contains-map f (y ∷ ys) x (suc k, within, is) = Contains-append_right (f y ∷ []) (map f ys) (f x) (Contains-map f ys x (k, omega arith, is))
 
--- ---- one place is answered
+-- ---- one place changes
 
 abbrev pub Differ : Place → Place → Type 0
 Differ x y = x.number ≢ y.number
 
--- an answer to a number that no place has changes none
-pub answer_none : (ps : List Place) (n : ℕ) (o : Outcome) → All (λ (y : Place). y.number ≢ n) ps → map (answer_place n o) ps ≡ ps
-answer_none [] n o all = refl
-answer_none (y ∷ ps) n o all =
-    ap (λ z. z ∷ map (answer_place n o) ps) (cond-false (y.number == n)
-    (record { number = n; answered = true; forwards = y.forwards ++ events_of o }) y
-    (eqb_other y.number n (All-head (λ (z : Place). z.number ≢ n) y ps all)))
-    ∙ ap (λ zs. y ∷ zs) (answer_none ps n o (All-tail (λ (z : Place). z.number ≢ n) y ps all))
+-- of places those of the number change alone, as g says
+pub record ChangesOnly (n : ℕ) (f g : Place → Place) : Type 0 where
+  pub here : (x : Place) → x.number ≡ n → f x ≡ g x
+  pub others : (x : Place) → x.number ≢ n → f x ≡ x
 
--- of places with different numbers an answer changes the one of its number alone
+-- where no place has the number none changes
+pub changes_none : (n : ℕ) (f g : Place → Place) (ps : List Place) → ChangesOnly n f g → All (λ (y : Place). y.number ≢ n) ps → map f ps ≡ ps
+changes_none n f g [] only all = refl
+changes_none n f g (y ∷ ps) only all =
+    ap (λ z. z ∷ map f ps) (only.others y (All-head (λ (z : Place). z.number ≢ n) y ps all))
+    ∙ ap (λ zs. y ∷ zs) (changes_none n f g ps only (All-tail (λ (z : Place). z.number ≢ n) y ps all))
+
+-- of places with different numbers one changes
+changes_at : (n : ℕ) (f g : Place → Place) (ps : List Place) (i : ℕ) (d : Place) → ChangesOnly n f g → AllPairs Differ ps → i < length ps
+    → (get_or ps i d).number ≡ n → map f ps ≡ set ps i (g (get_or ps i d))
+changes_at n f g [] i d only differ within is = absurd (omega arith)
+changes_at n f g (x ∷ ps) zero d only differ within is =
+    ap (λ y. y ∷ map f ps) (only.here x is)
+    ∙ ap (λ ys. g x ∷ ys) (changes_none n f g ps only (λ k e lt same. differ 0 (suc k) e (omega arith) (omega arith) (is ∙ sym same)))
+changes_at n f g (x ∷ ps) (suc i) d only differ within is =
+    let apart : x.number ≢ n = λ same. differ 0 (suc i) d (omega arith) (omega arith) (same ∙ sym is) in
+    ap (λ y. y ∷ map f ps) (only.others x apart)
+    ∙ ap (λ ys. x ∷ ys) (changes_at n f g ps i d only (λ j k e lt in'. differ (suc j) (suc k) e (omega arith) (omega arith)) (omega arith) is)
+
+changes_if : (n : ℕ) (g : Place → Place) → ChangesOnly n (λ x. cond (x.number == n) (g x) x) g
+changes_if n g =
+    record {
+      here = λ x is. cond-true (x.number == n) (g x) x (ap (λ m. m == n) is ∙ eqb_same n);
+      others = λ x other. cond-false (x.number == n) (g x) x (eqb_other x.number n other);
+    }
+
+-- an answer changes the place of its number alone, and so does an event that is added
+pub answer_only : (n : ℕ) (o : Outcome) → ChangesOnly n (answer_place n o) (λ x. record { number = n; answered = true; forwards = x.forwards ++ events_of o })
+answer_only n o = changes_if n (λ x. record { number = n; answered = true; forwards = x.forwards ++ events_of o })
+
+pub add_only : (n : ℕ) (e : Event) → ChangesOnly n (add_to_place n e) (λ x. record { number = n; answered = x.answered; forwards = x.forwards ++ e ∷ [] })
+add_only n e = changes_if n (λ x. record { number = n; answered = x.answered; forwards = x.forwards ++ e ∷ [] })
+
 pub answer_at : (ps : List Place) (i n : ℕ) (o : Outcome) (d : Place) → AllPairs Differ ps → i < length ps → (get_or ps i d).number ≡ n
     → map (answer_place n o) ps ≡ set ps i (record { number = n; answered = true; forwards = (get_or ps i d).forwards ++ events_of o })
-answer_at [] i n o d differ within is = absurd (omega arith)
-answer_at (x ∷ ps) zero n o d differ within is =
-    ap (λ y. y ∷ map (answer_place n o) ps) (cond-true (x.number == n)
-    (record { number = n; answered = true; forwards = x.forwards ++ events_of o }) x (ap (λ m. m == n) is ∙ eqb_same n))
-    ∙ ap (λ ys. record { number = n; answered = true; forwards = x.forwards ++ events_of o } ∷ ys)
-    (answer_none ps n o (λ k e lt same. differ 0 (suc k) e (omega arith) (omega arith) (is ∙ sym same)))
-answer_at (x ∷ ps) (suc i) n o d differ within is =
-    let apart : x.number ≢ n = λ same. differ 0 (suc i) d (omega arith) (omega arith) (same ∙ sym is) in
-    ap (λ y. y ∷ map (answer_place n o) ps) (cond-false (x.number == n)
-    (record { number = n; answered = true; forwards = x.forwards ++ events_of o }) x (eqb_other x.number n apart))
-    ∙ ap (λ ys. x ∷ ys) (answer_at ps i n o d (λ j k e lt in'. differ (suc j) (suc k) e (omega arith) (omega arith)) (omega arith) is)
+answer_at ps i n o d differ within is = changes_at n (answer_place n o) _ ps i d (answer_only n o) differ within is
 
--- ---- one event is added
-
--- an event that is added to a number that no place has changes none
-pub add_none : (ps : List Place) (n : ℕ) (e : Event) → All (λ (y : Place). y.number ≢ n) ps → map (add_to_place n e) ps ≡ ps
-add_none [] n e all = refl
-add_none (y ∷ ps) n e all =
-    ap (λ z. z ∷ map (add_to_place n e) ps) (cond-false (y.number == n)
-    (record { number = n; answered = y.answered; forwards = y.forwards ++ e ∷ [] }) y
-    (eqb_other y.number n (All-head (λ (z : Place). z.number ≢ n) y ps all)))
-    ∙ ap (λ zs. y ∷ zs) (add_none ps n e (All-tail (λ (z : Place). z.number ≢ n) y ps all))
-
--- of places with different numbers it changes the one of its number alone
 pub add_at : (ps : List Place) (i n : ℕ) (e : Event) (d : Place) → AllPairs Differ ps → i < length ps → (get_or ps i d).number ≡ n
     → map (add_to_place n e) ps
     ≡ set ps i (record { number = n; answered = (get_or ps i d).answered; forwards = (get_or ps i d).forwards ++ e ∷ [] })
-add_at [] i n e d differ within is = absurd (omega arith)
-add_at (x ∷ ps) zero n e d differ within is =
-    ap (λ y. y ∷ map (add_to_place n e) ps) (cond-true (x.number == n)
-    (record { number = n; answered = x.answered; forwards = x.forwards ++ e ∷ [] }) x (ap (λ m. m == n) is ∙ eqb_same n))
-    ∙ ap (λ ys. record { number = n; answered = x.answered; forwards = x.forwards ++ e ∷ [] } ∷ ys)
-    (add_none ps n e (λ k c lt same. differ 0 (suc k) c (omega arith) (omega arith) (is ∙ sym same)))
-add_at (x ∷ ps) (suc i) n e d differ within is =
-    let apart : x.number ≢ n = λ same. differ 0 (suc i) d (omega arith) (omega arith) (same ∙ sym is) in
-    ap (λ y. y ∷ map (add_to_place n e) ps) (cond-false (x.number == n)
-    (record { number = n; answered = x.answered; forwards = x.forwards ++ e ∷ [] }) x (eqb_other x.number n apart))
-    ∙ ap (λ ys. x ∷ ys) (add_at ps i n e d (λ j k c lt in'. differ (suc j) (suc k) c (omega arith) (omega arith)) (omega arith) is)
+add_at ps i n e d differ within is = changes_at n (add_to_place n e) _ ps i d (add_only n e) differ within is
 
 -- ---- the places of a lawful transcript
 

@@ -98,21 +98,11 @@ given_to_is l Shut x h = absurd (none-some x h)
 
 pub answer_of_is : (l : ℕ) (s : Step) (o : Outcome) → answer_of l s ≡ Some o → s ≡ Done l o
 answer_of_is l (Done m d) o h = let parts = cond_some (m == l) d o h in ap (λ k. Done k d) (eqb_is m l parts.0) ∙ ap (Done l) parts.1
-answer_of_is l (Accept q e c) o h = absurd (none-some o h)
-answer_of_is l (Give m q n) o h = absurd (none-some o h)
-answer_of_is l (More m d) o h = absurd (none-some o h)
-answer_of_is l (Turned m d) o h = absurd (none-some o h)
-answer_of_is l (Bounced m) o h = absurd (none-some o h)
-answer_of_is l Shut o h = absurd (none-some o h)
+answer_of_is l s o h = absurd (none-some o h)
 
 pub given_of_is : (q : ℕ) (s : Step) (n : ℕ) → given_of q s ≡ Some n → (l : ℕ) × (s ≡ Give l q n)
 given_of_is q (Give l r m) n h = let parts = cond_some (r == q) m n h in (l, ap (λ k. Give l k m) (eqb_is r q parts.0) ∙ ap (Give l q) parts.1)
-given_of_is q (Accept r e c) n h = absurd (none-some n h)
-given_of_is q (Done l o) n h = absurd (none-some n h)
-given_of_is q (More l d) n h = absurd (none-some n h)
-given_of_is q (Turned l d) n h = absurd (none-some n h)
-given_of_is q (Bounced l) n h = absurd (none-some n h)
-given_of_is q Shut n h = absurd (none-some n h)
+given_of_is q s n h = absurd (none-some n h)
 
 pub source_in_is : (q : ℕ) (s : Step) (n : ℕ) → source_in q s ≡ Some n → (r : ℕ) × (e : Event) × (s ≡ Accept r e (Of q n))
 source_in_is q (Accept r e (Of k m)) n h =

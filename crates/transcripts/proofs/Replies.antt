@@ -69,33 +69,19 @@ said_in-more_other l m e h = cond-false (m == l) (Some (said_by ops.ForwardMore 
 -- ---- what was passed on and is accepted gives nothing and says nothing
 
 from_of_gives : (m : ℕ) (s : Step) → is_from_of s ≡ true → given_to m s ≡ None
-from_of_gives m (Accept q e (Of r n)) h = refl
-from_of_gives m (Accept q e (New l)) h = refl
 from_of_gives m (Give l q n) h = absurd (false≢true h)
-from_of_gives m (Done l o) h = refl
-from_of_gives m (More l e) h = refl
-from_of_gives m (Turned l e) h = refl
-from_of_gives m (Bounced l) h = refl
-from_of_gives m Shut h = refl
+from_of_gives m s h = refl
 
 from_of_says : (m : ℕ) (s : Step) → is_from_of s ≡ true → said_in m s ≡ None
-from_of_says m (Accept q e (Of r n)) h = refl
 from_of_says m (Accept q e (New l)) h = absurd (false≢true h)
-from_of_says m (Give l q n) h = refl
 from_of_says m (Done l o) h = absurd (false≢true h)
 from_of_says m (More l e) h = absurd (false≢true h)
 from_of_says m (Turned l e) h = absurd (false≢true h)
-from_of_says m (Bounced l) h = refl
-from_of_says m Shut h = refl
+from_of_says m s h = refl
 
 from_of_is_no_give : (s : Step) → is_from_of s ≡ true → is_give s ≡ false
-from_of_is_no_give (Accept q e c) h = refl
 from_of_is_no_give (Give l q n) h = absurd (false≢true h)
-from_of_is_no_give (Done l o) h = refl
-from_of_is_no_give (More l e) h = refl
-from_of_is_no_give (Turned l e) h = refl
-from_of_is_no_give (Bounced l) h = refl
-from_of_is_no_give Shut h = refl
+from_of_is_no_give s h = refl
 
 pub out-from_of : (S : List Step) → All (λ s. is_from_of s ≡ true) S → (m : ℕ) → out S m ≡ []
 unfolding out

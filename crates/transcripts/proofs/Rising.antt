@@ -289,12 +289,8 @@ Rising-push p P s h a = record {
 
     passed : (t : Step) → s ≡ t → (l : ℕ) → All (IsNotPassed p T) (drop (done_count l s) (unanswered P l ++ cons_option (given_to l s) []))
     passed (Accept q e c) is l = left l (λ m. ap (answer_of m) is) (ap (ends P) is)
-    passed (Give m q n) is l = left l (λ k. ap (answer_of k) is) (ap (ends P) is)
     passed (Done m o) is l = answers_one m o is l
-    passed (More m e) is l = left l (λ k. ap (answer_of k) is) (ap (ends P) is)
-    passed (Turned m e) is l = left l (λ k. ap (answer_of k) is) (ap (ends P) is)
-    passed (Bounced m) is l = left l (λ k. ap (answer_of k) is) (ap (ends P) is)
-    passed Shut is l = left l (λ k. ap (answer_of k) is) (ap (ends P) is)
+    passed s is l = left l (λ k. ap (answer_of k) is) (ap (ends P) is)
 
     source_stays : (q m : ℕ) → IsSource P q m → IsSource T q m
     source_stays q m (inl done) = inl (is_answered-more P q m s done)

@@ -123,13 +123,9 @@ Plain-push p P s known h a no_more = record {
 }
   where
     adds_none : (t : Step) → is_more t ≡ false → (l : ℕ) → add_more l [] t ≡ []
-    adds_none (Accept q e c) k l = refl
-    adds_none (Give m q n) k l = refl
     adds_none (Done m o) k l = cond_both (m == l) [] [] (λ es. es ≡ []) (λ _. refl) (λ _. refl)
     adds_none (More m e) k l = absurd (false≢true (sym k))
-    adds_none (Turned m e) k l = refl
-    adds_none (Bounced m) k l = refl
-    adds_none Shut k l = refl
+    adds_none s k l = refl
 
     by_case : (q n : ℕ) (u : Option ((ℕ × ℕ) × Event)) → sends P s ≡ u → length (forwards (P ++ s ∷ []) q n) ≤ 1
     by_case q n None e = omega (arith, ap length (forwards-none P q n s e), h.one q n)

@@ -180,14 +180,8 @@ stands_shut v T unshut stands =
 -- ---- an offer
 
 formed_elsewhere : (p : Plan) (s : Step) (m : ℕ) → lanes_of p ≤ m → IsFormed p s → given_to m s ≡ None
-formed_elsewhere p (Accept q e (New l)) m h formed = refl
-formed_elsewhere p (Accept q e (Of r n)) m h formed = refl
 formed_elsewhere p (Give l q n) m h formed = given_to-other m l q n (λ same. let lt = formed.lane in omega arith)
-formed_elsewhere p (Done l o) m h formed = refl
-formed_elsewhere p (More l e) m h formed = refl
-formed_elsewhere p (Turned l e) m h formed = refl
-formed_elsewhere p (Bounced l) m h formed = refl
-formed_elsewhere p Shut m h formed = refl
+formed_elsewhere p s m h formed = refl
 
 -- a lane that isn't there has nothing unanswered
 none_elsewhere : (p : Plan) (T : List Step) (m : ℕ) → lanes_of p ≤ m → All (IsFormed p) T → unanswered T m ≡ []

@@ -223,6 +223,26 @@ view_give p T l q w f in_lanes h c =
         ∙ sym (cond-false (is_ordered (queue_of p q).kind) (set (map (places p T) (queues p)) q (places_at v q ++ new ∷ []))
         (map (places p T) (queues p)) plain)
 
+-- a step that changes the places of one queue alone, where that restores an order
+one_queues_places : (p : Plan) (T S : List Step) (q : ℕ) (rest : List Place) → q < length p.queues
+    → (is_ordered (queue_of p q).kind ≡ true → places p S q ≡ rest) → ((r : ℕ) → q ≢ r → places p S r ≡ places p T r)
+    → map (places p S) (queues p) ≡ cond (is_ordered (queue_of p q).kind) (set (map (places p T) (queues p)) q rest) (map (places p T) (queues p))
+one_queues_places p T S q rest there here others = by_kind (cases_Bool (is_ordered (queue_of p q).kind))
+  where
+    changed : List (List Place)
+    changed = set (map (places p T) (queues p)) q rest
+
+    by_kind : (is_ordered (queue_of p q).kind ≡ true) ⊎ (is_ordered (queue_of p q).kind ≡ false)
+        → map (places p S) (queues p) ≡ cond (is_ordered (queue_of p q).kind) changed (map (places p T) (queues p))
+    by_kind (inl ordered) =
+        mapped_changed (places p T) (places p S) (length p.queues) q rest there (here ordered) (λ r differs. others r (λ same. differs (sym same)))
+        ∙ sym (cond-true (is_ordered (queue_of p q).kind) changed (map (places p T) (queues p)) ordered)
+    by_kind (inr plain) =
+        mapped_same (places p T) (places p S) (length p.queues)
+        (λ r _. ⊎_elim (λ same. subst (λ k. places p S k ≡ places p T k) same (places_plain p S q plain ∙ sym (places_plain p T q plain)))
+        (others r) (cases_eq q r))
+        ∙ sym (cond-false (is_ordered (queue_of p q).kind) changed (map (places p T) (queues p)) plain)
+
 -- the lane's oldest event is answered
 pub view_done : (p : Plan) (T : List Step) (l : ℕ) (o : Outcome) (x : ℕ × ℕ) → Facts p T → l < lanes_of p → next_pair T l ≡ Some x
     → view_of p (T ++ Done l o ∷ []) ≡ after_done (view_of p T) l o
@@ -231,7 +251,7 @@ view_done p T l o x f h next =
     same_parts p _ _ _ _ _ _ _ _ _ _ _ _
     (same_waiting p T s (λ r. refl) (λ r. refl))
     (same_next p T s (λ r. refl))
-    (by_kind (cases_Bool (is_ordered (queue_of p x.0).kind)) ∙ ap (λ a. places_after v a o) (sym (oldest_of_view p T l x h next)))
+    (changed ∙ ap (λ a. places_after v a o) (sym (oldest_of_view p T l x h next)))
     (mapped_changed (unanswered_slots p T) (unanswered_slots p S) (lanes_of p) l (drop 1 (unanswered_at v l)) h
     (answered_lane p T l o f ∙ sym (ap (drop 1) (unanswered_of_view p T l h)))
     (λ m differs. same_lane p T s m f (answer_of-other m l o (λ same. differs (sym same))) refl))
@@ -254,19 +274,12 @@ view_done p T l o x f h next =
     rest : List Place
     rest = staying (answered_places v x.0 x.1 o)
 
-    by_kind : (is_ordered (queue_of p x.0).kind ≡ true) ⊎ (is_ordered (queue_of p x.0).kind ≡ false)
-        → map (places p S) (queues p) ≡ cond (is_ordered (queue_of p x.0).kind) (set (map (places p T) (queues p)) x.0 rest)
+    changed : map (places p S) (queues p) ≡ cond (is_ordered (queue_of p x.0).kind) (set (map (places p T) (queues p)) x.0 rest)
         (map (places p T) (queues p))
-    by_kind (inl ordered) =
-        mapped_changed (places p T) (places p S) (length p.queues) x.0 rest there
-        (done_places p T l o x next ordered ∙ ap (λ ps. staying (map (answer_place x.1 o) ps)) (sym (places_of_view p T x.0 there)))
-        (λ r differs. done_places_other p T l o x r next (λ same. differs (sym same)))
-        ∙ sym (cond-true (is_ordered (queue_of p x.0).kind) (set (map (places p T) (queues p)) x.0 rest) (map (places p T) (queues p)) ordered)
-    by_kind (inr plain) =
-        mapped_same (places p T) (places p S) (length p.queues)
-        (λ r _. ⊎_elim (λ same. subst (λ k. places p S k ≡ places p T k) same (places_plain p S x.0 plain ∙ sym (places_plain p T x.0 plain)))
-        (λ differs. done_places_other p T l o x r next differs) (cases_eq x.0 r))
-        ∙ sym (cond-false (is_ordered (queue_of p x.0).kind) (set (map (places p T) (queues p)) x.0 rest) (map (places p T) (queues p)) plain)
+    changed =
+        one_queues_places p T S x.0 rest there
+        (λ ordered. done_places p T l o x next ordered ∙ ap (λ ps. staying (map (answer_place x.1 o) ps)) (sym (places_of_view p T x.0 there)))
+        (λ r differs. done_places_other p T l o x r next differs)
 
 -- an event is added beside the lane's oldest
 pub view_more : (p : Plan) (T : List Step) (l : ℕ) (e : Event) (x : ℕ × ℕ) → Facts p T → l < lanes_of p → next_pair T l ≡ Some x
@@ -276,7 +289,7 @@ view_more p T l e x f h next =
     same_parts p _ _ _ _ _ _ _ _ _ _ _ _
     (same_waiting p T s (λ r. refl) (λ r. refl))
     (same_next p T s (λ r. refl))
-    (by_kind (cases_Bool (is_ordered (queue_of p x.0).kind)) ∙ ap (λ a. places_with v a e) (sym (oldest_of_view p T l x h next)))
+    (changed ∙ ap (λ a. places_with v a e) (sym (oldest_of_view p T l x h next)))
     (same_lanes p T s f (λ m. refl) (λ m. refl))
     (mapped_changed (λ m. length (extras T m)) (λ m. length (extras S m)) (lanes_of p) l (extras_at v l + 1) h
     (ap length (extras-more T l e) ∙ (length_push (extras T l) e ∙ sym (ap (λ n. n + 1) (extras_of_view p T l h))))
@@ -298,19 +311,12 @@ view_more p T l e x f h next =
     grown : List Place
     grown = map (add_to_place x.1 e) (places_at v x.0)
 
-    by_kind : (is_ordered (queue_of p x.0).kind ≡ true) ⊎ (is_ordered (queue_of p x.0).kind ≡ false)
-        → map (places p S) (queues p) ≡ cond (is_ordered (queue_of p x.0).kind) (set (map (places p T) (queues p)) x.0 grown)
+    changed : map (places p S) (queues p) ≡ cond (is_ordered (queue_of p x.0).kind) (set (map (places p T) (queues p)) x.0 grown)
         (map (places p T) (queues p))
-    by_kind (inl ordered) =
-        mapped_changed (places p T) (places p S) (length p.queues) x.0 grown there
-        (more_places p T l e x next ordered ∙ ap (map (add_to_place x.1 e)) (sym (places_of_view p T x.0 there)))
-        (λ r differs. more_places_other p T l e x r next (λ same. differs (sym same)))
-        ∙ sym (cond-true (is_ordered (queue_of p x.0).kind) (set (map (places p T) (queues p)) x.0 grown) (map (places p T) (queues p)) ordered)
-    by_kind (inr plain) =
-        mapped_same (places p T) (places p S) (length p.queues)
-        (λ r _. ⊎_elim (λ same. subst (λ k. places p S k ≡ places p T k) same (places_plain p S x.0 plain ∙ sym (places_plain p T x.0 plain)))
-        (λ differs. more_places_other p T l e x r next differs) (cases_eq x.0 r))
-        ∙ sym (cond-false (is_ordered (queue_of p x.0).kind) (set (map (places p T) (queues p)) x.0 grown) (map (places p T) (queues p)) plain)
+    changed =
+        one_queues_places p T S x.0 grown there
+        (λ ordered. more_places p T l e x next ordered ∙ ap (map (add_to_place x.1 e)) (sym (places_of_view p T x.0 there)))
+        (λ r differs. more_places_other p T l e x r next differs)
 
 -- a step that neither brings nor ends an event
 pub view_same : (p : Plan) (T : List Step) (s : Step) → Facts p T → ((q : ℕ) → accepted_in q s ≡ None) → ((q : ℕ) → given_of q s ≡ None)

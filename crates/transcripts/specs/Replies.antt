@@ -27,14 +27,11 @@ said r = said_by r.event.op r.event
 -- what the lane said where this step was taken. The Accept of what was passed on was said by its Done or More.
 abbrev pub said_in : ℕ → Step → Option Said
 said_in l (Accept q e (New m)) = if m == l then Some (record { op = ops.New; event = Some e }) else None
-said_in l (Accept q e (Of r n)) = None
 said_in l (Done m (Forwarded e)) = if m == l then Some (record { op = ops.Forward; event = Some e }) else None
 said_in l (Done m Released) = if m == l then Some (record { op = ops.Release; event = None }) else None
 said_in l (More m e) = if m == l then Some (record { op = ops.ForwardMore; event = Some e }) else None
 said_in l (Turned m e) = if m == l then Some (record { op = ops.New; event = Some e }) else None
-said_in l (Give m q n) = None
-said_in l (Bounced m) = None
-said_in l Shut = None
+said_in l s = None
 
 -- the replies of the lane that the transcript took
 unfoldable pub replies_in : List Step → ℕ → List Said

@@ -21,21 +21,11 @@ MayBeTaken v (r ∷ rs) = (r.0 < lanes_of v.shape) × (may_take v r.0 r.1 ≡ tr
 -- the queue of an event that is given, the lane of a ring that was full
 abbrev pub given_queue : Step → Option ℕ
 given_queue (Give l q n) = Some q
-given_queue (Accept q e s) = None
-given_queue (Done l o) = None
-given_queue (More l e) = None
-given_queue (Turned l e) = None
-given_queue (Bounced l) = None
-given_queue Shut = None
+given_queue s = None
 
 abbrev pub bounced_lane : Step → Option ℕ
 bounced_lane (Bounced l) = Some l
-bounced_lane (Accept q e s) = None
-bounced_lane (Give l q n) = None
-bounced_lane (Done l o) = None
-bounced_lane (More l e) = None
-bounced_lane (Turned l e) = None
-bounced_lane Shut = None
+bounced_lane s = None
 
 -- an event of a queue that is there is given, or a lane that is there has no room
 abbrev pub IsOffered : Plan → Step → Type 0

@@ -17,12 +17,7 @@ use Rattle.evt_types.specs.declared.step.Step.TheVariants.{Accept, Give, Done, M
 
 abbrev pub accepted_in : ℕ → Step → Option Event
 accepted_in q (Accept r e s) = if r == q then Some e else None
-accepted_in q (Give l r n) = None
-accepted_in q (Done l o) = None
-accepted_in q (More l e) = None
-accepted_in q (Turned l e) = None
-accepted_in q (Bounced l) = None
-accepted_in q Shut = None
+accepted_in q s = None
 
 -- the events that the queue accepted, in order: an event's number is its place here, from 0
 unfoldable pub accepted : List Step → ℕ → List Event
@@ -53,12 +48,7 @@ slot_at p T q n = slot_if p q (event_at T q n)
 
 abbrev pub given_to : ℕ → Step → Option (ℕ × ℕ)
 given_to l (Give m q n) = if m == l then Some (q, n) else None
-given_to l (Accept q e s) = None
-given_to l (Done m o) = None
-given_to l (More m e) = None
-given_to l (Turned m e) = None
-given_to l (Bounced m) = None
-given_to l Shut = None
+given_to l s = None
 
 -- the (queue, number) pairs that the lane was given, in order
 unfoldable pub out : List Step → ℕ → List (ℕ × ℕ)
@@ -66,12 +56,7 @@ out T l = filter_map (given_to l) T
 
 abbrev pub answer_of : ℕ → Step → Option Outcome
 answer_of l (Done m o) = if m == l then Some o else None
-answer_of l (Accept q e s) = None
-answer_of l (Give m q n) = None
-answer_of l (More m e) = None
-answer_of l (Turned m e) = None
-answer_of l (Bounced m) = None
-answer_of l Shut = None
+answer_of l s = None
 
 -- the lane's answers, in order: the k-th is to the k-th pair
 unfoldable pub answers : List Step → ℕ → List Outcome
@@ -146,11 +131,7 @@ forwards T q n = filter_map (sent_for q n) (sent T)
 abbrev pub add_more : ℕ → List Event → Step → List Event
 add_more l es (More m e) = if m == l then es ++ e ∷ [] else es
 add_more l es (Done m o) = if m == l then [] else es
-add_more l es (Accept q e s) = es
-add_more l es (Give m q n) = es
-add_more l es (Turned m e) = es
-add_more l es (Bounced m) = es
-add_more l es Shut = es
+add_more l es s = es
 
 -- the events that were added beside the lane's oldest unanswered one (own; a program of DPDK's enqueues a NEW in its place)
 unfoldable pub extras : List Step → ℕ → List Event
@@ -160,12 +141,7 @@ extras T l = fold (add_more l) [] T
 
 abbrev pub given_of : ℕ → Step → Option ℕ
 given_of q (Give l r n) = if r == q then Some n else None
-given_of q (Accept r e s) = None
-given_of q (Done l o) = None
-given_of q (More l e) = None
-given_of q (Turned l e) = None
-given_of q (Bounced l) = None
-given_of q Shut = None
+given_of q s = None
 
 -- the hand-out: the queue's numbers in the order of their Gives (rte_eventdev, RTE_SCHED_TYPE_ORDERED)
 unfoldable pub hand : List Step → ℕ → List ℕ
@@ -191,13 +167,7 @@ given T q = filter_map (named_at T q) (hand T q)
 -- the events that were accepted from this number
 abbrev pub taken_in : ℕ → ℕ → Step → Option Event
 taken_in q n (Accept r e (Of s m)) = if is_pair q n (s, m) then Some e else None
-taken_in q n (Accept r e (New l)) = None
-taken_in q n (Give l r m) = None
-taken_in q n (Done l o) = None
-taken_in q n (More l e) = None
-taken_in q n (Turned l e) = None
-taken_in q n (Bounced l) = None
-taken_in q n Shut = None
+taken_in q n s = None
 
 unfoldable pub taken : List Step → ℕ → ℕ → List Event
 taken T q n = filter_map (taken_in q n) T
@@ -205,13 +175,7 @@ taken T q n = filter_map (taken_in q n) T
 -- the queue's numbers from which events were accepted, in the order of those Accepts
 abbrev pub source_in : ℕ → Step → Option ℕ
 source_in q (Accept r e (Of s n)) = if s == q then Some n else None
-source_in q (Accept r e (New l)) = None
-source_in q (Give l r n) = None
-source_in q (Done l o) = None
-source_in q (More l e) = None
-source_in q (Turned l e) = None
-source_in q (Bounced l) = None
-source_in q Shut = None
+source_in q s = None
 
 unfoldable pub sources : List Step → ℕ → List ℕ
 sources T q = filter_map (source_in q) T
@@ -245,12 +209,7 @@ entries p T = sum_by (λ q. length (accepted T q)) (queues p) + sum_by (λ q. le
 
 abbrev pub is_shut : Step → Bool
 is_shut Shut = true
-is_shut (Accept q e s) = false
-is_shut (Give l q n) = false
-is_shut (Done l o) = false
-is_shut (More l e) = false
-is_shut (Turned l e) = false
-is_shut (Bounced l) = false
+is_shut s = false
 
 abbrev pub has_shut : List Step → Bool
 has_shut T = list_any is_shut T
@@ -258,58 +217,25 @@ has_shut T = list_any is_shut T
 -- an Accept from a NEW
 abbrev pub is_new : Step → Bool
 is_new (Accept q e (New l)) = true
-is_new (Accept q e (Of r n)) = false
-is_new (Give l q n) = false
-is_new (Done l o) = false
-is_new (More l e) = false
-is_new (Turned l e) = false
-is_new (Bounced l) = false
-is_new Shut = false
+is_new s = false
 
 -- an Accept of what an event was passed on as
 abbrev pub is_from_of : Step → Bool
 is_from_of (Accept q e (Of r n)) = true
-is_from_of (Accept q e (New l)) = false
-is_from_of (Give l q n) = false
-is_from_of (Done l o) = false
-is_from_of (More l e) = false
-is_from_of (Turned l e) = false
-is_from_of (Bounced l) = false
-is_from_of Shut = false
+is_from_of s = false
 
 abbrev pub is_give : Step → Bool
 is_give (Give l q n) = true
-is_give (Accept q e s) = false
-is_give (Done l o) = false
-is_give (More l e) = false
-is_give (Turned l e) = false
-is_give (Bounced l) = false
-is_give Shut = false
+is_give s = false
 
 abbrev pub is_turned : Step → Bool
 is_turned (Turned l e) = true
-is_turned (Accept q e s) = false
-is_turned (Give l q n) = false
-is_turned (Done l o) = false
-is_turned (More l e) = false
-is_turned (Bounced l) = false
-is_turned Shut = false
+is_turned s = false
 
 abbrev pub is_release : Step → Bool
 is_release (Done l Released) = true
-is_release (Done l (Forwarded e)) = false
-is_release (Accept q e s) = false
-is_release (Give l q n) = false
-is_release (More l e) = false
-is_release (Turned l e) = false
-is_release (Bounced l) = false
-is_release Shut = false
+is_release s = false
 
 abbrev pub is_more : Step → Bool
 is_more (More l e) = true
-is_more (Accept q e s) = false
-is_more (Give l q n) = false
-is_more (Done l o) = false
-is_more (Turned l e) = false
-is_more (Bounced l) = false
-is_more Shut = false
+is_more s = false

@@ -1,5 +1,6 @@
 -- The wrong logs of specs/Logs.antt, each refused by the clause that it breaks.
-use Rattle.std.specs.Prelude.{ℕ, ◌≡◌, ◌<◌, ◌≤◌, true, List, [], ◌∷◌, length, All}
+use Rattle.std.specs.Prelude.{ℕ, ◌≡◌, ◌<◌, ◌≤◌, true, false, List, [], ◌∷◌, length, Contains}
+use Rattle.std.specs.List.{list_all}
 use Rattle.std.proofs.Common.{refl, ap, sym, arith, suc}
 use Rattle.std.proofs.Math.Dec.{lit<, lit≤}
 use Rattle.std.proofs.lemmas.Bool.{true≢false, both_ways}
@@ -12,6 +13,7 @@ use Rattle.transcripts.specs.Transcript.{accepted, out, answers, unanswered, Hel
 use Rattle.lists.specs.Lists.{upto}
 use Rattle.evt_types.specs.declared.event.Event.{Event}
 use Rattle.evt_types.specs.declared.event.Numbered.{Numbered}
+use Rattle.evt_types.specs.declared.step.Step.{Step}
 use Rattle.evt_types.specs.declared.step.Step.TheVariants.{Shut}
 
 -- (once)
@@ -43,17 +45,17 @@ pub accepted_early_refused : Lawful two_stages accepted_early → ⊥
 unfolding out answers hand sources ended
 accepted_early_refused h = true≢false (sym (((h.order 6 (lit≤ tt)).ordered 0 refl).answered 0 0 (lit< tt) 0 0 (lit< tt)))
 
--- (prompt)
-all_answered : All (λ m. is_answered kept_for_good 0 m ≡ true) (upto 1 (hand kept_for_good 0))
-unfolding out answers hand ended
-all_answered = AllPass-from_list_all (is_answered kept_for_good 0) (upto 1 (hand kept_for_good 0)) refl
+-- (prompt): nothing that was handed out before waits, where all of it was answered
+none_waits : (T : List Step) (q n : ℕ) → list_all (is_answered T q) (upto n (hand T q)) ≡ true → (m : ℕ) → Contains (upto n (hand T q)) m
+    → is_answered T q m ≡ false → ⊥
+none_waits T q n all m before waits =
+    both_ways (is_answered T q m) waits
+    (All-contains (λ k. is_answered T q k ≡ true) (upto n (hand T q)) m (AllPass-from_list_all (is_answered T q) (upto n (hand T q)) all) before)
 
 pub kept_for_good_refused : Lawful two_stages kept_for_good → ⊥
-unfolding out answers hand sent forwards taken kept
+unfolding out answers hand sent forwards taken kept ended
 kept_for_good_refused h =
-    let waits_for = (h.prompt.end 0 0 (0, passed_on 20) (lit< tt)).1 in
-    let answered = All-contains (λ m. is_answered kept_for_good 0 m ≡ true) (upto 1 (hand kept_for_good 0)) waits_for.0 all_answered waits_for.1 in
-    both_ways (is_answered kept_for_good 0 waits_for.0) waits_for.2 answered
+    let waits_for = (h.prompt.end 0 0 (0, passed_on 20) (lit< tt)).1 in none_waits kept_for_good 0 1 refl waits_for.0 waits_for.1 waits_for.2
 
 -- (origin)
 pub accepted_twice_refused : Lawful two_stages accepted_twice → ⊥
@@ -163,13 +165,7 @@ added_to_none_refused h =
     let none : ◌≡◌ {A = ℕ} 1 0 = ap length ((h.extras 2 (lit≤ tt)).beside 1 refl) in absurd (omega arith)
 
 -- (prompt)
-added_answered : All (λ m. is_answered added_kept_for_good 0 m ≡ true) (upto 0 (hand added_kept_for_good 0))
-unfolding out answers hand ended
-added_answered = AllPass-from_list_all (is_answered added_kept_for_good 0) (upto 0 (hand added_kept_for_good 0)) refl
-
 pub added_kept_for_good_refused : Lawful two_stages added_kept_for_good → ⊥
-unfolding out answers hand sent forwards taken kept
+unfolding out answers hand sent forwards taken kept ended
 added_kept_for_good_refused h =
-    let waits_for = (h.prompt.end 0 0 (0, added 10) (lit< tt)).1 in
-    let answered = All-contains (λ m. is_answered added_kept_for_good 0 m ≡ true) (upto 0 (hand added_kept_for_good 0)) waits_for.0 added_answered waits_for.1 in
-    both_ways (is_answered added_kept_for_good 0 waits_for.0) waits_for.2 answered
+    let waits_for = (h.prompt.end 0 0 (0, added 10) (lit< tt)).1 in none_waits added_kept_for_good 0 0 refl waits_for.0 waits_for.1 waits_for.2

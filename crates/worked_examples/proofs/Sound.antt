@@ -57,34 +57,19 @@ op_is_new ops.Release h = absurd (false≢true h)
 op_is_new ops.ForwardMore h = absurd (false≢true h)
 
 op_is_forward : (o : Op) → is_forward_op o ≡ true → o ≡ ops.Forward
-op_is_forward ops.New h = absurd (false≢true h)
 op_is_forward ops.Forward h = refl
-op_is_forward ops.Release h = absurd (false≢true h)
-op_is_forward ops.ForwardMore h = absurd (false≢true h)
+op_is_forward op h = absurd (false≢true h)
 
 op_is_more : (o : Op) → is_more_op o ≡ true → o ≡ ops.ForwardMore
-op_is_more ops.New h = absurd (false≢true h)
-op_is_more ops.Forward h = absurd (false≢true h)
-op_is_more ops.Release h = absurd (false≢true h)
 op_is_more ops.ForwardMore h = refl
+op_is_more op h = absurd (false≢true h)
 
 same_op : (a b : Op) → op_code a ≡ op_code b → a ≡ b
 same_op ops.New ops.New h = refl
-same_op ops.New ops.Forward h = absurd (omega arith)
-same_op ops.New ops.Release h = absurd (omega arith)
-same_op ops.New ops.ForwardMore h = absurd (omega arith)
-same_op ops.Forward ops.New h = absurd (omega arith)
 same_op ops.Forward ops.Forward h = refl
-same_op ops.Forward ops.Release h = absurd (omega arith)
-same_op ops.Forward ops.ForwardMore h = absurd (omega arith)
-same_op ops.Release ops.New h = absurd (omega arith)
-same_op ops.Release ops.Forward h = absurd (omega arith)
 same_op ops.Release ops.Release h = refl
-same_op ops.Release ops.ForwardMore h = absurd (omega arith)
-same_op ops.ForwardMore ops.New h = absurd (omega arith)
-same_op ops.ForwardMore ops.Forward h = absurd (omega arith)
-same_op ops.ForwardMore ops.Release h = absurd (omega arith)
 same_op ops.ForwardMore ops.ForwardMore h = refl
+same_op a b h = absurd (omega arith)
 
 -- an event by its fields
 event_by : (flow sub_type event_type : ℕ) (op : Op) (queue priority impl_opaque payload : ℕ) → flow < 2 ^ 20 → event_type < 16 → Event

@@ -71,12 +71,7 @@ front_run p w v (m ∷ moves) l leads c =
 
 abbrev pub pair_given : Step → Option (ℕ × ℕ)
 pair_given (Give l q n) = Some (q, n)
-pair_given (Accept q e c) = None
-pair_given (Done l o) = None
-pair_given (More l e) = None
-pair_given (Turned l e) = None
-pair_given (Bounced l) = None
-pair_given Shut = None
+pair_given s = None
 
 -- the pairs that were given, over all lanes, in the order of their Gives
 abbrev pub gives : List Step → List (ℕ × ℕ)

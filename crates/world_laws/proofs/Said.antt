@@ -58,14 +58,11 @@ by_none false p y h = refl
 
 step_answers : (l : ℕ) (s : Step) → length (cons_option (answer_of l s) []) ≡ count_by answers_said (cons_option (said_in l s) [])
 step_answers l (Accept q e (New m)) = by_none (m == l) answers_said (said_by ops.New e) refl
-step_answers l (Accept q e (Of r n)) = refl
 step_answers l (Done m (Forwarded e)) = by_lane (m == l) (Forwarded e) answers_said (said_by ops.Forward e) refl
 step_answers l (Done m Released) = by_lane (m == l) Released answers_said (record { op = ops.Release; event = None }) refl
 step_answers l (More m e) = by_none (m == l) answers_said (said_by ops.ForwardMore e) refl
 step_answers l (Turned m e) = by_none (m == l) answers_said (said_by ops.New e) refl
-step_answers l (Give m q n) = refl
-step_answers l (Bounced m) = refl
-step_answers l Shut = refl
+step_answers l s = refl
 
 length_option : {X : Type 0} (o : Option X) (xs : List X) → length (cons_option o xs) ≡ length (cons_option o []) + length xs
 length_option None xs = omega arith

@@ -104,11 +104,7 @@ after_moves moves k = fold moved empty (take k moves)
 -- the pair that a move receives, where its lane is one of those that are asked for
 abbrev pub receipt : (ℕ → Bool) → World → Move → Option (ℕ × ℕ)
 receipt asked w (Receives l) = if asked l then slice_get (out w.log l) (w.received l) else None
-receipt asked w (Submits l r) = None
-receipt asked w (Takes l taken) = None
-receipt asked w (Gives l q n) = None
-receipt asked w (Bounces l) = None
-receipt asked w Shuts = None
+receipt asked w s = None
 
 abbrev pub receipts : (ℕ → Bool) → World → List Move → List (ℕ × ℕ)
 receipts asked w [] = []

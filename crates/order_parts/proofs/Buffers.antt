@@ -17,6 +17,12 @@ restores os rs q old r all v h is some =
     let room : 0 < r.depth = subst IsBufferOf (sym is ∙ some) (all q old there) in
     lt-ltb 0 r.depth room
 
+-- what is read of one
+pub order_read : (os : List (Option Reordering)) (rs : List Reordering) (q : ℕ) (old : Option Reordering) → map shown os ≡ rs → q < length rs → old ≡ get_or os q old → order_at rs q ≡ shown old
+order_read os rs q old v h is =
+    let there : q < length os = omega (arith, h, length-map os shown, ap length v) in
+    ap (λ ys. order_at ys q) (sym v) ∙ (get_or-map shown os q old (empty 0) there ∙ ap shown (sym is))
+
 -- one changes
 pub set_shown : (f : Reordering → Reordering) (os : List (Option Reordering)) (rs : List Reordering) (q : ℕ) (old new : Option Reordering) → map shown os ≡ rs → q < length rs
     → old ≡ get_or os q old → shown new ≡ f (shown old) → map shown (set os q new) ≡ set rs q (f (order_at rs q))

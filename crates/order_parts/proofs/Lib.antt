@@ -10,3 +10,4 @@ pub mod Places
 pub mod Rings
 pub mod Roomy
 pub mod Rows
+pub mod ShownLists

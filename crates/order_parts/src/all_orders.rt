@@ -137,8 +137,11 @@ impl AllOrders {
         requires { queue < length self.now }
         ensures { result ≡ is_some (oldest_answered (order_at self.now queue).places) }
     {
-        match &self.queues[queue] {
-            Some(order) => order.leaves(),
+        let Some(order) = &self.queues[queue] else {
+            return false;
+        };
+        match order.ring.front() {
+            Some(oldest) => oldest.answered,
             None => false,
         }
     }
@@ -176,7 +179,7 @@ impl AllOrders {
         ensures { result ≡ length (order_at self.now queue).places }
     {
         match &self.queues[queue] {
-            Some(order) => order.len(),
+            Some(order) => order.ring.len(),
             None => 0,
         }
     }

@@ -8,7 +8,7 @@ ghost use Rattle.order_parts.specs.QueuePins.{AreFreePins, pins_at, pin_in, with
 
 use crate::pins::Pins;
 use evt_types::{MAX_DEPTH, Memory, QueueDraft, Shape};
-use small_set::SmallSet;
+use small_set::{MAX_MEMBERS, SmallSet};
 use std::alloc::Global;
 use std::marker::Model;
 
@@ -70,12 +70,11 @@ impl AllPins {
         requires { queue < length self.now }
         ensures { result ≡ holder_of (pin_in self.now queue slot) }
     {
-        let pins = &self.queues[queue];
-        if slot < pins.slots() {
-            pins.holder(slot)
-        } else {
-            None
+        let hold = self.queues[queue].holds.get(slot)?;
+        if hold.count == 0 {
+            return None;
         }
+        Some(hold.lane)
     }
 
     /// The slots that stand on none of these lanes: they are free, or stand on another one. Of a slot that stands on a lane beyond the
@@ -86,7 +85,12 @@ impl AllPins {
         ensures { (s : ℕ) → s < 64 → (0 < (pin_in self.now queue s).count → (pin_in self.now queue s).lane < 64) → Has result s ↔ ((l : ℕ) → Has lanes l → ¬ IsOn (pin_in self.now queue s) l) }
     {
         let pins = &self.queues[queue];
-        pins.slots_off(lanes)
+        let mut left = lanes;
+        let mut slots = SmallSet::below(MAX_MEMBERS);
+        while let Some(lane) = left.pop() {
+            slots = slots.except(pins.held[lane]);
+        }
+        slots
     }
 
     /// One event more of the slot goes to the lane.

@@ -96,7 +96,7 @@ impl Histories {
         requires { lane < length self.now }
         ensures { result ≡ length (lane_in self.now lane).entries }
     {
-        self.lanes[lane].len()
+        self.lanes[lane].len
     }
 
     /// Whether no event of the lane is unanswered.
@@ -104,7 +104,7 @@ impl Histories {
         requires { lane < length self.now }
         ensures { result ≡ (length (lane_in self.now lane).entries == 0) }
     {
-        self.lanes[lane].is_empty()
+        self.lanes[lane].len == 0
     }
 
     /// Of the first lanes those that have room.

@@ -24,7 +24,7 @@ pub struct History {
     mask: usize,
     /// The oldest entry's place.
     first: usize,
-    len: usize,
+    pub(crate) len: usize,
     capacity: usize,
 }
 

@@ -1,9 +1,8 @@
 //! Which lane holds each slot of an atomic queue.
 
-ghost use Rattle.std.specs.Prelude.{◌≡◌, ℕ, ◌<◌, ◌≤◌, ◌↔◌, length, replicate, slice_set, IfOk, IsTrue};
+ghost use Rattle.std.specs.Prelude.{◌≡◌, ◌<◌, ◌≤◌, length, replicate, slice_set, IfOk, IsTrue};
 ghost use Rattle.evt_types.specs.declared.shape.TheConstants.{MAX_DEPTH};
-ghost use Rattle.order_parts.specs.Pins.{IsOn, cell_of, free, holder_of, pin_at, may_pin, pinned, unpinned};
-ghost use Rattle.small_set.specs.SmallSets.{Has};
+ghost use Rattle.order_parts.specs.Pins.{cell_of, free, pin_at, may_pin, pinned, unpinned};
 
 use evt_types::{MAX_SLOTS, Memory};
 use small_set::{MAX_MEMBERS, SmallSet};
@@ -12,17 +11,17 @@ use std::marker::Model;
 
 /// How many unanswered events of a slot stand on the lane that has them; where there are none, any lane may be next.
 #[derive(Clone, Copy, Debug)]
-struct Hold {
-    count: u8,
-    lane: usize,
+pub(crate) struct Hold {
+    pub(crate) count: u8,
+    pub(crate) lane: usize,
 }
 
 /// The pins of an atomic queue: while events of a slot are unanswered, they all stand on one lane.
 #[derive(Debug, Drop)]
 pub struct Pins {
-    holds: Vec<Hold>,
+    pub(crate) holds: Vec<Hold>,
     /// For each lane the slots that stand on it. Only the first lanes, as many as there are sets, have one of their own.
-    held: [SmallSet; MAX_MEMBERS],
+    pub(crate) held: [SmallSet; MAX_MEMBERS],
 }
 
 /// The set of the lane's slots.
@@ -74,19 +73,6 @@ impl Pins {
         hold.count == 0 || hold.lane == lane
     }
 
-    /// The lane that has the slot, if one has it.
-    #[inline(always)]
-    pub fn holder(&self, slot: usize) -> Option<usize>
-        requires { slot < length self.now }
-        ensures { result ≡ holder_of (pin_at self.now slot) }
-    {
-        let hold = self.holds[slot];
-        if hold.count == 0 {
-            return None;
-        }
-        Some(hold.lane)
-    }
-
     /// One event more of the slot goes to the lane.
     pub fn pin(&mut self, slot: usize, lane: usize)
         requires there { slot < length self.old }
@@ -117,19 +103,5 @@ impl Pins {
             slots.remove(slot);
             self.held[cell] = slots;
         }
-    }
-
-    /// The slots that stand on none of these lanes: they are free, or stand on another one. Of a slot that stands on a lane beyond the
-    /// first 64 nothing is said.
-    #[inline(always)]
-    pub fn slots_off(&self, lanes: SmallSet) -> SmallSet
-        ensures { (s : ℕ) → s < 64 → (0 < (pin_at self.now s).count → (pin_at self.now s).lane < 64) → Has result s ↔ ((l : ℕ) → Has lanes l → ¬ IsOn (pin_at self.now s) l) }
-    {
-        let mut left = lanes;
-        let mut slots = SmallSet::below(MAX_MEMBERS);
-        while let Some(lane) = left.pop() {
-            slots = slots.except(self.held[lane]);
-        }
-        slots
     }
 }

@@ -1,6 +1,6 @@
 //! The reorder buffer of an ordered queue.
 
-ghost use Rattle.std.specs.Prelude.{◌≡◌, false, ◌+◌, ◌*◌, ◌%◌, ◌^◌, ◌<◌, ◌≤◌, ◌++◌, All, MatchOption, Some, length, nat_lt, option_copied, None, slice_get, slice_index_or, is_some, option_map, IfOk, IsTrue};
+ghost use Rattle.std.specs.Prelude.{◌≡◌, false, ◌+◌, ◌*◌, ◌%◌, ◌^◌, ◌<◌, ◌≤◌, ◌++◌, All, MatchOption, Some, length, nat_lt, option_copied, None, slice_get, slice_index_or, option_map, IfOk, IsTrue};
 ghost use Rattle.order_parts.specs.Reorder.{HasFew, after_add, after_hand, after_keep, after_leave, after_resolve, empty, is_open, kept_of, left, left_plain, next_number, oldest_answered, open_place, place_at, place_or_open, without_oldest, wrapped};
 
 use arrayvec::ArrayVec;
@@ -11,17 +11,17 @@ use std::marker::Model;
 
 /// A place: the number of the event that was handed out, how many events the place keeps, and whether its event is answered.
 #[derive(Clone, Copy, Debug)]
-struct Handed {
+pub(crate) struct Handed {
     number: u64,
     kept: usize,
-    answered: bool,
+    pub(crate) answered: bool,
 }
 
 /// The reorder buffer of an ordered queue: a ring of places, in the order in which its events were handed out. They are
 /// resolved in any order, and leave in that one.
 #[derive(Debug, Drop)]
 pub struct Reorder {
-    ring: HeapCircularBuffer<Handed>,
+    pub(crate) ring: HeapCircularBuffer<Handed>,
     first: u64,
     /// A row of `MAX_FORWARDS` for the events that each place keeps: those that were added and behind them the forward. The
     /// rows turn with the ring. They stand apart, so that a place whose event is released costs no more than its words.
@@ -83,13 +83,6 @@ impl Reorder {
         ensures few { All HasFew self.now.places }
     {
         self.ring.len() < self.ring.capacity()
-    }
-
-    /// How many places there are.
-    pub fn len(&self) -> usize
-        ensures { result ≡ length self.now.places }
-    {
-        self.ring.len()
     }
 
     /// How many events the place at this index, counted from the oldest, keeps.
@@ -180,16 +173,6 @@ impl Reorder {
         let index = place.wrapping_sub(self.first) as usize;
         if let Some(handed) = self.ring.get_mut(index) {
             handed.answered = true;
-        }
-    }
-
-    /// Whether the oldest place may leave: there is one, and it is resolved.
-    pub fn leaves(&self) -> bool
-        ensures { result ≡ is_some (oldest_answered self.now.places) }
-    {
-        match self.ring.front() {
-            Some(oldest) => oldest.answered,
-            None => false,
         }
     }
 

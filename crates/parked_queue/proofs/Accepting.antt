@@ -10,7 +10,7 @@ use Rattle.small_set.specs.SmallSets.{Has}
 use Rattle.parked_queue.specs.Lists.{Lists, list_at, total_of, with_last}
 use Rattle.parked_queue.specs.Marks.{Kept, marks_at}
 use Rattle.parked_queue.specs.Merge.{lists_of}
-use Rattle.parked_queue.specs.Parted.{Parted, below_at, list_in, list_of, places, with_waits}
+use Rattle.parked_queue.specs.Parted.{Parted, below_at, list_in, list_of, list_count, with_waits}
 use Rattle.parked_queue.specs.Waits.{Waits, AreWaits, slot_of, with_event}
 use Rattle.parked_queue.proofs.Merges.{by_number_length, lists_with}
 use Rattle.parked_queue.proofs.Holding.{Holds, view_held, list_held, list_if_not}
@@ -41,16 +41,16 @@ module _ (a : Kept) (v : Parted) (e : Event) (l : Lists) (h : Holds a v) (lt : l
   main : list_of v.waits.slots v.below w ≡ level_of e
   main = list_if_not v.waits.slots v.below w (h.bounds (level_of e))
 
-  pub lists_accepted : l.lists ≡ lists_of (list_of v.waits.slots v.below) 0 (places v.waits.slots) (v.waits.waiting ++ w ∷ [])
+  pub lists_accepted : l.lists ≡ lists_of (list_of v.waits.slots v.below) 0 (list_count v.waits.slots) (v.waits.waiting ++ w ∷ [])
   lists_accepted =
       let some = h.waits.some in
-      let within : level_of e < places v.waits.slots = omega arith in
+      let within : level_of e < list_count v.waits.slots = omega arith in
       ap (λ (x : Lists). x.lists) is
       ∙ (ap (λ n. set a.lists.lists (level_of e) (list_at a.lists (level_of e) ++ record { number = n; event = e } ∷ [])) h.next
       ∙ (ap (λ us. set a.lists.lists (level_of e) (us ++ w ∷ [])) (list_held a v (level_of e) h within)
       ∙ (ap (λ ls. set ls (level_of e) (list_in v (level_of e) ++ w ∷ [])) h.lists
-      ∙ sym (subst (λ k. lists_of (list_of v.waits.slots v.below) 0 (places v.waits.slots) (v.waits.waiting ++ w ∷ []) ≡ set (lists_of (list_of v.waits.slots v.below) 0 (places v.waits.slots) v.waits.waiting) k (list_in v k ++ w ∷ [])) main
-      (lists_with (list_of v.waits.slots v.below) (places v.waits.slots) v.waits.waiting w (subst (λ k. k < places v.waits.slots) (sym main) within))))))
+      ∙ sym (subst (λ k. lists_of (list_of v.waits.slots v.below) 0 (list_count v.waits.slots) (v.waits.waiting ++ w ∷ []) ≡ set (lists_of (list_of v.waits.slots v.below) 0 (list_count v.waits.slots) v.waits.waiting) k (list_in v k ++ w ∷ [])) main
+      (lists_with (list_of v.waits.slots v.below) (list_count v.waits.slots) v.waits.waiting w (subst (λ k. k < list_count v.waits.slots) (sym main) within))))))
 
   pub accepted_held : v.waits.next < 2 ^ 63 → length v.waits.waiting < v.waits.room → Holds (record a { lists = l; next = a.next + 1 }) (with_waits v (with_event v.waits e))
   accepted_held more room =

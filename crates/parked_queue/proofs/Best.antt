@@ -15,7 +15,7 @@ use Rattle.parked_queue.specs.Parted.{Parted, HasMarks, HasNoneParked, IsBest, I
 use Rattle.parked_queue.specs.Waits.{AreWaits, slot_of}
 use Rattle.std.specs.Option.{is_some}
 use Rattle.parked_queue.specs.Lists.{list_at}
-use Rattle.parked_queue.proofs.Holding.{Holds, count_held, list_held, list_if_not, list_if_parked}
+use Rattle.parked_queue.proofs.Holding.{Holds, list_held, list_if_not, list_if_parked}
 use Rattle.parked_queue.proofs.Splits.{Split, first_least, first_split, first_there, none_first}
 
 -- what it says of an event to be in the list of a slot's parked events
@@ -137,9 +137,6 @@ none_if None e = refl
 none_if (Some w) e = cc
 
 module _ (a : Kept) (v : Parted) (c s k : ℕ) (h : Holds a v) (lt : c < 4) (less : s < v.waits.slots) (list : k ≡ list_of_slot s c) where
-  pub place_there : k < length a.lists.lists
-  place_there = let count = count_held a v h in omega arith
-
   pub first_aside : (r : Option Numbered) → r ≡ slice_get (list_at a.lists k) 0 → r ≡ slice_get (list_in v (list_of_slot s c)) 0
   first_aside r e = e ∙ (ap (λ n. slice_get (list_at a.lists n) 0) list ∙ ap (λ us. slice_get us 0) (list_held a v (list_of_slot s c) h (omega arith)))
 
@@ -158,7 +155,7 @@ marks_held a v c h =
 
 -- ---- when each slot is looked at
 
--- what holds of a place but the one that is taken out of a set
+-- what holds of each member but the one that is taken out of a set
 pub still_there : (Q : ℕ → Type 0) (s : ℕ) (left less : SmallSet) → SameBut s left less → ¬ Has less s → ((k : ℕ) → Has left k → Q k) → (k : ℕ) → Has less k → Q k
 still_there Q s left less but gone all k has = all k ((but k (λ e. gone (subst (Has less) e has))).0 has)
 

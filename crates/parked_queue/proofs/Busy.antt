@@ -22,7 +22,7 @@ busy_new room slots none few empty =
     nothing (s ∷ ss) zero = refl
     nothing (s ∷ ss) (suc q) = nothing ss q
 
--- a queue is another, and its place alone may change
+-- a queue is another, and it alone may come or go
 pub busy_set : (qs : List Waits) (q : ℕ) (w : Waits) (was now : SmallSet) → AreBusy qs was → q < length qs → SameBut q was now → ((¬ Has now q) → w.waiting ≡ []) → AreBusy (set qs q w) now
 busy_set qs q w was now are lt others none =
     let long = length-set qs q w in

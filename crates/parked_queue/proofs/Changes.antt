@@ -5,7 +5,7 @@ use Rattle.std.proofs.lemmas.List.Sums.{sum_by-set}
 use Rattle.std.proofs.lemmas.Option.{slice_get_past}
 use Rattle.std.specs.declared.alloc.Global.{Global}
 use Rattle.evt_types.specs.declared.event.Numbered.{Numbered}
-use Rattle.parked_queue.specs.Chains.{IsLinked, IsPlaced, alone, longer, shorter, events_of}
+use Rattle.parked_queue.specs.Chains.{IsLinked, IsTaken, alone, longer, shorter, events_of}
 use Rattle.parked_queue.specs.Lists.{Lists, all_empty, list_at, with_list, with_last, without_first}
 use Rattle.parked_queue.specs.Store.{AreChains, IsStore, chain_at, len_of, lists_in, no_chain}
 use Rattle.parked_queue.specs.declared.chain.Chain.{Chain}
@@ -46,7 +46,7 @@ module _ (old new : Vec Node Global) (free : List ℕ) (cs : List Chain) (room k
 
 -- ---- an event has come
 
--- the node of the place has been appended to the chain
+-- the node of the node has been appended to the chain
 pub record IsAppended (old new : Vec Node Global) (c : Chain) (j : ℕ) (result : Chain) : Type 0 where
   pub alone : c.len ≡ 0 → result ≡ alone j
   pub kept : c.len ≡ 0 → new ≡ old
@@ -88,7 +88,7 @@ pub view_pushed : (old new : Vec Node Global) (free rest : Vec ℕ Global) (cs :
 view_pushed old new free rest cs room k c w v there view p =
     view_changed old new rest.items cs room k c there p.changed v (λ (ws : List Numbered). ws ++ w ∷ []) view p.here
 
-module _ (old with_node new : Vec Node Global) (free rest : Vec ℕ Global) (cs : List Chain) (k j : ℕ) (w : Numbered) (c : Chain) (there : k < length cs) (d : AreChains (slice_get old.items) free.items cs) (p : IsPlaced old.items with_node.items free.items rest.items w j) (nodes_stay : vec_capacity with_node ≡ vec_capacity old) (free_stays : vec_capacity rest ≡ vec_capacity free) (a : IsAppended with_node new (chain_at cs k) j c) where
+module _ (old with_node new : Vec Node Global) (free rest : Vec ℕ Global) (cs : List Chain) (k j : ℕ) (w : Numbered) (c : Chain) (there : k < length cs) (d : AreChains (slice_get old.items) free.items cs) (p : IsTaken old.items with_node.items free.items rest.items w j) (nodes_stay : vec_capacity with_node ≡ vec_capacity old) (free_stays : vec_capacity rest ≡ vec_capacity free) (a : IsAppended with_node new (chain_at cs k) j c) where
   unused : IsUnused (slice_get old.items) d.owner rest.items cs j
   unused =
       ⊎_elim
@@ -173,7 +173,7 @@ module _ (old with_node new : Vec Node Global) (free rest : Vec ℕ Global) (cs 
 
 -- ---- the oldest event of a chain has gone
 
--- the place is free again
+-- the node is free again
 pub record IsFreed (old new : Vec ℕ Global) (j : ℕ) : Type 0 where
   pub items : new.items ≡ old.items ++ j ∷ []
   pub count : vec_len new ≡ vec_len old + 1

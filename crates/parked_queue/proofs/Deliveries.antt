@@ -13,7 +13,7 @@ use Rattle.lists.proofs.Sums.{sum_of_map}
 use Rattle.evt_types.specs.declared.event.Delivery.{Delivery}
 use Rattle.evt_types.specs.declared.event.Numbered.{Numbered}
 use Rattle.parked_queue.specs.Merge.{is_in}
-use Rattle.parked_queue.specs.Parted.{Parted, list_in, list_of, places}
+use Rattle.parked_queue.specs.Parted.{Parted, list_in, list_of, list_count}
 use Rattle.parked_queue.specs.Parts.{all_parts, parts_of}
 use Rattle.parked_queue.specs.Waits.{AreWaits}
 use Rattle.parked_queue.proofs.Holding.{back}
@@ -40,13 +40,13 @@ joined_length g (k ∷ ks) =
 -- they have what waits
 pub all_sum : (f : Numbered → ℕ) (v : Parted) → AreWaits v.waits → sum_by f (all_parts v) ≡ sum_by f v.waits.waiting
 all_sum f v waits =
-    joined_sum f (λ k. list_in v k) (range_with_len 0 (places v.waits.slots))
-    ∙ (sym (by_number_sum f (map (λ k. list_in v k) (range_with_len 0 (places v.waits.slots)))) ∙ ap (sum_by f) (back v waits))
+    joined_sum f (λ k. list_in v k) (range_with_len 0 (list_count v.waits.slots))
+    ∙ (sym (by_number_sum f (map (λ k. list_in v k) (range_with_len 0 (list_count v.waits.slots)))) ∙ ap (sum_by f) (back v waits))
 
 all_length : (v : Parted) → AreWaits v.waits → length (all_parts v) ≡ length v.waits.waiting
 all_length v waits =
-    joined_length (λ k. list_in v k) (range_with_len 0 (places v.waits.slots))
-    ∙ (sym (by_number_length (map (λ k. list_in v k) (range_with_len 0 (places v.waits.slots)))) ∙ ap length (back v waits))
+    joined_length (λ k. list_in v k) (range_with_len 0 (list_count v.waits.slots))
+    ∙ (sym (by_number_length (map (λ k. list_in v k) (range_with_len 0 (list_count v.waits.slots)))) ∙ ap length (back v waits))
 
 -- one list more
 pub parts_more : (v : Parted) (n : ℕ) → parts_of v (n + 1) ≡ parts_of v n ++ list_in v n
@@ -61,10 +61,10 @@ more_lists v n (suc m) =
     subst (λ k. length (parts_of v n) ≤ length (parts_of v k)) (sym next) (omega arith)
 
 -- the first lists and the next one have no more than what waits
-pub parts_fit : (v : Parted) (n : ℕ) → AreWaits v.waits → n < places v.waits.slots → length (parts_of v n) + length (list_in v n) ≤ length v.waits.waiting
+pub parts_fit : (v : Parted) (n : ℕ) → AreWaits v.waits → n < list_count v.waits.slots → length (parts_of v n) + length (list_in v n) ≤ length v.waits.waiting
 parts_fit v n waits lt =
     let some = ap length (parts_more v n) ∙ length-append (parts_of v n) (list_in v n) in
-    let all : length (parts_of v (n + 1)) ≤ length (all_parts v) = subst (λ k. length (parts_of v (n + 1)) ≤ length (parts_of v k)) (omega arith) (more_lists v (n + 1) (places v.waits.slots - (n + 1))) in
+    let all : length (parts_of v (n + 1)) ≤ length (all_parts v) = subst (λ k. length (parts_of v (n + 1)) ≤ length (parts_of v k)) (omega arith) (more_lists v (n + 1) (list_count v.waits.slots - (n + 1))) in
     let whole = all_length v waits in
     omega arith
 
@@ -114,7 +114,7 @@ module _ {X : Type 0} (key : X → ℕ) where
 
   -- elements whose keys rise have one order by their keys
   sorted_by_key : (xs ys : List X) → AllPairs (λ x y. key x < key y) xs → IsNonDecreasingBy key ys → ((f : X → ℕ) → sum_by f xs ≡ sum_by f ys) → All (IsTheOne xs) ys → ys ≡ xs
-  sorted_by_key xs ys rises order same ones = by_place ys count at
+  sorted_by_key xs ys rises order same ones = by_index ys count at
     where
       keys : map key ys ≡ map key xs
       keys =
@@ -129,9 +129,9 @@ module _ {X : Type 0} (key : X → ℕ) where
           let there : k < length xs = omega (arith, count) in
           sym (ones k d h k d there (sym (get_or-map key xs k d (key d) there) ∙ (ap (λ ns. get_or ns k (key d)) (sym keys) ∙ get_or-map key ys k d (key d) h)))
 
-      by_place : (zs : List X) → length zs ≡ length xs → ((k : ℕ) (d : X) → k < length zs → get_or zs k d ≡ get_or xs k d) → zs ≡ xs
-      by_place [] none each = sym (nil_from_length xs (sym none))
-      by_place (z ∷ zs) some each = ext_get_or z (z ∷ zs) xs some (λ k h. each k z h)
+      by_index : (zs : List X) → length zs ≡ length xs → ((k : ℕ) (d : X) → k < length zs → get_or zs k d ≡ get_or xs k d) → zs ≡ xs
+      by_index [] none each = sym (nil_from_length xs (sym none))
+      by_index (z ∷ zs) some each = ext_get_or z (z ∷ zs) xs some (λ k h. each k z h)
 
 -- ---- put in order
 
@@ -145,7 +145,7 @@ joined_each P g (k ∷ ks) each = All-append P (g k) (flat_map g ks) (each k) (j
 -- what holds of all that waits holds of what is in the lists
 parts_each : (P : Numbered → Type 0) (v : Parted) → All P v.waits.waiting → All P (all_parts v)
 parts_each P v all =
-    joined_each P (λ k. list_in v k) (range_with_len 0 (places v.waits.slots)) (λ k. All-filter (is_in (list_of v.waits.slots v.below) k) P v.waits.waiting all)
+    joined_each P (λ k. list_in v k) (range_with_len 0 (list_count v.waits.slots)) (λ k. All-filter (is_in (list_of v.waits.slots v.below) k) P v.waits.waiting all)
 
 delivered_sum : (f : Delivery → ℕ) (q : ℕ) (v : Parted) → AreWaits v.waits → sum_by f (map (delivery_of q) (all_parts v)) ≡ sum_by f (map (delivery_of q) v.waits.waiting)
 delivered_sum f q v waits =

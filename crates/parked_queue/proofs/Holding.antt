@@ -11,14 +11,14 @@ use Rattle.small_set.specs.declared.set.SmallSet.{SmallSet}
 use Rattle.parked_queue.specs.Lists.{Lists, list_at}
 use Rattle.parked_queue.specs.Marks.{Kept, AreMarks, IsParking, marks_at, mask_of, parted_in}
 use Rattle.parked_queue.specs.Merge.{by_number, in_list, lists_of}
-use Rattle.parked_queue.specs.Parted.{Parted, below_at, is_parked, list_in, no_parted, list_of_slot, list_of, places}
+use Rattle.parked_queue.specs.Parted.{Parted, below_at, is_parked, list_in, no_parted, list_of_slot, list_of, list_count}
 use Rattle.parked_queue.specs.Waits.{AreWaits, slot_of}
 use Rattle.parked_queue.proofs.Merges.{merges_back}
 
 -- the fields hold the value
 pub record Holds (a : Kept) (v : Parted) : Type 0 where
   pub waits : AreWaits v.waits
-  pub lists : a.lists.lists ≡ lists_of (list_of v.waits.slots v.below) 0 (places v.waits.slots) v.waits.waiting
+  pub lists : a.lists.lists ≡ lists_of (list_of v.waits.slots v.below) 0 (list_count v.waits.slots) v.waits.waiting
   pub room : a.lists.room ≡ v.waits.room
   pub slots : a.slots ≡ v.waits.slots
   pub mask : a.mask ≡ mask_of a.slots
@@ -44,7 +44,7 @@ list_if_not slots below w le =
     (λ f. cond-false (is_parked below w) (list_of_slot (slot_of slots w) (level_of w.event)) (level_of w.event) f)
     (cases_Bool (is_parked below w))
 
-pub list_within : (slots : ℕ) (below : List ℕ) (w : Numbered) → 0 < slots → level_of w.event < 4 → list_of slots below w < places slots
+pub list_within : (slots : ℕ) (below : List ℕ) (w : Numbered) → 0 < slots → level_of w.event < 4 → list_of slots below w < list_count slots
 list_within slots below w some level =
     let slot = slot_within slots w some in
     ⊎_elim
@@ -55,8 +55,8 @@ list_within slots below w some level =
 -- ---- the value
 
 module _ (v : Parted) (waits : AreWaits v.waits) where
-  pub back : by_number (lists_of (list_of v.waits.slots v.below) 0 (places v.waits.slots) v.waits.waiting) ≡ v.waits.waiting
-  back = merges_back (list_of v.waits.slots v.below) (places v.waits.slots) v.waits.waiting waits.rising (λ k d h. list_within v.waits.slots v.below (get_or v.waits.waiting k d) waits.some (waits.levels k d h))
+  pub back : by_number (lists_of (list_of v.waits.slots v.below) 0 (list_count v.waits.slots) v.waits.waiting) ≡ v.waits.waiting
+  back = merges_back (list_of v.waits.slots v.below) (list_count v.waits.slots) v.waits.waiting waits.rising (λ k d h. list_within v.waits.slots v.below (get_or v.waits.waiting k d) waits.some (waits.levels k d h))
 
 same_parts : (ws us : List Numbered) (n m r s t u : ℕ) (b c : List ℕ) → ws ≡ us → n ≡ m → r ≡ s → t ≡ u → b ≡ c
     → ◌≡◌ {A = Parted} (record { waits = record { waiting = ws; next = n; room = r; slots = t }; below = b }) (record { waits = record { waiting = us; next = m; room = s; slots = u }; below = c })
@@ -71,7 +71,7 @@ holds_held a v h =
     let waiting : by_number a.lists.lists ≡ v.waits.waiting = ap (λ (x : Parted). x.waits.waiting) same in
     record {
       waits = subst (λ (x : Parted). AreWaits x.waits) (sym same) h.waits;
-      lists = h.lists ∙ sym (ap (λ (x : Parted). lists_of (list_of x.waits.slots x.below) 0 (places x.waits.slots) x.waits.waiting) same);
+      lists = h.lists ∙ sym (ap (λ (x : Parted). lists_of (list_of x.waits.slots x.below) 0 (list_count x.waits.slots) x.waits.waiting) same);
       mask = h.mask;
       bounds = λ c. subst (λ (x : Parted). below_at x.below c ≤ x.waits.next) (sym same) (h.bounds c);
       four = ap length h.below ∙ h.four;
@@ -97,12 +97,12 @@ held a v is same = subst (Holds a) same (record {
 -- ---- the lists
 
 -- what stands in a list
-pub list_held : (a : Kept) (v : Parted) (k : ℕ) → Holds a v → k < places v.waits.slots → list_at a.lists k ≡ list_in v k
-list_held a v k h lt = ap (λ ls. get_or ls k []) h.lists ∙ mapped_at (λ d. in_list (list_of v.waits.slots v.below) d v.waits.waiting) (places v.waits.slots) k [] lt
+pub list_held : (a : Kept) (v : Parted) (k : ℕ) → Holds a v → k < list_count v.waits.slots → list_at a.lists k ≡ list_in v k
+list_held a v k h lt = ap (λ ls. get_or ls k []) h.lists ∙ mapped_at (λ d. in_list (list_of v.waits.slots v.below) d v.waits.waiting) (list_count v.waits.slots) k [] lt
 
 -- how many lists there are
-pub count_held : (a : Kept) (v : Parted) → Holds a v → length a.lists.lists ≡ places v.waits.slots
-count_held a v h = ap length h.lists ∙ length-map-range_with_len (λ d. in_list (list_of v.waits.slots v.below) d v.waits.waiting) 0 (places v.waits.slots)
+pub count_held : (a : Kept) (v : Parted) → Holds a v → length a.lists.lists ≡ list_count v.waits.slots
+count_held a v h = ap length h.lists ∙ length-map-range_with_len (λ d. in_list (list_of v.waits.slots v.below) d v.waits.waiting) 0 (list_count v.waits.slots)
 
 -- ---- nothing waits
 
@@ -120,12 +120,12 @@ no_marks p (suc (suc zero)) slot none zeros = none slot
 no_marks p (suc (suc (suc zero))) slot none zeros = none slot
 no_marks p (suc (suc (suc (suc c)))) slot none zeros = zeros slot
 
-pub nothing_held : (l : Lists) (slots room m : ℕ) (p : SmallSet) → 0 < slots → slots ≤ 64 → m ≡ mask_of slots → l ≡ record { room = room; lists = replicate (places slots) [] } → ((k : ℕ) → ¬ Has p k) → ((k : ℕ) → ¬ Has (record { bits = 0 }) k)
+pub nothing_held : (l : Lists) (slots room m : ℕ) (p : SmallSet) → 0 < slots → slots ≤ 64 → m ≡ mask_of slots → l ≡ record { room = room; lists = replicate (list_count slots) [] } → ((k : ℕ) → ¬ Has p k) → ((k : ℕ) → ¬ Has (record { bits = 0 }) k)
     → Holds (record { lists = l; slots = slots; mask = m; below = 0 ∷ 0 ∷ 0 ∷ 0 ∷ []; parked = p ∷ p ∷ p ∷ p ∷ []; next = 0 }) (no_parted slots room)
 nothing_held l slots room m p some few mask is none zeros =
     record {
       waits = record { rising = λ i j d lt within. absurd (omega arith); below = λ k d h. absurd (omega arith); levels = λ k d h. absurd (omega arith); fits = omega arith; within = omega arith; some = some; few = few };
-      lists = ap (λ (x : Lists). x.lists) is ∙ fill_by_all (λ k. []) (replicate (places slots) []) (places slots) [] (length-replicate (places slots) []) (λ k h. get_or-replicate (places slots) k [] [] h);
+      lists = ap (λ (x : Lists). x.lists) is ∙ fill_by_all (λ k. []) (replicate (list_count slots) []) (list_count slots) [] (length-replicate (list_count slots) []) (λ k h. get_or-replicate (list_count slots) k [] [] h);
       room = ap (λ (x : Lists). x.room) is;
       slots = refl;
       mask = mask;

@@ -15,7 +15,7 @@ module _ (qs : List Waits) (ls : List SmallSet) (q : ℕ) (have : HaveLevels qs 
   pub levels_read : (d : SmallSet) → get_or ls q d ≡ levels_at ls q
   levels_read d = get_or_default ls q d (record { bits = 0 }) levels_there
 
-  -- another queue and other levels at one place
+  -- another queue, and other levels of it
   pub levels_set : (w : Waits) (l : SmallSet) → AreLevels w l → HaveLevels (set qs q w) (set ls q l)
   levels_set w l are =
       let a = length-set qs q w in

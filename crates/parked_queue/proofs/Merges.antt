@@ -6,7 +6,7 @@ use Rattle.std.proofs.lemmas.List.Sums.{sum_by-cons}
 use Rattle.lists.proofs.Lists.{eqb_same, eqb_other, eqb_is, filter-all, filter-none, filter_agree_all, filter_twice, filter-push_true, filter-push_false}
 use Rattle.lists.proofs.Ranges.{mapped_changed}
 use Rattle.evt_types.specs.declared.event.Numbered.{Numbered}
-use Rattle.parked_queue.specs.Merge.{placed, merged, by_number, is_in, in_list, lists_of}
+use Rattle.parked_queue.specs.Merge.{inserted, merged, by_number, is_in, in_list, lists_of}
 use Rattle.parked_queue.specs.Waits.{IsRising, is_other}
 
 -- ---- rising lists
@@ -21,16 +21,16 @@ not_less : (m n : ℕ) → m < n → nat_lt n m ≡ false
 not_less m n h = false_from_ne_true (nat_lt n m) (λ t. let lt = ltb-true n m t in omega arith)
 
 -- an event below all others comes first
-placed_first : (u : Numbered) (ws : List Numbered) → All (λ (w : Numbered). u.number < w.number) ws → placed u ws ≡ u ∷ ws
-placed_first u [] all = refl
-placed_first u (w ∷ ws) all = cond-true (nat_lt u.number w.number) (u ∷ w ∷ ws) (w ∷ placed u ws) (lt-ltb u.number w.number (All-head (λ (x : Numbered). u.number < x.number) w ws all))
+inserted_first : (u : Numbered) (ws : List Numbered) → All (λ (w : Numbered). u.number < w.number) ws → inserted u ws ≡ u ∷ ws
+inserted_first u [] all = refl
+inserted_first u (w ∷ ws) all = cond-true (nat_lt u.number w.number) (u ∷ w ∷ ws) (w ∷ inserted u ws) (lt-ltb u.number w.number (All-head (λ (x : Numbered). u.number < x.number) w ws all))
 
 -- what is below all of the one list stays first
 merged_first : (us : List Numbered) (w : Numbered) (ws : List Numbered) → All (λ (u : Numbered). w.number < u.number) us → merged us (w ∷ ws) ≡ w ∷ merged us ws
 merged_first [] w ws all = refl
 merged_first (u ∷ us) w ws all =
-    ap (placed u) (merged_first us w ws (All-tail (λ (x : Numbered). w.number < x.number) u us all))
-    ∙ cond-false (nat_lt u.number w.number) (u ∷ w ∷ merged us ws) (w ∷ placed u (merged us ws)) (not_less w.number u.number (All-head (λ (x : Numbered). w.number < x.number) u us all))
+    ap (inserted u) (merged_first us w ws (All-tail (λ (x : Numbered). w.number < x.number) u us all))
+    ∙ cond-false (nat_lt u.number w.number) (u ∷ w ∷ merged us ws) (w ∷ inserted u (merged us ws)) (not_less w.number u.number (All-head (λ (x : Numbered). w.number < x.number) u us all))
 
 -- what one test, another, or neither says of an event, where no event passes both
 abbrev IsOneOf : (p q r : Numbered → Bool) → Numbered → Type 0
@@ -44,8 +44,8 @@ merged_step : (p q r : Numbered → Bool) (w : Numbered) (ws : List Numbered) �
 merged_step p q r w ws (inl first) later rest =
     ap (λ b. merged (cond b (w ∷ filter p ws) (filter p ws)) (filter q (w ∷ ws))) first.0
     ∙ (ap (λ b. merged (w ∷ filter p ws) (cond b (w ∷ filter q ws) (filter q ws))) first.1
-    ∙ (ap (placed w) rest
-    ∙ (placed_first w (filter r ws) (All-filter r (λ (v : Numbered). w.number < v.number) ws later)
+    ∙ (ap (inserted w) rest
+    ∙ (inserted_first w (filter r ws) (All-filter r (λ (v : Numbered). w.number < v.number) ws later)
     ∙ sym (ap (λ b. cond b (w ∷ filter r ws) (filter r ws)) first.2))))
 merged_step p q r w ws (inr second) later rest =
     ap (λ b. merged (cond b (w ∷ filter p ws) (filter p ws)) (filter q (w ∷ ws))) second.0
@@ -124,38 +124,38 @@ module _ (g : Numbered → ℕ) where
 
 -- ---- sums over what waits
 
-placed_step : (f : Numbered → ℕ) (u w : Numbered) (ws : List Numbered) (b : Bool) → sum_by f (placed u ws) ≡ f u + sum_by f ws → sum_by f (cond b (u ∷ w ∷ ws) (w ∷ placed u ws)) ≡ f u + sum_by f (w ∷ ws)
-placed_step f u w ws true rest = sum_by-cons f u (w ∷ ws)
-placed_step f u w ws false rest =
+inserted_step : (f : Numbered → ℕ) (u w : Numbered) (ws : List Numbered) (b : Bool) → sum_by f (inserted u ws) ≡ f u + sum_by f ws → sum_by f (cond b (u ∷ w ∷ ws) (w ∷ inserted u ws)) ≡ f u + sum_by f (w ∷ ws)
+inserted_step f u w ws true rest = sum_by-cons f u (w ∷ ws)
+inserted_step f u w ws false rest =
     let more = sum_by-cons f w ws in
-    sum_by-cons f w (placed u ws) ∙ omega arith
+    sum_by-cons f w (inserted u ws) ∙ omega arith
 
-placed_sum : (f : Numbered → ℕ) (u : Numbered) (ws : List Numbered) → sum_by f (placed u ws) ≡ f u + sum_by f ws
-placed_sum f u [] = sum_by-cons f u []
-placed_sum f u (w ∷ ws) = placed_step f u w ws (nat_lt u.number w.number) (placed_sum f u ws)
+inserted_sum : (f : Numbered → ℕ) (u : Numbered) (ws : List Numbered) → sum_by f (inserted u ws) ≡ f u + sum_by f ws
+inserted_sum f u [] = sum_by-cons f u []
+inserted_sum f u (w ∷ ws) = inserted_step f u w ws (nat_lt u.number w.number) (inserted_sum f u ws)
 
 merged_sum : (f : Numbered → ℕ) (us ws : List Numbered) → sum_by f (merged us ws) ≡ sum_by f us + sum_by f ws
 merged_sum f [] ws = let none : sum_by f [] ≡ 0 = refl in omega arith
 merged_sum f (u ∷ us) ws =
     let rest = merged_sum f us ws in
     let more = sum_by-cons f u us in
-    placed_sum f u (merged us ws) ∙ omega arith
+    inserted_sum f u (merged us ws) ∙ omega arith
 
 pub by_number_sum : (f : Numbered → ℕ) (lists : List (List Numbered)) → sum_by f (by_number lists) ≡ sum_by (λ us. sum_by f us) lists
 by_number_sum f [] = refl
 by_number_sum f (us ∷ lists) = merged_sum f us (by_number lists) ∙ (ap (λ n. sum_by f us + n) (by_number_sum f lists) ∙ sym (sum_by-cons (λ xs. sum_by f xs) us lists))
 
-placed_one : (u w : Numbered) (ws : List Numbered) (b : Bool) → length (placed u ws) ≡ length ws + 1 → length (cond b (u ∷ w ∷ ws) (w ∷ placed u ws)) ≡ length ws + 2
-placed_one u w ws true rest = omega arith
-placed_one u w ws false rest = omega arith
+inserted_one : (u w : Numbered) (ws : List Numbered) (b : Bool) → length (inserted u ws) ≡ length ws + 1 → length (cond b (u ∷ w ∷ ws) (w ∷ inserted u ws)) ≡ length ws + 2
+inserted_one u w ws true rest = omega arith
+inserted_one u w ws false rest = omega arith
 
-placed_length : (u : Numbered) (ws : List Numbered) → length (placed u ws) ≡ length ws + 1
-placed_length u [] = omega arith
-placed_length u (w ∷ ws) = placed_one u w ws (nat_lt u.number w.number) (placed_length u ws) ∙ omega arith
+inserted_length : (u : Numbered) (ws : List Numbered) → length (inserted u ws) ≡ length ws + 1
+inserted_length u [] = omega arith
+inserted_length u (w ∷ ws) = inserted_one u w ws (nat_lt u.number w.number) (inserted_length u ws) ∙ omega arith
 
 merged_length : (us ws : List Numbered) → length (merged us ws) ≡ length us + length ws
 merged_length [] ws = omega arith
-merged_length (u ∷ us) ws = let rest = merged_length us ws in placed_length u (merged us ws) ∙ omega arith
+merged_length (u ∷ us) ws = let rest = merged_length us ws in inserted_length u (merged us ws) ∙ omega arith
 
 -- as many wait as are in the lists
 pub by_number_length : (lists : List (List Numbered)) → length (by_number lists) ≡ sum_by length lists

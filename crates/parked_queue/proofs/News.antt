@@ -3,19 +3,19 @@ use Rattle.std.proofs.Common.{◌≡◌, ℕ, zero, suc, ◌+◌, ◌-◌, ◌*�
 use Rattle.std.proofs.lemmas.Bool.{cases_lt}
 use Rattle.std.proofs.lemmas.List.{ext_get_or, get_or-append_right, get_or-map, get_or-replicate, get_or_append_left, length-map, length-replicate, length_push}
 use Rattle.std.proofs.lemmas.List.Folds.{sum_by-replicate}
-use Rattle.std.proofs.lemmas.List.FromFn.{fill_by_all, length-map-range_with_len}
+use Rattle.std.proofs.lemmas.List.FromFn.{fill_by_all}
 use Rattle.std.proofs.lemmas.List.Sums.{sum_by-cons}
 use Rattle.std.proofs.lemmas.Nat.Bits.{bit_at-zero}
-use Rattle.lists.proofs.Ranges.{mapped_at, mapped_same}
+use Rattle.lists.proofs.Ranges.{mapped_same}
 use Rattle.evt_types.specs.declared.event.Numbered.{Numbered}
 use Rattle.small_set.specs.SmallSets.{Has}
 use Rattle.small_set.specs.declared.set.SmallSet.{SmallSet}
 use Rattle.parked_queue.specs.Lists.{Lists, list_at, total_of}
 use Rattle.parked_queue.specs.Lists as lists
 use Rattle.parked_queue.specs.Marks.{Kept, mask_of}
-use Rattle.parked_queue.specs.Parkings.{AreApart, AreFirstParkings, AreNewParkings, AreParkings, IsNewParking, are_waits, count_in, kept, no_parking, no_parted_of, no_parteds, parking_at, parted_of, parteds_in, segment, waiting_in, waits_in}
-use Rattle.parked_queue.specs.Parted.{no_parted, places}
-use Rattle.parked_queue.specs.Waits.{AreSlots, all_empty}
+use Rattle.parked_queue.specs.Parkings.{AreApart, AreFirstParkings, AreNewParkings, AreParkings, IsNewParking, all_waits, kept, no_parking, parking_at, segment, waits_by}
+use Rattle.parked_queue.specs.Parted.{Parted, no_parted, list_count}
+use Rattle.parked_queue.specs.Waits.{AreSlots, Waits, all_empty, all_waiting, count_of, no_waits, no_waits_of}
 use Rattle.parked_queue.specs.declared.parking.Parking.{Parking}
 use Rattle.parked_queue.proofs.Holding.{Holds, holds_held, nothing_held, view_held}
 
@@ -44,22 +44,22 @@ module _ (slots : List ℕ) (ps : List Parking) (n s : ℕ) (p : Parking) (first
       (subst (λ b. IsNewParking b (get_or slots q 0) p) (sym is.base) (subst (λ k. IsNewParking n k p) (sym (ap (λ k. get_or slots k 0) e ∙ here)) is)))
       (cases_lt q (length ps))
 
-  within_more : (q : ℕ) → q < length ps + 1 → (parking_at (ps ++ p ∷ []) q).base + places (parking_at (ps ++ p ∷ []) q).slots ≤ n + places s
+  within_more : (q : ℕ) → q < length ps + 1 → (parking_at (ps ++ p ∷ []) q).base + list_count (parking_at (ps ++ p ∷ []) q).slots ≤ n + list_count s
   within_more q lt =
       ⊎_elim
-      (λ less. let w = first.apart.within q less in subst (λ (x : Parking). x.base + places x.slots ≤ n + places s) (sym (before q less)) (omega arith))
-      (λ le. let b = is.base in let k = is.slots in subst (λ (x : Parking). x.base + places x.slots ≤ n + places s) (sym (last q (omega arith))) (omega arith))
+      (λ less. let w = first.apart.within q less in subst (λ (x : Parking). x.base + list_count x.slots ≤ n + list_count s) (sym (before q less)) (omega arith))
+      (λ le. let b = is.base in let k = is.slots in subst (λ (x : Parking). x.base + list_count x.slots ≤ n + list_count s) (sym (last q (omega arith))) (omega arith))
       (cases_lt q (length ps))
 
-  apart_more : (i q : ℕ) → i < q → q < length ps + 1 → (parking_at (ps ++ p ∷ []) i).base + places (parking_at (ps ++ p ∷ []) i).slots ≤ (parking_at (ps ++ p ∷ []) q).base
+  apart_more : (i q : ℕ) → i < q → q < length ps + 1 → (parking_at (ps ++ p ∷ []) i).base + list_count (parking_at (ps ++ p ∷ []) i).slots ≤ (parking_at (ps ++ p ∷ []) q).base
   apart_more i q lower lt =
-      subst (λ (x : Parking). x.base + places x.slots ≤ (parking_at (ps ++ p ∷ []) q).base) (sym (before i (omega arith)))
+      subst (λ (x : Parking). x.base + list_count x.slots ≤ (parking_at (ps ++ p ∷ []) q).base) (sym (before i (omega arith)))
       (⊎_elim
-      (λ less. subst (λ (x : Parking). (parking_at ps i).base + places (parking_at ps i).slots ≤ x.base) (sym (before q less)) (first.apart.apart i q lower less))
+      (λ less. subst (λ (x : Parking). (parking_at ps i).base + list_count (parking_at ps i).slots ≤ x.base) (sym (before q less)) (first.apart.apart i q lower less))
       (λ le.
       let w = first.apart.within i (omega arith) in
       let b = is.base in
-      subst (λ (x : Parking). (parking_at ps i).base + places (parking_at ps i).slots ≤ x.base) (sym (last q (omega arith))) (omega arith))
+      subst (λ (x : Parking). (parking_at ps i).base + list_count (parking_at ps i).slots ≤ x.base) (sym (last q (omega arith))) (omega arith))
       (cases_lt q (length ps)))
 
   pub first_more : AreFirstParkings slots (ps ++ p ∷ []) (n + 4 * (s + 1))
@@ -109,9 +109,9 @@ none_kept : (n room s : ℕ) (p : Parking) → 0 < s → s ≤ 64 → IsNewParki
 none_kept n room s p some few is =
     subst (λ x. Holds x (no_parted s room))
     (sym
-    (same_kept _ (record { room = room; lists = replicate (places s) [] }) p.slots s p.mask (mask_of s) p.next 0 p.below (0 ∷ 0 ∷ 0 ∷ 0 ∷ []) p.parked _
-    (segment_none n room p.base (places p.slots) ∙ ap (λ k. record { room = room; lists = replicate (places k) [] }) is.slots) is.slots is.mask is.below is.parked.1 is.next))
-    (nothing_held (record { room = room; lists = replicate (places s) [] }) s room (mask_of s) is.parked.0 some few refl refl is.parked.2 zeros)
+    (same_kept _ (record { room = room; lists = replicate (list_count s) [] }) p.slots s p.mask (mask_of s) p.next 0 p.below (0 ∷ 0 ∷ 0 ∷ 0 ∷ []) p.parked _
+    (segment_none n room p.base (list_count p.slots) ∙ ap (λ k. record { room = room; lists = replicate (list_count k) [] }) is.slots) is.slots is.mask is.below is.parked.1 is.next))
+    (nothing_held (record { room = room; lists = replicate (list_count s) [] }) s room (mask_of s) is.parked.0 some few refl refl is.parked.2 zeros)
 
 module _ (slots : List ℕ) (ps : List Parking) (n room : ℕ) (are : AreNewParkings slots ps n) (each : AreSlots slots) where
   abbrev l : Lists
@@ -123,21 +123,22 @@ module _ (slots : List ℕ) (ps : List Parking) (n room : ℕ) (are : AreNewPark
       let range = each q 0 (omega arith) in
       none_kept n room (get_or slots q 0) (parking_at ps q) range.0 range.1 (are.first.each q lt)
 
-  seen_new : (q : ℕ) → q < length ps → parted_of l ps q ≡ no_parted (get_or slots q 0) room
-  seen_new q lt = view_held (kept l (parking_at ps q)) (no_parted (get_or slots q 0) room) (kept_at q lt)
+  waits_at_new : (q : ℕ) → q < length ps → waits_by l (parking_at ps q) ≡ no_waits (get_or slots q 0) room
+  waits_at_new q lt = ap (λ (x : Parted). x.waits) (view_held (kept l (parking_at ps q)) (no_parted (get_or slots q 0) room) (kept_at q lt))
 
-  pub view_new : parteds_in l ps ≡ no_parteds room slots
-  view_new =
+  -- nothing waits in any of them
+  pub waits_new : all_waits l ps ≡ all_empty room slots
+  waits_new =
       let count = are.count in
-      let long = length-map-range_with_len (parted_of l ps) 0 (length ps) in
-      let other = length-map slots (no_parted_of room) in
-      ext_get_or (no_parted 1 0) (parteds_in l ps) (no_parteds room slots) (omega arith)
-      (λ q lt. mapped_at (parted_of l ps) (length ps) q (no_parted 1 0) (omega arith)
-      ∙ (seen_new q (omega arith) ∙ sym (get_or-map (no_parted_of room) slots q 0 (no_parted 1 0) (omega arith))))
+      let long = length-map ps (waits_by l) in
+      let other = length-map slots (no_waits_of room) in
+      ext_get_or (no_waits 1 0) (all_waits l ps) (all_empty room slots) (omega arith)
+      (λ q lt. get_or-map (waits_by l) ps q no_parking (no_waits 1 0) (omega arith)
+      ∙ (waits_at_new q (omega arith) ∙ sym (get_or-map (no_waits_of room) slots q 0 (no_waits 1 0) (omega arith))))
 
-  none_waiting : (ss : List ℕ) → waiting_in (no_parteds room ss) ≡ 0
+  none_waiting : (ss : List ℕ) → all_waiting (all_empty room ss) ≡ 0
   none_waiting [] = refl
-  none_waiting (s ∷ ss) = let rest = none_waiting ss in let more = sum_by-cons count_in (no_parted s room) (no_parteds room ss) in omega arith
+  none_waiting (s ∷ ss) = let rest = none_waiting ss in let more = sum_by-cons count_of (no_waits s room) (all_empty room ss) in omega arith
 
   none_in_all : total_of l ≡ 0
   none_in_all = let e = sum_by-replicate (λ (us : List Numbered). length us) n [] in omega arith
@@ -150,13 +151,8 @@ module _ (slots : List ℕ) (ps : List Parking) (n room : ℕ) (are : AreNewPark
         apart = subst (AreApart ps) (sym (length-replicate n [])) are.first.apart;
         queues = omega arith;
         each = λ q lt. holds_held (kept l (parking_at ps q)) (no_parted (get_or slots q 0) room) (kept_at q lt);
-        counts = λ q lt. (are.first.each q lt).count ∙ sym (ap count_in (seen_new q lt));
-        total = let e = ap waiting_in view_new in let f = none_waiting slots in omega arith;
+        counts = λ q lt. (are.first.each q lt).count ∙ sym (ap (λ (x : Waits). length x.waiting) (waits_at_new q lt));
+        total = let e = ap all_waiting waits_new in let f = none_waiting slots in omega arith;
         within = omega arith;
         small = small;
       }
-
--- what waits in them
-pub waits_new : (room : ℕ) (slots : List ℕ) → are_waits (no_parteds room slots) ≡ all_empty room slots
-waits_new room [] = refl
-waits_new room (s ∷ slots) = ap (λ ws. waits_in (no_parted s room) ∷ ws) (waits_new room slots)

@@ -1,10 +1,10 @@
--- What a list of nodes has at each place, and after a change of one place.
+-- What a list of nodes has at each node, and after a change of one node.
 use Rattle.std.proofs.Common.{◌≡◌, ◌≢◌, ℕ, zero, suc, ◌<◌, List, [], ◌∷◌, ◌++◌, length, slice_get, slice_set, slice_index_or, Some, Vec, IsSome, false, true, refl, sym, ap, ◌∙◌, arith, length-append, vec_len}
 use Rattle.std.proofs.lemmas.List.{length-set}
 use Rattle.std.proofs.lemmas.Option.{slice_get_read}
 use Rattle.std.specs.declared.alloc.Global.{Global}
 use Rattle.evt_types.specs.declared.event.Numbered.{Numbered}
-use Rattle.parked_queue.specs.Chains.{IsPlaced}
+use Rattle.parked_queue.specs.Chains.{IsTaken}
 use Rattle.parked_queue.specs.declared.chain.Node.{Node}
 
 -- a node as the code reads it
@@ -19,7 +19,7 @@ some_within (n ∷ ns) (suc i) s = omega (arith, some_within ns i s)
 pub list_within : (nodes : Vec Node Global) (i : ℕ) → IsSome (slice_get nodes.items i) → i < vec_len nodes
 list_within nodes i s = omega (arith, some_within nodes.items i s, nodes.ok.0)
 
--- ---- another node at a place
+-- ---- another node at a node
 
 set_same : (ns : List Node) (i : ℕ) (n : Node) → i < length ns → slice_get (slice_set ns i n) i ≡ Some n
 set_same [] i n p = absurd (omega arith)
@@ -33,9 +33,9 @@ set_other (m ∷ ns) zero (suc j) n d = refl
 set_other (m ∷ ns) (suc i) zero n d = refl
 set_other (m ∷ ns) (suc i) (suc j) n d = set_other ns i j n (λ (e : j ≡ i). d (ap suc e))
 
--- the place that became free last is taken
-pub placed_again : (ns : List Node) (free rest : List ℕ) (w : Numbered) (next j : ℕ) → j < length ns → free ≡ rest ++ j ∷ [] → IsPlaced ns (slice_set ns j (record { item = w; next = next })) free rest w j
-placed_again ns free rest w next j p e =
+-- the node that became free last is taken
+pub taken_again : (ns : List Node) (free rest : List ℕ) (w : Numbered) (next j : ℕ) → j < length ns → free ≡ rest ++ j ∷ [] → IsTaken ns (slice_set ns j (record { item = w; next = next })) free rest w j
+taken_again ns free rest w next j p e =
     record {
       come =
           record {
@@ -60,13 +60,13 @@ more_other [] (suc i) n d = refl
 more_other (m ∷ ns) zero n d = refl
 more_other (m ∷ ns) (suc i) n d = more_other ns i n (λ (e : i ≡ length ns). d (ap suc e))
 
-no_places : (is : List ℕ) → length is ≡ 0 → is ≡ []
-no_places [] e = refl
-no_places (i ∷ is) e = absurd (omega arith)
+none_free : (is : List ℕ) → length is ≡ 0 → is ≡ []
+none_free [] e = refl
+none_free (i ∷ is) e = absurd (omega arith)
 
--- no place is free, and a new one is taken
-pub placed_new : (ns new : List Node) (free rest : List ℕ) (w : Numbered) (j : ℕ) → new ≡ ns ++ record { item = w; next = 0 } ∷ [] → length free ≡ 0 → length rest ≡ 0 → j ≡ length ns → IsPlaced ns new free rest w j
-placed_new ns new free rest w j e no_free no_rest here =
+-- no node is free, and a new one is taken
+pub taken_new : (ns new : List Node) (free rest : List ℕ) (w : Numbered) (j : ℕ) → new ≡ ns ++ record { item = w; next = 0 } ∷ [] → length free ≡ 0 → length rest ≡ 0 → j ≡ length ns → IsTaken ns new free rest w j
+taken_new ns new free rest w j e no_free no_rest here =
     let n : Node = record { item = w; next = 0 } in
     record {
       come =
@@ -80,5 +80,5 @@ placed_new ns new free rest w j e no_free no_rest here =
                 ∙ more_other ns i n (λ (same : i ≡ length ns). d (same ∙ sym here));
           };
       reused = λ (some : 0 < length free). absurd (omega (arith, some, no_free));
-      grown = λ (none : length free ≡ 0). (no_places rest no_rest, here, omega (arith, ap length e, length-append ns (n ∷ [])));
+      grown = λ (none : length free ≡ 0). (none_free rest no_rest, here, omega (arith, ap length e, length-append ns (n ∷ [])));
     }

@@ -11,7 +11,7 @@ use Rattle.small_set.specs.declared.set.SmallSet.{SmallSet}
 use Rattle.parked_queue.specs.Lists.{Lists, list_at, total_of, with_last, without_first}
 use Rattle.parked_queue.specs.Marks.{Kept, AreMarks, marks_at}
 use Rattle.parked_queue.specs.Merge.{is_in, in_list, lists_of}
-use Rattle.parked_queue.specs.Parted.{Parted, below_at, list_in, own_first, list_of_slot, list_of, places, with_below}
+use Rattle.parked_queue.specs.Parted.{Parted, below_at, list_in, own_first, list_of_slot, list_of, list_count, with_below}
 use Rattle.parked_queue.specs.Waits.{AreWaits, slot_of}
 use Rattle.parked_queue.proofs.Accepting.{total_held}
 use Rattle.parked_queue.proofs.Totals.{total_without}
@@ -65,8 +65,8 @@ module _ (v : Parted) (w : Numbered) (c : ℕ) (waits : AreWaits v.waits) (level
   leaves : was w ≡ c
   leaves = eqb_is (was w) c split.is.here
 
-  same_place : (u : Numbered) → (level_of u.event ≡ c → (u.number < below_at v.below c) ⊎ (w.number < u.number)) → becomes u ≡ was u
-  same_place u h =
+  same_list : (u : Numbered) → (level_of u.event ≡ c → (u.number < below_at v.below c) ⊎ (w.number < u.number)) → becomes u ≡ was u
+  same_list u h =
       ⊎_elim
       (λ here. ⊎_elim
       (λ lower. let e = grown_here in let le = not_parked in list_if_parked v.waits.slots grown u (subst (λ k. u.number < below_at grown k) (sym here) (omega arith)) ∙ sym (list_if_parked v.waits.slots v.below u (subst (λ k. u.number < below_at v.below k) (sym here) lower)))
@@ -82,10 +82,10 @@ module _ (v : Parted) (w : Numbered) (c : ℕ) (waits : AreWaits v.waits) (level
   as_before : All (λ (u : Numbered). becomes u ≡ was u) split.before
   as_before k d h =
       let u : Numbered = get_or split.before k d in
-      same_place u (λ here. ⊎_elim (λ lower. inl lower) (λ le. absurd (false≢true (sym (split.is.none k d h) ∙ stands u here le))) (cases_lt u.number (below_at v.below c)))
+      same_list u (λ here. ⊎_elim (λ lower. inl lower) (λ le. absurd (false≢true (sym (split.is.none k d h) ∙ stands u here le))) (cases_lt u.number (below_at v.below c)))
 
   as_behind : All (λ (u : Numbered). becomes u ≡ was u) split.behind
-  as_behind k d h = same_place (get_or split.behind k d) (λ here. inr (split.is.higher k d h))
+  as_behind k d h = same_list (get_or split.behind k d) (λ here. inr (split.is.higher k d h))
 
   levels_behind : All (λ (u : Numbered). level_of u.event < 4) split.behind
   levels_behind =
@@ -178,19 +178,19 @@ module _ (a : Kept) (v : Parted) (w : Numbered) (c : ℕ) (h : Holds a v) (level
   abbrev aside : ℕ
   aside = list_of_slot (slot_of v.waits.slots w) c
 
-  pub aside_within : aside < places v.waits.slots
+  pub aside_within : aside < list_count v.waits.slots
   aside_within = let slot = slot_within v.waits.slots w h.waits.some in omega arith
 
-  pub main_within : c < places v.waits.slots
+  pub main_within : c < list_count v.waits.slots
   main_within = let some = h.waits.some in omega arith
 
-  pub lists_parked : (l : Lists) → l ≡ with_last (without_first a.lists c) aside w → l.lists ≡ lists_of (list_of v.waits.slots (set v.below c (w.number + 1))) 0 (places v.waits.slots) v.waits.waiting
+  pub lists_parked : (l : Lists) → l ≡ with_last (without_first a.lists c) aside w → l.lists ≡ lists_of (list_of v.waits.slots (set v.below c (w.number + 1))) 0 (list_count v.waits.slots) v.waits.waiting
   lists_parked l is =
       ap (λ (x : Lists). x.lists) is
       ∙ (ap (λ us. set (set a.lists.lists c (drop 1 us)) aside (get_or (set a.lists.lists c (drop 1 us)) aside [] ++ w ∷ [])) (list_held a v c h main_within)
       ∙ (ap (λ us. set (set a.lists.lists c (drop 1 (list_in v c))) aside (us ++ w ∷ [])) (get_or-set_other a.lists.lists c aside (drop 1 (list_in v c)) [] (λ e. omega arith) ∙ list_held a v aside h aside_within)
       ∙ (ap (λ ls. set (set ls c (drop 1 (list_in v c))) aside (list_in v aside ++ w ∷ [])) h.lists
-      ∙ sym (lists_after v w c h.waits level lt h.four head (places v.waits.slots) main_within aside_within))))
+      ∙ sym (lists_after v w c h.waits level lt h.four head (list_count v.waits.slots) main_within aside_within))))
 
   bounds_after : (k : ℕ) → below_at (set v.below c (w.number + 1)) k ≤ v.waits.next
   bounds_after k =

@@ -1,10 +1,10 @@
--- Paths of places in a store of nodes.
+-- Paths of nodes in a store of nodes.
 use Rattle.std.proofs.Common.{◌≡◌, ◌≢◌, ℕ, zero, suc, ◌+◌, ◌-◌, ◌<◌, List, [], ◌∷◌, ◌++◌, length, Option, Some, None, IsSome, refl, sym, ap, subst, ◌∙◌, arith, add-one}
 use Rattle.evt_types.specs.declared.event.Numbered.{Numbered}
 use Rattle.parked_queue.specs.Chains.{next_of, item_then, path, items, final, IsFresh, AreNodes}
 use Rattle.parked_queue.specs.declared.chain.Node.{Node}
 
--- ---- places that are not in a list
+-- ---- nodes that are not in a list
 
 pub fresh_longer : (i j : ℕ) (is : List ℕ) → j ≢ i → IsFresh i is → IsFresh i (is ++ j ∷ [])
 fresh_longer i j [] n f = (n, tt)
@@ -16,7 +16,7 @@ fresh_split i j (k ∷ is) f =
     let rest = fresh_split i j is f.1 in
     (rest.0, (f.0, rest.1))
 
--- the last place is none that the list lacks
+-- the last node is none that the list lacks
 final_differs : (i d : ℕ) (is : List ℕ) → d ≢ i → IsFresh i is → final d is ≢ i
 final_differs i d [] n f = n
 final_differs i d (j ∷ is) n f = final_differs i j is f.0 f.1
@@ -25,7 +25,7 @@ pub final_longer : (d j : ℕ) (is : List ℕ) → final d (is ++ j ∷ []) ≡ 
 final_longer d j [] = refl
 final_longer d j (i ∷ is) = final_longer i j is
 
--- with the first place taken out, the last one stays
+-- with the first node taken out, the last one stays
 pub final_rest : (d i : ℕ) (is : List ℕ) → 0 < length is → final d is ≡ final i is
 final_rest d i [] p = absurd (omega arith)
 final_rest d i (j ∷ is) p = refl
@@ -35,14 +35,14 @@ module _ (at : ℕ → Option Node) where
   length_path h zero = refl
   length_path h (suc n) = ap suc (length_path (next_of (at h)) n)
 
-  -- the first place, and those behind it
+  -- the first node, and those behind it
   pub path_first : (h n : ℕ) → 0 < n → path at h n ≡ h ∷ path at (next_of (at h)) (n - 1)
   path_first h zero p = absurd (omega arith)
   path_first h (suc n) p =
       let less : n ≡ suc n - 1 = omega arith in
       ap (λ (m : ℕ). h ∷ path at (next_of (at h)) m) less
 
-  -- a place that has no node is in no list
+  -- a node that has no node is in no list
   pub fresh_vacant : (owner : ℕ → ℕ) (k j : ℕ) (is : List ℕ) → at j ≡ None → AreNodes at owner k is → IsFresh j is
   fresh_vacant owner k j [] v p = tt
   fresh_vacant owner k j (i ∷ is) v p = (
@@ -55,29 +55,29 @@ module _ (at : ℕ → Option Node) where
   fresh_other owner k j [] n p = tt
   fresh_other owner k j (i ∷ is) n p = (λ (e : i ≡ j). n (ap owner (sym e) ∙ p.1), fresh_other owner k j is n p.3)
 
-  final_place : (owner : ℕ → ℕ) (k d : ℕ) (is : List ℕ) → IsSome (at d) → owner d ≡ k → AreNodes at owner k is → IsSome (at (final d is)) × (owner (final d is) ≡ k)
-  final_place owner k d [] s o p = (s, o)
-  final_place owner k d (i ∷ is) s o p = final_place owner k i is p.0 p.1 p.3
+  final_owned : (owner : ℕ → ℕ) (k d : ℕ) (is : List ℕ) → IsSome (at d) → owner d ≡ k → AreNodes at owner k is → IsSome (at (final d is)) × (owner (final d is) ≡ k)
+  final_owned owner k d [] s o p = (s, o)
+  final_owned owner k d (i ∷ is) s o p = final_owned owner k i is p.0 p.1 p.3
 
-  -- the last place has a node, of the same owner
-  pub last_place : (owner : ℕ → ℕ) (k d : ℕ) (is : List ℕ) → 0 < length is → AreNodes at owner k is → IsSome (at (final d is)) × (owner (final d is) ≡ k)
-  last_place owner k d [] l p = absurd (omega arith)
-  last_place owner k d (i ∷ is) l p = final_place owner k i is p.0 p.1 p.3
+  -- the last node has a node, of the same owner
+  pub last_owned : (owner : ℕ → ℕ) (k d : ℕ) (is : List ℕ) → 0 < length is → AreNodes at owner k is → IsSome (at (final d is)) × (owner (final d is) ≡ k)
+  last_owned owner k d [] l p = absurd (omega arith)
+  last_owned owner k d (i ∷ is) l p = final_owned owner k i is p.0 p.1 p.3
 
-  pub places_longer : (owner : ℕ → ℕ) (k j : ℕ) (is : List ℕ) → IsSome (at j) → owner j ≡ k → IsFresh j is → AreNodes at owner k is → AreNodes at owner k (is ++ j ∷ [])
-  places_longer owner k j [] s o f p = (s, o, tt, tt)
-  places_longer owner k j (i ∷ is) s o f p = (
+  pub nodes_longer : (owner : ℕ → ℕ) (k j : ℕ) (is : List ℕ) → IsSome (at j) → owner j ≡ k → IsFresh j is → AreNodes at owner k is → AreNodes at owner k (is ++ j ∷ [])
+  nodes_longer owner k j [] s o f p = (s, o, tt, tt)
+  nodes_longer owner k j (i ∷ is) s o f p = (
     p.0,
     p.1,
     fresh_longer i j is (λ (e : j ≡ i). f.0 (sym e)) p.2,
-    places_longer owner k j is s o f.1 p.3,
+    nodes_longer owner k j is s o f.1 p.3,
   )
 
-  -- the last place, and those before it
-  pub places_split : (owner : ℕ → ℕ) (k j : ℕ) (is : List ℕ) → AreNodes at owner k (is ++ j ∷ []) → IsSome (at j) × (owner j ≡ k) × IsFresh j is × AreNodes at owner k is
-  places_split owner k j [] p = (p.0, p.1, tt, tt)
-  places_split owner k j (i ∷ is) p =
-      let behind = places_split owner k j is p.3 in
+  -- the last node, and those before it
+  pub nodes_split : (owner : ℕ → ℕ) (k j : ℕ) (is : List ℕ) → AreNodes at owner k (is ++ j ∷ []) → IsSome (at j) × (owner j ≡ k) × IsFresh j is × AreNodes at owner k is
+  nodes_split owner k j [] p = (p.0, p.1, tt, tt)
+  nodes_split owner k j (i ∷ is) p =
+      let behind = nodes_split owner k j is p.3 in
       let fresh = fresh_split i j is p.2 in
       (behind.0, behind.1, (λ (e : i ≡ j). fresh.0 (sym e), behind.2), (p.0, p.1, fresh.1, behind.3))
 
@@ -102,7 +102,7 @@ module _ (at : ℕ → Option Node) where
 -- ---- a change of the store
 
 module _ (at new : ℕ → Option Node) where
-  -- at one place
+  -- at one node
   pub path_kept : (j h n : ℕ) → ((i : ℕ) → i ≢ j → new i ≡ at i) → IsFresh j (path at h n) → path new h n ≡ path at h n
   path_kept j h zero kept f = refl
   path_kept j h (suc n) kept f =
@@ -119,13 +119,13 @@ module _ (at new : ℕ → Option Node) where
   items_same [] same = refl
   items_same (i ∷ is) same = same i (items new is) ∙ ap (item_then (at i)) (items_same is same)
 
-  pub places_kept : (owner after : ℕ → ℕ) (k j : ℕ) (is : List ℕ) → ((i : ℕ) → i ≢ j → IsSome (at i) → IsSome (new i)) → ((i : ℕ) → i ≢ j → after i ≡ owner i) → IsFresh j is → AreNodes at owner k is → AreNodes new after k is
-  places_kept owner after k j [] some owned f p = tt
-  places_kept owner after k j (i ∷ is) some owned f p = (
+  pub nodes_kept : (owner after : ℕ → ℕ) (k j : ℕ) (is : List ℕ) → ((i : ℕ) → i ≢ j → IsSome (at i) → IsSome (new i)) → ((i : ℕ) → i ≢ j → after i ≡ owner i) → IsFresh j is → AreNodes at owner k is → AreNodes new after k is
+  nodes_kept owner after k j [] some owned f p = tt
+  nodes_kept owner after k j (i ∷ is) some owned f p = (
     some i f.0 p.0,
     owned i f.0 ∙ p.1,
     p.2,
-    places_kept owner after k j is some owned f.1 p.3,
+    nodes_kept owner after k j is some owned f.1 p.3,
   )
 
   module _ (owner : ℕ → ℕ) (k l j : ℕ) (linked : next_of (new l) ≡ j) (kept : (i : ℕ) → i ≢ l → new i ≡ at i) where

@@ -1,33 +1,17 @@
--- What is seen of one queue among several, and what stays where nothing of it changes.
-use Rattle.std.proofs.Common.{◌≡◌, ℕ, ◌<◌, List, get_or, length, set, sym, ap, ◌∙◌, subst, ⊎_elim, arith}
+-- The words of what waits, once a queue is another.
+use Rattle.std.proofs.Common.{◌≡◌, ℕ, ◌<◌, List, [], filter, length, set, get_or, sym, ap, ◌∙◌, subst, ⊎_elim, arith}
 use Rattle.std.proofs.lemmas.Bool.{cases_eq}
-use Rattle.std.proofs.lemmas.List.{length-map, set-get_or}
+use Rattle.std.proofs.lemmas.List.{nil_from_length, set-get_or}
+use Rattle.evt_types.specs.Plan.{level_of}
+use Rattle.evt_types.specs.declared.event.Event.{Event}
 use Rattle.small_set.specs.SmallSets.{Has, SameBut}
 use Rattle.small_set.specs.declared.set.SmallSet.{SmallSet}
-use Rattle.parked_queue.specs.Lists.{Lists}
-use Rattle.parked_queue.specs.Levels.{HaveLevels}
-use Rattle.parked_queue.specs.Parkings.{AreParkings, are_waits, no_parking, parking_at, parted_at, parteds_in, waiting_in, waits_in}
-use Rattle.parked_queue.specs.Parted.{Parted}
-use Rattle.parked_queue.specs.Waits.{AreLevels, HasNoneOf, Waits, all_waiting, no_waits, waits_at}
-use Rattle.parked_queue.specs.declared.parking.Parking.{Parking}
-use Rattle.parked_queue.proofs.Levels.{levels_read, levels_set}
-use Rattle.parked_queue.proofs.Parkings.{waiting_same, waits_read}
-
--- the queue's part is read, and nothing changes
-pub untouched : (l : Lists) (ps : List Parking) (vs : List Parted) → AreParkings l ps → parteds_in l ps ≡ vs → (q : ℕ) (x : Parking) → x ≡ parking_at ps q → (m : Lists) → m ≡ l → AreParkings m (set ps q x) × (parteds_in m (set ps q x) ≡ vs)
-untouched l ps vs are view q x is m same =
-    let back : set ps q x ≡ ps = ap (set ps q) is ∙ set-get_or ps q no_parking in
-    (subst (AreParkings m) (sym back) (subst (λ k. AreParkings k ps) (sym same) are), ap (parteds_in m) back ∙ (ap (λ k. parteds_in k ps) same ∙ view))
-
-module _ (vs : List Parted) (qs : List Waits) (q : ℕ) (view : are_waits vs ≡ qs) where
-  pub seen_waits : (parted_at vs q).waits ≡ waits_at qs q
-  seen_waits = sym (waits_read vs q) ∙ ap (λ ws. waits_at ws q) view
-
-  pub seen_there : q < length qs → q < length vs
-  seen_there lt = let e = ap length view in let n = length-map vs waits_in in omega arith
-
-  pub seen_room : all_waiting qs < (waits_at qs q).room → waiting_in vs < (parted_at vs q).waits.room
-  seen_room lt = let n = waiting_same vs in let e = ap all_waiting view in let room = ap (λ (w : Waits). w.room) seen_waits in omega arith
+use Rattle.parked_queue.specs.Busy.{AreNoted}
+use Rattle.parked_queue.specs.Levels.{HaveLevels, levels_at}
+use Rattle.parked_queue.specs.Waits.{AreLevels, HasNoneOf, Waits, is_other, no_waits, waits_at, with_event, without_number}
+use Rattle.parked_queue.proofs.Busy.{busy_set}
+use Rattle.parked_queue.proofs.Firsts.{levels_still, levels_with, levels_without, none_of_empty}
+use Rattle.parked_queue.proofs.Levels.{levels_kept, levels_read, levels_set}
 
 -- a level of which nothing waits is no longer looked at
 levels_less : (w : Waits) (c : ℕ) (was now : SmallSet) → AreLevels w was → SameBut c was now → ¬ Has now c → HasNoneOf w c → AreLevels w now
@@ -37,11 +21,52 @@ levels_less w c was now are others gone none =
       rest = λ k never. ⊎_elim (λ e. subst (HasNoneOf w) (sym e) none) (λ ne. are.rest k (λ has. never ((others k ne).1 has))) (cases_eq k c);
     }
 
-pub emptied : (vs us : List Parted) (qs : List Waits) (ls : List SmallSet) (q c : ℕ) → are_waits us ≡ are_waits vs → are_waits vs ≡ qs → HaveLevels (are_waits vs) ls → q < length qs → (was now : SmallSet) → was ≡ get_or ls q was → SameBut c was now → ¬ Has now c
-    → HasNoneOf (parted_at us q).waits c → HaveLevels (are_waits us) (set ls q now)
-emptied vs us qs ls q c same view have there was now read others gone none =
-    let seen : HaveLevels (are_waits us) ls = subst (λ ws. HaveLevels ws ls) (sym same) have in
-    let lt : q < length (are_waits us) = subst (λ ws. q < length ws) (sym (same ∙ view)) there in
-    let are : AreLevels (waits_at (are_waits us) q) was = subst (AreLevels (waits_at (are_waits us) q)) (sym (read ∙ levels_read (are_waits us) ls q seen lt was)) (seen.each q lt) in
-    subst (λ ws. HaveLevels ws (set ls q now)) (set-get_or (are_waits us) q (no_waits 1 0))
-    (levels_set (are_waits us) ls q seen lt (waits_at (are_waits us) q) now (levels_less (waits_at (are_waits us) q) c was now are others gone (subst (λ w. HasNoneOf w c) (sym (waits_read us q)) none)))
+module _ (qs : List Waits) (ls : List SmallSet) (busy : SmallSet) (q : ℕ) (are : AreNoted qs ls busy) (lt : q < length qs) where
+  -- the levels as they are read
+  of_read : (was : SmallSet) → was ≡ get_or ls q was → AreLevels (waits_at qs q) was
+  of_read was read = subst (AreLevels (waits_at qs q)) (sym (read ∙ levels_read qs ls q are.levels lt was)) (are.levels.each q lt)
+
+  -- a level of which nothing waits has left
+  pub emptied : (c : ℕ) (was now : SmallSet) → was ≡ get_or ls q was → SameBut c was now → ¬ Has now c → HasNoneOf (waits_at qs q) c → AreNoted qs (set ls q now) busy
+  emptied c was now read others gone none =
+      record {
+        levels = subst (λ ws. HaveLevels ws (set ls q now)) (set-get_or qs q (no_waits 1 0)) (levels_set qs ls q are.levels lt (waits_at qs q) now (levels_less (waits_at qs q) c was now (of_read was read) others gone none));
+        busy = are.busy;
+      }
+
+  -- the first event of a level has come
+  pub noted_first : (e : Event) (was now many : SmallSet) → was ≡ get_or ls q was → level_of e < 4 → Has now (level_of e) → SameBut (level_of e) was now → Has many q → SameBut q busy many → AreNoted (set qs q (with_event (waits_at qs q) e)) (set ls q now) many
+  noted_first e was now many read level has others into same =
+      record {
+        levels = levels_set qs ls q are.levels lt (with_event (waits_at qs q) e) now (levels_with (waits_at qs q) e was now level has others (of_read was read));
+        busy = busy_set qs q (with_event (waits_at qs q) e) busy many are.busy lt same (λ never. absurd (never into));
+      }
+
+  -- one more has come
+  pub noted_more : (e : Event) → level_of e < 4 → ¬ HasNoneOf (waits_at qs q) (level_of e) → AreNoted (set qs q (with_event (waits_at qs q) e)) ls busy
+  noted_more e level some =
+      record {
+        levels = levels_kept qs ls q are.levels lt (with_event (waits_at qs q) e) (levels_still (waits_at qs q) e (levels_at ls q) level some (are.levels.each q lt));
+        busy =
+            busy_set qs q (with_event (waits_at qs q) e) busy busy are.busy lt (λ k ne. ((λ has. has), (λ has. has)))
+            (λ never. absurd (some (none_of_empty (waits_at qs q) (level_of e) (are.busy.rest q never))));
+      }
+
+  -- an event has left
+  noted_without : (n : ℕ) (now : SmallSet) → SameBut q busy now → ((¬ Has now q) → (without_number (waits_at qs q) n).waiting ≡ []) → AreNoted (set qs q (without_number (waits_at qs q) n)) ls now
+  noted_without n now same none =
+      record {
+        levels = levels_kept qs ls q are.levels lt (without_number (waits_at qs q) n) (levels_without (waits_at qs q) n (levels_at ls q) (are.levels.each q lt));
+        busy = busy_set qs q (without_number (waits_at qs q) n) busy now are.busy lt same none;
+      }
+
+  -- as the last one, or not
+  pub noted_last : (n : ℕ) (now : SmallSet) → SameBut q busy now → length (without_number (waits_at qs q) n).waiting ≡ 0 → AreNoted (set qs q (without_number (waits_at qs q) n)) ls now
+  noted_last n now same none = noted_without n now same (λ never. nil_from_length (without_number (waits_at qs q) n).waiting none)
+
+  pub noted_less : (n : ℕ) → AreNoted (set qs q (without_number (waits_at qs q) n)) ls busy
+  noted_less n = noted_without n busy (λ k ne. ((λ has. has), (λ has. has))) (λ never. ap (filter (is_other n)) (are.busy.rest q never))
+
+-- the same waits as before
+pub noted_still : (qs : List Waits) (ls : List SmallSet) (busy : SmallSet) (q : ℕ) (w : Waits) → w ≡ waits_at qs q → AreNoted qs ls busy → AreNoted (set qs q w) ls busy
+noted_still qs ls busy q w is are = subst (λ ws. AreNoted ws ls busy) (sym (ap (set qs q) is ∙ set-get_or qs q (no_waits 1 0))) are

@@ -1,12 +1,12 @@
 -- A queue's part of the lists, and what changes there alone.
-use Rattle.std.proofs.Common.{◌≡◌, ℕ, ◌+◌, ◌<◌, ◌≤◌, ◌⊎◌, ⊎_elim, List, [], ◌∷◌, ◌++◌, drop, length, refl, sym, ap, ◌∙◌, arith}
+use Rattle.std.proofs.Common.{◌≡◌, ℕ, ◌+◌, ◌<◌, ◌≤◌, ⊎_elim, List, [], ◌∷◌, ◌++◌, drop, length, refl, sym, ap, ◌∙◌, arith}
 use Rattle.std.proofs.lemmas.List.{length-set, get_or-set_same, get_or-set_other}
 use Rattle.std.proofs.lemmas.List.FromFn.{length-map-range_with_len}
 use Rattle.std.proofs.lemmas.List.Sums.{sum_by-set}
 use Rattle.lists.proofs.Ranges.{mapped_at, mapped_changed, mapped_same}
 use Rattle.evt_types.specs.declared.event.Numbered.{Numbered}
 use Rattle.parked_queue.specs.Lists.{Lists, list_at, total_of, with_last, with_list, without_first}
-use Rattle.parked_queue.specs.Parkings.{segment}
+use Rattle.parked_queue.specs.Parkings.{IsBut, segment}
 
 -- what stands in one of them
 pub segment_at : (l : Lists) (b n k : ℕ) → k < n → list_at (segment l b n) k ≡ list_at l (b + k)
@@ -39,13 +39,7 @@ segment_same l m b n room same =
     same_lists m.room l.room _ _ room
     (mapped_same (λ j. list_at l (b + j)) (λ j. list_at m (b + j)) n (λ j lt. same (b + j) (omega arith) (omega arith)))
 
--- the lists of m are those of l, but for the part from b on of so many, and the part makes all the difference in how many events
--- there are
-pub record IsBut (b n : ℕ) (l m : Lists) : Type 0 where
-  pub room : m.room ≡ l.room
-  pub count : length m.lists ≡ length l.lists
-  pub others : (j : ℕ) → (j < b) ⊎ (b + n ≤ j) → list_at m j ≡ list_at l j
-  pub total : total_of m + total_of (segment l b n) ≡ total_of l + total_of (segment m b n)
+-- ---- what changes in that part alone
 
 pub but_none : (b n : ℕ) (l : Lists) → IsBut b n l l
 but_none b n l = record { room = refl; count = refl; others = λ j out. refl; total = refl }

@@ -10,7 +10,7 @@ use Rattle.small_set.specs.SmallSets.{Has}
 use Rattle.parked_queue.specs.Lists.{Lists, has_number, list_at, with_list, without_first}
 use Rattle.parked_queue.specs.Marks.{Kept, marks_at}
 use Rattle.parked_queue.specs.Merge.{is_in, lists_of}
-use Rattle.parked_queue.specs.Parted.{Parted, below_at, list_in, own_first, list_of_slot, list_of_number, list_of, places, with_waits}
+use Rattle.parked_queue.specs.Parted.{Parted, below_at, list_in, own_first, list_of_slot, list_of_number, list_of, list_count, with_waits}
 use Rattle.parked_queue.specs.Waits.{Waits, AreWaits, IsOnlyOf, IsRising, is_other, slot_of, without_number}
 use Rattle.parked_queue.proofs.Holding.{Holds, count_held, list_held}
 use Rattle.parked_queue.proofs.Merges.{lists_without}
@@ -30,8 +30,8 @@ waits_without q n waits =
       few = waits.few;
     }
 
-pub list_of_number_within : (below : List ℕ) (c slot n slots : ℕ) → c < 4 → slot < slots → list_of_number below c slot n < places slots
-list_of_number_within below c slot n slots lt less = cond_both (nat_lt n (below_at below c)) (list_of_slot slot c) c (λ k. k < places slots) (λ _. omega arith) (λ _. omega arith)
+pub list_of_number_within : (below : List ℕ) (c slot n slots : ℕ) → c < 4 → slot < slots → list_of_number below c slot n < list_count slots
+list_of_number_within below c slot n slots lt less = cond_both (nat_lt n (below_at below c)) (list_of_slot slot c) c (λ k. k < list_count slots) (λ _. omega arith) (λ _. omega arith)
 
 -- where the event of the number is
 only_there : (v : Parted) (c slot n : ℕ) → IsOnlyOf v.waits c slot n → All (λ (w : Numbered). w.number ≡ n → list_of v.waits.slots v.below w ≡ list_of_number v.below c slot n) v.waits.waiting
@@ -56,8 +56,8 @@ own_list v c slot n only has =
     ∙ All-filter (is_in g c) (λ (w : Numbered). w.number ≡ n → g w ≡ list_of_number v.below c slot n) v.waits.waiting (only_there v c slot n only) k d h same)
 
 module _ (a : Kept) (v : Parted) (c slot n k : ℕ) (h : Holds a v) (lt : c < 4) (less : slot < v.waits.slots) (list : k ≡ list_of_number v.below c slot n) where
-  within : k < places v.waits.slots
-  within = subst (λ m. m < places v.waits.slots) (sym list) (list_of_number_within v.below c slot n v.waits.slots lt less)
+  within : k < list_count v.waits.slots
+  within = subst (λ m. m < list_count v.waits.slots) (sym list) (list_of_number_within v.below c slot n v.waits.slots lt less)
 
   pub list_there : k < length a.lists.lists
   list_there = subst (λ m. k < m) (sym (count_held a v h)) within
@@ -66,12 +66,12 @@ module _ (a : Kept) (v : Parted) (c slot n k : ℕ) (h : Holds a v) (lt : c < 4)
   list_rises = subst IsRising (sym (list_held a v k h within)) (AllPairs-filter (λ (u w : Numbered). u.number < w.number) (is_in (list_of v.waits.slots v.below) k) v.waits.waiting h.waits.rising)
 
   module _ (only : IsOnlyOf v.waits c slot n) (l : Lists) (is : l ≡ with_list a.lists k (filter (is_other n) (list_at a.lists k))) where
-    lists_taken : l.lists ≡ lists_of (list_of v.waits.slots v.below) 0 (places v.waits.slots) (filter (is_other n) v.waits.waiting)
+    lists_taken : l.lists ≡ lists_of (list_of v.waits.slots v.below) 0 (list_count v.waits.slots) (filter (is_other n) v.waits.waiting)
     lists_taken =
         ap (λ (x : Lists). x.lists) is
         ∙ (ap (λ us. set a.lists.lists k (filter (is_other n) us)) (list_held a v k h within)
         ∙ (ap (λ ls. set ls k (filter (is_other n) (list_in v k))) h.lists
-        ∙ sym (lists_without (list_of v.waits.slots v.below) (places v.waits.slots) v.waits.waiting n k within
+        ∙ sym (lists_without (list_of v.waits.slots v.below) (list_count v.waits.slots) v.waits.waiting n k within
         (subst (λ m. All (λ (w : Numbered). w.number ≡ n → list_of v.waits.slots v.below w ≡ m) v.waits.waiting) (sym list) (only_there v c slot n only)))))
 
     pub taken_held : Holds (record a { lists = l }) (with_waits v (without_number v.waits n))

@@ -24,7 +24,7 @@ module _ (at : ℕ → Option Node) where
   pub length_events : (free : List ℕ) (cs : List Chain) (k : ℕ) → AreChains at free cs → length (events_of at (chain_at cs k)) ≡ (chain_at cs k).len
   length_events free cs k d =
       let c = chain_at cs k in
-      length_items at d.owner (suc k) (path_of at c) (d.places k) ∙ length_path at c.first c.len
+      length_items at d.owner (suc k) (path_of at c) (d.taken k) ∙ length_path at c.first c.len
 
   total_from : (cs : List Chain) → ((k : ℕ) → length (events_of at (chain_at cs k)) ≡ (chain_at cs k).len) → sum_by length (map (events_of at) cs) ≡ sum_by len_of cs
   total_from [] e = refl

@@ -1,4 +1,4 @@
--- Chains of nodes. `at` is what the store has at each place.
+-- Chains of nodes. `at` is what the store has at each number of a node.
 use Rattle.std.specs.Prelude.{ℕ, ◌≡◌, ◌≢◌, ◌+◌, ◌-◌, ◌<◌, zero, suc, List, [], ◌∷◌, ◌++◌, length, slice_get, Option, Some, None, IsSome}
 use Rattle.evt_types.specs.declared.event.Numbered.{Numbered}
 use Rattle.parked_queue.specs.declared.chain.Chain.{Chain}
@@ -14,24 +14,24 @@ abbrev pub item_then : Option Node → List Numbered → List Numbered
 item_then None ws = ws
 item_then (Some n) ws = n.item ∷ ws
 
--- the places of so many nodes, from the first one on
+-- so many nodes, from the first one on
 abbrev pub path : (ℕ → Option Node) → ℕ → ℕ → List ℕ
 path at i zero = []
 path at i (suc n) = i ∷ path at (next_of (at i)) n
 
--- the events at the places
+-- the events at the nodes
 abbrev pub items : (ℕ → Option Node) → List ℕ → List Numbered
 items at [] = []
 items at (i ∷ is) = item_then (at i) (items at is)
 
--- ---- places
+-- ---- nodes
 
 -- the last one
 abbrev pub final : ℕ → List ℕ → ℕ
 final d [] = d
 final d (i ∷ is) = final i is
 
--- none of them is the place
+-- none of them is the node
 abbrev pub IsFresh : ℕ → List ℕ → Type 0
 IsFresh j [] = Unit {0}
 IsFresh j (i ∷ is) = (i ≢ j) × IsFresh j is
@@ -63,21 +63,21 @@ events_of at c = items at (path_of at c)
 
 -- ---- changes of the nodes
 
--- the node at the place leads to the next one, and nothing else has changed
-pub record IsLinked (old new : List Node) (place next : ℕ) : Type 0 where
+-- the node leads to the next one, and nothing else has changed
+pub record IsLinked (old new : List Node) (node next : ℕ) : Type 0 where
   pub count : length new ≡ length old
-  pub linked : (n : Node) → slice_get old place ≡ Some n → slice_get new place ≡ Some (record n { next = next })
-  pub others : (i : ℕ) → i ≢ place → slice_get new i ≡ slice_get old i
+  pub linked : (n : Node) → slice_get old node ≡ Some n → slice_get new node ≡ Some (record n { next = next })
+  pub others : (i : ℕ) → i ≢ node → slice_get new i ≡ slice_get old i
 
--- a node with the event has come to the place; the others stay
-pub record HasCome (at new : ℕ → Option Node) (place : ℕ) (w : Numbered) : Type 0 where
+-- the event has come into the node; the others stay
+pub record HasCome (at new : ℕ → Option Node) (j : ℕ) (w : Numbered) : Type 0 where
   pub node : Node
-  pub found : new place ≡ Some node
+  pub found : new j ≡ Some node
   pub holds : node.item ≡ w
-  pub others : (i : ℕ) → i ≢ place → new i ≡ at i
+  pub others : (i : ℕ) → i ≢ j → new i ≡ at i
 
--- and the place was the last of the free ones, or it is a new one
-pub record IsPlaced (old new : List Node) (free rest : List ℕ) (w : Numbered) (place : ℕ) : Type 0 where
-  pub come : HasCome (slice_get old) (slice_get new) place w
-  pub reused : 0 < length free → (free ≡ rest ++ place ∷ []) × (length new ≡ length old)
-  pub grown : length free ≡ 0 → (rest ≡ []) × (place ≡ length old) × (length new ≡ length old + 1)
+-- and the node was the last of the free ones, or it is a new one
+pub record IsTaken (old new : List Node) (free rest : List ℕ) (w : Numbered) (node : ℕ) : Type 0 where
+  pub come : HasCome (slice_get old) (slice_get new) node w
+  pub reused : 0 < length free → (free ≡ rest ++ node ∷ []) × (length new ≡ length old)
+  pub grown : length free ≡ 0 → (rest ≡ []) × (node ≡ length old) × (length new ≡ length old + 1)

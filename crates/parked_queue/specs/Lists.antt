@@ -20,7 +20,7 @@ total_of v = sum_by length v.lists
 abbrev pub all_empty : ℕ → ℕ → Lists
 all_empty n room = record { room = room; lists = replicate n [] }
 
--- another list at one place; the others stay
+-- another list instead of one; the others stay
 abbrev pub with_list : Lists → ℕ → List Numbered → Lists
 with_list v k xs = record v { lists = slice_set v.lists k xs }
 

@@ -5,7 +5,7 @@ use Rattle.evt_types.specs.declared.event.Numbered.{Numbered}
 use Rattle.small_set.specs.SmallSets.{Has}
 use Rattle.small_set.specs.declared.set.SmallSet.{SmallSet}
 use Rattle.parked_queue.specs.Merge.{by_number, lists_of}
-use Rattle.parked_queue.specs.Parted.{Parted, below_at, list_of, places}
+use Rattle.parked_queue.specs.Parted.{Parted, below_at, list_of, list_count}
 use Rattle.parked_queue.specs.Waits.{AreWaits, slot_of}
 use Rattle.parked_queue.specs.Lists.{Lists}
 
@@ -38,7 +38,7 @@ parted_in a = record { waits = record { waiting = by_number a.lists.lists; next 
 -- the lists are those of what waits, the mask is that of the slots, no number below which events are parked is past the next one, and the slots are marked
 pub record IsParking (a : Kept) : Type 0 where
   pub waits : AreWaits (parted_in a).waits
-  pub lists : a.lists.lists ≡ lists_of (list_of a.slots a.below) 0 (places a.slots) (by_number a.lists.lists)
+  pub lists : a.lists.lists ≡ lists_of (list_of a.slots a.below) 0 (list_count a.slots) (by_number a.lists.lists)
   pub mask : a.mask ≡ mask_of a.slots
   pub bounds : (c : ℕ) → below_at a.below c ≤ a.next
   pub four : length a.below ≡ 4

@@ -3,14 +3,14 @@ use Rattle.std.specs.Prelude.{ℕ, Bool, List, [], ◌∷◌, ◌==◌, filter, 
 use Rattle.std.specs.List.{range_with_len}
 use Rattle.evt_types.specs.declared.event.Numbered.{Numbered}
 
--- the event at its place among rising numbers
-abbrev pub placed : Numbered → List Numbered → List Numbered
-placed u [] = u ∷ []
-placed u (w ∷ ws) = if nat_lt u.number w.number then u ∷ w ∷ ws else w ∷ placed u ws
+-- the event among rising numbers, where its own belongs
+abbrev pub inserted : Numbered → List Numbered → List Numbered
+inserted u [] = u ∷ []
+inserted u (w ∷ ws) = if nat_lt u.number w.number then u ∷ w ∷ ws else w ∷ inserted u ws
 
 abbrev pub merged : List Numbered → List Numbered → List Numbered
 merged [] ws = ws
-merged (u ∷ us) ws = placed u (merged us ws)
+merged (u ∷ us) ws = inserted u (merged us ws)
 
 abbrev pub by_number : List (List Numbered) → List Numbered
 by_number [] = []

@@ -1,41 +1,56 @@
 -- How the events of several queues are parted into lists of one store.
-use Rattle.std.specs.Prelude.{ℕ, ◌≡◌, ◌+◌, ◌*◌, ◌<◌, ◌≤◌, ◌^◌, List, [], ◌∷◌, length, map, slice_index_or, sum_by}
+use Rattle.std.specs.Prelude.{ℕ, ◌≡◌, ◌+◌, ◌*◌, ◌<◌, ◌≤◌, ◌^◌, ◌⊎◌, List, [], ◌∷◌, length, map, slice_index_or}
 use Rattle.std.specs.List.{range_with_len}
 use Rattle.small_set.specs.SmallSets.{Has}
 use Rattle.small_set.specs.declared.set.SmallSet.{SmallSet}
 use Rattle.parked_queue.specs.Lists.{Lists, list_at, total_of}
 use Rattle.parked_queue.specs.Marks.{Kept, IsParking, mask_of, parted_in}
-use Rattle.parked_queue.specs.Parted.{Parted, no_parted, places}
-use Rattle.parked_queue.specs.Waits.{Waits}
+use Rattle.parked_queue.specs.Parted.{Parted, list_count}
+use Rattle.parked_queue.specs.Waits.{Waits, all_waiting}
 use Rattle.parked_queue.specs.declared.parking.Parking.{Parking}
 
--- ---- what contracts see
+-- ---- one queue
 
-abbrev pub parted_at : List Parted → ℕ → Parted
-parted_at vs q = slice_index_or vs q (no_parted 1 0)
+-- so many of the lists, from the base on
+abbrev pub segment : Lists → ℕ → ℕ → Lists
+segment l base n = record { room = l.room; lists = map (λ k. list_at l (base + k)) (range_with_len 0 n) }
 
-abbrev pub waits_in : Parted → Waits
-waits_in v = v.waits
+-- what is kept of the queue
+abbrev pub kept : Lists → Parking → Kept
+kept l p = record { lists = segment l p.base (list_count p.slots); slots = p.slots; mask = p.mask; below = p.below; parked = p.parked; next = p.next }
 
--- what waits in each queue
-abbrev pub are_waits : List Parted → List Waits
-are_waits vs = map waits_in vs
+-- how its events are parted, and what waits in it
+abbrev pub parted_by : Lists → Parking → Parted
+parted_by l p = parted_in (kept l p)
 
-abbrev pub count_in : Parted → ℕ
-count_in v = length v.waits.waiting
+abbrev pub waits_by : Lists → Parking → Waits
+waits_by l p = (parted_by l p).waits
 
--- how many events wait in all queues
-abbrev pub waiting_in : List Parted → ℕ
-waiting_in vs = sum_by count_in vs
+-- its lists are there and are those of what waits in it, which is counted; there are few lists in all, and room for all that is in them
+pub record IsParted (l : Lists) (p : Parking) : Type 0 where
+  pub parking : IsParking (kept l p)
+  pub count : p.count ≡ length (waits_by l p).waiting
+  pub within : p.base + list_count p.slots ≤ length l.lists
+  pub few : length l.lists ≤ 16640
+  pub room : total_of l ≤ l.room
 
-abbrev pub no_parted_of : ℕ → ℕ → Parted
-no_parted_of room slots = no_parted slots room
+-- the lists of m are those of l, but for the part from b on of so many, and the part makes all the difference in how many events
+-- there are
+pub record IsBut (b n : ℕ) (l m : Lists) : Type 0 where
+  pub room : m.room ≡ l.room
+  pub count : length m.lists ≡ length l.lists
+  pub others : (j : ℕ) → (j < b) ⊎ (b + n ≤ j) → list_at m j ≡ list_at l j
+  pub total : total_of m + total_of (segment l b n) ≡ total_of l + total_of (segment m b n)
 
--- queues of so many slots each, with room for so many events in all
-abbrev pub no_parteds : ℕ → List ℕ → List Parted
-no_parteds room slots = map (no_parted_of room) slots
+-- the queue is another, in which this waits, and no list but its own has changed
+pub record IsChanged (l : Lists) (p : Parking) (m : Lists) (x : Parking) (w : Waits) : Type 0 where
+  pub part : IsParted m x
+  pub base : x.base ≡ p.base
+  pub slots : x.slots ≡ p.slots
+  pub but : IsBut p.base (list_count p.slots) l m
+  pub waits : waits_by m x ≡ w
 
--- ---- how they are held
+-- ---- all queues
 
 abbrev pub no_parking : Parking
 no_parking = record { base = 0; slots = 1; mask = 0; below = []; parked = []; next = 0; count = 0 }
@@ -43,24 +58,14 @@ no_parking = record { base = 0; slots = 1; mask = 0; below = []; parked = []; ne
 abbrev pub parking_at : List Parking → ℕ → Parking
 parking_at ps q = slice_index_or ps q no_parking
 
--- so many of the lists, from the base on
-abbrev pub segment : Lists → ℕ → ℕ → Lists
-segment l base n = record { room = l.room; lists = map (λ k. list_at l (base + k)) (range_with_len 0 n) }
-
--- what is kept of one queue
-abbrev pub kept : Lists → Parking → Kept
-kept l p = record { lists = segment l p.base (places p.slots); slots = p.slots; mask = p.mask; below = p.below; parked = p.parked; next = p.next }
-
-abbrev pub parted_of : Lists → List Parking → ℕ → Parted
-parted_of l ps q = parted_in (kept l (parking_at ps q))
-
-abbrev pub parteds_in : Lists → List Parking → List Parted
-parteds_in l ps = map (parted_of l ps) (range_with_len 0 (length ps))
+-- what waits in each queue
+abbrev pub all_waits : Lists → List Parking → List Waits
+all_waits l ps = map (waits_by l) ps
 
 -- each queue has lists of its own, all of which are there
 pub record AreApart (ps : List Parking) (n : ℕ) : Type 0 where
-  pub within : (q : ℕ) → q < length ps → (parking_at ps q).base + places (parking_at ps q).slots ≤ n
-  pub apart : (p q : ℕ) → p < q → q < length ps → (parking_at ps p).base + places (parking_at ps p).slots ≤ (parking_at ps q).base
+  pub within : (q : ℕ) → q < length ps → (parking_at ps q).base + list_count (parking_at ps q).slots ≤ n
+  pub apart : (p q : ℕ) → p < q → q < length ps → (parking_at ps p).base + list_count (parking_at ps p).slots ≤ (parking_at ps q).base
   pub few : n ≤ 260 * length ps
 
 -- each queue's lists are those of what waits in it, which is counted, and there is no event but those of the queues; the room is a
@@ -69,8 +74,8 @@ pub record AreParkings (l : Lists) (ps : List Parking) : Type 0 where
   pub apart : AreApart ps (length l.lists)
   pub queues : length ps ≤ 64
   pub each : (q : ℕ) → q < length ps → IsParking (kept l (parking_at ps q))
-  pub counts : (q : ℕ) → q < length ps → (parking_at ps q).count ≡ count_in (parted_of l ps q)
-  pub total : total_of l ≡ waiting_in (parteds_in l ps)
+  pub counts : (q : ℕ) → q < length ps → (parking_at ps q).count ≡ length (waits_by l (parking_at ps q)).waiting
+  pub total : total_of l ≡ all_waiting (all_waits l ps)
   pub within : total_of l ≤ l.room
   pub small : l.room < 2 ^ 64
 

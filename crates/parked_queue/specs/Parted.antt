@@ -28,8 +28,8 @@ abbrev pub list_of : ℕ → List ℕ → Numbered → ℕ
 list_of slots below w = if is_parked below w then list_of_slot (slot_of slots w) (level_of w.event) else level_of w.event
 
 -- how many lists there are
-abbrev pub places : ℕ → ℕ
-places slots = 4 * (slots + 1)
+abbrev pub list_count : ℕ → ℕ
+list_count slots = 4 * (slots + 1)
 
 -- the events in a list
 abbrev pub list_in : Parted → ℕ → List Numbered

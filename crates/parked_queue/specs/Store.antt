@@ -21,7 +21,7 @@ lists_in nodes cs room = record { room = room; lists = map (events_of (slice_get
 -- each chain has nodes of its own, those of the list k as the owner k + 1, and knows the last of them; the free nodes are the owner 0's
 pub record AreChains (at : ℕ → Option Node) (free : List ℕ) (cs : List Chain) : Type 0 where
   pub owner : ℕ → ℕ
-  pub places : (k : ℕ) → AreNodes at owner (suc k) (path_of at (chain_at cs k))
+  pub taken : (k : ℕ) → AreNodes at owner (suc k) (path_of at (chain_at cs k))
   pub lasts : (k : ℕ) → 0 < (chain_at cs k).len → final 0 (path_of at (chain_at cs k)) ≡ (chain_at cs k).last
   pub unused : AreNodes at owner 0 free
 

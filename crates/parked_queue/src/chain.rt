@@ -1,19 +1,19 @@
 //! A list of events as a chain of nodes in a store that many chains share.
 
 ghost use Rattle.std.specs.Prelude.{◌≡◌, ◌==◌, ◌+◌, ◌<◌, ◌^◌, vec_len, vec_capacity};
-ghost use Rattle.parked_queue.specs.Chains.{IsLinked, IsPlaced, alone, final, longer, shorter};
+ghost use Rattle.parked_queue.specs.Chains.{IsLinked, IsTaken, alone, final, longer, shorter};
 ghost use Rattle.parked_queue.specs.Lists.{numbered};
 
 use evt_types::{Event, Numbered};
 
-/// An event, and the place of the node behind it, which counts only where the chain goes on.
+/// An event, and the node behind it, which counts only where the chain goes on.
 #[derive(Clone, Copy, Debug)]
 pub(crate) struct Node {
     pub(crate) item: Numbered,
     pub(crate) next: usize,
 }
 
-/// How many nodes a chain has, and the places of its first and its last one, which count only where it has any.
+/// How many nodes a chain has, and its first and its last one, which count only where it has any.
 #[derive(Clone, Copy, Debug)]
 pub(crate) struct Chain {
     pub(crate) first: usize,
@@ -21,7 +21,7 @@ pub(crate) struct Chain {
     pub(crate) len: usize,
 }
 
-/// Puts a node with the event at a place that no chain has: the one that became free last, or else a new one. The event is copied
+/// Puts the event into a node that no chain has: the one that became free last, or else a new one. The event is copied
 /// there from where it lies.
 #[inline(always)]
 pub(crate) fn take_node(
@@ -32,16 +32,16 @@ pub(crate) fn take_node(
 ) -> usize
     requires last { 0 < vec_len free.old → final 0 free.old.items < vec_len nodes.old }
     requires room { vec_len free.old ≡ 0 → vec_len nodes.old < vec_capacity nodes.old }
-    ensures placed { IsPlaced nodes.old.items nodes.new.items free.old.items free.new.items (numbered number event.now) result }
+    ensures taken { IsTaken nodes.old.items nodes.new.items free.old.items free.new.items (numbered number event.now) result }
     ensures nodes { vec_capacity nodes.new ≡ vec_capacity nodes.old }
     ensures free { vec_capacity free.new ≡ vec_capacity free.old }
 {
     match free.pop() {
-        Some(place) => {
-            let node = &mut nodes[place];
-            node.item.event = *event;
-            node.item.number = number;
-            place
+        Some(node) => {
+            let reused = &mut nodes[node];
+            reused.item.event = *event;
+            reused.item.number = number;
+            node
         }
         None => {
             nodes.push_reserved(Node {
@@ -57,33 +57,33 @@ pub(crate) fn take_node(
 }
 
 /// Lets the node lead to the next one.
-fn link(nodes: &mut Vec<Node>, place: usize, next: usize)
-    requires { place < vec_len nodes.old }
-    ensures linked { IsLinked nodes.old.items nodes.new.items place next }
+fn link(nodes: &mut Vec<Node>, node: usize, next: usize)
+    requires { node < vec_len nodes.old }
+    ensures linked { IsLinked nodes.old.items nodes.new.items node next }
     ensures capacity { vec_capacity nodes.new ≡ vec_capacity nodes.old }
 {
-    nodes[place].next = next;
+    nodes[node].next = next;
 }
 
-/// Makes the node at the place the chain's last one: whether it is the only one.
+/// Makes the node the chain's last one: whether it is the only one.
 #[inline(always)]
-pub(crate) fn append(nodes: &mut Vec<Node>, chain: &mut Chain, place: usize) -> bool
+pub(crate) fn append(nodes: &mut Vec<Node>, chain: &mut Chain, node: usize) -> bool
     requires last { 0 < chain.old.len → chain.old.last < vec_len nodes.old }
     requires fits { chain.old.len + 1 < 2 ^ 64 }
     ensures only { result ≡ (chain.old.len == 0) }
-    ensures alone { chain.old.len ≡ 0 → chain.new ≡ alone place }
+    ensures alone { chain.old.len ≡ 0 → chain.new ≡ alone node }
     ensures kept { chain.old.len ≡ 0 → nodes.new ≡ nodes.old }
-    ensures longer { 0 < chain.old.len → chain.new ≡ longer chain.old place }
-    ensures linked { 0 < chain.old.len → IsLinked nodes.old.items nodes.new.items chain.old.last place }
+    ensures longer { 0 < chain.old.len → chain.new ≡ longer chain.old node }
+    ensures linked { 0 < chain.old.len → IsLinked nodes.old.items nodes.new.items chain.old.last node }
     ensures capacity { vec_capacity nodes.new ≡ vec_capacity nodes.old }
 {
     let only = chain.len == 0;
     if only {
-        chain.first = place;
+        chain.first = node;
     } else {
-        link(nodes, chain.last, place);
+        link(nodes, chain.last, node);
     }
-    chain.last = place;
+    chain.last = node;
     chain.len += 1;
     only
 }

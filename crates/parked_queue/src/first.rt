@@ -1,13 +1,15 @@
 //! The first event of a level whose slot is allowed.
 
-ghost use Rattle.std.specs.Prelude.{◌≡◌, ℕ, ◌<◌, ◌≤◌, ◌⊎◌, length, Some, IsTrue, IfSome, IfNone};
+ghost use Rattle.std.specs.Prelude.{◌≡◌, ℕ, ◌<◌, ◌≤◌, ◌⊎◌, Some, IfSome, IfNone};
 ghost use Rattle.evt_types.specs.declared.event.Numbered.{Numbered as NumberedValue};
 ghost use Rattle.small_set.specs.SmallSets.{Has};
-ghost use Rattle.parked_queue.specs.Parkings.{are_waits, parted_at};
+ghost use Rattle.parked_queue.specs.Parkings.{IsChanged, IsParted, parted_by, waits_by};
 ghost use Rattle.parked_queue.specs.Parted.{IsFirstParked, HasNoneParked, IsNoLater};
-ghost use Rattle.parked_queue.specs.Waits.{AreWaits, IsFirstAllowed, HasNoneAllowed, HasNoneOf, slot_of};
+ghost use Rattle.parked_queue.specs.Waits.{IsFirstAllowed, HasNoneAllowed, slot_of};
 
-use crate::parking::Parkings;
+use crate::parking::Parking;
+use crate::slot::slot_in;
+use crate::waiting::WaitingLists;
 use evt_types::Numbered;
 use small_set::SmallSet;
 
@@ -32,31 +34,37 @@ fn older(best: Option<Numbered>, head: Numbered) -> Numbered
     }
 }
 
-impl Parkings {
+impl Parking {
     /// The oldest parked event of the level whose slot is among these.
     #[cold]
-    fn first_parked(&mut self, queue: usize, level: usize, marked: SmallSet) -> Option<Found>
-        requires queue { queue < length self.old }
+    fn first_parked(
+        &mut self,
+        lists: &WaitingLists,
+        level: usize,
+        marked: SmallSet,
+    ) -> Option<Found>
+        requires parted { IsParted lists.now self.old }
         requires level { level < 4 }
-        requires there { (k : ℕ) → Has marked k → k < (parted_at self.old queue).waits.slots }
-        requires waits { AreWaits (parted_at self.old queue).waits }
-        ensures same { self.new ≡ self.old }
-        ensures first { IfSome result (λ f. IsFirstParked (parted_at self.old queue) level marked f.waiting) }
-        ensures slot { IfSome result (λ f. f.slot ≡ slot_of (parted_at self.old queue).waits.slots f.waiting) }
-        ensures none { IfNone result (HasNoneParked (parted_at self.old queue) level marked) }
+        requires there { (k : ℕ) → Has marked k → k < self.old.slots }
+        ensures changed { IsChanged lists.now self.old lists.now self.new (waits_by lists.now self.old) }
+        ensures same { parted_by lists.now self.new ≡ parted_by lists.now self.old }
+        ensures first { IfSome result (λ f. IsFirstParked (parted_by lists.now self.old) level marked f.waiting) }
+        ensures slot { IfSome result (λ f. f.slot ≡ slot_of self.old.slots f.waiting) }
+        ensures none { IfNone result (HasNoneParked (parted_by lists.now self.old) level marked) }
     {
         let mut best = None;
         let mut left = marked;
         while let Some(slot) = left.pop() {
-            if let Some(head) = self.parked_front(queue, level, slot) {
+            if let Some(head) = self.parked_front(lists, level, slot) {
                 best = Some(older(best, head));
             }
         }
         match best {
             Some(waiting) => {
                 let flow = waiting.event.flow;
+                let slot = slot_in(self.slots, self.mask, flow);
                 Some(Found {
-                    slot: self.slot(queue, flow),
+                    slot,
                     flow,
                     waiting,
                 })
@@ -65,39 +73,25 @@ impl Parkings {
         }
     }
 
-    /// The same. Mostly no slot is among these, and then no call is made.
-    #[inline(always)]
-    fn first_marked(&mut self, queue: usize, level: usize, marked: SmallSet) -> Option<Found>
-        requires queue { queue < length self.old }
-        requires level { level < 4 }
-        requires there { (k : ℕ) → Has marked k → k < (parted_at self.old queue).waits.slots }
-        requires waits { AreWaits (parted_at self.old queue).waits }
-        ensures same { self.new ≡ self.old }
-        ensures first { IfSome result (λ f. IsFirstParked (parted_at self.old queue) level marked f.waiting) }
-        ensures slot { IfSome result (λ f. f.slot ≡ slot_of (parted_at self.old queue).waits.slots f.waiting) }
-        ensures none { IfNone result (HasNoneParked (parted_at self.old queue) level marked) }
-    {
-        if marked.is_empty() {
-            None
-        } else {
-            self.first_parked(queue, level, marked)
-        }
-    }
-
     /// The first event of the level's own list whose slot is allowed. Those before it are set aside.
     #[inline(always)]
-    fn first_main(&mut self, queue: usize, level: usize, allowed: SmallSet) -> Option<Found>
-        requires queue { queue < length self.old }
+    fn first_main(
+        &mut self,
+        lists: &mut WaitingLists,
+        level: usize,
+        allowed: SmallSet,
+    ) -> Option<Found>
+        requires parted { IsParted lists.old self.old }
         requires level { level < 4 }
-        requires none { HasNoneParked (parted_at self.old queue) level allowed }
-        ensures same { are_waits self.new ≡ are_waits self.old }
-        ensures first { IfSome result (λ f. IsFirstAllowed (parted_at self.old queue).waits level allowed f.waiting) }
-        ensures slot { IfSome result (λ f. f.slot ≡ slot_of (parted_at self.old queue).waits.slots f.waiting) }
-        ensures none { IfNone result (HasNoneAllowed (parted_at self.old queue).waits level allowed) }
+        requires none { HasNoneParked (parted_by lists.old self.old) level allowed }
+        ensures changed { IsChanged lists.old self.old lists.new self.new (waits_by lists.old self.old) }
+        ensures first { IfSome result (λ f. IsFirstAllowed (waits_by lists.old self.old) level allowed f.waiting) }
+        ensures slot { IfSome result (λ f. f.slot ≡ slot_of self.old.slots f.waiting) }
+        ensures none { IfNone result (HasNoneAllowed (waits_by lists.old self.old) level allowed) }
     {
-        while let Some(waiting) = self.front(queue, level) {
+        while let Some(waiting) = self.front(lists, level) {
             let flow = waiting.event.flow;
-            let slot = self.slot(queue, flow);
+            let slot = slot_in(self.slots, self.mask, flow);
             if allowed.has(slot) {
                 return Some(Found {
                     slot,
@@ -105,37 +99,35 @@ impl Parkings {
                     waiting: *waiting,
                 });
             }
-            self.park(queue, level, slot);
+            self.park(lists, level, slot);
         }
         None
     }
 
-    /// The first event of the level whose slot is allowed. Those before it are set aside, each once.
+    /// The first event of the level whose slot is allowed. Those before it are set aside, each once. Mostly no slot that is marked
+    /// is allowed.
     #[inline(always)]
-    pub(crate) fn first(&mut self, queue: usize, level: usize, allowed: SmallSet) -> Option<Found>
-        requires queue { queue < length self.old }
+    pub(crate) fn first(
+        &mut self,
+        lists: &mut WaitingLists,
+        level: usize,
+        allowed: SmallSet,
+    ) -> Option<Found>
+        requires parted { IsParted lists.old self.old }
         requires level { level < 4 }
-        ensures same { are_waits self.new ≡ are_waits self.old }
-        ensures first { IfSome result (λ f. IsFirstAllowed (parted_at self.old queue).waits level allowed f.waiting) }
-        ensures slot { IfSome result (λ f. f.slot ≡ slot_of (parted_at self.old queue).waits.slots f.waiting) }
-        ensures none { IfNone result (HasNoneAllowed (parted_at self.old queue).waits level allowed) }
-        ensures waits { AreWaits (parted_at self.old queue).waits }
+        ensures changed { IsChanged lists.old self.old lists.new self.new (waits_by lists.old self.old) }
+        ensures first { IfSome result (λ f. IsFirstAllowed (waits_by lists.old self.old) level allowed f.waiting) }
+        ensures slot { IfSome result (λ f. f.slot ≡ slot_of self.old.slots f.waiting) }
+        ensures none { IfNone result (HasNoneAllowed (waits_by lists.old self.old) level allowed) }
     {
-        let marked = self.marks(queue, level).both(allowed);
-        let parked = self.first_marked(queue, level, marked);
+        let marked = self.parked[level].both(allowed);
+        if marked.is_empty() {
+            return self.first_main(lists, level, allowed);
+        }
+        let parked = self.first_parked(lists, level, marked);
         if parked.is_some() {
             return parked;
         }
-        self.first_main(queue, level, allowed)
-    }
-
-    /// Whether no event of the level waits. It may say no where none does, until the marks of its slots are gone.
-    #[inline(always)]
-    pub(crate) fn is_level_empty(&self, queue: usize, level: usize) -> bool
-        requires queue { queue < length self.now }
-        requires level { level < 4 }
-        ensures { IsTrue result → HasNoneOf (parted_at self.now queue).waits level }
-    {
-        self.front(queue, level).is_none() && self.marks(queue, level).is_empty()
+        self.first_main(lists, level, allowed)
     }
 }

@@ -7,7 +7,9 @@ ghost use Rattle.parked_queue.specs.Lists.{delivery_of};
 ghost use Rattle.small_set.specs.SmallSets.{Has};
 
 use crate::first::Found;
-use crate::parking::Parkings;
+use crate::parking::{Parking, empty_parkings};
+use crate::slot::{LEVELS, slot_in};
+use crate::waiting::WaitingLists;
 use evt_types::{Delivery, Event};
 use small_set::SmallSet;
 use std::alloc::{AllocError, Global};
@@ -18,7 +20,10 @@ use std::marker::Model;
 /// queues share the memory for what waits.
 #[derive(Drop)]
 pub struct ParkedQueues {
-    parkings: Parkings,
+    /// The lists of all queues, which share one store.
+    lists: WaitingLists,
+    /// How each queue's events are parted into its own lists.
+    queues: Vec<Parking>,
     /// For each queue the levels of which an event waits. One that has become empty leaves when it is next looked at.
     levels: Vec<SmallSet>,
     /// The queues in which something waits.
@@ -27,15 +32,15 @@ pub struct ParkedQueues {
 
 impl Model for ParkedQueues {
     ghost use Rattle.std.specs.Prelude.{List};
-    ghost use Rattle.parked_queue.specs.Parkings.{are_waits};
+    ghost use Rattle.parked_queue.specs.Busy.{AreQueues};
+    ghost use Rattle.parked_queue.specs.Parkings.{all_waits};
     ghost use Rattle.parked_queue.specs.Waits.{Waits};
-    ghost use Rattle.parked_queue.specs.Busy.{AreNoted};
 
     ghost Value = { List Waits };
 
-    ghost view = { λ a. are_waits a.parkings };
+    ghost view = { λ a. all_waits a.lists a.queues.items };
 
-    ghost invariant = { λ a. AreNoted (are_waits a.parkings) a.levels.items a.busy };
+    ghost invariant = { λ a. AreQueues a.lists a.queues.items a.levels.items a.busy };
 }
 
 impl ParkedQueues {
@@ -45,10 +50,12 @@ impl ParkedQueues {
         requires few { length slots.now ≤ 64 }
         ensures { IfOk result (λ qs. qs ≡ all_empty room slots.now) }
     {
-        let parkings = Parkings::new(alloc, slots, room)?;
+        let (queues, lists) = empty_parkings(alloc, slots)?;
+        let lists = WaitingLists::new(alloc, lists, room)?;
         let levels = vec![in alloc; SmallSet::none(); slots.len()]?;
         Ok(ParkedQueues {
-            parkings,
+            lists,
+            queues,
             levels,
             busy: SmallSet::none(),
         })
@@ -58,7 +65,7 @@ impl ParkedQueues {
     pub fn len(&self) -> usize
         ensures { result ≡ length self.now }
     {
-        self.parkings.len()
+        self.queues.len()
     }
 
     /// Lets the event wait in the queue, under the queue's next number. Wants room: fewer than there is room for wait in all queues.
@@ -73,7 +80,12 @@ impl ParkedQueues {
         // The read makes the field's range known, and so the level's.
         let _priority = event.priority;
         let level = event.level();
-        if self.parkings.accept(queue, level, event) {
+        let entered = &mut self.queues[queue];
+        let number = entered.next;
+        entered.next = number + 1;
+        entered.count += 1;
+        let list = entered.base + level;
+        if self.lists.push_event(list, number, event) {
             self.levels[queue].add(level);
             self.busy.add(queue);
         }
@@ -102,7 +114,8 @@ impl ParkedQueues {
         ensures value { result ≡ flow % (waits_at self.now queue).slots }
         ensures within { result < (waits_at self.now queue).slots }
     {
-        self.parkings.slot(queue, flow)
+        let asked = &self.queues[queue];
+        slot_in(asked.slots, asked.mask, flow)
     }
 
     /// The first event of the queue's level whose slot is allowed. The events before it are set aside, each once.
@@ -116,8 +129,9 @@ impl ParkedQueues {
         ensures none { IfNone result (HasNoneAllowed (waits_at self.old queue) level allowed) }
         ensures waits { AreWaits (waits_at self.old queue) }
     {
-        let first = self.parkings.first(queue, level, allowed);
-        if first.is_none() && self.parkings.is_level_empty(queue, level) {
+        let asked = &mut self.queues[queue];
+        let first = asked.first(&mut self.lists, level, allowed);
+        if first.is_none() && asked.is_level_empty(&self.lists, level) {
             self.levels[queue].remove(level);
         }
         first
@@ -133,12 +147,13 @@ impl ParkedQueues {
         ensures slot { IfSome result (λ f. f.slot ≡ slot_of (waits_at self.now queue).slots f.waiting) }
         ensures waits { AreWaits (waits_at self.now queue) }
     {
-        if !self.parkings.marks(queue, level).both(allowed).is_empty() {
+        let asked = &self.queues[queue];
+        if !asked.parked[level].both(allowed).is_empty() {
             return None;
         }
-        let waiting = self.parkings.front(queue, level)?;
+        let waiting = self.lists.head(asked.base + level)?;
         let flow = waiting.event.flow;
-        let slot = self.parkings.slot(queue, flow);
+        let slot = slot_in(asked.slots, asked.mask, flow);
         if allowed.has(slot) {
             Some(Found {
                 slot,
@@ -150,14 +165,15 @@ impl ParkedQueues {
         }
     }
 
-    /// The slots of which events of the queue's level may be set aside.
+    /// A hint: the slots of which events of the queue's level may be set aside. All that is promised is that they are slots of the
+    /// queue, and no other call's answer rests on them.
     #[inline(always)]
     pub fn parked_slots(&self, queue: usize, level: usize) -> SmallSet
         requires there { queue < length self.now }
         requires level { level < 4 }
         ensures { (slot : ℕ) → Has result slot → slot < (waits_at self.now queue).slots }
     {
-        self.parkings.marks(queue, level)
+        self.queues[queue].parked[level]
     }
 
     /// Whether all events of the queue's level are set aside, and none of them has an allowed slot.
@@ -167,10 +183,11 @@ impl ParkedQueues {
         requires level { level < 4 }
         ensures { IsTrue result → HasNoneAllowed (waits_at self.now queue) level allowed }
     {
-        let marks = self.parkings.marks(queue, level);
+        let asked = &self.queues[queue];
+        let marks = asked.parked[level];
         !marks.is_empty()
             && marks.both(allowed).is_empty()
-            && self.parkings.front(queue, level).is_none()
+            && self.lists.head(asked.base + level).is_none()
     }
 
     /// Takes the event of this number out of the queue, which is of the level and the slot. At the head of its list it goes at once;
@@ -184,8 +201,9 @@ impl ParkedQueues {
         ensures value { self.new ≡ slice_set self.old queue (without_number (waits_at self.old queue) number) }
         ensures waits { AreWaits (without_number (waits_at self.old queue) number) }
     {
-        self.parkings.remove(queue, level, slot, number);
-        if self.parkings.count(queue) == 0 {
+        let left = &mut self.queues[queue];
+        left.remove(&mut self.lists, level, slot, number);
+        if left.count == 0 {
             self.busy.remove(queue);
         }
     }
@@ -197,7 +215,7 @@ impl ParkedQueues {
         ensures value { result ≡ length (waits_at self.now queue).waiting }
         ensures waits { AreWaits (waits_at self.now queue) }
     {
-        self.parkings.count(queue)
+        self.queues[queue].count
     }
 
     /// Appends each of the queue's waiting events as a delivery, by rising number.
@@ -208,7 +226,10 @@ impl ParkedQueues {
         ensures room { vec_capacity into.new ≡ vec_capacity into.old }
     {
         let start = into.len();
-        self.parkings.push_deliveries(queue, into);
+        let asked = &self.queues[queue];
+        for list in 0..LEVELS * (asked.slots + 1) {
+            self.lists.push_deliveries(asked.base + list, queue, into);
+        }
         into[start..].sort_unstable_by_key(|delivery| delivery.number);
     }
 }

@@ -13,7 +13,7 @@ use std::marker::Model;
 pub struct WaitingLists {
     // The nodes of all chains, and the free ones. Memory for as many as there may be is reserved, so that a push asks for none.
     nodes: Vec<Node>,
-    // The places of the nodes that no chain has. The one that became free last is taken first, while its memory is in the cache.
+    // The nodes that no chain has. The one that became free last is taken first, while its memory is in the cache.
     free: Vec<usize>,
     // One for each list.
     chains: Vec<Chain>,
@@ -32,7 +32,7 @@ impl Model for WaitingLists {
     ghost invariant = { λ a. IsStore a.nodes a.free a.chains.items a.room };
 }
 
-/// Memory for so many nodes, none of which is there yet, and for the places of as many free ones.
+/// Memory for so many nodes, none of which is there yet, and for as many free ones.
 fn no_nodes(alloc: Global, room: usize) -> Result<(Vec<Node>, Vec<usize>), AllocError>
     ensures nodes { IfOk result (λ r. (vec_len r.0 ≡ 0) × (room ≤ vec_capacity r.0)) }
     ensures free { IfOk result (λ r. (vec_len r.1 ≡ 0) × (room ≤ vec_capacity r.1) × (r.1.items ≡ [])) }
@@ -109,8 +109,8 @@ impl WaitingLists {
         ensures only { result ≡ (length (list_at self.old list) == 0) }
         ensures value { self.new ≡ with_last self.old list (numbered number event.now) }
     {
-        let place = take_node(&mut self.nodes, &mut self.free, number, event);
-        append(&mut self.nodes, &mut self.chains[list], place)
+        let node = take_node(&mut self.nodes, &mut self.free, number, event);
+        append(&mut self.nodes, &mut self.chains[list], node)
     }
 
     /// Takes the oldest event of the list out.
@@ -141,12 +141,11 @@ impl WaitingLists {
         if chain.len == 0 {
             return false;
         }
-        let place = chain.first;
-        let oldest = self.nodes[place];
+        let oldest = self.nodes[chain.first];
         if oldest.item.number != number {
             return false;
         }
-        self.free.push_reserved(place);
+        self.free.push_reserved(chain.first);
         shorten(&mut self.chains[list], oldest.next);
         true
     }

@@ -1,26 +1,30 @@
 -- A core after an answer: its view, and that what holds of each core holds of it.
-use Rattle.std.proofs.Common.{◌≡◌, ℕ, ◌+◌, ◌-◌, ◌<◌, ◌≤◌, ◌^◌, Bool, true, false, cond, ◌&&◌, List, [], ◌∷◌, length, map, drop, set, get_or, All, Option, Some, None, Vec, Global, is_some, option_to_list, IsTrue, sum_by, slice_get, ◌⊎◌, inl, inr, refl, sym, ap, ◌∙◌, subst, arith}
+use Rattle.std.proofs.Common.{◌≡◌, ℕ, ◌+◌, ◌-◌, ◌<◌, ◌≤◌, ◌^◌, Bool, true, false, cond, ◌&&◌, List, [], ◌∷◌, length, map, drop, set, get_or, All, Option, Some, None, is_some, option_to_list, IsTrue, sum_by, slice_get, ◌⊎◌, inl, inr, refl, sym, ap, ◌∙◌, subst, arith}
 use Rattle.std.proofs.lemmas.Bool.{cases_Bool, cond-true, cond-false, lt-ltb}
 use Rattle.std.proofs.lemmas.List.{length-set, length-drop, length-map, map-set, drop-map, get_or-map, set-get_or}
 use Rattle.std.proofs.lemmas.List.Elements.{All-head}
 use Rattle.std.proofs.lemmas.List.Sums.{sum_by-set, get_or-le-sum_by}
 use Rattle.lists.proofs.Sums.{sum_of_map}
 use Rattle.evt_types.specs.Fault.{IsWithinLimits}
-use Rattle.evt_types.specs.Plan.{Plan, queue_of, bound_of, is_ordered, kept_room}
+use Rattle.evt_types.specs.Plan.{Plan, queue_of, bound_of, lanes_of, is_ordered, kept_room}
 use Rattle.transcripts.specs.Standing.{View, inside_of, entries_of, kept_in, oldest_at, places_at, unanswered_at, answer_place, events_of}
 use Rattle.transcripts.specs.Transcript.{Held}
 use Rattle.evt_types.specs.declared.event.Event.{Event}
 use Rattle.evt_types.specs.declared.step.Outcome.{Outcome}
 use Rattle.order_parts.specs.Reorder.{Reordering, empty, after_resolve, is_open, place_at}
+use Rattle.std.specs.Vec.{with_item}
+use Rattle.order_parts.proofs.Roomy.{lane_is}
+use Rattle.order_parts.specs.Histories.{lane_in}
+use Rattle.order_parts.specs.History as histories
 use Rattle.order_parts.specs.History.{Entries}
 use Rattle.order_parts.specs.Pins.{Pin, unpinned}
 use Rattle.order_parts.specs.declared.history.Entry.{Entry}
-use Rattle.sched_core.proofs.Cores.{first_here, held_sum, in_view, kept_after, places_here, room_set, same_parts, unanswered_here}
+use Rattle.sched_core.proofs.Cores.{core_with, first_here, held_sum, in_view, kept_after, lane_there, places_here, places_there, queues_here, room_set, same_parts, unanswered_here}
 use Rattle.sched_core.proofs.OrderMoves.{answer_is_open, answered_place, answered_plain}
 use Rattle.sched_core.proofs.Ordered.{resolve_answers, resolve_keeps}
-use Rattle.sched_core.proofs.Pinned.{oldest_known as known_of, oldest_pinned as pinned_of, pins_answered}
+use Rattle.sched_core.proofs.Pinned.{oldest_known, oldest_pinned, pins_answered}
 use Rattle.sched_core.specs.Answered.{places_answered, after_answer}
-use Rattle.sched_core.specs.Inner.{held_of}
+use Rattle.sched_core.specs.Inner.{unplaced}
 use Rattle.parked_queue.specs.Waits.{waits_at}
 use Rattle.sched_core.specs.Ordered.{ArePlaces, IsOrder, StandsIn, added_beside, entry_at, entries_at, kept_of, outcome_of, places_in}
 use Rattle.order_parts.specs.Orders.{order_at, is_restoring, resolved_in}
@@ -44,18 +48,21 @@ restoring_is p r q limits h depth = by_kind (cases_Bool (is_ordered (queue_of p 
         let same : r.depth ≡ 0 = depth ∙ cond-false (is_ordered (queue_of p q).kind) (queue_of p q).order 0 plain in
         ap (λ n. is_restoring (record r { depth = n })) same ∙ sym plain
 
+pub restores_here : (a : Inside) (q : ℕ) → IsCore a → q < length a.shape.queues → is_restoring (order_at a.orders q) ≡ is_ordered (queue_of a.shape q).kind
+restores_here a q core h = restoring_is a.shape (order_at a.orders q) q core.limits h (core.places.each q h).room
+
 -- how many more are kept: one where the answer is a forward, in a buffer
 abbrev pub kept_more : Bool → Option Event → ℕ
 kept_more false f = 0
 kept_more true None = 0
 kept_more true (Some e) = 1
 
-pub more_one : (b : Bool) (f : Option Event) → (b && is_some f) ≡ true → kept_more b f ≡ 1
+more_one : (b : Bool) (f : Option Event) → (b && is_some f) ≡ true → kept_more b f ≡ 1
 more_one false f e = absurd cc
 more_one true None e = absurd cc
 more_one true (Some x) e = refl
 
-pub more_none : (b : Bool) (f : Option Event) → (b && is_some f) ≡ false → kept_more b f ≡ 0
+more_none : (b : Bool) (f : Option Event) → (b && is_some f) ≡ false → kept_more b f ≡ 0
 more_none false f e = refl
 more_none true None e = refl
 more_none true (Some x) e = absurd cc
@@ -64,7 +71,7 @@ more_kept : (f : Option Event) → length (option_to_list f) ≡ kept_more true 
 more_kept None = refl
 more_kept (Some x) = refl
 
-more_least : (b : Bool) (f : Option Event) → kept_more b f ≤ length (option_to_list f)
+more_least : (b : Bool) (f : Option Event) → kept_more b f ≤ length (events_of (outcome_of f))
 more_least false f = omega arith
 more_least true None = omega arith
 more_least true (Some x) = omega arith
@@ -75,12 +82,8 @@ more_once true None = omega arith
 more_once true (Some x) = omega arith
 
 -- what an answer forwards
-pub named_of : (n : ℕ) (f : Option Event) (o : Outcome) → outcome_of f ≡ o → All (λ (e : Event). e.queue < n) (events_of o) → (e : Event) → f ≡ Some e → e.queue < n
-named_of n f o same all e is = All-head (λ (x : Event). x.queue < n) e [] (subst (λ x. All (λ (y : Event). y.queue < n) (events_of x)) (sym same ∙ ap outcome_of is) all)
-
-pub forwards_one : (f : Option Event) (o : Outcome) → outcome_of f ≡ o → length (option_to_list f) ≡ length (events_of o)
-forwards_one None o same = ap (λ x. length (events_of x)) same
-forwards_one (Some e) o same = ap (λ x. length (events_of x)) same
+named_of : (n : ℕ) (f : Option Event) → All (λ (e : Event). e.queue < n) (events_of (outcome_of f)) → (e : Event) → f ≡ Some e → e.queue < n
+named_of n f all e is = All-head (λ (x : Event). x.queue < n) e [] (subst (λ x. All (λ (y : Event). y.queue < n) (events_of (outcome_of x))) is all)
 
 -- ---- the entries of the lanes
 
@@ -95,28 +98,19 @@ first_at : (ys : List Entry) (y d : Entry) → slice_get ys 0 ≡ Some y → (0 
 first_at [] y d e = absurd cc
 first_at (x ∷ ys) y d e = (omega arith, cc)
 
--- its queue is there
-pub oldest_known : (a : Inside) (i : ℕ) (old : Entries) (y : Entry) → IsCore a → i < length a.lanes → old ≡ get_or a.lanes i old → slice_get old.entries 0 ≡ Some y → y.queue < length a.shape.queues
-oldest_known a i old y core h is oldest = known_of a.shape (map unanswered_in a.lanes) a.pins i (held_of y) core.pins (in_view a i h) (first_here a i old y h is oldest)
-
--- its pin is there, and counts it
-pub oldest_pinned : (a : Inside) (i : ℕ) (old : Entries) (y : Entry) → IsCore a → i < length a.lanes → old ≡ get_or a.lanes i old → slice_get old.entries 0 ≡ Some y
-    → y.slot < length (pins_at a.pins y.queue) → 0 < (pin_in a.pins y.queue y.slot).count
-oldest_pinned a i old y core h is oldest there = pinned_of a.shape (map unanswered_in a.lanes) a.pins i (held_of y) core.pins (in_view a i h) (first_here a i old y h is oldest) there
-
--- ---- the oldest event of a lane is answered
+-- ---- what an answer makes of the parts of a core
 
 answered_length : (old new : Entries) (y : Entry) → slice_get old.entries 0 ≡ Some y → new.entries ≡ drop 1 old.entries → length (unanswered_in new) + 1 ≡ length (unanswered_in old)
 answered_length old new y oldest items =
     let some : 0 < length old.entries = (first_at old.entries y y oldest).0 in
-    ap (λ (ys : List Entry). length (map held_of ys) + 1) items ∙ (ap (λ n. n + 1) (length-map (drop 1 old.entries) held_of ∙ length-drop 1 old.entries) ∙ (omega arith ∙ sym (length-map old.entries held_of)))
+    ap (λ (ys : List Entry). length (map unplaced ys) + 1) items ∙ (ap (λ n. n + 1) (length-map (drop 1 old.entries) unplaced ∙ length-drop 1 old.entries) ∙ (omega arith ∙ sym (length-map old.entries unplaced)))
 
 -- what the lanes have after it
 lanes_answered : (a : Inside) (i : ℕ) (old new : Entries) → i < length a.lanes → old ≡ get_or a.lanes i old → new.entries ≡ drop 1 old.entries
     → map unanswered_in (set a.lanes i new) ≡ set (map unanswered_in a.lanes) i (drop 1 (unanswered_at (view_in a) i))
 lanes_answered a i old new h is items =
     map-set unanswered_in a.lanes i new
-    ∙ ap (set (map unanswered_in a.lanes) i) (ap (map held_of) items ∙ (sym (drop-map held_of 1 old.entries) ∙ sym (ap (drop 1) (unanswered_here a i old h is))))
+    ∙ ap (set (map unanswered_in a.lanes) i) (ap (map unplaced) items ∙ (sym (drop-map unplaced 1 old.entries) ∙ sym (ap (drop 1) (unanswered_here a i old h is))))
 
 popped_here : (ls : List Entries) (i : ℕ) (old new : Entries) → i < length ls → old ≡ get_or ls i old → new.entries ≡ drop 1 old.entries
     → map entries_in (set ls i new) ≡ set (map entries_in ls) i (drop 1 (entries_at (map entries_in ls) i))
@@ -145,12 +139,9 @@ resolved_by a i y f core h oldest there named = by_kind (is_ordered (queue_of a.
     lane : i < length us
     lane = subst (λ n. i < n) (sym (length-map a.lanes entries_in)) h
 
-    depth : r.depth ≡ kept_room (queue_of a.shape y.queue)
-    depth = (core.places.each y.queue there).room
-
     by_kind : (b : Bool) → is_ordered (queue_of a.shape y.queue).kind ≡ b → IsResolved a i y f b
     by_kind true ordered =
-        let restoring : is_restoring r ≡ true = restoring_is a.shape r y.queue core.limits there depth ∙ ordered in
+        let restoring : is_restoring r ≡ true = restores_here a y.queue core there ∙ ordered in
         let now : resolved_in r y.place f ≡ after_resolve r y.place f = cond-true (is_restoring r) (after_resolve r y.place f) r restoring in
         let order : IsOrder a.shape (kept_room (queue_of a.shape y.queue)) (waits_at a.queues y.queue) r = core.places.each y.queue there in
         let most : ℕ = added_beside a.extras.items i 0 in
@@ -163,7 +154,7 @@ resolved_by a i y f core h oldest there named = by_kind (is_ordered (queue_of a.
           shown = ap (λ (s : Reordering). s.places) now ∙ resolve_answers a.shape (kept_room (queue_of a.shape y.queue)) (waits_at a.queues y.queue) r y most f order stands;
         }
     by_kind false plain =
-        let restoring : is_restoring r ≡ false = restoring_is a.shape r y.queue core.limits there depth ∙ plain in
+        let restoring : is_restoring r ≡ false = restores_here a y.queue core there ∙ plain in
         let now : resolved_in r y.place f ≡ r = cond-false (is_restoring r) (after_resolve r y.place f) r restoring in
         let count = core.places.count in
         record {
@@ -174,116 +165,140 @@ resolved_by a i y f core h oldest there named = by_kind (is_ordered (queue_of a.
           shown = ap (λ (s : Reordering). s.places) now;
         }
 
-pub core_answers : (a : Inside) (i : ℕ) (old new : Entries) (y : Entry) (f : Option Event) (es : Vec ℕ Global) (ps : List (List Pin)) (n m : ℕ) → IsCore a → i < length a.lanes → old ≡ get_or a.lanes i old
-    → slice_get old.entries 0 ≡ Some y → new.entries ≡ drop 1 old.entries → new.capacity ≡ old.capacity → es.items ≡ set a.extras.items i 0
-    → ((e : Event) → f ≡ Some e → e.queue < length a.shape.queues) → entries_of (view_in a) + length (option_to_list f) ≤ 2 ^ 63
-    → ps ≡ with_pin a.pins y.queue y.slot (unpinned (pin_in a.pins y.queue y.slot))
-    → n + 1 ≡ a.inside + kept_more (is_restoring (order_at a.orders y.queue)) f → m ≡ a.entries + kept_more (is_restoring (order_at a.orders y.queue)) f
-    → IsCore (record { shape = a.shape; queues = a.queues; orders = resolved_orders a.orders y f; lanes = set a.lanes i new; extras = es; pins = ps; links = a.links; ahead = a.ahead; slot_lanes = a.slot_lanes; bound = a.bound; log_room = a.log_room; inside = n; entries = m; shut = a.shut })
-core_answers a i old new y f es ps n m core h is oldest items capacity cleared named few unpins counted entered =
-    let r : Reordering = order_at a.orders y.queue in
-    let there : y.queue < length a.shape.queues = oldest_known a i old y core h is oldest in
-    let done = resolved_by a i y f core h (oldest_entry a.lanes i old y h is oldest) there named in
-    let b : Bool = is_ordered (queue_of a.shape y.queue).kind in
-    let same : kept_more (is_restoring r) f ≡ kept_more b f = ap (λ k. kept_more k f) done.restoring in
-    let least : kept_more b f ≤ length (option_to_list f) = more_least b f in
-    let once : kept_more b f ≤ 1 = more_once b f in
-    let less : length (unanswered_in new) + 1 ≡ length (unanswered_in old) = answered_length old new y oldest items in
-    let held = held_sum a.lanes i old new h is in
-    let count = core.places.count in
-    let keeps = kept_after a (record { shape = a.shape; queues = a.queues; orders = resolved_orders a.orders y f; lanes = set a.lanes i new; extras = es; pins = ps; links = a.links; ahead = a.ahead; slot_lanes = a.slot_lanes; bound = a.bound; log_room = a.log_room; inside = n; entries = m; shut = a.shut }) y.queue (resolved_in r y.place f) refl (omega arith) in
-    let more = done.kept in
-    let inside = core.inside in
-    let within = core.within in
-    let entries = core.entries in
-    let popped = popped_here a.lanes i old new h is items in
-    record {
-      limits = core.limits;
-      queues = core.queues;
-      lanes = length-set a.lanes i new ∙ core.lanes;
-      extras = ap length cleared ∙ (length-set a.extras.items i 0 ∙ core.extras);
-      sound = core.sound;
-      slots = core.slots;
-      room = room_set a.shape a.lanes i old new h is capacity core.room;
-      pins =
-          subst (λ us. ArePins a.shape us ps) (sym (lanes_answered a i old new h is items))
-          (subst (ArePins a.shape (set (map unanswered_in a.lanes) i (drop 1 (unanswered_at (view_in a) i)))) (sym unpins)
-          (pins_answered a.shape (map unanswered_in a.lanes) a.pins i (held_of y) core.pins (in_view a i h) (first_here a i old y h is oldest)));
-      inside = omega arith;
-      within = omega arith;
-      bound = core.bound;
-      log_room = core.log_room;
-      small = core.small;
-      entries = omega arith;
-      few = omega arith;
-      links = core.links;
-      ahead = core.ahead;
-      slot_lanes = core.slot_lanes;
-      places =
-          subst (ArePlaces a.shape a.queues (resolved_orders a.orders y f) (map entries_in (set a.lanes i new))) (sym cleared)
-          (subst (λ us. ArePlaces a.shape a.queues (resolved_orders a.orders y f) us (set a.extras.items i 0)) (sym popped) done.places);
-    }
+-- ---- the oldest event of a lane
 
--- it may be resolved
-pub resolve_is_open : (a : Inside) (i : ℕ) (old : Entries) (y : Entry) → IsCore a → i < length a.lanes → old ≡ get_or a.lanes i old → slice_get old.entries 0 ≡ Some y
-    → is_restoring (order_at a.orders y.queue) ≡ true → IsTrue (is_open (place_at (order_at a.orders y.queue) y.place))
-resolve_is_open a i old y core h is oldest restoring =
-    let there : y.queue < length a.shape.queues = oldest_known a i old y core h is oldest in
-    answer_is_open a.shape a.queues a.orders (map entries_in a.lanes) a.extras.items i 0 y core.places (oldest_entry a.lanes i old y h is oldest)
-    (sym (restoring_is a.shape (order_at a.orders y.queue) y.queue core.limits there (core.places.each y.queue there).room) ∙ restoring)
+module _ (a : Inside) (v : View) (i : ℕ) (y : Entry) (core : IsCore a) (same : view_in a ≡ v) (lane : i < lanes_of v.shape) (oldest : slice_get (lane_in a.lanes i).entries 0 ≡ Some y) where
+  abbrev old : Entries
+  old = lane_in a.lanes i
 
--- something is inside
-pub some_inside : (a : Inside) (i : ℕ) (old : Entries) (y : Entry) → IsCore a → i < length a.lanes → old ≡ get_or a.lanes i old → slice_get old.entries 0 ≡ Some y → 1 ≤ a.inside
-some_inside a i old y core h is oldest =
-    let le : length (unanswered_in old) ≤ sum_by (λ x. length (unanswered_in x)) a.lanes = subst (λ (l : Entries). length (unanswered_in l) ≤ sum_by (λ x. length (unanswered_in x)) a.lanes) (sym is) (get_or-le-sum_by (λ x. length (unanswered_in x)) a.lanes i old h) in
-    let e : sum_by (λ (xs : List Held). length xs) (map unanswered_in a.lanes) ≡ sum_by (λ x. length (unanswered_in x)) a.lanes = sum_of_map (λ (xs : List Held). length xs) unanswered_in a.lanes in
-    let some : 0 < length old.entries = (first_at old.entries y y oldest).0 in
-    let same : length (unanswered_in old) ≡ length old.entries = length-map old.entries held_of in
-    let inside = core.inside in
-    omega arith
+  h : i < length a.lanes
+  h = lane_there a v i core same lane
 
--- ---- its view
+  is : old ≡ get_or a.lanes i old
+  is = lane_is a.lanes i h
 
-pub view_answers : (a : Inside) (i : ℕ) (old new : Entries) (y : Entry) (f : Option Event) (o : Outcome) (es : Vec ℕ Global) (ps : List (List Pin)) (n m : ℕ) → IsCore a → i < length a.lanes → old ≡ get_or a.lanes i old
-    → slice_get old.entries 0 ≡ Some y → new.entries ≡ drop 1 old.entries → es.items ≡ set a.extras.items i 0 → ((e : Event) → f ≡ Some e → e.queue < length a.shape.queues) → outcome_of f ≡ o
-    → view_in (record { shape = a.shape; queues = a.queues; orders = resolved_orders a.orders y f; lanes = set a.lanes i new; extras = es; pins = ps; links = a.links; ahead = a.ahead; slot_lanes = a.slot_lanes; bound = a.bound; log_room = a.log_room; inside = n; entries = m; shut = a.shut }) ≡ after_answer (view_in a) i o
-view_answers a i old new y f o es ps n m core h is oldest items cleared named same =
-    same_parts a.shape (map waiting_in a.queues) _ (map next_in a.queues) _ _ _ _ _ _ _ a.shut refl refl
-    (map-set places_in a.orders y.queue (resolved_in r y.place f) ∙ (by_kind (is_ordered (queue_of a.shape y.queue).kind) refl done.shown ∙ sym (ap (λ x. places_answered (view_in a) x o) (first_here a i old y h is oldest))))
-    (lanes_answered a i old new h is items) cleared
-  where
-    r : Reordering
-    r = order_at a.orders y.queue
+  first : slice_get (unanswered_at (view_in a) i) 0 ≡ Some (unplaced y)
+  first = first_here a i old y h is oldest
 
-    there : y.queue < length a.shape.queues
-    there = oldest_known a i old y core h is oldest
+  pub oldest_first : oldest_at v i ≡ Some (unplaced y)
+  oldest_first = subst (λ (u : View). oldest_at u i ≡ Some (unplaced y)) same first
 
+  -- its queue is there, with its pins, its buffer and its places
+  there : y.queue < length a.shape.queues
+  there = oldest_known a.shape (map unanswered_in a.lanes) a.pins i (unplaced y) core.pins (in_view a i h) first
+
+  pub oldest_queue : y.queue < length v.shape.queues
+  oldest_queue = subst (λ (u : View). y.queue < length u.shape.queues) same there
+
+  pub oldest_pins : y.queue < length a.pins
+  oldest_pins = omega (arith, there, core.pins.count)
+
+  pub oldest_order : y.queue < length a.orders
+  oldest_order = omega (arith, there, core.places.count)
+
+  pub oldest_places : y.queue < length v.places
+  oldest_places = places_there a v y.queue core same oldest_queue
+
+  -- its pin is there, and counts it
+  pub oldest_has_pin : y.slot < length (pins_at a.pins y.queue) → 0 < (pin_in a.pins y.queue y.slot).count
+  oldest_has_pin = oldest_pinned a.shape (map unanswered_in a.lanes) a.pins i (unplaced y) core.pins (in_view a i h) first
+
+  -- it may be resolved
+  pub oldest_is_open : is_restoring (order_at a.orders y.queue) ≡ true → IsTrue (is_open (place_at (order_at a.orders y.queue) y.place))
+  oldest_is_open restoring =
+      answer_is_open a.shape a.queues a.orders (map entries_in a.lanes) a.extras.items i 0 y core.places (oldest_entry a.lanes i old y h is oldest)
+      (sym (restores_here a y.queue core there) ∙ restoring)
+
+  -- something is inside
+  some_inside : 1 ≤ a.inside
+  some_inside =
+      let le : length (unanswered_in old) ≤ sum_by (λ x. length (unanswered_in x)) a.lanes = subst (λ (l : Entries). length (unanswered_in l) ≤ sum_by (λ x. length (unanswered_in x)) a.lanes) (sym is) (get_or-le-sum_by (λ x. length (unanswered_in x)) a.lanes i old h) in
+      let e : sum_by (λ (xs : List Held). length xs) (map unanswered_in a.lanes) ≡ sum_by (λ x. length (unanswered_in x)) a.lanes = sum_of_map (λ (xs : List Held). length xs) unanswered_in a.lanes in
+      let some : 0 < length old.entries = (first_at old.entries y y oldest).0 in
+      let mapped : length (unanswered_in old) ≡ length old.entries = length-map old.entries unplaced in
+      omega arith
+
+  -- where no order is restored, one is inside less
+  pub answer_leaves_room : (o : Outcome) → is_ordered (queue_of v.shape y.queue).kind ≡ false → inside_of (after_answer v i o) < bound_of v.shape
+  answer_leaves_room o plain = subst (λ (u : View). inside_of (after_answer u i o) < bound_of u.shape) same (here (subst (λ (u : View). is_ordered (queue_of u.shape y.queue).kind ≡ false) (sym same) plain))
+    where
+      w : View
+      w = view_in a
+
+      here : is_ordered (queue_of a.shape y.queue).kind ≡ false → inside_of (after_answer w i o) < bound_of a.shape
+      here kind =
+          let still : places_answered w (oldest_at w i) o ≡ w.places = ap (λ x. places_answered w x o) first ∙ cond-false (is_ordered (queue_of a.shape y.queue).kind) _ w.places kind in
+          let keeps : kept_in (after_answer w i o) ≡ kept_in w = ap (sum_by kept_of) still in
+          let held : sum_by (λ (xs : List Held). length xs) (set w.unanswered i (drop 1 (unanswered_at w i))) + length (unanswered_at w i) ≡ sum_by (λ (xs : List Held). length xs) w.unanswered + length (drop 1 (unanswered_at w i)) =
+          sum_by-set (λ (xs : List Held). length xs) w.unanswered i (drop 1 (unanswered_at w i)) [] (in_view a i h) in
+          let some : 0 < length (unanswered_at w i) = omega (arith, (first_at old.entries y y oldest).0, ap length (unanswered_here a i old h is), length-map old.entries unplaced) in
+          let fewer : length (drop 1 (unanswered_at w i)) ≡ length (unanswered_at w i) - 1 = length-drop 1 (unanswered_at w i) in
+          omega arith
+
+  module _ (f : Option Event) (all : All (λ (e : Event). e.queue < length v.shape.queues) (events_of (outcome_of f))) where
     done : IsResolved a i y f (is_ordered (queue_of a.shape y.queue).kind)
-    done = resolved_by a i y f core h (oldest_entry a.lanes i old y h is oldest) there named
+    done = resolved_by a i y f core h (oldest_entry a.lanes i old y h is oldest) there (named_of (length a.shape.queues) f (subst (λ (u : View). All (λ (e : Event). e.queue < length u.shape.queues) (events_of (outcome_of f))) (sym same) all))
 
-    here : places_at (view_in a) y.queue ≡ r.places
-    here = places_here a y.queue core there
+    -- ---- it is answered
 
-    by_kind : (b : Bool) → is_ordered (queue_of a.shape y.queue).kind ≡ b → (resolved_in r y.place f).places ≡ cond b (map (answer_place y.number (outcome_of f)) r.places) r.places
-        → set (map places_in a.orders) y.queue (resolved_in r y.place f).places ≡ places_answered (view_in a) (Some (held_of y)) o
-    by_kind true ordered shown =
-        ap (set (map places_in a.orders) y.queue) (shown ∙ (ap (λ x. map (answer_place y.number x) r.places) same ∙ sym (ap (map (answer_place y.number o)) here)))
-        ∙ sym (cond-true (is_ordered (queue_of a.shape y.queue).kind) _ (map places_in a.orders) ordered)
-    by_kind false plain shown =
-        ap (set (map places_in a.orders) y.queue) (shown ∙ sym here)
-        ∙ (set-get_or (map places_in a.orders) y.queue []
-        ∙ sym (cond-false (is_ordered (queue_of a.shape y.queue).kind) _ (map places_in a.orders) plain))
+    pub core_answers : (ps : List (List Pin)) (b : Bool) → entries_of v + length (events_of (outcome_of f)) ≤ 2 ^ 63 → ps ≡ with_pin a.pins y.queue y.slot (unpinned (pin_in a.pins y.queue y.slot))
+        → (is_restoring (order_at a.orders y.queue) && is_some f) ≡ b
+        → IsCore (record a { orders = resolved_orders a.orders y f; lanes = set a.lanes i (histories.entries_of (drop 1 old.entries) old.capacity); extras = with_item a.extras i 0; pins = ps; inside = cond b a.inside (a.inside - 1); entries = cond b (a.entries + 1) a.entries })
+    core_answers ps b few unpins kept =
+        let new : Entries = histories.entries_of (drop 1 old.entries) old.capacity in
+        let counts = counted b kept in
+        let counted_in = counts.0 in
+        let entered = counts.1 in
+        let still_few : entries_of (view_in a) + length (events_of (outcome_of f)) ≤ 2 ^ 63 = subst (λ (u : View). entries_of u + length (events_of (outcome_of f)) ≤ 2 ^ 63) (sym same) few in
+        let kept_now : kept_more (is_restoring r) f ≡ kept_more ordered f = ap (λ k. kept_more k f) done.restoring in
+        let least : kept_more ordered f ≤ length (events_of (outcome_of f)) = more_least ordered f in
+        let once : kept_more ordered f ≤ 1 = more_once ordered f in
+        let less : length (unanswered_in new) + 1 ≡ length (unanswered_in old) = answered_length old new y oldest refl in
+        let held = held_sum a.lanes i old new h is in
+        let keeps = kept_after a (record a { orders = resolved_orders a.orders y f; lanes = set a.lanes i new; extras = with_item a.extras i 0; pins = ps; inside = cond b a.inside (a.inside - 1); entries = cond b (a.entries + 1) a.entries }) y.queue (resolved_in r y.place f) refl oldest_order in
+        let more = done.kept in
+        core_with a a.queues (resolved_orders a.orders y f) (set a.lanes i new) (with_item a.extras i 0) ps (cond b a.inside (a.inside - 1)) (cond b (a.entries + 1) a.entries) core (queues_here a core)
+        (length-set a.lanes i new ∙ core.lanes) (room_set a.shape a.lanes i old new h is refl core.room) (length-set a.extras.items i 0 ∙ core.extras)
+        (subst (λ us. ArePins a.shape us ps) (sym (lanes_answered a i old new h is refl))
+        (subst (ArePins a.shape (set (map unanswered_in a.lanes) i (drop 1 (unanswered_at (view_in a) i)))) (sym unpins)
+        (pins_answered a.shape (map unanswered_in a.lanes) a.pins i (unplaced y) core.pins (in_view a i h) first)))
+        (subst (λ us. ArePlaces a.shape a.queues (resolved_orders a.orders y f) us (set a.extras.items i 0)) (sym (popped_here a.lanes i old new h is refl)) done.places)
+        (record { inside = omega arith; within = omega arith; entries = omega arith; few = omega arith })
+      where
+        r : Reordering
+        r = order_at a.orders y.queue
 
--- where no order is restored, one is inside less
-pub answer_leaves_room : (a : Inside) (i : ℕ) (old : Entries) (y : Entry) (o : Outcome) → IsCore a → i < length a.lanes → old ≡ get_or a.lanes i old → slice_get old.entries 0 ≡ Some y
-    → is_ordered (queue_of a.shape y.queue).kind ≡ false → inside_of (after_answer (view_in a) i o) < bound_of a.shape
-answer_leaves_room a i old y o core h is oldest plain =
-    let v : View = view_in a in
-    let same : places_answered v (oldest_at v i) o ≡ v.places = ap (λ x. places_answered v x o) (first_here a i old y h is oldest) ∙ cond-false (is_ordered (queue_of a.shape y.queue).kind) _ v.places plain in
-    let keeps : kept_in (after_answer v i o) ≡ kept_in v = ap (sum_by kept_of) same in
-    let held : sum_by (λ (xs : List Held). length xs) (set v.unanswered i (drop 1 (unanswered_at v i))) + length (unanswered_at v i) ≡ sum_by (λ (xs : List Held). length xs) v.unanswered + length (drop 1 (unanswered_at v i)) =
-    sum_by-set (λ (xs : List Held). length xs) v.unanswered i (drop 1 (unanswered_at v i)) [] (subst (λ n. i < n) (sym (length-map a.lanes unanswered_in)) h) in
-    let some : 0 < length (unanswered_at v i) = omega (arith, (first_at old.entries y y oldest).0, ap length (unanswered_here a i old h is), length-map old.entries held_of) in
-    let fewer : length (drop 1 (unanswered_at v i)) ≡ length (unanswered_at v i) - 1 = length-drop 1 (unanswered_at v i) in
-    let within = core.within in
-    omega arith
+        ordered : Bool
+        ordered = is_ordered (queue_of a.shape y.queue).kind
+
+        counted : (c : Bool) → (is_restoring (order_at a.orders y.queue) && is_some f) ≡ c
+            → (cond c a.inside (a.inside - 1) + 1 ≡ a.inside + kept_more (is_restoring (order_at a.orders y.queue)) f) × (cond c (a.entries + 1) a.entries ≡ a.entries + kept_more (is_restoring (order_at a.orders y.queue)) f)
+        counted true keeps = let one = more_one (is_restoring (order_at a.orders y.queue)) f keeps in (omega arith, omega arith)
+        counted false leaves =
+            let none = more_none (is_restoring (order_at a.orders y.queue)) f leaves in
+            let some = some_inside in
+            (omega arith, omega arith)
+
+    pub view_answers : (ps : List (List Pin)) (n m : ℕ)
+        → view_in (record a { orders = resolved_orders a.orders y f; lanes = set a.lanes i (histories.entries_of (drop 1 old.entries) old.capacity); extras = with_item a.extras i 0; pins = ps; inside = n; entries = m }) ≡ after_answer v i (outcome_of f)
+    view_answers ps n m =
+        same_parts a.shape (map waiting_in a.queues) _ (map next_in a.queues) _ _ _ _ _ _ _ a.shut refl refl
+        (map-set places_in a.orders y.queue (resolved_in r y.place f) ∙ (by_kind (is_ordered (queue_of a.shape y.queue).kind) refl done.shown ∙ sym (ap (λ x. places_answered (view_in a) x (outcome_of f)) first)))
+        (lanes_answered a i old (histories.entries_of (drop 1 old.entries) old.capacity) h is refl) refl
+        ∙ ap (λ u. after_answer u i (outcome_of f)) same
+      where
+        r : Reordering
+        r = order_at a.orders y.queue
+
+        here : places_at (view_in a) y.queue ≡ r.places
+        here = places_here a y.queue core there
+
+        by_kind : (b : Bool) → is_ordered (queue_of a.shape y.queue).kind ≡ b → (resolved_in r y.place f).places ≡ cond b (map (answer_place y.number (outcome_of f)) r.places) r.places
+            → set (map places_in a.orders) y.queue (resolved_in r y.place f).places ≡ places_answered (view_in a) (Some (unplaced y)) (outcome_of f)
+        by_kind true restored shown =
+            ap (set (map places_in a.orders) y.queue) (shown ∙ sym (ap (map (answer_place y.number (outcome_of f))) here))
+            ∙ sym (cond-true (is_ordered (queue_of a.shape y.queue).kind) _ (map places_in a.orders) restored)
+        by_kind false plain shown =
+            ap (set (map places_in a.orders) y.queue) (shown ∙ sym here)
+            ∙ (set-get_or (map places_in a.orders) y.queue []
+            ∙ sym (cond-false (is_ordered (queue_of a.shape y.queue).kind) _ (map places_in a.orders) plain))

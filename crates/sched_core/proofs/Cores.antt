@@ -1,5 +1,5 @@
 -- A core after a call: its view, and that what holds of each core holds of it.
-use Rattle.std.proofs.Common.{◌≡◌, ◌≢◌, ℕ, ◌+◌, ◌*◌, ◌<◌, ◌≤◌, Bool, true, false, ◌^◌, List, [], ◌∷◌, ◌++◌, length, map, set, get_or, All, Contains, Some, sum, sum_by, slice_get, ◌⊎◌, inl, inr, refl, sym, ap, ◌∙◌, subst, arith}
+use Rattle.std.proofs.Common.{◌≡◌, ◌≢◌, ℕ, ◌+◌, ◌*◌, ◌<◌, ◌≤◌, Bool, true, false, ◌^◌, List, [], ◌∷◌, ◌++◌, length, map, set, get_or, All, Contains, Some, Vec, Global, sum, sum_by, slice_get, ◌⊎◌, inl, inr, refl, sym, ap, ◌∙◌, subst, arith}
 use Rattle.std.proofs.lemmas.Bool.{cases_Bool, cases_eq, cond-true, cond-false}
 use Rattle.std.proofs.lemmas.List.{length-set, length-map, length_push, map-set, get_or-map, get_or-set_same, get_or-set_other, get_or_default}
 use Rattle.std.proofs.lemmas.List.Elements.{All-set}
@@ -9,7 +9,7 @@ use Rattle.transcripts.proofs.ViewLists.{event_in_at, event_in_some}
 use Rattle.lists.proofs.Sums.{sum_of_map}
 use Rattle.evt_types.specs.Fault.{IsWithinLimits}
 use Rattle.evt_types.specs.declared.shape.TheConstants.{MAX_ORDER, MAX_QUEUES}
-use Rattle.evt_types.specs.Plan.{Plan, is_ordered, kept_room, level_of, depth_of, bound_of}
+use Rattle.evt_types.specs.Plan.{Plan, is_ordered, kept_room, level_of, depth_of, bound_of, lanes_of}
 use Rattle.transcripts.specs.Standing.{View, event_in, inside_of, entries_of, kept_in, waiting_at, next_at, places_at, unanswered_at, after_accept}
 use Rattle.evt_types.specs.Place.{Place}
 use Rattle.transcripts.specs.Transcript.{Held}
@@ -18,10 +18,12 @@ use Rattle.evt_types.specs.declared.event.Event.{Event}
 use Rattle.evt_types.specs.declared.event.Numbered.{Numbered}
 use Rattle.order_parts.specs.Reorder.{Reordering, empty}
 use Rattle.sched_core.proofs.OrderMoves.{accepted_places}
-use Rattle.sched_core.specs.Inner.{IsQueueOf, HaveSlots, held_of, slots_for}
+use Rattle.sched_core.specs.Inner.{IsQueueOf, HaveSlots, unplaced, slots_for}
 use Rattle.order_parts.specs.Histories.{HaveRoom}
 use Rattle.sched_core.specs.Ordered.{ArePlaces, kept_of, places_in}
 use Rattle.order_parts.specs.Orders.{order_at}
+use Rattle.order_parts.specs.Pins.{Pin}
+use Rattle.sched_core.specs.Pinned.{ArePins}
 use Rattle.sched_core.specs.View.{waiting_in, next_in, unanswered_in, entries_in, view_in, IsCore}
 use Rattle.order_parts.specs.declared.history.Entry.{Entry}
 use Rattle.order_parts.specs.History.{Entries}
@@ -75,6 +77,16 @@ places_there a v q core same h =
     let count = core.places.count in
     omega arith
 
+-- the core has the view's lanes
+pub lane_there : (a : Inside) (v : View) (l : ℕ) → IsCore a → view_in a ≡ v → l < lanes_of v.shape → l < length a.lanes
+lane_there a v l core same h =
+    let lane : l < lanes_of a.shape = subst (λ (u : View). l < lanes_of u.shape) (sym same) h in
+    omega (arith, lane, core.lanes)
+
+-- the view's queues are the core's
+pub queue_there : (a : Inside) (v : View) (q : ℕ) → view_in a ≡ v → q < length v.shape.queues → q < length a.shape.queues
+queue_there a v q same h = subst (λ (u : View). q < length u.shape.queues) (sym same) h
+
 pub waiting_here : (a : Inside) (i : ℕ) (old : Waits) → i < length a.queues → old ≡ get_or a.queues i old → waiting_at (view_in a) i ≡ old.waiting
 waiting_here a i old h is = get_or-map waiting_in a.queues i old [] h ∙ ap waiting_in (sym is)
 
@@ -88,41 +100,78 @@ pub in_view : (a : Inside) (i : ℕ) → i < length a.lanes → i < length (map 
 in_view a i h = subst (λ n. i < n) (sym (length-map a.lanes unanswered_in)) h
 
 -- the oldest event of the lane is the view's
-pub first_here : (a : Inside) (i : ℕ) (old : Entries) (y : Entry) → i < length a.lanes → old ≡ get_or a.lanes i old → slice_get old.entries 0 ≡ Some y → slice_get (unanswered_at (view_in a) i) 0 ≡ Some (held_of y)
+pub first_here : (a : Inside) (i : ℕ) (old : Entries) (y : Entry) → i < length a.lanes → old ≡ get_or a.lanes i old → slice_get old.entries 0 ≡ Some y → slice_get (unanswered_at (view_in a) i) 0 ≡ Some (unplaced y)
 first_here a i old y h is oldest = ap (λ us. slice_get us 0) (unanswered_here a i old h is) ∙ first_of old.entries oldest
   where
-    first_of : (ys : List Entry) → slice_get ys 0 ≡ Some y → slice_get (map held_of ys) 0 ≡ Some (held_of y)
+    first_of : (ys : List Entry) → slice_get ys 0 ≡ Some y → slice_get (map unplaced ys) 0 ≡ Some (unplaced y)
     first_of [] is_first = absurd cc
-    first_of (x ∷ ys) is_first = let e : x ≡ y = cc in ap (λ z. Some (held_of z)) e
+    first_of (x ∷ ys) is_first = let e : x ≡ y = cc in ap (λ z. Some (unplaced z)) e
 
 pub queue_here : (a : Inside) (i : ℕ) (old : Waits) → IsCore a → i < length a.queues → old ≡ get_or a.queues i old → IsQueueOf (bound_of a.shape) old
 queue_here a i old core h is = subst (IsQueueOf (bound_of a.shape)) (sym is) (core.sound i old h)
 
+-- a list keeps what holds of each element where one is written that has the same of it
+each_set : {A : Type 0} (f : A → ℕ) (g : ℕ → ℕ) (xs : List A) (i : ℕ) (old new : A) → i < length xs → old ≡ get_or xs i old → f new ≡ f old
+    → ((k : ℕ) (d : A) → k < length xs → f (get_or xs k d) ≡ g k) → (k : ℕ) (d : A) → k < length (set xs i new) → f (get_or (set xs i new) k d) ≡ g k
+each_set f g xs i old new h is same each k d lt = by_case (cases_eq k i)
+  where
+    by_case : (k ≡ i) ⊎ (k ≢ i) → f (get_or (set xs i new) k d) ≡ g k
+    by_case (inl e) = ap f (ap (λ n. get_or (set xs i new) n d) e ∙ get_or-set_same xs i new d h) ∙ (same ∙ (ap f is ∙ (each i old h ∙ ap g (sym e))))
+    by_case (inr differs) = ap f (get_or-set_other xs i k new d differs) ∙ each k d (subst (λ n. k < n) (length-set xs i new) lt)
+
 -- the room of a lane whose capacity stays
 pub room_set : (p : Plan) (ls : List Entries) (i : ℕ) (old new : Entries) → i < length ls → old ≡ get_or ls i old → new.capacity ≡ old.capacity → HaveRoom p ls → HaveRoom p (set ls i new)
-room_set p ls i old new h is same room k d lt = by_case (cases_eq k i)
-  where
-    within : k < length ls
-    within = subst (λ n. k < n) (length-set ls i new) lt
-
-    by_case : (k ≡ i) ⊎ (k ≢ i) → (get_or (set ls i new) k d).capacity ≡ depth_of p k
-    by_case (inl e) =
-        ap (λ (l : Entries). l.capacity) (ap (λ n. get_or (set ls i new) n d) e ∙ get_or-set_same ls i new d h)
-        ∙ (same ∙ (ap (λ (l : Entries). l.capacity) is ∙ (ap (λ n. (get_or ls n old).capacity) (sym e) ∙ room k old within)))
-    by_case (inr differs) = ap (λ (l : Entries). l.capacity) (get_or-set_other ls i k new d differs) ∙ room k d within
+room_set p = each_set (λ (l : Entries). l.capacity) (depth_of p)
 
 -- the slots of a queue that keeps them
 pub slots_set : (p : Plan) (qs : List Waits) (i : ℕ) (old new : Waits) → i < length qs → old ≡ get_or qs i old → new.slots ≡ old.slots → HaveSlots p qs → HaveSlots p (set qs i new)
-slots_set p qs i old new h is same slots k d lt = by_case (cases_eq k i)
-  where
-    within : k < length qs
-    within = subst (λ n. k < n) (length-set qs i new) lt
+slots_set p = each_set (λ (q : Waits). q.slots) (slots_for p)
 
-    by_case : (k ≡ i) ⊎ (k ≢ i) → (get_or (set qs i new) k d).slots ≡ slots_for p k
-    by_case (inl e) =
-        ap (λ (q : Waits). q.slots) (ap (λ n. get_or (set qs i new) n d) e ∙ get_or-set_same qs i new d h)
-        ∙ (same ∙ (ap (λ (q : Waits). q.slots) is ∙ (ap (λ n. (get_or qs n old).slots) (sym e) ∙ slots k old within)))
-    by_case (inr differs) = ap (λ (q : Waits). q.slots) (get_or-set_other qs i k new d differs) ∙ slots k d within
+-- ---- a core of which parts change
+
+-- the queues of a configuration, each with its room and its slots
+pub record AreQueues (p : Plan) (qs : List Waits) : Type 0 where
+  pub count : length qs ≡ length p.queues
+  pub sound : All (IsQueueOf (bound_of p)) qs
+  pub slots : HaveSlots p qs
+
+pub queues_here : (a : Inside) → IsCore a → AreQueues a.shape a.queues
+queues_here a core = record { count = core.queues; sound = core.sound; slots = core.slots }
+
+-- the counts are those of the view, and within their bounds
+pub record AreCounts (a : Inside) : Type 0 where
+  pub inside : a.inside ≡ inside_of (view_in a)
+  pub within : inside_of (view_in a) ≤ bound_of a.shape
+  pub entries : a.entries ≡ entries_of (view_in a)
+  pub few : entries_of (view_in a) ≤ 2 ^ 63
+
+-- with other parts that are right it is a core still
+pub core_with : (a : Inside) (qs : List Waits) (rs : List Reordering) (ls : List Entries) (es : Vec ℕ Global) (ps : List (List Pin)) (n m : ℕ) → IsCore a → AreQueues a.shape qs
+    → length ls ≡ lanes_of a.shape → HaveRoom a.shape ls → length es.items ≡ lanes_of a.shape → ArePins a.shape (map unanswered_in ls) ps → ArePlaces a.shape qs rs (map entries_in ls) es.items
+    → AreCounts (record a { queues = qs; orders = rs; lanes = ls; extras = es; pins = ps; inside = n; entries = m })
+    → IsCore (record a { queues = qs; orders = rs; lanes = ls; extras = es; pins = ps; inside = n; entries = m })
+core_with a qs rs ls es ps n m core queues lanes room extras pins places counts =
+    record {
+      limits = core.limits;
+      queues = queues.count;
+      lanes = lanes;
+      extras = extras;
+      sound = queues.sound;
+      slots = queues.slots;
+      room = room;
+      pins = pins;
+      inside = counts.inside;
+      within = counts.within;
+      bound = core.bound;
+      small = core.small;
+      log_room = core.log_room;
+      entries = counts.entries;
+      few = counts.few;
+      links = core.links;
+      ahead = core.ahead;
+      slot_lanes = core.slot_lanes;
+      places = places;
+    }
 
 -- ---- an event is accepted
 
@@ -144,63 +193,41 @@ waits_here_is qs i old h is = get_or_default qs i (no_waits 1 0) old h ∙ sym i
 
 pub core_accepts : (a : Inside) (i : ℕ) (old new : Waits) (e : Event) → IsCore a → inside_of (view_in a) < bound_of a.shape → entries_of (view_in a) < 2 ^ 63 → i < length a.queues → old ≡ get_or a.queues i old
     → new ≡ with_event old e → AreWaits new
-    → IsCore (record { shape = a.shape; queues = set a.queues i new; orders = a.orders; lanes = a.lanes; extras = a.extras; pins = a.pins; links = a.links; ahead = a.ahead; slot_lanes = a.slot_lanes; bound = a.bound; log_room = a.log_room; inside = a.inside + 1; entries = a.entries + 1; shut = a.shut })
+    → IsCore (record a { queues = set a.queues i new; inside = a.inside + 1; entries = a.entries + 1 })
 core_accepts a i old new e core fits fewer h is value waits =
     let more : length new.waiting ≡ length old.waiting + 1 = ap (λ (q : Waits). length q.waiting) value ∙ length_push old.waiting (record { number = old.next; event = e }) in
     let next : new.next ≡ old.next + 1 = ap (λ (q : Waits). q.next) value in
     let more_wait = waiting_sum a.queues i old new h is in
     let numbers = next_sum a.queues i old new h is in
-    let inside = core.inside in
-    let within = core.within in
-    let entries = core.entries in
-    let queues = core.queues in
-    record {
-      limits = core.limits;
-      queues = length-set a.queues i new ∙ core.queues;
-      lanes = core.lanes;
-      extras = core.extras;
+    core_with a (set a.queues i new) a.orders a.lanes a.extras a.pins (a.inside + 1) (a.entries + 1) core
+    (record {
+      count = length-set a.queues i new ∙ core.queues;
       sound = All-set (IsQueueOf (bound_of a.shape)) a.queues i new (record { room = ap (λ (q : Waits). q.room) value ∙ (queue_here a i old core h is).room; waits = waits }) core.sound;
       slots = slots_set a.shape a.queues i old new h is (ap (λ (q : Waits). q.slots) value) core.slots;
-      room = core.room;
-      pins = core.pins;
-      inside = omega arith;
-      within = omega arith;
-      bound = core.bound;
-      log_room = core.log_room;
-      small = core.small;
-      entries = omega arith;
-      few = omega arith;
-      links = core.links;
-      ahead = core.ahead;
-      slot_lanes = core.slot_lanes;
-      places = subst (λ q. ArePlaces a.shape (set a.queues i q) a.orders (map entries_in a.lanes) a.extras.items) (ap (λ q. with_event q e) (waits_here_is a.queues i old h is) ∙ sym value)
-          (accepted_places a.shape a.queues a.orders (map entries_in a.lanes) a.extras.items i e core.places (omega arith));
-    }
+    }) core.lanes core.room core.extras core.pins
+    (subst (λ q. ArePlaces a.shape (set a.queues i q) a.orders (map entries_in a.lanes) a.extras.items) (ap (λ q. with_event q e) (waits_here_is a.queues i old h is) ∙ sym value)
+    (accepted_places a.shape a.queues a.orders (map entries_in a.lanes) a.extras.items i e core.places (omega arith)))
+    (record { inside = omega arith; within = omega arith; entries = omega arith; few = omega arith })
 
 -- two views of one shape with the same parts
 pub same_parts : (p : Plan) (w w' : List (List Numbered)) (n n' : List ℕ) (r r' : List (List Place)) (u u' : List (List Held)) (x x' : List ℕ) (b : Bool) → w ≡ w' → n ≡ n' → r ≡ r' → u ≡ u' → x ≡ x'
     → ◌≡◌ {A = View} (record { shape = p; waiting = w; next = n; places = r; unanswered = u; extras = x; shut = b }) (record { shape = p; waiting = w'; next = n'; places = r'; unanswered = u'; extras = x'; shut = b })
 same_parts p w w' n n' r r' u u' x x' b e f g h i = cc
 
--- the same with the same places and counts
-pub same_view : (p : Plan) (w w' : List (List Numbered)) (n n' : List ℕ) (r : List (List Place)) (u u' : List (List Held)) (x : List ℕ) (b : Bool) → w ≡ w' → n ≡ n' → u ≡ u'
-    → ◌≡◌ {A = View} (record { shape = p; waiting = w; next = n; places = r; unanswered = u; extras = x; shut = b }) (record { shape = p; waiting = w'; next = n'; places = r; unanswered = u'; extras = x; shut = b })
-same_view p w w' n n' r u u' x b e f g = cc
-
 pub view_accepts : (a : Inside) (i : ℕ) (old new : Waits) (e : Event) → i < length a.queues → old ≡ get_or a.queues i old → new ≡ with_event old e
-    → view_in (record { shape = a.shape; queues = set a.queues i new; orders = a.orders; lanes = a.lanes; extras = a.extras; pins = a.pins; links = a.links; ahead = a.ahead; slot_lanes = a.slot_lanes; bound = a.bound; log_room = a.log_room; inside = a.inside + 1; entries = a.entries + 1; shut = a.shut }) ≡ after_accept (view_in a) i e
+    → view_in (record a { queues = set a.queues i new; inside = a.inside + 1; entries = a.entries + 1 }) ≡ after_accept (view_in a) i e
 view_accepts a i old new e h is value =
-    same_view a.shape _ _ _ _ (map places_in a.orders) (map unanswered_in a.lanes) _ a.extras.items a.shut
+    same_parts a.shape _ _ _ _ (map places_in a.orders) _ (map unanswered_in a.lanes) _ a.extras.items _ a.shut
     (map-set waiting_in a.queues i new ∙ ap (set (map waiting_in a.queues) i)
     (ap (λ (q : Waits). q.waiting) value ∙ sym (ap (λ ws. ws ++ record { number = next_at (view_in a) i; event = e } ∷ []) (waiting_here a i old h is) ∙ ap (λ n. old.waiting ++ record { number = n; event = e } ∷ []) (next_here a i old h is))))
     (map-set next_in a.queues i new ∙ ap (set (map next_in a.queues) i) (ap (λ (q : Waits). q.next) value ∙ sym (ap (λ n. n + 1) (next_here a i old h is))))
-    refl
+    refl refl refl
 
 -- one event more is inside, and one more accepted
 pub accept_counts : (a : Inside) (i : ℕ) (old new : Waits) (e : Event) (v : View) → IsCore a → view_in a ≡ v → inside_of (view_in a) < bound_of a.shape → entries_of (view_in a) < 2 ^ 63 → i < length a.queues → old ≡ get_or a.queues i old
     → new ≡ with_event old e → AreWaits new
-    → (inside_of (view_in (record { shape = a.shape; queues = set a.queues i new; orders = a.orders; lanes = a.lanes; extras = a.extras; pins = a.pins; links = a.links; ahead = a.ahead; slot_lanes = a.slot_lanes; bound = a.bound; log_room = a.log_room; inside = a.inside + 1; entries = a.entries + 1; shut = a.shut })) ≡ inside_of v + 1)
-    × (entries_of (view_in (record { shape = a.shape; queues = set a.queues i new; orders = a.orders; lanes = a.lanes; extras = a.extras; pins = a.pins; links = a.links; ahead = a.ahead; slot_lanes = a.slot_lanes; bound = a.bound; log_room = a.log_room; inside = a.inside + 1; entries = a.entries + 1; shut = a.shut })) ≡ entries_of v + 1)
+    → (inside_of (view_in (record a { queues = set a.queues i new; inside = a.inside + 1; entries = a.entries + 1 })) ≡ inside_of v + 1)
+    × (entries_of (view_in (record a { queues = set a.queues i new; inside = a.inside + 1; entries = a.entries + 1 })) ≡ entries_of v + 1)
 accept_counts a i old new e v core same fits fewer h is value waits =
     let after = core_accepts a i old new e core fits fewer h is value waits in
     (sym after.inside ∙ ap (λ n. n + 1) (core.inside ∙ ap inside_of same), sym after.entries ∙ ap (λ n. n + 1) (core.entries ∙ ap entries_of same))

@@ -19,7 +19,7 @@ use Rattle.sched_core.proofs.Answering.{entries_here, restoring_is}
 use Rattle.sched_core.proofs.Cores.{held_sum, in_view, kept_after, next_here, next_sum, places_here, queue_here, room_set, same_parts, slots_set, unanswered_here, waiting_here, waiting_sum, waits_here_is}
 use Rattle.sched_core.proofs.OrderMoves.{given_place, given_plain}
 use Rattle.sched_core.proofs.Pinned.{alone_may, pin_room, slot_within, pins_given}
-use Rattle.sched_core.specs.Inner.{IsQueueOf, held_of}
+use Rattle.sched_core.specs.Inner.{IsQueueOf, unplaced}
 use Rattle.sched_core.specs.Ordered.{ArePlaces, entries_at, kept_of, places_in}
 use Rattle.order_parts.specs.Orders.{order_at, has_place, handed, is_restoring}
 use Rattle.sched_core.specs.Pinned.{ArePins}
@@ -31,10 +31,10 @@ use Rattle.sched_core.specs.declared.state.Core.TheInside.{Inside}
 -- ---- the lanes and the pins
 
 lanes_given : (a : Inside) (l : ℕ) (holder held : Entries) (y : Entry) → l < length a.lanes → holder ≡ get_or a.lanes l holder → held.entries ≡ holder.entries ++ y ∷ []
-    → map unanswered_in (set a.lanes l held) ≡ set (map unanswered_in a.lanes) l (unanswered_at (view_in a) l ++ held_of y ∷ [])
+    → map unanswered_in (set a.lanes l held) ≡ set (map unanswered_in a.lanes) l (unanswered_at (view_in a) l ++ unplaced y ∷ [])
 lanes_given a l holder held y k here given =
     map-set unanswered_in a.lanes l held
-    ∙ ap (set (map unanswered_in a.lanes) l) (ap (map held_of) given ∙ (map_push held_of holder.entries y ∙ sym (ap (λ us. us ++ held_of y ∷ []) (unanswered_here a l holder k here))))
+    ∙ ap (set (map unanswered_in a.lanes) l) (ap (map unplaced) given ∙ (map_push unplaced holder.entries y ∙ sym (ap (λ us. us ++ unplaced y ∷ []) (unanswered_here a l holder k here))))
 
 -- the lane of an offer may have one event more of the slot, and its pin can count it
 pub offer_may : (a : Inside) (v : View) (l i s : ℕ) (w : Numbered) → IsCore a → view_in a ≡ v → IsOffer v l i w → s ≡ slot_of a.shape i w.event.flow → may_pin (pin_in a.pins i s) l ≡ true
@@ -138,7 +138,7 @@ core_gives a i l old new holder held w y ps core offer h is k here waits value s
     let same : waits_at a.queues i ≡ old = waits_here_is a.queues i old h is in
     let fewer : length new.waiting + 1 ≡ length old.waiting = ap (λ (q : Waits). length q.waiting + 1) value ∙ one_less old.waiting w sound.waits.rising waits in
     let next : new.next ≡ old.next = ap (λ (q : Waits). q.next) value in
-    let more : length (unanswered_in held) ≡ length (unanswered_in holder) + 1 = ap (λ ys. length (map held_of ys)) given ∙ (length-map (holder.entries ++ y ∷ []) held_of ∙ (length_push holder.entries y ∙ sym (ap (λ n. n + 1) (length-map holder.entries held_of)))) in
+    let more : length (unanswered_in held) ≡ length (unanswered_in holder) + 1 = ap (λ ys. length (map unplaced ys)) given ∙ (length-map (holder.entries ++ y ∷ []) unplaced ∙ (length_push holder.entries y ∙ sym (ap (λ n. n + 1) (length-map holder.entries unplaced)))) in
     let below : w.number < old.next = subst (λ (u : Numbered). u.number < old.next) waits.2 (sound.waits.below waits.0 w waits.1) in
     let done = handed_by a l i w y core offer (subst (λ (q : Waits). Contains q.waiting w) (sym same) waits) (subst (λ (q : Waits). w.number < q.next) (sym same) below) k queue number place in
     let count = core.places.count in
@@ -162,8 +162,8 @@ core_gives a i l old new holder held w y ps core offer h is k here waits value s
       room = room_set a.shape a.lanes l holder held k here room core.room;
       pins =
           subst (λ us. ArePins a.shape us ps) (sym (lanes_given a l holder held y k here given))
-          (subst (ArePins a.shape (set (map unanswered_in a.lanes) l (unanswered_at (view_in a) l ++ held_of y ∷ []))) (sym (pins ∙ ap (λ q. with_pin a.pins q y.slot (pinned (pin_in a.pins q y.slot) l)) (sym queue)))
-          (pins_given a.shape (map unanswered_in a.lanes) a.pins l (held_of y) core.pins (in_view a l k) known within_slots may));
+          (subst (ArePins a.shape (set (map unanswered_in a.lanes) l (unanswered_at (view_in a) l ++ unplaced y ∷ []))) (sym (pins ∙ ap (λ q. with_pin a.pins q y.slot (pinned (pin_in a.pins q y.slot) l)) (sym queue)))
+          (pins_given a.shape (map unanswered_in a.lanes) a.pins l (unplaced y) core.pins (in_view a l k) known within_slots may));
       inside = omega arith;
       within = omega arith;
       bound = core.bound;
@@ -193,7 +193,7 @@ core_gives a i l old new holder held w y ps core offer h is k here waits value s
 
 pub view_gives : (a : Inside) (i l : ℕ) (old new : Waits) (holder held : Entries) (w : Numbered) (y : Entry) (ps : List (List Pin)) → IsCore a → IsOffer (view_in a) l i w
     → i < length a.queues → old ≡ get_or a.queues i old → l < length a.lanes → holder ≡ get_or a.lanes l holder → Contains old.waiting w
-    → new ≡ without_number old w.number → held.entries ≡ holder.entries ++ y ∷ [] → held_of y ≡ record { queue = i; number = w.number; slot = slot_of a.shape i w.event.flow }
+    → new ≡ without_number old w.number → held.entries ≡ holder.entries ++ y ∷ [] → unplaced y ≡ record { queue = i; number = w.number; slot = slot_of a.shape i w.event.flow }
     → (is_restoring (order_at a.orders i) ≡ true → y.place ≡ next_number (order_at a.orders i))
     → view_in (record { shape = a.shape; queues = set a.queues i new; orders = handed_orders a.orders i w.number; lanes = set a.lanes l held; extras = a.extras; pins = ps; links = a.links; ahead = a.ahead; slot_lanes = a.slot_lanes; bound = a.bound; log_room = a.log_room; inside = a.inside; entries = a.entries; shut = a.shut }) ≡ after_give (view_in a) l i w.number
 view_gives a i l old new holder held w y ps core offer h is k here waits value given entry place =

@@ -16,7 +16,7 @@ pub mod PlaceNumbers
 pub mod OrderMoves
 pub mod Ordered
 pub mod Pinned
-pub mod PlaceSets
+pub mod Members
 pub mod Busy
 pub mod Service
 pub mod Settling

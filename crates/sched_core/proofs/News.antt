@@ -21,7 +21,7 @@ use Rattle.order_parts.specs.Reorder.{Reordering, empty}
 use Rattle.sched_core.proofs.OrderFacts.{new_places, order_small}
 use Rattle.sched_core.specs.Ordered.{kept_of, places_in}
 use Rattle.order_parts.specs.Orders.{order_at}
-use Rattle.sched_core.specs.Inner.{IsQueueOf, AreEmptyQueues, held_of, queue_slots, slots_for}
+use Rattle.sched_core.specs.Inner.{IsQueueOf, AreEmptyQueues, unplaced, queue_slots, slots_for}
 use Rattle.order_parts.specs.Histories.{IsBare, AreEmptyLanes}
 use Rattle.sched_core.specs.Links.{AreLinks}
 use Rattle.sched_core.specs.Service.{AreAhead}
@@ -71,7 +71,7 @@ none_wait n b some few =
       few = few;
     }
 
--- there is a slot of each queue, and no more than a set has places
+-- there is a slot of each queue, and no more than a set may have members
 pub slots_range : (p : Plan) (q : ℕ) → IsWithinLimits p → q < length p.queues → (1 ≤ slots_for p q) × (slots_for p q ≤ 64)
 slots_range p q limits h = by_kind (is_atomic (queue_of p q).kind) refl
   where
@@ -102,7 +102,7 @@ fresh_order : (p : Plan) (q : ℕ) → q < length p.queues → order_at (new_ord
 fresh_order p q h = get_or-map (λ (d : QueueDraft). empty (kept_room d)) p.queues q _ (empty 0) h
 
 nothing_held : (ls : List Entries) (p : Plan) (n : ℕ) → AreEmptyLanes p n ls → sum_by (λ (xs : List Held). length xs) (map unanswered_in ls) ≡ 0
-nothing_held ls p n empty = sum_of_map (λ (xs : List Held). length xs) unanswered_in ls ∙ sum_of_none (λ x. length (unanswered_in x)) ls (All-weaker IsBare (λ (l : Entries). length (unanswered_in l) ≡ 0) (λ l e. ap (λ (ys : List Entry). length (map held_of ys)) e) ls empty.empty)
+nothing_held ls p n empty = sum_of_map (λ (xs : List Held). length xs) unanswered_in ls ∙ sum_of_none (λ x. length (unanswered_in x)) ls (All-weaker IsBare (λ (l : Entries). length (unanswered_in l) ≡ 0) (λ l e. ap (λ (ys : List Entry). length (map unplaced ys)) e) ls empty.empty)
 
 pub core_new : (p : Plan) (qs : List Waits) (ls : List Entries) (es : Vec ℕ Global) (ps : List (List Pin)) (ks hs : Vec SmallSet Global) (os : Vec (Option ℕ) Global) → IsWithinLimits p → bound_of p < 2 ^ 64 → AreEmptyQueues p (length p.queues) qs → AreEmptyLanes p (lanes_of p) ls → es.items ≡ replicate (lanes_of p) 0 → AreFreePins p (length p.queues) ps → AreLinks p (length p.queues) ks.items → AreAhead p (length p.queues) hs.items → AreSlotLanes p (slot_lane_count p) os.items
     → IsCore (record { shape = p; queues = qs; orders = new_orders p; lanes = ls; extras = es; pins = ps; links = ks; ahead = hs; slot_lanes = os; bound = bound_of p; log_room = sweep_room p; inside = 0; entries = 0; shut = false })
@@ -122,7 +122,7 @@ core_new p qs ls es ps ks hs os limits small queues lanes none pins links ahead 
       sound = λ k d lt. empty_is_queue p k _ limits (omega (arith, lt, queues.count)) (queues.empty k d lt);
       slots = λ k d lt. ap (λ (x : Waits). x.slots) (queues.empty k d lt);
       room = lanes.room;
-      pins = pins_new p (map unanswered_in ls) ps pins (All-map (λ us. us ≡ []) unanswered_in ls (All-weaker IsBare (λ (l : Entries). unanswered_in l ≡ []) (λ l e. ap (map held_of) e) ls lanes.empty));
+      pins = pins_new p (map unanswered_in ls) ps pins (All-map (λ us. us ≡ []) unanswered_in ls (All-weaker IsBare (λ (l : Entries). unanswered_in l ≡ []) (λ l e. ap (map unplaced) e) ls lanes.empty));
       inside = omega arith;
       within = omega arith;
       entries = omega arith;
@@ -160,5 +160,5 @@ view_new p qs ls es ps ks hs os queues lanes none =
 
     none_held : (k : ℕ) → k < lanes_of p → get_or (map unanswered_in ls) k [] ≡ []
     none_held k h =
-        All-map (λ us. us ≡ []) unanswered_in ls (All-weaker IsBare (λ (l : Entries). unanswered_in l ≡ []) (λ l e. ap (map held_of) e) ls lanes.empty)
+        All-map (λ us. us ≡ []) unanswered_in ls (All-weaker IsBare (λ (l : Entries). unanswered_in l ≡ []) (λ l e. ap (map unplaced) e) ls lanes.empty)
         k [] (subst (λ n. k < n) (sym (length-map ls unanswered_in ∙ lanes.count)) h)

@@ -24,7 +24,7 @@ use Rattle.order_parts.specs.Pins.{IsOn, holder_of, may_pin}
 use Rattle.sched_core.proofs.Cores.{unanswered_here}
 use Rattle.order_parts.proofs.Roomy.{lane_is}
 use Rattle.order_parts.specs.Histories.{AreRoomy, HasRoom, lane_in}
-use Rattle.sched_core.specs.Inner.{held_of}
+use Rattle.sched_core.specs.Inner.{unplaced}
 use Rattle.sched_core.specs.Links.{AreLinksOf}
 use Rattle.sched_core.specs.Offered.{AreOpenLanes, FitsSlot, HasAllowed, HasPlace, IsOpenLane, MayHold, better_of}
 use Rattle.order_parts.specs.QueuePins.{pin_in}
@@ -191,7 +191,7 @@ shut_open v s q lanes none full l = (λ has. absurd (none l has), λ opened. abs
 
 -- how many events of a lane are unanswered
 pub held_here : (a : Inside) (l : ℕ) → l < length a.lanes → length (unanswered_at (view_in a) l) ≡ length (lane_in a.lanes l).entries
-held_here a l h = ap length (unanswered_here a l (lane_in a.lanes l) h (lane_is a.lanes l h)) ∙ length-map (lane_in a.lanes l).entries held_of
+held_here a l h = ap length (unanswered_here a l (lane_in a.lanes l) h (lane_is a.lanes l h)) ∙ length-map (lane_in a.lanes l).entries unplaced
 
 -- the room of a lane, by its history
 pub room_here : (a : Inside) (l : ℕ) → IsCore a → l < length a.lanes → HasRoom a.lanes l ↔ (length (unanswered_at (view_in a) l) < depth_of a.shape l)

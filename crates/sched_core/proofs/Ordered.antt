@@ -23,19 +23,25 @@ use Rattle.lists.proofs.Writes.{slice_get-set_other, slice_get-drop_one, AllPair
 
 -- ---- the events that wait change
 
--- the event of a number that no place has
-pub order_accepts : (p : Plan) (depth : ℕ) (w : Waits) (r : Reordering) (e : Event) → IsOrder p depth w r → IsOrder p depth (with_event w e) r
-order_accepts p depth w r e o =
+-- a queue's events change, and what holds of the places beside them
+order_waits : (p : Plan) (depth : ℕ) (w now : Waits) (r : Reordering) → IsOrder p depth w r → All (λ (x : Place). x.number < now.next) r.places → All (IsGivenOf now) r.places → IsOrder p depth now r
+order_waits p depth w now r o below given =
     record {
       room = o.room;
       small = o.small;
       within = o.within;
       first = o.first;
       distinct = o.distinct;
-      below = All-weaker (λ (x : Place). x.number < w.next) (λ (x : Place). x.number < w.next + 1) (λ x h. omega arith) r.places o.below;
-      given = λ k d lt. All-push (λ (v : Numbered). v.number ≢ (get_or r.places k d).number) w.waiting (record { number = w.next; event = e }) (o.given k d lt) (new (get_or r.places k d) (o.below k d lt));
+      below = below;
+      given = given;
       keeps = o.keeps;
     }
+
+-- the event of a number that no place has
+pub order_accepts : (p : Plan) (depth : ℕ) (w : Waits) (r : Reordering) (e : Event) → IsOrder p depth w r → IsOrder p depth (with_event w e) r
+order_accepts p depth w r e o =
+    order_waits p depth w (with_event w e) r o (All-weaker (λ (x : Place). x.number < w.next) (λ (x : Place). x.number < w.next + 1) (λ x h. omega arith) r.places o.below)
+    (λ k d lt. All-push (λ (v : Numbered). v.number ≢ (get_or r.places k d).number) w.waiting (record { number = w.next; event = e }) (o.given k d lt) (new (get_or r.places k d) (o.below k d lt)))
   where
     new : (x : Place) → x.number < w.next → w.next ≢ x.number
     new x lt same = omega arith
@@ -43,16 +49,7 @@ order_accepts p depth w r e o =
 -- an event no longer waits
 pub order_gives : (p : Plan) (depth : ℕ) (w : Waits) (r : Reordering) (n : ℕ) → IsOrder p depth w r → IsOrder p depth (without_number w n) r
 order_gives p depth w r n o =
-    record {
-      room = o.room;
-      small = o.small;
-      within = o.within;
-      first = o.first;
-      distinct = o.distinct;
-      below = o.below;
-      given = λ k d lt. All-filter (λ (v : Numbered). not (v.number == n)) (λ (v : Numbered). v.number ≢ (get_or r.places k d).number) w.waiting (o.given k d lt);
-      keeps = o.keeps;
-    }
+    order_waits p depth w (without_number w n) r o o.below (λ k d lt. All-filter (λ (v : Numbered). not (v.number == n)) (λ (v : Numbered). v.number ≢ (get_or r.places k d).number) w.waiting (o.given k d lt))
 
 -- ---- an event is handed out
 
@@ -83,21 +80,18 @@ order_hands p depth w r v o waits lt room =
       keeps = All-push (KeepsFew p) r.places (open_place v.number) o.keeps (record { few = record { few = omega arith; fewer = λ waits. omega arith }; named = All-nil (λ (e : Event). e.queue < length p.queues) });
     }
 
-pub stands_hands : (r : Reordering) (y : Entry) (n most : ℕ) → StandsIn r y most → StandsIn (after_hand r n) y most
-stands_hands r y n most s =
+-- the event's place is where it was, and the same
+stands_still : (r : Reordering) (xs : List Place) (y : Entry) (most : ℕ) (s : StandsIn r y most) → slice_get xs s.index ≡ slice_get r.places s.index → StandsIn (record r { places = xs }) y most
+stands_still r xs y most s still =
     let at = s.stands in
     record {
       index = s.index;
-      stands =
-          record {
-            shown = at.shown;
-            place = at.place;
-            there = slice_get-append_left r.places (open_place n ∷ []) s.index (slice_get_within r.places s.index at.shown at.there) ∙ at.there;
-            number = at.number;
-            waits = at.waits;
-          };
+      stands = record { shown = at.shown; place = at.place; there = still ∙ at.there; number = at.number; waits = at.waits };
       few = s.few;
     }
+
+pub stands_hands : (r : Reordering) (y : Entry) (n most : ℕ) → StandsIn r y most → StandsIn (after_hand r n) y most
+stands_hands r y n most s = stands_still r (r.places ++ open_place n ∷ []) y most s (slice_get-append_left r.places (open_place n ∷ []) s.index (slice_get_within r.places s.index s.stands.shown s.stands.there))
 
 pub stands_new : (r : Reordering) (y : Entry) (most : ℕ) → y.place ≡ next_number r → StandsIn (after_hand r y.number) y most
 stands_new r y most is =
@@ -168,20 +162,7 @@ writes_keep r y k n x at more =
 
 -- the others' places stay where they are
 pub stands_written : (r : Reordering) (y z : Entry) (k most : ℕ) (x : Place) → StandsAt r y k → z.number ≢ y.number → StandsIn r z most → StandsIn (with_places r (set r.places k x)) z most
-stands_written r y z k most x at differs s =
-    let is = s.stands in
-    record {
-      index = s.index;
-      stands =
-          record {
-            shown = is.shown;
-            place = is.place;
-            there = slice_get-set_other r.places k s.index x apart ∙ is.there;
-            number = is.number;
-            waits = is.waits;
-          };
-      few = s.few;
-    }
+stands_written r y z k most x at differs s = stands_still r (set r.places k x) z most s (slice_get-set_other r.places k s.index x apart)
   where
     apart : s.index ≢ k
     apart same =

@@ -283,118 +283,82 @@ oldest_pinned p us ps l y pins h oldest there = by_kind (cases_Bool (is_atomic (
         let none = no_slots p y.queue plain in
         absurd (omega arith)
 
+-- ---- the events of a lane change, and the pin of one slot
+
+-- the pin says what its slot has now, and of the other slots the lane has as many as before
+module _ (p : Plan) (us : List (List Held)) (ps : List (List Pin)) (l : ℕ) (ys : List Held) (y : Held) (x : Pin) (pins : ArePins p us ps) (h : l < length us) (queue : y.queue < length p.queues) where
+  abbrev IsKnown : Held → Type 0
+  IsKnown z = z.queue < length p.queues
+
+  there : y.queue < length ps
+  there = omega (arith, pins.count)
+
+  abbrev after : List (List Held)
+  after = set us l ys
+
+  pins_set : All (λ (z : Held). z.queue < length p.queues) ys → (is_atomic (queue_of p y.queue).kind ≡ true → y.slot < length (pins_at ps y.queue))
+      → (is_atomic (queue_of p y.queue).kind ≡ true → count_of y.queue y.slot ys ≡ count_on l x)
+      → (is_atomic (queue_of p y.queue).kind ≡ true → (m : ℕ) → m ≢ l → count_on m (pin_in ps y.queue y.slot) ≡ count_on m x)
+      → ((q s : ℕ) → IsAnother y.queue y.slot q s → count_of q s ys ≡ count_of q s (entries_at us l)) → ArePins p (set us l ys) (with_pin ps y.queue y.slot x)
+  pins_set known slot here away others =
+      record {
+        count = length-set ps y.queue (set (pins_at ps y.queue) y.slot x) ∙ pins.count;
+        slots = λ q lt. slots_stay ps y.queue y.slot q x there ∙ pins.slots q lt;
+        known = All-set (All IsKnown) us l ys known pins.known;
+        held = λ q s m atomic. by_slot q s m atomic (cases_slot y.queue y.slot q s);
+      }
+    where
+      same_slot : (m : ℕ) → is_atomic (queue_of p y.queue).kind ≡ true → (m ≡ l) ⊎ (m ≢ l) → count_of y.queue y.slot (entries_at after m) ≡ count_on m x
+      same_slot m atomic (inl e) = ap (count_of y.queue y.slot) (ap (entries_at after) e ∙ get_or-set_same us l ys [] h) ∙ (here atomic ∙ ap (λ n. count_on n x) (sym e))
+      same_slot m atomic (inr differs) = ap (count_of y.queue y.slot) (get_or-set_other us l m ys [] differs) ∙ (pins.held y.queue y.slot m atomic ∙ away atomic m differs)
+
+      other_slot : (q s m : ℕ) → is_atomic (queue_of p q).kind ≡ true → IsAnother y.queue y.slot q s → (m ≡ l) ⊎ (m ≢ l) → count_of q s (entries_at after m) ≡ count_on m (pin_in ps q s)
+      other_slot q s m atomic other (inl e) =
+          ap (count_of q s) (ap (entries_at after) e ∙ get_or-set_same us l ys [] h) ∙ (others q s other ∙ (pins.held q s l atomic ∙ ap (λ n. count_on n (pin_in ps q s)) (sym e)))
+      other_slot q s m atomic other (inr differs) = ap (count_of q s) (get_or-set_other us l m ys [] differs) ∙ pins.held q s m atomic
+
+      by_slot : (q s m : ℕ) → is_atomic (queue_of p q).kind ≡ true → ((y.queue ≡ q) × (y.slot ≡ s)) ⊎ IsAnother y.queue y.slot q s
+          → count_of q s (entries_at after m) ≡ count_on m (pin_in (with_pin ps y.queue y.slot x) q s)
+      by_slot q s m atomic (inl same) =
+          let mine : is_atomic (queue_of p y.queue).kind ≡ true = subst (λ n. is_atomic (queue_of p n).kind ≡ true) (sym same.0) atomic in
+          let e : count_of y.queue y.slot (entries_at after m) ≡ count_on m (pin_in (with_pin ps y.queue y.slot x) y.queue y.slot) = same_slot m mine (cases_eq m l) ∙ ap (count_on m) (sym (pin_same ps y.queue y.slot x there (slot mine))) in
+          subst (λ i. count_of q i (entries_at after m) ≡ count_on m (pin_in (with_pin ps y.queue y.slot x) q i)) same.1
+          (subst (λ n. count_of n y.slot (entries_at after m) ≡ count_on m (pin_in (with_pin ps y.queue y.slot x) n y.slot)) same.0 e)
+      by_slot q s m atomic (inr other) = other_slot q s m atomic other (cases_eq m l) ∙ ap (count_on m) (sym (pin_other ps y.queue y.slot q s x there other))
+
 -- ---- an event is given
 
 pub pins_given : (p : Plan) (us : List (List Held)) (ps : List (List Pin)) (l : ℕ) (y : Held) → ArePins p us ps → l < length us → y.queue < length p.queues
     → (is_atomic (queue_of p y.queue).kind ≡ true → y.slot < slots_of p y.queue) → may_pin (pin_in ps y.queue y.slot) l ≡ true
     → ArePins p (set us l (entries_at us l ++ y ∷ [])) (with_pin ps y.queue y.slot (pinned (pin_in ps y.queue y.slot) l))
 pins_given p us ps l y pins h queue slot may =
-    record {
-      count = length-set ps y.queue (set (pins_at ps y.queue) y.slot x) ∙ pins.count;
-      slots = λ q lt. slots_stay ps y.queue y.slot q x there ∙ pins.slots q lt;
-      known = All-set (All IsKnown) us l (entries_at us l ++ y ∷ []) (All-push IsKnown (entries_at us l) y (pins.known l [] h) queue) pins.known;
-      held = λ q s m atomic. by_slot q s m atomic (cases_slot y.queue y.slot q s);
-    }
-  where
-    IsKnown : Held → Type 0
-    IsKnown z = z.queue < length p.queues
-
-    old : Pin
-    old = pin_in ps y.queue y.slot
-
-    x : Pin
-    x = pinned old l
-
-    there : y.queue < length ps
-    there = omega (arith, pins.count)
-
-    after : List (List Held)
-    after = set us l (entries_at us l ++ y ∷ [])
-
-    same_slot : (m : ℕ) → is_atomic (queue_of p y.queue).kind ≡ true → (m ≡ l) ⊎ (m ≢ l) → count_of y.queue y.slot (entries_at after m) ≡ count_on m x
-    same_slot m atomic (inl e) =
-        let here : entries_at after m ≡ entries_at us l ++ y ∷ [] = ap (entries_at after) e ∙ get_or-set_same us l (entries_at us l ++ y ∷ []) [] h in
-        let more = count_push y.queue y.slot (entries_at us l) y in
-        let one = one_if_true (is_of y.queue y.slot y) (is_of_same y) in
-        let before = pins.held y.queue y.slot l atomic ∙ count_on_may l old may in
-        let now = count_on_its m x (sym e) in
-        ap (count_of y.queue y.slot) here ∙ omega arith
-    same_slot m atomic (inr differs) =
-        ap (count_of y.queue y.slot) (get_or-set_other us l m (entries_at us l ++ y ∷ []) [] differs)
-        ∙ (pins.held y.queue y.slot m atomic ∙ (count_off_may l m old may differs ∙ sym (count_on_other m x (λ same. differs (sym same)))))
-
-    other_slot : (q s m : ℕ) → is_atomic (queue_of p q).kind ≡ true → IsAnother y.queue y.slot q s → (m ≡ l) ⊎ (m ≢ l) → count_of q s (entries_at after m) ≡ count_on m (pin_in ps q s)
-    other_slot q s m atomic other (inl e) =
-        let more = count_push q s (entries_at us l) y in
-        let none = one_if_false (is_of q s y) (is_of_other q s y other) in
-        ap (count_of q s) (ap (entries_at after) e ∙ get_or-set_same us l (entries_at us l ++ y ∷ []) [] h) ∙ (omega arith ∙ (pins.held q s l atomic ∙ ap (λ n. count_on n (pin_in ps q s)) (sym e)))
-    other_slot q s m atomic other (inr differs) = ap (count_of q s) (get_or-set_other us l m (entries_at us l ++ y ∷ []) [] differs) ∙ pins.held q s m atomic
-
-    by_slot : (q s m : ℕ) → is_atomic (queue_of p q).kind ≡ true → ((y.queue ≡ q) × (y.slot ≡ s)) ⊎ IsAnother y.queue y.slot q s
-        → count_of q s (entries_at after m) ≡ count_on m (pin_in (with_pin ps y.queue y.slot x) q s)
-    by_slot q s m atomic (inl same) =
-        let mine : is_atomic (queue_of p y.queue).kind ≡ true = subst (λ n. is_atomic (queue_of p n).kind ≡ true) (sym same.0) atomic in
-        let within : y.slot < length (pins_at ps y.queue) = subst (λ n. y.slot < n) (sym (pins.slots y.queue queue)) (slot mine) in
-        let e : count_of y.queue y.slot (entries_at after m) ≡ count_on m (pin_in (with_pin ps y.queue y.slot x) y.queue y.slot) = same_slot m mine (cases_eq m l) ∙ ap (count_on m) (sym (pin_same ps y.queue y.slot x there within)) in
-        subst (λ i. count_of q i (entries_at after m) ≡ count_on m (pin_in (with_pin ps y.queue y.slot x) q i)) same.1
-        (subst (λ n. count_of n y.slot (entries_at after m) ≡ count_on m (pin_in (with_pin ps y.queue y.slot x) n y.slot)) same.0 e)
-    by_slot q s m atomic (inr other) = other_slot q s m atomic other (cases_eq m l) ∙ ap (count_on m) (sym (pin_other ps y.queue y.slot q s x there other))
+    let old : Pin = pin_in ps y.queue y.slot in
+    let x : Pin = pinned old l in
+    pins_set p us ps l (entries_at us l ++ y ∷ []) y x pins h queue (All-push (λ (z : Held). z.queue < length p.queues) (entries_at us l) y (pins.known l [] h) queue)
+    (λ atomic. subst (λ n. y.slot < n) (sym (pins.slots y.queue queue)) (slot atomic))
+    (λ atomic.
+    let one = one_if_true (is_of y.queue y.slot y) (is_of_same y) in
+    let before = pins.held y.queue y.slot l atomic ∙ count_on_may l old may in
+    count_push y.queue y.slot (entries_at us l) y ∙ (omega arith ∙ sym (count_on_its l x refl)))
+    (λ atomic m differs. count_off_may l m old may differs ∙ sym (count_on_other m x (λ same. differs (sym same))))
+    (λ q s other. let none = one_if_false (is_of q s y) (is_of_other q s y other) in count_push q s (entries_at us l) y ∙ omega arith)
 
 -- ---- the oldest event of a lane is answered
 
 pub pins_answered : (p : Plan) (us : List (List Held)) (ps : List (List Pin)) (l : ℕ) (y : Held) → ArePins p us ps → l < length us → slice_get (entries_at us l) 0 ≡ Some y
     → ArePins p (set us l (drop 1 (entries_at us l))) (with_pin ps y.queue y.slot (unpinned (pin_in ps y.queue y.slot)))
 pins_answered p us ps l y pins h oldest =
-    record {
-      count = length-set ps y.queue (set (pins_at ps y.queue) y.slot x) ∙ pins.count;
-      slots = λ q lt. slots_stay ps y.queue y.slot q x there ∙ pins.slots q lt;
-      known = All-set (All IsKnown) us l (drop 1 (entries_at us l)) (All-drop IsKnown 1 (entries_at us l) (pins.known l [] h)) pins.known;
-      held = λ q s m atomic. by_slot q s m atomic (cases_slot y.queue y.slot q s);
-    }
+    pins_set p us ps l (drop 1 (entries_at us l)) y (unpinned old) pins h (oldest_known p us ps l y pins h oldest) (All-drop (λ (z : Held). z.queue < length p.queues) 1 (entries_at us l) (pins.known l [] h))
+    (λ atomic. let some = (mine atomic).1 in slot_has_pin ps y.queue y.slot (omega arith))
+    (λ atomic. let less = (mine atomic).1 in omega arith ∙ sym (count_on_its l (unpinned old) (mine atomic).0))
+    (λ atomic m differs. count_on_other m old (λ same. differs (sym same ∙ (mine atomic).0)) ∙ sym (count_on_other m (unpinned old) (λ same. differs (sym same ∙ (mine atomic).0))))
+    (λ q s other. let none = one_if_false (is_of q s y) (is_of_other q s y other) in omega arith ∙ sym (count_rest q s (entries_at us l) y oldest))
   where
-    IsKnown : Held → Type 0
-    IsKnown z = z.queue < length p.queues
-
     old : Pin
     old = pin_in ps y.queue y.slot
 
-    x : Pin
-    x = unpinned old
-
-    there : y.queue < length ps
-    there = let queue = oldest_known p us ps l y pins h oldest in omega (arith, pins.count)
-
-    after : List (List Held)
-    after = set us l (drop 1 (entries_at us l))
-
-    same_slot : (m : ℕ) → is_atomic (queue_of p y.queue).kind ≡ true → (m ≡ l) ⊎ (m ≢ l) → count_of y.queue y.slot (entries_at after m) ≡ count_on m x
-    same_slot m atomic (inl e) =
-        let all = oldest_pin p us ps l y pins oldest atomic in
-        let less = all.1 in
-        let now = count_on_its m x (all.0 ∙ sym e) in
-        ap (count_of y.queue y.slot) (ap (entries_at after) e ∙ get_or-set_same us l (drop 1 (entries_at us l)) [] h) ∙ omega arith
-    same_slot m atomic (inr differs) =
-        let its = (oldest_pin p us ps l y pins oldest atomic).0 in
-        ap (count_of y.queue y.slot) (get_or-set_other us l m (drop 1 (entries_at us l)) [] differs)
-        ∙ (pins.held y.queue y.slot m atomic ∙ (count_on_other m old (λ same. differs (sym same ∙ its)) ∙ sym (count_on_other m x (λ same. differs (sym same ∙ its)))))
-
-    other_slot : (q s m : ℕ) → is_atomic (queue_of p q).kind ≡ true → IsAnother y.queue y.slot q s → (m ≡ l) ⊎ (m ≢ l) → count_of q s (entries_at after m) ≡ count_on m (pin_in ps q s)
-    other_slot q s m atomic other (inl e) =
-        let less = count_rest q s (entries_at us l) y oldest in
-        let none = one_if_false (is_of q s y) (is_of_other q s y other) in
-        ap (count_of q s) (ap (entries_at after) e ∙ get_or-set_same us l (drop 1 (entries_at us l)) [] h) ∙ (omega arith ∙ (pins.held q s l atomic ∙ ap (λ n. count_on n (pin_in ps q s)) (sym e)))
-    other_slot q s m atomic other (inr differs) = ap (count_of q s) (get_or-set_other us l m (drop 1 (entries_at us l)) [] differs) ∙ pins.held q s m atomic
-
-    by_slot : (q s m : ℕ) → is_atomic (queue_of p q).kind ≡ true → ((y.queue ≡ q) × (y.slot ≡ s)) ⊎ IsAnother y.queue y.slot q s
-        → count_of q s (entries_at after m) ≡ count_on m (pin_in (with_pin ps y.queue y.slot x) q s)
-    by_slot q s m atomic (inl same) =
-        let mine : is_atomic (queue_of p y.queue).kind ≡ true = subst (λ n. is_atomic (queue_of p n).kind ≡ true) (sym same.0) atomic in
-        let some = (oldest_pin p us ps l y pins oldest mine).1 in
-        let within : y.slot < length (pins_at ps y.queue) = slot_has_pin ps y.queue y.slot (omega arith) in
-        let e : count_of y.queue y.slot (entries_at after m) ≡ count_on m (pin_in (with_pin ps y.queue y.slot x) y.queue y.slot) = same_slot m mine (cases_eq m l) ∙ ap (count_on m) (sym (pin_same ps y.queue y.slot x there within)) in
-        subst (λ i. count_of q i (entries_at after m) ≡ count_on m (pin_in (with_pin ps y.queue y.slot x) q i)) same.1
-        (subst (λ n. count_of n y.slot (entries_at after m) ≡ count_on m (pin_in (with_pin ps y.queue y.slot x) n y.slot)) same.0 e)
-    by_slot q s m atomic (inr other) = other_slot q s m atomic other (cases_eq m l) ∙ ap (count_on m) (sym (pin_other ps y.queue y.slot q s x there other))
+    mine : is_atomic (queue_of p y.queue).kind ≡ true → (old.lane ≡ l) × (old.count ≡ 1 + count_of y.queue y.slot (drop 1 (entries_at us l)))
+    mine = oldest_pin p us ps l y pins oldest
 
 -- ---- nothing is unanswered
 

@@ -2,13 +2,15 @@
 use Rattle.std.proofs.Common.{◌≡◌, ℕ, ◌+◌, ◌<◌, ◌≤◌, Bool, true, false, cond, ◌&&◌, ◌||◌, ◌==◌, List, [], ◌∷◌, ◌++◌, length, Some, refl, sym, ap, ◌∙◌, subst, arith, append-nil, append_assoc}
 use Rattle.std.proofs.lemmas.Bool.{cond-true, cond-false}
 use Rattle.std.proofs.lemmas.List.{length-append}
-use Rattle.transcripts.proofs.WholeStands.{stands_shut}
-use Rattle.evt_types.specs.Plan.{queue_of, is_ordered}
-use Rattle.transcripts.specs.Standing.{View, Stands, oldest_at, added_of, answer_steps, more_steps, events_of, accepts_from, after, after_accept, after_more}
+use Rattle.transcripts.proofs.ViewTells.{may_take_is}
+use Rattle.transcripts.proofs.WholeStands.{stands_shut, takes_stand}
+use Rattle.evt_types.specs.Plan.{queue_of, is_ordered, lanes_of}
+use Rattle.transcripts.specs.Standing.{View, Stands, AreStepsOf, may_be_taken, may_take, may_take_by, steps_by, steps_of, oldest_at, added_of, answer_steps, more_steps, events_of, accepts_from, after, after_accept, after_more}
 use Rattle.transcripts.specs.Transcript.{Held}
 use Rattle.evt_types.specs.declared.step.Outcome.{Outcome}
 use Rattle.evt_types.specs.declared.step.Step.{Step}
 use Rattle.evt_types.specs.declared.event.Event.{Event}
+use Rattle.evt_types.specs.declared.event.Op.{Op}
 use Rattle.evt_types.specs.declared.step.Source.TheVariants.{Of}
 use Rattle.evt_types.specs.declared.step.Step.TheVariants.{Accept, Done, More, Shut}
 use Rattle.sched_core.proofs.Settling.{after_answer-ordered, after_answer-plain, after_answer_is, answer_steps-ordered, answer_steps-plain}
@@ -18,9 +20,25 @@ use Rattle.sched_core.specs.Shutting.{shut_steps}
 use Rattle.sched_core.specs.Taken.{is_passed_on}
 use Rattle.lists.proofs.Lists.{eqb_same}
 
+-- ---- a reply
+
+-- what stands stands after the reply's steps, by what is done
+pub taken_stands : (v w : View) (T : List Step) (l : ℕ) (e : Event) (o : Op) → e.op ≡ o → w ≡ after v (steps_by o v l e) → l < lanes_of v.shape → may_take v l e ≡ true → Stands T v
+    → AreStepsOf v.shape T l e (steps_of v l e) × Stands (T ++ steps_of v l e) w
+taken_stands v w T l e o op is lane may stands =
+    let both = takes_stand v T l e lane may stands in
+    (both.0, subst (Stands (T ++ steps_of v l e)) (ap (λ p. after v (steps_by p v l e)) op ∙ sym is) both.1)
+
+-- what may be taken may be taken at each transcript
+pub taken_model : (v : View) (T : List Step) (l : ℕ) (e : Event) (o : Op) (b : Bool) → e.op ≡ o → b ≡ may_take_by o v l e → Stands T v → l < lanes_of v.shape → b ≡ may_be_taken v.shape T l e
+taken_model v T l e o b op is stands lane = is ∙ (ap (λ p. may_take_by p v l e) (sym op) ∙ may_take_is v T l e stands lane)
+
 -- ---- an answer to an ordered queue's event
 
-module _ (v u : View) (l : ℕ) (h : Held) (o : Outcome) (oldest : oldest_at v l ≡ Some h) (ordered : is_ordered (queue_of v.shape h.queue).kind ≡ true) (there : h.queue < length v.places) (noted : u ≡ after_answer v l o) where
+module _ (v u : View) (l : ℕ) (h : Held) (o : Outcome) (oldest : oldest_at v l ≡ Some h) (noted : u ≡ after_answer v l o) (there : h.queue < length v.places) (restores : is_ordered (queue_of u.shape h.queue).kind ≡ true) where
+  ordered : is_ordered (queue_of v.shape h.queue).kind ≡ true
+  ordered = subst (λ (w : View). is_ordered (queue_of w.shape h.queue).kind ≡ true) noted restores
+
   -- first it is noted, and then the answered places leave
   pub settled_steps : answer_steps v l o ≡ Done l o ∷ flush_steps u h.queue
   settled_steps = answer_steps-ordered v l h o oldest ordered there ∙ ap (λ w. Done l o ∷ flush_steps w h.queue) (sym (noted ∙ after_answer_is v l h o oldest ordered))

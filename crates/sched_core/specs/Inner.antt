@@ -29,5 +29,5 @@ pub record AreEmptyQueues (p : Plan) (n : ℕ) (qs : List Waits) : Type 0 where
   pub empty : (k : ℕ) (d : Waits) → k < length qs → slice_index_or qs k d ≡ no_waits (slots_for p k) (bound_of p)
 
 -- an unanswered event, without its place
-abbrev pub held_of : Entry → Held
-held_of y = record { queue = y.queue; number = y.number; slot = y.slot }
+abbrev pub unplaced : Entry → Held
+unplaced y = record { queue = y.queue; number = y.number; slot = y.slot }

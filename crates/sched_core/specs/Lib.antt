@@ -4,7 +4,7 @@ pub mod Links
 pub mod Offered
 pub mod Ordered
 pub mod Pinned
-pub mod PlaceSets
+pub mod Members
 pub mod Service
 pub mod Settling
 pub mod Shutting

@@ -2,7 +2,7 @@
 use Rattle.std.specs.Prelude.{ℕ, ◌≡◌, true, List, length}
 use Rattle.evt_types.specs.Plan.{Plan, serves}
 use Rattle.small_set.specs.declared.set.SmallSet.{SmallSet}
-use Rattle.sched_core.specs.PlaceSets.{AreSets, AreThose}
+use Rattle.sched_core.specs.Members.{AreSets, AreThose}
 
 -- the port's lane serves the queue
 abbrev pub Serves : Plan → ℕ → ℕ → Type 0

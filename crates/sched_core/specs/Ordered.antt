@@ -15,7 +15,7 @@ use Rattle.parked_queue.specs.Waits.{Waits, waits_at}
 abbrev pub places_in : Reordering → List Place
 places_in r = r.places
 
--- the unanswered events of a lane, and the one at a place among them
+-- the unanswered events of a lane, and the one at an index among them
 abbrev pub entries_at : List (List Entry) → ℕ → List Entry
 entries_at us l = slice_index_or us l []
 
@@ -69,7 +69,7 @@ pub record StandsIn (r : Reordering) (y : Entry) (most : ℕ) : Type 0 where
   pub stands : StandsAt r y index
   pub few : length stands.shown.forwards ≤ most
 
--- how many events were added beside the lane's entry at a place: beside the oldest as many as are counted, beside any other none
+-- how many events were added beside the lane's entry at an index: beside the oldest as many as are counted, beside any other none
 abbrev pub added_beside : List ℕ → ℕ → ℕ → ℕ
 added_beside es l k = if k == 0 then slice_index es l else 0
 

@@ -3,7 +3,7 @@ use Rattle.std.specs.Prelude.{ℕ, ◌<◌, List, length}
 use Rattle.evt_types.specs.Plan.{Plan, queue_of}
 use Rattle.small_set.specs.SmallSets.{Has}
 use Rattle.small_set.specs.declared.set.SmallSet.{SmallSet}
-use Rattle.sched_core.specs.PlaceSets.{AreSets, AreThose}
+use Rattle.sched_core.specs.Members.{AreSets, AreThose}
 use Rattle.transcripts.specs.Choice.{IsServedBefore}
 
 -- r is of a priority that is served before that of q

@@ -1,6 +1,6 @@
 -- What an answer of an ordered queue's event sets free: the answered places at the front leave, one after the other, and
 -- what they were passed on as is accepted.
-use Rattle.std.specs.Prelude.{ℕ, ◌≡◌, Bool, ◌||◌, List, ◌++◌, drop, flat_map, slice_set, Some}
+use Rattle.std.specs.Prelude.{ℕ, ◌≡◌, Bool, ◌||◌, List, ◌++◌, drop, flat_map, slice_set, Option, Some, None}
 use Rattle.std.specs.List.{list_any}
 use Rattle.transcripts.specs.Standing.{View, places_at, unanswered_at, answered_places, leaving, staying, accepts_from, after}
 use Rattle.evt_types.specs.Place.{Place}
@@ -44,6 +44,11 @@ pub record IsPassedOn (q mine : ℕ) (v : View) (log : List Step) (w : View) (ne
   pub view : w ≡ after_leaving_of v q place
   pub steps : new ≡ log ++ accepts_from q place.number place.forwards
   pub passes : passed ≡ list_any (is_accept_of q mine) (accepts_from q place.number place.forwards)
+
+-- the oldest place was passed on, or it isn't answered and nothing was done
+abbrev pub IsTurn : ℕ → ℕ → View → List Step → View → List Step → Option Bool → Type 0
+IsTurn q mine v log w new None = (oldest_answered (places_at v q) ≡ None) × (w ≡ v) × (new ≡ log)
+IsTurn q mine v log w new (Some passed) = IsPassedOn q mine v log w new passed
 
 -- Places have left since the view and the log were those of the start: what is still to come makes the same of both, and
 -- whether the event of this number was passed on is told by what came and what is to come.

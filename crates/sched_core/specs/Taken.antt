@@ -6,22 +6,16 @@ use Rattle.transcripts.specs.Transcript.{Held, is_pair}
 use Rattle.evt_types.specs.declared.event.Event.{Event}
 use Rattle.evt_types.specs.declared.event.Op.{Op}
 use Rattle.evt_types.specs.declared.event.Op.TheVariants as ops
-use Rattle.evt_types.specs.declared.step.Source.TheVariants.{New, Of}
+use Rattle.evt_types.specs.declared.step.Source.TheVariants.{Of}
 use Rattle.evt_types.specs.declared.step.Step.{Step}
-use Rattle.evt_types.specs.declared.step.Step.TheVariants.{Accept, Give, Done, More, Turned, Bounced, Shut}
+use Rattle.evt_types.specs.declared.step.Step.TheVariants.{Accept}
 use Rattle.sched_core.specs.declared.take.Took.{Took}
 use Rattle.sched_core.specs.declared.take.Took.TheVariants as tooks
 
 -- an event is accepted from this number
 abbrev pub is_accept_of : ℕ → ℕ → Step → Bool
 is_accept_of q n (Accept r e (Of s m)) = is_pair q n (s, m)
-is_accept_of q n (Accept r e (New l)) = false
-is_accept_of q n (Give l r m) = false
-is_accept_of q n (Done l o) = false
-is_accept_of q n (More l e) = false
-is_accept_of q n (Turned l e) = false
-is_accept_of q n (Bounced l) = false
-is_accept_of q n Shut = false
+is_accept_of q n s = false
 
 -- whether what the lane's oldest event was passed on as is accepted by the steps
 abbrev pub is_passed_on : Option Held → List Step → Bool

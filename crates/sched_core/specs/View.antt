@@ -7,7 +7,7 @@ use Rattle.transcripts.specs.Sweep.{sweep_room}
 use Rattle.transcripts.specs.Transcript.{Held}
 use Rattle.evt_types.specs.declared.event.Numbered.{Numbered}
 use Rattle.order_parts.specs.declared.history.Entry.{Entry}
-use Rattle.sched_core.specs.Inner.{IsQueueOf, HaveSlots, held_of}
+use Rattle.sched_core.specs.Inner.{IsQueueOf, HaveSlots, unplaced}
 use Rattle.order_parts.specs.Histories.{HaveRoom}
 use Rattle.order_parts.specs.History.{Entries}
 use Rattle.sched_core.specs.Links.{AreLinks}
@@ -25,7 +25,7 @@ abbrev pub next_in : Waits → ℕ
 next_in q = q.next
 
 abbrev pub unanswered_in : Entries → List Held
-unanswered_in l = map held_of l.entries
+unanswered_in l = map unplaced l.entries
 
 abbrev pub entries_in : Entries → List Entry
 entries_in l = l.entries

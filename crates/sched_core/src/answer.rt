@@ -4,7 +4,7 @@ ghost use Rattle.std.specs.Prelude.{◌≡◌, ◌+◌, ◌<◌, ◌≤◌, ◌^
 ghost use Rattle.evt_types.specs.Plan.{bound_of, lanes_of, queue_of, is_ordered};
 ghost use Rattle.transcripts.specs.Standing.{inside_of, entries_of, may_add, may_answer, oldest_at, events_of, accepts_from, after, after_accept, after_more};
 ghost use Rattle.evt_types.specs.declared.event.Event.{Event as EventValue};
-ghost use Rattle.sched_core.specs.Inner.{held_of};
+ghost use Rattle.sched_core.specs.Inner.{unplaced};
 ghost use Rattle.sched_core.specs.Ordered.{outcome_of};
 ghost use Rattle.sched_core.specs.Answered.{after_answer};
 
@@ -74,7 +74,7 @@ impl Core {
         requires lane { lane < lanes_of self.old.shape }
         requires may { may_add self.old lane event.now.queue ≡ true }
         requires room { 0 < L.room log.old }
-        ensures oldest { oldest_at self.old lane ≡ Some (held_of result) }
+        ensures oldest { oldest_at self.old lane ≡ Some (unplaced result) }
         ensures queue { result.queue < length self.old.shape.queues }
         ensures view { self.new ≡ after_more self.old lane event.now }
         ensures logged { L.steps log.new ≡ L.steps log.old ++ Step.More lane event.now ∷ [] }
@@ -109,7 +109,7 @@ impl Core {
         requires outcome { All (λ (e : EventValue). e.queue < length self.old.shape.queues) (events_of (outcome_of (option_copied forward))) }
         requires entries { entries_of self.old + length (events_of (outcome_of (option_copied forward))) ≤ 2 ^ 63 }
         requires room { 0 < L.room log.old }
-        ensures oldest { oldest_at self.old lane ≡ Some (held_of result) }
+        ensures oldest { oldest_at self.old lane ≡ Some (unplaced result) }
         ensures queue { result.queue < length self.old.shape.queues }
         ensures places { result.queue < length self.old.places }
         ensures view { self.new ≡ after_answer self.old lane (outcome_of (option_copied forward.entry)) }

@@ -40,8 +40,7 @@ impl Core {
         requires lanes { AreOpenLanes self.now skips.now queue lanes }
         ensures { HasAllowed self.now skips.now queue result }
     {
-        // The use of a field makes known what holds of each core.
-        let _ = &self.shape;
+        self.facts();
         if self.has_flow_lanes(queue) {
             return SmallSet::below(MAX_MEMBERS);
         }

@@ -31,18 +31,6 @@ fn links_of(shape: &Shape, queue: usize) -> SmallSet
     lanes
 }
 
-/// The ports' lanes that serve each queue.
-fn all_links(alloc: Global, shape: &Shape) -> Result<Vec<SmallSet>, AllocError>
-    ensures { IfOk result (λ ls. AreLinks shape.now (length shape.now.queues) ls.items) }
-{
-    let count = shape.queues().len();
-    let mut links = Vec::with_capacity(alloc, count)?;
-    for queue in 0..count {
-        links.push(links_of(shape, queue))?;
-    }
-    Ok(links)
-}
-
 /// The queues of a priority that is served before the queue's.
 fn ahead_of(shape: &Shape, queue: usize) -> SmallSet
     requires { queue < length shape.now.queues }
@@ -60,16 +48,19 @@ fn ahead_of(shape: &Shape, queue: usize) -> SmallSet
     ahead
 }
 
-/// For each queue the queues of a priority that is served before its own.
-fn all_ahead(alloc: Global, shape: &Shape) -> Result<Vec<SmallSet>, AllocError>
-    ensures { IfOk result (λ sets. AreAhead shape.now (length shape.now.queues) sets.items) }
+/// For each queue the ports' lanes that serve it, and the queues of a priority that is served before its own.
+fn queue_sets(alloc: Global, shape: &Shape) -> Result<(Vec<SmallSet>, Vec<SmallSet>), AllocError>
+    ensures links { IfOk result (λ s. AreLinks shape.now (length shape.now.queues) s.0.items) }
+    ensures ahead { IfOk result (λ s. AreAhead shape.now (length shape.now.queues) s.1.items) }
 {
     let count = shape.queues().len();
+    let mut links = Vec::with_capacity(alloc, count)?;
     let mut ahead = Vec::with_capacity(alloc, count)?;
     for queue in 0..count {
+        links.push(links_of(shape, queue))?;
         ahead.push(ahead_of(shape, queue))?;
     }
-    Ok(ahead)
+    Ok((links, ahead))
 }
 
 /// For each lane how many events were added beside its oldest unanswered one: none.
@@ -88,8 +79,8 @@ fn log_room(shape: &Shape) -> usize
     let _ = shape.limit();
     let sweep = shape.sweep() as usize;
     let queues = shape.queues();
-    let kept = MAX_FORWARDS * all_kept_room(queues);
     let lanes = shape.lanes();
+    let kept = MAX_FORWARDS * all_kept_room(queues);
     1 + 2 * sweep * lanes + kept + sweep * queues.len() + lanes
 }
 
@@ -123,12 +114,8 @@ impl Core {
             Ok(pins) => pins,
             Err(memory) => return Err((memory, shape)),
         };
-        let links = match all_links(alloc, &shape) {
-            Ok(links) => links,
-            Err(memory) => return Err((memory, shape)),
-        };
-        let ahead = match all_ahead(alloc, &shape) {
-            Ok(ahead) => ahead,
+        let (links, ahead) = match queue_sets(alloc, &shape) {
+            Ok(sets) => sets,
             Err(memory) => return Err((memory, shape)),
         };
         let slot_lanes = match slot_lanes(alloc, &shape) {

@@ -41,7 +41,7 @@ fn all_slots(alloc: Global, shape: &Shape) -> Result<Vec<usize>, AllocError>
 pub(crate) fn empty_queues(alloc: Global, shape: &Shape) -> Result<ParkedQueues, AllocError>
     ensures { IfOk result (λ qs. AreEmptyQueues shape.now (length shape.now.queues) qs) }
 {
-    // To read a limit makes known that the limits hold: there are fewer queues than a set has places.
+    // To read a limit makes known that the limits hold: there are no more queues than a set may have members.
     let _ = shape.limit();
     let slots = all_slots(alloc, shape)?;
     ParkedQueues::new(alloc, &slots, shape.bound())

@@ -7,7 +7,7 @@ ghost use Rattle.transcripts.specs.Standing.{inside_of, entries_of, places_at};
 ghost use Rattle.evt_types.specs.declared.event.Event.{Event as EventValue};
 ghost use Rattle.order_parts.specs.Reorder.{left, left_plain, oldest_answered};
 ghost use Rattle.sched_core.specs.Answered.{after_leave};
-ghost use Rattle.sched_core.specs.Settling.{IsPassedOn, flush_steps, flushed};
+ghost use Rattle.sched_core.specs.Settling.{IsPassedOn, IsTurn, flush_steps, flushed};
 ghost use Rattle.sched_core.specs.Taken.{is_accept_of};
 
 use crate::state::Core;
@@ -74,8 +74,7 @@ impl Core {
         ensures logged { IfNone result (log.new ≡ log.old) }
         ensures room { L.room log.old + length (L.steps log.old) ≤ L.room log.new + length (L.steps log.new) }
     {
-        // The use of a field makes known what holds of each core.
-        let _ = &self.shape;
+        self.facts();
         let (number, forward) = self.leave_plain(queue)?;
         let Some(event) = forward else {
             return Some(false);
@@ -90,14 +89,10 @@ impl Core {
     fn pass_all<L: StepLog>(&mut self, queue: usize, answered: u64, log: &mut L) -> Option<bool>
         requires queue { queue < length self.old.shape.queues }
         requires room { length (flush_steps self.old queue) ≤ L.room log.old }
-        ensures passed { IfSome result (IsPassedOn queue answered self.old (L.steps log.old) self.new (L.steps log.new)) }
-        ensures none { IfNone result (oldest_answered (places_at self.old queue) ≡ None) }
-        ensures same { IfNone result (self.new ≡ self.old) }
-        ensures logged { IfNone result (log.new ≡ log.old) }
+        ensures turn { IsTurn queue answered self.old (L.steps log.old) self.new (L.steps log.new) result }
         ensures room { L.room log.old + length (L.steps log.old) ≤ L.room log.new + length (L.steps log.new) }
     {
-        // The use of a field makes known what holds of each core.
-        let _ = &self.shape;
+        self.facts();
         let (number, events) = self.leave(queue)?;
         self.accept_all(queue, number, events.as_slice(), log);
         Some(number == answered && !events.is_empty())
@@ -109,10 +104,7 @@ impl Core {
     fn pass_on<L: StepLog>(&mut self, queue: usize, answered: u64, log: &mut L) -> Option<bool>
         requires queue { queue < length self.old.shape.queues }
         requires room { length (flush_steps self.old queue) ≤ L.room log.old }
-        ensures passed { IfSome result (IsPassedOn queue answered self.old (L.steps log.old) self.new (L.steps log.new)) }
-        ensures none { IfNone result (oldest_answered (places_at self.old queue) ≡ None) }
-        ensures same { IfNone result (self.new ≡ self.old) }
-        ensures logged { IfNone result (log.new ≡ log.old) }
+        ensures turn { IsTurn queue answered self.old (L.steps log.old) self.new (L.steps log.new) result }
         ensures room { L.room log.old + length (L.steps log.old) ≤ L.room log.new + length (L.steps log.new) }
     {
         if !self.orders.leaves(queue) {
@@ -134,8 +126,7 @@ impl Core {
         ensures passed { result ≡ list_any (is_accept_of queue answered) (flush_steps self.old queue) }
         ensures room { L.room log.old ≤ L.room log.new + length (flush_steps self.old queue) }
     {
-        // The use of a field makes known what holds of each core.
-        let _ = &self.shape;
+        self.facts();
         let mut passed = false;
         while let Some(mine) = self.pass_on(queue, answered, log) {
             passed |= mine;

@@ -1,6 +1,6 @@
 //! No new event is accepted any more.
 
-ghost use Rattle.std.specs.Prelude.{◌≡◌, ◌≤◌, ◌+◌, ◌<◌, false, true, List, ◌++◌, length};
+ghost use Rattle.std.specs.Prelude.{◌≡◌, ◌≤◌, ◌+◌, ◌<◌, false, true, List, ◌++◌};
 ghost use Rattle.transcripts.specs.Standing.{Stands};
 ghost use Rattle.evt_types.specs.declared.step.Step.{Step as StepValue};
 ghost use Rattle.sched_core.specs.Shutting.{shut_steps};

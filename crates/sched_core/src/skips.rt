@@ -9,7 +9,7 @@ use evt_types::{MAX_LANES, MAX_QUEUES, MAX_SWEEP};
 use small_set::{MAX_MEMBERS, SmallSet};
 use std::marker::Model;
 
-/// How many sets have a place for each lane.
+/// How many sets have a member for each lane.
 const SETS: usize = (MAX_LANES - 1) / MAX_MEMBERS + 1;
 
 /// The lanes whose ring refused a delivery in this sweep, and how many events of each queue were given in it.
@@ -63,7 +63,7 @@ impl Skips {
         self.given[queue] += 1;
     }
 
-    /// Of the first lanes, as many as a set has places, those that are passed over.
+    /// Of the first lanes, as many as a set may have members, those that are passed over.
     pub fn closed(&self) -> SmallSet
         ensures { (l : ℕ) → l < MAX_MEMBERS → Has result l ↔ (has_bounced self.now l ≡ true) }
     {

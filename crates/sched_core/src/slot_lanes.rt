@@ -40,8 +40,8 @@ pub(crate) fn slot_lanes(alloc: Global, shape: &Shape) -> Result<Vec<Option<usiz
 {
     let count = count(shape);
     let mut lanes = Vec::with_capacity(alloc, count)?;
-    for place in 0..count {
-        lanes.push(slot_lane(shape, place / SLOTS, place % SLOTS))?;
+    for index in 0..count {
+        lanes.push(slot_lane(shape, index / SLOTS, index % SLOTS))?;
     }
     Ok(lanes)
 }

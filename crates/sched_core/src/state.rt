@@ -1,11 +1,14 @@
 //! What the core holds, and what can be read of it.
 
-ghost use Rattle.std.specs.Prelude.{◌≡◌, ◌+◌, ◌*◌, ◌<◌, ◌≤◌, ◌++◌, List, length, map, slice_index_or, sum_by, vec_len, vec_capacity};
-ghost use Rattle.transcripts.specs.Standing.{Stands, inside_of, kept_at, kept_event, kept_in, kept_in_place, places_at, waiting_at};
+ghost use Rattle.std.specs.Prelude.{ℕ, ◌≡◌, ◌+◌, ◌*◌, ◌^◌, ◌<◌, ◌≤◌, ◌++◌, List, length, map, slice_index_or, sum_by, vec_len, vec_capacity};
+ghost use Rattle.transcripts.specs.Standing.{Stands, after, entries_of, inside_of, kept_at, kept_event, kept_in, kept_in_place, places_at, steps_of, waiting_at};
 ghost use Rattle.transcripts.specs.Sweep.{IsSweep, Sweeping, sweep_room, sweep_steps};
 ghost use Rattle.transcripts.specs.Transcript as transcripts;
 ghost use Rattle.transcripts.specs.Transcript.{kept_events};
+ghost use Rattle.evt_types.specs.Fault.{IsWithinLimits};
 ghost use Rattle.evt_types.specs.Plan as plans;
+ghost use Rattle.evt_types.specs.Plan.{lanes_of};
+ghost use Rattle.evt_types.specs.declared.event.Event.{Event as EventValue};
 ghost use Rattle.order_parts.specs.Reorder.{open_place};
 ghost use Rattle.parked_queue.specs.Lists.{delivery_of};
 ghost use Rattle.evt_types.specs.declared.step.Step.{Step as StepValue};
@@ -57,6 +60,18 @@ impl Model for Core {
 }
 
 impl Core {
+    /// What holds of each core, for a call that reads none of its fields.
+    #[inline(always)]
+    pub(crate) fn facts(&self)
+        ensures limits { IsWithinLimits self.now.shape }
+        ensures places { length self.now.places ≡ length self.now.shape.queues }
+        ensures few { entries_of self.now ≤ 2 ^ 63 }
+        ensures replies { (l : ℕ) (e : EventValue) → l < lanes_of self.now.shape → length (steps_of self.now l e) + kept_in (after self.now (steps_of self.now l e)) ≤ kept_in self.now + 2 }
+    {
+        // The use of a field makes known what holds of each core.
+        let _ = &self.shape;
+    }
+
     /// The configuration.
     pub fn shape(&self) -> &Shape
         ensures { result.now ≡ self.now.shape }

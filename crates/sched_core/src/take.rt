@@ -38,7 +38,7 @@ impl Core {
         ensures model { (T : List StepValue) → Stands T self.now → result ≡ may_be_taken self.now.shape T lane reply.now.event }
         ensures few { length (steps_of self.now lane reply.now.event) + kept_in (after self.now (steps_of self.now lane reply.now.event)) ≤ kept_in self.now + 2 }
     {
-        let _ = &self.shape;
+        self.facts();
         let queue = usize::from(reply.event.queue);
         match reply.event.op {
             Op::New => self.may_bring(lane, queue),
@@ -188,8 +188,7 @@ impl Core {
         ensures took { result ≡ Took.Released }
         ensures room { L.room log.old ≤ L.room log.new + length (answer_steps self.old lane Outcome.Released) }
     {
-        // The use of a field makes known what holds of each core.
-        let _ = &self.shape;
+        self.facts();
         let Entry { queue, number, .. } = self.answer(lane, None, log);
         if self.restores_order(queue) {
             self.settle(queue, number, log);

@@ -1,4 +1,4 @@
-use Rattle.sched_core.specs.PlaceSets.{AreThose}
+use Rattle.sched_core.specs.Members.{AreThose}
 use Rattle.sched_core.specs.Service.{IsAhead}
 use Rattle.sched_core.proofs.new.ahead_of.Given as goal
 

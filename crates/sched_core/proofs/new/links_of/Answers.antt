@@ -3,9 +3,9 @@ use Rattle.std.proofs.lemmas.Bool.{false≢true}
 use Rattle.std.proofs.lemmas.List.{length-map}
 use Rattle.evt_types.proofs.FlowLanes.{port_is_lane}
 use Rattle.evt_types.specs.Plan.{port_plan}
-use Rattle.sched_core.proofs.PlaceSets.{those_none, those_on, those_past}
+use Rattle.sched_core.proofs.Members.{those_none, those_on, those_past}
 use Rattle.sched_core.specs.Links.{Serves}
-use Rattle.sched_core.specs.PlaceSets.{AreThose}
+use Rattle.sched_core.specs.Members.{AreThose}
 use Rattle.sched_core.proofs.new.links_of.Goals as goal
 use Rattle.sched_core.proofs.new.links_of.Goals.{then-serves, else-serves}
 

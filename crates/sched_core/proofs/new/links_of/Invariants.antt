@@ -1,5 +1,5 @@
 use Rattle.sched_core.specs.Links.{Serves}
-use Rattle.sched_core.specs.PlaceSets.{AreThose}
+use Rattle.sched_core.specs.Members.{AreThose}
 use Rattle.sched_core.proofs.new.links_of.Given as goal
 
 abbrev pub invariant-loop-lane : goal.invariant-loop-lane

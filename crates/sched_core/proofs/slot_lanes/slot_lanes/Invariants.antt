@@ -1,5 +1,5 @@
 use Rattle.sched_core.specs.SlotLanes.{AreSlotLanes}
 use Rattle.sched_core.proofs.slot_lanes.slot_lanes.Given as goal
 
-abbrev pub invariant-loop-place : goal.invariant-loop-place
-invariant-loop-place l = AreSlotLanes l.shape l.place l.lanes.items
+abbrev pub invariant-loop-index : goal.invariant-loop-index
+invariant-loop-index l = AreSlotLanes l.shape l.index l.lanes.items

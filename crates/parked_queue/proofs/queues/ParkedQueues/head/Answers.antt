@@ -1,40 +1,66 @@
-use Rattle.std.proofs.Common.{◌%◌, ◌∙◌, refl, ap, sym, subst}
+use Rattle.std.proofs.Common.{◌≤◌, ◌%◌, ◌∙◌, Some, ap, arith, refl, subst, sym}
 use Rattle.small_set.specs.SmallSets.{Has}
-use Rattle.parked_queue.specs.Parkings.{parted_at}
+use Rattle.parked_queue.specs.Marks.{marks_at}
+use Rattle.parked_queue.specs.Parkings.{parted_by}
 use Rattle.parked_queue.specs.Waits.{AreWaits, IsFirstAllowed, Waits}
+use Rattle.parked_queue.proofs.Calls.{first_is, level_list, marks_are}
 use Rattle.parked_queue.proofs.Firsts.{main_first}
-use Rattle.parked_queue.proofs.Seen.{seen_there, seen_waits}
+use Rattle.parked_queue.proofs.Parkings.{asked}
 use Rattle.parked_queue.proofs.Slots.{none_marked}
 use Rattle.parked_queue.proofs.queues.ParkedQueues.head.Goals as goal
 
-pub marks-requires-clause-there : goal.marks-requires-clause-there
-marks-requires-clause-there c = seen_there c.self.inside.parkings c.args.self.now c.args.queue c.self.view_is c.requires.there
+pub slot_in-slot-requires-clause-some : goal.slot_in-slot-requires-clause-some
+slot_in-slot-requires-clause-some c =
+    let a = asked c.self.inside.lists c.self.inside.queues.items c.args.self.now c.args.queue c.self.invariant.parkings c.self.view_is c.requires.there c.index-asked.result.now c.index-asked.ensures in
+    a.part.parking.waits.some
 
-pub front-requires-clause-there : goal.front-requires-clause-there
-front-requires-clause-there c = seen_there c.self.inside.parkings c.args.self.now c.args.queue c.self.view_is c.requires.there
+pub slot_in-slot-requires-clause-few : goal.slot_in-slot-requires-clause-few
+slot_in-slot-requires-clause-few c =
+    let a = asked c.self.inside.lists c.self.inside.queues.items c.args.self.now c.args.queue c.self.invariant.parkings c.self.view_is c.requires.there c.index-asked.result.now c.index-asked.ensures in
+    a.part.parking.waits.few
 
-pub slot-slot-requires : goal.slot-slot-requires
-slot-slot-requires c = seen_there c.self.inside.parkings c.args.self.now c.args.queue c.self.view_is c.requires.there
+pub slot_in-slot-requires-clause-mask : goal.slot_in-slot-requires-clause-mask
+slot_in-slot-requires-clause-mask c =
+    let a = asked c.self.inside.lists c.self.inside.queues.items c.args.self.now c.args.queue c.self.invariant.parkings c.self.view_is c.requires.there c.index-asked.result.now c.index-asked.ensures in
+    a.part.parking.mask
+
+pub has-requires : goal.has-requires
+has-requires c =
+    let a = asked c.self.inside.lists c.self.inside.queues.items c.args.self.now c.args.queue c.self.invariant.parkings c.self.view_is c.requires.there c.index-asked.result.now c.index-asked.ensures in
+    let few : c.index-asked.result.now.slots ≤ 64 = a.part.parking.waits.few in
+    omega (arith, c.slot_in-slot.ensures.within)
 
 pub returns-then-has-clause-first : goal.returns-then-has-clause-first
 returns-then-has-clause-first c =
-    let v = parted_at c.self.inside.parkings c.args.queue in
-    let none = none_marked v c.args.level c.marks.result c.args.allowed c.both.result c.marks.ensures.marked c.both.ensures (c.if-not-is_empty.ensures.0 refl) in
-    subst (λ w. IsFirstAllowed w c.args.level c.args.allowed c.in_ok-waiting.waiting.now) (seen_waits c.self.inside.parkings c.args.self.now c.args.queue c.self.view_is)
-    (main_first v c.args.level c.args.allowed c.marks.ensures.waits c.requires.level none c.in_ok-waiting.waiting.now (sym c.in_ok-waiting.ensures.value) (subst (Has c.args.allowed) c.slot-slot.ensures.value (c.has.ensures.0 c.if-has.true)))
+    let a = asked c.self.inside.lists c.self.inside.queues.items c.args.self.now c.args.queue c.self.invariant.parkings c.self.view_is c.requires.there c.index-asked.result.now c.index-asked.ensures in
+    let v = parted_by c.self.inside.lists c.index-asked.result.now in
+    let none = none_marked v c.args.level (marks_at c.index-asked.result.now.parked c.args.level) c.args.allowed c.both.result (marks_are c.self.inside.lists c.index-asked.result.now a.part c.args.level) c.both.ensures (c.if-not-is_empty.ensures.0 refl) in
+    subst (λ w. IsFirstAllowed w c.args.level c.args.allowed c.in_ok-waiting.waiting.now) a.waits
+    (main_first v c.args.level c.args.allowed a.part.parking.waits c.requires.level none c.in_ok-waiting.waiting.now
+    (sym (first_is c.self.inside.lists c.index-asked.result.now a.part c.args.level c.args.level (level_list c.self.inside.lists c.index-asked.result.now a.part c.args.level c.requires.level) refl (Some c.in_ok-waiting.waiting.now) c.in_ok-waiting.ensures))
+    (subst (Has c.args.allowed) c.slot_in-slot.ensures.value (c.has.ensures.0 c.if-has.true)))
 
 pub returns-then-has-clause-slot : goal.returns-then-has-clause-slot
 returns-then-has-clause-slot c =
-    c.slot-slot.ensures.value ∙ ap (λ (w : Waits). c.in_ok-waiting.waiting.now.event.flow % w.slots) (seen_waits c.self.inside.parkings c.args.self.now c.args.queue c.self.view_is)
+    let a = asked c.self.inside.lists c.self.inside.queues.items c.args.self.now c.args.queue c.self.invariant.parkings c.self.view_is c.requires.there c.index-asked.result.now c.index-asked.ensures in
+    c.slot_in-slot.ensures.value ∙ ap (λ (w : Waits). c.in_ok-waiting.waiting.now.event.flow % w.slots) a.waits
 
 pub returns-then-has-clause-waits : goal.returns-then-has-clause-waits
-returns-then-has-clause-waits c = subst AreWaits (seen_waits c.self.inside.parkings c.args.self.now c.args.queue c.self.view_is) c.marks.ensures.waits
+returns-then-has-clause-waits c =
+    let a = asked c.self.inside.lists c.self.inside.queues.items c.args.self.now c.args.queue c.self.invariant.parkings c.self.view_is c.requires.there c.index-asked.result.now c.index-asked.ensures in
+    subst AreWaits a.waits a.part.parking.waits
 
 pub returns-else-has-clause-waits : goal.returns-else-has-clause-waits
-returns-else-has-clause-waits c = subst AreWaits (seen_waits c.self.inside.parkings c.args.self.now c.args.queue c.self.view_is) c.marks.ensures.waits
+returns-else-has-clause-waits c =
+    let a = asked c.self.inside.lists c.self.inside.queues.items c.args.self.now c.args.queue c.self.invariant.parkings c.self.view_is c.requires.there c.index-asked.result.now c.index-asked.ensures in
+    subst AreWaits a.waits a.part.parking.waits
 
 pub returns-in_err-waiting-clause-waits : goal.returns-in_err-waiting-clause-waits
-returns-in_err-waiting-clause-waits c = subst AreWaits (seen_waits c.self.inside.parkings c.args.self.now c.args.queue c.self.view_is) c.marks.ensures.waits
+returns-in_err-waiting-clause-waits c =
+    let a = asked c.self.inside.lists c.self.inside.queues.items c.args.self.now c.args.queue c.self.invariant.parkings c.self.view_is c.requires.there c.index-asked.result.now c.index-asked.ensures in
+    subst AreWaits a.waits a.part.parking.waits
 
 pub returns-then-not-is_empty-clause-waits : goal.returns-then-not-is_empty-clause-waits
-returns-then-not-is_empty-clause-waits c = subst AreWaits (seen_waits c.self.inside.parkings c.args.self.now c.args.queue c.self.view_is) c.marks.ensures.waits
+returns-then-not-is_empty-clause-waits c =
+    let a = asked c.self.inside.lists c.self.inside.queues.items c.args.self.now c.args.queue c.self.invariant.parkings c.self.view_is c.requires.there c.index-asked.result.now c.index-asked.ensures in
+    subst AreWaits a.waits a.part.parking.waits

@@ -1,24 +1,72 @@
-use Rattle.std.proofs.Common.{◌≡◌, ◌+◌, ◌≤◌, ◌++◌, ◌∙◌, ap, length, map, subst, sym, arith, rules}
-use Rattle.std.specs.Prelude.{vec_capacity, vec_len}
+use Rattle.std.proofs.Common.{◌≡◌, ◌+◌, ◌++◌, ◌<◌, ◌≤◌, ◌∙◌, ap, arith, length, map, rules, sym}
 use Rattle.std.proofs.lemmas.List.Sorted.{IsNonDecreasingBy-from_sort_by_key}
-use Rattle.parked_queue.specs.Waits.{Waits, waits_at}
-use Rattle.parked_queue.specs.Parkings.{parted_at}
-use Rattle.parked_queue.proofs.Deliveries.{listed, number_of}
-use Rattle.parked_queue.proofs.Parkings.{waits_read}
-use Rattle.parked_queue.proofs.Seen.{seen_there, seen_waits}
-use Rattle.parked_queue.specs.Lists.{delivery_of}
+use Rattle.parked_queue.specs.Lists.{delivery_of, list_at}
+use Rattle.parked_queue.specs.Parkings.{parted_by}
+use Rattle.parked_queue.specs.Parted.{list_count}
+use Rattle.parked_queue.specs.Parts.{parts_of}
+use Rattle.parked_queue.specs.Waits.{Waits}
+use Rattle.parked_queue.proofs.Calls.{list_fits, list_is, list_there}
+use Rattle.parked_queue.proofs.Deliveries.{deliveries_length, deliveries_more, listed, number_of, parts_fit}
+use Rattle.parked_queue.proofs.Parkings.{asked}
 use Rattle.parked_queue.proofs.queues.ParkedQueues.list_waiting.Goals as goal
+
+pub overflow_add-list-end : goal.overflow_add-list-end
+overflow_add-list-end c =
+    let a = asked c.self.inside.lists c.self.inside.queues.items c.args.self.now c.args.queue c.self.invariant.parkings c.self.view_is c.requires.there c.index-asked.result.now c.index-asked.ensures in
+    let few : c.index-asked.result.now.slots ≤ 64 = a.part.parking.waits.few in
+    omega arith
+
+pub overflow_mul-list-end : goal.overflow_mul-list-end
+overflow_mul-list-end c =
+    let a = asked c.self.inside.lists c.self.inside.queues.items c.args.self.now c.args.queue c.self.invariant.parkings c.self.view_is c.requires.there c.index-asked.result.now c.index-asked.ensures in
+    let few : c.index-asked.result.now.slots ≤ 64 = a.part.parking.waits.few in
+    omega arith
+
+pub overflow_add-asked : goal.overflow_add-asked
+overflow_add-asked c =
+    let a = asked c.self.inside.lists c.self.inside.queues.items c.args.self.now c.args.queue c.self.invariant.parkings c.self.view_is c.requires.there c.index-asked.result.now c.index-asked.ensures in
+    let lt : c.loop-list.list < list_count c.index-asked.result.now.slots = omega arith in
+    let fits = list_fits c.self.inside.lists c.index-asked.result.now a.part c.loop-list.list lt in
+    omega arith
+
+pub push_deliveries-requires-clause-list : goal.push_deliveries-requires-clause-list
+push_deliveries-requires-clause-list c =
+    let a = asked c.self.inside.lists c.self.inside.queues.items c.args.self.now c.args.queue c.self.invariant.parkings c.self.view_is c.requires.there c.index-asked.result.now c.index-asked.ensures in
+    let lt : c.loop-list.list < list_count c.index-asked.result.now.slots = omega arith in
+    list_there c.self.inside.lists c.index-asked.result.now a.part c.loop-list.list lt
+
+pub push_deliveries-requires-clause-room : goal.push_deliveries-requires-clause-room
+push_deliveries-requires-clause-room c =
+    let a = asked c.self.inside.lists c.self.inside.queues.items c.args.self.now c.args.queue c.self.invariant.parkings c.self.view_is c.requires.there c.index-asked.result.now c.index-asked.ensures in
+    let lt : c.loop-list.list < list_count c.index-asked.result.now.slots = omega arith in
+    let same = ap length (list_is c.self.inside.lists c.index-asked.result.now a.part c.loop-list.list lt) in
+    let fit = parts_fit (parted_by c.self.inside.lists c.index-asked.result.now) c.loop-list.list a.part.parking.waits lt in
+    let long = deliveries_length c.args.queue c.args.into.now.items c.loop-list.into.items (parts_of (parted_by c.self.inside.lists c.index-asked.result.now) c.loop-list.list) c.loop-list.invariant.deliveries in
+    let waiting = ap (λ (q : Waits). length q.waiting) a.waits in
+    let room = c.loop-list.invariant.room in
+    let after = c.loop-list.into.ok.0 in
+    let before = c.args.into.now.ok.0 in
+    omega (arith, c.requires.room)
+
+pub loop-list-preserved : goal.loop-list-preserved
+loop-list-preserved c =
+    let a = asked c.self.inside.lists c.self.inside.queues.items c.args.self.now c.args.queue c.self.invariant.parkings c.self.view_is c.requires.there c.index-asked.result.now c.index-asked.ensures in
+    let lt : c.loop-list.list < list_count c.index-asked.result.now.slots = omega arith in
+    record {
+      deliveries =
+          deliveries_more c.args.queue (parted_by c.self.inside.lists c.index-asked.result.now) c.loop-list.list c.args.into.now.items c.loop-list.into.items c.push_deliveries.new.into.items (list_at c.self.inside.lists (c.index-asked.result.now.base + c.loop-list.list))
+          (list_is c.self.inside.lists c.index-asked.result.now a.part c.loop-list.list lt)
+          c.loop-list.invariant.deliveries c.push_deliveries.ensures.deliveries;
+      room = c.push_deliveries.ensures.room ∙ c.loop-list.invariant.room;
+    }
 
 pub returns-clause-listed : goal.returns-clause-listed
 returns-clause-listed c =
+    let a = asked c.self.inside.lists c.self.inside.queues.items c.args.self.now c.args.queue c.self.invariant.parkings c.self.view_is c.requires.there c.index-asked.result.now c.index-asked.ensures in
+    let all : c.loop-list.list ≡ list_count c.index-asked.result.now.slots = omega (arith, c.loop-list.auto.list-end, c.loop-list-test.false) in
     let start : c.len-start.result ≡ length c.args.into.now.items = omega arith in
-    let end : c.push_deliveries.new.into.len ≡ length c.push_deliveries.new.into.items = omega arith in
-    listed c.args.queue (parted_at c.self.inside.parkings c.args.queue) c.deref_mut.result.now c.push_deliveries.new.into.items c.args.into.now.items c.sort_unstable_by_key.new.self c.push_deliveries.new.into.len c.len-start.result c.push_deliveries.ensures.waits
-    c.deref_mut.ensures.value c.push_deliveries.ensures.deliveries start end c.sort_unstable_by_key.ensures.permutation (IsNonDecreasingBy-from_sort_by_key number_of c.sort_unstable_by_key.new.self c.sort_unstable_by_key.ensures.sorted (λ a r f k. search rules))
-    ∙ ap (λ (q : Waits). c.args.into.now.items ++ map (delivery_of c.args.queue) q.waiting) (sym (waits_read c.self.inside.parkings c.args.queue) ∙ ap (λ ws. waits_at ws c.args.queue) c.self.view_is)
-
-pub push_deliveries-requires-clause-there : goal.push_deliveries-requires-clause-there
-push_deliveries-requires-clause-there c = seen_there c.self.inside.parkings c.args.self.now c.args.queue c.self.view_is c.requires.there
-
-pub push_deliveries-requires-clause-room : goal.push_deliveries-requires-clause-room
-push_deliveries-requires-clause-room c = subst (λ (w : Waits). vec_len c.args.into.now + length w.waiting ≤ vec_capacity c.args.into.now) (sym (seen_waits c.self.inside.parkings c.args.self.now c.args.queue c.self.view_is)) c.requires.room
+    let end : c.loop-list.into.len ≡ length c.loop-list.into.items = omega arith in
+    listed c.args.queue (parted_by c.self.inside.lists c.index-asked.result.now) c.deref_mut.result.now c.loop-list.into.items c.args.into.now.items c.sort_unstable_by_key.new.self c.loop-list.into.len c.len-start.result a.part.parking.waits c.deref_mut.ensures.value
+    (c.loop-list.invariant.deliveries ∙ ap (λ n. c.args.into.now.items ++ map (delivery_of c.args.queue) (parts_of (parted_by c.self.inside.lists c.index-asked.result.now) n)) all)
+    start end c.sort_unstable_by_key.ensures.permutation (IsNonDecreasingBy-from_sort_by_key number_of c.sort_unstable_by_key.new.self c.sort_unstable_by_key.ensures.sorted (λ a r f k. search rules))
+    ∙ ap (λ (q : Waits). c.args.into.now.items ++ map (delivery_of c.args.queue) q.waiting) a.waits

@@ -4,7 +4,7 @@ use Rattle.parked_queue.specs.Chains.{AreNodes, events_of, items, path}
 use Rattle.parked_queue.specs.Lists.{delivery_of, list_at}
 use Rattle.parked_queue.specs.Store.{len_of}
 use Rattle.parked_queue.specs.declared.chain.Chain.{Chain}
-use Rattle.parked_queue.proofs.ChainFirsts.{first_place, rest_places}
+use Rattle.parked_queue.proofs.ChainFirsts.{first_node, rest_nodes}
 use Rattle.parked_queue.proofs.Nodes.{node_read, list_within}
 use Rattle.parked_queue.proofs.ChainDeliveries.{deliveries_more, deliveries_done}
 use Rattle.parked_queue.proofs.Views.{chain_read, length_seen, list_seen, there_seen}
@@ -23,9 +23,9 @@ loop-init c =
     ∙ list_seen c.self.inside.nodes c.self.inside.chains.items c.self.inside.room c.args.self.now c.self.view_is c.args.list in
     record {
       owner = c.self.invariant.chains.owner;
-      places =
+      taken =
           subst (λ (m : ℕ). AreNodes (slice_get c.self.inside.nodes.items) c.self.invariant.chains.owner (suc c.args.list) (path (slice_get c.self.inside.nodes.items) c.index-chain.result.now.first m)) whole
-          (subst (λ (x : Chain). AreNodes (slice_get c.self.inside.nodes.items) c.self.invariant.chains.owner (suc c.args.list) (path (slice_get c.self.inside.nodes.items) x.first x.len)) (sym read) (c.self.invariant.chains.places c.args.list));
+          (subst (λ (x : Chain). AreNodes (slice_get c.self.inside.nodes.items) c.self.invariant.chains.owner (suc c.args.list) (path (slice_get c.self.inside.nodes.items) x.first x.len)) (sym read) (c.self.invariant.chains.taken c.args.list));
       deliveries =
           ap (λ (m : ℕ). c.args.into.now.items ++ map (delivery_of c.args.queue) (items (slice_get c.self.inside.nodes.items) (path (slice_get c.self.inside.nodes.items) c.index-chain.result.now.first m))) (sym whole)
           ∙ ap (λ (ws : List Numbered). c.args.into.now.items ++ map (delivery_of c.args.queue) ws) events;
@@ -36,7 +36,7 @@ loop-init c =
 pub index-node-requires : goal.index-node-requires
 index-node-requires c =
     list_within c.self.inside.nodes c.loop.cursor
-    (first_place (slice_get c.self.inside.nodes.items) c.loop.invariant.owner (suc c.args.list) c.loop.cursor (c.index-chain.result.now.len - c.loop.counter) (omega (arith, c.loop-test.true)) c.loop.invariant.places)
+    (first_node (slice_get c.self.inside.nodes.items) c.loop.invariant.owner (suc c.args.list) c.loop.cursor (c.index-chain.result.now.len - c.loop.counter) (omega (arith, c.loop-test.true)) c.loop.invariant.taken)
 
 pub push_reserved-requires : goal.push_reserved-requires
 push_reserved-requires c = omega (arith, c.loop-test.true, c.loop.invariant.room)
@@ -45,14 +45,14 @@ pub loop-preserved : goal.loop-preserved
 loop-preserved c =
     let some : 0 < c.index-chain.result.now.len - c.loop.counter = omega (arith, c.loop-test.true) in
     let within = list_within c.self.inside.nodes c.loop.cursor
-    (first_place (slice_get c.self.inside.nodes.items) c.loop.invariant.owner (suc c.args.list) c.loop.cursor (c.index-chain.result.now.len - c.loop.counter) some c.loop.invariant.places) in
+    (first_node (slice_get c.self.inside.nodes.items) c.loop.invariant.owner (suc c.args.list) c.loop.cursor (c.index-chain.result.now.len - c.loop.counter) some c.loop.invariant.taken) in
     let found = node_read c.self.inside.nodes c.loop.cursor c.index-node.result.now within c.index-node.ensures in
     let less : c.index-chain.result.now.len - c.loop.counter - 1 ≡ c.index-chain.result.now.len - (c.loop.counter + 1) = omega arith in
     record {
       owner = c.loop.invariant.owner;
-      places =
+      taken =
           subst (λ (m : ℕ). AreNodes (slice_get c.self.inside.nodes.items) c.loop.invariant.owner (suc c.args.list) (path (slice_get c.self.inside.nodes.items) c.index-node.result.now.next m)) less
-          (rest_places (slice_get c.self.inside.nodes.items) c.loop.invariant.owner (suc c.args.list) c.loop.cursor (c.index-chain.result.now.len - c.loop.counter) c.index-node.result.now some found c.loop.invariant.places);
+          (rest_nodes (slice_get c.self.inside.nodes.items) c.loop.invariant.owner (suc c.args.list) c.loop.cursor (c.index-chain.result.now.len - c.loop.counter) c.index-node.result.now some found c.loop.invariant.taken);
       deliveries =
           ap (λ (m : ℕ). c.push_reserved.new.self.items ++ map (delivery_of c.args.queue) (items (slice_get c.self.inside.nodes.items) (path (slice_get c.self.inside.nodes.items) c.index-node.result.now.next m))) (sym less)
           ∙ deliveries_more (slice_get c.self.inside.nodes.items) c.args.queue c.loop.cursor (c.index-chain.result.now.len - c.loop.counter) c.index-node.result.now c.loop.into.items c.push_reserved.new.self.items some found c.push_reserved.ensures.items

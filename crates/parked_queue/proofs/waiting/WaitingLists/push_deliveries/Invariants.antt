@@ -7,7 +7,7 @@ abbrev pub invariant-loop : goal.invariant-loop
 invariant-loop l =
     record {
       owner : ℕ → ℕ;
-      places : AreNodes (slice_get l.self-inside.nodes.items) owner (suc l.list) (path (slice_get l.self-inside.nodes.items) l.cursor (l.end - l.counter));
+      taken : AreNodes (slice_get l.self-inside.nodes.items) owner (suc l.list) (path (slice_get l.self-inside.nodes.items) l.cursor (l.end - l.counter));
       deliveries : l.into.items ++ map (delivery_of l.queue) (items (slice_get l.self-inside.nodes.items) (path (slice_get l.self-inside.nodes.items) l.cursor (l.end - l.counter))) ≡ l.fn.into.items ++ map (delivery_of l.queue) (list_at l.self l.list);
       room : vec_len l.into + (l.end - l.counter) ≤ vec_capacity l.into;
       capacity : vec_capacity l.into ≡ vec_capacity l.fn.into;

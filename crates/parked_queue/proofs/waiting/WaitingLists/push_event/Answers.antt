@@ -14,18 +14,18 @@ below c =
     let room = room_seen c.self.inside.nodes c.self.inside.chains.items c.self.inside.room c.args.self.now c.self.view_is in
     omega (arith, total, room, c.requires.room)
 
-pub take_node-place-requires-clause-last : goal.take_node-place-requires-clause-last
-take_node-place-requires-clause-last c = free_within c.self.inside.nodes c.self.inside.free c.self.inside.chains.items c.self.invariant.chains
+pub take_node-node-requires-clause-last : goal.take_node-node-requires-clause-last
+take_node-node-requires-clause-last c = free_within c.self.inside.nodes c.self.inside.free c.self.inside.chains.items c.self.invariant.chains
 
-pub take_node-place-requires-clause-room : goal.take_node-place-requires-clause-room
-take_node-place-requires-clause-room c none =
+pub take_node-node-requires-clause-room : goal.take_node-node-requires-clause-room
+take_node-node-requires-clause-room c none =
     omega (arith, none, below c, c.self.invariant.count, c.self.invariant.nodes_fit)
 
 pub append-requires-clause-last : goal.append-requires-clause-last
 append-requires-clause-last c =
     let there = there_seen c.self.inside.nodes c.self.inside.chains.items c.self.inside.room c.args.self.now c.self.view_is c.args.list c.requires.list in
     let read = chain_read c.self.inside.chains.items c.args.list c.index_mut.result.now there c.index_mut.ensures.value in
-    last_read (slice_get c.self.inside.nodes.items) c.take_node-place.new.nodes c.self.inside.free.items c.self.inside.chains.items c.args.list c.take_node-place.result (numbered c.args.number c.args.event.now) c.index_mut.result.now read c.self.invariant.chains c.take_node-place.ensures.placed.come
+    last_read (slice_get c.self.inside.nodes.items) c.take_node-node.new.nodes c.self.inside.free.items c.self.inside.chains.items c.args.list c.take_node-node.result (numbered c.args.number c.args.event.now) c.index_mut.result.now read c.self.invariant.chains c.take_node-node.ensures.taken.come
 
 pub append-requires-clause-fits : goal.append-requires-clause-fits
 append-requires-clause-fits c =
@@ -35,11 +35,11 @@ append-requires-clause-fits c =
     let room = room_seen c.self.inside.nodes c.self.inside.chains.items c.self.inside.room c.args.self.now c.self.view_is in
     omega (arith, ap len_of read, len_within c.self.inside.chains.items c.args.list there, total, room, c.requires.room, c.self.ranges)
 
-is_pushed : (c : goal.After-self-1) → IsPushed c.self.inside.nodes c.append.new.nodes c.self.inside.free c.take_node-place.new.free c.self.inside.chains.items c.args.list c.append.new.chain (numbered c.args.number c.args.event.now)
+is_pushed : (c : goal.After-self-1) → IsPushed c.self.inside.nodes c.append.new.nodes c.self.inside.free c.take_node-node.new.free c.self.inside.chains.items c.args.list c.append.new.chain (numbered c.args.number c.args.event.now)
 is_pushed c =
     let there = there_seen c.self.inside.nodes c.self.inside.chains.items c.self.inside.room c.args.self.now c.self.view_is c.args.list c.requires.list in
     let read = chain_read c.self.inside.chains.items c.args.list c.index_mut.result.now there c.index_mut.ensures.value in
-    let appended : IsAppended c.take_node-place.new.nodes c.append.new.nodes c.index_mut.result.now c.take_node-place.result c.append.new.chain =
+    let appended : IsAppended c.take_node-node.new.nodes c.append.new.nodes c.index_mut.result.now c.take_node-node.result c.append.new.chain =
     record {
       alone = c.append.ensures.alone;
       kept = c.append.ensures.kept;
@@ -47,20 +47,20 @@ is_pushed c =
       linked = c.append.ensures.linked;
       capacity = c.append.ensures.capacity;
     } in
-    pushed c.self.inside.nodes c.take_node-place.new.nodes c.append.new.nodes c.self.inside.free c.take_node-place.new.free c.self.inside.chains.items c.args.list c.take_node-place.result (numbered c.args.number c.args.event.now) c.append.new.chain there c.self.invariant.chains c.take_node-place.ensures.placed c.take_node-place.ensures.nodes c.take_node-place.ensures.free
-    (subst (λ (x : Chain). IsAppended c.take_node-place.new.nodes c.append.new.nodes x c.take_node-place.result c.append.new.chain) read appended)
+    pushed c.self.inside.nodes c.take_node-node.new.nodes c.append.new.nodes c.self.inside.free c.take_node-node.new.free c.self.inside.chains.items c.args.list c.take_node-node.result (numbered c.args.number c.args.event.now) c.append.new.chain there c.self.invariant.chains c.take_node-node.ensures.taken c.take_node-node.ensures.nodes c.take_node-node.ensures.free
+    (subst (λ (x : Chain). IsAppended c.take_node-node.new.nodes c.append.new.nodes x c.take_node-node.result c.append.new.chain) read appended)
 
 pub invariant_of-self : goal.invariant_of-self
 invariant_of-self c =
     let there = there_seen c.self.inside.nodes c.self.inside.chains.items c.self.inside.room c.args.self.now c.self.view_is c.args.list c.requires.list in
     let total = total_seen c.self.inside.nodes c.self.inside.chains.items c.self.inside.room c.args.self.now c.self.view_is c.self.inside.free c.self.invariant in
     let room = room_seen c.self.inside.nodes c.self.inside.chains.items c.self.inside.room c.args.self.now c.self.view_is in
-    store_pushed c.self.inside.nodes c.append.new.nodes c.self.inside.free c.take_node-place.new.free c.self.inside.chains.items c.self.inside.room c.args.list c.append.new.chain (numbered c.args.number c.args.event.now) there c.self.invariant (omega (arith, total, room, c.requires.room)) (is_pushed c)
+    store_pushed c.self.inside.nodes c.append.new.nodes c.self.inside.free c.take_node-node.new.free c.self.inside.chains.items c.self.inside.room c.args.list c.append.new.chain (numbered c.args.number c.args.event.now) there c.self.invariant (omega (arith, total, room, c.requires.room)) (is_pushed c)
 
 pub returns-clause-value : goal.returns-clause-value
 returns-clause-value c =
     let there = there_seen c.self.inside.nodes c.self.inside.chains.items c.self.inside.room c.args.self.now c.self.view_is c.args.list c.requires.list in
-    view_pushed c.self.inside.nodes c.append.new.nodes c.self.inside.free c.take_node-place.new.free c.self.inside.chains.items c.self.inside.room c.args.list c.append.new.chain (numbered c.args.number c.args.event.now) c.args.self.now there c.self.view_is (is_pushed c)
+    view_pushed c.self.inside.nodes c.append.new.nodes c.self.inside.free c.take_node-node.new.free c.self.inside.chains.items c.self.inside.room c.args.list c.append.new.chain (numbered c.args.number c.args.event.now) c.args.self.now there c.self.view_is (is_pushed c)
 
 pub returns-clause-only : goal.returns-clause-only
 returns-clause-only c =

@@ -3,17 +3,11 @@ use Rattle.evt_types.specs.Plan.{has_flow_lanes}
 use Rattle.transcripts.specs.Standing.{View}
 use Rattle.sched_core.proofs.News.{slots_range}
 use Rattle.sched_core.proofs.OpenLanes.{none_allowed, ports_allowed}
-use Rattle.sched_core.specs.Inner.{slots_for}
 use Rattle.sched_core.specs.Offered.{AreOpenLanes, HasAllowed}
 use Rattle.sched_core.proofs.state.Core.allowed.Goals as goal
 
 pub returns-then-has_flow_lanes : goal.returns-then-has_flow_lanes
-returns-then-has_flow_lanes c slot within fits =
-    let a = c.self.inside in
-    let h : c.args.queue < length a.shape.queues = subst (λ (v : View). c.args.queue < length v.shape.queues) (sym c.self.view_is) c.requires.queue in
-    let few = (slots_range a.shape c.args.queue c.self.invariant.limits h).1 in
-    let lt : slot < slots_for a.shape c.args.queue = subst (λ (v : View). slot < slots_for v.shape c.args.queue) (sym c.self.view_is) within in
-    (c.below.ensures slot).1 (omega (arith, lt, few))
+returns-then-has_flow_lanes c slot within fits = (c.below.ensures slot).1 (omega (arith, within, (slots_range c.args.self.now.shape c.args.queue c.facts.ensures.limits c.requires.queue).1))
 
 pub returns-then-is_empty : goal.returns-then-is_empty
 returns-then-is_empty c =

@@ -6,13 +6,13 @@ use Rattle.sched_core.proofs.state.Core.new.Goals as goal
 
 pub invariant_of-result : goal.invariant_of-result
 invariant_of-result c =
-    rw (c.in-Ok-new-2.ensures, c.queues-2.ensures.value, c.bound-bound.ensures.value, c.log_room-log_room.ensures) (core_new c.args.shape c.in-Ok.queues c.in-Ok-new.lanes c.in-Ok-no_extras.extras c.in-Ok-free.pins c.in-Ok-all_links.links c.in-Ok-all_ahead.ahead c.in-Ok-slot_lanes.slot_lanes c.limit.ensures.within (omega (arith, c.bound-bound.ensures.value))
+    rw (c.in-Ok-new-2.ensures, c.queues-2.ensures.value, c.bound-bound.ensures.value, c.log_room-log_room.ensures) (core_new c.args.shape c.in-Ok.queues c.in-Ok-new.lanes c.in-Ok-no_extras.extras c.in-Ok-free.pins c.in-Ok-queue_sets.sets.0 c.in-Ok-queue_sets.sets.1 c.in-Ok-slot_lanes.slot_lanes c.limit.ensures.within (omega (arith, c.bound-bound.ensures.value))
     c.in-Ok.ensures
-    c.in-Ok-new.ensures c.in-Ok-no_extras.ensures c.in-Ok-free.ensures c.in-Ok-all_links.ensures c.in-Ok-all_ahead.ensures c.in-Ok-slot_lanes.ensures)
+    c.in-Ok-new.ensures c.in-Ok-no_extras.ensures c.in-Ok-free.ensures c.in-Ok-queue_sets.ensures.links c.in-Ok-queue_sets.ensures.ahead c.in-Ok-slot_lanes.ensures)
 
 pub returns-clause-empty : goal.returns-clause-empty
 returns-clause-empty c =
-    rw (c.in-Ok-new-2.ensures, c.queues-2.ensures.value) (view_new c.args.shape c.in-Ok.queues c.in-Ok-new.lanes c.in-Ok-no_extras.extras c.in-Ok-free.pins c.in-Ok-all_links.links c.in-Ok-all_ahead.ahead c.in-Ok-slot_lanes.slot_lanes
+    rw (c.in-Ok-new-2.ensures, c.queues-2.ensures.value) (view_new c.args.shape c.in-Ok.queues c.in-Ok-new.lanes c.in-Ok-no_extras.extras c.in-Ok-free.pins c.in-Ok-queue_sets.sets.0 c.in-Ok-queue_sets.sets.1 c.in-Ok-slot_lanes.slot_lanes
     c.in-Ok.ensures
     c.in-Ok-new.ensures c.in-Ok-no_extras.ensures)
 

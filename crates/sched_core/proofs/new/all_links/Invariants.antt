@@ -1,5 +1,0 @@
-use Rattle.sched_core.specs.Links.{AreLinks}
-use Rattle.sched_core.proofs.new.all_links.Given as goal
-
-abbrev pub invariant-loop-queue : goal.invariant-loop-queue
-invariant-loop-queue l = AreLinks l.shape l.queue l.links.items

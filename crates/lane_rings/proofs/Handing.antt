@@ -1,10 +1,10 @@
 -- What a batch is made of, and what is handed out as its first item leaves.
-use Rattle.std.proofs.Common.{◌≡◌, ◌≢◌, ℕ, ◌-◌, ◌≤◌, List, [], ◌∷◌, ◌++◌, length, take, drop, arith, ap, None, Some, refl, subst, sym, ◌∙◌, length-append}
-use Rattle.std.specs.Prelude.{Option, IfNone, IfSome, MatchOption, option_copied, slice_get}
+use Rattle.std.proofs.Common.{◌≡◌, ◌≢◌, ℕ, ◌+◌, ◌-◌, ◌<◌, ◌≤◌, List, [], ◌∷◌, ◌++◌, length, take, drop, get_or, arith, ap, None, Some, refl, subst, sym, ◌∙◌, length-append}
+use Rattle.std.specs.Prelude.{slice_get}
 use Rattle.std.proofs.Math.Seq.{take-append_seam}
 use Rattle.std.proofs.lemmas.Grind.{common_steps}
+use Rattle.std.proofs.lemmas.List.{drop_more, drop-drop}
 use Rattle.std.proofs.lemmas.Option.{none-some, same_Some}
-use denote.Ref.{Bor}
 use mathlib.Core.List.{IsPrefix}
 
 module _ {T : Type 0} where
@@ -28,43 +28,31 @@ module _ {T : Type 0} where
       ap (λ (n : ℕ). take n rs) long ∙ (ap (take (length (hs ++ x ∷ []))) whole ∙ take-append_seam (hs ++ x ∷ []) vs)
 
   -- what is left is the last of what came out of the ring
-  pub still-last :
-      (rs ws vs : List T) (r : Option T) → rs ≡ take (length rs - length ws) rs ++ ws
-      → MatchOption r ((ws ≡ []) × (vs ≡ [])) (λ x. ws ≡ x ∷ vs) → rs ≡ take (length rs - length vs) rs ++ vs
-  still-last rs ws vs None e m =
-      let same : ws ≡ vs = m.0 ∙ sym m.1 in
-      subst (λ (zs : List T). rs ≡ take (length rs - length zs) rs ++ zs) same e
-  still-last rs ws vs (Some x) e m =
-      let from : rs ≡ take (length rs - length ws) rs ++ x ∷ vs = e ∙ ap (λ (zs : List T). take (length rs - length ws) rs ++ zs) m in
-      let gone : take (length rs - length vs) rs ≡ take (length rs - length ws) rs ++ x ∷ [] = one-handed rs _ vs x from in
+  pub still-last : (rs ws vs : List T) → rs ≡ take (length rs - length ws) rs ++ ws → vs ≡ drop 1 ws → rs ≡ take (length rs - length vs) rs ++ vs
+  still-last rs [] vs e rest = subst (λ (zs : List T). rs ≡ take (length rs - length zs) rs ++ zs) (sym rest) e
+  still-last rs (w ∷ ws) vs e rest =
+      let from : rs ≡ take (length rs - length (w ∷ ws)) rs ++ w ∷ vs = e ∙ ap (λ (zs : List T). take (length rs - length (w ∷ ws)) rs ++ w ∷ zs) (sym rest) in
+      let gone : take (length rs - length vs) rs ≡ take (length rs - length (w ∷ ws)) rs ++ w ∷ [] = one-handed rs _ vs w from in
       grind (arith, common_steps, from, gone)
 
   -- the first leaves, where there is one
-  pub first-passed : (rs ws vs : List T) (r : Option T) → rs ≡ take (length rs - length ws) rs ++ ws
-      → MatchOption r ((ws ≡ []) × (vs ≡ [])) (λ x. ws ≡ x ∷ vs) → take (length rs - length vs) rs ≡ take (length rs - length ws) rs ++ take 1 ws
-  first-passed rs ws vs None e m = grind (arith, common_steps, m.0, m.1)
-  first-passed rs ws vs (Some x) e m =
-      let from : rs ≡ take (length rs - length ws) rs ++ x ∷ vs = e ∙ ap (λ (zs : List T). take (length rs - length ws) rs ++ zs) m in
-      one-handed rs _ vs x from ∙ ap (λ (zs : List T). take (length rs - length ws) rs ++ take 1 zs) (sym m)
+  pub first-passed : (rs ws vs : List T) → rs ≡ take (length rs - length ws) rs ++ ws → vs ≡ drop 1 ws
+      → take (length rs - length vs) rs ≡ take (length rs - length ws) rs ++ take 1 ws
+  first-passed rs [] vs e rest = grind (arith, common_steps, rest)
+  first-passed rs (w ∷ ws) vs e rest =
+      one-handed rs _ vs w (e ∙ ap (λ (zs : List T). take (length rs - length (w ∷ ws)) rs ++ w ∷ zs) (sym rest))
 
-  -- the rest of a row behind its first
-  pub behind-first : (ws : List T) (x : T) → slice_get ws 0 ≡ Some x → ws ≡ x ∷ drop 1 ws
-  behind-first [] x e = absurd (none-some x e)
-  behind-first (w ∷ ws) x e = grind (arith, common_steps, same_Some w x e)
+  -- the first of a row between two places, and the rest
+  pub row-first : (at end : ℕ) (xs : List T) (x : T) → at < end → end ≤ length xs → x ≡ get_or xs at x → drop at (take end xs) ≡ x ∷ drop 1 (drop at (take end xs))
+  row-first at end xs x a b e = grind (arith, common_steps, e, drop_more (take end xs) at x)
+
+  pub row-rest : (at end : ℕ) (xs : List T) → drop (at + 1) (take end xs) ≡ drop 1 (drop at (take end xs))
+  row-rest at end xs = grind (arith, common_steps, drop-drop 1 at (take end xs))
 
   -- where there is no first there is nothing
   pub first-none : (xs : List T) → slice_get xs 0 ≡ None → xs ≡ []
   first-none [] e = refl
   first-none (x ∷ xs) e = absurd (none-some x (sym e))
-
-  -- the first where it lies
-  pub first-lies : (r : Option (Bor T)) (ws : List T) → option_copied r ≡ slice_get ws 0 → IfSome r (λ x. ws ≡ x.now ∷ drop 1 ws)
-  first-lies None ws e = tt
-  first-lies (Some x) ws e = behind-first ws x.now (sym e)
-
-  pub none-lies : (r : Option (Bor T)) (ws : List T) → option_copied r ≡ slice_get ws 0 → IfNone r (ws ≡ [])
-  none-lies None ws e = first-none ws (sym e)
-  none-lies (Some x) ws e = tt
 
   -- as many of the first of two rows as of both
   pub take-first : (n : ℕ) (xs ys : List T) → n ≤ length xs → take n (xs ++ ys) ≡ take n xs
@@ -94,7 +82,7 @@ first-dropped (w ∷ ws) ks some = refl
 
 pub ruleset of_passing = (first-taken, first-dropped)
 
-pub ruleset of_rows = (row-empty, row-filled, take-first)
+pub ruleset of_rows = (row-empty, row-filled, row-first, row-rest, take-first)
 
 pub ruleset of_looks = (prefix-first, first-none)
 

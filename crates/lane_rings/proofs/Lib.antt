@@ -1,4 +1,3 @@
-pub mod Histories
 pub mod Handing
 pub mod Room
 pub mod Lanes

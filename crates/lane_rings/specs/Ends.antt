@@ -5,9 +5,8 @@ use Rattle.evt_types.specs.Operation.{is_answer}
 use Rattle.evt_types.specs.declared.event.Delivery.{Delivery}
 use Rattle.evt_types.specs.declared.event.Reply.{Reply}
 use Rattle.evt_types.specs.Event.{pair_of}
-use Rattle.lane_rings.specs.Intakes.{handed, ahead}
+use Rattle.lane_rings.specs.Intakes.{inside, handed, ahead}
 use Rattle.lane_rings.specs.Outlets.{put_in, kept_back}
-use Rattle.lane_rings.specs.Batches.{inside}
 use Rattle.lane_rings.specs.declared.far.Far.{Far}
 use Rattle.lane_rings.specs.declared.near.Near.{Near}
 
@@ -29,7 +28,7 @@ seen_replies near = ahead near.replies
 
 -- the first of these, which `fetch` took out of the ring
 abbrev pub fetched_replies : Near → List Reply
-fetched_replies near = inside near.replies.batch
+fetched_replies near = inside near.replies
 
 -- the first that was seen
 abbrev pub next_reply : Near → Option Reply

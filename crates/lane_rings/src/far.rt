@@ -1,19 +1,16 @@
 //! The holder's end of a lane.
 
-ghost use Rattle.std.specs.Prelude.{◌≡◌, ◌≤◌, ◌+◌, [], ◌++◌, ◌||◌, length, count_by, map, drop};
+ghost use Rattle.std.specs.Prelude.{◌≡◌, ◌≤◌, ◌+◌, [], ◌++◌, length, count_by};
 ghost use Rattle.evt_types.specs.Additions.{AreBeside, extras_of};
-ghost use Rattle.evt_types.specs.Operation.{is_answer, is_answer_op, is_more_op};
+ghost use Rattle.evt_types.specs.Operation.{is_answer};
 ghost use Rattle.evt_types.specs.declared.event.TheConstants.{MAX_EXTRAS};
 ghost use Rattle.rtrb.specs.Ring.{consumer_capacity, known_items, SameConsumer};
-ghost use Rattle.evt_types.specs.Event.{pair_of};
-ghost use Rattle.lane_rings.specs.Intakes.{handed};
+ghost use Rattle.lane_rings.specs.Intakes.{inside, handed};
 ghost use Rattle.lane_rings.specs.Outlets.{put_in};
-ghost use Rattle.lane_rings.specs.Batches.{inside};
 
 use crate::intake::Intake;
 use crate::outlet::Outlet;
 use arrayvec::ArrayVec;
-use circular_buffer::HeapCircularBuffer;
 use evt_types::{Delivery, Event, MAX_EXTRAS, Op, Reply};
 use thiserror::Error;
 
@@ -42,79 +39,42 @@ pub enum Refusal {
     Full,
 }
 
-/// The holder's end of a lane: it receives deliveries and answers. It knows which deliveries it has not answered, and how many events
-/// it added beside the oldest of them.
+/// The holder's end of a lane: it receives deliveries and answers. It knows how many deliveries it has not answered, and how many
+/// events it added beside the oldest of them.
 #[derive(Drop)]
 pub struct Far {
     pub(crate) deliveries: Intake<Delivery>,
     pub(crate) replies: Outlet<Reply>,
-    pub(crate) history: HeapCircularBuffer<(usize, u64)>,
+    pub(crate) held: usize,
     pub(crate) extras: usize,
-    pub ghost fewer: { count_by is_answer (put_in replies) ≤ length (handed deliveries) },
-    ghost history_is: { history.items ≡ map pair_of (drop (count_by is_answer (put_in replies)) (handed deliveries)) },
-    ghost room: { history.capacity ≡ consumer_capacity deliveries.ring },
-    ghost all_received: { inside deliveries.batch ≡ [] },
+    pub ghost held_is: { count_by is_answer (put_in replies) + held ≡ length (handed deliveries) },
+    ghost held_few: { held ≤ consumer_capacity deliveries.ring },
+    ghost all_received: { inside deliveries ≡ [] },
     ghost extras_are: { extras ≡ extras_of (put_in replies) },
     ghost extras_few: { extras ≤ MAX_EXTRAS },
     pub ghost beside: { AreBeside (length (handed deliveries)) (put_in replies) },
 }
 
-/// Whether a reply of this operation ends the handling of a delivered event.
-fn is_answering(op: Op) -> bool
-    ensures { result ≡ is_answer_op op }
-{
-    match op {
-        Op::New | Op::ForwardMore => false,
-        Op::Forward | Op::Release => true,
-    }
-}
-
-/// Whether a reply of this operation needs an event that is held: it answers the oldest, or adds beside it.
-fn is_about_held(op: Op) -> bool
-    ensures { result ≡ (is_answer_op op || is_more_op op) }
-{
-    match op {
-        Op::New => false,
-        Op::Forward | Op::Release | Op::ForwardMore => true,
-    }
-}
-
-/// Whether a reply of this operation adds an event beside the oldest that is held.
-fn is_adding(op: Op) -> bool
-    ensures { result ≡ is_more_op op }
-{
-    match op {
-        Op::New | Op::Forward | Op::Release => false,
-        Op::ForwardMore => true,
-    }
-}
-
-/// Hands out what was fetched: to the array, and to the history of what is held. A delivery is read where it lies, and copied once.
-fn hand_out(
-    from: &mut Intake<Delivery>,
-    history: &mut HeapCircularBuffer<(usize, u64)>,
-    into: &mut ArrayVec<Delivery, 64>,
-)
-    requires history { length history.old.items + length (inside from.old.batch) ≤ history.old.capacity }
-    requires into { length into.old.items + length (inside from.old.batch) ≤ 64 }
+/// Hands out what was fetched. A delivery is read where it lies, and copied once.
+fn hand_out(from: &mut Intake<Delivery>, into: &mut ArrayVec<Delivery, 64>)
+    requires { length into.old.items + length (inside from.old) ≤ 64 }
     ensures ring { SameConsumer from.old.ring from.new.ring × (known_items from.new.ring ≡ known_items from.old.ring) }
-    ensures handed { handed from.new ≡ handed from.old ++ inside from.old.batch }
-    ensures none { inside from.new.batch ≡ [] }
-    ensures history { (history.new.items ≡ history.old.items ++ map pair_of (inside from.old.batch)) × (history.new.capacity ≡ history.old.capacity) }
-    ensures into { into.new.items ≡ into.old.items ++ inside from.old.batch }
+    ensures handed { handed from.new ≡ handed from.old ++ inside from.old }
+    ensures none { inside from.new ≡ [] }
+    ensures into { into.new.items ≡ into.old.items ++ inside from.old }
 {
     while let Some(delivery) = from.first() {
-        history.push_back((delivery.queue, delivery.number));
         into.push(*delivery);
-        from.pass();
+        from.next();
     }
 }
 
 impl Far {
-    ghost use Rattle.std.specs.Prelude.{◌≡◌, ◌≢◌, ◌<◌, ◌≤◌, ◌↔◌, ◌+◌, true, false, List, [], ◌∷◌, ◌++◌, length, drop, slice_get, IsTrue, OnOk, IfErr, IfNone, MatchOption, MatchResult};
+    ghost use Rattle.std.specs.Prelude.{◌≡◌, ◌≢◌, ◌<◌, ◌≤◌, ◌↔◌, ◌+◌, true, false, List, [], ◌∷◌, ◌++◌, length, drop, IsTrue, OnOk, IfOk, IfErr, IfNone, MatchOption, MatchResult};
+    ghost use Rattle.evt_types.specs.Additions.{more_after};
     ghost use Rattle.evt_types.specs.Operation.{is_answer, is_more_reply, needs_held};
     ghost use mathlib.Core.List.{IsPrefix};
-    ghost use Rattle.lane_rings.specs.Ends.{received_by, seen_deliveries, next_delivery, answered, hidden_answers, answers_among, unanswered, held_list, Comes};
+    ghost use Rattle.lane_rings.specs.Ends.{received_by, seen_deliveries, next_delivery, answered, hidden_answers, answers_among, unanswered, Comes};
     ghost use Rattle.lane_rings.specs.Identity.{far_id};
     ghost use Rattle.lane_rings.specs.Refusal.{RefusesAnswer, RefusesReply, reply_of};
 
@@ -137,9 +97,9 @@ impl Far {
     {
         self.deliveries.look(1);
         let first = self.deliveries.first()?;
-        self.history.push_back((first.queue, first.number));
         let delivery = *first;
-        self.deliveries.pass();
+        self.deliveries.next();
+        self.held += 1;
         Some(delivery)
     }
 
@@ -155,10 +115,11 @@ impl Far {
         ensures within { length (unanswered self.new) ≤ (far_id self.new).depth }
         ensures drained { length into.new.items < most → length (unanswered self.new) < (far_id self.new).depth → seen_deliveries self.new ≡ [] }
     {
-        let room = self.history.capacity() - self.history.len();
-        let count = room.min(most.saturating_sub(into.len()));
-        self.deliveries.look(count);
-        hand_out(&mut self.deliveries, &mut self.history, into);
+        let room = self.deliveries.ring.capacity() - self.held;
+        let before = into.len();
+        self.deliveries.look(room.min(most.saturating_sub(before)));
+        hand_out(&mut self.deliveries, into);
+        self.held += into.len() - before;
     }
 
     /// Puts a reply into the ring, where the scheduler sees it. A FORWARD or RELEASE answers the oldest delivery that is held; a
@@ -191,7 +152,6 @@ impl Far {
     /// As `answer`, but the event's reply is gathered: it goes into the ring by the next `flush`, and until then the scheduler can't
     /// see it. The event is copied where it is gathered, and nowhere before.
     #[inline(always)]
-    #[tactic(auto, using(crate::proofs::Histories::of_held))]
     pub fn stage(&mut self, event: &Event) -> Result<(), Refusal>
         ensures lane { far_id self.new ≡ far_id self.old }
         ensures received { (received_by self.new ≡ received_by self.old) × (seen_deliveries self.new ≡ seen_deliveries self.old) }
@@ -205,24 +165,39 @@ impl Far {
         ensures too_many { (result ≡ Err Refusal.TooMany) ↔ ((is_more_reply (reply_of event.now) ≡ true) × (unanswered self.old ≢ []) × (MAX_EXTRAS ≤ extras_of (answered self.old))) }
         ensures refused { IfErr result (RefusesReply self.old (reply_of event.now)) }
     {
-        if is_about_held(event.op) && self.history.is_empty() {
-            return Err(Refusal::NothingHeld);
-        }
-        let adds = is_adding(event.op);
-        if adds && self.extras >= MAX_EXTRAS {
-            return Err(Refusal::TooMany);
-        }
-        let ends = is_answering(event.op);
+        let (held, extras) = self.after(event)?;
         if !self.replies.put(&Reply { event: *event }) {
             return Err(Refusal::Full);
         }
-        if ends {
-            self.history.pop_front();
-            self.extras = 0;
-        } else if adds {
-            self.extras += 1;
-        }
+        self.held = held;
+        self.extras = extras;
         Ok(())
+    }
+
+    // How many deliveries are held, and how many events are beside the oldest, once the event's reply is given; or why it can't be.
+    #[inline(always)]
+    fn after(&self, event: &Event) -> Result<(usize, usize), Refusal>
+        ensures held { IfOk result (λ n. answers_among (reply_of event.now ∷ []) + n.0 ≡ self.now.held) }
+        ensures extras { IfOk result (λ n. (n.1 ≡ more_after self.now.extras (reply_of event.now)) × (n.1 ≤ MAX_EXTRAS)) }
+        ensures may_add { IfOk result (λ n. is_more_reply (reply_of event.now) ≡ true → (0 < self.now.held) × (self.now.extras < MAX_EXTRAS)) }
+        ensures needs { IfOk result (λ n. needs_held (reply_of event.now) ≡ true → 0 < self.now.held) }
+        ensures nothing_held { (result ≡ Err Refusal.NothingHeld) ↔ ((needs_held (reply_of event.now) ≡ true) × (self.now.held ≡ 0)) }
+        ensures too_many { (result ≡ Err Refusal.TooMany) ↔ ((is_more_reply (reply_of event.now) ≡ true) × (0 < self.now.held) × (MAX_EXTRAS ≤ self.now.extras)) }
+        ensures full { result ≢ Err Refusal.Full }
+    {
+        if event.op == Op::New {
+            return Ok((self.held, self.extras));
+        }
+        if self.held == 0 {
+            return Err(Refusal::NothingHeld);
+        }
+        if event.op != Op::ForwardMore {
+            return Ok((self.held - 1, 0));
+        }
+        if self.extras == MAX_EXTRAS {
+            return Err(Refusal::TooMany);
+        }
+        Ok((self.held, self.extras + 1))
     }
 
     /// Puts all that was gathered into the ring, by one store: the scheduler sees it. Nothing that is seen at this end changes.
@@ -240,7 +215,7 @@ impl Far {
         ensures within { result ≤ (far_id self.now).depth }
         ensures fewer { answers_among (answered self.now) ≤ length (received_by self.now) }
     {
-        self.history.len()
+        self.held
     }
 
     /// How many events were added beside the oldest delivery that is held: the FORWARD_MOREs since the last FORWARD or RELEASE.
@@ -258,13 +233,6 @@ impl Far {
         ensures full { IsTrue result ↔ (length (unanswered self.now) ≡ (far_id self.now).depth) }
         ensures room { result ≡ false → length (unanswered self.now) < (far_id self.now).depth }
     {
-        self.held() == self.history.capacity()
-    }
-
-    /// The queue and the number of the oldest delivery that is held, which the next FORWARD or RELEASE answers.
-    pub fn oldest(&self) -> Option<(usize, u64)>
-        ensures { result ≡ slice_get (held_list self.now) 0 }
-    {
-        self.history.front().copied()
+        self.held == self.deliveries.ring.capacity()
     }
 }

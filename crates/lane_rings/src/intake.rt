@@ -1,27 +1,30 @@
 //! The reading side of a ring: one look takes out what is there, and what was taken out is handed out one by one.
 
-ghost use Rattle.std.specs.Prelude.{◌≡◌, ◌-◌, ◌++◌, length, take, max};
-ghost use Rattle.rtrb.specs.Ring.{received, consumer_capacity};
-ghost use Rattle.lane_rings.specs.Batches.{inside, places_of};
+ghost use Rattle.std.specs.Prelude.{◌≡◌, ◌<◌, ◌≤◌, ◌-◌, [], ◌++◌, length, take, max};
+ghost use mathlib.Core.List.{IsPrefix};
+ghost use Rattle.rtrb.specs.Ring.{received, known_items, consumer_capacity, SameConsumer};
+ghost use Rattle.lane_rings.specs.Batches.{between};
 
-use crate::batch::Batch;
 use rtrb::Consumer;
 use std::alloc::{AllocError, Global};
 
-/// A ring's consumer, and what it has popped and not handed out.
+/// A ring's consumer, and what it has popped and not handed out: what lies before `at` has left, and from `end` on there are fillers.
 #[derive(Drop)]
 pub(crate) struct Intake<T> {
     pub(crate) ring: Consumer<T>,
-    pub(crate) batch: Batch<T>,
-    ghost room: { places_of batch ≡ max 1 (consumer_capacity ring) },
-    ghost last: { received ring ≡ take (length (received ring) - length (inside batch)) (received ring) ++ inside batch },
+    places: Vec<T>,
+    at: usize,
+    end: usize,
+    ghost within: { (at ≤ end) × (end ≤ length places.items) },
+    ghost room: { length places.items ≡ max 1 (consumer_capacity ring) },
+    ghost last: { received ring ≡ take (length (received ring) - length (between at end places.items)) (received ring) ++ between at end places.items },
 }
 
 impl<T: Copy> Intake<T> {
     ghost use Rattle.std.specs.Prelude.{◌≡◌, ◌≢◌, ◌<◌, ◌≤◌, [], ◌∷◌, ◌++◌, length, drop, take, IsFalse, IsTrue, IfNone, IfOk, IfSome, MatchOption};
     ghost use mathlib.Core.List.{IsPrefix};
     ghost use Rattle.rtrb.specs.Ring.{received, known_items, consumer_capacity, SameConsumer};
-    ghost use Rattle.lane_rings.specs.Intakes.{handed, ahead};
+    ghost use Rattle.lane_rings.specs.Intakes.{inside, handed, ahead};
 
     /// Nothing is handed out of a new ring.
     pub(crate) fn new(alloc: Global, ring: Consumer<T>, filler: T) -> Result<Intake<T>, AllocError>
@@ -30,64 +33,73 @@ impl<T: Copy> Intake<T> {
         ensures lists { IfOk result (λ i. (handed i ≡ []) × (ahead i ≡ known_items ring)) }
     {
         // One place at least, so that an empty batch tells that nothing was there.
-        let batch = Batch::empty(alloc, filler, ring.capacity().max(1))?;
-        Ok(Intake { ring, batch })
+        let places = vec![in alloc; filler; ring.capacity().max(1)]?;
+        Ok(Intake {
+            ring,
+            places,
+            at: 0,
+            end: 0,
+        })
     }
 
-    /// Where nothing is in the batch, takes at most `most` items out of the ring; whether something is in the batch then. A ring
-    /// that shows nothing costs one load.
+    /// Where nothing is in the batch, takes at most `most` items out of the ring, by one store; whether something is in the batch
+    /// then. A ring that shows nothing costs one load, and a single item goes without the loops over a row.
     #[inline(always)]
+    #[tactic(auto, using(crate::proofs::Fetching::of_looks))]
     pub(crate) fn look(&mut self, most: usize) -> bool
         ensures ring { SameConsumer self.old.ring self.new.ring }
         ensures handed { handed self.new ≡ handed self.old }
         ensures ahead { IsPrefix (ahead self.old) (ahead self.new) }
-        ensures some { IsTrue result → inside self.new.batch ≢ [] }
-        ensures nothing { IsFalse result → inside self.new.batch ≡ [] }
-        ensures none { 0 < most → inside self.new.batch ≡ [] → ahead self.new ≡ [] }
-        ensures few { inside self.old.batch ≡ [] → length (inside self.new.batch) ≤ most }
-        ensures stays { inside self.old.batch ≢ [] → inside self.new.batch ≡ inside self.old.batch }
-        ensures short { inside self.old.batch ≡ [] → length (inside self.new.batch) < most → most ≤ consumer_capacity self.old.ring → known_items self.new.ring ≡ [] }
+        ensures some { IsTrue result → inside self.new ≢ [] }
+        ensures nothing { IsFalse result → inside self.new ≡ [] }
+        ensures none { 0 < most → inside self.new ≡ [] → ahead self.new ≡ [] }
+        ensures few { inside self.old ≡ [] → length (inside self.new) ≤ most }
+        ensures stays { inside self.old ≢ [] → inside self.new ≡ inside self.old }
+        ensures short { inside self.old ≡ [] → length (inside self.new) < most → most ≤ consumer_capacity self.old.ring → known_items self.new.ring ≡ [] }
     {
-        if !self.batch.is_empty() {
+        if self.at != self.end {
             return true;
         }
         let there = self.ring.slots();
-        if there == 0 {
+        if there == 0 || most == 0 {
             return false;
         }
-        self.batch.fill(&mut self.ring, most);
-        !self.batch.is_empty()
+        self.at = 0;
+        if there == 1 {
+            self.places[0] = self.ring.pop_known();
+            self.end = 1;
+            return true;
+        }
+        self.end = pop_row(&mut self.ring, &mut self.places, most);
+        self.end != 0
     }
 
-    /// The oldest item, which leaves. Wants what is seen to be in the batch, unless nothing is.
-    #[tactic(auto, using(crate::proofs::Handing::of_handing))]
+    /// The oldest item of the batch, which leaves.
+    #[tactic(auto, using(crate::proofs::Handing::of_rows))]
     pub(crate) fn next(&mut self) -> Option<T>
-        requires { inside self.old.batch ≡ [] → ahead self.old ≡ [] }
-        ensures ring { SameConsumer self.old.ring self.new.ring }
-        ensures handed { MatchOption result (handed self.new ≡ handed self.old) (λ x. handed self.new ≡ handed self.old ++ x ∷ []) }
-        ensures ahead { MatchOption result
-            ((ahead self.old ≡ []) × (ahead self.new ≡ []))
-            (λ x. ahead self.old ≡ x ∷ ahead self.new) }
-        ensures batch { MatchOption result (inside self.new.batch ≡ []) (λ x. inside self.old.batch ≡ x ∷ inside self.new.batch) }
+        ensures ring { SameConsumer self.old.ring self.new.ring × (known_items self.new.ring ≡ known_items self.old.ring) }
+        ensures handed { handed self.new ≡ handed self.old ++ take 1 (inside self.old) }
+        ensures batch { inside self.new ≡ drop 1 (inside self.old) }
+        ensures value { MatchOption result (inside self.old ≡ []) (λ x. inside self.old ≡ x ∷ inside self.new) }
     {
-        self.batch.next()
+        if self.at == self.end {
+            return None;
+        }
+        let first = self.places[self.at];
+        self.at += 1;
+        Some(first)
     }
 
     /// The oldest item of the batch where it lies.
+    #[tactic(auto, using(crate::proofs::Handing::of_rows))]
     pub(crate) fn first(&self) -> Option<&T>
-        ensures none { IfNone result (inside self.now.batch ≡ []) }
-        ensures first { IfSome result (λ x. inside self.now.batch ≡ x.now ∷ drop 1 (inside self.now.batch)) }
+        ensures none { IfNone result (inside self.now ≡ []) }
+        ensures first { IfSome result (λ x. inside self.now ≡ x.now ∷ drop 1 (inside self.now)) }
     {
-        self.batch.first()
-    }
-
-    /// The oldest item of the batch leaves.
-    pub(crate) fn pass(&mut self)
-        ensures ring { SameConsumer self.old.ring self.new.ring × (known_items self.new.ring ≡ known_items self.old.ring) }
-        ensures handed { handed self.new ≡ handed self.old ++ take 1 (inside self.old.batch) }
-        ensures batch { inside self.new.batch ≡ drop 1 (inside self.old.batch) }
-    {
-        self.batch.next();
+        if self.at == self.end {
+            return None;
+        }
+        Some(&self.places[self.at])
     }
 
     /// The oldest item that was seen, which leaves.
@@ -97,10 +109,26 @@ impl<T: Copy> Intake<T> {
             ((ahead self.old ≡ []) × (ahead self.new ≡ []))
             (λ x. ahead self.old ≡ x ∷ ahead self.new) }
     {
-        let first = self.batch.next();
+        let first = self.next();
         if first.is_some() || self.ring.cached_slots() == 0 {
             return first;
         }
         Some(self.ring.pop_known())
     }
+}
+
+/// Takes at most `most` items out of the ring, by one store, to the first of these places; how many.
+#[tactic(auto, using(crate::proofs::Handing::of_rows))]
+fn pop_row<T: Copy>(ring: &mut Consumer<T>, places: &mut [T], most: usize) -> usize
+    ensures ring { SameConsumer ring.old ring.new }
+    ensures received { received ring.new ≡ received ring.old ++ take result places.new }
+    ensures known { IsPrefix (known_items ring.old) (take result places.new ++ known_items ring.new) }
+    ensures none { 0 < length places.old → 0 < most → result ≡ 0 → known_items ring.new ≡ [] }
+    ensures short { result < most → most ≤ length places.old → known_items ring.new ≡ [] }
+    ensures few { (result ≤ most) × (result ≤ length places.old) }
+    ensures places { length places.new ≡ length places.old }
+{
+    let count = most.min(places.len());
+    let (front, _) = places.split_at_mut(count);
+    ring.pop_partial_slice(front)
 }

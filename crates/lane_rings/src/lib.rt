@@ -2,7 +2,6 @@
 //! Each end may move to a thread of its own.
 #![tactic(auto)]
 
-mod batch;
 mod far;
 mod hints;
 mod intake;

@@ -122,6 +122,6 @@ impl Near {
         ensures none { fetched_replies self.old ≡ [] → (taken self.new ≡ taken self.old) × (seen_replies self.new ≡ seen_replies self.old) }
         ensures seen { fetched_replies self.old ≢ [] → seen_replies self.new ≡ drop 1 (seen_replies self.old) }
     {
-        self.replies.pass();
+        let _ = self.replies.next();
     }
 }

@@ -2,23 +2,22 @@
 
 ghost use Rattle.std.specs.Prelude.{◌≡◌, ◌+◌, ◌≤◌, [], ◌++◌, length, max, IfOk};
 ghost use Rattle.evt_types.specs.Additions.{AreBeside};
-ghost use Rattle.lane_rings.specs.Ends.{offered, hidden_offers, taken, seen_replies, fetched_replies, received_by, seen_deliveries, answered, hidden_answers, answers_among, held_list};
+ghost use Rattle.lane_rings.specs.Ends.{offered, hidden_offers, taken, seen_replies, fetched_replies, received_by, seen_deliveries, answered, hidden_answers, answers_among, unanswered};
 ghost use Rattle.lane_rings.specs.Identity.{near_id, far_id};
 ghost use Rattle.lane_rings.specs.Intakes.{ahead, handed};
 ghost use Rattle.lane_rings.specs.Outlets.{put_in};
-ghost use Rattle.lane_rings.specs.Rest.{undelivered, untaken, still_held};
+ghost use Rattle.lane_rings.specs.Rest.{undelivered, untaken, held_in};
 ghost use Rattle.rtrb.specs.Ring.{IsPair, consumer_capacity, producer_capacity};
 
-use crate::batch::Batch;
 use crate::far::Far;
 use crate::intake::Intake;
 use crate::near::Near;
 use crate::outlet::Outlet;
 use crate::rests::Beside;
-use circular_buffer::HeapCircularBuffer;
 use evt_types::{Delivery, Event, Memory, Reply};
 use rtrb::RingBuffer;
 use std::alloc::Global;
+use std::collections::VecDeque;
 
 /// What stands in the places of a batch that nothing is in.
 fn no_delivery() -> Delivery {
@@ -61,7 +60,6 @@ pub fn lane(alloc: Global, depth: usize, replies: usize) -> Result<(Near, Far), 
 {
     let (offers, receipts) = ends_of(alloc, depth, no_delivery())?;
     let (answers, takings) = ends_of(alloc, replies, no_reply())?;
-    let history = HeapCircularBuffer::with_capacity(alloc, depth)?;
     let near = Near {
         deliveries: offers,
         replies: takings,
@@ -69,7 +67,7 @@ pub fn lane(alloc: Global, depth: usize, replies: usize) -> Result<(Near, Far), 
     let far = Far {
         deliveries: receipts,
         replies: answers,
-        history,
+        held: 0,
         extras: 0,
     };
     Ok((near, far))
@@ -83,7 +81,7 @@ pub fn beside(near: Near, far: Far) -> Beside
     ensures untaken { answered far ≡ taken near ++ untaken result }
     ensures room { (length (undelivered result) ≤ (near_id near).depth) × (length (untaken result) ≤ (near_id near).room + max 1 (near_id near).room) }
     ensures fetched { length (untaken result) ≤ (near_id near).room + length (fetched_replies near) }
-    ensures held { still_held result ≡ held_list far }
+    ensures held { held_in result ≡ length (unanswered far) }
     ensures fewer { answers_among (answered far) ≤ length (received_by far) }
     ensures beside { AreBeside (length (received_by far)) (answered far) }
 {
@@ -94,7 +92,7 @@ pub fn beside(near: Near, far: Far) -> Beside
     let Far {
         deliveries: mut receipts,
         replies: mut answers,
-        history,
+        held,
         extras: _,
     } = far;
     // First each producer, which then knows how many slots are free, and so how many items are left.
@@ -104,9 +102,9 @@ pub fn beside(near: Near, far: Far) -> Beside
     takings.ring.slots_beside(&mut answers.ring);
     Beside {
         deliveries: receipts,
-        offered: Batch::of(offers.batch),
+        offered: VecDeque::from(offers.batch),
         replies: takings,
-        answered: Batch::of(answers.batch),
-        held: history,
+        answered: VecDeque::from(answers.batch),
+        held,
     }
 }

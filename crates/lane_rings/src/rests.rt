@@ -1,36 +1,35 @@
 //! What is left in a lane at rest.
 
-use crate::batch::Batch;
 use crate::intake::Intake;
-use circular_buffer::HeapCircularBuffer;
 use evt_types::{Delivery, Reply};
+use std::collections::VecDeque;
 
-/// A lane whose ends are both at hand: the deliveries not received, the replies not taken, and what is held.
+/// A lane whose ends are both at hand: the deliveries not received, the replies not taken, and how many deliveries are held.
 #[derive(Drop)]
 pub struct Beside {
     pub(crate) deliveries: Intake<Delivery>,
-    pub(crate) offered: Batch<Delivery>,
+    pub(crate) offered: VecDeque<Delivery>,
     pub(crate) replies: Intake<Reply>,
-    pub(crate) answered: Batch<Reply>,
-    pub(crate) held: HeapCircularBuffer<(usize, u64)>,
+    pub(crate) answered: VecDeque<Reply>,
+    pub(crate) held: usize,
 }
 
 impl Beside {
     ghost use Rattle.std.specs.Prelude.{◌≡◌, [], ◌∷◌, MatchOption};
-    ghost use Rattle.lane_rings.specs.Rest.{undelivered, untaken, still_held};
+    ghost use Rattle.lane_rings.specs.Rest.{undelivered, untaken, held_in};
 
     /// The oldest delivery that was offered and not received, which leaves; `None` only where none is left.
     pub fn next_undelivered(&mut self) -> Option<Delivery>
         ensures rest { MatchOption result
             ((undelivered self.old ≡ []) × (undelivered self.new ≡ []))
             (λ d. undelivered self.old ≡ d ∷ undelivered self.new) }
-        ensures others { (untaken self.new ≡ untaken self.old) × (still_held self.new ≡ still_held self.old) }
+        ensures others { (untaken self.new ≡ untaken self.old) × (held_in self.new ≡ held_in self.old) }
     {
         let seen = self.deliveries.next_seen();
         if seen.is_some() {
             return seen;
         }
-        self.offered.next()
+        self.offered.pop_front()
     }
 
     /// The oldest reply that was given and not taken, which leaves; `None` only where none is left.
@@ -38,22 +37,19 @@ impl Beside {
         ensures rest { MatchOption result
             ((untaken self.old ≡ []) × (untaken self.new ≡ []))
             (λ r. untaken self.old ≡ r ∷ untaken self.new) }
-        ensures others { (undelivered self.new ≡ undelivered self.old) × (still_held self.new ≡ still_held self.old) }
+        ensures others { (undelivered self.new ≡ undelivered self.old) × (held_in self.new ≡ held_in self.old) }
     {
         let seen = self.replies.next_seen();
         if seen.is_some() {
             return seen;
         }
-        self.answered.next()
+        self.answered.pop_front()
     }
 
-    /// The queue and the number of the oldest delivery that is held, which leaves; `None` only where none is left.
-    pub fn next_held(&mut self) -> Option<(usize, u64)>
-        ensures rest { MatchOption result
-            ((still_held self.old ≡ []) × (still_held self.new ≡ []))
-            (λ k. still_held self.old ≡ k ∷ still_held self.new) }
-        ensures others { (undelivered self.new ≡ undelivered self.old) × (untaken self.new ≡ untaken self.old) }
+    /// How many deliveries were received and not answered.
+    pub fn held(&self) -> usize
+        ensures { result ≡ held_in self.now }
     {
-        self.held.pop_front()
+        self.held
     }
 }

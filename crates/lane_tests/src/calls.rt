@@ -1,54 +1,32 @@
 //! Known values of the calls in one thread.
 ghost use Rattle.std.specs.Prelude.{◌≡◌, ◌<◌, length, IfOk};
 ghost use Rattle.flow_claims.specs.Seats.{HoldsNone};
-ghost use Rattle.flow_claims.specs.Claims.{seating, port_of, lanes_of, IsSeatOf};
+ghost use Rattle.flow_claims.specs.Claims.{seating, lanes_of, IsSeatOf};
+ghost use Rattle.lane_tests.specs.Idle.{IsIdle, StaysIdle};
 
-use crate::made_claims::{claims_of, delivery, ends_for, lane_again, one_lane};
+use crate::made::delivery;
+use crate::made_claims::{claims_of, ends_for, hold_once, lane_again, one_lane};
 use evt_types::Delivery;
 use flow_claims::{Claim, ClaimSeat, Claims};
 use lane_rings::{Far, Memory, Near};
 use std::alloc::Global;
 use std::test::Fail;
 
-/// What a claim found: the lane, the number of the stint, and how much was held; and what another port saw meanwhile.
-type Found = (usize, u64, usize, Option<u64>);
-
-/// Tries to hold the lane, and gives it back where it was free; the word that was seen where it was busy.
-fn busy_word(claims: &Claims, seat: &mut ClaimSeat, lane: usize) -> Option<u64>
-    requires seat { IsSeatOf claims.now seat.old × (port_of seat.old < 254) }
-    requires lane { lane < length (lanes_of claims.now) }
-    requires none { HoldsNone (seating seat.old) }
-    ensures seat { IsSeatOf claims.now seat.new × (port_of seat.new ≡ port_of seat.old) }
-    ensures none { HoldsNone (seating seat.new) }
-    ensures parts { (seating seat.new).parts ≡ (seating seat.old).parts }
-{
-    match claims.claim(seat, lane) {
-        Claim::Busy { seen } => Some(seen),
-        Claim::Held(stint) => {
-            claims.give_back(seat, stint);
-            None
-        }
-        Claim::WornOut
-        | Claim::Raced {
-            first: _,
-            second: _,
-        } => None,
-    }
-}
+/// What a claim found: the lane, the number of the stint, and how much was held; and what came of another port's try meanwhile.
+type Found = (usize, u64, usize, Result<u64, Option<u64>>);
 
 /// Holds lane 0 while the other port tries for it, and gives it back.
 fn hold_against(claims: &Claims, seat: &mut ClaimSeat, other: &mut ClaimSeat) -> Option<Found>
-    requires seat { IsSeatOf claims.now seat.old × (port_of seat.old < 254) × HoldsNone (seating seat.old) }
-    requires other { IsSeatOf claims.now other.old × (port_of other.old < 254) × HoldsNone (seating other.old) }
+    requires seats { IsIdle claims.now seat.old × IsIdle claims.now other.old }
     requires lane { 0 < length (lanes_of claims.now) }
-    ensures seat { IsSeatOf claims.now seat.new × (port_of seat.new ≡ port_of seat.old) × HoldsNone (seating seat.new) }
-    ensures other { IsSeatOf claims.now other.new × (port_of other.new ≡ port_of other.old) × HoldsNone (seating other.new) }
+    ensures seat { StaysIdle claims.now seat.old seat.new }
+    ensures other { StaysIdle claims.now other.old other.new }
 {
     let Claim::Held(stint) = claims.claim(seat, 0) else {
         return None;
     };
-    let seen = busy_word(claims, other, 0);
-    let found = (stint.lane, stint.number, stint.far.held(), seen);
+    let tried = hold_once(claims, other, 0);
+    let found = (stint.lane, stint.number, stint.far.held(), tried);
     claims.give_back(seat, stint);
     Some(found)
 }
@@ -60,19 +38,16 @@ fn two_claimers(rt: HostRuntime) -> Result<(), Fail> {
     let (_seat, mut one) = claims.split(seat, 1).unwrap();
     let first = hold_against(&claims, &mut zero, &mut one);
     let second = hold_against(&claims, &mut one, &mut zero);
-    assert_eq!(rt; first, Some((0, 0, 0, Some(1))));
-    assert_eq!(rt; second, Some((0, 1, 0, Some(258))));
+    assert_eq!(rt; first, Some((0, 0, 0, Err(Some(1)))));
+    assert_eq!(rt; second, Some((0, 1, 0, Err(Some(258)))));
     Ok(())
 }
 
 /// Holds the lane, receives what waits there, and surrenders the lane.
 fn receive_and_surrender(claims: &Claims, seat: &mut ClaimSeat, lane: usize) -> Option<Delivery>
-    requires seat { IsSeatOf claims.now seat.old × (port_of seat.old < 254) }
+    requires seat { IsIdle claims.now seat.old }
     requires lane { lane < length (lanes_of claims.now) }
-    requires none { HoldsNone (seating seat.old) }
-    ensures seat { IsSeatOf claims.now seat.new × (port_of seat.new ≡ port_of seat.old) }
-    ensures none { HoldsNone (seating seat.new) }
-    ensures parts { (seating seat.new).parts ≡ (seating seat.old).parts }
+    ensures { StaysIdle claims.now seat.old seat.new }
 {
     let Claim::Held(mut stint) = claims.claim(seat, lane) else {
         return None;
@@ -101,10 +76,10 @@ fn two_lanes(alloc: Global) -> Result<(Near, Claims, ClaimSeat), Memory>
     Ok((near, claims, seat))
 }
 
-/// How much is held at the end, and which is the oldest.
-fn held_at(end: Option<Far>) -> Option<(usize, Option<(usize, u64)>)> {
+/// How much is held at the end.
+fn held_at(end: Option<Far>) -> Option<usize> {
     let far = end?;
-    Some((far.held(), far.oldest()))
+    Some(far.held())
 }
 
 #[test]
@@ -114,10 +89,10 @@ fn a_surrendered_lane_stays_away(rt: HostRuntime) -> Result<(), Fail> {
     let (seat, mut zero) = claims.split(seat, 0).unwrap();
     let (seat, mut one) = claims.split(seat, 1).unwrap();
     let came = receive_and_surrender(&claims, &mut one, 1);
-    let seen = busy_word(&claims, &mut zero, 1);
+    let tried = hold_once(&claims, &mut zero, 1);
     claims.close(claims.join(claims.join(seat, zero), one), &mut out);
-    assert_eq!(rt; (came, seen), (Some(delivery(5)), Some(511)));
+    assert_eq!(rt; (came, tried), (Some(delivery(5)), Err(Some(511))));
     let held = [held_at(out.pop()), held_at(out.pop()), held_at(out.pop())];
-    assert_eq!(rt; held, [Some((1, Some((0, 5)))), Some((0, None)), None]);
+    assert_eq!(rt; held, [Some(1), Some(0), None]);
     Ok(())
 }

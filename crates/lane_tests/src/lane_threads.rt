@@ -66,11 +66,9 @@ fn hold(far: Far) -> (Far, bool)
                 None => thread::yield_now(),
             }
         }
-        if let Some((_, number)) = far.oldest() {
-            if far.answer(reply(Op::Forward, number)).is_ok() {
-                answered += 1;
-                idle = 0;
-            }
+        if far.held() > 0 && far.answer(reply(Op::Forward, answered)).is_ok() {
+            answered += 1;
+            idle = 0;
         }
     }
     (far, in_order && answered == PASSES)
@@ -92,7 +90,7 @@ fn pass_across<R: Threads + Sync>(rt: &R, near: Near, far: Far) -> bool
     let mut rests = beside(near, far);
     let is_empty = rests.next_undelivered().is_none()
         && rests.next_untaken().is_none()
-        && rests.next_held().is_none();
+        && rests.held() == 0;
     replies_in_order && deliveries_in_order && is_empty
 }
 

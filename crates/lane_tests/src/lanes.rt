@@ -5,7 +5,7 @@ ghost use Rattle.std.specs.Prelude.{◌≡◌, [], IfOk};
 ghost use Rattle.lane_rings.specs.Ends.{offered, taken, seen_replies, received_by, seen_deliveries, answered};
 ghost use Rattle.lane_rings.specs.Identity.{near_id, far_id};
 
-use crate::left::{holds, leaves};
+use crate::left::leaves;
 use crate::made::{delivery, reply};
 use crate::refusals::say;
 use arrayvec::ArrayVec;
@@ -34,8 +34,8 @@ enum Call {
     FlushReplies,
     /// Whether as many deliveries are held as the lane's depth allows.
     IsFull(bool),
-    /// How many deliveries are held, and which of them is the oldest.
-    Holds(usize, Option<u64>),
+    /// How many deliveries are held.
+    Holds(usize),
     /// How many events were added beside the oldest.
     Extras(usize),
 }
@@ -58,7 +58,7 @@ struct Row {
     calls: &'static [Call],
     undelivered: &'static [u64],
     untaken: &'static [(Op, u64)],
-    held: &'static [u64],
+    held: usize,
 }
 
 static ROWS: [Row; 6] = [
@@ -77,7 +77,7 @@ static ROWS: [Row; 6] = [
         ],
         undelivered: &[],
         untaken: &[(Op::Release, 4)],
-        held: &[],
+        held: 0,
     },
     Row {
         name: "what is left",
@@ -101,7 +101,7 @@ static ROWS: [Row; 6] = [
         ],
         undelivered: &[9],
         untaken: &[(Op::Forward, 9)],
-        held: &[1, 2],
+        held: 2,
     },
     Row {
         name: "several refusals",
@@ -109,9 +109,9 @@ static ROWS: [Row; 6] = [
         replies: 1,
         calls: &[
             Call::Answer(Op::Forward, 0, Said::NothingHeld),
-            Call::Holds(0, None),
+            Call::Holds(0),
             Call::Answer(Op::Release, 0, Said::NothingHeld),
-            Call::Holds(0, None),
+            Call::Holds(0),
             Call::Offer(0, true),
             Call::Receive(Some(0)),
             Call::Offer(1, true),
@@ -120,17 +120,17 @@ static ROWS: [Row; 6] = [
             Call::Answer(Op::New, 2, Said::Full),
             Call::Answer(Op::Forward, 3, Said::Full),
             Call::Answer(Op::Release, 4, Said::Full),
-            Call::Holds(2, Some(0)),
+            Call::Holds(2),
             Call::IsFull(true),
             Call::Take(Some((Op::New, 1))),
             Call::Answer(Op::Forward, 5, Said::Given),
             Call::Answer(Op::Release, 6, Said::Full),
-            Call::Holds(1, Some(1)),
+            Call::Holds(1),
             Call::IsFull(false),
         ],
         undelivered: &[],
         untaken: &[(Op::Forward, 5)],
-        held: &[1],
+        held: 1,
     },
     // What is added leaves the oldest held; an answer ends it, and more may be added beside the next.
     Row {
@@ -152,10 +152,10 @@ static ROWS: [Row; 6] = [
             Call::Answer(Op::ForwardMore, 4, Said::Given),
             Call::Answer(Op::ForwardMore, 5, Said::TooMany),
             Call::Extras(4),
-            Call::Holds(2, Some(0)),
+            Call::Holds(2),
             Call::Answer(Op::Forward, 6, Said::Given),
             Call::Extras(0),
-            Call::Holds(1, Some(1)),
+            Call::Holds(1),
             Call::Answer(Op::ForwardMore, 7, Said::Given),
             Call::Answer(Op::ForwardMore, 8, Said::Full),
             Call::Extras(1),
@@ -172,7 +172,7 @@ static ROWS: [Row; 6] = [
             (Op::ForwardMore, 7),
             (Op::New, 9),
         ],
-        held: &[1],
+        held: 1,
     },
     // What is gathered isn't seen before the flush, and takes places of the ring; no more is received than may be held.
     Row {
@@ -192,7 +192,7 @@ static ROWS: [Row; 6] = [
         ],
         undelivered: &[2],
         untaken: &[],
-        held: &[0, 1],
+        held: 2,
     },
     // As many replies as were wanted come out of the ring, leave its places free, and are untaken until they are taken.
     Row {
@@ -215,7 +215,7 @@ static ROWS: [Row; 6] = [
         ],
         undelivered: &[],
         untaken: &[(Op::New, 1), (Op::New, 2), (Op::New, 3), (Op::New, 4)],
-        held: &[],
+        held: 0,
     },
 ];
 
@@ -311,7 +311,7 @@ fn make_far(far: &mut Far, call: Call) -> bool
             true
         }
         Call::IsFull(wanted) => far.is_full() == wanted,
-        Call::Holds(count, oldest) => holds(far, count, oldest),
+        Call::Holds(count) => far.held() == count,
         Call::Extras(count) => far.extras() == count,
         _ => true,
     }

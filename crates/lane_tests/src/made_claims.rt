@@ -1,42 +1,15 @@
-//! Deliveries, lanes and claims for the tests. Lanes, lists and claims are made again where memory was refused, and serve then as ever.
-ghost use Rattle.std.specs.Prelude.{◌≡◌, [], length, vec_len, vec_capacity, All, IfOk};
+//! Lanes and claims for the tests. Lanes, lists and claims are made again where memory was refused, and serve then as ever.
+ghost use Rattle.std.specs.Prelude.{◌≡◌, ◌<◌, [], length, vec_len, vec_capacity, All, IfOk};
 ghost use Rattle.lane_rings.specs.Ends.{offered, taken};
 ghost use Rattle.lane_rings.specs.Identity.{near_id, far_id};
 ghost use Rattle.flow_claims.specs.Laws.{IsUnused};
 ghost use Rattle.flow_claims.specs.Seats.{HoldsNone, first_seating};
 ghost use Rattle.flow_claims.specs.Claims.{seating, lanes_of, IsSeatOf};
+ghost use Rattle.lane_tests.specs.Idle.{IsIdle, StaysIdle};
 
-use evt_types::{Delivery, Event, Op, Reply};
-use flow_claims::{ClaimSeat, Claims, Memory};
+use flow_claims::{Claim, ClaimSeat, Claims, Memory};
 use lane_rings::{Far, Near, lane};
 use std::alloc::Global;
-
-fn event(op: Op, payload: u64) -> Event {
-    Event {
-        flow: 7,
-        sub_type: 0,
-        event_type: 0,
-        op,
-        queue: 0,
-        priority: 128,
-        impl_opaque: 0,
-        payload,
-    }
-}
-
-pub(crate) fn delivery(number: u64) -> Delivery {
-    Delivery {
-        event: event(Op::New, number),
-        queue: 0,
-        number,
-    }
-}
-
-pub(crate) fn release() -> Reply {
-    Reply {
-        event: event(Op::Release, 0),
-    }
-}
 
 /// A lane whose rings have this room.
 pub(crate) fn lane_again(alloc: Global, depth: usize, replies: usize) -> Result<(Near, Far), Memory>
@@ -86,4 +59,29 @@ pub(crate) fn one_lane(alloc: Global) -> Result<(Near, Claims, ClaimSeat), Memor
     ends.push_reserved(far);
     let (claims, seat) = claims_of(alloc, ends)?;
     Ok((near, claims, seat))
+}
+
+/// Tries once to hold the lane, and gives it back: the number of the stint, or the word that was seen where it was busy.
+pub(crate) fn hold_once(
+    claims: &Claims,
+    seat: &mut ClaimSeat,
+    lane: usize,
+) -> Result<u64, Option<u64>>
+    requires seat { IsIdle claims.now seat.old }
+    requires lane { lane < length (lanes_of claims.now) }
+    ensures { StaysIdle claims.now seat.old seat.new }
+{
+    match claims.claim(seat, lane) {
+        Claim::Held(stint) => {
+            let number = stint.number;
+            claims.give_back(seat, stint);
+            Ok(number)
+        }
+        Claim::Busy { seen } => Err(Some(seen)),
+        Claim::WornOut
+        | Claim::Raced {
+            first: _,
+            second: _,
+        } => Err(None),
+    }
 }

@@ -3,7 +3,8 @@
 ghost use Rattle.std.specs.Prelude.{◌≡◌, ◌≤◌, [], length, vec_capacity, All, IfOk};
 ghost use Rattle.flow_claims.specs.Laws.{IsUnused};
 
-use crate::made_claims::{delivery, ends_for, lane_again};
+use crate::made::delivery;
+use crate::made_claims::{ends_for, lane_again};
 use flow_claims::Claims;
 use lane_rings::{Far, Memory};
 use std::alloc::Global;

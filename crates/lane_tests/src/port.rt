@@ -3,8 +3,9 @@ ghost use Rattle.std.specs.Prelude.{◌≡◌, ◌<◌, length};
 ghost use Rattle.flow_claims.specs.Claims.{seating, port_of, lanes_of, IsSeatOf};
 ghost use Rattle.flow_claims.specs.Open.{IsOpen};
 
-use crate::made_claims::{delivery, one_lane, release};
-use evt_types::{Delivery, Reply};
+use crate::made::{delivery, reply};
+use crate::made_claims::one_lane;
+use evt_types::{Delivery, Op, Reply};
 use flow_claims::{Claim, ClaimSeat, Claims, Stint};
 use lane_rings::AnswerFault;
 use std::test::Fail;
@@ -64,7 +65,7 @@ fn serve_once(claims: &Claims, mut seat: ClaimSeat) -> (ClaimSeat, Option<Delive
     };
     let mut port = Port { seat, stint };
     let came = port.receive();
-    let answered = port.answer(release());
+    let answered = port.answer(reply(Op::Release, 0));
     let seat = port.leave(claims);
     if answered == Ok(()) {
         (seat, came)
@@ -98,7 +99,7 @@ fn a_port_keeps_its_stint(rt: HostRuntime) -> Result<(), Fail> {
     assert_eq!(rt; (offered, came), (Ok(()), Some(delivery(5))));
     assert_eq!(rt;
         (near.take(), next_stint(&claims, seat)),
-        (Some(release()), Some((1, 0)))
+        (Some(reply(Op::Release, 0)), Some((1, 0)))
     );
     Ok(())
 }

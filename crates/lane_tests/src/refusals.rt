@@ -3,290 +3,142 @@
 ghost use Rattle.std.specs.Prelude.{◌≡◌};
 ghost use Rattle.lane_rings.specs.Identity.{near_id, far_id};
 
-use crate::left::{holds, leaves};
+use crate::left::leaves;
 use crate::made::{delivery, reply};
 use evt_types::{Op, Reply};
-use lane_rings::{AnswerFault, Far, Near, Refusal, beside, lane};
+use lane_rings::{AnswerFault, Far, Memory, Near, Refusal, beside, lane};
+use std::alloc::Global;
 use std::test::Fail;
 
-/// Why a reply is refused.
+/// A reply that is refused, by its cause, with how many deliveries are held once number 9 was received and the reply was accepted.
 #[derive(Clone, Copy)]
-enum Cause {
-    NothingHeld,
-    TooMany,
-    Full,
+enum Refused {
+    NothingHeld(Op, usize),
+    TooMany(Op, usize),
+    Full(Op, usize),
 }
 
-/// A lane when a reply is refused. Its deliveries are known by their numbers; number 9 is offered and not received.
+/// How many replies the ring has room for, the deliveries that are received, and the replies that are given.
+type Stand = (usize, &'static [u64], &'static [Op]);
+
+/// Where a lane may stand when replies are refused, and which are. Deliveries are known by their numbers; number 9 is offered and not
+/// received.
 #[derive(Clone, Copy)]
 struct Row {
     name: &'static str,
-    /// How many replies the ring has room for.
-    room: usize,
-    received: &'static [u64],
-    given: &'static [Op],
-    held: &'static [u64],
+    stands: &'static [Stand],
+    held: usize,
     /// How many events were added beside the oldest that is held.
     extras: usize,
-    refused: Op,
-    cause: Cause,
-    /// What is held once number 9 was received and the refused reply was accepted.
-    left: &'static [u64],
+    refused: &'static [Refused],
 }
 
 /// How many deliveries may be held.
 const DEPTH: usize = 3;
 
-/// Room for two replies, and nothing added.
-const PLAIN: Row = Row {
-    name: "",
-    room: 2,
-    received: &[],
-    given: &[],
-    held: &[],
-    extras: 0,
-    refused: Op::New,
-    cause: Cause::Full,
-    left: &[],
-};
-
 /// As many events as may be added beside one.
 const FOUR: &[Op] = &[Op::ForwardMore; 4];
 
-static ROWS: [Row; 22] = [
+/// The same beside the second, once one was added beside the first.
+const FOUR_LATER: &[Op] = &[
+    Op::ForwardMore,
+    Op::Release,
+    Op::ForwardMore,
+    Op::ForwardMore,
+    Op::ForwardMore,
+    Op::ForwardMore,
+];
+
+const TWO_HELD: &[Refused] = &[
+    Refused::Full(Op::New, 3),
+    Refused::Full(Op::Forward, 2),
+    Refused::Full(Op::Release, 2),
+    Refused::Full(Op::ForwardMore, 3),
+];
+
+static ROWS: [Row; 7] = [
     Row {
-        name: "forward, nothing received",
-        received: &[],
-        given: &[],
-        held: &[],
-        refused: Op::Forward,
-        cause: Cause::NothingHeld,
-        left: &[],
-        ..PLAIN
-    },
-    Row {
-        name: "release, nothing received",
-        received: &[],
-        given: &[],
-        held: &[],
-        refused: Op::Release,
-        cause: Cause::NothingHeld,
-        left: &[],
-        ..PLAIN
-    },
-    Row {
-        name: "forward, all answered",
-        received: &[0],
-        given: &[Op::Forward],
-        held: &[],
-        refused: Op::Forward,
-        cause: Cause::NothingHeld,
-        left: &[],
-        ..PLAIN
-    },
-    Row {
-        name: "release, all answered",
-        received: &[0],
-        given: &[Op::Release],
-        held: &[],
-        refused: Op::Release,
-        cause: Cause::NothingHeld,
-        left: &[],
-        ..PLAIN
+        name: "nothing held",
+        stands: &[
+            (2, &[], &[]),
+            (2, &[0], &[Op::Forward]),
+            (2, &[0], &[Op::Release]),
+            (3, &[0], &[Op::ForwardMore, Op::Forward]),
+        ],
+        held: 0,
+        extras: 0,
+        refused: &[
+            Refused::NothingHeld(Op::Forward, 0),
+            Refused::NothingHeld(Op::Release, 0),
+            Refused::NothingHeld(Op::ForwardMore, 1),
+        ],
     },
     // Where the ring is full too, that nothing is held is the first cause.
     Row {
-        name: "forward, nothing received and no room",
-        received: &[],
-        given: &[Op::New, Op::New],
-        held: &[],
-        refused: Op::Forward,
-        cause: Cause::NothingHeld,
-        left: &[],
-        ..PLAIN
+        name: "nothing held and no room",
+        stands: &[
+            (2, &[], &[Op::New, Op::New]),
+            (2, &[0, 1], &[Op::Forward, Op::Release]),
+            (2, &[0, 1], &[Op::Release, Op::Forward]),
+        ],
+        held: 0,
+        extras: 0,
+        refused: &[
+            Refused::NothingHeld(Op::Forward, 0),
+            Refused::NothingHeld(Op::Release, 0),
+            Refused::NothingHeld(Op::ForwardMore, 1),
+            Refused::Full(Op::New, 1),
+        ],
     },
     Row {
-        name: "release, all answered and no room",
-        received: &[0, 1],
-        given: &[Op::Forward, Op::Release],
-        held: &[],
-        refused: Op::Release,
-        cause: Cause::NothingHeld,
-        left: &[],
-        ..PLAIN
+        name: "one held and no room",
+        stands: &[
+            (2, &[0], &[Op::New, Op::New]),
+            (2, &[0, 1], &[Op::Forward, Op::New]),
+            (2, &[0, 1], &[Op::New, Op::Release]),
+        ],
+        held: 1,
+        extras: 0,
+        refused: &[
+            Refused::Full(Op::New, 2),
+            Refused::Full(Op::Forward, 1),
+            Refused::Full(Op::Release, 1),
+            Refused::Full(Op::ForwardMore, 2),
+        ],
     },
     Row {
-        name: "new, nothing received and no room",
-        received: &[],
-        given: &[Op::New, Op::New],
-        held: &[],
-        refused: Op::New,
-        cause: Cause::Full,
-        left: &[9],
-        ..PLAIN
+        name: "two held and no room",
+        stands: &[(2, &[0, 1], &[Op::New, Op::New])],
+        held: 2,
+        extras: 0,
+        refused: TWO_HELD,
     },
     Row {
-        name: "new, all answered and no room",
-        received: &[0, 1],
-        given: &[Op::Release, Op::Forward],
-        held: &[],
-        refused: Op::New,
-        cause: Cause::Full,
-        left: &[9],
-        ..PLAIN
-    },
-    Row {
-        name: "new, one held and no room",
-        received: &[0, 1],
-        given: &[Op::Forward, Op::New],
-        held: &[1],
-        refused: Op::New,
-        cause: Cause::Full,
-        left: &[1, 9],
-        ..PLAIN
-    },
-    Row {
-        name: "forward, two held and no room",
-        received: &[0, 1],
-        given: &[Op::New, Op::New],
-        held: &[0, 1],
-        refused: Op::Forward,
-        cause: Cause::Full,
-        left: &[1, 9],
-        ..PLAIN
-    },
-    Row {
-        name: "forward, one held and no room",
-        received: &[0, 1],
-        given: &[Op::New, Op::Release],
-        held: &[1],
-        refused: Op::Forward,
-        cause: Cause::Full,
-        left: &[9],
-        ..PLAIN
-    },
-    Row {
-        name: "release, two held and no room",
-        received: &[0, 1],
-        given: &[Op::New, Op::New],
-        held: &[0, 1],
-        refused: Op::Release,
-        cause: Cause::Full,
-        left: &[1, 9],
-        ..PLAIN
-    },
-    Row {
-        name: "release, one held and no room",
-        received: &[0, 1],
-        given: &[Op::Forward, Op::New],
-        held: &[1],
-        refused: Op::Release,
-        cause: Cause::Full,
-        left: &[9],
-        ..PLAIN
-    },
-    Row {
-        name: "addition, nothing received",
-        received: &[],
-        given: &[],
-        held: &[],
-        refused: Op::ForwardMore,
-        cause: Cause::NothingHeld,
-        left: &[9],
-        ..PLAIN
-    },
-    Row {
-        name: "addition, all answered",
-        received: &[0],
-        given: &[Op::ForwardMore, Op::Forward],
-        held: &[],
-        refused: Op::ForwardMore,
-        cause: Cause::NothingHeld,
-        left: &[9],
-        ..PLAIN
-    },
-    Row {
-        name: "addition, nothing received and no room",
-        received: &[],
-        given: &[Op::New, Op::New],
-        held: &[],
-        refused: Op::ForwardMore,
-        cause: Cause::NothingHeld,
-        left: &[9],
-        ..PLAIN
-    },
-    Row {
-        name: "addition, one held and no room",
-        received: &[0],
-        given: &[Op::New, Op::New],
-        held: &[0],
-        refused: Op::ForwardMore,
-        cause: Cause::Full,
-        left: &[0, 9],
-        ..PLAIN
-    },
-    Row {
-        name: "addition, two added and no room",
-        received: &[0, 1],
-        given: &[Op::ForwardMore, Op::ForwardMore],
-        held: &[0, 1],
+        name: "two added and no room",
+        stands: &[(2, &[0, 1], &[Op::ForwardMore, Op::ForwardMore])],
+        held: 2,
         extras: 2,
-        refused: Op::ForwardMore,
-        cause: Cause::Full,
-        left: &[0, 1, 9],
-        ..PLAIN
+        refused: TWO_HELD,
     },
     Row {
-        name: "release, four added and no room",
-        room: 4,
-        received: &[0],
-        given: FOUR,
-        held: &[0],
+        name: "four added",
+        stands: &[(5, &[0], FOUR)],
+        held: 1,
         extras: 4,
-        refused: Op::Release,
-        cause: Cause::Full,
-        left: &[9],
-    },
-    Row {
-        name: "addition, four added",
-        room: 5,
-        received: &[0],
-        given: FOUR,
-        held: &[0],
-        extras: 4,
-        refused: Op::ForwardMore,
-        cause: Cause::TooMany,
-        left: &[9],
+        refused: &[Refused::TooMany(Op::ForwardMore, 1)],
     },
     // Where the ring is full too, that too many were added is the first cause.
     Row {
-        name: "addition, four added and no room",
-        room: 4,
-        received: &[0],
-        given: FOUR,
-        held: &[0],
+        name: "four added and no room",
+        stands: &[(4, &[0], FOUR), (6, &[0, 1], FOUR_LATER)],
+        held: 1,
         extras: 4,
-        refused: Op::ForwardMore,
-        cause: Cause::TooMany,
-        left: &[9],
-    },
-    Row {
-        name: "addition, four added beside the second and no room",
-        room: 6,
-        received: &[0, 1],
-        given: &[
-            Op::ForwardMore,
-            Op::Release,
-            Op::ForwardMore,
-            Op::ForwardMore,
-            Op::ForwardMore,
-            Op::ForwardMore,
+        refused: &[
+            Refused::TooMany(Op::ForwardMore, 1),
+            Refused::Full(Op::New, 2),
+            Refused::Full(Op::Forward, 1),
+            Refused::Full(Op::Release, 1),
         ],
-        held: &[1],
-        extras: 4,
-        refused: Op::ForwardMore,
-        cause: Cause::TooMany,
-        left: &[9],
     },
 ];
 
@@ -359,97 +211,103 @@ fn turn(near: &mut Near, far: &mut Far, count: u64) -> bool
     true
 }
 
+/// The reply, why it is refused, and how many are held once it was accepted.
+fn parts(refused: Refused) -> (Reply, AnswerFault, usize) {
+    match refused {
+        Refused::NothingHeld(op, left) => (reply(op, 7), AnswerFault::NothingHeld, left),
+        Refused::TooMany(op, left) => (reply(op, 7), AnswerFault::TooMany, left),
+        Refused::Full(op, left) => (reply(op, 7), AnswerFault::Full(reply(op, 7)), left),
+    }
+}
+
 /// Whether as much is held as the row says, with as much added beside the oldest, and what is next in the ring of deliveries is not
 /// received.
 fn stands(far: &Far, row: &Row) -> bool {
-    holds(far, row.held.len(), row.held.first().copied())
-        && far.extras() == row.extras
-        && !far.is_full()
+    far.held() == row.held && far.extras() == row.extras && !far.is_full()
 }
 
-/// Whether the row's reply is refused for its cause, and what is held is the same before and after.
-fn refuses(far: &mut Far, row: &Row, gathers: bool) -> bool
+/// Whether the reply is refused for its cause, and what is held is the same before and after.
+fn refuses(far: &mut Far, row: &Row, refused: Refused, gathers: bool) -> bool
     ensures { far_id far.new ≡ far_id far.old }
 {
-    let refused = reply(row.refused, 7);
-    let cause = match row.cause {
-        Cause::NothingHeld => AnswerFault::NothingHeld,
-        Cause::TooMany => AnswerFault::TooMany,
-        Cause::Full => AnswerFault::Full(refused),
-    };
-    stands(far, row) && say(far, refused, gathers) == Err(cause) && stands(far, row)
+    let (reply, cause, _) = parts(refused);
+    stands(far, row) && say(far, reply, gathers) == Err(cause) && stands(far, row)
 }
 
 /// Where no more may be added beside the oldest that is held, that is released; whether the release is taken.
-fn makes_way(near: &mut Near, far: &mut Far, row: &Row) -> bool
+fn makes_way(near: &mut Near, far: &mut Far, refused: Refused) -> bool
     ensures near { near_id near.new ≡ near_id near.old }
     ensures far { far_id far.new ≡ far_id far.old }
 {
-    match row.cause {
-        Cause::TooMany => {
+    match refused {
+        Refused::TooMany(_, _) => {
             let answered = far.answer(reply(Op::Release, 6));
             answered == Ok(()) && far.extras() == 0 && near.take() == Some(reply(Op::Release, 6))
         }
-        Cause::NothingHeld | Cause::Full => true,
+        Refused::NothingHeld(_, _) | Refused::Full(_, _) => true,
     }
 }
 
 /// Whether number 9 is received now, and the reply that was refused is accepted and is all that is taken.
-fn goes_on(near: &mut Near, far: &mut Far, row: &Row) -> bool
+fn goes_on(near: &mut Near, far: &mut Far, refused: Refused) -> bool
     ensures near { near_id near.new ≡ near_id near.old }
     ensures far { far_id far.new ≡ far_id far.old }
 {
-    if far.is_full() || far.receive() != Some(delivery(9)) || !makes_way(near, far, row) {
+    if far.is_full() || far.receive() != Some(delivery(9)) || !makes_way(near, far, refused) {
         return false;
     }
-    let answered = far.answer(reply(row.refused, 7));
-    answered == Ok(()) && near.take() == Some(reply(row.refused, 7)) && near.take() == None
+    let (reply, _, _) = parts(refused);
+    far.answer(reply) == Ok(()) && near.take() == Some(reply) && near.take() == None
 }
 
-/// Brings a lane to where the row's reply is refused; whether all came there.
-fn comes(near: &mut Near, far: &mut Far, row: &Row, turns: u64, gathers: bool) -> bool
+/// Brings a lane to where replies are refused; whether all came there.
+fn comes(near: &mut Near, far: &mut Far, stand: Stand, turns: u64, gathers: bool) -> bool
     ensures near { near_id near.new ≡ near_id near.old }
     ensures far { far_id far.new ≡ far_id far.old }
 {
+    let (_, received, given) = stand;
     turn(near, far, turns)
-        && deliver(near, far, row.received)
-        && give(far, row.given, gathers)
+        && deliver(near, far, received)
+        && give(far, given, gathers)
         && near.offer(delivery(9)) == Ok(())
 }
 
-/// Whether the row's reply is refused where the lane is now, what was given before it is taken, and the lane goes on.
-fn refuses_once(near: &mut Near, far: &mut Far, row: &Row, gathers: bool) -> bool
-    ensures near { near_id near.new ≡ near_id near.old }
-    ensures far { far_id far.new ≡ far_id far.old }
+/// Brings a lane there, after so many turns and with replies gathered or not, has the reply refused, takes what was given before it, and goes on; whether all is as the
+/// row says.
+fn plays(ends: (Near, Far), row: &Row, stand: Stand, refused: Refused, way: (u64, bool)) -> bool
+    requires { near_id ends.0 ≡ far_id ends.1 }
 {
-    let is_refused = refuses(far, row, gathers);
+    let (mut near, mut far) = ends;
+    let (turns, gathers) = way;
+    let is_there = comes(&mut near, &mut far, stand, turns, gathers);
+    let is_refused = refuses(&mut far, row, refused, gathers);
     far.flush();
-    is_refused && take(near, row.given) && goes_on(near, far, row)
-}
-
-/// Brings a lane to where the row's reply is refused, has it refused, and goes on; whether all is as the row says.
-fn plays(near: Near, far: Far, row: &Row, turns: u64, gathers: bool) -> bool
-    requires { near_id near ≡ far_id far }
-{
-    let (mut near, mut far) = (near, far);
-    let is_there = comes(&mut near, &mut far, row, turns, gathers);
-    let is_same = refuses_once(&mut near, &mut far, row, gathers);
+    let is_next = take(&mut near, stand.2) && goes_on(&mut near, &mut far, refused);
     let mut rests = beside(near, far);
-    is_there && is_same && leaves(&mut rests, &[], &[], row.left)
+    is_there && is_refused && is_next && leaves(&mut rests, &[], &[], parts(refused).2)
 }
 
-/// The rows, over the places at which a ring begins, and with what was given in the ring, or gathered.
+/// The same over the places at which a ring begins, and with what was given in the ring, or gathered.
+fn plays_each(alloc: Global, row: &Row, stand: Stand, refused: Refused) -> Result<bool, Memory> {
+    for turns in 0..4 {
+        for gathers in [false, true] {
+            let ends = lane(alloc, DEPTH, stand.0)?;
+            if !plays(ends, row, stand, refused, (turns, gathers)) {
+                return Ok(false);
+            }
+        }
+    }
+    Ok(true)
+}
+
 #[test]
 fn a_refused_reply_changes_nothing(rt: HostRuntime) -> Result<(), Fail> {
     for row in &ROWS {
-        for turns in 0..4 {
-            for gathers in [false, true] {
-                let (near, far) = lane(rt.alloc(), DEPTH, row.room)?;
-                let name = row.name;
-                assert!(rt;
-                    plays(near, far, row, turns, gathers),
-                    "{name}, {turns} turns, {gathers}"
-                );
+        for stand in row.stands {
+            for refused in row.refused {
+                let is_so = plays_each(rt.alloc(), row, *stand, *refused)?;
+                let (name, given) = (row.name, stand.2.len());
+                assert!(rt; is_so, "{name}, {given} given");
             }
         }
     }

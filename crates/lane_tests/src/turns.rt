@@ -1,11 +1,12 @@
 //! Four threads that claim and give back at once.
-ghost use Rattle.std.specs.Prelude.{◌≡◌, ◌+◌, ◌<◌, ◌≤◌, length, All, IfOk};
+ghost use Rattle.std.specs.Prelude.{◌≡◌, ◌+◌, ◌<◌, length, All, IfOk};
 ghost use Rattle.flow_claims.specs.Laws.{IsUnused};
 ghost use Rattle.flow_claims.specs.Seats.{HoldsNone};
 ghost use Rattle.flow_claims.specs.Claims.{seating, port_of, lanes_of, IsSeatOf};
+ghost use Rattle.lane_tests.specs.Idle.{IsIdle, StaysIdle};
 
-use crate::made_claims::claims_of;
-use flow_claims::{Claim, ClaimSeat, Claims, Memory};
+use crate::made_claims::{claims_of, hold_once};
+use flow_claims::{ClaimSeat, Claims, Memory};
 use lane_rings::{Far, lane};
 use std::alloc::Global;
 use std::test::Fail;
@@ -19,41 +20,14 @@ const TURNS: u32 = 25_000;
 /// How often a thread tries for one lane, while others hold it, before it gives up and the test fails.
 const PATIENCE: u32 = 10_000_000;
 
-/// Tries once to hold the lane, and gives it back; the stint's number, where it was held.
-fn hold_once(claims: &Claims, seat: &mut ClaimSeat, lane: usize) -> Option<u64>
-    requires seat { IsSeatOf claims.now seat.old × (port_of seat.old < 254) }
-    requires lane { lane < length (lanes_of claims.now) }
-    requires none { HoldsNone (seating seat.old) }
-    ensures seat { IsSeatOf claims.now seat.new × (port_of seat.new ≡ port_of seat.old) }
-    ensures none { HoldsNone (seating seat.new) }
-    ensures parts { (seating seat.new).parts ≡ (seating seat.old).parts }
-{
-    match claims.claim(seat, lane) {
-        Claim::Held(stint) => {
-            let number = stint.number;
-            claims.give_back(seat, stint);
-            Some(number)
-        }
-        Claim::WornOut
-        | Claim::Busy { seen: _ }
-        | Claim::Raced {
-            first: _,
-            second: _,
-        } => None,
-    }
-}
-
 /// Tries as long as others hold the lane; whether it held the lane before it gave up.
 fn hold_soon(claims: &Claims, seat: &mut ClaimSeat, lane: usize) -> bool
-    requires seat { IsSeatOf claims.now seat.old × (port_of seat.old < 254) }
+    requires seat { IsIdle claims.now seat.old }
     requires lane { lane < length (lanes_of claims.now) }
-    requires none { HoldsNone (seating seat.old) }
-    ensures seat { IsSeatOf claims.now seat.new × (port_of seat.new ≡ port_of seat.old) }
-    ensures none { HoldsNone (seating seat.new) }
-    ensures parts { (seating seat.new).parts ≡ (seating seat.old).parts }
+    ensures { StaysIdle claims.now seat.old seat.new }
 {
     for _ in 0..PATIENCE {
-        if hold_once(claims, seat, lane).is_some() {
+        if hold_once(claims, seat, lane).is_ok() {
             return true;
         }
         yield_now();
@@ -63,12 +37,9 @@ fn hold_soon(claims: &Claims, seat: &mut ClaimSeat, lane: usize) -> bool
 
 /// Holds the lanes in turn, and gives them back; how often one was held. It stops where it gave up at one.
 fn take_turns(claims: &Claims, seat: ClaimSeat) -> (ClaimSeat, u64)
-    requires seat { IsSeatOf claims.now seat × (port_of seat < 254) }
+    requires seat { IsIdle claims.now seat }
     requires lanes { length (lanes_of claims.now) ≡ 8 }
-    requires none { HoldsNone (seating seat) }
-    ensures seat { IsSeatOf claims.now result.0 × (port_of result.0 ≡ port_of seat) }
-    ensures none { HoldsNone (seating result.0) }
-    ensures parts { (seating result.0).parts ≡ (seating seat).parts }
+    ensures { StaysIdle claims.now seat result.0 }
 {
     let mut seat = seat;
     let mut held = 0u64;
@@ -87,8 +58,8 @@ fn take_turns_by_two<R: Threads + Sync>(
     a: ClaimSeat,
     b: ClaimSeat,
 ) -> (ClaimSeat, u64)
-    requires first { IsSeatOf claims.now a × (port_of a < 254) × HoldsNone (seating a) }
-    requires second { IsSeatOf claims.now b × (port_of b < 254) × HoldsNone (seating b) }
+    requires first { IsIdle claims.now a }
+    requires second { IsIdle claims.now b }
     requires lanes { length (lanes_of claims.now) ≡ 8 }
     ensures seat { IsSeatOf claims.now result.0 × (port_of result.0 ≡ port_of a) }
     ensures none { HoldsNone (seating result.0) }
@@ -104,17 +75,14 @@ fn take_turns_by_two<R: Threads + Sync>(
 
 /// How many stints the lanes have had, by the numbers of one more of each; none where a lane isn't free.
 fn count_stints(claims: &Claims, seat: ClaimSeat) -> (ClaimSeat, Option<u64>)
-    requires seat { IsSeatOf claims.now seat × (port_of seat < 254) }
+    requires seat { IsIdle claims.now seat }
     requires lanes { length (lanes_of claims.now) ≡ 8 }
-    requires none { HoldsNone (seating seat) }
-    ensures seat { IsSeatOf claims.now result.0 × (port_of result.0 ≡ port_of seat) }
-    ensures none { HoldsNone (seating result.0) }
-    ensures parts { (seating result.0).parts ≡ (seating seat).parts }
+    ensures { StaysIdle claims.now seat result.0 }
 {
     let mut seat = seat;
     let mut count = 0u64;
     for lane in 0..LANES {
-        let Some(number) = hold_once(claims, &mut seat, lane) else {
+        let Ok(number) = hold_once(claims, &mut seat, lane) else {
             return (seat, None);
         };
         count = count.wrapping_add(number);

@@ -41,18 +41,12 @@ push_reserved-requires c =
 
 pub returns-clause-received : goal.returns-clause-received
 returns-clause-received c f =
-    let was = c.loop-lane.invariant in
-    let lanes : List Far = lanes_of c.args.self.now in
-    let Exist : List Far → Type 0 = λ ls. All (λ p. p.lane < length ls) (seating c.args.seat).finished in
-    let exist : Exist lanes = subst Exist c.requires.seat.1 c.args.seat.lanes_exist in
-    ends_weigh (λ p. sum_by f (received_in p)) (λ far. sum_by f (received_by far)) (seating c.args.seat).finished (length lanes) c.loop-lane.into.items exist
-    (all_out lanes c.loop-lane.into.items c.loop-lane.lane was.6 (search rules)) (λ i far e. (was.7 i far e).received f)
+    let exist = subst (λ ls. All (λ p. p.lane < length ls) (seating c.args.seat).finished) c.requires.seat.1 c.args.seat.lanes_exist in
+    ends_weigh (λ p. sum_by f (received_in p)) (λ far. sum_by f (received_by far)) (seating c.args.seat).finished (length (lanes_of c.args.self.now)) c.loop-lane.into.items exist
+    (all_out (lanes_of c.args.self.now) c.loop-lane.into.items c.loop-lane.lane c.loop-lane.invariant.6 (search rules)) (λ i far e. (c.loop-lane.invariant.7 i far e).received f)
 
 pub returns-clause-answered : goal.returns-clause-answered
 returns-clause-answered c f =
-    let was = c.loop-lane.invariant in
-    let lanes : List Far = lanes_of c.args.self.now in
-    let Exist : List Far → Type 0 = λ ls. All (λ p. p.lane < length ls) (seating c.args.seat).finished in
-    let exist : Exist lanes = subst Exist c.requires.seat.1 c.args.seat.lanes_exist in
-    ends_weigh (λ p. sum_by f (answered_in p)) (λ far. sum_by f (answered far)) (seating c.args.seat).finished (length lanes) c.loop-lane.into.items exist
-    (all_out lanes c.loop-lane.into.items c.loop-lane.lane was.6 (search rules)) (λ i far e. (was.7 i far e).answered f)
+    let exist = subst (λ ls. All (λ p. p.lane < length ls) (seating c.args.seat).finished) c.requires.seat.1 c.args.seat.lanes_exist in
+    ends_weigh (λ p. sum_by f (answered_in p)) (λ far. sum_by f (answered far)) (seating c.args.seat).finished (length (lanes_of c.args.self.now)) c.loop-lane.into.items exist
+    (all_out (lanes_of c.args.self.now) c.loop-lane.into.items c.loop-lane.lane c.loop-lane.invariant.6 (search rules)) (λ i far e. (c.loop-lane.invariant.7 i far e).answered f)

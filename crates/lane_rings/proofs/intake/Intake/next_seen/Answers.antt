@@ -1,8 +1,0 @@
-use Rattle.rtrb.specs.Ring.{received}
-use Rattle.lane_rings.specs.Batches.{inside}
-use Rattle.lane_rings.proofs.Handing.{still-last}
-use Rattle.lane_rings.proofs.intake.Intake.next_seen.Goals as goal
-
-pub invariant_of-self-clause-last : goal.invariant_of-self-clause-last
-invariant_of-self-clause-last g c =
-    still-last (received c.args.self.now.ring) (inside c.args.self.now.batch) (inside c.next-first.new.self) c.next-first.result c.args.self.now.last c.next-first.ensures.inside

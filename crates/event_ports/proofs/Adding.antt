@@ -1,22 +1,24 @@
 -- An event is added beside the oldest that is held, which came from a flow lane, or it is refused: nothing that is held changes.
-use Rattle.std.proofs.Common.{◌≡◌, ◌≢◌, ℕ, ◌<◌, true, List, length, map, Result, Ok, Err, MatchResult, sym, ap, ◌∙◌}
+use Rattle.std.proofs.Common.{◌≡◌, ◌≢◌, ℕ, ◌+◌, ◌<◌, Bool, true, List, [], ◌∷◌, ◌++◌, length, map, Result, Ok, Err, MatchResult, refl, sym, ap, ◌∙◌}
 use Rattle.std.specs.Option.{is_some}
 use Rattle.evt_types.specs.Event.{pair_of}
 use Rattle.evt_types.specs.Operation.{is_more_reply, is_new_reply, is_release_reply}
 use Rattle.evt_types.specs.declared.event.Reply.{Reply}
+use Rattle.lists.specs.Counts.{count}
 use Rattle.flow_claims.specs.Claims.{lanes_of}
 use Rattle.lane_rings.specs.Ends.{answered}
 use Rattle.lane_rings.specs.declared.far.Far.{Far}
 use Rattle.event_ports.specs.declared.lane.Holding.{Holding}
 use Rattle.event_ports.specs.declared.lane.Lane.{Lane}
 use Rattle.event_ports.specs.declared.lane.Lane.TheVariants.{Own, Flow}
-use Rattle.event_ports.specs.Holds.{AddedAll, GaveBack, Hands, HaveNoNew, Same, Says, held_on, stint_in}
+use Rattle.event_ports.specs.Holds.{AddedAll, GaveBack, Hands, HaveNoNew, Same, Says, answered_on, held_on, stint_in}
+use Rattle.event_ports.specs.declared.flows.FlowLanes.{FlowLanes}
 use Rattle.event_ports.specs.declared.lanes.Lanes.{Lanes}
 use Rattle.event_ports.specs.Flows.{FlowSite, flow_site, hands_of}
 use Rattle.event_ports.specs.Handed.{CountsNone, CountsOne, flow_count, hand_of, lanes_site}
-use Rattle.event_ports.specs.Lanes.{AreOrdered, held_of, open_on, pair_in}
+use Rattle.event_ports.specs.Lanes.{AreOrdered, counted, held_of, open_on, pair_in}
 use Rattle.event_ports.proofs.Calls.{AreIdle, gave_back, held_added, more_needs, says_no_new, same_no_new}
-use Rattle.event_ports.proofs.Submitted.{counts_none, counts_one}
+use Rattle.event_ports.proofs.Submitted.{IsThere, counts_none, counts_one}
 use Rattle.event_ports.proofs.Extras.{added_said, added_same}
 use Rattle.event_ports.proofs.Orders.{each_lane}
 
@@ -45,32 +47,38 @@ module _ {E : Type 0} (h k : Hands) (lane : ℕ) (r : Reply) (result : Result (U
   pub idle_still : ((j : ℕ) → is_some (stint_in k j) ≡ is_some (stint_in h j)) → AreIdle h → AreIdle k
   idle_still entries idle j none = entries j ∙ idle j (sym (held_still j) ∙ none)
 
--- what it counts
+-- one reply more was submitted to the lane, and none to another
+pub counts_said : (a b : Lanes) (lane : Lane) (r : Reply) → flow_site b.flows ≡ flow_site a.flows → IsThere (flow_count (lanes_site a)) lane
+    → (hand_of b).said lane ≡ (hand_of a).said lane ++ r ∷ [] → ((l : Lane) → l ≢ lane → (hand_of b).said l ≡ (hand_of a).said l) → CountsOne r a b
+counts_said a b lane r site there here others =
+    let one : (P : Reply → Bool) → counted P (flow_count (lanes_site b)) (hand_of b).said ≡ counted P (flow_count (lanes_site a)) (hand_of a).said + count (P r) =
+    λ P. counts_one P (flow_count (lanes_site a)) (flow_count (lanes_site b)) (hand_of a).said (hand_of b).said lane r (ap (λ (p : FlowSite). length (lanes_of p.claims)) site) there here others in
+    record { news = one is_new_reply; mores = one is_more_reply; releases = one is_release_reply }
+
+-- or none to any
+pub counts_same : (a b : Lanes) → flow_site b.flows ≡ flow_site a.flows → ((l : Lane) → (hand_of b).said l ≡ (hand_of a).said l) → CountsNone a b
+counts_same a b site same =
+    let none : (P : Reply → Bool) → counted P (flow_count (lanes_site b)) (hand_of b).said ≡ counted P (flow_count (lanes_site a)) (hand_of a).said =
+    λ P. counts_none P (flow_count (lanes_site a)) (flow_count (lanes_site b)) (hand_of a).said (hand_of b).said (ap (λ (p : FlowSite). length (lanes_of p.claims)) site) same in
+    record { news = none is_new_reply; mores = none is_more_reply; releases = none is_release_reply }
+
+pub counts_then : (a b c : Lanes) → CountsNone b c → CountsNone a b → CountsNone a c
+counts_then a b c later first = record { news = later.news ∙ first.news; mores = later.mores ∙ first.mores; releases = later.releases ∙ first.releases }
+
+-- what a reply to a flow lane counts
 pub counts_flow : {E : Type 0} (a b : Lanes) (lane : ℕ) (r : Reply) (result : Result (Unit {0}) E) → b.own ≡ a.own → flow_site b.flows ≡ flow_site a.flows → lane < flow_count (lanes_site a)
     → MatchResult result (λ _. Says lane r (hands_of a.flows) (hands_of b.flows)) (λ _. Same (hands_of a.flows) (hands_of b.flows))
     → MatchResult result (λ _. CountsOne r a b) (λ _. CountsNone a b)
 counts_flow a b lane r (Ok _) own site there says =
-    let before = (hand_of a).said in
-    let after = (hand_of b).said in
-    let n = flow_count (lanes_site a) in
-    let m = flow_count (lanes_site b) in
-    let e : m ≡ n = ap (λ (p : FlowSite). length (lanes_of p.claims)) site in
-    let others : (l : Lane) → l ≢ Flow lane → after l ≡ before l =
-    each_lane (λ l. l ≢ Flow lane → after l ≡ before l) (λ ne. ap answered own) (λ j ne. says.others.answered_is j (λ h. ne (ap Flow h))) in
-    record {
-      news = counts_one is_new_reply n m before after (Flow lane) r e there says.answered_is others;
-      mores = counts_one is_more_reply n m before after (Flow lane) r e there says.answered_is others;
-      releases = counts_one is_release_reply n m before after (Flow lane) r e there says.answered_is others;
-    }
-counts_flow a b lane r (Err _) own site there same =
-    let before = (hand_of a).said in
-    let after = (hand_of b).said in
-    let n = flow_count (lanes_site a) in
-    let m = flow_count (lanes_site b) in
-    let e : m ≡ n = ap (λ (p : FlowSite). length (lanes_of p.claims)) site in
-    let still : (l : Lane) → after l ≡ before l = each_lane (λ l. after l ≡ before l) (ap answered own) same.answered_is in
-    record {
-      news = counts_none is_new_reply n m before after e still;
-      mores = counts_none is_more_reply n m before after e still;
-      releases = counts_none is_release_reply n m before after e still;
-    }
+    counts_said a b (Flow lane) r site there says.answered_is
+    (each_lane (λ l. l ≢ Flow lane → (hand_of b).said l ≡ (hand_of a).said l) (λ ne. ap answered own) (λ j ne. says.others.answered_is j (λ h. ne (ap Flow h))))
+counts_flow a b lane r (Err _) own site there same = counts_same a b site (each_lane (λ l. (hand_of b).said l ≡ (hand_of a).said l) (ap answered own) same.answered_is)
+
+-- and one to the port's own lane
+pub counts_own : {E : Type 0} (a b : Lanes) (r : Reply) (result : Result (Unit {0}) E) → b.flows ≡ a.flows
+    → MatchResult result (λ _. answered b.own ≡ answered a.own ++ r ∷ []) (λ _. answered b.own ≡ answered a.own) → MatchResult result (λ _. CountsOne r a b) (λ _. CountsNone a b)
+counts_own a b r (Ok _) flows said =
+    counts_said a b Own r (ap flow_site flows) tt said
+    (each_lane (λ l. l ≢ Own → (hand_of b).said l ≡ (hand_of a).said l) (λ ne. absurd (ne refl)) (λ j ne. ap (λ (f : FlowLanes). answered_on (hands_of f) j) flows))
+counts_own a b r (Err _) flows said =
+    counts_same a b (ap flow_site flows) (each_lane (λ l. (hand_of b).said l ≡ (hand_of a).said l) said (λ j. ap (λ (f : FlowLanes). answered_on (hands_of f) j) flows))

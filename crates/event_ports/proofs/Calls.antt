@@ -127,6 +127,12 @@ gets_no_answer h k lane ds gets j =
     let At : ℕ → Type 0 = λ i. answered_on k i ≡ answered_on h i in
     dite (ℕ_discrete j lane) (λ e. subst At (sym e) gets.answered_is) (λ ne. gets.others.answered_is j ne)
 
+-- and an answer receives nothing
+pub says_received : (h k : Hands) (lane : ℕ) (r : Reply) → Says lane r h k → (j : ℕ) → received_on k j ≡ received_on h j
+says_received h k lane r says j =
+    let At : ℕ → Type 0 = λ i. received_on k i ≡ received_on h i in
+    dite (ℕ_discrete j lane) (λ e. subst At (sym e) says.received) (λ ne. says.others.received j ne)
+
 -- the lanes that were held before were given back
 pub gave_back : (h k : Hands) → NoneSurrendered h k → GaveBack h → GaveBack k
 gave_back h k none before j = none j ∙ before j

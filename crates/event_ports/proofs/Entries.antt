@@ -137,6 +137,15 @@ all_same lane h k others received answered held extras given_back =
       given_back = given_back;
     }
 
+-- what holds of the entry that changes, and of each that stays, holds of all
+pub at_each : (Q : Option Stint → Option Stint → Type 0) (ss : Stints) (lane : ℕ) (o : Option Stint) → lane < length ss → Q (entry_at ss lane) o → ((p : Option Stint) → Q p p)
+    → (j : ℕ) → Q (entry_at ss j) (entry_at (set ss lane o) j)
+at_each Q ss lane o lt here same j =
+    let At : ℕ → Type 0 = λ i. Q (entry_at ss i) (entry_at (set ss lane o) i) in
+    dite (ℕ_discrete j lane)
+    (λ e. subst At (sym e) (subst (Q (entry_at ss lane)) (sym (get_or-set_same ss lane o None lt)) here))
+    (λ ne. subst (Q (entry_at ss j)) (sym (get_or-set_other ss lane j o None ne)) (same (entry_at ss j)))
+
 -- where no port holds a lane, there is nothing at its entry
 pub nothing_there : (o : Option Stint) → is_some o ≡ false → o ≡ None
 nothing_there None e = refl

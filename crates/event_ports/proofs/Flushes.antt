@@ -8,15 +8,14 @@ use Rattle.credit_pool.specs.declared.account.Account.{Account}
 use Rattle.credit_pool.specs.declared.answer.Draw.{Draw}
 use Rattle.credit_pool.specs.declared.answer.Draw.TheVariants as draws
 use Rattle.credit_pool.specs.Accounts.{free_of, in_use, IsOpen, IsShut, Stays}
-use Rattle.event_answers.specs.declared.answer.Behind.{Behind}
 use Rattle.event_answers.specs.declared.answer.Refused.{Refused}
 use Rattle.event_answers.specs.declared.answer.Refused.TheVariants.{Stopped, BadQueue, NothingHeld, Backpressure, Raced, Full, TooMany}
 use Rattle.event_ports.specs.declared.desk.Desk.{Desk}
 use Rattle.event_ports.specs.declared.lanes.Lanes.{Lanes}
 use Rattle.event_ports.specs.Draws.{FillsWithin, HasAsked, HasCredits, HasDrawn, HasLooked, SameSums, Settles, most_draws}
 use Rattle.event_ports.specs.Handed.{LanesSite, lanes_site, hand_of, flow_count}
-use Rattle.event_ports.specs.Lanes.{Hand, Releases, Rests, SubmitsTo, counted, lane_for, reply_of}
-use Rattle.event_ports.specs.Desks.{account_of, pocket_of, own_site, hand, was_filled, AsksPool, Bursts, DrawsPool, EndsWith, Gathers, GathersUpTo, IsFlushed, MaySpend, MaySpendMore, Pays, Refuses, StopsAt, SameCredits, Stocks}
+use Rattle.event_ports.specs.Lanes.{Hand, Rests, SubmitsTo, counted, lane_for, reply_of}
+use Rattle.event_ports.specs.Desks.{account_of, pocket_of, own_site, hand, AsksPool, Bursts, DrawsPool, EndsWith, Gathers, GathersUpTo, IsFlushed, MaySpend, MaySpendMore, Pays, Refuses, StopsAt, SameCredits, Stocks}
 
 -- a count of replies is one of what was said
 pub same_count : (P : Reply → Bool) (a b : Lanes) → lanes_site b ≡ lanes_site a → hand_of b ≡ hand_of a
@@ -170,11 +169,3 @@ module _ (q r : Desk) (f : IsFlushed q r) where
 
   pub bursts_then : (p : Desk) (events : List Event) (n : ℕ) (x : Option Refused) → Gathers p events n x q → Bursts p events n x r
   bursts_then p events n x g = record { between = g.between; taken = g.taken; ends = gathered_ends g.between events n x g.ends }
-
-  -- a release that fell behind
-  pub still_behind : (most : ℕ) (h : Hand) (come : ℕ → ℕ) (result : Result (Unit {0}) Behind)
-      → IfErr result (λ b. (b.released < most) × Releases b.released h (hand q) × was_filled q ops.Release × (pocket_of q ≡ come b.released))
-      → IfErr result (λ b. (b.released < most) × Releases b.released h (hand r) × was_filled r ops.Release × (pocket_of r ≡ come b.released))
-  still_behind most h come (Ok _) behind = behind
-  still_behind most h come (Err b) behind =
-      (behind.0, subst (λ (k : Hand). Releases b.released h k) (sym f.hands) behind.1, f.filled ops.Release behind.2, f.pocket ∙ behind.3)

@@ -1,5 +1,5 @@
 -- Deliveries that came into an array behind others are noted in their order.
-use Rattle.std.proofs.Common.{◌≡◌, ℕ, ◌+◌, ◌≤◌, List, ◌++◌, length, map, drop, ap, ◌∙◌, arith}
+use Rattle.std.proofs.Common.{◌≡◌, ℕ, ◌+◌, ◌-◌, ◌≤◌, min, List, [], ◌++◌, length, map, drop, ap, ◌∙◌, arith}
 use Rattle.std.proofs.Math.Seq.{drop-append_seam}
 use Rattle.std.proofs.lemmas.List.{length-append}
 use Rattle.evt_types.specs.declared.event.Delivery.{Delivery}
@@ -20,3 +20,9 @@ pub note_fits : (most depth : ℕ) (holding : List Holding) (old new came : List
     → (before : List Holding) (capacity from : ℕ) → before ≡ holding → capacity ≡ depth → from ≡ length old → length before + length (drop from new) ≤ capacity
 note_fits most depth holding old new came room array few before capacity from same depth_is is =
     omega (arith, room.held, few, ap length array, length-append old came, ap length same, depth_is, ap length (behind from old new came array is))
+
+-- how many may be received at first
+pub room_first : (max most free depth : ℕ) (holding : List Holding) (into : List Delivery) → most ≡ min max free → free ≡ depth - length holding → length holding ≤ depth → depth ≤ 64 → into ≡ []
+    → HasRoomFor most depth holding into
+room_first max most free depth holding into is free_is within small none =
+    record { few = omega (arith, ap length none); small = omega (arith, is, free_is, small); held = omega (arith, is, free_is, within, ap length none) }

@@ -45,7 +45,13 @@ refused_own own far h xs r Full answers refused some first lane same =
     let filled : (far_id own).room ≤ length (answered own) = omega (arith, refused.1, ap (λ (i : LaneId). i.room) lane, ap length same) in
     (some_first xs Own first, subst (IsFilledAt own h) (sym first) filled)
 
--- where something is held, and what is added is one of few, only a full ring refuses
+-- where something is held, only a full ring refuses an answer to the oldest
+pub filled_first : (own : Far) (h : Hands) (xs : List Holding) (refusal : Refusal) → xs ≢ [] → RefusesFirst own h xs refusal → IsFilledAt own h (first_lane xs)
+filled_first own h xs NothingHeld some none = absurd (some none)
+filled_first own h xs TooMany some refuses = absurd refuses
+filled_first own h xs Full some refuses = refuses.1
+
+-- and what is added, where it is one of few
 pub full_alone : (far after : Far) (r : Reply) (refusal : Refusal) → RefusesReply far r refusal → unanswered far ≢ [] → (is_more_reply r ≡ true → extras_of (answered far) < MAX_EXTRAS)
     → far_id after ≡ far_id far → answered after ≡ answered far → (refusal ≡ Full) × ((far_id after).room ≤ length (answered after))
 full_alone far after r NothingHeld refused some few lane same = absurd (some refused.1)

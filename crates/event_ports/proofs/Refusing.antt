@@ -16,7 +16,7 @@ use Rattle.credit_pool.specs.declared.answer.Draw.{Draw}
 use Rattle.credit_pool.specs.declared.answer.Draw.TheVariants as draws
 use Rattle.credit_pool.specs.Accounts.{IsOpen}
 use Rattle.event_ports.specs.Draws.{FillsWithin, HasLooked, most_draws}
-use Rattle.event_ports.specs.Desks.{DeskSite, own_site, account_of, pocket_of, was_filled, AsksPool, HasNoCredit, HasStocked, MaySpend, Pays, SameCredits, Stocks, Refuses}
+use Rattle.event_ports.specs.Desks.{DeskSite, own_site, account_of, pocket_of, AsksPool, MaySpend, MaySpendMore, Pays, SameCredits, SpendsNone, Stocks, Refuses}
 
 pub rests_then : (lane : Lane) (r : Reply) (h k m : Hand) → Rests h k → Submits lane r k m → Submits lane r h m
 rests_then lane r h k m a b = record {
@@ -51,17 +51,16 @@ drew (suc n) quantum ceiling v after (inr (first, second, between, raced, furthe
 -- a draw after a call that changed no credits
 module _ (p k : Desk) (site : own_site k ≡ own_site p) (same : SameCredits p k) where
   -- so many credits were there, or were drawn
-  stocks : (m q : Desk) (n : ℕ) → HasStocked k m → account_of q ≡ account_of m → n ≡ pocket_of m → Stocks p n q
-  stocks m q n h account n_is = (
+  stocks : (q : Desk) (n : ℕ) → MaySpendMore k n q → Stocks p n q
+  stocks q n h = (
     (λ some.
         let s = h.of_pocket (λ z. some (sym same.0 ∙ z)) in
-        let is : account_of q ≡ account_of k = account ∙ s.1 in
-        (n_is ∙ s.0 ∙ same.0, (ap (λ (w : Account). w.drawn) is ∙ same.1.0, ap (λ (w : Account). w.returned) is ∙ same.1.1))),
+        (s.0 ∙ same.0, (ap (λ (w : Account). w.drawn) s.1 ∙ same.1.0, ap (λ (w : Account). w.returned) s.1 ∙ same.1.1))),
     (λ none.
         let s = h.of_pool (same.0 ∙ none) in
-        let d = drew most_draws (own_site k).quantum (own_site k).threshold (account_of k) (account_of m) s.1 in
+        let d = drew most_draws (own_site k).quantum (own_site k).threshold (account_of k) (account_of q) s.1 in
         let quantum : (own_site k).quantum ≡ (own_site p).quantum = ap (λ (x : DeskSite). x.quantum) site in
-        (n_is ∙ s.0 ∙ quantum, ap (λ (w : Account). w.drawn) account ∙ d.0 ∙ (λ i. same.1.0 i + quantum i), ap (λ (w : Account). w.returned) account ∙ d.1 ∙ same.1.1)),
+        (s.0 ∙ quantum, d.0 ∙ (λ i. same.1.0 i + quantum i), d.1 ∙ same.1.1)),
   )
 
   -- a NEW, after a look that read an open word
@@ -74,18 +73,36 @@ module _ (p k : Desk) (site : own_site k ≡ own_site p) (same : SameCredits p k
       asked = subst (λ (x : DeskSite). FillsWithin most_draws x.quantum x.threshold (account_of k) answer (account_of q)) site filled;
     }
 
-    -- there is no credit for it
-    pub no_credit : (q : Desk) (e : Event) (f : Refused) → e.op ≡ ops.New → e.queue < (own_site p).queues → (account_of k).limit ≡ (account_of p).limit → HasNoCredit k f q → Refuses p e f q
-    no_credit q e Stopped new within limit r = (
+    -- there are these credits for it
+    may_spend : (q : Desk) (n : ℕ) → MaySpendMore k n q → MaySpend p n q
+    may_spend q n h = record {
+      seen = account_of k;
+      looked = looked;
+      was_open = was_open;
+      of_pocket = λ some. let s = h.of_pocket (λ z. some (sym same.0 ∙ z)) in (s.0 ∙ same.0, s.1);
+      of_pool = λ none.
+          let s = h.of_pool (same.0 ∙ none) in (
+            s.0 ∙ ap (λ (x : DeskSite). x.quantum) site,
+            subst (λ (x : DeskSite). FillsWithin most_draws x.quantum x.threshold (account_of k) draws.Drawn (account_of q)) site s.1,
+          );
+    }
+
+    pub pays_new : (q : Desk) (o : Op) (result : Result (Unit {0}) Refused) → o ≡ ops.New → OnOk result (MaySpendMore k (pocket_of q + 1) q) → OnOk result (Pays o p q)
+    pays_new q o (Ok _) new h = subst (λ (x : Op). Pays x p q) (sym new) (stocks q (pocket_of q + 1) h, may_spend q (pocket_of q + 1) h)
+    pays_new q o (Err x) new h = h
+
+    -- there is no credit for it, or no room
+    refuses : (q : Desk) (e : Event) (f : Refused) → e.op ≡ ops.New → e.queue < (own_site p).queues → (account_of k).limit ≡ (account_of p).limit → SpendsNone k e.op f q → Refuses p e f q
+    refuses q e Stopped new within limit r = (
       ap costs_credit new,
       r.0,
       same_credits p k q same r.1.same,
       (λ _. inr (within, sym same.0 ∙ r.1.empty, asked draws.Shut q r.1.asked)),
       (λ more. absurd (not_more e.op new more)),
     )
-    no_credit q e BadQueue new within limit r = absurd r
-    no_credit q e NothingHeld new within limit r = absurd r
-    no_credit q e (Backpressure free) new within limit r = (
+    refuses q e BadQueue new within limit r = absurd r
+    refuses q e NothingHeld new within limit r = absurd r
+    refuses q e (Backpressure free) new within limit r = (
       ap costs_credit new,
       within,
       sym same.0 ∙ r.3.empty,
@@ -96,7 +113,7 @@ module _ (p k : Desk) (site : own_site k ≡ own_site p) (same : SameCredits p k
       (λ _. asked (draws.Short free) q r.3.asked),
       (λ more. absurd (not_more e.op new more)),
     )
-    no_credit q e (Raced first second) new within limit r = (
+    refuses q e (Raced first second) new within limit r = (
       ap costs_credit new,
       within,
       sym same.0 ∙ r.3.empty,
@@ -107,44 +124,22 @@ module _ (p k : Desk) (site : own_site k ≡ own_site p) (same : SameCredits p k
       (λ _. asked (draws.Raced first second) q r.3.asked),
       (λ more. absurd (not_more e.op new more)),
     )
-    no_credit q e Full new within limit r = absurd r
-    no_credit q e TooMany new within limit r = absurd r
+    refuses q e Full new within limit r = (
+      r.0,
+      (λ other. absurd (other new)),
+      (λ _. within),
+      (λ more. absurd (not_more e.op new more)),
+      (λ _. stocks q (pocket_of q) r.1),
+      (λ none. absurd (costs_none (costs_credit e.op) (ap costs_credit new) none)),
+      (λ _. may_spend q (pocket_of q) r.1),
+      (λ more. absurd (not_more e.op new more)),
+    )
+    refuses q e TooMany new within limit r = absurd r
 
-    -- there are these credits for it
-    may_spend : (m q : Desk) (n : ℕ) → HasStocked k m → account_of q ≡ account_of m → n ≡ pocket_of m → MaySpend p n q
-    may_spend m q n h account n_is = record {
-      seen = account_of k;
-      looked = looked;
-      was_open = was_open;
-      of_pocket = λ some. let s = h.of_pocket (λ z. some (sym same.0 ∙ z)) in (n_is ∙ s.0 ∙ same.0, account ∙ s.1);
-      of_pool = λ none.
-          let s = h.of_pool (same.0 ∙ none) in (
-            n_is ∙ s.0 ∙ ap (λ (x : DeskSite). x.quantum) site,
-            subst (λ (w : Account). FillsWithin most_draws (own_site p).quantum (own_site p).threshold (account_of k) draws.Drawn w) (sym account)
-                (subst (λ (x : DeskSite). FillsWithin most_draws x.quantum x.threshold (account_of k) draws.Drawn (account_of m)) site s.1),
-          );
-    }
-
-    pub pays_new : (m q : Desk) (o : Op) (result : Result (Unit {0}) Refused) → o ≡ ops.New → HasStocked k m → account_of q ≡ account_of m → OnOk result (pocket_of q + 1 ≡ pocket_of m)
-        → OnOk result (Pays o p q)
-    pays_new m q o (Ok _) new h account pays =
-        subst (λ (x : Op). Pays x p q) (sym new) (stocks m q (pocket_of q + 1) h account pays, may_spend m q (pocket_of q + 1) h account pays)
-    pays_new m q o (Err x) new h account pays = pays
-
-    pub refuses_full : (m q : Desk) (e : Event) (result : Result (Unit {0}) Refused) → e.op ≡ ops.New → e.queue < (own_site p).queues → HasStocked k m → account_of q ≡ account_of m
-        → IfErr result (λ x. (x ≡ Full) × was_filled q e.op × (pocket_of q ≡ pocket_of m)) → IfErr result (λ x. Refuses p e x q)
-    refuses_full m q e (Ok _) new within h account full = full
-    refuses_full m q e (Err x) new within h account full =
-        subst (λ (y : Refused). Refuses p e y q) (sym full.0) (
-          full.1,
-          (λ other. absurd (other new)),
-          (λ _. within),
-          (λ more. absurd (not_more e.op new more)),
-          (λ _. stocks m q (pocket_of q) h account full.2),
-          (λ none. absurd (costs_none (costs_credit e.op) (ap costs_credit new) none)),
-          (λ _. may_spend m q (pocket_of q) h account full.2),
-          (λ more. absurd (not_more e.op new more)),
-        )
+    pub refuses_new : (q : Desk) (e : Event) (result : Result (Unit {0}) Refused) → e.op ≡ ops.New → e.queue < (own_site p).queues → (account_of k).limit ≡ (account_of p).limit
+        → IfErr result (λ f. SpendsNone k e.op f q) → IfErr result (λ f. Refuses p e f q)
+    refuses_new q e (Ok _) new within limit r = r
+    refuses_new q e (Err f) new within limit r = refuses q e f new within limit r
 
 -- two refusals that are one answer
 refusal_in : Result (Unit {0}) Refused → Refused → Refused

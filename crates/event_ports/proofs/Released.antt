@@ -5,7 +5,9 @@ use Rattle.lists.proofs.Lists.{filter-push_true, filter-push_false}
 use Rattle.evt_types.specs.declared.event.Delivery.{Delivery}
 use Rattle.event_ports.specs.declared.lane.Lane.{Lane}
 use Rattle.event_ports.specs.declared.lane.Holding.{Holding}
-use Rattle.event_ports.specs.Lanes.{Hand, SubmitsTo, Releases, Arrives, Dequeues, first_lane, held_of, same_lane, release_reply, releases_for}
+use Rattle.event_ports.specs.Desks.{DeskSite}
+use Rattle.event_ports.specs.Handed.{LanesSite}
+use Rattle.event_ports.specs.Lanes.{Hand, Rests, SubmitsTo, Releases, Arrives, Dequeues, first_lane, held_of, same_lane, release_reply, releases_for}
 use Rattle.event_ports.proofs.Orders.{by_lane}
 
 module _ {A : Type 0} where
@@ -52,6 +54,14 @@ releases_more n h k m r s = by k.holding refl s
           holding = s.holding ∙ ap (drop 1) e ∙ sym (ap (λ i. drop i h.holding) one ∙ drop_next n h.holding x xs left);
         }
 
+-- nothing more is
+pub releases_still : (n : ℕ) (h k m : Hand) → Releases n h k → Rests k m → Releases n h m
+releases_still n h k m r rests = record { said = λ l. rests.said l ∙ r.said l; got = λ l. rests.got l ∙ r.got l; holding = rests.holding ∙ r.holding }
+
+-- what never changes of a desk, with that of its lanes
+abbrev pub at_lanes : DeskSite → LanesSite → DeskSite
+at_lanes d lanes = record d { lanes = lanes }
+
 -- nothing is released first, or all that is held
 pub dequeues_plain : (links : List ℕ) (h k : Hand) (ds : List Delivery) → Arrives links h k [] ds → Dequeues links 0 h k ds
 dequeues_plain links h k ds a = record { between = h; released = releases_none h; arrived = a }
@@ -66,6 +76,10 @@ some_left n h k r lt none = absurd (omega (arith, ap length (sym r.holding ∙ n
 -- one credit more in a pocket
 pub one_more_credit : (a n p q : ℕ) → p ≡ (a + n) % 2 ^ 64 → q ≡ (p + 1) % 2 ^ 64 → q ≡ (a + (n + 1)) % 2 ^ 64
 one_more_credit a n p q e f = omega (arith, e, f)
+
+-- and no credit comes of that
+pub same_credit : (implicit : Bool) (n a : ℕ) → implicit ≡ false → a < 2 ^ 64 → a ≡ (a + cond implicit n 0) % 2 ^ 64
+same_credit implicit n a e fits = let Of : Bool → Type 0 = λ b. a ≡ (a + cond b n 0) % 2 ^ 64 in subst Of (sym e) (omega (arith, fits))
 
 pub dequeues_where : (implicit : Bool) (links : List ℕ) (n : ℕ) (h k : Hand) (ds : List Delivery) → implicit ≡ false → Arrives links h k [] ds → Dequeues links (cond implicit n 0) h k ds
 dequeues_where implicit links n h k ds e a = let Of : Bool → Type 0 = λ b. Dequeues links (cond b n 0) h k ds in subst Of (sym e) (dequeues_plain links h k ds a)

@@ -6,7 +6,7 @@ use Rattle.event_ports.specs.declared.counts.PortCounts.{PortCounts}
 use Rattle.event_ports.specs.Counts.{plus, after_enqueues, after_refused, after_taken}
 
 -- the count of what was taken is this
-abbrev with_taken : PortCounts → ℕ → PortCounts
+abbrev pub with_taken : PortCounts → ℕ → PortCounts
 with_taken c k = record c { enqueued = k }
 
 -- none more, and one more before the others

@@ -1,11 +1,14 @@
 -- What a call on one flow lane makes of what a port has of all of them.
 use Rattle.std.proofs.Common.{◌≡◌, ◌≢◌, ℕ, suc, ◌<◌, Bool, true, false, List, [], ◌∷◌, ◌++◌, length, drop, set, Option, Some, None, Result, Ok, Err, All, MatchResult, refl, sym, ap, ◌∙◌, subst, arith, append-nil, append_assoc}
-use Rattle.std.proofs.lemmas.List.{length-set, get_or-set_other}
+use Rattle.std.specs.Option.{is_some}
+use Rattle.std.proofs.lemmas.List.{length-set, get_or-set_same, get_or-set_other}
 use Rattle.std.proofs.lemmas.Option.{none-some}
 use Rattle.std.proofs.lemmas.List.Elements.{All-push}
 use mathlib.Core.Logic.{dite}
 use native.Mathlib.Decide.{ℕ_discrete, dec_le}
 use Rattle.lists.specs.Lists.{has}
+use Rattle.lists.proofs.Writes.{set-set}
+use Rattle.lane_rings.specs.Identity.{LaneId, far_id}
 use Rattle.evt_types.specs.declared.event.Delivery.{Delivery}
 use Rattle.evt_types.specs.declared.event.Reply.{Reply}
 use Rattle.lane_rings.specs.Ends.{answered, answers_among, unanswered, Comes}
@@ -21,10 +24,11 @@ use Rattle.flow_claims.specs.Open.{IsOpen, received_so_far, answered_so_far}
 use Rattle.flow_claims.specs.Seats.{stint_at, find_lane, IsPorts}
 use Rattle.flow_claims.specs.Stints.{left_in, received_in, answered_in}
 use Rattle.flow_claims.proofs.Held.{nothing_held}
-use Rattle.event_ports.specs.Holds.{entry_at, IsHeldAt, AreFlows, stints_at, received_past, answered_past, left_past, surrendered_past, left_on, LeavesFree, received_now, answered_now, extras_now, held_now, Hands, received_on, answered_on, extras_on, Kept, Same, SameBut, Gets, Brings, Says}
+use Rattle.event_ports.specs.Holds.{entry_at, IsHeldAt, AreFlows, stints_at, received_past, answered_past, left_past, surrendered_past, left_on, LeavesFree, received_now, answered_now, extras_now, held_now, Hands, received_on, answered_on, extras_on, Flushed, IsFilledBy, Kept, Same, SameBut, Gets, Brings, Says}
 use Rattle.event_ports.proofs.Extras.{extras_push, none_extra}
 use Rattle.event_ports.proofs.Unanswered.{left_here, left_other, surrendered, none_surrendered, others_surrendered}
-use Rattle.event_ports.proofs.Entries.{Stints, hands, each_entry, moved, free_entry, held_at_entry, past_entries, past_more, other_stints, same_but, received_here, answered_here, extras_here, held_here, all_same}
+use Rattle.event_ports.proofs.Calls.{same_more}
+use Rattle.event_ports.proofs.Entries.{Stints, at_each, hands, each_entry, moved, free_entry, held_at_entry, past_entries, past_more, other_stints, same_but, received_here, answered_here, extras_here, held_here, all_same}
 
 module _ (claims : Claims) (links : List ℕ) where
   ports_stay : (seat after : ClaimSeat) → KeepsPort seat after → IsPorts (port_of seat) (seating seat) → IsPorts (port_of after) (seating after)
@@ -207,6 +211,17 @@ module _ (claims : Claims) (links : List ℕ) where
         all_same lane (hands (seating seat) ss) (hands (seating seat) (set ss lane (Some new))) but (same_received r) (same_answered a)
         (held_here links (seating seat) (seating seat) ss lane (Some new) inside ∙ u ∙ sym (ap held_now at)) (same_extras all) (λ j. refl)
 
+    -- what was gathered went into the ring
+    pub turn_flushed : received_so_far (seating seat) new ≡ received_so_far (seating seat) stint → answered_so_far (seating seat) new ≡ answered_so_far (seating seat) stint
+        → unanswered new.far ≡ unanswered stint.far → answered new.far ≡ answered stint.far → far_id new.far ≡ far_id stint.far
+        → Flushed (hands (seating seat) ss) (hands (seating seat) (set ss lane (Some new)))
+    turn_flushed r a u all id = record {
+      same = turn_same r a u all;
+      entries = at_each (λ o p. is_some p ≡ is_some o) ss lane (Some new) inside (ap is_some (sym at)) (λ o. refl);
+      filled = at_each (λ o p. IsFilledBy o → IsFilledBy p) ss lane (Some new) inside
+          (λ filled. let was : IsFilledBy (Some stint) = subst IsFilledBy at filled in omega (arith, was, ap (λ (i : LaneId). i.room) id, ap length all)) (λ o is. is);
+    }
+
     pub turn_gets : (ds : List Delivery) → received_so_far (seating seat) new ≡ received_so_far (seating seat) stint ++ ds → answered_so_far (seating seat) new ≡ answered_so_far (seating seat) stint
         → unanswered new.far ≡ unanswered stint.far ++ ds → answered new.far ≡ answered stint.far → Gets lane ds (hands (seating seat) ss) (hands (seating seat) (set ss lane (Some new)))
     turn_gets ds r a u all = record {
@@ -247,6 +262,28 @@ module _ (claims : Claims) (links : List ℕ) where
         → MatchResult result (λ _. Says lane reply (hands (seating seat) ss) (hands (seating seat) (set ss lane (Some new)))) (λ _. Same (hands (seating seat) ss) (hands (seating seat) (set ss lane (Some new))))
     answered_lists reply (Ok _) is held so_far received all = turn_says reply (received (seating seat)) (so_far (seating seat) is) held all
     answered_lists reply (Err _) is held so_far received all = turn_same (received (seating seat)) (so_far (seating seat) is) held all
+
+  -- a stint of which nothing is unanswered is flushed, and ends
+  module _ (seat after : ClaimSeat) (ss : Stints) (lane : ℕ) (stint new : Stint) (are : AreFlows claims seat ss links) (at : entry_at ss lane ≡ Some stint) (lt : lane < length (lanes_of claims))
+      (same : new.lane ≡ stint.lane) (open_is : IsOpen (seating seat) stint → IsOpen (seating seat) new) (ends : EndsStint claims false new seat after) where
+    flushed : AreFlows claims seat (set ss lane (Some new)) links
+    flushed = turned seat ss lane stint new are at lt same open_is
+
+    at_flushed : entry_at (set ss lane (Some new)) lane ≡ Some new
+    at_flushed = get_or-set_same ss lane (Some new) None (omega (arith, are.entries, lt))
+
+    pub left_are : AreFlows claims after (set ss lane None) links
+    left_are =
+        let At : Stints → Type 0 = λ xs. AreFlows claims after xs links in
+        subst At (set-set ss lane (Some new) None) (ended seat after (set ss lane (Some new)) lane new false flushed ends at_flushed lt)
+
+    pub left_lists : received_so_far (seating seat) new ≡ received_so_far (seating seat) stint → answered_so_far (seating seat) new ≡ answered_so_far (seating seat) stint
+        → unanswered new.far ≡ unanswered stint.far → answered new.far ≡ answered stint.far → unanswered new.far ≡ [] → Same (hands (seating seat) ss) (hands (seating after) (set ss lane None))
+    left_lists r a u all none =
+        let At : Stints → Type 0 = λ xs. Same (hands (seating seat) ss) (hands (seating after) xs) in
+        subst At (set-set ss lane (Some new) None)
+        (same_more (hands (seating seat) ss) (hands (seating seat) (set ss lane (Some new))) (hands (seating after) (set (set ss lane (Some new)) lane None))
+        (turn_same seat ss lane stint new are at lt r a u all) (left_same seat after (set ss lane (Some new)) lane new false flushed ends at_flushed lt refl none))
 
 pub all_kept : (lane : ℕ) (h k : Hands) → SameBut lane h k → received_on k lane ≡ received_on h lane → answered_on k lane ≡ answered_on h lane → ((j : ℕ) → left_on k j ≡ left_on h j) → LeavesFree h k → Kept h k
 all_kept lane h k others received answered left free =

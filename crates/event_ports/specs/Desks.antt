@@ -147,22 +147,19 @@ pub record DrewNone (p : Desk) (answer : Draw) (q : Desk) : Type 0 where
   pub asked : DrawsPool p answer q
   pub same : SameCredits p q
 
--- the credits of the pocket, or where that was empty a quantum that was drawn
-abbrev pub HasStocked : Desk → Desk → Type 0
-HasStocked p q = MaySpendMore p (pocket_of q) q
-
--- why there is no credit for an event that costs one: the pocket is empty, and this is what the draws answered
-abbrev pub HasNoCredit : Desk → Refused → Desk → Type 0
-HasNoCredit p Stopped q = IsTrue (account_of q).saw_shut × DrewNone p draws.Shut q
-HasNoCredit p BadQueue q = ⊥
-HasNoCredit p NothingHeld q = ⊥
-HasNoCredit p (Backpressure free) q =
+-- Why an event that costs a credit isn't submitted: the pocket is empty, and this is what the draws answered; or there are credits, and
+-- the ring of its lane is full.
+abbrev pub SpendsNone : Desk → Op → Refused → Desk → Type 0
+SpendsNone p o Stopped q = IsTrue (account_of q).saw_shut × DrewNone p draws.Shut q
+SpendsNone p o BadQueue q = ⊥
+SpendsNone p o NothingHeld q = ⊥
+SpendsNone p o (Backpressure free) q =
     IsOpen (account_of q).last × (free ≡ free_of (account_of q).last)
     × ((own_site p).threshold < in_use (account_of p).limit (account_of q).last + (own_site p).quantum) × DrewNone p (draws.Short free) q
-HasNoCredit p (Raced first second) q =
+SpendsNone p o (Raced first second) q =
     (first ≢ second) × ((account_of q).before ≡ first) × ((account_of q).last ≡ second) × DrewNone p (draws.Raced first second) q
-HasNoCredit p Full q = ⊥
-HasNoCredit p TooMany q = ⊥
+SpendsNone p o Full q = was_filled q o × MaySpendMore p (pocket_of q) q
+SpendsNone p o TooMany q = ⊥
 
 -- the port has a stint of the flow lane open
 abbrev pub holds_flow : Desk → ℕ → Bool

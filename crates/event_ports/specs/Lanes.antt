@@ -11,6 +11,8 @@ use Rattle.evt_types.specs.declared.event.Op.{Op}
 use Rattle.evt_types.specs.declared.event.Op.TheVariants as ops
 use Rattle.evt_types.specs.declared.event.Reply.{Reply}
 use Rattle.evt_types.specs.declared.event.TheConstants.{MAX_EXTRAS}
+use Rattle.event_answers.specs.declared.answer.Refused.{Refused}
+use Rattle.event_answers.specs.declared.answer.Refused.TheVariants as answers
 use Rattle.lane_rings.specs.Ends.{received_by, answered, answers_among, unanswered}
 use Rattle.lane_rings.specs.Identity.{far_id}
 pub use Rattle.lane_rings.specs.Refusal.{reply_of}
@@ -219,3 +221,9 @@ abbrev pub RefusesFirst : Far → Hands → List Holding → Refusal → Type 0
 RefusesFirst own h xs NothingHeld = xs ≡ []
 RefusesFirst own h xs TooMany = ⊥
 RefusesFirst own h xs Full = (xs ≢ []) × IsFilledAt own h (first_lane xs)
+
+-- the same in the words of a port
+abbrev pub refused_by : Refusal → Refused
+refused_by NothingHeld = answers.NothingHeld
+refused_by TooMany = answers.TooMany
+refused_by Full = answers.Full

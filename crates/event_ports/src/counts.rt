@@ -1,7 +1,7 @@
 //! How often a port enqueued, dequeued and was refused.
 
 ghost use Rattle.std.specs.Prelude.{◌≡◌};
-ghost use Rattle.event_ports.specs.Counts.{after_behind, after_burst, after_dequeue, after_enqueue, after_refused, after_taken, plus};
+ghost use Rattle.event_ports.specs.Counts.{after_behind, after_burst, after_dequeue, after_enqueue, after_refused, plus};
 
 use event_answers::Refused;
 
@@ -38,7 +38,7 @@ impl PortCounts {
         ensures { self.new ≡ after_enqueue answer.now self.old }
     {
         match answer {
-            Ok(()) => self.take(1),
+            Ok(()) => self.enqueued = self.enqueued.saturating_add(1),
             Err(refused) => self.refuse(*refused),
         }
     }
@@ -48,8 +48,7 @@ impl PortCounts {
         ensures counted { self.new ≡ after_burst taken end.now self.old }
         ensures taken { self.new.enqueued ≡ plus self.old.enqueued taken }
     {
-        let _enqueued = self.enqueued;
-        self.take(taken);
+        self.enqueued = self.enqueued.saturating_add(taken as u64);
         if let Some(refused) = end {
             self.refuse(*refused);
         }
@@ -70,12 +69,6 @@ impl PortCounts {
     {
         self.released = self.released.saturating_add(released as u64);
         self.behind = self.behind.saturating_add(1);
-    }
-
-    fn take(&mut self, events: usize)
-        ensures { self.new ≡ after_taken events self.old }
-    {
-        self.enqueued = self.enqueued.saturating_add(events as u64);
     }
 
     // Apart from what takes an event, since that is the call of which a program makes most.

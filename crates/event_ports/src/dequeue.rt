@@ -1,9 +1,9 @@
 //! What a dequeue does at a port's desk, and the enqueue of several events.
 
-ghost use Rattle.std.specs.Prelude.{◌≡◌, ◌≢◌, ◌+◌, ◌%◌, ◌^◌, ◌<◌, ◌≤◌, [], length, IsTrue, IsFalse, ◌↔◌, take, IsErr, IsNone, IfSome, IfErr, OnOk, MatchResult};
+ghost use Rattle.std.specs.Prelude.{◌≡◌, ◌+◌, ◌%◌, ◌^◌, ◌<◌, ◌≤◌, [], length, IsTrue, ◌↔◌, take, IsErr, IsNone, IfSome, IfOk, IfErr, OnOk, MatchResult};
 ghost use Rattle.evt_types.specs.declared.event.Op.TheVariants as ops;
 ghost use Rattle.credit_pool.specs.Accounts.{Stays};
-ghost use Rattle.event_ports.specs.Lanes.{Rests, Releases, Dequeues, Arrives, SubmitsTo, SubmitsAll, first_lane, release_reply};
+ghost use Rattle.event_ports.specs.Lanes.{Releases, Dequeues, SubmitsAll};
 ghost use Rattle.event_ports.specs.Desks.{own_site, account_of, pocket_of, hand, seen_by, links, was_filled, released_first, Gathers, StopsAt};
 ghost use Rattle.event_ports.specs.Handed.{AllShown, OwnFirst};
 
@@ -31,19 +31,12 @@ impl Desk {
         (events.len(), None)
     }
 
-    // How many a dequeue releases first.
-    pub(crate) fn releases_first(&self) -> usize
-        ensures { result ≡ released_first self.now }
-    {
-        if self.implicit { self.lanes.held() } else { 0 }
-    }
-
-    // What a dequeue does before the return rule.
+    // What a dequeue does before the return rule: how many were released first.
     pub(crate) fn exchange(
         &mut self,
         max: usize,
         into: &mut ArrayVec<Delivery, 64>,
-    ) -> Result<(), Behind>
+    ) -> Result<usize, Behind>
         requires { into.old.items ≡ [] }
         ensures site { own_site self.new ≡ own_site self.old }
         ensures credit { account_of self.new ≡ account_of self.old }
@@ -51,6 +44,7 @@ impl Desk {
         ensures few { OnOk result ((length into.new.items ≤ max) × (length (hand self.new).holding ≤ (own_site self.old).lanes.depth)) }
         ensures drained { OnOk result (length into.new.items < max → length (hand self.new).holding < (own_site self.old).lanes.depth → seen_by self.new ≡ []) }
         ensures own_first { OnOk result (OwnFirst self.old.lanes self.new.lanes into.new.items) }
+        ensures released { IfOk result (λ n. n ≡ released_first self.old) }
         ensures shown { AllShown self.old.lanes → AllShown self.new.lanes }
         ensures none { IsErr result → into.new.items ≡ [] }
         ensures behind { IfErr result (λ b. IsTrue (own_site self.old).implicit × (b.released < length (hand self.old).holding) × Releases b.released (hand self.old) (hand self.new) × was_filled self.new ops.Release) }
@@ -58,75 +52,35 @@ impl Desk {
             (λ _. pocket_of self.new ≡ (pocket_of self.old + released_first self.old) % 2 ^ 64)
             (λ b. pocket_of self.new ≡ (pocket_of self.old + b.released) % 2 ^ 64) }
     {
-        if !self.implicit {
-            self.receive(max, into);
-            return Ok(());
-        }
-        match self.release_all() {
-            Ok(()) => {
-                self.receive(max, into);
-                Ok(())
-            }
-            Err(behind) => Err(behind),
-        }
-    }
-
-    fn receive(&mut self, max: usize, into: &mut ArrayVec<Delivery, 64>)
-        requires { into.old.items ≡ [] }
-        ensures site { own_site self.new ≡ own_site self.old }
-        ensures credit { (account_of self.new ≡ account_of self.old) × (pocket_of self.new ≡ pocket_of self.old) × (pocket_of self.old < 2 ^ 64) }
-        ensures arrived { Arrives (links self.old) (hand self.old) (hand self.new) [] into.new.items }
-        ensures few { (length into.new.items ≤ max) × (length (hand self.new).holding ≤ (own_site self.old).lanes.depth) }
-        ensures drained { length into.new.items < max → length (hand self.new).holding < (own_site self.old).lanes.depth → seen_by self.new ≡ [] }
-        ensures own_first { OwnFirst self.old.lanes self.new.lanes into.new.items }
-        ensures shown { AllShown self.old.lanes → AllShown self.new.lanes }
-    {
         let _pocket = self.pocket;
+        if !self.implicit {
+            self.lanes.receive_all(max, into);
+            return Ok(0);
+        }
+        let released = self.release_all()?;
         self.lanes.receive_all(max, into);
+        Ok(released)
     }
 
-    // Releases all that is held, oldest first, or as much as the reply rings take. The scheduler sees it.
-    fn release_all(&mut self) -> Result<(), Behind>
+    // Releases all that is held, oldest first, or as much as the reply rings take: how many. The scheduler sees it.
+    fn release_all(&mut self) -> Result<usize, Behind>
         ensures site { own_site self.new ≡ own_site self.old }
         ensures credit { account_of self.new ≡ account_of self.old }
         ensures shown { AllShown self.new.lanes }
-        ensures ok { OnOk result (Releases (length (hand self.old).holding) (hand self.old) (hand self.new) × (pocket_of self.new ≡ (pocket_of self.old + length (hand self.old).holding) % 2 ^ 64)) }
-        ensures behind { IfErr result (λ b. (b.released < length (hand self.old).holding) × Releases b.released (hand self.old) (hand self.new) × was_filled self.new ops.Release × (pocket_of self.new ≡ (pocket_of self.old + b.released) % 2 ^ 64)) }
-    {
-        let answer = self.release_each();
-        self.flush();
-        answer
-    }
-
-    fn release_each(&mut self) -> Result<(), Behind>
-        ensures site { own_site self.new ≡ own_site self.old }
-        ensures credit { account_of self.new ≡ account_of self.old }
+        ensures all { IfOk result (λ n. n ≡ length (hand self.old).holding) }
         ensures ok { OnOk result (Releases (length (hand self.old).holding) (hand self.old) (hand self.new) × (pocket_of self.new ≡ (pocket_of self.old + length (hand self.old).holding) % 2 ^ 64)) }
         ensures behind { IfErr result (λ b. (b.released < length (hand self.old).holding) × Releases b.released (hand self.old) (hand self.new) × was_filled self.new ops.Release × (pocket_of self.new ≡ (pocket_of self.old + b.released) % 2 ^ 64)) }
     {
         let _pocket = self.pocket;
-        for released in 0..self.lanes.held() {
-            if !self.release_oldest() {
+        let held = self.lanes.held();
+        for released in 0..held {
+            if let Err(_) = self.lanes.answer(&Event::release()) {
+                self.flush();
                 return Err(Behind { released });
             }
+            self.pocket = self.pocket.wrapping_add(1);
         }
-        Ok(())
-    }
-
-    // Releases the oldest that is held; false where its lane's reply ring has no room.
-    fn release_oldest(&mut self) -> bool
-        requires { (hand self.old).holding ≢ [] }
-        ensures site { own_site self.new ≡ own_site self.old }
-        ensures credit { account_of self.new ≡ account_of self.old }
-        ensures released { IsTrue result → SubmitsTo (first_lane (hand self.old).holding) release_reply (hand self.old) (hand self.new) × (pocket_of self.new ≡ (pocket_of self.old + 1) % 2 ^ 64) }
-        ensures behind { IsFalse result → Rests (hand self.old) (hand self.new) × was_filled self.new ops.Release × (pocket_of self.new ≡ pocket_of self.old) }
-    {
-        match self.lanes.answer(&Event::release()) {
-            Ok(()) => {
-                self.pocket = self.pocket.wrapping_add(1);
-                true
-            }
-            Err(_) => false,
-        }
+        self.flush();
+        Ok(held)
     }
 }

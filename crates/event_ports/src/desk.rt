@@ -6,8 +6,9 @@ ghost use Rattle.std.specs.Arc.{arc_value};
 ghost use Rattle.credit_pool.specs.Pool.{account, limit_of, IsSeatOf};
 ghost use Rattle.event_ports.specs.Handed.{lanes_site, mores_of, news_of, releases_of};
 ghost use Rattle.credit_pool.specs.Pockets.{IsPocket};
+ghost use Rattle.event_ports.specs.Lanes.{refused_by};
 
-use crate::fill::fill;
+use crate::fill::{DRAWS, fill};
 use crate::lanes::Lanes;
 use credit_pool::{CreditSeat, Credits, Draw, Give};
 use event_answers::Refused;
@@ -38,13 +39,14 @@ pub(crate) struct Desk {
 impl Desk {
     ghost use Rattle.std.specs.Prelude.{◌≡◌, ◌≢◌, ◌+◌, ◌%◌, ◌^◌, ◌<◌, ◌≤◌, ◌↔◌, true, IsTrue, IsFalse, IfErr, OnOk, MatchResult};
     ghost use Rattle.evt_types.specs.Operation.{costs_credit};
+    ghost use Rattle.evt_types.specs.declared.event.Op.{Op};
     ghost use Rattle.evt_types.specs.declared.event.Op.TheVariants as ops;
     ghost use Rattle.credit_pool.specs.Accounts.{IsOpen, IsShut, Stays};
     ghost use Rattle.event_answers.specs.declared.answer.Refused.TheVariants as refusals;
     ghost use Rattle.event_ports.specs.Lanes.{Rests, SubmitsTo, TakesMore, lane_for, reply_of};
     ghost use Rattle.event_ports.specs.Draws.{HasLooked, Settles};
     ghost use Rattle.event_ports.specs.Handed.{AllShown};
-    ghost use Rattle.event_ports.specs.Desks.{own_site, account_of, pocket_of, hand, was_filled, SameCredits, HasStocked, HasNoCredit, IsFlushed, Pays, Refuses};
+    ghost use Rattle.event_ports.specs.Desks.{own_site, account_of, pocket_of, hand, was_filled, SameCredits, IsFlushed, MaySpendMore, Pays, Refuses, SpendsNone};
 
     // Whether the device is shut, by one look at the credits.
     pub(crate) fn shut_seen(&mut self) -> bool
@@ -71,9 +73,32 @@ impl Desk {
         ensures stopped { IsTrue (account_of self.old).saw_shut → event.now.op ≡ ops.New → result ≡ Err refusals.Stopped }
     {
         match event.op {
-            Op::New => self.enqueue_new(event),
-            Op::Forward => self.enqueue_forward(event),
-            Op::Release => self.enqueue_release(event),
+            Op::New => {
+                if self.shut_seen() {
+                    return Err(Refused::Stopped);
+                }
+                if usize::from(event.queue) >= self.queues {
+                    return Err(Refused::BadQueue);
+                }
+                self.spend(event)
+            }
+            Op::Forward => {
+                if usize::from(event.queue) >= self.queues {
+                    return Err(Refused::BadQueue);
+                }
+                match self.lanes.answer(event) {
+                    Ok(()) => Ok(()),
+                    Err(refusal) => Err(refused_by(refusal)),
+                }
+            }
+            Op::Release => match self.lanes.answer(event) {
+                Ok(()) => {
+                    self.pocket = self.pocket.wrapping_add(1);
+                    self.settle();
+                    Ok(())
+                }
+                Err(refusal) => Err(refused_by(refusal)),
+            },
             Op::ForwardMore => self.enqueue_more(event),
         }
     }
@@ -86,40 +111,24 @@ impl Desk {
         self.lanes.flush();
     }
 
-    #[inline(always)]
-    fn enqueue_new(&mut self, event: &Event) -> Result<(), Refused>
-        requires { event.now.op ≡ ops.New }
-        ensures site { own_site self.new ≡ own_site self.old }
-        ensures credit { Stays (account_of self.old) (account_of self.new) }
-        ensures submitted { MatchResult result (λ _. SubmitsTo (lane_for event.now.op (hand self.old).holding) (reply_of event.now) (hand self.old) (hand self.new)) (λ _. Rests (hand self.old) (hand self.new)) }
-        ensures pays { OnOk result (Pays event.now.op self.old self.new) }
-        ensures refused { IfErr result (λ e. Refuses self.old event.now e self.new) }
-        ensures stopped { IsTrue (account_of self.old).saw_shut → result ≡ Err refusals.Stopped }
-    {
-        if self.shut_seen() {
-            return Err(Refused::Stopped);
-        }
-        if usize::from(event.queue) >= self.queues {
-            return Err(Refused::BadQueue);
-        }
-        match self.stock() {
-            Ok(()) => self.spend(event),
-            Err(refused) => Err(refused),
-        }
-    }
-
     // Draws a quantum where the pocket is empty.
     fn stock(&mut self) -> Result<(), Refused>
         ensures site { own_site self.new ≡ own_site self.old }
         ensures credit { Stays (account_of self.old) (account_of self.new) }
         ensures same { Rests (hand self.old) (hand self.new) }
-        ensures stocked { OnOk result (HasStocked self.old self.new × (0 < pocket_of self.new)) }
-        ensures refused { IfErr result (λ e. HasNoCredit self.old e self.new) }
+        ensures stocked { OnOk result (MaySpendMore self.old (pocket_of self.new) self.new × (0 < pocket_of self.new)) }
+        ensures refused { IfErr result (λ e. (o : Op) → SpendsNone self.old o e self.new) }
     {
         if self.pocket > 0 {
             return Ok(());
         }
-        match fill(&self.pool, &mut self.seat, self.quantum, self.threshold) {
+        match fill(
+            DRAWS,
+            &self.pool,
+            &mut self.seat,
+            self.quantum,
+            self.threshold,
+        ) {
             Draw::Drawn => {
                 self.pocket = self.quantum;
                 Ok(())
@@ -130,65 +139,24 @@ impl Desk {
         }
     }
 
-    // Submits a NEW or FORWARD_MORE for a credit of the pocket.
+    // Submits a NEW or FORWARD_MORE for a credit of the pocket, into which a quantum is drawn first where it is empty.
     #[inline(always)]
     fn spend(&mut self, event: &Event) -> Result<(), Refused>
         requires costs { costs_credit event.now.op ≡ true }
         requires takes { event.now.op ≡ ops.ForwardMore → TakesMore (hand self.old) }
-        requires pocket { 0 < pocket_of self.old }
         ensures site { own_site self.new ≡ own_site self.old }
-        ensures credit { account_of self.new ≡ account_of self.old }
+        ensures credit { Stays (account_of self.old) (account_of self.new) }
         ensures submitted { MatchResult result (λ _. SubmitsTo (lane_for event.now.op (hand self.old).holding) (reply_of event.now) (hand self.old) (hand self.new)) (λ _. Rests (hand self.old) (hand self.new)) }
-        ensures pays { OnOk result (pocket_of self.new + 1 ≡ pocket_of self.old) }
-        ensures refused { IfErr result (λ e. (e ≡ refusals.Full) × was_filled self.new event.now.op × (pocket_of self.new ≡ pocket_of self.old)) }
+        ensures pays { OnOk result (MaySpendMore self.old (pocket_of self.new + 1) self.new) }
+        ensures refused { IfErr result (λ e. SpendsNone self.old event.now.op e self.new) }
     {
+        self.stock()?;
         match self.lanes.submit(event) {
             Ok(()) => {
                 self.pocket -= 1;
                 Ok(())
             }
             Err(_) => Err(Refused::Full),
-        }
-    }
-
-    #[inline(always)]
-    fn enqueue_forward(&mut self, event: &Event) -> Result<(), Refused>
-        requires { event.now.op ≡ ops.Forward }
-        ensures site { own_site self.new ≡ own_site self.old }
-        ensures credit { Stays (account_of self.old) (account_of self.new) }
-        ensures submitted { MatchResult result (λ _. SubmitsTo (lane_for event.now.op (hand self.old).holding) (reply_of event.now) (hand self.old) (hand self.new)) (λ _. Rests (hand self.old) (hand self.new)) }
-        ensures pays { OnOk result (Pays event.now.op self.old self.new) }
-        ensures refused { IfErr result (λ e. Refuses self.old event.now e self.new) }
-    {
-        if usize::from(event.queue) >= self.queues {
-            return Err(Refused::BadQueue);
-        }
-        match self.lanes.answer(event) {
-            Ok(()) => Ok(()),
-            Err(Refusal::NothingHeld) => Err(Refused::NothingHeld),
-            Err(Refusal::TooMany) => Err(Refused::TooMany),
-            Err(Refusal::Full) => Err(Refused::Full),
-        }
-    }
-
-    #[inline(always)]
-    fn enqueue_release(&mut self, event: &Event) -> Result<(), Refused>
-        requires { event.now.op ≡ ops.Release }
-        ensures site { own_site self.new ≡ own_site self.old }
-        ensures credit { Stays (account_of self.old) (account_of self.new) }
-        ensures submitted { MatchResult result (λ _. SubmitsTo (lane_for event.now.op (hand self.old).holding) (reply_of event.now) (hand self.old) (hand self.new)) (λ _. Rests (hand self.old) (hand self.new)) }
-        ensures pays { OnOk result (Pays event.now.op self.old self.new) }
-        ensures refused { IfErr result (λ e. Refuses self.old event.now e self.new) }
-    {
-        match self.lanes.answer(event) {
-            Ok(()) => {
-                self.pocket = self.pocket.wrapping_add(1);
-                self.settle();
-                Ok(())
-            }
-            Err(Refusal::NothingHeld) => Err(Refused::NothingHeld),
-            Err(Refusal::TooMany) => Err(Refused::TooMany),
-            Err(Refusal::Full) => Err(Refused::Full),
         }
     }
 
@@ -210,10 +178,7 @@ impl Desk {
         if extras >= MAX_EXTRAS {
             return Err(Refused::TooMany);
         }
-        match self.stock() {
-            Ok(()) => self.spend(event),
-            Err(refused) => Err(refused),
-        }
+        self.spend(event)
     }
 
     // The return rule: of two quanta or more in the pocket, all but one are given back, by one try.
@@ -230,5 +195,16 @@ impl Desk {
         if self.pool.give(&mut self.seat, rest) == Give::Given {
             self.pocket = self.quantum;
         }
+    }
+}
+
+// Why an answer is refused, in the words of a port.
+fn refused_by(refusal: Refusal) -> Refused
+    ensures { result ≡ refused_by refusal }
+{
+    match refusal {
+        Refusal::NothingHeld => Refused::NothingHeld,
+        Refusal::TooMany => Refused::TooMany,
+        Refusal::Full => Refused::Full,
     }
 }

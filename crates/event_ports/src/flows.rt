@@ -37,7 +37,7 @@ impl FlowLanes {
     ghost use Rattle.lane_rings.specs.Refusal.{reply_of};
     ghost use Rattle.flow_claims.specs.Claims.{seating, port_of, lanes_of, IsSeatOf};
     ghost use Rattle.flow_claims.specs.Seats.{HoldsNone};
-    ghost use Rattle.event_ports.specs.Holds.{IsFilledBy, AreLinked, Brings, Flushed, NoneHidden, Same, Kept, Says, Ends, AreEmpty, extras_on, hidden_in, stint_in, held_on};
+    ghost use Rattle.event_ports.specs.Holds.{IsFilledBy, AreLinked, Brings, Flushed, NoneHidden, Same, Kept, Says, Ends, AreEmpty, extras_on, stint_in, held_on};
     ghost use Rattle.event_ports.specs.Flows.{hands_of, flow_site, touched_of};
 
     /// The flow lanes of a port whose seat has no stint, with a position for each.
@@ -184,7 +184,10 @@ impl FlowLanes {
         ensures refused { IfErr result (λ e. (e ≡ Refusal.Full) × IsFilledBy (stint_in (hands_of self.new) lane)) }
     {
         self.turn_to(lane);
-        self.answer_at(lane, event)
+        let Some(stint) = &mut self.stints[lane] else {
+            return Err(Refusal::NothingHeld);
+        };
+        stint.stage(event)
     }
 
     // What was answered to another lane is flushed, so that there is one at most to be flushed.
@@ -205,20 +208,10 @@ impl FlowLanes {
         ensures flushed { Flushed (hands_of self.old) (hands_of self.new) }
         ensures shown { NoneHidden (hands_of self.new) }
     {
-        if let Some(lane) = self.touched {
-            self.flush_lane(lane);
-            self.touched = None;
-        }
-    }
-
-    // Makes what was answered to the lane visible, where it is held.
-    fn flush_lane(&mut self, lane: usize)
-        ensures site { flow_site self.new ≡ flow_site self.old }
-        ensures flushed { Flushed (hands_of self.old) (hands_of self.new) }
-        ensures here { hidden_in (stint_in (hands_of self.new) lane) ≡ [] }
-        ensures touched { touched_of self.new ≡ touched_of self.old }
-        ensures shown { NoneHidden (hands_of self.old) → NoneHidden (hands_of self.new) }
-    {
+        let Some(lane) = self.touched else {
+            return;
+        };
+        self.touched = None;
         if lane >= self.stints.len() {
             return;
         }
@@ -226,22 +219,6 @@ impl FlowLanes {
             return;
         };
         stint.flush();
-    }
-
-    fn answer_at(&mut self, lane: usize, event: &Event) -> Result<(), Refusal>
-        requires touched { touched_of self.old ≡ Some lane }
-        requires exists { lane < length (lanes_of (flow_site self.old).claims) }
-        requires held { held_on (hands_of self.old) lane ≢ [] }
-        requires few { is_more_reply (reply_of event.now) ≡ true → extras_on (hands_of self.old) lane < MAX_EXTRAS }
-        ensures site { flow_site self.new ≡ flow_site self.old }
-        ensures lists { MatchResult result (λ _. Says lane (reply_of event.now) (hands_of self.old) (hands_of self.new)) (λ _. Same (hands_of self.old) (hands_of self.new)) }
-        ensures entries { (j : ℕ) → is_some (stint_in (hands_of self.new) j) ≡ is_some (stint_in (hands_of self.old) j) }
-        ensures refused { IfErr result (λ e. (e ≡ Refusal.Full) × IsFilledBy (stint_in (hands_of self.new) lane)) }
-    {
-        let Some(stint) = &mut self.stints[lane] else {
-            return Err(Refusal::NothingHeld);
-        };
-        stint.stage(event)
     }
 
     /// Gives the lane back where nothing of it is unanswered.
@@ -253,46 +230,17 @@ impl FlowLanes {
         ensures elsewhere { (j : ℕ) → j ≢ lane → is_some (stint_in (hands_of self.new) j) ≡ is_some (stint_in (hands_of self.old) j) }
         ensures shown { NoneHidden (hands_of self.old) → NoneHidden (hands_of self.new) }
     {
-        // The next port to hold it may have nothing to flush.
-        self.flush_done(lane);
-        self.give_back(lane);
-    }
-
-    // Flushes the lane where nothing of it is unanswered.
-    fn flush_done(&mut self, lane: usize)
-        requires { lane < length (lanes_of (flow_site self.old).claims) }
-        ensures site { flow_site self.new ≡ flow_site self.old }
-        ensures flushed { Flushed (hands_of self.old) (hands_of self.new) }
-        ensures here { held_on (hands_of self.new) lane ≡ [] → hidden_in (stint_in (hands_of self.new) lane) ≡ [] }
-        ensures shown { NoneHidden (hands_of self.old) → NoneHidden (hands_of self.new) }
-    {
-        let is_left = match &self.stints[lane] {
-            Some(stint) => is_done(stint),
-            None => false,
-        };
-        if is_left {
-            self.flush_lane(lane);
-        }
-    }
-
-    fn give_back(&mut self, lane: usize)
-        requires exists { lane < length (lanes_of (flow_site self.old).claims) }
-        requires shown { held_on (hands_of self.old) lane ≡ [] → hidden_in (stint_in (hands_of self.old) lane) ≡ [] }
-        ensures site { flow_site self.new ≡ flow_site self.old }
-        ensures same { Same (hands_of self.old) (hands_of self.new) }
-        ensures left { held_on (hands_of self.old) lane ≡ [] → is_some (stint_in (hands_of self.new) lane) ≡ false }
-        ensures elsewhere { (j : ℕ) → j ≢ lane → is_some (stint_in (hands_of self.new) j) ≡ is_some (stint_in (hands_of self.old) j) }
-        ensures shown { NoneHidden (hands_of self.old) → NoneHidden (hands_of self.new) }
-    {
-        let Some(stint) = self.stints[lane].take() else {
+        let Some(mut stint) = self.stints[lane].take() else {
             return;
         };
-        if is_done(&stint) {
-            self.claims.give_back(&mut self.seat, stint);
-            self.open.remove(lane);
-        } else {
+        if stint.far.held() > 0 {
             self.stints[lane] = Some(stint);
+            return;
         }
+        // The next port to hold it may have nothing to flush.
+        stint.flush();
+        self.claims.give_back(&mut self.seat, stint);
+        self.open.remove(lane);
     }
 
     /// Surrenders the lane, where it is held.
@@ -328,8 +276,7 @@ impl FlowLanes {
     }
 }
 
-ghost use Rattle.std.specs.Prelude.{◌≡◌, ◌↔◌, [], true, replicate, IfOk};
-ghost use Rattle.lane_rings.specs.Ends.{unanswered};
+ghost use Rattle.std.specs.Prelude.{◌≡◌, replicate, IfOk};
 
 /// Places for so many flow lanes, none of which is held.
 pub(crate) fn free_entries(alloc: Global, lanes: usize) -> Result<Vec<Option<Stint>>, AllocError>
@@ -362,11 +309,4 @@ fn hint_again(hints: &Hints, stint: &Stint, known: usize, came: usize, is_short:
     if came <= known || stint.far.seen() > 0 {
         hints.set(stint.lane);
     }
-}
-
-// Whether nothing of the lane is unanswered.
-fn is_done(stint: &Stint) -> bool
-    ensures { (result ≡ true) ↔ (unanswered stint.now.far ≡ []) }
-{
-    stint.far.held() == 0
 }

@@ -98,20 +98,9 @@ impl Lanes {
         ensures refused { IfErr result (λ e. (e ≡ Refusal.Full) × IsFilled self.new (lane_for event.now.op (hand_of self.new).holding)) }
     {
         match event.op {
-            Op::New => self.submit_new(event),
+            Op::New => self.own.stage(event),
             _ => self.add(event),
         }
-    }
-
-    #[inline(always)]
-    fn submit_new(&mut self, event: &Event) -> Result<(), Refusal>
-        requires { is_new_reply (reply_of event.now) ≡ true }
-        ensures site { lanes_site self.new ≡ lanes_site self.old }
-        ensures submitted { MatchResult result (λ _. Submits lanes.Own (reply_of event.now) (hand_of self.old) (hand_of self.new)) (λ _. Rests (hand_of self.old) (hand_of self.new)) }
-        ensures counts { MatchResult result (λ _. CountsOne (reply_of event.now) self.old self.new) (λ _. CountsNone self.old self.new) }
-        ensures refused { IfErr result (λ e. (e ≡ Refusal.Full) × IsFilled self.new (Some lanes.Own)) }
-    {
-        self.own.stage(event)
     }
 
     // Adds an event beside the oldest delivery that is held.
@@ -127,33 +116,9 @@ impl Lanes {
             return Err(Refusal::NothingHeld);
         };
         match lane {
-            Lane::Own => self.add_own(event),
-            Lane::Flow(lane) => self.add_flow(lane, event),
+            Lane::Own => self.own.stage(event),
+            Lane::Flow(lane) => self.flows.answer(lane, event),
         }
-    }
-
-    fn add_own(&mut self, event: &Event) -> Result<(), Refusal>
-        requires more { is_more_reply (reply_of event.now) ≡ true }
-        requires oldest { first_lane (hand_of self.old).holding ≡ Some lanes.Own }
-        requires few { extras_of ((hand_of self.old).said lanes.Own) < MAX_EXTRAS }
-        ensures site { lanes_site self.new ≡ lanes_site self.old }
-        ensures submitted { MatchResult result (λ _. Submits lanes.Own (reply_of event.now) (hand_of self.old) (hand_of self.new)) (λ _. Rests (hand_of self.old) (hand_of self.new)) }
-        ensures counts { MatchResult result (λ _. CountsOne (reply_of event.now) self.old self.new) (λ _. CountsNone self.old self.new) }
-        ensures refused { IfErr result (λ e. (e ≡ Refusal.Full) × IsFilled self.new (Some lanes.Own)) }
-    {
-        self.own.stage(event)
-    }
-
-    fn add_flow(&mut self, lane: usize, event: &Event) -> Result<(), Refusal>
-        requires more { is_more_reply (reply_of event.now) ≡ true }
-        requires oldest { first_lane (hand_of self.old).holding ≡ Some (lanes.Flow lane) }
-        requires few { extras_of ((hand_of self.old).said (lanes.Flow lane)) < MAX_EXTRAS }
-        ensures site { lanes_site self.new ≡ lanes_site self.old }
-        ensures submitted { MatchResult result (λ _. Submits (lanes.Flow lane) (reply_of event.now) (hand_of self.old) (hand_of self.new)) (λ _. Rests (hand_of self.old) (hand_of self.new)) }
-        ensures counts { MatchResult result (λ _. CountsOne (reply_of event.now) self.old self.new) (λ _. CountsNone self.old self.new) }
-        ensures refused { IfErr result (λ e. (e ≡ Refusal.Full) × IsFilled self.new (Some (lanes.Flow lane))) }
-    {
-        self.flows.answer(lane, event)
     }
 
     /// Answers the oldest delivery that is held, to the lane from which it came. The scheduler sees it after the next `flush`.
@@ -169,44 +134,21 @@ impl Lanes {
             return Err(Refusal::NothingHeld);
         };
         match lane {
-            Lane::Own => self.answer_own(event),
-            Lane::Flow(lane) => self.answer_flow(lane, event),
-        }
-    }
-
-    #[inline(always)]
-    fn answer_own(&mut self, event: &Event) -> Result<(), Refusal>
-        requires answer { is_answer (reply_of event.now) ≡ true }
-        requires oldest { first_lane (hand_of self.old).holding ≡ Some lanes.Own }
-        ensures site { lanes_site self.new ≡ lanes_site self.old }
-        ensures submitted { MatchResult result (λ _. Submits lanes.Own (reply_of event.now) (hand_of self.old) (hand_of self.new)) (λ _. Rests (hand_of self.old) (hand_of self.new)) }
-        ensures counts { MatchResult result (λ _. CountsOne (reply_of event.now) self.old self.new) (λ _. CountsNone self.old self.new) }
-        ensures refused { IfErr result (RefusesOldest self.new) }
-    {
-        match self.own.stage(event) {
-            Ok(()) => {
-                self.order.pop_front();
-                Ok(())
-            }
-            Err(fault) => Err(fault),
-        }
-    }
-
-    fn answer_flow(&mut self, lane: usize, event: &Event) -> Result<(), Refusal>
-        requires answer { is_answer (reply_of event.now) ≡ true }
-        requires oldest { first_lane (hand_of self.old).holding ≡ Some (lanes.Flow lane) }
-        ensures site { lanes_site self.new ≡ lanes_site self.old }
-        ensures submitted { MatchResult result (λ _. Submits (lanes.Flow lane) (reply_of event.now) (hand_of self.old) (hand_of self.new)) (λ _. Rests (hand_of self.old) (hand_of self.new)) }
-        ensures counts { MatchResult result (λ _. CountsOne (reply_of event.now) self.old self.new) (λ _. CountsNone self.old self.new) }
-        ensures refused { IfErr result (RefusesOldest self.new) }
-    {
-        match self.flows.answer(lane, event) {
-            Ok(()) => {
-                self.order.pop_front();
-                self.flows.leave(lane);
-                Ok(())
-            }
-            Err(fault) => Err(fault),
+            Lane::Own => match self.own.stage(event) {
+                Ok(()) => {
+                    self.order.pop_front();
+                    Ok(())
+                }
+                Err(fault) => Err(fault),
+            },
+            Lane::Flow(lane) => match self.flows.answer(lane, event) {
+                Ok(()) => {
+                    self.order.pop_front();
+                    self.flows.leave(lane);
+                    Ok(())
+                }
+                Err(fault) => Err(fault),
+            },
         }
     }
 
@@ -224,7 +166,8 @@ impl Lanes {
         ensures shown { AllShown self.old → AllShown self.new }
     {
         let most = max.min(self.order.capacity() - self.order.len());
-        self.receive_own(most, into);
+        self.own.receive_some(most, into);
+        note(&mut self.order, Lane::Own, 0, into);
         self.receive_flows(most, into);
     }
 
@@ -256,22 +199,6 @@ impl Lanes {
     {
         let Lanes { own, flows, order } = self;
         (own, flows.into_seat(), order)
-    }
-
-    // Receives from the port's own lane until `most` deliveries came in all, or none is seen.
-    #[inline(always)]
-    fn receive_own(&mut self, most: usize, into: &mut ArrayVec<Delivery, 64>)
-        requires room { HasRoomFor most (lanes_site self.old).depth (hand_of self.old).holding into.old.items }
-        ensures site { lanes_site self.new ≡ lanes_site self.old }
-        ensures counts { CountsNone self.old self.new }
-        ensures arrived { ArrivesFrom (lanes.Own ∷ []) (hand_of self.old) (hand_of self.new) into.old.items into.new.items }
-        ensures room { HasRoomFor most (lanes_site self.new).depth (hand_of self.new).holding into.new.items }
-        ensures drained { length into.new.items < most → seen_own self.new ≡ [] }
-        ensures shown { AllShown self.old → AllShown self.new }
-    {
-        let from = into.len();
-        self.own.receive_some(most, into);
-        note(&mut self.order, Lane::Own, from, into);
     }
 
     // Receives from the linked flow lanes in their order, until `most` deliveries came in all. Those that aren't worth a look are
@@ -334,18 +261,14 @@ fn note(
     ensures room { order.new.capacity ≡ order.old.capacity }
 {
     for position in from..deliveries.len() {
-        let Ok(()) = order.try_push_back(noted(lane, &deliveries[position])) else {
+        let delivery = &deliveries[position];
+        let holding = Holding {
+            lane,
+            queue: delivery.queue,
+            number: delivery.number,
+        };
+        let Ok(()) = order.try_push_back(holding) else {
             unreachable!()
         };
-    }
-}
-
-fn noted(lane: Lane, delivery: &Delivery) -> Holding
-    ensures { result ≡ holding_of lane delivery.now }
-{
-    Holding {
-        lane,
-        queue: delivery.queue,
-        number: delivery.number,
     }
 }

@@ -140,13 +140,12 @@ impl Port {
             (λ b. counts_of self.new ≡ after_behind b.released (counts_of self.old)) }
     {
         into.clear();
-        let first = self.desk.releases_first();
         let answer = self.desk.exchange(max, into);
         self.desk.settle();
         match answer {
-            Ok(()) => {
+            Ok(released) => {
                 let came = into.len();
-                self.counts.dequeue(first, came);
+                self.counts.dequeue(released, came);
                 Ok(came)
             }
             Err(behind) => {

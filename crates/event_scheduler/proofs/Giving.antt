@@ -1,5 +1,5 @@
 -- One offer is made to a lane's ring: it is given, or refused.
-use Rattle.std.proofs.Common.{◌≡◌, ◌≢◌, ℕ, ◌+◌, ◌<◌, ◌≤◌, true, false, List, [], ◌∷◌, ◌++◌, length, map, set, get_or, All, Some, refl, sym, ap, ◌∙◌, subst, add-zero, arith}
+use Rattle.std.proofs.Common.{◌≡◌, ◌≢◌, ℕ, ◌+◌, ◌<◌, ◌≤◌, Bool, true, false, List, [], ◌∷◌, ◌++◌, length, map, set, get_or, All, Some, refl, sym, ap, ◌∙◌, subst, add-zero, arith}
 use Rattle.std.specs.List.{cons_option}
 use Rattle.std.proofs.lemmas.Bool.{false≢true}
 use Rattle.std.proofs.lemmas.List.{get_or-map, length-append, length-map, map-append}
@@ -146,3 +146,7 @@ refused pool core lanes v p n o near same log longer within is id offers takings
           shut = λ has. absurd (false≢true has);
           account = stays_same v;
         }
+
+-- the same scheduler, to clauses, made the offer
+pub hands_from : (offer : Offer) (ok : Bool) (s before t : Sight) (log longer : List Step) → s ≡ before → Hands offer ok s log t longer → Hands offer ok before log t longer
+hands_from offer ok s before t log longer same hands = subst (λ (x : Sight). Hands offer ok x log t longer) same hands

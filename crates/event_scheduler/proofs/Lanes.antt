@@ -1,5 +1,5 @@
 -- The ends of all lanes where one of them changed.
-use Rattle.std.proofs.Common.{◌≡◌, ◌≢◌, ℕ, ◌+◌, ◌<◌, ◌≤◌, List, [], length, map, set, get_or, ◌⊎◌, inl, inr, refl, sym, ap, ◌∙◌, subst, arith}
+use Rattle.std.proofs.Common.{◌≡◌, ◌≢◌, ℕ, ◌+◌, ◌<◌, ◌≤◌, List, [], ◌∷◌, ◌++◌, length, map, set, get_or, ◌⊎◌, inl, inr, refl, sym, ap, ◌∙◌, subst, arith}
 use Rattle.std.proofs.lemmas.Bool.{cases_eq}
 use Rattle.std.proofs.lemmas.List.{get_or-set_other, get_or-set_same, get_or-map, get_or_past, length-map, map-set}
 use Rattle.std.proofs.Math.Seq.{map-set_same}
@@ -10,10 +10,14 @@ use Rattle.event_scheduler.specs.Scheduler.{Sight, sight}
 use Rattle.event_scheduler.specs.Seeking.{SameLanes, seen_in}
 use Rattle.evt_types.specs.declared.event.Delivery.{Delivery}
 use Rattle.evt_types.specs.declared.event.Reply.{Reply}
-use Rattle.lane_rings.specs.Ends.{hidden_offers, offered, seen_replies, taken}
+use Rattle.lane_rings.specs.Ends.{fetched_replies, hidden_offers, offered, seen_replies, taken}
 use Rattle.lane_rings.specs.Identity.{LaneId, near_id}
 use Rattle.lane_rings.specs.declared.near.Near.{Near}
 use Rattle.transcripts.specs.Standing.{View}
+
+first_none : {X : Type 0} (xs ys : List X) → xs ++ ys ≡ [] → xs ≡ []
+first_none [] ys e = refl
+first_none (x ∷ xs) ys e = absurd (omega (arith, ap length e))
 
 -- a list of each lane, where one lane's end changed: its own is the new end's, the others are as they were
 pub each_lane :
@@ -53,6 +57,10 @@ same_sight pool core lanes v p n i near after is id offers takings seens =
     of_lists : List LaneId → List (List Delivery) → List (List Reply) → List (List Reply) → Sight
     of_lists ids offers takings seens =
         record { site = record { pool = pool; lanes = ids }; core = core; offered = offers; taken = takings; seen = seens; account = v; pocket = p; accepted_new = n }
+
+-- what was fetched is seen
+pub some_seen : (near : Near) → fetched_replies near ≢ [] → seen_replies near ≢ []
+some_seen near some none = some (first_none (fetched_replies near) _ none)
 
 -- what is seen at the lane is its end's, and that of the others is as it was
 pub seen_here : (lanes : List Near) (i : ℕ) (after : Near) → i < length lanes → get_or (map seen_replies (set lanes i after)) i [] ≡ seen_replies after

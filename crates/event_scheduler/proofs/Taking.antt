@@ -36,23 +36,7 @@ use Rattle.transcripts.specs.Transcript.{is_turned, out}
 
 -- ---- none
 
-pub takes_none : (most : ℕ → ℕ) (s : Sight) (log : List Step) → Takes most 0 s log s log
-takes_none most s log =
-    record {
-      replies = [];
-      runs = runs_none s log;
-      core = refl;
-      may = tt;
-      by_lane = λ i j d lt within. absurd (omega arith);
-      few = λ l. omega arith;
-      taken = λ l. sym (append-nil (taken_at s l));
-      offered = refl;
-      count = refl;
-      account = refl;
-      pocket = ap (λ n. n % 2 ^ 64) (sym (add-zero s.pocket));
-    }
-
--- none, and more was seen
+-- none, but more was seen
 takes_seen : (most : ℕ → ℕ) (s : Sight) (seen : List (List Reply)) (log : List Step) → Takes most 0 s log (record s { seen = seen }) log
 takes_seen most s seen log =
     let t : Sight = record s { seen = seen } in
@@ -86,6 +70,9 @@ takes_seen most s seen log =
       account = refl;
       pocket = ap (λ n. n % 2 ^ 64) (sym (add-zero s.pocket));
     }
+
+pub takes_none : (most : ℕ → ℕ) (s : Sight) (log : List Step) → Takes most 0 s log s log
+takes_none most s log = takes_seen most s s.seen log
 
 -- none, and a lane was looked at
 pub takes_looked :

@@ -5,38 +5,15 @@ ghost use Rattle.credit_pool.specs.declared.account.Account.{Account};
 ghost use Rattle.credit_pool.specs.declared.pool.Credits.{Credits};
 ghost use Rattle.event_scheduler.specs.Giving.{Gives, GivesAll, Hands};
 ghost use Rattle.event_scheduler.specs.Hidden.{NoneHidden, OneHidden};
-ghost use Rattle.event_scheduler.specs.Scheduler.{sight, sight_of};
+ghost use Rattle.event_scheduler.specs.Scheduler.{sight};
 ghost use Rattle.evt_types.specs.Plan.{lanes_of};
 ghost use Rattle.sched_core.specs.Offered.{numbered_in};
 ghost use Rattle.transcripts.specs.Choice.{IsOffer};
 ghost use Rattle.transcripts.specs.Standing.{View};
 
-use crate::scheduler::Scheduler;
 use lane_rings::{Hints, Near};
 use sched_core::{Core, Offer, Skips};
 use step_log::StepLog;
-
-/// Offers what was chosen to the lane's ring, which gets it by the next `show`. Where the ring is full it goes on waiting.
-fn offer_one<L: StepLog>(core: &mut Core, lanes: &mut Vec<Near>, offer: Offer, log: &mut L) -> bool
-    requires offer { IsOffer core.old offer.lane offer.delivery.queue (numbered_in offer.delivery) }
-    requires lanes { length lanes.old.items ≡ lanes_of core.old.shape }
-    requires hidden { OneHidden offer.lane lanes.old.items }
-    requires room { 0 < L.room log.old }
-    ensures hands { (pool : Credits) (v : Account) (p n : ℕ) → Hands offer result (sight pool core.old lanes.old.items v p n) (L.steps log.old) (sight pool core.new lanes.new.items v p n) (L.steps log.new) }
-    ensures lanes { length lanes.new.items ≡ lanes_of core.new.shape }
-    ensures shape { core.new.shape ≡ core.old.shape }
-    ensures hidden { OneHidden offer.lane lanes.new.items }
-    ensures room { L.room log.old ≤ L.room log.new + 1 }
-{
-    let near = &mut lanes[offer.lane];
-    if near.stage(&offer.delivery) {
-        core.give(offer, log);
-        true
-    } else {
-        core.bounce(offer.lane, log);
-        false
-    }
-}
 
 /// Puts what the lane was offered into its ring, where its holder sees it, and then sets the lane's hint.
 fn show(lanes: &mut Vec<Near>, hints: &Hints, lane: usize)
@@ -63,7 +40,8 @@ fn turn(lanes: &mut Vec<Near>, hints: &Hints, last: usize, next: usize)
     }
 }
 
-/// Offers what was chosen to the lane's ring, once what another lane was offered before it is in the ring.
+/// Offers what was chosen to the lane's ring, once what another lane was offered before it is in the ring; the lane's ring gets it by the
+/// next `show`. Where the ring is full it goes on waiting.
 fn give_one<L: StepLog>(
     core: &mut Core,
     lanes: &mut Vec<Near>,
@@ -83,11 +61,18 @@ fn give_one<L: StepLog>(
     ensures room { L.room log.old ≤ L.room log.new + 1 }
 {
     turn(lanes, hints, last, offer.lane);
-    offer_one(core, lanes, offer, log)
+    let near = &mut lanes[offer.lane];
+    if near.stage(&offer.delivery) {
+        core.give(offer, log);
+        true
+    } else {
+        core.bounce(offer.lane, log);
+        false
+    }
 }
 
 /// Gives what is chosen, one event after the other, until no choice is left. What a lane is given in a row its holder sees at once.
-fn give_each<L: StepLog>(
+pub(crate) fn give_all<L: StepLog>(
     core: &mut Core,
     lanes: &mut Vec<Near>,
     hints: &Hints,
@@ -117,14 +102,4 @@ fn give_each<L: StepLog>(
     }
     show(lanes, hints, lane);
     (given, bounced)
-}
-
-impl Scheduler {
-    /// Gives what is chosen until no choice is left.
-    pub(crate) fn give_all<L: StepLog>(&mut self, log: &mut L) -> (usize, usize)
-        requires room { self.old.core.shape.sweep * length self.old.core.shape.queues + lanes_of self.old.core.shape ≤ L.room log.old }
-        ensures { GivesAll result.0 result.1 (sight_of self.old) (L.steps log.old) (sight_of self.new) (L.steps log.new) }
-    {
-        give_each(&mut self.core, &mut self.lanes, &self.hints, log)
-    }
 }

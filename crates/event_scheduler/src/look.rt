@@ -1,33 +1,14 @@
 //! The credit word: whether the device is shut, and the return of the credits of what was turned away.
 
 ghost use Rattle.std.specs.Prelude.{◌≡◌, ◌+◌, ◌^◌, ◌<◌, ◌≤◌};
-ghost use Rattle.credit_pool.specs.Accounts.{Stays};
-ghost use Rattle.credit_pool.specs.Pool.{account, IsSeatOf};
+ghost use Rattle.credit_pool.specs.Pool.{account};
 ghost use Rattle.event_scheduler.specs.Looking.{Looks, Rests, Returns};
 ghost use Rattle.event_scheduler.specs.Scheduler.{sight_of};
 ghost use Rattle.transcripts.specs.Standing.{kept_in};
 
 use crate::scheduler::Scheduler;
-use credit_pool::{CreditSeat, Credits, Give};
+use credit_pool::Give;
 use step_log::StepLog;
-
-/// What stays of a pocket: where there are credits in it one return of all of them is tried.
-fn returned(pool: &Credits, seat: &mut CreditSeat, pocket: u64) -> u64
-    requires { IsSeatOf pool.now seat.old }
-    ensures seat { IsSeatOf pool.now seat.new }
-    ensures stays { Stays (account seat.old) (account seat.new) }
-    ensures sum { (account seat.new).returned + result ≡ (account seat.old).returned + pocket }
-    ensures tried { Returns (account seat.old) pocket (account seat.new) result }
-    ensures drawn { (account seat.new).drawn ≡ (account seat.old).drawn }
-{
-    if pocket == 0 {
-        return 0;
-    }
-    match pool.give(seat, pocket) {
-        Give::Given => 0,
-        Give::Over { .. } | Give::Raced { .. } => pocket,
-    }
-}
 
 impl Scheduler {
     /// Looks at the credit word. Where it has the shut bit new events are turned away from now on.
@@ -42,13 +23,19 @@ impl Scheduler {
         }
     }
 
-    /// Tries to give back the credits of what was turned away.
+    /// Tries to give back the credits of what was turned away, all of them at once.
     pub(crate) fn give_back(&mut self)
         ensures rests { Rests (sight_of self.old) (sight_of self.new) }
         ensures tried { Returns (account self.old.seat) self.old.pocket (account self.new.seat) self.new.pocket }
         ensures seen { (sight_of self.new).seen ≡ (sight_of self.old).seen }
         ensures fits { self.old.pocket < 2 ^ 64 }
     {
-        self.pocket = returned(&self.pool, &mut self.seat, self.pocket);
+        if self.pocket == 0 {
+            return;
+        }
+        match self.pool.give(&mut self.seat, self.pocket) {
+            Give::Given => self.pocket = 0,
+            Give::Over { .. } | Give::Raced { .. } => {}
+        }
     }
 }

@@ -1,6 +1,6 @@
 //! The way to the next lane that has a reply.
 
-ghost use Rattle.std.specs.Prelude.{◌≡◌, ℕ, ◌<◌, ◌≤◌, List, [], length};
+ghost use Rattle.std.specs.Prelude.{◌≡◌, ◌≢◌, ℕ, ◌<◌, ◌≤◌, List, [], length};
 ghost use Rattle.event_scheduler.specs.Scheduler.{seen_at, sight_of};
 ghost use Rattle.event_scheduler.specs.Seeking.{SameLanes, seen_in};
 ghost use Rattle.event_scheduler.specs.Taking.{Takes};
@@ -19,6 +19,7 @@ fn first_fetched(lanes: &mut [Near], from: usize, most: usize) -> usize
     ensures same { SameLanes lanes.old lanes.new }
     ensures lane { (from ≤ result) × (result ≤ length lanes.old) }
     ensures none { (l : ℕ) → from ≤ l → l < result → seen_in lanes.new l ≡ [] }
+    ensures found { result < length lanes.old → seen_in lanes.new result ≢ [] }
     ensures others { (l : ℕ) → l < from → seen_in lanes.new l ≡ seen_in lanes.old l }
 {
     let count = lanes.len();
@@ -41,6 +42,7 @@ impl Scheduler {
         ensures core { self.new.core ≡ self.old.core }
         ensures lane { (from ≤ result) × (result ≤ lanes_of self.old.core.shape) }
         ensures none { (l : ℕ) → from ≤ l → l < result → seen_at (sight_of self.new) l ≡ [] }
+        ensures found { result < lanes_of self.old.core.shape → seen_at (sight_of self.new) result ≢ [] }
         ensures others { (l : ℕ) → l < from → seen_at (sight_of self.new) l ≡ seen_at (sight_of self.old) l }
     {
         let most = self.core.shape().sweep() as usize;

@@ -1,5 +1,6 @@
 //! One sweep.
 
+use crate::give::give_all;
 use crate::scheduler::Scheduler;
 use event_answers::Swept;
 use evt_types::Memory;
@@ -21,7 +22,7 @@ impl Scheduler {
         self.look(log);
         let taken = self.take_all(log);
         self.give_back();
-        let (given, bounced) = self.give_all(log);
+        let (given, bounced) = give_all(&mut self.core, &mut self.lanes, &self.hints, log);
         Ok(Swept {
             taken,
             given,

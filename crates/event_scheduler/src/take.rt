@@ -43,9 +43,8 @@ impl Scheduler {
         ensures room { L.room log.old + kept_in self.new.core ≤ L.room log.new + kept_in self.old.core + 2 }
     {
         let near = &mut self.lanes[lane];
-        if !near.fetch(1) {
-            return false;
-        }
+        // Nothing is looked for where one is left that was fetched when the lane was found.
+        near.fetch(1);
         // The reply stays where it was fetched to until the core has taken it.
         let Some(reply) = near.fetched() else {
             return false;

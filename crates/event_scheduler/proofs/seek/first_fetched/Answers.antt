@@ -1,8 +1,8 @@
 -- The lanes before the one that is found have nothing.
-use Rattle.std.proofs.Common.{rules, ◌≡◌, ◌<◌, length, get_or, ap, arith, ◌∙◌}
+use Rattle.std.proofs.Common.{rules, ◌≡◌, ◌<◌, length, get_or, ap, sym, arith, ◌∙◌}
 use Rattle.std.proofs.lemmas.List.{length-set}
 use Rattle.lane_rings.specs.declared.near.Near.{Near}
-use Rattle.event_scheduler.proofs.Lanes.{none_before, none_to, same_lanes, still_seen}
+use Rattle.event_scheduler.proofs.Lanes.{none_before, none_to, same_lanes, seen_here, some_seen, still_seen}
 use Rattle.event_scheduler.proofs.seek.first_fetched.Goals as goal
 
 pub returns-then-fetch-clause-same : goal.returns-then-fetch-clause-same
@@ -14,6 +14,10 @@ returns-then-fetch-clause-same c =
 
 pub returns-then-fetch-clause-none : goal.returns-then-fetch-clause-none
 returns-then-fetch-clause-none c = none_before c.loop-lane.lanes c.args.from c.loop-lane.lane c.fetch.new.self c.loop-lane.invariant.2
+
+pub returns-then-fetch-clause-found : goal.returns-then-fetch-clause-found
+returns-then-fetch-clause-found c there none =
+    some_seen c.fetch.new.self (c.fetch.ensures.some c.if-fetch.true) (sym (seen_here c.loop-lane.lanes c.loop-lane.lane c.fetch.new.self (omega (arith, there, c.loop-lane.invariant.1))) ∙ none)
 
 pub returns-then-fetch-clause-others : goal.returns-then-fetch-clause-others
 returns-then-fetch-clause-others c = still_seen _ c.loop-lane.lanes c.args.from c.loop-lane.lane c.fetch.new.self (search rules) c.loop-lane.invariant.3

@@ -1,20 +1,43 @@
--- What was released is released once it is visible.
-use Rattle.std.proofs.Common.{◌≡◌, ℕ, ◌+◌, ◌%◌, ◌^◌, OnOk, length, sym, subst}
-use Rattle.event_ports.specs.Lanes.{Hand, Releases}
-use Rattle.event_ports.specs.Desks.{hand, pocket_of}
-use Rattle.event_ports.proofs.Flushes.{still_behind}
+-- Something is held until all was released.
+use Rattle.std.proofs.Common.{◌≡◌, ◌≢◌, ◌<◌, ◌∙◌, ℕ, ◌+◌, ◌%◌, ◌^◌, [], length, refl, sym, ap, subst, arith}
+use Rattle.evt_types.specs.declared.event.Event.{Event}
+use Rattle.evt_types.specs.declared.event.Op.TheVariants as ops
+use Rattle.event_ports.specs.Flows.{hands_of}
+use Rattle.event_ports.specs.Handed.{hand_of}
+use Rattle.event_ports.specs.Lanes.{Hand, Releases, SubmitsTo, first_lane, reply_of}
+use Rattle.event_ports.specs.Desks.{hand, own_site, pocket_of}
+use Rattle.event_ports.proofs.Refusals.{filled_first}
+use Rattle.event_ports.proofs.Released.{at_lanes, one_more_credit, releases_more, releases_still, some_left}
 use Rattle.event_ports.proofs.desk.Desk.release_all.Goals as goal
+
+pub loop-released-preserved : goal.loop-released-preserved
+loop-released-preserved c =
+    let was = c.loop-released.invariant in
+    let submitted = subst (λ (e : Event). SubmitsTo (first_lane (hand c.loop-released.self).holding) (reply_of e) (hand c.loop-released.self) (hand_of c.answer.new.self)) c.release.ensures c.in_default.ensures.submitted in (
+      ap (at_lanes (own_site c.loop-released.self)) c.answer.ensures.site ∙ was.0,
+      was.1,
+      releases_more c.loop-released.released (hand c.args.self.now) (hand c.loop-released.self) (hand_of c.answer.new.self) was.2 submitted,
+      one_more_credit (pocket_of c.args.self.now) c.loop-released.released (pocket_of c.loop-released.self) _ was.3 refl,
+      was.4,
+    )
+
+pub returns-in-Err-clause-behind : goal.returns-in-Err-clause-behind
+returns-in-Err-clause-behind c =
+    let was = c.loop-released.invariant in
+    let flushed = c.flush.ensures.flushed in
+    let rests = c.in-Err.ensures.submitted in
+    let few : c.loop-released.released < length (hand c.args.self.now).holding = omega (arith, c.loop-released-test.true, was.4) in
+    let some : (hand_of c.answer.new.self).holding ≢ [] = λ none. some_left c.loop-released.released (hand c.args.self.now) (hand c.loop-released.self) was.2 few (sym rests.holding ∙ none) in (
+      few,
+      subst (λ (k : Hand). Releases c.loop-released.released (hand c.args.self.now) k) (sym flushed.hands) (releases_still c.loop-released.released (hand c.args.self.now) (hand c.loop-released.self) (hand_of c.answer.new.self) was.2 rests),
+      flushed.filled ops.Release (filled_first c.answer.new.self.own (hands_of c.answer.new.self.flows) (hand_of c.answer.new.self).holding c.in-Err.field-0 some c.in-Err.ensures.refused),
+      flushed.pocket ∙ was.3,
+    )
 
 pub returns-clause-ok : goal.returns-clause-ok
 returns-clause-ok c =
-    let was : Hand = hand c.args.self.now in
-    let all : ℕ = length was.holding in
-    let come : ℕ = (pocket_of c.args.self.now + all) % 2 ^ 64 in
-    let After = λ (k : Hand) (n : ℕ). OnOk c.release_each-answer.result (Releases all was k × (n ≡ come)) in
-    subst (λ (k : Hand). After k (pocket_of c.flush.new.self)) (sym c.flush.ensures.flushed.hands)
-    (subst (λ (n : ℕ). After (hand c.release_each-answer.new.self) n) (sym c.flush.ensures.flushed.pocket) c.release_each-answer.ensures.ok)
-
-pub returns-clause-behind : goal.returns-clause-behind
-returns-clause-behind c =
-    still_behind c.release_each-answer.new.self c.flush.new.self c.flush.ensures.flushed (length (hand c.args.self.now).holding)
-    (hand c.args.self.now) (λ (n : ℕ). (pocket_of c.args.self.now + n) % 2 ^ 64) c.release_each-answer.result c.release_each-answer.ensures.behind
+    let was = c.loop-released.invariant in
+    let flushed = c.flush-2.ensures.flushed in
+    let all : c.loop-released.released ≡ length (hand c.args.self.now).holding = omega (arith, c.loop-released-test.false, c.loop-released.auto.released-end, was.4) in
+    subst (λ (n : ℕ). Releases n (hand c.args.self.now) (hand c.flush-2.new.self) × (pocket_of c.flush-2.new.self ≡ (pocket_of c.args.self.now + n) % 2 ^ 64)) all
+    (subst (λ (k : Hand). Releases c.loop-released.released (hand c.args.self.now) k) (sym flushed.hands) was.2, flushed.pocket ∙ was.3)

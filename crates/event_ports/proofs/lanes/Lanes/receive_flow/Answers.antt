@@ -1,18 +1,16 @@
 -- What receipts from a flow lane make of a port's lanes: they count no reply.
-use Rattle.std.proofs.Common.{rules, ◌≡◌, ◌≢◌, ◌∙◌, List, length, refl, sym, ap, subst}
+use Rattle.std.proofs.Common.{rules, ◌≡◌, ◌≢◌, ◌∙◌, List, refl, sym, ap, subst}
 use Rattle.evt_types.specs.declared.event.Delivery.{Delivery}
-use Rattle.evt_types.specs.Operation.{is_more_reply, is_new_reply, is_release_reply}
-use Rattle.flow_claims.specs.Claims.{lanes_of}
 use Rattle.event_ports.specs.declared.lane.Holding.{Holding}
 use Rattle.event_ports.specs.declared.lane.Lane.{Lane}
 use Rattle.event_ports.specs.declared.lane.Lane.TheVariants.{Flow}
 use Rattle.event_ports.specs.Holds.{Gets}
-use Rattle.event_ports.specs.Flows.{FlowSite, flow_site, hands_of}
+use Rattle.event_ports.specs.Flows.{hands_of}
 use Rattle.event_ports.specs.Lanes.{HasRoomFor, said_on, got_on, open_on}
 use Rattle.event_ports.proofs.Arrivals.{arrives_none, arrives_some, room_less}
 use Rattle.event_ports.proofs.Noting.{noted_are, note_fits}
 use Rattle.event_ports.proofs.Orders.{Notes, each_lane, received_last}
-use Rattle.event_ports.proofs.Submitted.{counts_none}
+use Rattle.event_ports.proofs.Adding.{counts_same}
 use Rattle.event_ports.proofs.Calls.{gave_back, same_no_new, idle_received, gets_between, gets_no_answer}
 use Rattle.event_ports.proofs.lanes.Lanes.receive_flow.Goals as goal
 
@@ -59,13 +57,8 @@ returns-clause-counts c =
     let came = c.receive_some.ensures.lists in
     let gets : Gets c.args.lane came.came (hands_of c.args.self.now.flows) (hands_of c.leave.new.self) =
     gets_between _ (hands_of c.hold.new.self) (hands_of c.receive_some.new.self) _ c.args.lane came.came c.hold.ensures.same came.gets c.leave.ensures.same in
-    let before = said_on c.args.self.now.own (hands_of c.args.self.now.flows) in
-    let after = said_on c.args.self.now.own (hands_of c.leave.new.self) in
-    let n = length (lanes_of (flow_site c.args.self.now.flows).claims) in
-    let m = length (lanes_of (flow_site c.leave.new.self).claims) in
-    let e : m ≡ n = ap (λ (p : FlowSite). length (lanes_of p.claims)) (c.leave.ensures.site ∙ c.receive_some.ensures.site ∙ c.hold.ensures.site) in
-    let same : (l : Lane) → after l ≡ before l = each_lane (λ l. after l ≡ before l) refl (λ j. gets_no_answer _ _ c.args.lane came.came gets j) in
-    record { news = counts_none is_new_reply n m before after e same; mores = counts_none is_more_reply n m before after e same; releases = counts_none is_release_reply n m before after e same }
+    counts_same c.args.self.now _ (c.leave.ensures.site ∙ c.receive_some.ensures.site ∙ c.hold.ensures.site)
+    (each_lane (λ l. said_on c.args.self.now.own (hands_of c.leave.new.self) l ≡ said_on c.args.self.now.own (hands_of c.args.self.now.flows) l) refl (gets_no_answer _ _ c.args.lane came.came gets))
 
 pub returns-clause-arrived : goal.returns-clause-arrived
 returns-clause-arrived c =
@@ -101,10 +94,5 @@ returns-then-not-hold-clause-arrived c =
 
 pub returns-then-not-hold-clause-counts : goal.returns-then-not-hold-clause-counts
 returns-then-not-hold-clause-counts c =
-    let before = said_on c.args.self.now.own (hands_of c.args.self.now.flows) in
-    let after = said_on c.args.self.now.own (hands_of c.hold.new.self) in
-    let n = length (lanes_of (flow_site c.args.self.now.flows).claims) in
-    let m = length (lanes_of (flow_site c.hold.new.self).claims) in
-    let e : m ≡ n = ap (λ (p : FlowSite). length (lanes_of p.claims)) c.hold.ensures.site in
-    let same : (l : Lane) → after l ≡ before l = each_lane (λ l. after l ≡ before l) refl c.hold.ensures.same.answered_is in
-    record { news = counts_none is_new_reply n m before after e same; mores = counts_none is_more_reply n m before after e same; releases = counts_none is_release_reply n m before after e same }
+    counts_same c.args.self.now _ c.hold.ensures.site
+    (each_lane (λ l. said_on c.args.self.now.own (hands_of c.hold.new.self) l ≡ said_on c.args.self.now.own (hands_of c.args.self.now.flows) l) refl c.hold.ensures.same.answered_is)

@@ -31,18 +31,6 @@ pub invariant_of-self-2-clause-shown : goal.invariant_of-self-2-clause-shown
 invariant_of-self-2-clause-shown g c =
     still_hidden _ c.args.lane c.index_mut-near.result.now c.pass.new.self c.index_mut-near.ensures.value (c.pass.ensures.offered.1 ∙ c.fetch.ensures.lists.1) c.args.self.now.shown
 
-pub returns-then-not-fetch-clause-takes : goal.returns-then-not-fetch-clause-takes
-returns-then-not-fetch-clause-takes g c =
-    takes_looked _ _ _ _ _ _ c.args.lane c.index_mut-near.result.now c.fetch.new.self _ _ c.index_mut-near.ensures.value c.fetch.ensures.lane c.fetch.ensures.lists.0 c.fetch.ensures.lists.2
-
-pub returns-then-not-fetch-clause-ends : goal.returns-then-not-fetch-clause-ends
-returns-then-not-fetch-clause-ends g c n q none =
-    let within : c.args.lane < length c.args.self.now.lanes.items = omega (arith, c.requires.lane, c.args.self.now.lanes_are) in
-    inr (inl (seen_here _ c.args.lane c.fetch.new.self within ∙ c.fetch.ensures.none (omega arith) (c.fetch.ensures.nothing c.if-not-fetch.true)))
-
-pub returns-then-not-fetch-clause-others : goal.returns-then-not-fetch-clause-others
-returns-then-not-fetch-clause-others g c l other = seen_elsewhere _ c.args.lane c.fetch.new.self l other
-
 pub returns-in_default-clause-takes : goal.returns-in_default-clause-takes
 returns-in_default-clause-takes g c =
     takes_looked _ _ _ _ _ _ c.args.lane c.index_mut-near.result.now c.fetch.new.self _ _ c.index_mut-near.ensures.value c.fetch.ensures.lane c.fetch.ensures.lists.0 c.fetch.ensures.lists.2

@@ -4,7 +4,7 @@ use Rattle.event_scheduler.specs.Giving.{Gives, Hands, hand_step}
 use Rattle.event_scheduler.specs.Scheduler.{sight}
 use Rattle.evt_types.specs.Fault.{IsWithinLimits}
 use Rattle.transcripts.specs.Choice.{HasNoChoice}
-use Rattle.event_scheduler.proofs.give.give_each.Goals as goal
+use Rattle.event_scheduler.proofs.give.give_all.Goals as goal
 
 pub loop-offer-init : goal.loop-offer-init
 loop-offer-init g c = (

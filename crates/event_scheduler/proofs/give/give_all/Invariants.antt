@@ -6,7 +6,7 @@ use Rattle.event_scheduler.specs.Hidden.{OneHidden}
 use Rattle.event_scheduler.specs.Scheduler.{sight}
 use Rattle.evt_types.specs.Plan.{lanes_of}
 use Rattle.event_scheduler.proofs.Passing.{long}
-use Rattle.event_scheduler.proofs.give.give_each.Given as goal
+use Rattle.event_scheduler.proofs.give.give_all.Given as goal
 
 abbrev pub invariant-loop-offer : goal.invariant-loop-offer
 invariant-loop-offer g l =

@@ -1,0 +1,59 @@
+-- An event is added beside the oldest that is held, which stays held.
+use Rattle.std.proofs.Common.{◌≡◌, ◌≢◌, ◌<◌, ◌∙◌, IfErr, Some, [], ap, subst, sym, refl}
+use Rattle.evt_types.specs.Additions.{extras_of}
+use Rattle.evt_types.specs.declared.event.TheConstants.{MAX_EXTRAS}
+use Rattle.lane_rings.specs.Ends.{answered, unanswered}
+use Rattle.lane_rings.specs.declared.far.Refusal.TheVariants.{Full}
+use Rattle.event_ports.specs.declared.lane.Lane.TheVariants.{Own}
+use Rattle.event_ports.specs.Flows.{hands_of}
+use Rattle.event_ports.specs.Handed.{hand_of}
+use Rattle.event_ports.specs.Lanes.{IsFilledAt, extras_to, first_lane, open_on, reply_of}
+use Rattle.event_ports.proofs.Adding.{added_still, counts_flow, gave_back_still, idle_still, no_new_still, ordered_still}
+use Rattle.event_ports.proofs.Oldest.{oldest_held, oldest_there}
+use Rattle.event_ports.proofs.Orders.{first_open}
+use Rattle.event_ports.proofs.Refusals.{all_full}
+use Rattle.event_ports.proofs.lanes.Lanes.add.Goals as goal
+
+pub answer-requires-clause-held : goal.answer-requires-clause-held
+answer-requires-clause-held c =
+    oldest_held c.args.self.now c.in-Flow.lane (sym c.in-Some.ensures ∙ ap Some c.in-Flow.is)
+
+pub answer-requires-clause-exists : goal.answer-requires-clause-exists
+answer-requires-clause-exists c =
+    oldest_there c.args.self.now c.in-Flow.lane (sym c.in-Some.ensures ∙ ap Some c.in-Flow.is)
+
+pub invariant_of-self-in-Flow-clause-ordered : goal.invariant_of-self-in-Flow-clause-ordered
+invariant_of-self-in-Flow-clause-ordered c =
+    ordered_still (hands_of c.args.self.now.flows) (hands_of c.answer.new.self) c.in-Flow.lane (reply_of c.args.event.now) c.answer.result c.requires.more c.answer.ensures.lists
+    c.args.self.now.own c.args.self.now.order.items c.args.self.now.ordered
+
+pub invariant_of-self-in-Flow-clause-gave_back : goal.invariant_of-self-in-Flow-clause-gave_back
+invariant_of-self-in-Flow-clause-gave_back c =
+    gave_back_still (hands_of c.args.self.now.flows) (hands_of c.answer.new.self) c.in-Flow.lane (reply_of c.args.event.now) c.answer.result c.requires.more c.answer.ensures.lists c.args.self.now.gave_back
+
+pub invariant_of-self-in-Flow-clause-no_new : goal.invariant_of-self-in-Flow-clause-no_new
+invariant_of-self-in-Flow-clause-no_new c =
+    no_new_still (hands_of c.args.self.now.flows) (hands_of c.answer.new.self) c.in-Flow.lane (reply_of c.args.event.now) c.answer.result c.requires.more c.answer.ensures.lists c.args.self.now.no_new
+
+pub invariant_of-self-in-Flow-clause-added : goal.invariant_of-self-in-Flow-clause-added
+invariant_of-self-in-Flow-clause-added c =
+    added_still (hands_of c.args.self.now.flows) (hands_of c.answer.new.self) c.in-Flow.lane (reply_of c.args.event.now) c.answer.result c.requires.more c.answer.ensures.lists c.args.self.now.added
+
+pub invariant_of-self-in-Flow-clause-idle : goal.invariant_of-self-in-Flow-clause-idle
+invariant_of-self-in-Flow-clause-idle c =
+    idle_still (hands_of c.args.self.now.flows) (hands_of c.answer.new.self) c.in-Flow.lane (reply_of c.args.event.now) c.answer.result c.requires.more c.answer.ensures.lists
+    c.answer.ensures.entries c.args.self.now.idle
+
+pub returns-in-Own-clause-refused : goal.returns-in-Own-clause-refused
+returns-in-Own-clause-refused c =
+    let own : first_lane c.args.self.now.order.items ≡ Some Own = sym c.in-Some.ensures ∙ ap Some c.in-Own.is in
+    let some : unanswered c.args.self.now.own ≢ [] = first_open c.args.self.now.order.items Own (open_on c.args.self.now.own (hands_of c.args.self.now.flows)) own c.args.self.now.ordered in
+    let few : extras_of (answered c.args.self.now.own) < MAX_EXTRAS = subst (λ o. extras_to o (hand_of c.args.self.now) < MAX_EXTRAS) own c.requires.takes.1 in
+    subst (λ o. IfErr c.stage.result (λ e. (e ≡ Full) × IsFilledAt c.stage.new.self (hands_of c.args.self.now.flows) o)) (sym own)
+    (all_full c.args.self.now.own c.stage.new.self (reply_of c.args.event.now) c.stage.result c.stage.ensures.refused some (λ _. few) c.stage.ensures.lane c.stage.ensures.answered)
+
+pub returns-in-Flow-clause-counts : goal.returns-in-Flow-clause-counts
+returns-in-Flow-clause-counts c =
+    counts_flow c.args.self.now _ c.in-Flow.lane (reply_of c.args.event.now) c.answer.result refl c.answer.ensures.site
+    (oldest_there c.args.self.now c.in-Flow.lane (sym c.in-Some.ensures ∙ ap Some c.in-Flow.is))
+    c.answer.ensures.lists

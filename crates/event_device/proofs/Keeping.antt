@@ -4,27 +4,10 @@ use Rattle.std.specs.Prelude.{slice_get}
 use Rattle.std.proofs.Math.Seq.{map-set_same}
 use Rattle.std.proofs.lemmas.Option.{get_or_from_slice_get}
 use Rattle.credit_pool.specs.Accounts.{Stays}
-use Rattle.event_ports.specs.Ports.{DeskSite, account_of, own_site}
+use Rattle.event_ports.specs.Ports.{account_of, own_site}
 use Rattle.event_ports.specs.declared.port.Port.{Port}
-use Rattle.event_device.specs.Device.{PortSite, site_of}
-
--- the site of a port in this site with so many parts of the credits
-abbrev site_at : DeskSite → ℕ → PortSite
-site_at w parts =
-    record {
-      pool = w.pool;
-      claims = w.lanes.flows.claims;
-      lane = Some w.lanes.own;
-      links = w.lanes.flows.links;
-      number = w.number;
-      depth = w.lanes.depth;
-      queues = w.queues;
-      implicit = w.implicit;
-      quantum = w.quantum;
-      threshold = w.threshold;
-      credit_parts = parts;
-      claim_parts = w.lanes.flows.parts;
-    }
+use Rattle.event_device.specs.Device.{site_of}
+use Rattle.event_device.proofs.Sites.{site_at}
 
 -- a port keeps its site
 pub same_site : (p q : Port) → own_site q ≡ own_site p → Stays (account_of p) (account_of q) → site_of q ≡ site_of p

@@ -20,7 +20,7 @@ use Rattle.event_device.specs.Between.{IsAtRest, rest_at, rest_of}
 use Rattle.transcripts.specs.Lawful.{Lawful}
 use Rattle.transcripts.specs.Replies.{replies_in, said}
 use Rattle.transcripts.specs.Transcript.{out}
-use Rattle.world_laws.specs.Rest.{AreRests}
+use Rattle.world_laws.specs.Rest.{AreRests, Rest}
 
 -- what stands at a home, and beyond the end
 item_at : {X Y : Type 0} (f : X → Y) (xs : List X) (l : ℕ) (x : X) (d : Y) → slice_get xs l ≡ Some x → get_or (map f xs) l d ≡ f x
@@ -32,28 +32,25 @@ none_at f xs l d past = get_or_past (map f xs) l d (omega (arith, length-map xs 
 no_item : {X : Type 0} (xs : List X) (l : ℕ) → slice_get xs l ≡ None → length xs ≤ l
 no_item xs l none = ⊎_elim (λ within. let there = slice_get-some xs l within in absurd (none-some there.0 (sym none ∙ there.1))) (λ past. past) (cases_lt l (length xs))
 
--- The lists of the scheduler's ends are those of the lanes at rest.
-pub offered_at : (nears : List Near) (fars : List Far) (l : ℕ) → map near_id nears ≡ map far_id fars → (rest_at nears fars l).offered ≡ get_or (map offered nears) l []
-offered_at nears fars l lanes = by_ends (slice_get nears l) (slice_get fars l) refl refl
+-- A list of the scheduler's end is that of the lane at rest, where a lane that isn't there has an empty one.
+list_at_rest : {X : Type 0} (of_near : Near → List X) (of_rest : Rest → List X) (nears : List Near) (fars : List Far) (l : ℕ)
+    → ((near : Near) (far : Far) → of_rest (rest_of (Some near) (Some far)) ≡ of_near near) → ((b : Option Far) → of_rest (rest_of None b) ≡ [])
+    → map near_id nears ≡ map far_id fars → of_rest (rest_at nears fars l) ≡ get_or (map of_near nears) l []
+list_at_rest of_near of_rest nears fars l both none lanes = by_ends (slice_get nears l) (slice_get fars l) refl refl
   where
-    by_ends : (a : Option Near) (b : Option Far) → slice_get nears l ≡ a → slice_get fars l ≡ b → (rest_of a b).offered ≡ get_or (map offered nears) l []
-    by_ends (Some near) (Some far) first second = sym (item_at offered nears l near [] first)
+    by_ends : (a : Option Near) (b : Option Far) → slice_get nears l ≡ a → slice_get fars l ≡ b → of_rest (rest_of a b) ≡ get_or (map of_near nears) l []
+    by_ends (Some near) (Some far) first second = both near far ∙ sym (item_at of_near nears l near [] first)
     by_ends (Some near) None first second =
         let within = slice_get_within nears l near first in
         let past = no_item fars l second in
         absurd (omega (arith, as_many_ends nears fars lanes))
-    by_ends None b first second = sym (none_at offered nears l [] (no_item nears l first))
+    by_ends None b first second = none b ∙ sym (none_at of_near nears l [] (no_item nears l first))
+
+pub offered_at : (nears : List Near) (fars : List Far) (l : ℕ) → map near_id nears ≡ map far_id fars → (rest_at nears fars l).offered ≡ get_or (map offered nears) l []
+offered_at nears fars l lanes = list_at_rest offered (λ r. r.offered) nears fars l (λ near far. refl) (λ b. refl) lanes
 
 pub taken_at : (nears : List Near) (fars : List Far) (l : ℕ) → map near_id nears ≡ map far_id fars → (rest_at nears fars l).taken ≡ get_or (map taken nears) l []
-taken_at nears fars l lanes = by_ends (slice_get nears l) (slice_get fars l) refl refl
-  where
-    by_ends : (a : Option Near) (b : Option Far) → slice_get nears l ≡ a → slice_get fars l ≡ b → (rest_of a b).taken ≡ get_or (map taken nears) l []
-    by_ends (Some near) (Some far) first second = sym (item_at taken nears l near [] first)
-    by_ends (Some near) None first second =
-        let within = slice_get_within nears l near first in
-        let past = no_item fars l second in
-        absurd (omega (arith, as_many_ends nears fars lanes))
-    by_ends None b first second = sym (none_at taken nears l [] (no_item nears l first))
+taken_at nears fars l lanes = list_at_rest taken (λ r. r.taken) nears fars l (λ near far. refl) (λ b. refl) lanes
 
 -- a lane whose holder's end gave no NEW has none
 no_new : (nears : List Near) (fars : List Far) (l : ℕ) → ((far : Far) → slice_get fars l ≡ Some far → count_by is_new_reply (answered far) ≡ 0)

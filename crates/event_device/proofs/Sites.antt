@@ -13,8 +13,9 @@ use Rattle.event_ports.specs.Ports.{DeskSite, account_of, own_site}
 use Rattle.event_ports.specs.declared.port.Port.{Port}
 use Rattle.event_device.specs.Device.{Device, PortSite, port_site, site_of}
 
-abbrev pub site_by : DeskSite → Account → PortSite
-site_by site account =
+-- the site of a port that has this one in its desk, and so many parts of the credits
+abbrev pub site_at : DeskSite → ℕ → PortSite
+site_at site parts =
     record {
       pool = site.pool;
       claims = site.lanes.flows.claims;
@@ -26,7 +27,7 @@ site_by site account =
       implicit = site.implicit;
       quantum = site.quantum;
       threshold = site.threshold;
-      credit_parts = account.parts;
+      credit_parts = parts;
       claim_parts = site.lanes.flows.parts;
     }
 
@@ -45,7 +46,7 @@ pub record Agrees (d : Device) (n : ℕ) (site : DeskSite) (account : Account) :
   pub credit_parts : account.parts ≡ 1
   pub claim_parts : site.lanes.flows.parts ≡ 1
 
-agreed : (d : Device) (n : ℕ) (site : DeskSite) (account : Account) → Agrees d n site account → site_by site account ≡ port_site d n
+agreed : (d : Device) (n : ℕ) (site : DeskSite) (account : Account) → Agrees d n site account → site_at site account.parts ≡ port_site d n
 agreed d n site account e =
     let lane = sym e.lane in
     λ i. record {
@@ -65,7 +66,7 @@ agreed d n site account e =
 
 pub site_is : (d : Device) (n : ℕ) (port : Port) (site : DeskSite) (account : Account) → own_site port ≡ site → account_of port ≡ account
     → Agrees d n site account → site_of port ≡ port_site d n
-site_is d n port site account same known e = (λ i. site_by (same i) (known i)) ∙ agreed d n site account e
+site_is d n port site account same known e = (λ i. site_at (same i) (known i).parts) ∙ agreed d n site account e
 
 -- ---- the configuration
 

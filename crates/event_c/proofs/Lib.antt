@@ -1,12 +1,12 @@
 pub mod Steps
+pub mod Lent
+pub mod Points
 pub mod Answers
-pub mod Looks
 pub mod Fills
 pub mod Takes
+pub mod ReportsFor
 pub mod Clears
 pub mod Joins
 pub mod Lends
 pub mod Hands
 pub mod Makes
-pub mod Reports
-pub mod ReportsFor

@@ -1,7 +1,8 @@
 -- Exports of the form `(alloc, at, &config)`: what the call makes of the configuration is written to the pointer.
 use Rattle.std.specs.contracts.alloc.Global.{the_row as Heap}
 use Rattle.std.proofs.alloc.Global.TheLaws.{the_row_laws as heap_laws}
-use Rattle.event_c.proofs.Steps.{List, [], ◌∷◌, ◌++◌, refl, sym, ap, ◌∙◌, proved_at, Ura, full_share, emp, ex, sep, id⊢, ftrue, flft, named, imm, ty_ptr, ty_ref, ty_unit, local, value_local, Fn, Callee, place, deref, assign, seq, return, call, copy, opd_unit, rv_opd, Val, vunit, Model, WpFn, Closed, fact, Running, tables, Logic, sem, ‵, raw, ◌⊛◌, some, later, prop, ◌$◌, ◌∵◌, !, qed, done, move, keep, drop, show, use1, use2, split, join, feq_i, pick, await, rewrite, regoal, suffices, frame, group, enter, of_opd, unit_lit, init, assigns, stop, no_more, and_then, returns, alloc_all, pass_all, free_all, look_at, get, through, sets, lands_as, One, RefOf, unit, yes, rest, part_in, Is, shows, lone, part_at, pointee, Laws, RattleType, Ptr, RawPtr, lies_at, room_at, in_a_block, rawptr_vals, ShrRef, shr_vals, plain, nothing, heard, peeks, Triple, calls_at, Ended, Clauses, closing, lasts, Lasts, triple_of, Meets, framed, Stays, walk_of, says, stay_dropped, Goes-dropped, ends_at, is_typed, one_value}
+use Rattle.event_c.proofs.Steps.{List, [], ◌∷◌, ◌++◌, refl, sym, ap, ◌∙◌, proved_at, Ura, full_share, emp, ex, sep, id⊢, ftrue, flft, named, imm, ty_ptr, ty_ref, ty_unit, Fn, Callee, place, deref, assign, seq, return, call, copy, opd_unit, rv_opd, Val, vunit, Model, WpFn, fact, Running, tables, Logic, sem, ‵, raw, ◌⊛◌, some, later, prop, ◌$◌, ◌∵◌, !, qed, done, move, keep, drop, show, use1, use2, split, join, feq_i, pick, await, rewrite, regoal, suffices, frame, group, enter, of_opd, unit_lit, init, assigns, stop, no_more, and_then, returns, alloc_all, pass_all, free_all, look_at, get, through, sets, lands_as, One, RefOf, unit, yes, rest, part_in, Is, shows, lone, part_at, pointee, Laws, RattleType, Ptr, RawPtr, lies_at, room_at, in_a_block, rawptr_vals, ShrRef, shr_vals, plain, nothing, heard, peeks, calls_at, Ended, Clauses, closing, lasts, Lasts, triple_of, framed, Stays, walk_of, says, stay_dropped, Goes-dropped, ends_at, is_typed, one_value}
+use Rattle.event_c.proofs.Points.{Passes, fn}
 
 -- R is the type of what is made, C that of the configuration, and Promise what the call promises of both
 module _ (R : RattleType) (laws : Laws R) (C : RattleType) (one : One C.mir) (Promise : R.Denot → C.Denot → Type 0) where
@@ -12,19 +13,11 @@ module _ (R : RattleType) (laws : Laws R) (C : RattleType) (one : One C.mir) (Pr
   Called = record { signature = record { lifetimes = 1; outlives = []; params = plain (λ κs. Heap) ∷ RefOf (0 ∷ []) tt (plain (λ κs. C)) (λ κs. one) ∷ []; result = plain (λ κs. R) }; kept = (yes, (yes, tt)) }
 
   abbrev pub body : Callee → Fn
-  body k = record {
-    lifetimes = 1;
-    outlives = [];
-    ty_params = [];
-    givens = 0;
-    params = 3;
-    locals = local ty_unit value_local ∷ local (lone Heap.mir) value_local ∷ local ty_ptr value_local ∷ local (ty_ref (named 0) imm (pointee C.written)) value_local
-        ∷ local ty_ptr value_local ∷ local (lone R.mir) value_local ∷ [];
-    body = seq (assign (place 4 []) (rv_opd (copy (place 2 []))))
-        (seq (call k (copy (place 1 []) ∷ copy (place 3 []) ∷ []) (place 5 []))
-        (seq (assign (place 4 (deref (lone R.mir) ∷ [])) (rv_opd (copy (place 5 []))))
-        (seq (assign (place 0 []) (rv_opd opd_unit)) return)));
-  }
+  body k = fn 1 3 (ty_unit ∷ lone Heap.mir ∷ ty_ptr ∷ ty_ref (named 0) imm (pointee C.written) ∷ ty_ptr ∷ lone R.mir ∷ [])
+      (seq (assign (place 4 []) (rv_opd (copy (place 2 []))))
+      (seq (call k (copy (place 1 []) ∷ copy (place 3 []) ∷ []) (place 5 []))
+      (seq (assign (place 4 (deref (lone R.mir) ∷ [])) (rv_opd (copy (place 5 []))))
+      (seq (assign (place 0 []) (rv_opd opd_unit)) return))))
 
   module _ {M : Type 1} (𝓤 : Ura M) (𝓛 : Logic 𝓤) where
     abbrev pub exported : Clauses 𝓤 Export
@@ -41,9 +34,7 @@ module _ (R : RattleType) (laws : Laws R) (C : RattleType) (one : One C.mir) (Pr
     stayed = (stay_dropped _ yes, (stay_dropped _ yes, (stay_dropped _ yes, tt)))
 
     module _ (𝓜 : Model 𝓤 𝓛.H) (𝓡 : Running 𝓤 𝓛.H 𝓜) where
-      pub makes : (self k : Callee) → Closed 𝓤 𝓛.H (tables 𝓤 𝓛.H 𝓜 𝓡 𝓡.env).C (tables 𝓤 𝓛.H 𝓜 𝓡 𝓡.env).Λ self (body k)
-          → Triple 𝓤 ((tables 𝓤 𝓛.H 𝓜 𝓡 𝓡.env).C k) (triple_of 𝓛 Called.signature (closing 𝓛 Called called))
-          → Meets 𝓛 Export.signature ((tables 𝓤 𝓛.H 𝓜 𝓡 𝓡.env).C self) (closing 𝓛 Export exported)
+      pub makes : Passes 𝓛 𝓜 𝓡 body Export exported Called called
       makes self k closed met =
           let 𝓣 = tables 𝓤 𝓛.H 𝓜 𝓡 𝓡.env in let W = walk_of 𝓛 Export stayed exported in
           let G = triple_of 𝓛 Called.signature (closing 𝓛 Called called) in

@@ -6,6 +6,7 @@ ghost use Rattle.std.specs.Ptr.{points_to, uninit_at};
 ghost use denote.Memory.{lone};
 ghost use prog.Memory.{size};
 ghost use types.Logic.{sem};
+ghost use Rattle.event_c.specs.Exports.{changes};
 ghost use Rattle.event_handles.specs.contracts.control.ControlHandle.{the_row as control_row};
 ghost use Rattle.event_handles.specs.contracts.hub.Hub.{the_row as hub_row};
 ghost use Rattle.event_handles.specs.contracts.port.PortHandle.{the_row as port_row};
@@ -52,7 +53,7 @@ pub extern "C" fn evsched_control_size() -> usize
 #[unsafe(no_mangle)]
 pub unsafe extern "C" fn evsched_hub_init(alloc: Global, at: *mut u8, config: &Config)
     requires* { sem 𝓛 (uninit_at hub_row at) }
-    ensures* { ∃ₛ (λ (new : HubValue). sem 𝓛 (points_to hub_row at new) ∗ ⌜ IsNew new config.now ⌝) }
+    ensures* { changes 𝓛 hub_row at (λ new. IsNew new config.now) }
 {
     (at as *mut Hub).write(Hub::new(alloc, config));
 }
@@ -84,7 +85,7 @@ pub unsafe extern "C" fn evsched_hub_control(at: *mut u8, control: *mut u8)
 pub unsafe extern "C" fn evsched_hub_join(at: *mut u8, port: *mut u8) -> i64
     ghost value: { HubValue × PortValue }
     requires* { (sem 𝓛 (points_to hub_row at value.0) ∗ sem 𝓛 (points_to port_row port value.1)) ∗ ⌜ IsOf value.0 value.1 ⌝ }
-    ensures* { ∃ₛ (λ (new : HubValue). sem 𝓛 (points_to hub_row at new) ∗ ⌜ Joins value.0 value.1 new result ⌝) ∗ sem 𝓛 (uninit_at port_row port) }
+    ensures* { changes 𝓛 hub_row at (λ new. Joins value.0 value.1 new result) ∗ sem 𝓛 (uninit_at port_row port) }
 {
     let hub = &mut *(at as *mut Hub);
     hub.join((port as *mut PortHandle).read())
@@ -95,7 +96,7 @@ pub unsafe extern "C" fn evsched_hub_join(at: *mut u8, port: *mut u8) -> i64
 pub unsafe extern "C" fn evsched_hub_join_control(at: *mut u8, control: *mut u8) -> i64
     ghost value: { HubValue × ControlValue }
     requires* { (sem 𝓛 (points_to hub_row at value.0) ∗ sem 𝓛 (points_to control_row control value.1)) ∗ ⌜ IsControlOf value.0 value.1 ⌝ }
-    ensures* { ∃ₛ (λ (new : HubValue). sem 𝓛 (points_to hub_row at new) ∗ ⌜ JoinsControl value.0 value.1 new result ⌝) ∗ sem 𝓛 (uninit_at control_row control) }
+    ensures* { changes 𝓛 hub_row at (λ new. JoinsControl value.0 value.1 new result) ∗ sem 𝓛 (uninit_at control_row control) }
 {
     let hub = &mut *(at as *mut Hub);
     hub.join_control((control as *mut ControlHandle).read())
@@ -106,10 +107,9 @@ pub unsafe extern "C" fn evsched_hub_join_control(at: *mut u8, control: *mut u8)
 pub unsafe extern "C" fn evsched_hub_sweep(at: *mut u8) -> i64
     ghost value: { HubValue }
     requires* { sem 𝓛 (points_to hub_row at value) }
-    ensures* { ∃ₛ (λ (new : HubValue). sem 𝓛 (points_to hub_row at new) ∗ ⌜ IsSweep value new result ⌝) }
+    ensures* { changes 𝓛 hub_row at (λ new. IsSweep value new result) }
 {
-    let hub = &mut *(at as *mut Hub);
-    hub.sweep()
+    (*(at as *mut Hub)).sweep()
 }
 
 /// Takes the device apart.
@@ -117,10 +117,9 @@ pub unsafe extern "C" fn evsched_hub_sweep(at: *mut u8) -> i64
 pub unsafe extern "C" fn evsched_hub_stop(at: *mut u8) -> i64
     ghost value: { HubValue }
     requires* { sem 𝓛 (points_to hub_row at value) }
-    ensures* { ∃ₛ (λ (new : HubValue). sem 𝓛 (points_to hub_row at new) ∗ ⌜ IsStop value new result ⌝) }
+    ensures* { changes 𝓛 hub_row at (λ new. IsStop value new result) }
 {
-    let hub = &mut *(at as *mut Hub);
-    hub.stop()
+    (*(at as *mut Hub)).stop()
 }
 
 /// How many events are inside.
@@ -130,8 +129,7 @@ pub unsafe extern "C" fn evsched_hub_inside(at: *mut u8) -> i64
     requires* { sem 𝓛 (points_to hub_row at value) }
     ensures* { sem 𝓛 (points_to hub_row at value) ∗ ⌜ result ≡ inside_in value.device value.stopped value.why ⌝ }
 {
-    let hub = &*(at as *mut Hub);
-    hub.inside()
+    (*(at as *mut Hub)).inside()
 }
 
 /// Why there is no device.
@@ -141,8 +139,7 @@ pub unsafe extern "C" fn evsched_hub_why(at: *mut u8) -> i64
     requires* { sem 𝓛 (points_to hub_row at value) }
     ensures* { sem 𝓛 (points_to hub_row at value) ∗ ⌜ result ≡ value.why ⌝ }
 {
-    let hub = &*(at as *mut Hub);
-    hub.why()
+    (*(at as *mut Hub)).why()
 }
 
 /// Writes what was counted.
@@ -152,8 +149,7 @@ pub unsafe extern "C" fn evsched_hub_counts(at: *mut u8, what: usize, counts: &m
     requires* { sem 𝓛 (points_to hub_row at value) }
     ensures* { sem 𝓛 (points_to hub_row at value) ∗ ⌜ tallies.IsCounted value what counts.old counts.new result ⌝ }
 {
-    let hub = &*(at as *mut Hub);
-    hub.counts(what, counts)
+    (*(at as *mut Hub)).counts(what, counts)
 }
 
 /// Writes the numbers of the report.
@@ -163,8 +159,7 @@ pub unsafe extern "C" fn evsched_hub_report(at: *mut u8, counts: &mut [u64]) -> 
     requires* { sem 𝓛 (points_to hub_row at value) }
     ensures* { sem 𝓛 (points_to hub_row at value) ∗ ⌜ IsReported value counts.old counts.new result ⌝ }
 {
-    let hub = &*(at as *mut Hub);
-    hub.report(counts)
+    (*(at as *mut Hub)).report(counts)
 }
 
 /// Writes the events that were left at the stop.
@@ -172,10 +167,9 @@ pub unsafe extern "C" fn evsched_hub_report(at: *mut u8, counts: &mut [u64]) -> 
 pub unsafe extern "C" fn evsched_hub_left(at: *mut u8, left: &mut [CLeft]) -> i64
     ghost value: { HubValue }
     requires* { sem 𝓛 (points_to hub_row at value) }
-    ensures* { ∃ₛ (λ (new : HubValue). sem 𝓛 (points_to hub_row at new) ∗ ⌜ IsLeft value new left.old left.new result ⌝) }
+    ensures* { changes 𝓛 hub_row at (λ new. IsLeft value new left.old left.new result) }
 {
-    let hub = &mut *(at as *mut Hub);
-    hub.left(left)
+    (*(at as *mut Hub)).left(left)
 }
 
 /// Empties a hub's room.
@@ -195,8 +189,7 @@ pub unsafe extern "C" fn evsched_port_why(at: *mut u8) -> i64
     requires* { sem 𝓛 (points_to port_row at value) }
     ensures* { sem 𝓛 (points_to port_row at value) ∗ ⌜ result ≡ ports.why_in value.seat ⌝ }
 {
-    let port = &*(at as *mut PortHandle);
-    port.why()
+    (*(at as *mut PortHandle)).why()
 }
 
 /// How many deliveries the port holds.
@@ -206,8 +199,7 @@ pub unsafe extern "C" fn evsched_port_held(at: *mut u8) -> i64
     requires* { sem 𝓛 (points_to port_row at value) }
     ensures* { sem 𝓛 (points_to port_row at value) ∗ ⌜ result ≡ ports.held_in value.seat ⌝ }
 {
-    let port = &*(at as *mut PortHandle);
-    port.held()
+    (*(at as *mut PortHandle)).held()
 }
 
 /// Writes what the port counted.
@@ -217,8 +209,7 @@ pub unsafe extern "C" fn evsched_port_counts(at: *mut u8, counts: &mut [u64]) ->
     requires* { sem 𝓛 (points_to port_row at value) }
     ensures* { sem 𝓛 (points_to port_row at value) ∗ ⌜ ports.IsCounted value.seat counts.old counts.new result ⌝ }
 {
-    let port = &*(at as *mut PortHandle);
-    port.counts(counts)
+    (*(at as *mut PortHandle)).counts(counts)
 }
 
 /// Enqueues events.
@@ -226,10 +217,9 @@ pub unsafe extern "C" fn evsched_port_counts(at: *mut u8, counts: &mut [u64]) ->
 pub unsafe extern "C" fn evsched_port_enqueue(at: *mut u8, events: &[CEvent]) -> i64
     ghost value: { PortValue }
     requires* { sem 𝓛 (points_to port_row at value) }
-    ensures* { ∃ₛ (λ (new : PortValue). sem 𝓛 (points_to port_row at new) ∗ ⌜ ports.IsEnqueue value.seat new.seat events.now result ⌝) }
+    ensures* { changes 𝓛 port_row at (λ new. ports.IsEnqueue value.seat new.seat events.now result) }
 {
-    let port = &mut *(at as *mut PortHandle);
-    port.enqueue(events)
+    (*(at as *mut PortHandle)).enqueue(events)
 }
 
 /// Dequeues events.
@@ -237,10 +227,9 @@ pub unsafe extern "C" fn evsched_port_enqueue(at: *mut u8, events: &[CEvent]) ->
 pub unsafe extern "C" fn evsched_port_dequeue(at: *mut u8, events: &mut [CEvent]) -> i64
     ghost value: { PortValue }
     requires* { sem 𝓛 (points_to port_row at value) }
-    ensures* { ∃ₛ (λ (new : PortValue). sem 𝓛 (points_to port_row at new) ∗ ⌜ ports.IsDequeue value.seat new.seat events.old events.new result ⌝) }
+    ensures* { changes 𝓛 port_row at (λ new. ports.IsDequeue value.seat new.seat events.old events.new result) }
 {
-    let port = &mut *(at as *mut PortHandle);
-    port.dequeue(events)
+    (*(at as *mut PortHandle)).dequeue(events)
 }
 
 /// Empties a port's room.
@@ -258,10 +247,9 @@ pub unsafe extern "C" fn evsched_port_clear(at: *mut u8)
 pub unsafe extern "C" fn evsched_control_shut(at: *mut u8) -> i64
     ghost value: { ControlValue }
     requires* { sem 𝓛 (points_to control_row at value) }
-    ensures* { ∃ₛ (λ (new : ControlValue). sem 𝓛 (points_to control_row at new) ∗ ⌜ IsShut value new result ⌝) }
+    ensures* { changes 𝓛 control_row at (λ new. IsShut value new result) }
 {
-    let control = &mut *(at as *mut ControlHandle);
-    control.shut()
+    (*(at as *mut ControlHandle)).shut()
 }
 
 /// Empties a control's room.

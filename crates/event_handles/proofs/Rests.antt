@@ -1,4 +1,4 @@
--- What follows a place in lists that come one after the other.
+-- What follows a point in lists that come one after the other.
 use Rattle.std.proofs.Common.{◌≡◌, ℕ, zero, suc, ◌+◌, List, [], ◌∷◌, ◌++◌, drop, get_or, flat_map, slice_get, Some, None, refl, sym, ap, ◌∙◌, add-one}
 use Rattle.std.proofs.lemmas.Option.{same_Some}
 use Rattle.std.proofs.Math.Seq.{drop-nil}
@@ -24,14 +24,14 @@ all_from [] (suc i) = refl
 all_from (xs ∷ xss) zero = refl
 all_from (xs ∷ xss) (suc i) = all_from xss i
 
--- where something stands at the place it comes first
-pub rest_here : (s : Stopped) (x : CLeft) → Some x ≡ slice_get (get_or (lists_of s.report s.kinds) s.part []) s.place → rest_of s ≡ x ∷ rest_of (record s { place = s.place + 1 })
+-- where something stands there it comes first
+pub rest_here : (s : Stopped) (x : CLeft) → Some x ≡ slice_get (get_or (lists_of s.report s.kinds) s.part []) s.handed → rest_of s ≡ x ∷ rest_of (record s { handed = s.handed + 1 })
 rest_here s x is =
     let xss : List (List CLeft) = lists_of s.report s.kinds in
-    rw add-one (ap (λ ys. ys ++ flat_map (λ xs. xs) (drop (suc s.part) xss)) (drop_read (get_or xss s.part []) s.place x (sym is)))
+    rw add-one (ap (λ ys. ys ++ flat_map (λ xs. xs) (drop (suc s.part) xss)) (drop_read (get_or xss s.part []) s.handed x (sym is)))
 
 -- where nothing does, the next list follows
-pub rest_after : (s : Stopped) → None ≡ slice_get (get_or (lists_of s.report s.kinds) s.part []) s.place → rest_of s ≡ rest_of (record s { part = s.part + 1; place = 0 })
+pub rest_after : (s : Stopped) → None ≡ slice_get (get_or (lists_of s.report s.kinds) s.part []) s.handed → rest_of s ≡ rest_of (record s { part = s.part + 1; handed = 0 })
 rest_after s is =
     let xss : List (List CLeft) = lists_of s.report s.kinds in
-    rw add-one (ap (λ ys. ys ++ flat_map (λ xs. xs) (drop (suc s.part) xss)) (drop_past (get_or xss s.part []) s.place (sym is)) ∙ all_from xss (suc s.part))
+    rw add-one (ap (λ ys. ys ++ flat_map (λ xs. xs) (drop (suc s.part) xss)) (drop_past (get_or xss s.part []) s.handed (sym is)) ∙ all_from xss (suc s.part))

@@ -27,7 +27,7 @@ use Rattle.event_handles.specs.declared.port.Seat.{Seat}
 -- Of these events the first n were taken, and then came the end or a refusal: all that `Port::enqueue_burst` says. The port is still the
 -- same one of its device.
 pub record Submits (p : Port) (events : List Event) (n : ℕ) (end : Option Refused) (q : Port) : Type 0 where
-  pub place : own_site q ≡ own_site p
+  pub own : own_site q ≡ own_site p
   pub credit : Stays (account_of p) (account_of q)
   pub site : site_of q ≡ site_of p
   pub count : n ≤ length events
@@ -60,7 +60,7 @@ IsEnqueue None None given answer = answer ≡ no_device
 -- At most so many deliveries came, with what is released first: all that `Port::dequeue_burst` says where it is `Ok`. The port is still
 -- the same one of its device.
 pub record Receives (p : Port) (max : ℕ) (deliveries : List Delivery) (q : Port) : Type 0 where
-  pub place : own_site q ≡ own_site p
+  pub own : own_site q ≡ own_site p
   pub credit : Stays (account_of p) (account_of q)
   pub site : site_of q ≡ site_of p
   pub received : lanes.Dequeues (links p) (released_first p) (hand p) (hand q) deliveries
@@ -73,7 +73,7 @@ pub record Receives (p : Port) (max : ℕ) (deliveries : List Delivery) (q : Por
 -- A reply ring had no room for all that is released first, and nothing came: all that `Port::dequeue_burst` says of `Behind`. The port
 -- is still the same one of its device.
 pub record FallsBehind (p : Port) (released : ℕ) (q : Port) : Type 0 where
-  pub place : own_site q ≡ own_site p
+  pub own : own_site q ≡ own_site p
   pub credit : Stays (account_of p) (account_of q)
   pub site : site_of q ≡ site_of p
   pub implicit : IsTrue (own_site p).implicit
@@ -125,7 +125,7 @@ abbrev pub count_list : PortCounts → List ℕ
 count_list c =
     c.enqueued ∷ c.dequeued ∷ c.released ∷ c.stopped ∷ c.bad_queue ∷ c.nothing_held ∷ c.backpressure ∷ c.raced ∷ c.full ∷ c.too_many ∷ c.behind ∷ []
 
--- Its counts are written to the front of the array, or nothing is where that has fewer places.
+-- Its counts are written to the front of the array, or nothing is where that is shorter.
 abbrev pub Counts : Port → List ℕ → List ℕ → ℤ → Type 0
 Counts p before after answer =
     (11 ≤ length before → (answer ≡ pos 0) × (after ≡ count_list (counts_of p) ++ drop 11 before))

@@ -13,7 +13,7 @@ rest_at xss i k = drop k (slice_index_or xss i []) ++ flat_map (λ xs. xs) (drop
 
 -- what was not yet handed out
 abbrev pub rest_of : Stopped → List CLeft
-rest_of s = rest_at (lists_of s.report s.kinds) s.part s.place
+rest_of s = rest_at (lists_of s.report s.kinds) s.part s.handed
 
 -- the first of it is handed out, where there is one
 pub record Takes (s t : Stopped) (first : Option CLeft) : Type 0 where
@@ -21,7 +21,7 @@ pub record Takes (s t : Stopped) (first : Option CLeft) : Type 0 where
   pub report : t.report ≡ s.report
   pub kinds : t.kinds ≡ s.kinds
 
--- as much of it as the array has places for is written to the array's front
+-- as much of it as the array has room for is written to the array's front
 pub record Pulls (s t : Stopped) (before after : List CLeft) (count : ℕ) : Type 0 where
   pub count_is : count ≡ min (length before) (length (rest_of s))
   pub written : after ≡ take count (rest_of s) ++ drop count before

@@ -8,7 +8,7 @@ use Rattle.event_handles.specs.declared.stopped.Stopped.{Stopped}
 
 -- ---- an array for numbers
 
--- the numbers are written to its front, or nothing is where it has fewer places
+-- the numbers are written to its front, or nothing is where it is shorter
 pub record Fills (numbers before after : List ℕ) (answer : ℤ) : Type 0 where
   pub long : length numbers ≤ length before → (answer ≡ pos 0) × (after ≡ numbers ++ drop (length numbers) before)
   pub short : length before < length numbers → (answer ≡ invalid) × (after ≡ before)

@@ -16,7 +16,7 @@ use Rattle.event_handles.specs.declared.stopped.Stopped.{Stopped}
 pub record Stops (r : Parts) (stopped : Stopped) : Type 0 where
   pub stops : devices.Stops steps_logged r stopped.report
   pub part : stopped.part ≡ 0
-  pub place : stopped.place ≡ 0
+  pub handed : stopped.handed ≡ 0
   pub kinds : stopped.kinds ≡ kinds_of r
 
 -- a port or the control is away; or all are at home, and memory ran out

@@ -50,7 +50,7 @@ impl Hub {
 
     /// Writes counts to the front of the array: 0. Below 32 those of a queue, in the order of `QueueCounts`; below 192 those of a lane, in
     /// the order of `LaneCounts`; of 192 how many events were accepted as new, and how many are inside, which after the stop isn't known:
-    /// -19. -22 where the array has fewer places or the number is above. -19 where the device was refused.
+    /// -19. -22 where the array is shorter or the number is above. -19 where the device was refused.
     pub fn counts(&self, what: usize, out: &mut [u64]) -> i64
         ensures { IsCounted self.now what out.old out.new result }
     {

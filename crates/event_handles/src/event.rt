@@ -28,11 +28,11 @@ pub struct CEvent {
 #[derive(Clone, Copy, Debug, PartialEq, Eq, Default)]
 pub struct CLeft {
     pub event: CEvent,
-    /// The number that it was accepted under; 0 at the places 3 and 4.
+    /// The number that it was accepted under; 0 in the parts 3 and 4.
     pub number: u64,
     /// 0: it waits in a queue. 1: a queue keeps it. 2: it wasn't received from a lane. 3: it wasn't taken from a lane. 4: it was turned
     /// away.
-    pub place: u64,
+    pub part: u64,
     /// That queue or lane.
     pub lane: u64,
 }
@@ -132,8 +132,8 @@ pub(crate) fn read_all(given: &[CEvent], events: &mut [Event])
     requires { length given.now ≤ length events.old }
     ensures { AllZip IsRead given.now (take (length given.now) events.new) }
 {
-    for (place, event) in given.iter().enumerate() {
-        events[place] = read(event);
+    for (index, event) in given.iter().enumerate() {
+        events[index] = read(event);
     }
 }
 
@@ -142,7 +142,7 @@ pub(crate) fn write_all(deliveries: &[Delivery], kinds: &[Kind; MAX_QUEUES], out
     requires { length deliveries.now ≤ length out.old }
     ensures { out.new ≡ map (written_in kinds.now) deliveries.now ++ drop (length deliveries.now) out.old }
 {
-    for (place, delivery) in deliveries.iter().enumerate() {
-        out[place] = write(delivery, kind_at(kinds, delivery.queue));
+    for (index, delivery) in deliveries.iter().enumerate() {
+        out[index] = write(delivery, kind_at(kinds, delivery.queue));
     }
 }

@@ -1,16 +1,15 @@
 //! What is left in a device that was stopped, for C.
 
 ghost use Rattle.std.specs.Prelude.{◌≡◌};
-ghost use Rattle.event_handles.specs.Left.{kept_left, shown, turned_left, undelivered_left, untaken_left, waiting_left};
+ghost use Rattle.event_handles.specs.Left.{left_in, shown};
 
 use crate::errno::ENODEV;
 use crate::event::{CEvent, CLeft, c_event, kind_at};
 use crate::hub::Hub;
 use crate::stopped::Stopped;
-use event_device::{Turned, Undelivered, Untaken};
-use evt_types::{Delivery, Event, KeptEvent, Kind, MAX_QUEUES};
+use evt_types::{Event, Kind, MAX_QUEUES};
 
-/// How many lists of what is left there are, one for each place.
+/// How many lists of what is left there are, one for each part.
 const PARTS: usize = 5;
 
 /// An event as it is, with the scheduling type of its queue.
@@ -20,58 +19,15 @@ fn shown(kinds: &[Kind; MAX_QUEUES], event: &Event) -> CEvent
     c_event(event, kind_at(kinds, usize::from(event.queue)))
 }
 
-fn waiting_left(kinds: &[Kind; MAX_QUEUES], delivery: &Delivery) -> CLeft
-    ensures { result ≡ waiting_left kinds.now delivery.now }
+/// What is left in a part, of a queue or lane.
+fn left_in(part: u64, kinds: &[Kind; MAX_QUEUES], event: &Event, number: u64, lane: usize) -> CLeft
+    ensures { result ≡ left_in part kinds.now event.now number lane }
 {
     CLeft {
-        event: shown(kinds, &delivery.event),
-        number: delivery.number,
-        place: 0,
-        lane: delivery.queue as u64,
-    }
-}
-
-fn kept_left(kinds: &[Kind; MAX_QUEUES], kept: &KeptEvent) -> CLeft
-    ensures { result ≡ kept_left kinds.now kept.now }
-{
-    CLeft {
-        event: shown(kinds, &kept.event),
-        number: kept.number,
-        place: 1,
-        lane: kept.queue as u64,
-    }
-}
-
-fn undelivered_left(kinds: &[Kind; MAX_QUEUES], undelivered: &Undelivered) -> CLeft
-    ensures { result ≡ undelivered_left kinds.now undelivered.now }
-{
-    CLeft {
-        event: shown(kinds, &undelivered.event),
-        number: undelivered.number,
-        place: 2,
-        lane: undelivered.lane as u64,
-    }
-}
-
-fn untaken_left(kinds: &[Kind; MAX_QUEUES], untaken: &Untaken) -> CLeft
-    ensures { result ≡ untaken_left kinds.now untaken.now }
-{
-    CLeft {
-        event: shown(kinds, &untaken.event),
-        number: 0,
-        place: 3,
-        lane: untaken.lane as u64,
-    }
-}
-
-fn turned_left(kinds: &[Kind; MAX_QUEUES], turned: &Turned) -> CLeft
-    ensures { result ≡ turned_left kinds.now turned.now }
-{
-    CLeft {
-        event: shown(kinds, &turned.event),
-        number: 0,
-        place: 4,
-        lane: turned.lane as u64,
+        event: shown(kinds, event),
+        number,
+        part,
+        lane: lane as u64,
     }
 }
 
@@ -82,21 +38,33 @@ impl Stopped {
 
     /// What comes next in this part's list.
     fn current(&self) -> Option<CLeft>
-        ensures here { result ≡ slice_get (slice_index_or (lists_of self.now.report self.now.kinds) self.now.part []) self.now.place }
-        ensures few { IsSome result → self.now.place < 2 ^ 63 }
+        ensures here { result ≡ slice_get (slice_index_or (lists_of self.now.report self.now.kinds) self.now.part []) self.now.handed }
+        ensures few { IsSome result → self.now.handed < 2 ^ 63 }
     {
         let report = &self.report;
         let kinds = &self.kinds;
-        let place = self.place;
+        let handed = self.handed;
         match self.part {
-            0 => report.waiting.get(place).map(|x| waiting_left(kinds, x)),
-            1 => report.kept.get(place).map(|x| kept_left(kinds, x)),
+            0 => report
+                .waiting
+                .get(handed)
+                .map(|x| left_in(0, kinds, &x.event, x.number, x.queue)),
+            1 => report
+                .kept
+                .get(handed)
+                .map(|x| left_in(1, kinds, &x.event, x.number, x.queue)),
             2 => report
                 .undelivered
-                .get(place)
-                .map(|x| undelivered_left(kinds, x)),
-            3 => report.untaken.get(place).map(|x| untaken_left(kinds, x)),
-            4 => report.turned.get(place).map(|x| turned_left(kinds, x)),
+                .get(handed)
+                .map(|x| left_in(2, kinds, &x.event, x.number, x.lane)),
+            3 => report
+                .untaken
+                .get(handed)
+                .map(|x| left_in(3, kinds, &x.event, 0, x.lane)),
+            4 => report
+                .turned
+                .get(handed)
+                .map(|x| left_in(4, kinds, &x.event, 0, x.lane)),
             _ => None,
         }
     }
@@ -107,22 +75,22 @@ impl Stopped {
     {
         while self.part < PARTS {
             if let Some(left) = self.current() {
-                self.place += 1;
+                self.handed += 1;
                 return Some(left);
             }
             self.part += 1;
-            self.place = 0;
+            self.handed = 0;
         }
         None
     }
 
-    /// Hands out as much as the array has places for.
+    /// Hands out as much as the array has room for.
     fn pull(&mut self, out: &mut [CLeft]) -> usize
         ensures { Pulls self.old self.new out.old out.new result }
     {
-        for (count, place) in out.iter_mut().enumerate() {
+        for (count, item) in out.iter_mut().enumerate() {
             match self.next() {
-                Some(left) => *place = left,
+                Some(left) => *item = left,
                 None => return count,
             }
         }
@@ -133,7 +101,7 @@ impl Stopped {
 impl Hub {
     ghost use Rattle.event_handles.specs.Pulls.{IsLeft};
 
-    /// Hands out what is left, beside what ports hold, as much as the array has places for: how much. -19 before the stop.
+    /// Hands out what is left, beside what ports hold, as much as the array has room for: how much. -19 before the stop.
     pub fn left(&mut self, out: &mut [CLeft]) -> i64
         ensures { IsLeft self.old self.new out.old out.new result }
     {

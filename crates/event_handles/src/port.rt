@@ -113,7 +113,7 @@ impl PortHandle {
         }
     }
 
-    /// Dequeues as many events as are there, as the array has places and as the port may hold: how many came. With implicit release what
+    /// Dequeues as many events as are there, as the array has room for and as the port may hold: how many came. With implicit release what
     /// is held is released first; -105 where a ring has no room for that, and nothing came. -19 without a seat.
     pub fn dequeue(&mut self, out: &mut [CEvent]) -> i64
         ensures { IsDequeue self.old.seat self.new.seat out.old out.new result }
@@ -145,8 +145,8 @@ impl PortHandle {
         }
     }
 
-    /// Writes what the port counted since it was made to the front of the array, in the order of `PortCounts`. -22 where it has fewer
-    /// places, -19 without a seat.
+    /// Writes what the port counted since it was made to the front of the array, in the order of `PortCounts`. -22 where it is
+    /// shorter, -19 without a seat.
     pub fn counts(&self, out: &mut [u64]) -> i64
         ensures { IsCounted self.now.seat out.old out.new result }
     {

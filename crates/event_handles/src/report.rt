@@ -7,7 +7,7 @@ use crate::errno::{EINVAL, ENODEV};
 use crate::hub::Hub;
 use crate::stopped::Stopped;
 
-/// Writes the numbers to the front of the array: 0. -22 where it has fewer places.
+/// Writes the numbers to the front of the array: 0. -22 where it is shorter.
 pub(crate) fn fill(numbers: &[u64], out: &mut [u64]) -> i64
     ensures { Fills numbers.now out.old out.new result }
 {
@@ -56,7 +56,7 @@ impl Hub {
     ghost use Rattle.event_handles.specs.Report.{IsReported};
 
     /// Writes to the front of the array how many credits were free, the scheduler's and the ports', and how many events waited, were kept,
-    /// weren't delivered, were held, weren't taken and were turned away: 0. -22 where it has fewer than nine places, -19 before the stop.
+    /// weren't delivered, were held, weren't taken and were turned away: 0. -22 where it has fewer than nine items, -19 before the stop.
     pub fn report(&self, out: &mut [u64]) -> i64
         ensures { IsReported self.now out.old out.new result }
     {

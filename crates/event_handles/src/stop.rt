@@ -35,7 +35,7 @@ impl Hub {
                     report,
                     kinds: self.kinds,
                     part: 0,
-                    place: 0,
+                    handed: 0,
                 };
                 self.stopped = Some(stopped);
                 0

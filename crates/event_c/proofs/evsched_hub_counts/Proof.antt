@@ -1,4 +1,5 @@
 use denote.Builtin.{u64}
+use Rattle.event_c.proofs.Lent.{by_ref}
 use Rattle.event_c.proofs.ReportsFor.{reports_for}
 use Rattle.event_c.specs.contracts.evsched_hub_counts.Key.{name as #self}
 use Rattle.event_c.proofs.evsched_hub_counts.Statement.{statement}
@@ -11,5 +12,5 @@ use Rattle.event_handles.proofs.hub.Hub.counts.Met.{met}
 
 pub evsched_hub_counts_spec : {M : Type 1} → statement M
 evsched_hub_counts_spec 𝓤 𝓛 𝓜 𝓡 wired =
-    reports_for the_row the_row_laws the_within tt u64 tt IsCounted 𝓤 𝓛 𝓜 𝓡 #self #call (code.unfolded 𝓤 𝓛.H 𝓜 𝓡 wired)
+    reports_for the_row the_row_laws the_within tt by_ref u64 tt (λ hub _ what before after answer. IsCounted hub what before after answer) 𝓤 𝓛 𝓜 𝓡 #self #call (code.unfolded 𝓤 𝓛.H 𝓜 𝓡 wired)
     (met 𝓤 𝓛 𝓜 𝓡 (code.calls-event_handles::hub::Hub::counts 𝓡.env wired))

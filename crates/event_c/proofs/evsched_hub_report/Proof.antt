@@ -1,5 +1,6 @@
 use denote.Builtin.{u64}
-use Rattle.event_c.proofs.Reports.{reports}
+use Rattle.event_c.proofs.Lent.{by_ref}
+use Rattle.event_c.proofs.Fills.{fills}
 use Rattle.event_c.specs.contracts.evsched_hub_report.Key.{name as #self}
 use Rattle.event_c.proofs.evsched_hub_report.Statement.{statement}
 use Rattle.event_c.proofs.evsched_hub_report.Code as code
@@ -11,5 +12,5 @@ use Rattle.event_handles.proofs.hub.Hub.report.Met.{met}
 
 pub evsched_hub_report_spec : {M : Type 1} → statement M
 evsched_hub_report_spec 𝓤 𝓛 𝓜 𝓡 wired =
-    reports the_row the_row_laws the_within tt u64 tt IsReported 𝓤 𝓛 𝓜 𝓡 #self #call (code.unfolded 𝓤 𝓛.H 𝓜 𝓡 wired)
+    fills the_row the_row_laws the_within tt by_ref u64 tt (λ hub _ before after answer. IsReported hub before after answer) 𝓤 𝓛 𝓜 𝓡 #self #call (code.unfolded 𝓤 𝓛.H 𝓜 𝓡 wired)
     (met 𝓤 𝓛 𝓜 𝓡 (code.calls-event_handles::hub::Hub::report 𝓡.env wired))

@@ -5,10 +5,10 @@ use Rattle.event_handles.specs.Events.{IsRead}
 use Rattle.event_handles.specs.declared.event.CEvent.{CEvent}
 use Rattle.event_handles.proofs.event.read_all.Goals as goal
 
-pub loop-place-preserved : goal.loop-place-preserved
-loop-place-preserved c =
-    let there : c.loop-place.place < length c.args.given.now = omega arith in
-    let room : c.loop-place.place < length c.loop-place.events = omega arith in
+pub loop-index-preserved : goal.loop-index-preserved
+loop-index-preserved c =
+    let there : c.loop-index.index < length c.args.given.now = omega arith in
+    let room : c.loop-index.index < length c.loop-index.events = omega arith in
     let zero : CEvent = record { flow_and_types = 0; op_and_kind = 0; queue = 0; priority = 0; impl_opaque = 0; payload = 0 } in
-    rw (take_more c.args.given.now c.loop-place.place zero there, take_more_set _ _ c.read.result room)
-    (all_zipped_more IsRead _ _ _ _ c.loop-place.invariant c.read.ensures)
+    rw (take_more c.args.given.now c.loop-index.index zero there, take_more_set _ _ c.read.result room)
+    (all_zipped_more IsRead _ _ _ _ c.loop-index.invariant c.read.ensures)

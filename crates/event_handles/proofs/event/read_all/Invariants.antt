@@ -3,5 +3,5 @@ use Rattle.std.specs.List.{AllZip}
 use Rattle.event_handles.specs.Events.{IsRead}
 use Rattle.event_handles.proofs.event.read_all.Given as goal
 
-abbrev pub invariant-loop-place : goal.invariant-loop-place
-invariant-loop-place l = AllZip IsRead (take l.place l.given) (take l.place l.events)
+abbrev pub invariant-loop-index : goal.invariant-loop-index
+invariant-loop-index l = AllZip IsRead (take l.index l.given) (take l.index l.events)

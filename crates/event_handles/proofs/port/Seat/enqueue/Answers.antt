@@ -1,4 +1,4 @@
--- What was read is what the port is handed, and no other port stands in its place.
+-- What was read is what the port is handed, and it is still the same port.
 use Rattle.std.proofs.Common.{◌≡◌, ℕ, ◌≤◌, min, List, length, take, refl, subst, ap, ◌∙◌, arith}
 use Rattle.std.specs.List.{AllZip}
 use Rattle.std.proofs.lemmas.Int.{ints}
@@ -14,16 +14,16 @@ returns c =
     let count : c.min-count.result ≡ min 64 (length c.args.events.now) = omega arith in
     let within : c.min-count.result ≤ length c.args.events.now = omega arith in
     let front : take c.min-count.result c.args.events.now ≡ take 64 c.args.events.now = ap (λ n. take n c.args.events.now) count ∙ take_min 64 c.args.events.now in
-    let places : length (take c.min-count.result c.args.events.now) ≡ c.min-count.result = length-take-le _ _ within in
+    let counted : length (take c.min-count.result c.args.events.now) ≡ c.min-count.result = length-take-le _ _ within in
     let few : c.enqueue_burst-taken.result.0 ≤ 64 = omega (arith, burst.count, length-take c.min-count.result c.read_all.new.events) in
     record {
       events = take c.min-count.result c.read_all.new.events;
       read = subst (λ (given : List CEvent). AllZip IsRead given (take c.min-count.result c.read_all.new.events)) front
-          (subst (λ (n : ℕ). AllZip IsRead (take c.min-count.result c.args.events.now) (take n c.read_all.new.events)) places c.read_all.ensures);
+          (subst (λ (n : ℕ). AllZip IsRead (take c.min-count.result c.args.events.now) (take n c.read_all.new.events)) counted c.read_all.ensures);
       n = c.enqueue_burst-taken.result.0;
       end = c.enqueue_burst-taken.result.1;
       submits = record {
-        place = burst.site;
+        own = burst.site;
         credit = burst.credit;
         site = same_site c.args.self.now.port c.enqueue_burst-taken.new.self burst.site burst.credit;
         count = burst.count;

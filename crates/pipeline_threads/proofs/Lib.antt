@@ -1,7 +1,7 @@
 pub mod Answering
 pub mod Bringing
-pub mod Calls
 pub mod Engines
 pub mod Reports
 pub mod Runs
+pub mod Submitting
 pub mod Wholes

@@ -1,13 +1,15 @@
 -- What the threads of a pipeline do with their ports, and what each promises of the port that it returns.
-use Rattle.std.specs.Prelude.{◌≡◌, false, List, [], ◌∷◌, ◌++◌, map, All}
-use Rattle.event_ports.specs.Lanes.{IsEmptyHand, holding_of}
+use Rattle.std.specs.Prelude.{◌≡◌, ℕ, true, false, List, [], ◌++◌, length, map, take, All}
+use Rattle.std.specs.List.{AllZip}
+use Rattle.event_ports.specs.Lanes.{Hand, IsEmptyHand, SubmitsAll, reply_of}
 use Rattle.event_ports.specs.Ports.{hand, links}
-use Rattle.event_ports.specs.declared.lane.Lane.{Lane}
+use Rattle.event_ports.specs.declared.lane.Holding.{Holding}
 use Rattle.event_ports.specs.declared.lane.Lane.TheVariants.{Own}
 use Rattle.event_ports.specs.declared.port.Port.{Port}
 use Rattle.event_device.specs.Device.{site_of}
-use Rattle.evt_types.specs.Operation.{is_new_reply}
+use Rattle.evt_types.specs.Operation.{is_answer_op, is_new_reply}
 use Rattle.evt_types.specs.declared.event.Delivery.{Delivery}
+use Rattle.evt_types.specs.declared.event.Event.{Event}
 use Rattle.evt_types.specs.declared.event.Reply.{Reply}
 use Rattle.pipeline_laws.specs.Promises.{IsProducer, IsWorker, PortLists, said_to}
 use Rattle.pipeline_laws.specs.declared.stage.Action.{Action}
@@ -29,29 +31,34 @@ lists_of p = record { submitted = submitted_by p; received = received_by p }
 abbrev pub IsIdle : Port → Type 0
 IsIdle p = IsEmptyHand (hand p)
 
--- it submitted no NEW to its own lane
-abbrev pub HasNoNews : Port → Type 0
-HasNoNews p = All (λ (r : Reply). is_new_reply r ≡ false) (submitted_by p)
+-- no NEW was submitted to the port's own lane
+abbrev pub HasNoNews : Hand → Type 0
+HasNoNews h = All (λ (r : Reply). is_new_reply r ≡ false) (h.said Own)
 
--- It holds nothing and submitted no NEW; where it has its own lane alone, all that it received is answered as is due.
-pub record IsEven (actions : List Action) (p : Port) : Type 0 where
-  pub answered : links p ≡ [] → map said (submitted_by p) ≡ map (said_to actions) (received_by p)
-  pub holds_none : (hand p).holding ≡ []
-  pub no_news : HasNoNews p
+-- A worker's port with these links holds these deliveries, oldest first, and submitted no NEW; where it has its own lane alone they came
+-- from that, and all that it received before is answered as is due.
+pub record Owes (actions : List Action) (linked : List ℕ) (ds : List Delivery) (h : Hand) : Type 0 where
+  pub due : linked ≡ [] → map said (h.said Own) ++ map (said_to actions) ds ≡ map (said_to actions) (h.got Own)
+  pub own : linked ≡ [] → All (λ (x : Holding). x.lane ≡ Own) h.holding
+  pub held : length h.holding ≡ length ds
+  pub no_news : HasNoNews h
 
--- one delivery came, and is all that it holds; where it has its own lane alone it came from that
-pub record Receives (d : Delivery) (p q : Port) : Type 0 where
-  pub lane : Lane
-  pub submitted : submitted_by q ≡ submitted_by p
-  pub holding : (hand q).holding ≡ holding_of lane d ∷ []
-  pub own : links p ≡ [] → lane ≡ Own
-  pub received : links p ≡ [] → received_by q ≡ received_by p ++ d ∷ []
+-- it holds nothing, and so owes nothing
+abbrev pub IsEven : List Action → Port → Type 0
+IsEven actions p = Owes actions (links p) [] (hand p)
 
--- nothing came, and it holds nothing
-pub record ReceivesNone (p q : Port) : Type 0 where
-  pub submitted : submitted_by q ≡ submitted_by p
-  pub received : received_by q ≡ received_by p
-  pub holding : (hand q).holding ≡ []
+-- the event is the answer that is due to the delivery
+pub record IsDue (actions : List Action) (d : Delivery) (e : Event) : Type 0 where
+  pub said : said (reply_of e) ≡ said_to actions d
+  pub answers : is_answer_op e.op ≡ true
+
+-- these are the answers to these deliveries, in their order
+abbrev pub AreDue : List Action → List Delivery → List Event → Type 0
+AreDue actions ds es = AllZip (IsDue actions) ds es
+
+-- of these events so many were submitted, one after the other, and the rest wasn't
+abbrev pub SubmitsFront : List Event → Hand → Hand → Type 0
+SubmitsFront es h k = (n : ℕ) × SubmitsAll (take n es) h k
 
 -- ---- promises
 
@@ -59,7 +66,7 @@ pub record ReceivesNone (p q : Port) : Type 0 where
 -- order.
 pub record HasWorked (actions : List Action) (p : Port) : Type 0 where
   pub worker : links p ≡ [] → IsWorker actions (lists_of p)
-  pub no_news : HasNoNews p
+  pub no_news : HasNoNews (hand p)
 
 -- the port that a worker returns is the one that it was given, and it worked with it
 pub record ReturnsWorker (actions : List Action) (start back : Port) : Type 0 where

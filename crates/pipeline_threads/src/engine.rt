@@ -1,6 +1,6 @@
 //! A device whose ports are handed to threads.
 
-ghost use Rattle.std.specs.Prelude.{◌≡◌, IfOk, OnOk, length, All};
+ghost use Rattle.std.specs.Prelude.{◌≡◌, [], IfOk, OnOk};
 ghost use Rattle.event_device.specs.Device.{scheduler_of};
 ghost use Rattle.event_device.specs.Stop.{IsReport};
 ghost use Rattle.transcripts.specs.Replies.{new_count};
@@ -11,7 +11,7 @@ use crate::fault::RunFault;
 use crate::gate::Gate;
 use crate::patience::Patience;
 use event_device::{Control, DeviceFault, Memory, Port, Recorder, Report, StopFault, device};
-use evt_types::Shape;
+use evt_types::{Shape, Step};
 use std::alloc::{AllocError, Global};
 use std::sync::Wait;
 
@@ -23,19 +23,35 @@ pub(crate) struct Engine {
     pub(crate) ports: Vec<Port>,
 }
 
+/// An empty log that has room for so many steps, so that it doesn't move as it grows: what isn't written of that room takes no memory.
+/// Where so much can't be had at once, it begins with none.
+fn empty_log(alloc: Global, steps: usize) -> Vec<Step>
+    ensures { result.items ≡ [] }
+{
+    match Vec::with_capacity(alloc, steps) {
+        Ok(log) => log,
+        Err(_) => Vec::new(alloc),
+    }
+}
+
 impl Engine {
-    /// A device of this configuration, in which nothing has happened.
-    pub(crate) fn new(alloc: Global, shape: Shape) -> Result<Engine, RunFault>
+    /// A device of this configuration, in which nothing has happened. Its log has room for so many steps, and for those of a sweep, where
+    /// that can be had.
+    pub(crate) fn new(alloc: Global, shape: Shape, steps: usize) -> Result<Engine, RunFault>
         ensures made { IfOk result (IsEngineOf shape) }
         ensures ready { IfOk result IsReady }
     {
         let _ = shape.limit();
         match device(alloc, shape) {
-            Ok((scheduler, ports, control)) => Ok(Engine {
-                recorder: Recorder::begin(alloc, scheduler),
-                control,
-                ports,
-            }),
+            Ok((scheduler, ports, control)) => {
+                let room = steps.saturating_add(scheduler.core().log_room());
+                let log = empty_log(alloc, room);
+                Ok(Engine {
+                    recorder: Recorder::begin_with(alloc, log, scheduler),
+                    control,
+                    ports,
+                })
+            }
             Err(DeviceFault::Memory(_)) => Err(RunFault::Memory),
             Err(DeviceFault::NoSeat(_)) => Err(RunFault::NoSeat),
         }

@@ -4,7 +4,7 @@ ghost use Rattle.std.specs.Prelude.{◌≡◌};
 ghost use Rattle.pipeline_laws.specs.Worked as worked;
 ghost use Rattle.pipeline_threads.specs.Ports.{IsIdle, ReturnsProducer};
 
-use crate::submit::submit;
+use crate::submit::submit_all;
 use event_device::Port;
 use evt_types::{Event, Op};
 use pipeline_laws::Entry;
@@ -33,7 +33,7 @@ pub(crate) fn produce<R: Wait>(rt: &R, trace: &[Entry], port: Port) -> Port
 {
     let mut port = port;
     for entry in trace {
-        if !submit(rt, &mut port, new_event(entry)) {
+        if !submit_all(rt, &mut port, &[new_event(entry)]) {
             return port;
         }
     }

@@ -19,6 +19,9 @@ use std::alloc::Global;
 use std::sync::Wait;
 use std::thread::Threads;
 
+/// How many steps an event takes at a stage: it is accepted, given and answered.
+const STAGE_STEPS: usize = 3;
+
 /// Runs the trace through the pipeline whose stages are the queues, on a device of this configuration: port 0 brings the events in, each
 /// other port carries out the stages' actions, each in a thread of its own, and the scheduler runs in this one. The report is that of
 /// the stop; whatever the schedule was, its log is that of a finished run. Where the device serves by ports, each answer in it is its
@@ -41,7 +44,10 @@ pub fn run_pipeline<R: Threads + Wait + Sync, G: Gate>(
     ensures finished { IfOk result (λ report. IsFinished shape trace.now report.log.items) }
 {
     let _ = shape.limit();
-    let engine = Engine::new(alloc, shape)?;
+    let steps = STAGE_STEPS
+        .saturating_mul(actions.len())
+        .saturating_mul(trace.len());
+    let engine = Engine::new(alloc, shape, steps)?;
     let engine = run_threads(rt, gate, actions, trace, engine)?;
     match engine.recorder.stop(alloc, engine.control, engine.ports) {
         Ok(report) => Ok(report),

@@ -1,32 +1,36 @@
-//! An event is enqueued, as often as it takes.
+//! Events are enqueued, as often as it takes.
 
-ghost use Rattle.std.specs.Prelude.{◌≡◌, IsTrue, IsFalse};
-ghost use Rattle.event_ports.specs.Lanes.{Rests, SubmitsTo, lane_for, reply_of};
+ghost use Rattle.std.specs.Prelude.{◌≡◌, IsTrue};
+ghost use Rattle.event_ports.specs.Lanes.{SubmitsAll};
 ghost use Rattle.event_ports.specs.Ports.{hand};
 ghost use Rattle.event_device.specs.Device.{site_of};
+ghost use Rattle.pipeline_threads.specs.Ports.{SubmitsFront};
 
 use crate::patience::Patience;
 use event_device::{Port, Refused};
 use evt_types::Event;
 use std::sync::Wait;
 
-/// Enqueues the event, again where credits or room are lacking, until it is taken or the device is seen shut: whether it was taken.
-/// After any other refusal it isn't tried again.
-pub(crate) fn submit<R: Wait>(rt: &R, port: &mut Port, event: Event) -> bool
+/// Enqueues the events in their order, from the first that is refused again where credits or room are lacking, until all are taken or
+/// the device is seen shut: whether all were taken. After any other refusal no more is tried.
+pub(crate) fn submit_all<R: Wait>(rt: &R, port: &mut Port, events: &[Event]) -> bool
     ensures site { site_of port.new ≡ site_of port.old }
-    ensures taken { IsTrue result → SubmitsTo (lane_for event.op (hand port.old).holding) (reply_of event) (hand port.old) (hand port.new) }
-    ensures shut { IsFalse result → Rests (hand port.old) (hand port.new) }
+    ensures all { IsTrue result → SubmitsAll events.now (hand port.old) (hand port.new) }
+    ensures front { SubmitsFront events.now (hand port.old) (hand port.new) }
 {
     let mut patience = Patience::new();
+    let mut sent = 0;
     for _ in rt.forever() {
-        match port.enqueue(event) {
-            Ok(()) => return true,
-            Err(Refused::Backpressure { .. } | Refused::Raced { .. } | Refused::Full) => {
+        let (taken, end) = port.enqueue_burst(&events[sent..]);
+        sent += taken;
+        match end {
+            None => return true,
+            Some(Refused::Backpressure { .. } | Refused::Raced { .. } | Refused::Full) => {
                 if port.shut_seen() {
                     return false;
                 }
             }
-            Err(Refused::Stopped | Refused::BadQueue | Refused::NothingHeld | Refused::TooMany) =>
+            Some(Refused::Stopped | Refused::BadQueue | Refused::NothingHeld | Refused::TooMany) =>
                 return false,
         }
         patience.wait();

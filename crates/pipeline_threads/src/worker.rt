@@ -1,33 +1,39 @@
 //! A worker: it carries out the stages' actions on the events that it receives.
 
-ghost use Rattle.std.specs.Prelude.{◌≡◌, ◌≤◌, [], true, All, IsTrue, length, MatchOption};
+ghost use Rattle.std.specs.Prelude.{◌≡◌, ◌≤◌, true, All, IsTrue, length};
 ghost use Rattle.event_ports.specs.Lanes.{reply_of};
-ghost use Rattle.event_ports.specs.Ports.{hand};
 ghost use Rattle.event_device.specs.Device.{site_of};
 ghost use Rattle.evt_types.specs.Operation.{is_answer_op};
 ghost use Rattle.pipeline_laws.specs.Pipeline.{IsProper};
 ghost use Rattle.pipeline_laws.specs.Promises.{said_to};
-ghost use Rattle.pipeline_threads.specs.Ports.{HasWorked, IsEven, IsIdle, Receives, ReceivesNone, ReturnsWorker};
+ghost use Rattle.pipeline_threads.specs.Ports.{AreDue, HasWorked, IsEven, IsIdle, ReturnsWorker};
 ghost use Rattle.transcripts.specs.Replies.{said};
 
 use crate::gate::Gate;
 use crate::patience::Patience;
-use crate::submit::submit;
+use crate::submit::submit_all;
 use arrayvec::ArrayVec;
 use event_device::Port;
 use evt_types::{Delivery, Event, Outcome};
 use pipeline_laws::{Action, answer};
 use std::sync::Wait;
 
-/// The next event, where one has come. The list is the worker's own, so that a look makes none.
-fn receive(port: &mut Port, deliveries: &mut ArrayVec<Delivery, 64>) -> Option<Delivery>
-    requires none { (hand port.old).holding ≡ [] }
-    ensures site { site_of port.new ≡ site_of port.old }
-    ensures received { MatchOption result (ReceivesNone port.old port.new) (λ d. Receives d port.old port.new) }
-{
-    match port.dequeue_burst(1, deliveries) {
-        Ok(_) => deliveries.first().copied(),
-        Err(_) => None,
+/// How many events a worker dequeues at once, at most.
+const BURST: usize = 32;
+
+/// What a worker dequeued at once, and the events by which it answers that. Its arrays are made once for all of a worker's bursts.
+#[derive(Drop)]
+struct Burst {
+    deliveries: ArrayVec<Delivery, 64>,
+    answers: ArrayVec<Event, BURST>,
+}
+
+impl Burst {
+    fn new() -> Burst {
+        Burst {
+            deliveries: ArrayVec::new(),
+            answers: ArrayVec::new(),
+        }
     }
 }
 
@@ -44,13 +50,33 @@ fn answer_event(actions: &[Action], delivery: &Delivery) -> Event
     }
 }
 
-/// Receives one event, where one has come, and answers it: whether the worker is to go on.
+/// The events by which the deliveries are answered, in their order. The worker of this number passes the gate before each action.
+fn answer_each<G: Gate>(
+    gate: &G,
+    worker: usize,
+    actions: &[Action],
+    deliveries: &[Delivery],
+    answers: &mut ArrayVec<Event, BURST>,
+)
+    requires actions { All IsProper actions.now }
+    requires few { length actions.now ≤ 255 }
+    requires fits { length deliveries.now ≤ BURST }
+    ensures { AreDue actions.now deliveries.now answers.new.items }
+{
+    answers.clear();
+    for delivery in deliveries {
+        gate.enter(worker, delivery.event.payload);
+        answers.push(answer_event(actions, delivery));
+    }
+}
+
+/// Dequeues a burst, of what has come, and answers it: whether the worker is to go on.
 fn turn<R: Wait, G: Gate>(
     rt: &R,
     gate: &G,
     actions: &[Action],
     port: &mut Port,
-    deliveries: &mut ArrayVec<Delivery, 64>,
+    burst: &mut Burst,
     patience: &mut Patience,
 ) -> bool
     requires actions { All IsProper actions.now }
@@ -60,20 +86,25 @@ fn turn<R: Wait, G: Gate>(
     ensures even { IsTrue result → IsEven actions.now port.new }
     ensures worked { HasWorked actions.now port.new }
 {
-    match receive(port, deliveries) {
-        Some(delivery) => {
-            *patience = Patience::new();
-            gate.enter(port.number(), delivery.event.payload);
-            submit(rt, port, answer_event(actions, &delivery))
-        }
-        None => {
-            patience.wait();
-            !port.shut_seen()
-        }
+    let Ok(came) = port.dequeue_burst(BURST, &mut burst.deliveries) else {
+        unreachable!()
+    };
+    if came == 0 {
+        patience.wait();
+        return !port.shut_seen();
     }
+    *patience = Patience::new();
+    answer_each(
+        gate,
+        port.number(),
+        actions,
+        &burst.deliveries,
+        &mut burst.answers,
+    );
+    submit_all(rt, port, &burst.answers)
 }
 
-/// Receives and answers events, one at a time, until the device is shut.
+/// Receives and answers events, burst by burst, until the device is shut.
 pub(crate) fn work<R: Wait, G: Gate>(rt: &R, gate: &G, actions: &[Action], port: Port) -> Port
     requires actions { All IsProper actions.now }
     requires few { length actions.now ≤ 255 }
@@ -81,10 +112,10 @@ pub(crate) fn work<R: Wait, G: Gate>(rt: &R, gate: &G, actions: &[Action], port:
     ensures { ReturnsWorker actions.now port result }
 {
     let mut port = port;
-    let mut deliveries = ArrayVec::new();
+    let mut burst = Burst::new();
     let mut patience = Patience::new();
     for _ in rt.forever() {
-        if !turn(rt, gate, actions, &mut port, &mut deliveries, &mut patience) {
+        if !turn(rt, gate, actions, &mut port, &mut burst, &mut patience) {
             return port;
         }
     }

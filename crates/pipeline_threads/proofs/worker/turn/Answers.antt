@@ -1,36 +1,70 @@
-use Rattle.std.proofs.Common.{◌≡◌, ◌∙◌, Bool, true, false, refl}
-use Rattle.event_device.specs.Device.{site_of}
-use Rattle.pipeline_threads.proofs.Answering.{answered_even, due_worked, even_worked, none_even, rests_even}
+use Rattle.std.proofs.Common.{◌≡◌, ◌∙◌, List, [], drop, sym, subst}
+use Rattle.std.proofs.lemmas.List.{nil_from_length}
 use Rattle.event_device.proofs.Keeping.{same_site}
+use Rattle.event_device.specs.Device.{site_of}
+use Rattle.event_ports.specs.Ports.{hand, links, released_first}
+use Rattle.evt_types.specs.declared.event.Delivery.{Delivery}
+use Rattle.evt_types.specs.declared.event.Event.{Event}
+use Rattle.pipeline_threads.proofs.Answering.{answered_all, answered_owes, dequeued_owes, owes_at, owes_worked, rests_owes}
+use Rattle.pipeline_threads.specs.Ports.{AreDue, IsEven, Owes}
 use Rattle.pipeline_threads.proofs.worker.turn.Goals as goal
 
--- either way
-by_answer : {P : Type 0} (b : Bool) → (b ≡ true → P) → (b ≡ false → P) → P
-by_answer true f g = f refl
-by_answer false f g = g refl
-
-pub returns-in-Some-clause-even : goal.returns-in-Some-clause-even
-returns-in-Some-clause-even g c taken =
-    answered_even c.args.actions.now c.args.port.now c.receive.new.port c.submit.new.port c.in-Some.delivery c.answer_event.result c.requires.even c.in-Some.ensures.received c.answer_event.ensures.said c.answer_event.ensures.answers
-    (c.submit.ensures.taken taken) (c.submit.ensures.site ∙ c.in-Some.ensures.site)
-
-pub returns-in-Some-clause-worked : goal.returns-in-Some-clause-worked
-returns-in-Some-clause-worked g c =
-    by_answer c.submit.result (λ taken. even_worked c.args.actions.now c.submit.new.port (returns-in-Some-clause-even g c taken))
-    (λ shut. due_worked c.args.actions.now c.args.port.now c.receive.new.port c.submit.new.port c.in-Some.delivery c.requires.even c.in-Some.ensures.received (c.submit.ensures.shut shut) (c.submit.ensures.site ∙ c.in-Some.ensures.site))
-
-pub returns-in-None-clause-even : goal.returns-in-None-clause-even
-returns-in-None-clause-even g c on =
+pub returns-then-came-eq0-clause-even : goal.returns-then-came-eq0-clause-even
+returns-then-came-eq0-clause-even g c on =
+    let actions = c.args.actions.now in
     let before = c.args.port.now in
-    let between = c.receive.new.port in
+    let between = c.dequeue_burst.new.self in
     let after = c.shut_seen.new.self in
-    let kept : site_of after ≡ site_of between = same_site between after c.shut_seen.ensures.site c.shut_seen.ensures.credit in
-    rests_even c.args.actions.now between after (none_even c.args.actions.now before between c.requires.even c.in-None.ensures.received c.in-None.ensures.site) c.shut_seen.ensures.same.0 kept
+    let came = c.dequeue_burst.new.into.items in
+    let owes : Owes actions (links before) came (hand between) =
+    dequeued_owes actions (links before) (released_first before) (hand before) (hand between) came c.requires.even c.in-Ok.ensures.ok in
+    let none : came ≡ [] = nil_from_length came (sym c.in-Ok.ensures.count ∙ c.if-came-eq0.true) in
+    let even = rests_owes actions (links before) [] (hand between) (hand after) (subst (λ (ds : List Delivery). Owes actions (links before) ds (hand between)) none owes) c.shut_seen.ensures.same.0 in
+    owes_at actions before after []
+    (same_site between after c.shut_seen.ensures.site c.shut_seen.ensures.credit ∙ same_site before between c.dequeue_burst.ensures.site c.dequeue_burst.ensures.credit) even
 
-pub returns-in-None-clause-worked : goal.returns-in-None-clause-worked
-returns-in-None-clause-worked g c =
+pub returns-then-came-eq0-clause-worked : goal.returns-then-came-eq0-clause-worked
+returns-then-came-eq0-clause-worked g c =
+    let actions = c.args.actions.now in
     let before = c.args.port.now in
-    let between = c.receive.new.port in
+    let between = c.dequeue_burst.new.self in
     let after = c.shut_seen.new.self in
-    let kept : site_of after ≡ site_of between = same_site between after c.shut_seen.ensures.site c.shut_seen.ensures.credit in
-    even_worked c.args.actions.now after (rests_even c.args.actions.now between after (none_even c.args.actions.now before between c.requires.even c.in-None.ensures.received c.in-None.ensures.site) c.shut_seen.ensures.same.0 kept)
+    let came = c.dequeue_burst.new.into.items in
+    let owes : Owes actions (links before) came (hand between) =
+    dequeued_owes actions (links before) (released_first before) (hand before) (hand between) came c.requires.even c.in-Ok.ensures.ok in
+    owes_worked actions after came
+    (owes_at actions before after came
+    (same_site between after c.shut_seen.ensures.site c.shut_seen.ensures.credit ∙ same_site before between c.dequeue_burst.ensures.site c.dequeue_burst.ensures.credit)
+    (rests_owes actions (links before) came (hand between) (hand after) owes c.shut_seen.ensures.same.0))
+
+pub returns-clause-even : goal.returns-clause-even
+returns-clause-even g c taken =
+    let actions = c.args.actions.now in
+    let before = c.args.port.now in
+    let between = c.dequeue_burst.new.self in
+    let after = c.submit_all.new.port in
+    let came = c.dequeue_burst.new.into.items in
+    let owes : Owes actions (links before) came (hand between) =
+    dequeued_owes actions (links before) (released_first before) (hand before) (hand between) came c.requires.even c.in-Ok.ensures.ok in
+    let due : AreDue actions came c.answer_each.new.answers.items =
+    subst (λ (ds : List Delivery). AreDue actions ds c.answer_each.new.answers.items) c.deref.ensures.0 c.answer_each.ensures in
+    let answers : AreDue actions came c.deref-2.result.now = subst (λ (es : List Event). AreDue actions came es) (sym c.deref-2.ensures.0) due in
+    owes_at actions before after [] (c.submit_all.ensures.site ∙ same_site before between c.dequeue_burst.ensures.site c.dequeue_burst.ensures.credit)
+    (answered_all actions (links before) came c.deref-2.result.now (hand between) (hand after) owes answers (c.submit_all.ensures.all taken))
+
+pub returns-clause-worked : goal.returns-clause-worked
+returns-clause-worked g c =
+    let actions = c.args.actions.now in
+    let before = c.args.port.now in
+    let between = c.dequeue_burst.new.self in
+    let after = c.submit_all.new.port in
+    let came = c.dequeue_burst.new.into.items in
+    let front = c.submit_all.ensures.front in
+    let owes : Owes actions (links before) came (hand between) =
+    dequeued_owes actions (links before) (released_first before) (hand before) (hand between) came c.requires.even c.in-Ok.ensures.ok in
+    let due : AreDue actions came c.answer_each.new.answers.items =
+    subst (λ (ds : List Delivery). AreDue actions ds c.answer_each.new.answers.items) c.deref.ensures.0 c.answer_each.ensures in
+    let answers : AreDue actions came c.deref-2.result.now = subst (λ (es : List Event). AreDue actions came es) (sym c.deref-2.ensures.0) due in
+    owes_worked actions after (drop front.0 came)
+    (owes_at actions before after (drop front.0 came) (c.submit_all.ensures.site ∙ same_site before between c.dequeue_burst.ensures.site c.dequeue_burst.ensures.credit)
+    (answered_owes actions (links before) came c.deref-2.result.now front.0 (hand between) (hand after) owes answers front.1))

@@ -10,7 +10,7 @@ returns-in-Ok-clause-made c =
       device = made.device;
       plan = made.plan;
       fits = made.fits;
-      scheduler_is = ap scheduler_of c.begin.ensures.sight ∙ made.scheduler_is;
+      scheduler_is = ap scheduler_of c.begin_with.ensures.sight ∙ made.scheduler_is;
       control_is = made.control_is;
       ports_are = made.ports_are;
     }

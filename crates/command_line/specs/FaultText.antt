@@ -40,17 +40,9 @@ doc_fault_name (BadTrace n) = Some (codes "BadTrace")
 
 -- the number of the line that a fault names
 abbrev pub line_number : DocFault → List ℕ
-line_number TooLong = []
-line_number NotToml = []
-line_number UnknownKey = []
-line_number MissingKey = []
-line_number BadValue = []
-line_number ParallelInside = []
-line_number LastAction = []
-line_number (Shape f) = []
-line_number LimitTight = []
 line_number (BadCommand n) = codes " " ++ decimal n
 line_number (BadTrace n) = codes " " ++ decimal n
+line_number f = []
 
 -- what is printed where memory ran out
 abbrev pub no_memory : List ℕ

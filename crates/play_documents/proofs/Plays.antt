@@ -11,11 +11,12 @@ use Rattle.evt_types.specs.declared.event.Op.{Op}
 use Rattle.evt_types.specs.declared.shape.ShapeFault.{ShapeFault}
 use Rattle.evt_types.specs.declared.shape.ShapeFault.TheVariants as shapes
 use Rattle.play_documents.specs.Command.{Line, Enqueue, Dequeue, Sweep, Shut, line_of, IsPortThere, AllPortsThere, event_fields, release_fields}
-use Rattle.play_documents.specs.Document.{Planned, planned_of, document_of, Fails, Gives, ◌>>=◌, parsed, shape_fault, checked, plan_or_fault, commands_in, lines_or_fault, judged, unless_fault}
+use Rattle.play_documents.specs.Document.{Planned, planned_of, document_of, Fails, Gives, ◌>>=◌, table_of, shape_fault, checked, plan_or_fault, judged, unless_fault}
 use Rattle.play_documents.specs.Drafts.{plan_asked}
 use Rattle.play_documents.specs.Field.{value_or, is_text}
 use Rattle.play_documents.specs.Judge.{first_fault}
-use Rattle.play_documents.specs.Script.{command_of, entry_op, line_command, event_line, release_line, dequeue_line, script_from, script_of, with_command}
+use Rattle.play_documents.specs.Lines.{lines_from, lines_of, with_line}
+use Rattle.play_documents.specs.Script.{command_of, entry_op, line_command, event_line, release_line, dequeue_line, script_of}
 use Rattle.play_documents.specs.Survey.{SurveySeen, survey_of}
 use Rattle.play_documents.specs.Words.{number, port_number, below}
 use Rattle.play_documents.specs.declared.command.Command.{Command}
@@ -43,19 +44,18 @@ bind_some f (Some x) y e = (x, refl, e)
 
 -- ---- the configuration
 
-pub checked-Ok : (p q s : Plan) → p ≡ q → s ≡ p → fault_of p ≡ None → checked q ≡ Ok s
+pub checked-Ok : (p s : Plan) → s ≡ p → fault_of p ≡ None → checked p ≡ Ok s
 unfolding checked
-checked-Ok p q s same is none = ap (λ x. plan_or_fault x (fault_of x)) (sym same) ∙ ap (plan_or_fault p) none ∙ ap Ok (sym is)
+checked-Ok p s is none = ap (plan_or_fault p) none ∙ ap Ok (sym is)
 
 refused_as : (o : Option ShapeFault) (p : Plan) (f : ShapeFault) → (o ≡ None → ⊥) → ((g : ShapeFault) → o ≡ Some g → f ≡ g)
     → plan_or_fault p o ≡ Err (doc.Shape f)
 refused_as None p f some is = absurd (some refl)
 refused_as (Some g) p f some is = ap (λ x. Err (doc.Shape x)) (sym (is g refl))
 
-checked-Err : (f : ShapeFault) (p q : Plan) → p ≡ q → (fault_of p ≡ None → ⊥) → ((g : ShapeFault) → fault_of p ≡ Some g → f ≡ g)
-    → checked q ≡ Err (doc.Shape f)
+checked-Err : (f : ShapeFault) (p : Plan) → (fault_of p ≡ None → ⊥) → ((g : ShapeFault) → fault_of p ≡ Some g → f ≡ g) → checked p ≡ Err (doc.Shape f)
 unfolding checked
-checked-Err f p q same some is = ap (λ x. plan_or_fault x (fault_of x)) (sym same) ∙ refused_as (fault_of p) p f some is
+checked-Err f p some is = refused_as (fault_of p) p f some is
 
 err_is : (f g : ShapeFault) → ◌≡◌ {A = Result Plan ShapeFault} (Err f) (Err g) → f ≡ g
 err_is f g e = cc
@@ -64,24 +64,12 @@ err_is f g e = cc
 abbrev pub IsFirst : ShapeFault → Plan → Type 0
 IsFirst f p = (fault_of p ≡ None → f ≡ shapes.Memory) × ((g : ShapeFault) → fault_of p ≡ Some g → ◌≡◌ {A = Result Plan ShapeFault} (Err f) (Err g))
 
-refused : (f : ShapeFault) (p q : Plan) → (f ≡ shapes.Memory → ⊥) → p ≡ q → IsFirst f p → checked q ≡ Err (doc.Shape f)
-refused f p q other same h = checked-Err f p q same (λ none. other (h.0 none)) (λ g e. err_is f g (h.1 g e))
+refused : (f : ShapeFault) (p : Plan) → (f ≡ shapes.Memory → ⊥) → IsFirst f p → checked p ≡ Err (doc.Shape f)
+refused f p other h = checked-Err f p (λ none. other (h.0 none)) (λ g e. err_is f g (h.1 g e))
 
-pub shape-Fails : (f : ShapeFault) (p q : Plan) → p ≡ q → IsFirst f p → Fails (shape_fault f) (checked q)
-shape-Fails shapes.QueueCount p q same h = refused shapes.QueueCount p q (λ e. absurd cc) same h
-shape-Fails shapes.PortCount p q same h = refused shapes.PortCount p q (λ e. absurd cc) same h
-shape-Fails shapes.LimitRange p q same h = refused shapes.LimitRange p q (λ e. absurd cc) same h
-shape-Fails shapes.QuantumRange p q same h = refused shapes.QuantumRange p q (λ e. absurd cc) same h
-shape-Fails shapes.ThresholdRange p q same h = refused shapes.ThresholdRange p q (λ e. absurd cc) same h
-shape-Fails shapes.DepthRange p q same h = refused shapes.DepthRange p q (λ e. absurd cc) same h
-shape-Fails shapes.FlowSlots p q same h = refused shapes.FlowSlots p q (λ e. absurd cc) same h
-shape-Fails shapes.OrderDepth p q same h = refused shapes.OrderDepth p q (λ e. absurd cc) same h
-shape-Fails shapes.SweepRange p q same h = refused shapes.SweepRange p q (λ e. absurd cc) same h
-shape-Fails shapes.LinkUnknown p q same h = refused shapes.LinkUnknown p q (λ e. absurd cc) same h
-shape-Fails shapes.LinkTwice p q same h = refused shapes.LinkTwice p q (λ e. absurd cc) same h
-shape-Fails shapes.QueueUnlinked p q same h = refused shapes.QueueUnlinked p q (λ e. absurd cc) same h
-shape-Fails shapes.SingleLinkCount p q same h = refused shapes.SingleLinkCount p q (λ e. absurd cc) same h
-shape-Fails shapes.Memory p q same h = tt
+pub shape-Fails : (f : ShapeFault) (p : Plan) → IsFirst f p → Fails (shape_fault f) (checked p)
+shape-Fails shapes.Memory p h = tt
+shape-Fails f p h = refused f p (λ e. absurd cc) h
 
 -- ---- a script's lines
 
@@ -150,32 +138,29 @@ good_line : (ports : ℕ) (line : List ℕ) (l : Line) → line_command ports li
 unfolding line_command
 good_line ports line l e = good_command ports (slice_split (λ b. eqb b 32) line) l e
 
-before_good : (ports n : ℕ) (o : Option Line) (r : Result (List Line) ℕ) (ls : List Line) → ((l : Line) → o ≡ Some l → IsGood ports l)
-    → ((more : List Line) → r ≡ Ok more → AllByRecursion (IsGood ports) more) → with_command n o r ≡ Ok ls → AllByRecursion (IsGood ports) ls
-before_good ports n None (Ok more) ls first rest e = absurd cc
-before_good ports n None (Err m) ls first rest e = absurd cc
-before_good ports n (Some l) (Ok more) ls first rest e = subst (AllByRecursion (IsGood ports)) (ok_is (l ∷ more) ls e) (first l refl, rest more refl)
-before_good ports n (Some l) (Err m) ls first rest e = absurd cc
+before_good : (ports : ℕ) (bad : DocFault) (o : Option Line) (r : Result (List Line) DocFault) (ls : List Line) → ((l : Line) → o ≡ Some l → IsGood ports l)
+    → ((more : List Line) → r ≡ Ok more → AllByRecursion (IsGood ports) more) → with_line bad o r ≡ Ok ls → AllByRecursion (IsGood ports) ls
+before_good ports bad None r ls first rest e = absurd cc
+before_good ports bad (Some l) (Ok more) ls first rest e = subst (AllByRecursion (IsGood ports)) (ok_is (l ∷ more) ls e) (first l refl, rest more refl)
+before_good ports bad (Some l) (Err f) ls first rest e = absurd cc
 
-either_good : (b : Bool) (ports n : ℕ) (o : Option Line) (r : Result (List Line) ℕ) (ls : List Line) → ((l : Line) → o ≡ Some l → IsGood ports l)
-    → ((more : List Line) → r ≡ Ok more → AllByRecursion (IsGood ports) more) → cond b r (with_command n o r) ≡ Ok ls → AllByRecursion (IsGood ports) ls
-either_good true ports n o r ls first rest e = rest ls e
-either_good false ports n o r ls first rest e = before_good ports n o r ls first rest e
+either_good : (b : Bool) (ports : ℕ) (bad : DocFault) (o : Option Line) (r : Result (List Line) DocFault) (ls : List Line) → ((l : Line) → o ≡ Some l → IsGood ports l)
+    → ((more : List Line) → r ≡ Ok more → AllByRecursion (IsGood ports) more) → cond b r (with_line bad o r) ≡ Ok ls → AllByRecursion (IsGood ports) ls
+either_good true ports bad o r ls first rest e = rest ls e
+either_good false ports bad o r ls first rest e = before_good ports bad o r ls first rest e
 
-good_lines : (ports n : ℕ) (texts : List (List ℕ)) (ls : List Line) → script_from ports n texts ≡ Ok ls → AllByRecursion (IsGood ports) ls
-unfolding script_from
+good_lines : (ports n : ℕ) (texts : List (List ℕ)) (ls : List Line) → lines_from (line_command ports) (λ k. doc.BadCommand k) n texts ≡ Ok ls
+    → AllByRecursion (IsGood ports) ls
+unfolding lines_from
 good_lines ports n [] ls e = subst (AllByRecursion (IsGood ports)) (ok_is [] ls e) tt
 good_lines ports n (t ∷ ts) ls e =
-    either_good (eqb (length (strip_carriage_return t)) 0) ports n (line_command ports (strip_carriage_return t)) (script_from ports (n + 1) ts) ls
+    either_good (eqb (length (strip_carriage_return t)) 0) ports (doc.BadCommand n) (line_command ports (strip_carriage_return t))
+    (lines_from (line_command ports) (λ k. doc.BadCommand k) (n + 1) ts) ls
     (good_line ports (strip_carriage_return t)) (good_lines ports (n + 1) ts) e
 
-lines_ok : (r : Result (List Line) ℕ) (ls : List Line) → lines_or_fault r ≡ Ok ls → r ≡ Ok ls
-lines_ok (Ok more) ls e = ap Ok (ok_is more ls e)
-lines_ok (Err n) ls e = absurd cc
-
-good_script : (ports : ℕ) (text : List ℕ) (ls : List Line) → commands_in ports text ≡ Ok ls → AllByRecursion (IsGood ports) ls
-unfolding commands_in script_of
-good_script ports text ls e = good_lines ports 1 (slice_split (λ b. eqb b 10) text) ls (lines_ok (script_from ports 1 (slice_split (λ b. eqb b 10) text)) ls e)
+good_script : (ports : ℕ) (text : List ℕ) (ls : List Line) → script_of ports text ≡ Ok ls → AllByRecursion (IsGood ports) ls
+unfolding lines_of
+good_script ports text ls e = good_lines ports 1 (slice_split (λ b. eqb b 10) text) ls e
 
 -- ---- commands
 
@@ -205,17 +190,13 @@ unfolding judged
 playable_rows s x e =
     let none = no_fault (first_fault s) _ x e in
     let a = bind_ok (checked (plan_asked s)) _ x none.1 in
-    let b = bind_ok (commands_in (length a.0.ports) (value_or [] s.script)) _ x a.2 in
+    let b = bind_ok (script_of (length a.0.ports) (value_or [] s.script)) _ x a.2 in
     subst IsPlayable (ok_is (record { plan = a.0; commands = b.0 }) x b.2) (good_script (length a.0.ports) (value_or [] s.script) b.0 b.1)
-
-pub short_enough : {A : Type 0} (b : Bool) (rest : Result A DocFault) (x : A) → cond b (Err doc.TooLong) rest ≡ Ok x → rest ≡ Ok x
-short_enough true rest x e = absurd cc
-short_enough false rest x e = e
 
 pub playable : (bytes : List ℕ) (x : Planned) → document_of bytes ≡ Ok x → IsPlayable x
 unfolding document_of
 playable bytes x e =
-    let a = bind_ok (parsed bytes) _ x (short_enough _ _ x e) in
+    let a = bind_ok (table_of bytes) _ x e in
     playable_rows (survey_of a.0) x a.2
 
 pub gives-ports : (bytes : List ℕ) (r : Result Document ReadFault) → Gives planned_of r (document_of bytes) → IfOk r (λ d. AllPortsThere d.shape d.commands.items)

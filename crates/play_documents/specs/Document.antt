@@ -50,6 +50,10 @@ table_or_fault (Some t) = Ok t
 unfoldable pub parsed : List ℕ → Result Members DocFault
 parsed bytes = if is_utf8 bytes then table_or_fault (parse_document bytes) else Err doc.NotToml
 
+-- the table of bytes that aren't too many
+abbrev pub table_of : List ℕ → Result Members DocFault
+table_of bytes = if nat_lt MAX_INPUT (length bytes) then Err doc.TooLong else parsed bytes
+
 -- the rows, unless they show a fault
 abbrev pub unless_fault : {A : Type 0} → Option DocFault → Result A DocFault → Result A DocFault
 unless_fault None rest = rest
@@ -57,20 +61,8 @@ unless_fault (Some f) rest = Err f
 
 -- the fault of a refused configuration
 abbrev pub shape_fault : ShapeFault → ReadFault
-shape_fault shapes.QueueCount = reads.Document (doc.Shape shapes.QueueCount)
-shape_fault shapes.PortCount = reads.Document (doc.Shape shapes.PortCount)
-shape_fault shapes.LimitRange = reads.Document (doc.Shape shapes.LimitRange)
-shape_fault shapes.QuantumRange = reads.Document (doc.Shape shapes.QuantumRange)
-shape_fault shapes.ThresholdRange = reads.Document (doc.Shape shapes.ThresholdRange)
-shape_fault shapes.DepthRange = reads.Document (doc.Shape shapes.DepthRange)
-shape_fault shapes.FlowSlots = reads.Document (doc.Shape shapes.FlowSlots)
-shape_fault shapes.OrderDepth = reads.Document (doc.Shape shapes.OrderDepth)
-shape_fault shapes.SweepRange = reads.Document (doc.Shape shapes.SweepRange)
-shape_fault shapes.LinkUnknown = reads.Document (doc.Shape shapes.LinkUnknown)
-shape_fault shapes.LinkTwice = reads.Document (doc.Shape shapes.LinkTwice)
-shape_fault shapes.QueueUnlinked = reads.Document (doc.Shape shapes.QueueUnlinked)
-shape_fault shapes.SingleLinkCount = reads.Document (doc.Shape shapes.SingleLinkCount)
 shape_fault shapes.Memory = reads.Memory
+shape_fault f = reads.Document (doc.Shape f)
 
 -- the configuration, unless the device refuses it
 abbrev pub plan_or_fault : Plan → Option ShapeFault → Result Plan DocFault
@@ -80,43 +72,24 @@ plan_or_fault p (Some f) = Err (doc.Shape f)
 unfoldable pub checked : Plan → Result Plan DocFault
 checked p = plan_or_fault p (fault_of p)
 
--- the commands, unless a line is bad
-abbrev pub lines_or_fault : Result (List Line) ℕ → Result (List Line) DocFault
-lines_or_fault (Ok lines) = Ok lines
-lines_or_fault (Err n) = Err (doc.BadCommand n)
-
-unfoldable pub commands_in : ℕ → List ℕ → Result (List Line) DocFault
-commands_in ports text = lines_or_fault (script_of ports text)
-
 -- what the rows say: each fault is looked for in the whole document before the next
 unfoldable pub judged : SurveySeen → Result Planned DocFault
 judged s =
     unless_fault (first_fault s) (do
       plan ← checked (plan_asked s)
-      commands ← commands_in (length plan.ports) (value_or [] s.script)
+      commands ← script_of (length plan.ports) (value_or [] s.script)
       Ok (record { plan = plan; commands = commands }))
 
 -- what the bytes say: the configuration and the commands, or the first fault
 unfoldable pub document_of : List ℕ → Result Planned DocFault
-document_of bytes =
-    if nat_lt MAX_INPUT (length bytes) then Err doc.TooLong
-    else (do
-      table ← parsed bytes
-      judged (survey_of table))
+document_of bytes = do
+  table ← table_of bytes
+  judged (survey_of table)
 
 -- a refused configuration's fault is named by its refusal, which want of memory isn't
 abbrev pub IsNamedDoc : DocFault → Type 0
-IsNamedDoc doc.TooLong = Unit {0}
-IsNamedDoc doc.NotToml = Unit {0}
-IsNamedDoc doc.UnknownKey = Unit {0}
-IsNamedDoc doc.MissingKey = Unit {0}
-IsNamedDoc doc.BadValue = Unit {0}
-IsNamedDoc doc.ParallelInside = Unit {0}
-IsNamedDoc doc.LastAction = Unit {0}
 IsNamedDoc (doc.Shape f) = f ≢ shapes.Memory
-IsNamedDoc doc.LimitTight = Unit {0}
-IsNamedDoc (doc.BadCommand n) = Unit {0}
-IsNamedDoc (doc.BadTrace n) = Unit {0}
+IsNamedDoc f = Unit {0}
 
 abbrev pub IsNamed : ReadFault → Type 0
 IsNamed (reads.Document f) = IsNamedDoc f

@@ -27,10 +27,10 @@ port_asked p =
 unfoldable pub plan_asked : SurveySeen → Plan
 plan_asked s =
     record {
-      limit = value_or 0 s.limit;
-      quantum = value_or 0 s.quantum;
-      sweep = value_or 0 s.sweep;
-      serving = value_or Ports s.serving;
+      limit = value_or 0 s.device.limit;
+      quantum = value_or 0 s.device.quantum;
+      sweep = value_or 0 s.device.sweep;
+      serving = value_or Ports s.device.serving;
       queues = map queue_asked (rows s.queues);
       ports = map port_asked (rows s.ports);
     }

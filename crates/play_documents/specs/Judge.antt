@@ -9,6 +9,7 @@ use Rattle.play_documents.specs.declared.fault.DocFault.{DocFault}
 use Rattle.play_documents.specs.declared.fault.DocFault.TheVariants.{UnknownKey, MissingKey, BadValue}
 use Rattle.play_documents.specs.declared.field.Field.{Field}
 use Rattle.play_documents.specs.declared.field.Field.TheVariants.{Absent, Bad, Good}
+use Rattle.play_documents.specs.declared.survey.DeviceRow.{DeviceRow}
 use Rattle.play_documents.specs.declared.survey.QueueRow.{QueueRow}
 
 -- some key isn't a queue's, or a port's
@@ -42,24 +43,30 @@ has_bad_queue q = is_bad q.kind || is_bad q.priority || is_bad q.slots || is_bad
 abbrev pub has_bad_port : PortSeen → Bool
 has_bad_port p = is_bad p.threshold || is_bad p.depth || is_bad p.replies || is_bad p.implicit || is_bad p.links
 
+-- what every document's table needs of its device, and what is refused of it
+abbrev pub misses_device : DeviceRow → Bool
+misses_device d = is_absent d.limit || is_absent d.quantum || is_absent d.sweep
+
+abbrev pub has_bad_device : DeviceRow → Bool
+has_bad_device d = is_bad d.limit || is_bad d.quantum || is_bad d.sweep || is_bad d.serving
+
 -- the three tests of a whole document
 unfoldable pub has_unknown : SurveySeen → Bool
 has_unknown s = not s.known || list_any is_unknown_queue (rows s.queues) || list_any is_unknown_port (rows s.ports)
 
 unfoldable pub has_missing : SurveySeen → Bool
 has_missing s =
-    is_absent s.limit || is_absent s.quantum || is_absent s.sweep || is_absent s.script || is_absent s.queues || is_absent s.ports
+    misses_device s.device || is_absent s.script || is_absent s.queues || is_absent s.ports
     || list_any misses_queue (rows s.queues) || list_any misses_port (rows s.ports)
 
-unfoldable pub has_bad_top : SurveySeen → Bool
-has_bad_top s = is_bad s.limit || is_bad s.quantum || is_bad s.sweep || is_bad s.serving || is_bad s.script || is_bad s.queues || is_bad s.ports
-
 unfoldable pub has_bad : SurveySeen → Bool
-has_bad s = has_bad_top s || list_any has_bad_queue (rows s.queues) || list_any has_bad_port (rows s.ports)
+has_bad s =
+    has_bad_device s.device || is_bad s.script || is_bad s.queues || is_bad s.ports || list_any has_bad_queue (rows s.queues) || list_any has_bad_port (rows s.ports)
 
--- the first fault: each is looked for in the whole document before the next
+-- the first fault by the three tests: each is looked for in the whole document before the next
+abbrev pub rows_fault : Bool → Bool → Bool → Option DocFault
+rows_fault unknown missing bad =
+    if unknown then Some UnknownKey else (if missing then Some MissingKey else (if bad then Some BadValue else None))
+
 unfoldable pub first_fault : SurveySeen → Option DocFault
-first_fault s =
-    if has_unknown s then Some UnknownKey
-    else (if has_missing s then Some MissingKey
-    else (if has_bad s then Some BadValue else None))
+first_fault s = rows_fault (has_unknown s) (has_missing s) (has_bad s)

@@ -3,6 +3,7 @@ pub mod Document
 pub mod Drafts
 pub mod Field
 pub mod Judge
+pub mod Lines
 pub mod Script
 pub mod Survey
 pub mod Words

@@ -1,19 +1,16 @@
--- What a script says: its commands, or the number of its first bad line.
-use Rattle.std.specs.Prelude.{◌≡◌, ℕ, ◌+◌, ◌-◌, ◌^◌, ◌==◌, List, [], ◌∷◌, length, map, codes, Option, Some, None, option_map, option_and_then, Result, Ok, Err, if◌then◌else◌}
-use Rattle.std.specs.Prelude.{Vec}
-use Rattle.std.specs.declared.alloc.Global.{Global}
+-- What a script says: its commands, or the fault of its first bad line.
+use Rattle.std.specs.Prelude.{ℕ, ◌-◌, ◌^◌, ◌==◌, List, [], ◌∷◌, codes, Option, Some, None, option_map, option_and_then, Result, if◌then◌else◌}
 use Rattle.std.specs.List.{slice_split}
-use Rattle.std.specs.Str.Lines.{strip_carriage_return}
-use Rattle.play_documents.specs.Command.{Line, Enqueue, Dequeue, Sweep, Shut, line_of, event_fields, release_fields}
+use Rattle.play_documents.specs.Command.{Line, Enqueue, Dequeue, Sweep, Shut, event_fields, release_fields}
 use Rattle.evt_types.specs.declared.event.TheConstants.{MAX_FLOWS}
 use Rattle.evt_types.specs.declared.event.Op.{Op}
 use Rattle.evt_types.specs.declared.event.Op.TheVariants as ops
 use Rattle.play_documents.specs.Field.{is_text}
+use Rattle.play_documents.specs.Lines.{lines_of}
 use Rattle.play_documents.specs.Words.{number, port_number}
-use Rattle.play_documents.specs.declared.command.Command.{Command}
+use Rattle.play_documents.specs.declared.fault.DocFault.{DocFault}
+use Rattle.play_documents.specs.declared.fault.DocFault.TheVariants.{BadCommand}
 use Rattle.play_documents.specs.declared.script.TheConstants.{MAX_BYTE, MAX_DEQUEUE}
-use Rattle.play_documents.specs.declared.script.ScriptFault.{ScriptFault}
-use Rattle.play_documents.specs.declared.script.ScriptFault.TheVariants.{Memory, BadLine}
 
 infixl 10 ◌>>=◌
 abbrev pub ◌>>=◌ : {A B : Type 0} → Option A → (A → Option B) → Option B
@@ -61,28 +58,6 @@ command_of ports (a ∷ b ∷ c ∷ d ∷ e ∷ f ∷ g ∷ more) = None
 unfoldable pub line_command : ℕ → List ℕ → Option Line
 line_command ports line = command_of ports (slice_split (λ b. b == 32) line)
 
--- a line's command before those after it, or the line's number
-abbrev pub with_command : ℕ → Option Line → Result (List Line) ℕ → Result (List Line) ℕ
-with_command n None rest = Err n
-with_command n (Some line) (Ok more) = Ok (line ∷ more)
-with_command n (Some line) (Err m) = Err m
-
--- the commands of the lines from number n on; an empty line is skipped, and a carriage return at its end is left out
-unfoldable pub script_from : ℕ → ℕ → List (List ℕ) → Result (List Line) ℕ
-script_from ports n [] = Ok []
-script_from ports n (l ∷ ls) =
-    let line = strip_carriage_return l in
-    if length line == 0 then script_from ports (n + 1) ls else with_command n (line_command ports line) (script_from ports (n + 1) ls)
-
--- the commands of a script, whose lines are ended by line feeds and numbered from 1
-unfoldable pub script_of : ℕ → List ℕ → Result (List Line) ℕ
-script_of ports text = script_from ports 1 (slice_split (λ b. b == 10) text)
-
--- what was read is what the script says, unless memory ran out
-abbrev pub FailsAt : ScriptFault → Result (List Line) ℕ → Type 0
-FailsAt Memory read = Unit {0}
-FailsAt (BadLine n) read = read ≡ Err n
-
-abbrev pub GivesLines : Result (Vec Command Global) ScriptFault → Result (List Line) ℕ → Type 0
-GivesLines (Ok cs) read = read ≡ Ok (map line_of cs.items)
-GivesLines (Err e) read = FailsAt e read
+-- the commands of a script, for so many ports
+abbrev pub script_of : ℕ → List ℕ → Result (List Line) DocFault
+script_of ports text = lines_of (line_command ports) (λ n. BadCommand n) text

@@ -10,11 +10,12 @@ use Rattle.play_documents.specs.Field.{field_map, number_at, flag_at, text_at, n
 use Rattle.play_documents.specs.declared.field.Field.{Field}
 use Rattle.play_documents.specs.declared.field.Field.TheVariants.{Absent, Bad, Good}
 use Rattle.play_documents.specs.declared.script.TheConstants.{MAX_BYTE}
+use Rattle.play_documents.specs.declared.survey.DeviceRow.{DeviceRow}
 use Rattle.play_documents.specs.declared.survey.PortRow.{PortRow}
 use Rattle.play_documents.specs.declared.survey.QueueRow.{QueueRow}
 use Rattle.play_documents.specs.declared.survey.Survey.{Survey}
 
--- a port's row and a document's, without where they lie in memory
+-- a port's row and a document's rows, without where they lie in memory
 pub record PortSeen : Type 0 where
   pub known : Bool
   pub threshold : Field ℕ
@@ -25,10 +26,7 @@ pub record PortSeen : Type 0 where
 
 pub record SurveySeen : Type 0 where
   pub known : Bool
-  pub limit : Field ℕ
-  pub quantum : Field ℕ
-  pub sweep : Field ℕ
-  pub serving : Field Serving
+  pub device : DeviceRow
   pub script : Field (List ℕ)
   pub queues : Field (List QueueRow)
   pub ports : Field (List PortSeen)
@@ -51,10 +49,7 @@ abbrev pub survey_seen : Survey → SurveySeen
 survey_seen s =
     record {
       known = s.known;
-      limit = s.limit;
-      quantum = s.quantum;
-      sweep = s.sweep;
-      serving = s.serving;
+      device = s.device;
       script = field_map (λ t. t.now) s.script;
       queues = field_map (λ (v : Vec QueueRow Global). v.items) s.queues;
       ports = field_map ports_seen s.ports;
@@ -82,7 +77,17 @@ kind_at key ms = by_name kind_named (text_at key ms)
 abbrev pub serving_at : List ℕ → Members → Field Serving
 serving_at key ms = by_name serving_named (text_at key ms)
 
--- a queue's row, a port's and a document's
+-- what a document's table says of its device
+unfoldable pub device_row : Members → DeviceRow
+device_row ms =
+    record {
+      limit = number_at (2 ^ 32 - 1) (codes "limit") ms;
+      quantum = number_at (2 ^ 32 - 1) (codes "quantum") ms;
+      sweep = number_at (2 ^ 32 - 1) (codes "sweep") ms;
+      serving = serving_at (codes "serving") ms;
+    }
+
+-- a queue's row, a port's and a document's rows
 unfoldable pub queue_row : Members → QueueRow
 queue_row ms =
     record {
@@ -115,10 +120,7 @@ unfoldable pub survey_of : Members → SurveySeen
 survey_of ms =
     record {
       known = knows (codes "limit" ∷ codes "quantum" ∷ codes "sweep" ∷ codes "serving" ∷ codes "script" ∷ codes "queue" ∷ codes "port" ∷ []) ms;
-      limit = number_at (2 ^ 32 - 1) (codes "limit") ms;
-      quantum = number_at (2 ^ 32 - 1) (codes "quantum") ms;
-      sweep = number_at (2 ^ 32 - 1) (codes "sweep") ms;
-      serving = serving_at (codes "serving") ms;
+      device = device_row ms;
       script = text_at (codes "script") ms;
       queues = queues_at ms;
       ports = ports_at ms;

@@ -1,9 +1,10 @@
 //! The reading of a document.
 
-ghost use Rattle.std.specs.Prelude.{◌≡◌, [], map, None, IfOk, IfErr};
+ghost use Rattle.std.specs.Prelude.{◌≡◌, [], IfOk, IfErr};
 ghost use Rattle.toml.specs.View.{table_view};
-ghost use Rattle.play_documents.specs.Command.{AllPortsThere, line_of};
-ghost use Rattle.play_documents.specs.Document.{Gives, IsNamed, parsed, shape_fault, checked, commands_in, judged, planned_of, document_of};
+ghost use Rattle.evt_types.specs.Plan.{plan_of};
+ghost use Rattle.play_documents.specs.Command.{AllPortsThere};
+ghost use Rattle.play_documents.specs.Document.{Gives, IsNamed, parsed, table_of, shape_fault, checked, judged, planned_of, document_of};
 ghost use Rattle.play_documents.specs.Drafts.{plan_asked};
 ghost use Rattle.play_documents.specs.Field.{value_or};
 ghost use Rattle.play_documents.specs.Survey.{survey_seen};
@@ -13,9 +14,9 @@ use crate::drafts::draft_of;
 use crate::fault::{DocFault, ReadFault};
 use crate::field::Field;
 use crate::judge::first_fault;
-use crate::script::{ScriptFault, read_script};
+use crate::script::read_script;
 use crate::survey::{Survey, survey_of};
-use evt_types::{Shape, ShapeFault};
+use evt_types::{Draft, Shape, ShapeFault};
 use std::alloc::Global;
 use toml::Table;
 
@@ -32,7 +33,7 @@ pub struct Document {
 }
 
 /// The table that the bytes write.
-pub fn parsed(alloc: Global, bytes: &[u8]) -> Result<Table, ReadFault>
+fn parsed(alloc: Global, bytes: &[u8]) -> Result<Table, ReadFault>
     ensures { Gives table_view result (parsed bytes.now) }
 {
     match toml::table_from_slice(alloc, bytes) {
@@ -45,6 +46,16 @@ pub fn parsed(alloc: Global, bytes: &[u8]) -> Result<Table, ReadFault>
             }
         }
     }
+}
+
+/// The table that the bytes write, where they aren't too many.
+pub fn table_of(alloc: Global, bytes: &[u8]) -> Result<Table, ReadFault>
+    ensures { Gives table_view result (table_of bytes.now) }
+{
+    if bytes.len() > MAX_INPUT {
+        return Err(ReadFault::Document(DocFault::TooLong));
+    }
+    parsed(alloc, bytes)
 }
 
 /// The fault of a refused configuration.
@@ -69,15 +80,22 @@ pub fn shape_fault(fault: ShapeFault) -> ReadFault
     }
 }
 
+/// The configuration of a draft, unless the device refuses it.
+pub fn checked(alloc: Global, draft: &Draft) -> Result<Shape, ReadFault>
+    ensures { Gives (λ s. s) result (checked (plan_of draft.now)) }
+{
+    match Shape::build(alloc, draft) {
+        Ok(shape) => Ok(shape),
+        Err(fault) => Err(shape_fault(fault)),
+    }
+}
+
 /// The configuration that the rows ask for, checked.
 fn shape_of(alloc: Global, survey: &Survey) -> Result<Shape, ReadFault>
     ensures { Gives (λ s. s) result (checked (plan_asked (survey_seen survey.now))) }
 {
     let draft = draft_of(alloc, survey)?;
-    match Shape::build(alloc, &draft) {
-        Ok(shape) => Ok(shape),
-        Err(fault) => Err(shape_fault(fault)),
-    }
+    checked(alloc, &draft)
 }
 
 /// The script's text.
@@ -90,18 +108,6 @@ fn script_text<'a>(survey: &Survey<'a>) -> &'a str
     }
 }
 
-/// The commands of a script, for so many ports.
-#[tactic(auto, unfolding(crate::specs::Document::commands_in))]
-fn commands_in(alloc: Global, ports: usize, script: &str) -> Result<Vec<Command>, ReadFault>
-    ensures { Gives (λ v. map line_of v.items) result (commands_in ports script.now) }
-{
-    match read_script(alloc, ports, script) {
-        Ok(commands) => Ok(commands),
-        Err(ScriptFault::Memory) => Err(ReadFault::Memory),
-        Err(ScriptFault::BadLine(line)) => Err(ReadFault::Document(DocFault::BadCommand(line))),
-    }
-}
-
 /// What the rows say.
 #[tactic(auto, unfolding(crate::specs::Document::judged))]
 fn judged(alloc: Global, survey: &Survey) -> Result<Document, ReadFault>
@@ -111,7 +117,7 @@ fn judged(alloc: Global, survey: &Survey) -> Result<Document, ReadFault>
         return Err(ReadFault::Document(fault));
     }
     let shape = shape_of(alloc, survey)?;
-    let commands = commands_in(alloc, shape.ports().len(), script_text(survey))?;
+    let commands = read_script(alloc, shape.ports().len(), script_text(survey))?;
     Ok(Document { shape, commands })
 }
 
@@ -120,10 +126,7 @@ fn judged(alloc: Global, survey: &Survey) -> Result<Document, ReadFault>
 fn planned(alloc: Global, bytes: &[u8]) -> Result<Document, ReadFault>
     ensures { Gives planned_of result (document_of bytes.now) }
 {
-    if bytes.len() > MAX_INPUT {
-        return Err(ReadFault::Document(DocFault::TooLong));
-    }
-    let table = parsed(alloc, bytes)?;
+    let table = table_of(alloc, bytes)?;
     let survey = survey_of(alloc, &table)?;
     judged(alloc, &survey)
 }

@@ -8,7 +8,7 @@ ghost use Rattle.play_documents.specs.Field.{rows, field_map};
 ghost use Rattle.play_documents.specs.Survey.{port_seen, survey_seen};
 
 use crate::field::Field;
-use crate::judge::{port_rows, queue_rows};
+use crate::judge::port_rows;
 use crate::survey::{PortRow, QueueRow, Survey};
 use evt_types::{Draft, Kind, PortDraft, QueueDraft, Serving};
 use std::alloc::{AllocError, Global};
@@ -78,11 +78,11 @@ pub fn draft_of(alloc: Global, survey: &Survey) -> Result<Draft, AllocError>
     ensures { IfOk result (λ d. plans.plan_of d ≡ plan_asked (survey_seen survey.now)) }
 {
     Ok(Draft {
-        limit: survey.limit.value_or(0),
-        quantum: survey.quantum.value_or(0),
-        sweep: survey.sweep.value_or(0),
-        serving: survey.serving.value_or(Serving::Ports),
-        queues: queue_drafts(alloc, queue_rows(survey))?,
+        limit: survey.device.limit.value_or(0),
+        quantum: survey.device.quantum.value_or(0),
+        sweep: survey.device.sweep.value_or(0),
+        serving: survey.device.serving.value_or(Serving::Ports),
+        queues: queue_drafts(alloc, survey.queues.rows())?,
         ports: port_drafts(alloc, port_rows(survey))?,
     })
 }

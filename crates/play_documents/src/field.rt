@@ -5,7 +5,7 @@ ghost use Rattle.std.specs.List.{list_any, list_all};
 ghost use Rattle.std.specs.Map.{keys_of};
 ghost use Rattle.toml.specs.Data.{get_member, as_table};
 ghost use Rattle.toml.specs.View.{view, table_view, array_view};
-ghost use Rattle.play_documents.specs.Field.{good_or_bad, field_of, field_map, is_absent, is_bad, value_or, number_of, items_by, number_at, flag_at, text_at, numbers_at, tables_at, is_text, is_known, knows};
+ghost use Rattle.play_documents.specs.Field.{good_or_bad, field_of, field_map, is_absent, is_bad, value_or, rows, number_of, items_by, number_at, flag_at, text_at, numbers_at, tables_at, is_text, is_known, knows};
 
 use std::alloc::{AllocError, Global};
 use toml::value::Array;
@@ -35,6 +35,18 @@ impl<T> Field<T> {
         ensures { result ≡ is_bad self.now }
     {
         matches!(self, Field::Bad)
+    }
+}
+
+impl<T> Field<Vec<T>> {
+    /// The rows of an array of tables. Of a field that is none nothing is looked at.
+    pub fn rows(&self) -> &[T]
+        ensures { result.now ≡ rows (field_map (λ v. v.items) self.now) }
+    {
+        match self {
+            Field::Good(rows) => rows.as_slice(),
+            Field::Absent | Field::Bad => &[],
+        }
     }
 }
 

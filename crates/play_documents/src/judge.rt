@@ -2,33 +2,20 @@
 
 ghost use Rattle.std.specs.Prelude.{◌≡◌, map};
 ghost use Rattle.std.specs.List.{list_any};
-ghost use Rattle.play_documents.specs.Judge.{is_unknown_queue, is_unknown_port, lacks_slots, misses_queue, misses_port, has_bad_queue, has_bad_port, has_unknown, has_missing, has_bad_top, has_bad, first_fault};
+ghost use Rattle.play_documents.specs.Judge.{is_unknown_queue, is_unknown_port, lacks_slots, misses_queue, misses_port, has_bad_queue, has_bad_port, misses_device, has_bad_device, has_unknown, has_missing, has_bad, rows_fault, first_fault};
 ghost use Rattle.play_documents.specs.Survey.{port_seen, ports_seen, survey_seen};
 ghost use Rattle.play_documents.specs.Field.{field_map, rows};
 
 use crate::fault::DocFault;
 use crate::field::Field;
-use crate::survey::{PortRow, QueueRow, Survey};
+use crate::survey::{DeviceRow, PortRow, QueueRow, Survey};
 use evt_types::Kind;
-
-/// The queues' rows. Of a field that is no array of tables nothing is looked at.
-pub fn queue_rows<'a>(survey: &'a Survey) -> &'a [QueueRow]
-    ensures { result.now ≡ rows (survey_seen survey.now).queues }
-{
-    match &survey.queues {
-        Field::Good(rows) => rows.as_slice(),
-        Field::Absent | Field::Bad => &[],
-    }
-}
 
 /// The ports' rows.
 pub fn port_rows<'a>(survey: &'a Survey) -> &'a [PortRow]
     ensures { map port_seen result.now ≡ rows (survey_seen survey.now).ports }
 {
-    match &survey.ports {
-        Field::Good(rows) => rows.as_slice(),
-        Field::Absent | Field::Bad => &[],
-    }
+    survey.ports.rows()
 }
 
 fn lacks_slots(queue: &QueueRow) -> bool
@@ -114,12 +101,29 @@ fn any_bad_port(ports: &[PortRow]) -> bool
     ports.iter().any(has_bad_port)
 }
 
+/// Whether a document's table lacks a key of its device that it needs.
+pub fn misses_device(device: &DeviceRow) -> bool
+    ensures { result ≡ misses_device device.now }
+{
+    device.limit.is_absent() || device.quantum.is_absent() || device.sweep.is_absent()
+}
+
+/// Whether a value of a document's device is refused.
+pub fn has_bad_device(device: &DeviceRow) -> bool
+    ensures { result ≡ has_bad_device device.now }
+{
+    device.limit.is_bad()
+        || device.quantum.is_bad()
+        || device.sweep.is_bad()
+        || device.serving.is_bad()
+}
+
 /// Whether some table has an unknown key.
 #[tactic(auto, unfolding(crate::specs::Judge::has_unknown))]
 fn has_unknown(survey: &Survey) -> bool
     ensures { result ≡ has_unknown (survey_seen survey.now) }
 {
-    !survey.known || any_unknown_queue(queue_rows(survey)) || any_unknown_port(port_rows(survey))
+    !survey.known || any_unknown_queue(survey.queues.rows()) || any_unknown_port(port_rows(survey))
 }
 
 /// Whether some table lacks a key.
@@ -127,27 +131,12 @@ fn has_unknown(survey: &Survey) -> bool
 fn has_missing(survey: &Survey) -> bool
     ensures { result ≡ has_missing (survey_seen survey.now) }
 {
-    survey.limit.is_absent()
-        || survey.quantum.is_absent()
-        || survey.sweep.is_absent()
+    misses_device(&survey.device)
         || survey.script.is_absent()
         || survey.queues.is_absent()
         || survey.ports.is_absent()
-        || any_misses_queue(queue_rows(survey))
+        || any_misses_queue(survey.queues.rows())
         || any_misses_port(port_rows(survey))
-}
-
-#[tactic(auto, unfolding(crate::specs::Judge::has_bad_top))]
-fn has_bad_top(survey: &Survey) -> bool
-    ensures { result ≡ has_bad_top (survey_seen survey.now) }
-{
-    survey.limit.is_bad()
-        || survey.quantum.is_bad()
-        || survey.sweep.is_bad()
-        || survey.serving.is_bad()
-        || survey.script.is_bad()
-        || survey.queues.is_bad()
-        || survey.ports.is_bad()
 }
 
 /// Whether some value is refused.
@@ -155,21 +144,33 @@ fn has_bad_top(survey: &Survey) -> bool
 fn has_bad(survey: &Survey) -> bool
     ensures { result ≡ has_bad (survey_seen survey.now) }
 {
-    has_bad_top(survey) || any_bad_queue(queue_rows(survey)) || any_bad_port(port_rows(survey))
+    has_bad_device(&survey.device)
+        || survey.script.is_bad()
+        || survey.queues.is_bad()
+        || survey.ports.is_bad()
+        || any_bad_queue(survey.queues.rows())
+        || any_bad_port(port_rows(survey))
 }
 
-/// The first fault. Each is looked for in the whole document before the next.
-#[tactic(auto, unfolding(crate::specs::Judge::first_fault))]
-pub fn first_fault(survey: &Survey) -> Option<DocFault>
-    ensures { result ≡ first_fault (survey_seen survey.now) }
+/// The first fault by the three tests. Each is looked for in the whole document before the next.
+pub fn rows_fault(unknown: bool, missing: bool, bad: bool) -> Option<DocFault>
+    ensures { result ≡ rows_fault unknown missing bad }
 {
-    if has_unknown(survey) {
+    if unknown {
         Some(DocFault::UnknownKey)
-    } else if has_missing(survey) {
+    } else if missing {
         Some(DocFault::MissingKey)
-    } else if has_bad(survey) {
+    } else if bad {
         Some(DocFault::BadValue)
     } else {
         None
     }
+}
+
+/// The first fault.
+#[tactic(auto, unfolding(crate::specs::Judge::first_fault))]
+pub fn first_fault(survey: &Survey) -> Option<DocFault>
+    ensures { result ≡ first_fault (survey_seen survey.now) }
+{
+    rows_fault(has_unknown(survey), has_missing(survey), has_bad(survey))
 }

@@ -12,9 +12,8 @@ mod survey;
 pub mod words;
 
 pub use command::Command;
-pub use document::{Document, MAX_INPUT, parsed, read_document, shape_fault};
+pub use document::{Document, MAX_INPUT, checked, read_document, shape_fault, table_of};
 pub use drafts::queue_draft;
 pub use fault::{DocFault, ReadFault};
-pub use judge::{has_bad_queue, misses_queue};
-pub use script::{ScriptFault, read_script};
-pub use survey::{QueueRow, kind_at, serving_at};
+pub use judge::{has_bad_device, has_bad_queue, misses_device, misses_queue, rows_fault};
+pub use survey::{DeviceRow, QueueRow, device_row, queue_row};

@@ -1,47 +1,20 @@
 //! The reading of a script.
 
-ghost use Rattle.std.specs.Prelude.{◌≡◌, map, IfOk, option_map, Ok, Err};
+ghost use Rattle.std.specs.Prelude.{◌≡◌, map, IfOk, option_map};
 ghost use Rattle.play_documents.specs.Command.{line_of};
-ghost use Rattle.play_documents.specs.Script.{command_of, entry_op, line_command, event_line, release_line, dequeue_line, script_of, GivesLines};
-ghost use Rattle.play_documents.specs.declared.script.ScriptFault.TheVariants.{Memory};
+ghost use Rattle.play_documents.specs.Document.{Gives};
+ghost use Rattle.play_documents.specs.Script.{command_of, entry_op, line_command, event_line, release_line, dequeue_line, script_of};
 
 use crate::command::Command;
+use crate::fault::{DocFault, ReadFault};
 use crate::words::{lines, number, port_number, without_carriage_return, words};
 use evt_types::{Event, MAX_FLOWS, Op};
-use std::alloc::{AllocError, AllocFailed, Global};
-use thiserror::Error;
+use std::alloc::{AllocError, Global};
 
 /// The most events that a dequeue may ask for.
 const MAX_DEQUEUE: u64 = 64;
 /// The highest number of a queue, and the lowest priority.
 const MAX_BYTE: u64 = 255;
-
-/// Why a script is refused.
-#[derive(Clone, Copy, Debug, PartialEq, Eq, Error)]
-pub enum ScriptFault {
-    /// An allocation was refused.
-    #[error("memory ran out")]
-    Memory,
-    /// The line of this number, counted from 1, is no command.
-    #[error("line {0} is no command")]
-    BadLine(u64),
-}
-
-impl From<AllocError> for ScriptFault {
-    ghost from_gives = { λ _ e. e ≡ Memory };
-
-    fn from(_error: AllocError) -> ScriptFault {
-        ScriptFault::Memory
-    }
-}
-
-impl<T: Drop> From<AllocFailed<T>> for ScriptFault {
-    ghost from_gives = { λ _ e. e ≡ Memory };
-
-    fn from(_error: AllocFailed<T>) -> ScriptFault {
-        ScriptFault::Memory
-    }
-}
 
 /// The operation of a command that brings an event.
 fn entry_op(name: &str) -> Option<Op>
@@ -148,8 +121,8 @@ fn line_command(alloc: Global, ports: usize, line: &str) -> Result<Option<Comman
 }
 
 /// The commands of a script, for so many ports.
-pub fn read_script(alloc: Global, ports: usize, script: &str) -> Result<Vec<Command>, ScriptFault>
-    ensures { GivesLines result (script_of ports script.now) }
+pub fn read_script(alloc: Global, ports: usize, script: &str) -> Result<Vec<Command>, ReadFault>
+    ensures { Gives (λ v. map line_of v.items) result (script_of ports script.now) }
 {
     let lines = lines(alloc, script)?;
     let mut commands = Vec::new(alloc);
@@ -162,7 +135,7 @@ pub fn read_script(alloc: Global, ports: usize, script: &str) -> Result<Vec<Comm
         }
         match line_command(alloc, ports, line)? {
             Some(command) => commands.push(command)?,
-            None => return Err(ScriptFault::BadLine(number)),
+            None => return Err(ReadFault::Document(DocFault::BadCommand(number))),
         }
     }
     Ok(commands)

@@ -3,12 +3,21 @@
 ghost use Rattle.std.specs.Prelude.{◌≡◌, map, codes, IfOk};
 ghost use Rattle.toml.specs.View.{table_view};
 ghost use Rattle.play_documents.specs.Field.{field_map};
-ghost use Rattle.play_documents.specs.Survey.{kind_named, kind_at, serving_named, serving_at, queue_row, port_row, port_seen, ports_seen, queues_at, ports_at, survey_of, survey_seen};
+ghost use Rattle.play_documents.specs.Survey.{kind_named, kind_at, serving_named, serving_at, device_row, queue_row, port_row, port_seen, ports_seen, queues_at, ports_at, survey_of, survey_seen};
 
 use crate::field::{Field, byte_at, flag_at, knows, number_at, numbers_at, tables_at, text_at};
 use evt_types::{Kind, Serving};
 use std::alloc::{AllocError, Global};
 use toml::Table;
+
+/// What a document's table says of its device, whatever else it says.
+#[derive(Debug, Drop)]
+pub struct DeviceRow {
+    pub limit: Field<u32>,
+    pub quantum: Field<u32>,
+    pub sweep: Field<u32>,
+    pub serving: Field<Serving>,
+}
 
 /// A queue's table.
 #[derive(Debug, Drop)]
@@ -39,10 +48,7 @@ pub struct PortRow {
 pub struct Survey<'a> {
     /// Whether each key is one of a document's.
     pub known: bool,
-    pub limit: Field<u32>,
-    pub quantum: Field<u32>,
-    pub sweep: Field<u32>,
-    pub serving: Field<Serving>,
+    pub device: DeviceRow,
     pub script: Field<&'a str>,
     pub queues: Field<Vec<QueueRow>>,
     pub ports: Field<Vec<PortRow>>,
@@ -77,7 +83,7 @@ fn serving_named(name: &str) -> Field<Serving>
 }
 
 /// The scheduling type at a key.
-pub fn kind_at(table: &Table, key: &str) -> Field<Kind>
+fn kind_at(table: &Table, key: &str) -> Field<Kind>
     ensures { result ≡ kind_at key.now (table_view table.now) }
 {
     match text_at(table, key) {
@@ -88,7 +94,7 @@ pub fn kind_at(table: &Table, key: &str) -> Field<Kind>
 }
 
 /// The serving at a key.
-pub fn serving_at(table: &Table, key: &str) -> Field<Serving>
+fn serving_at(table: &Table, key: &str) -> Field<Serving>
     ensures { result ≡ serving_at key.now (table_view table.now) }
 {
     match text_at(table, key) {
@@ -98,9 +104,22 @@ pub fn serving_at(table: &Table, key: &str) -> Field<Serving>
     }
 }
 
+/// What a document's table says of its device.
+#[tactic(auto, unfolding(crate::specs::Survey::device_row))]
+pub fn device_row(table: &Table) -> DeviceRow
+    ensures { result ≡ device_row (table_view table.now) }
+{
+    DeviceRow {
+        limit: number_at(table, "limit"),
+        quantum: number_at(table, "quantum"),
+        sweep: number_at(table, "sweep"),
+        serving: serving_at(table, "serving"),
+    }
+}
+
 /// The row of a queue.
 #[tactic(auto, unfolding(crate::specs::Survey::queue_row))]
-fn queue_row(table: &Table) -> QueueRow
+pub fn queue_row(table: &Table) -> QueueRow
     ensures { result ≡ queue_row (table_view table.now) }
 {
     let keys = ["kind", "priority", "slots", "order", "single"];
@@ -184,10 +203,7 @@ pub fn survey_of(alloc: Global, table: &Table) -> Result<Survey<'_>, AllocError>
     ];
     Ok(Survey {
         known: knows(&keys, table),
-        limit: number_at(table, "limit"),
-        quantum: number_at(table, "quantum"),
-        sweep: number_at(table, "sweep"),
-        serving: serving_at(table, "serving"),
+        device: device_row(table),
         script: text_at(table, "script"),
         queues: queues_at(alloc, table)?,
         ports: ports_at(alloc, table)?,

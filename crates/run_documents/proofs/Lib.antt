@@ -4,5 +4,4 @@ pub mod Pipelines
 pub mod Readings
 pub mod Refusals
 pub mod Stages
-pub mod TraceLines
 pub mod Workers

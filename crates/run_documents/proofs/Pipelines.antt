@@ -49,7 +49,8 @@ ready workers bytes x e =
       room = has_room workers x.plan h.roomy;
     }
 
--- what was answered is ready
-pub gives-ready : (workers : ℕ) (bytes : List ℕ) (r : Result Pipeline ReadFault) → Gives planned_of r (pipeline_of workers bytes) → IfOk r (λ p. IsReady workers (planned_of p))
-gives-ready workers bytes (Ok p) e = ready workers bytes (planned_of p) e
-gives-ready workers bytes (Err f) e = tt
+-- what was answered is ready, and so has what each that is ready has
+pub gives-ready : (P : Pipeline → Type 0) (workers : ℕ) (bytes : List ℕ) (r : Result Pipeline ReadFault) → Gives planned_of r (pipeline_of workers bytes)
+    → ((p : Pipeline) → IsReady workers (planned_of p) → P p) → IfOk r P
+gives-ready P workers bytes (Ok p) e of_ready = of_ready p (ready workers bytes (planned_of p) e)
+gives-ready P workers bytes (Err f) e of_ready = tt

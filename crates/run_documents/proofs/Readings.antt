@@ -4,8 +4,8 @@ use Rattle.evt_types.specs.Fault.{fault_of}
 use Rattle.evt_types.specs.Plan.{Plan}
 use Rattle.evt_types.specs.declared.shape.ShapeFault.{ShapeFault}
 use Rattle.pipeline_laws.specs.declared.stage.Entry.{Entry}
-use Rattle.play_documents.proofs.Plays.{bind_ok, checked_is, no_fault, ok_is, short_enough}
-use Rattle.play_documents.specs.Document.{checked, parsed, plan_or_fault}
+use Rattle.play_documents.proofs.Plays.{bind_ok, checked_is, no_fault, ok_is}
+use Rattle.play_documents.specs.Document.{checked, table_of, plan_or_fault}
 use Rattle.play_documents.specs.declared.fault.DocFault.{DocFault}
 use Rattle.play_documents.specs.declared.fault.DocFault.TheVariants as doc
 use Rattle.run_documents.specs.Drafts.{actions_asked, plan_asked}
@@ -62,5 +62,5 @@ judged-reading workers s x e =
 pub reading : (workers : ℕ) (bytes : List ℕ) (x : Planned) → pipeline_of workers bytes ≡ Ok x → (t : Members) × IsReading workers (survey_of t) x
 unfolding pipeline_of
 reading workers bytes x e =
-    let a = bind_ok (parsed bytes) _ x (short_enough _ _ x e) in
+    let a = bind_ok (table_of bytes) _ x e in
     (a.0, judged-reading workers (survey_of a.0) x a.2)

@@ -14,32 +14,35 @@ use Rattle.pipeline_laws.specs.Worked.{IsStaged}
 use Rattle.pipeline_laws.specs.declared.stage.Action.{Action}
 use Rattle.pipeline_laws.specs.declared.stage.Action.TheVariants.{Pass, Add, DropMultiples}
 use Rattle.play_documents.specs.Field.{field_map, good_or_bad, is_text, rows, text_at, tables_at, value_or}
+use Rattle.play_documents.specs.Judge.{rows_fault}
 use Rattle.play_documents.specs.Survey.{by_name}
 use Rattle.play_documents.specs.Words.{number}
+use Rattle.play_documents.specs.declared.fault.DocFault.{DocFault}
 use Rattle.play_documents.specs.declared.fault.DocFault.TheVariants as doc
 use Rattle.play_documents.specs.declared.field.Field.{Field}
 use Rattle.play_documents.specs.declared.field.Field.TheVariants.{Absent, Bad, Good}
 use Rattle.run_documents.specs.Actions.{action_in, action_named, action_of, adds, drop_by, drops}
 use Rattle.run_documents.specs.Drafts.{actions_asked, plan_asked, stage_asked}
-use Rattle.run_documents.specs.Judge.{action_asked, first_fault, has_bad, has_last_action, has_missing, has_parallel_inside, has_unknown, is_parallel, is_parallel_kind}
+use Rattle.run_documents.specs.Judge.{action_asked, first_fault, has_bad, has_last_action, has_missing, has_parallel_inside, has_unknown, is_parallel, is_parallel_kind, or_fault, stages_fault}
 use Rattle.run_documents.specs.Survey.{SurveySeen, stage_row, survey_of}
 use Rattle.run_documents.specs.declared.survey.StageRow.{StageRow}
 use Rattle.toml.specs.Data.{Members}
 
 -- ---- the rows' tests
 
-good_tests : (u m b p l : Bool) → cond u (Some doc.UnknownKey) (cond m (Some doc.MissingKey) (cond b (Some doc.BadValue)
-    (cond p (Some doc.ParallelInside) (cond l (Some doc.LastAction) None)))) ≡ None → p ≡ false
-good_tests true m b p l e = absurd cc
-good_tests false true b p l e = absurd cc
-good_tests false false true p l e = absurd cc
-good_tests false false false true l e = absurd cc
-good_tests false false false false true e = absurd cc
-good_tests false false false false false e = refl
+none_after : (o p : Option DocFault) → or_fault o p ≡ None → p ≡ None
+none_after None p e = e
+none_after (Some f) p e = absurd cc
+
+none_inside : (p l : Bool) → cond p (Some doc.ParallelInside) (cond l (Some doc.LastAction) None) ≡ None → p ≡ false
+none_inside true l e = absurd cc
+none_inside false l e = refl
 
 good_rows : (s : SurveySeen) → first_fault s ≡ None → has_parallel_inside (rows s.stages) ≡ false
 unfolding first_fault
-good_rows s e = good_tests (has_unknown s) (has_missing s) (has_bad s) (has_parallel_inside (rows s.stages)) (has_last_action (rows s.stages)) e
+good_rows s e =
+    none_inside (has_parallel_inside (rows s.stages)) (has_last_action (rows s.stages))
+    (none_after (rows_fault (has_unknown s) (has_missing s) (has_bad s)) (stages_fault (rows s.stages)) e)
 
 -- ---- kinds
 

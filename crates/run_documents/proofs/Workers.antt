@@ -37,6 +37,6 @@ module _ (workers : ℕ) (s : SurveySeen) where
         ports = port_count;
         producer = refl;
         linked = λ l some lt. ap (λ (port : PortPlan). port.links) (worker_port l some lt) ∙ all_queues;
-        thresholds = of_each (λ (port : PortPlan). port.threshold ≡ value_or 0 s.limit) refl refl;
+        thresholds = of_each (λ (port : PortPlan). port.threshold ≡ value_or 0 s.device.limit) refl refl;
         none_implicit = of_each (λ (port : PortPlan). port.implicit ≡ false) refl refl;
       }

@@ -17,7 +17,7 @@ stage_asked r = queue_asked r.queue
 
 -- a port with these links: its threshold is the limit
 abbrev pub port_asked : SurveySeen → List ℕ → PortPlan
-port_asked s links = record { threshold = value_or 0 s.limit; depth = value_or 0 s.depth; replies = value_or 0 s.replies; implicit = false; links = links }
+port_asked s links = record { threshold = value_or 0 s.device.limit; depth = value_or 0 s.depth; replies = value_or 0 s.replies; implicit = false; links = links }
 
 -- port 0, which is linked to nothing, and the workers' ports, each linked to every stage's queue
 abbrev pub producer_asked : SurveySeen → PortPlan
@@ -33,10 +33,10 @@ ports_asked workers s = producer_asked s ∷ replicate workers (worker_asked s)
 unfoldable pub plan_asked : ℕ → SurveySeen → Plan
 plan_asked workers s =
     record {
-      limit = value_or 0 s.limit;
-      quantum = value_or 0 s.quantum;
-      sweep = value_or 0 s.sweep;
-      serving = value_or Ports s.serving;
+      limit = value_or 0 s.device.limit;
+      quantum = value_or 0 s.device.quantum;
+      sweep = value_or 0 s.device.sweep;
+      serving = value_or Ports s.device.serving;
       queues = map stage_asked (rows s.stages);
       ports = ports_asked workers s;
     }

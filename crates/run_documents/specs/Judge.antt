@@ -6,9 +6,9 @@ use Rattle.evt_types.specs.declared.event.Kind.TheVariants.{Ordered, Atomic, Par
 use Rattle.pipeline_laws.specs.declared.stage.Action.{Action}
 use Rattle.pipeline_laws.specs.declared.stage.Action.TheVariants.{Pass, Add, DropMultiples}
 use Rattle.play_documents.specs.Field.{is_absent, is_bad, rows, value_or}
-use Rattle.play_documents.specs.Judge.{has_bad_queue, misses_queue}
+use Rattle.play_documents.specs.Judge.{has_bad_device, has_bad_queue, misses_device, misses_queue, rows_fault}
 use Rattle.play_documents.specs.declared.fault.DocFault.{DocFault}
-use Rattle.play_documents.specs.declared.fault.DocFault.TheVariants.{UnknownKey, MissingKey, BadValue, ParallelInside, LastAction}
+use Rattle.play_documents.specs.declared.fault.DocFault.TheVariants.{ParallelInside, LastAction}
 use Rattle.play_documents.specs.declared.field.Field.{Field}
 use Rattle.play_documents.specs.declared.field.Field.TheVariants.{Absent, Bad, Good}
 use Rattle.run_documents.specs.Survey.{SurveySeen}
@@ -32,15 +32,10 @@ has_unknown s = not s.known || list_any is_unknown_stage (rows s.stages)
 
 unfoldable pub has_missing : SurveySeen → Bool
 has_missing s =
-    is_absent s.limit || is_absent s.quantum || is_absent s.sweep || is_absent s.depth || is_absent s.replies || is_absent s.trace || is_absent s.stages
-    || list_any misses_stage (rows s.stages)
-
-unfoldable pub has_bad_top : SurveySeen → Bool
-has_bad_top s =
-    is_bad s.limit || is_bad s.quantum || is_bad s.sweep || is_bad s.depth || is_bad s.replies || is_bad s.serving || is_bad s.trace || is_bad s.stages
+    misses_device s.device || is_absent s.depth || is_absent s.replies || is_absent s.trace || is_absent s.stages || list_any misses_stage (rows s.stages)
 
 unfoldable pub has_bad : SurveySeen → Bool
-has_bad s = has_bad_top s || list_any has_bad_stage (rows s.stages)
+has_bad s = has_bad_device s.device || is_bad s.depth || is_bad s.replies || is_bad s.trace || is_bad s.stages || list_any has_bad_stage (rows s.stages)
 
 -- a stage but the last is parallel
 abbrev pub is_parallel_kind : Field Kind → Bool
@@ -73,11 +68,14 @@ acts (Some r) = not (is_pass (action_asked r))
 unfoldable pub has_last_action : List StageRow → Bool
 has_last_action stages = acts (slice_get stages (length stages - 1))
 
+-- the fault of the stages' order
+abbrev pub stages_fault : List StageRow → Option DocFault
+stages_fault stages = if has_parallel_inside stages then Some ParallelInside else (if has_last_action stages then Some LastAction else None)
+
 -- the first fault: each is looked for in the whole document before the next
+abbrev pub or_fault : Option DocFault → Option DocFault → Option DocFault
+or_fault None next = next
+or_fault (Some f) next = Some f
+
 unfoldable pub first_fault : SurveySeen → Option DocFault
-first_fault s =
-    if has_unknown s then Some UnknownKey
-    else (if has_missing s then Some MissingKey
-    else (if has_bad s then Some BadValue
-    else (if has_parallel_inside (rows s.stages) then Some ParallelInside
-    else (if has_last_action (rows s.stages) then Some LastAction else None))))
+first_fault s = or_fault (rows_fault (has_unknown s) (has_missing s) (has_bad s)) (stages_fault (rows s.stages))

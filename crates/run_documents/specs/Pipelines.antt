@@ -3,11 +3,10 @@ use Rattle.std.specs.Prelude.{◌≡◌, ℕ, ◌+◌, ◌*◌, ◌<◌, Bool, f
 use Rattle.evt_types.specs.Plan.{Plan, PortPlan, port_of, queues}
 use Rattle.pipeline_laws.specs.declared.stage.Action.{Action}
 use Rattle.pipeline_laws.specs.declared.stage.Entry.{Entry}
-use Rattle.play_documents.specs.Document.{◌>>=◌, checked, parsed, unless_fault}
+use Rattle.play_documents.specs.Document.{◌>>=◌, checked, table_of, unless_fault}
 use Rattle.play_documents.specs.Field.{value_or}
-use Rattle.play_documents.specs.declared.document.TheConstants.{MAX_INPUT}
 use Rattle.play_documents.specs.declared.fault.DocFault.{DocFault}
-use Rattle.play_documents.specs.declared.fault.DocFault.TheVariants.{TooLong, LimitTight}
+use Rattle.play_documents.specs.declared.fault.DocFault.TheVariants.{LimitTight}
 use Rattle.run_documents.specs.Drafts.{actions_asked, plan_asked}
 use Rattle.run_documents.specs.Judge.{first_fault}
 use Rattle.run_documents.specs.Survey.{SurveySeen, survey_of}
@@ -45,11 +44,9 @@ judged workers s =
 
 -- what the bytes say, for so many workers: the pipeline, or the first fault
 unfoldable pub pipeline_of : ℕ → List ℕ → Result Planned DocFault
-pipeline_of workers bytes =
-    if nat_lt MAX_INPUT (length bytes) then Err TooLong
-    else (do
-      table ← parsed bytes
-      judged workers (survey_of table))
+pipeline_of workers bytes = do
+  table ← table_of bytes
+  judged workers (survey_of table)
 
 -- a port for the trace, linked to nothing, and one for each worker, linked to every queue
 pub record HasWorkers (workers : ℕ) (p : Plan) : Type 0 where

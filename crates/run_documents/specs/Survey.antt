@@ -2,12 +2,10 @@
 use Rattle.std.specs.Prelude.{ℕ, ◌-◌, ◌^◌, Bool, List, [], ◌∷◌, map, codes, Vec}
 use Rattle.std.specs.declared.alloc.Global.{Global}
 use Rattle.toml.specs.Data.{Members}
-use Rattle.evt_types.specs.declared.draft.Serving.{Serving}
 use Rattle.play_documents.specs.Field.{field_map, knows, number_at, tables_at, text_at}
-use Rattle.play_documents.specs.Survey.{kind_at, serving_at}
+use Rattle.play_documents.specs.Survey.{device_row, queue_row}
 use Rattle.play_documents.specs.declared.field.Field.{Field}
-use Rattle.play_documents.specs.declared.field.Field.TheVariants.{Absent}
-use Rattle.play_documents.specs.declared.survey.QueueRow.{QueueRow}
+use Rattle.play_documents.specs.declared.survey.DeviceRow.{DeviceRow}
 use Rattle.run_documents.specs.Actions.{action_at}
 use Rattle.run_documents.specs.declared.survey.StageRow.{StageRow}
 use Rattle.run_documents.specs.declared.survey.Survey.{Survey}
@@ -15,12 +13,9 @@ use Rattle.run_documents.specs.declared.survey.Survey.{Survey}
 -- a pipeline's rows, without where they lie in memory
 pub record SurveySeen : Type 0 where
   pub known : Bool
-  pub limit : Field ℕ
-  pub quantum : Field ℕ
-  pub sweep : Field ℕ
+  pub device : DeviceRow
   pub depth : Field ℕ
   pub replies : Field ℕ
-  pub serving : Field Serving
   pub trace : Field (List ℕ)
   pub stages : Field (List StageRow)
 
@@ -28,30 +23,20 @@ abbrev pub survey_seen : Survey → SurveySeen
 survey_seen s =
     record {
       known = s.known;
-      limit = s.limit;
-      quantum = s.quantum;
-      sweep = s.sweep;
+      device = s.device;
       depth = s.depth;
       replies = s.replies;
-      serving = s.serving;
       trace = field_map (λ t. t.now) s.trace;
       stages = field_map (λ (v : Vec StageRow Global). v.items) s.stages;
     }
 
--- a stage's row: its queue, whose known keys are a stage's, and its action
-unfoldable pub queue_row : Members → QueueRow
-queue_row ms =
-    record {
-      known = knows (codes "kind" ∷ codes "priority" ∷ codes "slots" ∷ codes "order" ∷ codes "action" ∷ []) ms;
-      kind = kind_at (codes "kind") ms;
-      priority = number_at (2 ^ 8 - 1) (codes "priority") ms;
-      slots = number_at (2 ^ 32 - 1) (codes "slots") ms;
-      order = number_at (2 ^ 32 - 1) (codes "order") ms;
-      single = Absent;
-    }
-
+-- a stage's row: that of its queue, but that the known keys are a stage's, and its action
 abbrev pub stage_row : Members → StageRow
-stage_row ms = record { queue = queue_row ms; action = action_at (codes "action") ms }
+stage_row ms =
+    record {
+      queue = record (queue_row ms) { known = knows (codes "kind" ∷ codes "priority" ∷ codes "slots" ∷ codes "order" ∷ codes "action" ∷ []) ms };
+      action = action_at (codes "action") ms;
+    }
 
 abbrev pub stages_at : Members → Field (List StageRow)
 stages_at ms = field_map (map stage_row) (tables_at (codes "stage") ms)
@@ -61,12 +46,9 @@ unfoldable pub survey_of : Members → SurveySeen
 survey_of ms =
     record {
       known = knows (codes "limit" ∷ codes "quantum" ∷ codes "sweep" ∷ codes "depth" ∷ codes "replies" ∷ codes "serving" ∷ codes "trace" ∷ codes "stage" ∷ []) ms;
-      limit = number_at (2 ^ 32 - 1) (codes "limit") ms;
-      quantum = number_at (2 ^ 32 - 1) (codes "quantum") ms;
-      sweep = number_at (2 ^ 32 - 1) (codes "sweep") ms;
+      device = device_row ms;
       depth = number_at (2 ^ 32 - 1) (codes "depth") ms;
       replies = number_at (2 ^ 32 - 1) (codes "replies") ms;
-      serving = serving_at (codes "serving") ms;
       trace = text_at (codes "trace") ms;
       stages = stages_at ms;
     }

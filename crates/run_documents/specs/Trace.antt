@@ -1,11 +1,11 @@
 -- What a trace says: its events, or its first bad line.
-use Rattle.std.specs.Prelude.{◌≡◌, ℕ, ◌+◌, ◌-◌, ◌^◌, Bool, true, false, nat_lt, ◌==◌, List, [], ◌∷◌, length, Option, Some, None, Result, Ok, Err, if◌then◌else◌}
+use Rattle.std.specs.Prelude.{◌≡◌, ℕ, ◌-◌, ◌^◌, Bool, true, false, nat_lt, ◌==◌, List, [], ◌∷◌, Option, Some, None, Result}
 use Rattle.std.proofs.Common.{refl}
 use Rattle.std.proofs.lemmas.Bool.{ltb-true}
 use Rattle.std.specs.List.{slice_split}
-use Rattle.std.specs.Str.Lines.{strip_carriage_return}
 use Rattle.evt_types.specs.declared.event.TheConstants.{MAX_FLOWS}
 use Rattle.pipeline_laws.specs.declared.stage.Entry.{Entry}
+use Rattle.play_documents.specs.Lines.{lines_of}
 use Rattle.play_documents.specs.Script.{◌>>=◌}
 use Rattle.play_documents.specs.Words.{number}
 use Rattle.play_documents.specs.declared.fault.DocFault.{DocFault}
@@ -39,19 +39,6 @@ entry_in (f ∷ p ∷ x ∷ y ∷ more) = None
 unfoldable pub line_entry : List ℕ → Option Entry
 line_entry line = entry_in (slice_split (λ b. b == 32) line)
 
--- a line's event before those after it, or the line's number
-abbrev pub with_entry : ℕ → Option Entry → Result (List Entry) DocFault → Result (List Entry) DocFault
-with_entry n None rest = Err (BadTrace n)
-with_entry n (Some t) (Ok more) = Ok (t ∷ more)
-with_entry n (Some t) (Err f) = Err f
-
--- the events of the lines from number n on; an empty line is skipped, and a carriage return at its end is left out
-unfoldable pub trace_from : ℕ → List (List ℕ) → Result (List Entry) DocFault
-trace_from n [] = Ok []
-trace_from n (l ∷ ls) =
-    let line = strip_carriage_return l in
-    if length line == 0 then trace_from (n + 1) ls else with_entry n (line_entry line) (trace_from (n + 1) ls)
-
--- the events of a trace, whose lines are ended by line feeds and numbered from 1
-unfoldable pub trace_of : List ℕ → Result (List Entry) DocFault
-trace_of text = trace_from 1 (slice_split (λ b. b == 10) text)
+-- the events of a trace
+abbrev pub trace_of : List ℕ → Result (List Entry) DocFault
+trace_of text = lines_of line_entry (λ n. BadTrace n) text

@@ -8,7 +8,7 @@ ghost use Rattle.play_documents.specs.Field.{rows};
 ghost use Rattle.run_documents.specs.Drafts.{actions_asked, plan_asked, port_asked, ports_asked, producer_asked, stage_asked, worker_asked};
 ghost use Rattle.run_documents.specs.Survey.{survey_seen};
 
-use crate::judge::{action_asked, stage_rows};
+use crate::judge::action_asked;
 use crate::survey::{StageRow, Survey};
 use evt_types::{Draft, MAX_QUEUES, PortDraft, QueueDraft, Serving};
 use pipeline_laws::Action;
@@ -31,7 +31,7 @@ fn port_draft(survey: &Survey, links: Vec<u32>) -> PortDraft
     ensures { port_plan result ≡ port_asked (survey_seen survey.now) links.items }
 {
     PortDraft {
-        threshold: survey.limit.value_or(0),
+        threshold: survey.device.limit.value_or(0),
         depth: survey.depth.value_or(0),
         replies: survey.replies.value_or(0),
         implicit: false,
@@ -52,7 +52,7 @@ fn worker_draft(alloc: Global, survey: &Survey) -> Result<PortDraft, AllocError>
     requires { length (rows (survey_seen survey.now).stages) ≤ MAX_QUEUES }
     ensures { IfOk result (λ p. port_plan p ≡ worker_asked (survey_seen survey.now)) }
 {
-    let links = all_queues(alloc, stage_rows(survey).len())?;
+    let links = all_queues(alloc, survey.stages.rows().len())?;
     Ok(port_draft(survey, links))
 }
 
@@ -76,11 +76,11 @@ pub fn draft_of(alloc: Global, survey: &Survey, workers: usize) -> Result<Draft,
     ensures { IfOk result (λ d. plans.plan_of d ≡ plan_asked workers (survey_seen survey.now)) }
 {
     Ok(Draft {
-        limit: survey.limit.value_or(0),
-        quantum: survey.quantum.value_or(0),
-        sweep: survey.sweep.value_or(0),
-        serving: survey.serving.value_or(Serving::Ports),
-        queues: queue_drafts(alloc, stage_rows(survey))?,
+        limit: survey.device.limit.value_or(0),
+        quantum: survey.device.quantum.value_or(0),
+        sweep: survey.device.sweep.value_or(0),
+        serving: survey.device.serving.value_or(Serving::Ports),
+        queues: queue_drafts(alloc, survey.stages.rows())?,
         ports: port_drafts(alloc, survey, workers)?,
     })
 }
@@ -90,7 +90,7 @@ pub fn actions_of(alloc: Global, survey: &Survey) -> Result<Vec<Action>, AllocEr
     ensures { IfOk result (λ v. v.items ≡ actions_asked (survey_seen survey.now)) }
 {
     let mut actions = Vec::new(alloc);
-    for row in stage_rows(survey) {
+    for row in survey.stages.rows() {
         actions.push(action_asked(row))?;
     }
     Ok(actions)

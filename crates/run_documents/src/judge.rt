@@ -2,25 +2,16 @@
 
 ghost use Rattle.std.specs.Prelude.{◌≡◌};
 ghost use Rattle.std.specs.List.{list_any};
-ghost use Rattle.play_documents.specs.Field.{rows};
-ghost use Rattle.run_documents.specs.Judge.{action_asked, first_fault, has_bad, has_bad_stage, has_bad_top, has_last_action, has_missing, has_parallel_inside, has_unknown, is_parallel, is_pass, is_unknown_stage, misses_stage};
+ghost use Rattle.run_documents.specs.Judge.{action_asked, first_fault, has_bad, has_bad_stage, has_last_action, has_missing, has_parallel_inside, has_unknown, is_parallel, is_pass, is_unknown_stage, misses_stage, stages_fault};
 ghost use Rattle.run_documents.specs.Survey.{survey_seen};
 
 use crate::survey::{StageRow, Survey};
 use evt_types::Kind;
 use pipeline_laws::Action;
 use play_documents::field::Field;
-use play_documents::{DocFault, has_bad_queue, misses_queue};
-
-/// The stages' rows. Of a field that is no array of tables nothing is looked at.
-pub fn stage_rows<'a>(survey: &'a Survey) -> &'a [StageRow]
-    ensures { result.now ≡ rows (survey_seen survey.now).stages }
-{
-    match &survey.stages {
-        Field::Good(rows) => rows.as_slice(),
-        Field::Absent | Field::Bad => &[],
-    }
-}
+use play_documents::{
+    DocFault, has_bad_device, has_bad_queue, misses_device, misses_queue, rows_fault,
+};
 
 fn misses_stage(stage: &StageRow) -> bool
     ensures { result ≡ misses_stage stage.now }
@@ -69,7 +60,7 @@ fn any_parallel(stages: &[StageRow]) -> bool
 fn has_unknown(survey: &Survey) -> bool
     ensures { result ≡ has_unknown (survey_seen survey.now) }
 {
-    !survey.known || any_unknown_stage(stage_rows(survey))
+    !survey.known || any_unknown_stage(survey.stages.rows())
 }
 
 /// Whether some table lacks a key.
@@ -77,28 +68,12 @@ fn has_unknown(survey: &Survey) -> bool
 fn has_missing(survey: &Survey) -> bool
     ensures { result ≡ has_missing (survey_seen survey.now) }
 {
-    survey.limit.is_absent()
-        || survey.quantum.is_absent()
-        || survey.sweep.is_absent()
+    misses_device(&survey.device)
         || survey.depth.is_absent()
         || survey.replies.is_absent()
         || survey.trace.is_absent()
         || survey.stages.is_absent()
-        || any_misses_stage(stage_rows(survey))
-}
-
-#[tactic(auto, unfolding(crate::specs::Judge::has_bad_top))]
-fn has_bad_top(survey: &Survey) -> bool
-    ensures { result ≡ has_bad_top (survey_seen survey.now) }
-{
-    survey.limit.is_bad()
-        || survey.quantum.is_bad()
-        || survey.sweep.is_bad()
-        || survey.depth.is_bad()
-        || survey.replies.is_bad()
-        || survey.serving.is_bad()
-        || survey.trace.is_bad()
-        || survey.stages.is_bad()
+        || any_misses_stage(survey.stages.rows())
 }
 
 /// Whether some value is refused.
@@ -106,7 +81,12 @@ fn has_bad_top(survey: &Survey) -> bool
 fn has_bad(survey: &Survey) -> bool
     ensures { result ≡ has_bad (survey_seen survey.now) }
 {
-    has_bad_top(survey) || any_bad_stage(stage_rows(survey))
+    has_bad_device(&survey.device)
+        || survey.depth.is_bad()
+        || survey.replies.is_bad()
+        || survey.trace.is_bad()
+        || survey.stages.is_bad()
+        || any_bad_stage(survey.stages.rows())
 }
 
 /// Whether a stage but the last is parallel.
@@ -142,22 +122,26 @@ fn has_last_action(stages: &[StageRow]) -> bool
     }
 }
 
+/// The fault of the stages' order.
+fn stages_fault(stages: &[StageRow]) -> Option<DocFault>
+    ensures { result ≡ stages_fault stages.now }
+{
+    if has_parallel_inside(stages) {
+        Some(DocFault::ParallelInside)
+    } else if has_last_action(stages) {
+        Some(DocFault::LastAction)
+    } else {
+        None
+    }
+}
+
 /// The first fault. Each is looked for in the whole document before the next.
 #[tactic(auto, unfolding(crate::specs::Judge::first_fault))]
 pub fn first_fault(survey: &Survey) -> Option<DocFault>
     ensures { result ≡ first_fault (survey_seen survey.now) }
 {
-    if has_unknown(survey) {
-        Some(DocFault::UnknownKey)
-    } else if has_missing(survey) {
-        Some(DocFault::MissingKey)
-    } else if has_bad(survey) {
-        Some(DocFault::BadValue)
-    } else if has_parallel_inside(stage_rows(survey)) {
-        Some(DocFault::ParallelInside)
-    } else if has_last_action(stage_rows(survey)) {
-        Some(DocFault::LastAction)
-    } else {
-        None
+    match rows_fault(has_unknown(survey), has_missing(survey), has_bad(survey)) {
+        Some(fault) => Some(fault),
+        None => stages_fault(survey.stages.rows()),
     }
 }

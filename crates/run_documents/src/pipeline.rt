@@ -10,13 +10,13 @@ ghost use Rattle.run_documents.specs.Pipelines.{HasWorkers, is_tight, judged, pi
 ghost use Rattle.run_documents.specs.Survey.{survey_seen};
 
 use crate::drafts::{actions_of, draft_of};
-use crate::judge::{first_fault, stage_rows};
+use crate::judge::first_fault;
 use crate::survey::{Survey, survey_of};
 use crate::trace::read_trace;
 use evt_types::{MAX_PORTS, MAX_QUEUES, Shape, ShapeFault};
 use pipeline_laws::{Action, Entry};
 use play_documents::field::Field;
-use play_documents::{DocFault, MAX_INPUT, ReadFault, parsed, shape_fault};
+use play_documents::{DocFault, ReadFault, checked, shape_fault, table_of};
 use std::alloc::Global;
 
 /// What a pipeline's document says. Stage k has queue k; port 0 brings the trace in, and each other port is a worker's.
@@ -35,7 +35,7 @@ fn shape_of(alloc: Global, survey: &Survey, workers: usize) -> Result<Shape, Rea
     ensures value { Gives (λ s. s) result (checked (plan_asked workers (survey_seen survey.now))) }
     ensures few { OnOk result (workers < MAX_PORTS) }
 {
-    let stages = stage_rows(survey).len();
+    let stages = survey.stages.rows().len();
     // The device's first two refusals come before the draft, which is as long as the document and the caller ask for.
     if stages == 0 || stages > MAX_QUEUES {
         return Err(shape_fault(ShapeFault::QueueCount));
@@ -44,10 +44,7 @@ fn shape_of(alloc: Global, survey: &Survey, workers: usize) -> Result<Shape, Rea
         return Err(shape_fault(ShapeFault::PortCount));
     }
     let draft = draft_of(alloc, survey, workers)?;
-    match Shape::build(alloc, &draft) {
-        Ok(shape) => Ok(shape),
-        Err(fault) => Err(shape_fault(fault)),
-    }
+    checked(alloc, &draft)
 }
 
 /// Whether the limit has no room for what may rest in the pockets of the ports, which are the workers' and port 0.
@@ -104,10 +101,7 @@ fn judged(alloc: Global, survey: &Survey, workers: usize) -> Result<Pipeline, Re
 fn planned(alloc: Global, bytes: &[u8], workers: usize) -> Result<Pipeline, ReadFault>
     ensures { Gives planned_of result (pipeline_of workers bytes.now) }
 {
-    if bytes.len() > MAX_INPUT {
-        return Err(ReadFault::Document(DocFault::TooLong));
-    }
-    let table = parsed(alloc, bytes)?;
+    let table = table_of(alloc, bytes)?;
     let survey = survey_of(alloc, &table)?;
     judged(alloc, &survey, workers)
 }

@@ -3,20 +3,19 @@
 ghost use Rattle.std.specs.Prelude.{◌≡◌, map, IfOk};
 ghost use Rattle.toml.specs.View.{table_view};
 ghost use Rattle.play_documents.specs.Field.{field_map};
-ghost use Rattle.run_documents.specs.Survey.{queue_row, stage_row, stages_at, survey_of, survey_seen};
+ghost use Rattle.run_documents.specs.Survey.{stage_row, stages_at, survey_of, survey_seen};
 
 use crate::action::action_at;
-use evt_types::Serving;
 use pipeline_laws::Action;
-use play_documents::field::{Field, byte_at, knows, number_at, tables_at, text_at};
-use play_documents::{QueueRow, kind_at, serving_at};
+use play_documents::field::{Field, knows, number_at, tables_at, text_at};
+use play_documents::{DeviceRow, QueueRow, device_row, queue_row};
 use std::alloc::{AllocError, Global};
 use toml::Table;
 
 /// A stage's table.
 #[derive(Debug, Drop)]
 pub struct StageRow {
-    /// Its queue, which is never a single-link queue; the keys that it knows are a stage's.
+    /// Its queue; the keys that it knows are a stage's.
     pub queue: QueueRow,
     pub action: Field<Action>,
 }
@@ -26,38 +25,22 @@ pub struct StageRow {
 pub struct Survey<'a> {
     /// Whether each key is one of a pipeline's.
     pub known: bool,
-    pub limit: Field<u32>,
-    pub quantum: Field<u32>,
-    pub sweep: Field<u32>,
+    pub device: DeviceRow,
     pub depth: Field<u32>,
     pub replies: Field<u32>,
-    pub serving: Field<Serving>,
     pub trace: Field<&'a str>,
     pub stages: Field<Vec<StageRow>>,
-}
-
-/// The row of a stage's queue.
-#[tactic(auto, unfolding(crate::specs::Survey::queue_row))]
-fn queue_row(table: &Table) -> QueueRow
-    ensures { result ≡ queue_row (table_view table.now) }
-{
-    let keys = ["kind", "priority", "slots", "order", "action"];
-    QueueRow {
-        known: knows(&keys, table),
-        kind: kind_at(table, "kind"),
-        priority: byte_at(table, "priority"),
-        slots: number_at(table, "slots"),
-        order: number_at(table, "order"),
-        single: Field::Absent,
-    }
 }
 
 /// The row of a stage.
 fn stage_row(alloc: Global, table: &Table) -> Result<StageRow, AllocError>
     ensures { IfOk result (λ r. r ≡ stage_row (table_view table.now)) }
 {
+    let keys = ["kind", "priority", "slots", "order", "action"];
+    let mut queue = queue_row(table);
+    queue.known = knows(&keys, table);
     Ok(StageRow {
-        queue: queue_row(table),
+        queue,
         action: action_at(alloc, table, "action")?,
     })
 }
@@ -94,12 +77,9 @@ pub fn survey_of(alloc: Global, table: &Table) -> Result<Survey<'_>, AllocError>
     ];
     Ok(Survey {
         known: knows(&keys, table),
-        limit: number_at(table, "limit"),
-        quantum: number_at(table, "quantum"),
-        sweep: number_at(table, "sweep"),
+        device: device_row(table),
         depth: number_at(table, "depth"),
         replies: number_at(table, "replies"),
-        serving: serving_at(table, "serving"),
         trace: text_at(table, "trace"),
         stages: stages_at(alloc, table)?,
     })

@@ -1,9 +1,6 @@
 use Rattle.std.proofs.Common.{◌≡◌, length, sym, ap, ◌∙◌, arith}
-use Rattle.evt_types.specs.Plan.{plan_of}
 use Rattle.play_documents.specs.Field.{rows}
-use Rattle.play_documents.proofs.Plays.{checked-Ok, shape-Fails}
 use Rattle.run_documents.proofs.Refusals.{many-refused, none-refused, workers-refused}
-use Rattle.run_documents.specs.Drafts.{plan_asked}
 use Rattle.run_documents.specs.Survey.{survey_seen}
 use Rattle.run_documents.proofs.pipeline.shape_of.Goals as goal
 use Rattle.run_documents.proofs.pipeline.shape_of.Goals.{then-stages-eq0-via-then-stages-eq0, then-stages-eq0-via-else-stages-eq0+then-stages-gt-MAX_QUEUES}
@@ -11,7 +8,7 @@ use Rattle.run_documents.proofs.pipeline.shape_of.Goals.{then-stages-eq0-via-the
 pub returns-then-stages-eq0-clause-value : goal.returns-then-stages-eq0-clause-value
 returns-then-stages-eq0-clause-value c =
     let s = survey_seen c.args.survey.now in
-    let are : length (rows s.stages) ≡ length c.stage_rows-stages.result.now = ap length (sym c.stage_rows-stages.ensures) in
+    let are : length (rows s.stages) ≡ length c.rows-stages.result.now = ap length (sym c.rows-stages.ensures) in
     rw c.shape_fault.ensures (elim c.then-stages-eq0.branch [
       | then-stages-eq0-via-then-stages-eq0 w ↦ none-refused c.args.workers s (are ∙ w.if-stages-eq0.true)
       | then-stages-eq0-via-else-stages-eq0+then-stages-gt-MAX_QUEUES w ↦ many-refused c.args.workers s (rw are w.if-stages-gt-MAX_QUEUES.true)
@@ -20,16 +17,7 @@ returns-then-stages-eq0-clause-value c =
 pub returns-then-workers-ge-MAX_PORTS-clause-value : goal.returns-then-workers-ge-MAX_PORTS-clause-value
 returns-then-workers-ge-MAX_PORTS-clause-value c =
     let s = survey_seen c.args.survey.now in
-    let are : length (rows s.stages) ≡ length c.stage_rows-stages.result.now = ap length (sym c.stage_rows-stages.ensures) in
+    let are : length (rows s.stages) ≡ length c.rows-stages.result.now = ap length (sym c.rows-stages.ensures) in
     let some = c.if-stages-eq0.false in
     rw c.shape_fault-then-workers-ge-MAX_PORTS.ensures
     (workers-refused c.args.workers s (rw are (omega (arith, some))) (rw are c.if-stages-gt-MAX_QUEUES.false) c.if-workers-ge-MAX_PORTS.true)
-
-pub returns-in-Ok-clause-value : goal.returns-in-Ok-clause-value
-returns-in-Ok-clause-value c =
-    checked-Ok (plan_of c.in_ok-draft.draft) (plan_asked c.args.workers (survey_seen c.args.survey.now)) _ c.in_ok-draft.ensures c.in-Ok.ensures.built c.in-Ok.ensures.sound
-
-pub returns-clause-value : goal.returns-clause-value
-returns-clause-value c =
-    let asked = plan_asked c.args.workers (survey_seen c.args.survey.now) in
-    rw c.shape_fault-in-Err.ensures (shape-Fails c.in-Err.fault (plan_of c.in_ok-draft.draft) asked c.in_ok-draft.ensures (c.in-Err.ensures.accepted, c.in-Err.ensures.refused))

@@ -1,6 +1,6 @@
 //! Why a device of a plan isn't made, called as wanted or stopped.
 
-use event_device::{DeviceFault, StopFault};
+use event_device::{DeviceFault, NotStopped};
 use evt_types::ShapeFault;
 use std::alloc::{AllocError, AllocFailed};
 use thiserror::Error;
@@ -19,9 +19,9 @@ pub enum RigFault {
     Unexpected { place: usize },
     /// The device isn't stopped.
     #[error("the device is not stopped: {0}")]
-    Stop(StopFault),
-    /// Memory ran out, or a thread couldn't be started.
-    #[error("memory ran out, or a thread could not be started")]
+    Stop(NotStopped),
+    /// Memory ran out.
+    #[error("memory ran out")]
     Memory,
 }
 

@@ -1,20 +1,12 @@
-//! Devices in threads of their own, and the checks of what they leave, for the tests of the device.
+//! Devices of a plan, calls that are made on them, and threads that run them, for the tests of the device.
 #![tactic(auto)]
 
-mod accounts;
-mod checker;
+mod calls;
 mod fault;
-mod logged_queue;
 mod plans;
-mod rig;
 mod runs;
-mod stopped;
 
-pub use accounts::{brought_in, credits, entry_count};
-pub use checker::Checker;
+pub use calls::{Call, Sent, play, stop};
 pub use fault::RigFault;
-pub use logged_queue::Fault;
 pub use plans::{Plan, PortPlan, SOURCE, WORKER};
-pub use rig::{Call, Rig, Sent};
 pub use runs::{End, Task, run};
-pub use stopped::{AccountFault, check_stopped};

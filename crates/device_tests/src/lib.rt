@@ -1,28 +1,15 @@
-//! Tests of the event device over what it makes public: known rows through the calls, what a stop hands back, and runs of several
-//! threads whose log is checked step by step.
+//! Tests of the event device over what it makes public: want of memory, a stop that is refused, and runs of several threads.
 #![tactic(auto)]
 
 #[cfg(test)]
 mod again;
 #[cfg(test)]
-mod calls;
-#[cfg(test)]
-mod checks;
-#[cfg(test)]
-mod every_call;
-#[cfg(test)]
-mod flow_threads;
-#[cfg(test)]
 mod left;
 #[cfg(test)]
-mod plans;
-#[cfg(test)]
-mod refusals;
+mod refused_stop;
 #[cfg(test)]
 mod rows;
 #[cfg(test)]
 mod steps;
-#[cfg(test)]
-mod stops;
 #[cfg(test)]
 mod threads;

@@ -1,162 +1,178 @@
-//! Known calls of which no document shows the answers: a burst that ends at a refusal, a RELEASE that names a queue, and a dequeue that
-//! releases and gives credits back.
+//! Devices, calls that are made on them, and the reports that must come of them.
 
 use crate::left::{Left, NOTHING};
-use crate::plans::{ONE_QUEUE, played};
-use crate::steps::{FIFTH, FIRST, FOURTH, RELEASE, SECOND, THIRD};
-use device_rigs::{Call, Plan, PortPlan, Rig, RigFault, SOURCE, Sent, WORKER};
-use event_device::Refused;
-use std::alloc::Global;
-use std::test::Fail;
+use crate::steps::{FIFTH, FIRST, FOURTH, Logged, ORDERED, OTHER, PARALLEL, THIRD, is_log};
+use device_rigs::{Call, Plan, PortPlan, SOURCE, Sent, WORKER};
+use event_device::{Held, Report};
+use evt_types::{Op, Serving};
 
-/// A device, the calls that are made on it, and what they leave.
+/// A device, the calls that are made on it, and what its report says.
 #[derive(Clone, Copy)]
-struct Row {
-    name: &'static str,
-    plan: Plan<'static>,
-    calls: &'static [Call<'static>],
+pub(crate) struct Row {
+    pub(crate) name: &'static str,
+    pub(crate) plan: Plan<'static>,
+    pub(crate) calls: &'static [Call<'static>],
+    log: &'static [Logged],
     left: Left,
 }
 
-/// A port that is refused credits once two are in use.
-const LOW: PortPlan = PortPlan {
-    threshold: 2,
-    ..SOURCE
-};
-
-const TIGHT: Plan = Plan {
-    ports: &[LOW, WORKER],
-    ..ONE_QUEUE
-};
-
-/// Of a RELEASE nothing but its operation counts.
-const RELEASE_TO_NOWHERE: Sent = Sent {
-    queue: 200,
-    ..RELEASE
-};
-
-/// Ports with room for eight events, of which the second releases of its own accord.
-const WIDE_SOURCE: PortPlan = PortPlan {
-    threshold: 8,
-    replies: 8,
-    ..SOURCE
-};
-
-const WIDE_WORKER: PortPlan = PortPlan {
-    threshold: 8,
-    depth: 8,
-    replies: 8,
-    implicit: true,
+/// A port for both queues.
+const BOTH: PortPlan = PortPlan {
+    links: &[0, 1],
     ..WORKER
 };
 
-static ROWS: [Row; 2] = [
-    Row {
-        name: "a release may name any queue",
-        plan: ONE_QUEUE,
-        calls: &[
-            Call::Enqueue(0, FIRST, Ok(())),
-            Call::Sweep(1, 1),
-            Call::Dequeue(1, 4, Ok(&[(0, FIRST)])),
-            Call::Enqueue(1, RELEASE_TO_NOWHERE, Ok(())),
-            Call::Sweep(1, 0),
-        ],
-        left: Left {
-            free: 2,
-            pockets: &[1, 1],
-            ..NOTHING
-        },
+/// An ordered queue before a parallel one: a port that brings events in, one for the first queue, and one for both.
+const TWO_QUEUES: Plan = Plan {
+    limit: 4,
+    quantum: 2,
+    sweep: 8,
+    serving: Serving::Ports,
+    queues: &[ORDERED, PARALLEL],
+    ports: &[SOURCE, WORKER, BOTH],
+};
+
+/// What flow 7's event is forwarded as to queue 1, and what flow 8's is.
+const EARLY: Sent = Sent {
+    op: Op::Forward,
+    queue: 1,
+    flow: 7,
+    payload: 10,
+};
+
+const LATE: Sent = Sent {
+    op: Op::Forward,
+    queue: 1,
+    flow: 8,
+    payload: 20,
+};
+
+/// Of two events the second is forwarded first.
+const SECOND_FORWARDED_FIRST: Row = Row {
+    name: "the second is forwarded first",
+    plan: TWO_QUEUES,
+    calls: &[
+        Call::Enqueue(0, FIRST),
+        Call::Enqueue(0, OTHER),
+        Call::Sweep(2, 2),
+        Call::Dequeue(1, 1, &[(0, FIRST)]),
+        Call::Dequeue(2, 1, &[(1, OTHER)]),
+        Call::Enqueue(2, LATE),
+        Call::Sweep(1, 0),
+        Call::Enqueue(1, EARLY),
+        Call::Sweep(1, 2),
+    ],
+    log: &[
+        Logged::Entered(FIRST),
+        Logged::Entered(OTHER),
+        Logged::Given(1, 0, 0),
+        Logged::Given(2, 0, 1),
+        Logged::Forwarded(2, LATE),
+        Logged::Forwarded(1, EARLY),
+        Logged::PassedOn(0, 0, EARLY),
+        Logged::PassedOn(0, 1, LATE),
+        Logged::Given(2, 1, 0),
+        Logged::Given(2, 1, 1),
+    ],
+    left: Left {
+        undelivered: &[(2, 1, 0, EARLY), (2, 1, 1, LATE)],
+        free: 2,
+        pockets: &[0, 0, 0],
+        ..NOTHING
     },
-    // The dequeue releases five, so that the pocket is at twice the quantum and more: all but a quantum of it is returned, once.
-    Row {
-        name: "a dequeue returns credits once",
-        plan: Plan {
-            limit: 8,
-            ports: &[WIDE_SOURCE, WIDE_WORKER],
-            ..ONE_QUEUE
-        },
-        calls: &[
-            Call::Enqueue(0, FIRST, Ok(())),
-            Call::Enqueue(0, SECOND, Ok(())),
-            Call::Enqueue(0, THIRD, Ok(())),
-            Call::Enqueue(0, FOURTH, Ok(())),
-            Call::Enqueue(0, FIFTH, Ok(())),
-            Call::Sweep(5, 5),
-            Call::Dequeue(
-                1,
-                5,
-                Ok(&[(0, FIRST), (1, SECOND), (2, THIRD), (3, FOURTH), (4, FIFTH)]),
-            ),
-            Call::Dequeue(1, 4, Ok(&[])),
-        ],
-        left: Left {
-            free: 5,
-            pockets: &[1, 2],
-            ..NOTHING
-        },
+};
+
+/// Ports that may use all eight credits, of which the workers hold one event each.
+const WIDE_SOURCE: PortPlan = PortPlan {
+    threshold: 8,
+    ..SOURCE
+};
+
+const SINGLE: PortPlan = PortPlan {
+    threshold: 8,
+    depth: 1,
+    ..WORKER
+};
+
+const SINGLE_BOTH: PortPlan = PortPlan {
+    links: &[0, 1],
+    ..SINGLE
+};
+
+/// An event is in each place that a report lists.
+const EVENT_IN_EACH_PLACE: Row = Row {
+    name: "an event is in each place",
+    plan: Plan {
+        limit: 8,
+        quantum: 1,
+        ports: &[WIDE_SOURCE, SINGLE, SINGLE_BOTH],
+        ..TWO_QUEUES
     },
-];
+    calls: &[
+        Call::Enqueue(0, FIRST),
+        Call::Enqueue(0, OTHER),
+        Call::Enqueue(0, THIRD),
+        Call::Sweep(3, 2),
+        Call::Dequeue(1, 1, &[(0, FIRST)]),
+        Call::Dequeue(2, 1, &[(1, OTHER)]),
+        Call::Enqueue(2, LATE),
+        Call::Sweep(1, 1),
+        Call::Enqueue(0, FOURTH),
+        Call::Sweep(1, 0),
+        Call::Enqueue(0, FIFTH),
+    ],
+    log: &[
+        Logged::Entered(FIRST),
+        Logged::Entered(OTHER),
+        Logged::Entered(THIRD),
+        Logged::Given(1, 0, 0),
+        Logged::Given(2, 0, 1),
+        Logged::Forwarded(2, LATE),
+        Logged::Given(2, 0, 2),
+        Logged::Entered(FOURTH),
+    ],
+    left: Left {
+        waiting: &[(0, 3, FOURTH)],
+        kept: &[(0, 1, LATE)],
+        undelivered: &[(2, 0, 2, THIRD)],
+        held: &[Held {
+            port: 1,
+            queue: 0,
+            number: 0,
+        }],
+        untaken: &[(0, FIFTH)],
+        free: 3,
+        pockets: &[0, 0, 0],
+        ..NOTHING
+    },
+};
 
-/// What the row's calls leave otherwise.
-fn other_in(alloc: Global, row: &Row) -> Result<Option<&'static str>, RigFault> {
-    let rig = played(alloc, &row.plan, row.calls)?;
-    let report = rig.stop(alloc)?;
-    let other = row.left.other_in(&report);
-    drop(report);
-    Ok(other)
-}
+/// A device that is shut turns away what it has not taken.
+const SHUT: Row = Row {
+    name: "the device is shut",
+    plan: TWO_QUEUES,
+    calls: &[
+        Call::Enqueue(0, FIRST),
+        Call::Enqueue(0, OTHER),
+        Call::Shut,
+        Call::Sweep(2, 0),
+    ],
+    log: &[Logged::Shut, Logged::Turned(FIRST), Logged::Turned(OTHER)],
+    left: Left {
+        turned: &[(0, FIRST), (0, OTHER)],
+        free: 4,
+        pockets: &[0, 0, 0],
+        ..NOTHING
+    },
+};
 
-/// What a burst of three new events answers.
-fn burst_of_three(alloc: Global) -> Result<Option<(usize, Option<Refused>)>, RigFault> {
-    let mut rig = Rig::new(alloc, &TIGHT)?;
-    let answer = rig.enqueue_burst(0, &[FIRST.event(); 3]);
-    drop(rig);
-    Ok(answer)
-}
+pub(crate) static ROWS: [Row; 3] = [SECOND_FORWARDED_FIRST, EVENT_IN_EACH_PLACE, SHUT];
 
-#[test]
-fn backpressure_ends_a_burst(rt: HostRuntime) -> Result<(), Fail> {
-    let backpressure = Refused::Backpressure { free: 2 };
-    assert_eq!(rt; burst_of_three(rt.alloc())?, Some((2, Some(backpressure))));
-    Ok(())
-}
-
-#[test]
-fn rows_end_as_known(rt: HostRuntime) -> Result<(), Fail> {
-    for row in &ROWS {
-        let name = row.name;
-        assert_eq!(rt; other_in(rt.alloc(), row)?, None, "{name}");
+/// What the report says otherwise than the row.
+pub(crate) fn other_of(report: &Report, row: &Row) -> Option<&'static str> {
+    if is_log(&report.log, row.log) {
+        row.left.other_in(report)
+    } else {
+        Some("log")
     }
-    Ok(())
-}
-
-/// An event was brought in, handed out and released.
-static FIRST_EVENT: [Call; 6] = [
-    Call::Enqueue(0, FIRST, Ok(())),
-    Call::Sweep(1, 1),
-    Call::Dequeue(1, 4, Ok(&[(0, FIRST)])),
-    Call::Enqueue(1, RELEASE, Ok(())),
-    Call::Sweep(1, 0),
-    Call::Look(1, false),
-];
-
-/// The worker's number, and how many events it holds.
-fn worker_of(rig: &Rig) -> Option<(usize, usize)> {
-    let worker = rig.ports.get(1)?;
-    Some((worker.number(), worker.held()))
-}
-
-/// How many events were accepted as new and are inside, and the worker, after the first event was released.
-fn counted(alloc: Global) -> Result<(u64, usize, Option<(usize, usize)>), RigFault> {
-    let rig = played(alloc, &ONE_QUEUE, &FIRST_EVENT)?;
-    let (accepted, inside) = (rig.recorder.accepted_new(), rig.recorder.inside());
-    let worker = worker_of(&rig);
-    drop(rig);
-    Ok((accepted, inside, worker))
-}
-
-#[test]
-fn the_first_event_is_counted(rt: HostRuntime) -> Result<(), Fail> {
-    assert_eq!(rt; counted(rt.alloc())?, (1, 0, Some((1, 0))));
-    Ok(())
 }

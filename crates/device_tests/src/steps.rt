@@ -2,7 +2,6 @@
 
 use device_rigs::Sent;
 use evt_types::{Kind, Op, Outcome, QueueDraft, Source, Step};
-use std::alloc::{AllocError, Global};
 
 pub(crate) const ATOMIC: QueueDraft = QueueDraft {
     kind: Kind::Atomic,
@@ -59,19 +58,6 @@ pub(crate) const FIFTH: Sent = Sent {
 /// Flow 8's new event.
 pub(crate) const OTHER: Sent = Sent { flow: 8, ..SECOND };
 
-/// What is added beside a held event of flow 7, for queue 0.
-pub(crate) const MORE: Sent = Sent {
-    op: Op::ForwardMore,
-    ..FIRST
-};
-
-pub(crate) const RELEASE: Sent = Sent {
-    op: Op::Release,
-    queue: 0,
-    flow: 0,
-    payload: 0,
-};
-
 /// A step of a log.
 #[derive(Clone, Copy)]
 pub(crate) enum Logged {
@@ -83,10 +69,6 @@ pub(crate) enum Logged {
     Given(usize, usize, u64),
     /// The lane's oldest event is forwarded as this one.
     Forwarded(usize, Sent),
-    /// The lane's oldest event is released.
-    Released(usize),
-    /// This event is added beside the lane's oldest one.
-    Added(usize, Sent),
     /// A new event of lane 0 is turned away.
     Turned(Sent),
     Shut,
@@ -114,14 +96,6 @@ impl Logged {
                 lane,
                 outcome: Outcome::Forwarded(sent.event()),
             },
-            Logged::Released(lane) => Step::Done {
-                lane,
-                outcome: Outcome::Released,
-            },
-            Logged::Added(lane, sent) => Step::More {
-                lane,
-                event: sent.event(),
-            },
             Logged::Turned(sent) => Step::Turned {
                 lane: 0,
                 event: sent.event(),
@@ -139,13 +113,4 @@ pub(crate) fn is_log(log: &[Step], wanted: &[Logged]) -> bool {
         }
     }
     log.len() == wanted.len()
-}
-
-/// These steps.
-pub(crate) fn log_of(alloc: Global, wanted: &[Logged]) -> Result<Vec<Step>, AllocError> {
-    let mut log = Vec::with_capacity(alloc, wanted.len())?;
-    for logged in wanted {
-        log.push(logged.step())?;
-    }
-    Ok(log)
 }

@@ -1,21 +1,18 @@
-//! A producer, three workers and the scheduler pass many events over three queues.
+//! A producer, workers and the scheduler pass many events from queue to queue: to the end, and up to a stop in the middle of work.
 
-use crate::steps::{ATOMIC, FIRST, ORDERED, PARALLEL};
-use device_rigs::{
-    AccountFault, Call, Checker, End, Plan, PortPlan, Rig, RigFault, Task, brought_in,
-    check_stopped, credits, entry_count, run,
-};
-use event_device::{Refused, Report};
-use evt_types::{MAX_EXTRAS, MAX_LANES, QueueDraft, Serving, Step};
+use crate::steps::{ATOMIC, ORDERED, PARALLEL};
+use device_rigs::{End, Plan, PortPlan, RigFault, Task, run, stop};
+use event_device::{Counted, Device, QueueCounts, Report, Tally};
+use evt_types::{MAX_QUEUES, Serving};
 use std::alloc::Global;
 use std::test::Fail;
 use std::thread::Threads;
 
 /// How many events the producer brings in.
-pub(crate) const EVENTS: u32 = 100_000;
+const EVENTS: u32 = 100_000;
 
 /// How many of them may be inside the device. Credits are short, so that the threads wait for them at times.
-pub(crate) const LIMIT: u32 = 64;
+const LIMIT: u32 = 64;
 
 /// A worker with rings of one place.
 const SHORT: PortPlan = PortPlan {
@@ -26,32 +23,21 @@ const SHORT: PortPlan = PortPlan {
     links: &[0, 1, 2],
 };
 
-const LONG: PortPlan = PortPlan {
-    depth: 64,
-    replies: 64,
-    ..SHORT
-};
-
+/// A worker of four atomic queues.
 const MIDDLE: PortPlan = PortPlan {
     depth: 4,
     replies: 4,
+    links: &[0, 1, 2, 3],
     ..SHORT
 };
 
-/// An atomic, an ordered and a parallel queue; the producer has rings of this length too.
+/// A producer and three workers of an atomic, an ordered and a parallel queue.
 const SHORT_RINGS: Plan = Plan {
     limit: LIMIT,
     quantum: 4,
     sweep: 16,
     serving: Serving::Ports,
-    queues: &[
-        QueueDraft { slots: 8, ..ATOMIC },
-        QueueDraft {
-            order: 32,
-            ..ORDERED
-        },
-        PARALLEL,
-    ],
+    queues: &[ATOMIC, ORDERED, PARALLEL],
     ports: &[
         PortPlan {
             links: &[],
@@ -63,13 +49,10 @@ const SHORT_RINGS: Plan = Plan {
     ],
 };
 
-const LONG_RINGS: Plan = Plan {
-    ports: &[PortPlan { links: &[], ..LONG }, LONG, LONG, LONG],
-    ..SHORT_RINGS
-};
-
+/// A producer and seven workers of four atomic queues, of which each slot has a lane.
 const FLOW_LANES: Plan = Plan {
     serving: Serving::Flows,
+    queues: &[ATOMIC, ATOMIC, ATOMIC, ATOMIC],
     ports: &[
         PortPlan {
             links: &[],
@@ -78,122 +61,105 @@ const FLOW_LANES: Plan = Plan {
         MIDDLE,
         MIDDLE,
         MIDDLE,
+        MIDDLE,
+        MIDDLE,
+        MIDDLE,
+        MIDDLE,
     ],
     ..SHORT_RINGS
 };
 
-/// All events go through three queues.
-const ALL: Task = Task {
-    events: EVENTS,
-    last: 2,
-    extras: 0,
-    end: End::Through,
-};
-
-/// The same, with events that workers add beside some.
-const ADDING: Task = Task {
-    extras: MAX_EXTRAS as u64,
-    ..ALL
-};
-
-/// Ports 1 to 3 see that the device is shut, and no event may come in.
-fn is_shut(rig: &mut Rig) -> Result<(), RigFault> {
-    rig.play(&[
-        Call::Enqueue(0, FIRST, Err(Refused::Stopped)),
-        Call::Look(1, true),
-        Call::Look(2, true),
-        Call::Look(3, true),
-    ])
-}
-
-/// A device through which all went is shut.
-fn ends(rig: &mut Rig, task: Task) -> Result<(), RigFault> {
-    match task.end {
-        End::Through => is_shut(rig),
-        End::Seen(_) | End::Unseen(_) => Ok(()),
-    }
-}
-
-/// What is left of a device that is run until it is shut.
-pub(crate) fn report_of<R: Threads + Sync>(
+/// What is left of a device of the plan that is run until this end, where events end after the queue of this number.
+fn report_of<R: Threads + Sync>(
     rt: &R,
     alloc: Global,
     plan: &Plan,
-    task: Task,
-) -> Result<Report, RigFault> {
-    let mut rig = run(rt, Rig::new(alloc, plan)?, task)?;
-    match ends(&mut rig, task) {
-        Ok(()) => rig.stop(alloc),
-        Err(fault) => {
-            drop(rig);
-            Err(fault)
+    last: u8,
+    end: End,
+) -> Result<Report<Tally<Counted>>, RigFault> {
+    let task = Task {
+        events: EVENTS,
+        last,
+        end,
+    };
+    let device = Device::new(alloc, plan.shape(alloc)?)?;
+    stop(run(rt, device, task))
+}
+
+/// Whether no event is left.
+fn is_empty(report: &Report<Tally<Counted>>) -> bool {
+    report.waiting.is_empty()
+        && report.kept.is_empty()
+        && report.undelivered.is_empty()
+        && report.held.is_empty()
+        && report.untaken.is_empty()
+}
+
+/// Whether each of so many queues accepted and gave all events.
+fn all_went_through(log: &Tally<Counted>, queues: usize) -> bool {
+    for queue in 0..queues.min(MAX_QUEUES) {
+        let QueueCounts {
+            rx_new,
+            rx_forwarded,
+            tx,
+        } = log.queue(queue);
+        let accepted = rx_new.saturating_add(rx_forwarded);
+        if accepted != u64::from(EVENTS) || tx != u64::from(EVENTS) {
+            return false;
         }
     }
+    true
 }
 
-/// Whether all events went through all queues, by a log in which nothing is wrong, and nothing is left.
-pub(crate) fn is_through(
-    alloc: Global,
-    plan: &Plan,
-    report: &Report,
-) -> Result<bool, AccountFault> {
-    let mut checker = Checker::new(alloc, plan.queues, MAX_LANES)?;
-    let is_read = checker.read(&report.log);
-    let is_done = checker.is_done() && checker.is_shut() && checker.each_queue_has(EVENTS as usize);
-    let entered = checker.entered() == u64::from(EVENTS);
-    drop(checker);
-    is_read?;
-    let entered = entered && brought_in(&report.log) == Some(EVENTS);
-    Ok(is_done && entered && entry_count(report) == 0 && credits(report) == u64::from(LIMIT))
-}
-
-/// The same of a device that is run with threads.
-pub(crate) fn passes<R: Threads + Sync>(
+/// Whether all events come and go.
+fn passes_all<R: Threads + Sync>(
     rt: &R,
     alloc: Global,
     plan: &Plan,
-    task: Task,
-) -> Result<bool, Fail> {
-    let report = report_of(rt, alloc, plan, task)?;
-    let through = is_through(alloc, plan, &report);
+    last: u8,
+) -> Result<bool, RigFault> {
+    let report = report_of(rt, alloc, plan, last, End::Through)?;
+    let passed = is_empty(&report) && all_went_through(&report.log, plan.queues.len());
     drop(report);
-    Ok(through?)
+    Ok(passed)
 }
 
-#[test]
-fn short_rings(rt: HostRuntime) -> Result<(), Fail> {
-    assert!(rt; passes(&rt, rt.alloc(), &SHORT_RINGS, ALL)?);
-    Ok(())
-}
+/// Half of the events.
+const HALF: u64 = EVENTS as u64 / 2;
 
-#[test]
-fn long_rings(rt: HostRuntime) -> Result<(), Fail> {
-    assert!(rt; passes(&rt, rt.alloc(), &LONG_RINGS, ALL)?);
-    Ok(())
-}
-
-#[test]
-fn flow_lanes(rt: HostRuntime) -> Result<(), Fail> {
-    assert!(rt; passes(&rt, rt.alloc(), &FLOW_LANES, ALL)?);
-    Ok(())
-}
-
-/// Whether all events went through a device whose workers added some beside others, and its report accounts for each.
-fn adds<R: Threads + Sync>(rt: &R, alloc: Global, plan: &Plan) -> Result<bool, Fail> {
-    let report = report_of(rt, alloc, plan, ADDING)?;
-    let entered = check_stopped(alloc, plan, ADDING, &report);
-    let has_added = report.log.iter().any(is_more);
-    let is_empty = entry_count(&report) == 0;
+/// Whether half of the events or more are accepted, but not all, where the device is then shut and stopped in the middle of work.
+fn stops_halfway<R: Threads + Sync>(
+    rt: &R,
+    alloc: Global,
+    plan: &Plan,
+    last: u8,
+) -> Result<bool, RigFault> {
+    let report = report_of(rt, alloc, plan, last, End::Accepted(HALF))?;
+    let accepted = report.log.queue(0).rx_new;
     drop(report);
-    Ok(has_added && is_empty && entered? == u64::from(EVENTS))
-}
-
-fn is_more(step: &Step) -> bool {
-    matches!(step, Step::More { .. })
+    Ok(HALF <= accepted && accepted < u64::from(EVENTS))
 }
 
 #[test]
-fn added_events(rt: HostRuntime) -> Result<(), Fail> {
-    assert!(rt; adds(&rt, rt.alloc(), &LONG_RINGS)?);
+fn all_events_pass_by_ports(rt: HostRuntime) -> Result<(), Fail> {
+    assert!(rt; passes_all(&rt, rt.alloc(), &SHORT_RINGS, 2)?);
+    Ok(())
+}
+
+#[test]
+fn all_events_pass_by_flow_lanes(rt: HostRuntime) -> Result<(), Fail> {
+    assert!(rt; passes_all(&rt, rt.alloc(), &FLOW_LANES, 3)?);
+    Ok(())
+}
+
+#[test]
+fn ports_are_stopped_halfway(rt: HostRuntime) -> Result<(), Fail> {
+    assert!(rt; stops_halfway(&rt, rt.alloc(), &SHORT_RINGS, 2)?);
+    Ok(())
+}
+
+#[test]
+fn flow_lanes_are_stopped_halfway(rt: HostRuntime) -> Result<(), Fail> {
+    assert!(rt; stops_halfway(&rt, rt.alloc(), &FLOW_LANES, 3)?);
     Ok(())
 }

@@ -1,6 +1,7 @@
+pub mod Calling
 pub mod EarlyFaults
 pub mod Finished
-pub mod Keeping
+pub mod Home
 pub mod Playing
+pub mod Ranges
 pub mod RunFaults
-pub mod Stopping

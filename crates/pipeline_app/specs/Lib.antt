@@ -1,4 +1,4 @@
 pub mod Calls
-pub mod Rig
+pub mod Commands
 pub mod Play
 pub mod Runs

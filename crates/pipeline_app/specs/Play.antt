@@ -4,10 +4,10 @@ use Rattle.std.specs.declared.alloc.Global.{Global}
 use Rattle.std.specs.declared.vec.Vec.{Vec}
 use Rattle.std.specs.Io.KnownBytes.{Appends, Keeps}
 use Rattle.event_answers.specs.declared.report.Report.{Report}
-use Rattle.event_device.specs.Control.{control_of, was_shut}
-use Rattle.event_device.specs.Device.{Device, control_site}
-use Rattle.event_device.specs.Stop.{IsReport, steps_in}
-use Rattle.event_device.specs.declared.control.Control.{Control}
+use Rattle.event_device.specs.Home.{Stops}
+use Rattle.event_device.specs.Parts.{Parts}
+use Rattle.event_device.specs.Start.{IsFresh}
+use Rattle.event_device.specs.Stop.{steps_in}
 use Rattle.evt_types.specs.declared.step.Step.{Step}
 use Rattle.evt_types.specs.Plan.{Plan}
 use Rattle.command_line.specs.Output.{AppendsPrefix}
@@ -17,22 +17,18 @@ use Rattle.play_documents.specs.Command.{Line}
 use Rattle.play_documents.specs.Document.{Planned, IsNamedDoc, document_of}
 use Rattle.play_text.specs.Text.{text_of}
 use Rattle.play_text.specs.declared.answer.Answer.{Answer}
-use Rattle.pipeline_app.specs.Rig.{ArePlayed, IsFresh, Scene}
+use Rattle.pipeline_app.specs.Commands.{ArePlayed}
 
 -- The text of a run of the commands on a device just made: one answer a command, by the calls of its ports, its scheduler and its
--- control, and then the log and the report of its stop.
+-- control, and then the log and the report of its stop, with all of it at home.
 pub record IsRun (p : Plan) (commands : List Line) (text : List ℕ) : Type 0 where
-  pub device : Device
-  pub start : Scene
-  pub end : Scene
-  pub control : Control
+  pub start : Parts
+  pub end : Parts
   pub answers : List Answer
   pub report : Report (Vec Step Global)
-  pub fresh : IsFresh p device start
+  pub fresh : IsFresh p start
   pub played : ArePlayed start commands answers end
-  pub control_is : control_of control ≡ control_site device
-  pub control_shut : was_shut control ≡ end.shut
-  pub reported : IsReport steps_in end.recorder control end.ports report
+  pub stopped : Stops steps_in end report
   pub written : text ≡ text_of p.queues p.limit answers report
 
 -- A run's text, of the document where the reader tells its bytes.

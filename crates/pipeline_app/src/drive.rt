@@ -1,16 +1,43 @@
 //! A script is played on a device.
 
 ghost use Rattle.std.specs.Prelude.{IfOk, IfErr, List, ℕ, Option, OnOk, map, string_bytes, Some};
+ghost use Rattle.event_device.specs.Home.{Stops};
+ghost use Rattle.event_device.specs.Start.{IsFresh};
+ghost use Rattle.event_device.specs.Stop.{steps_in};
 ghost use Rattle.play_documents.specs.Command.{AllPortsThere, line_of};
 ghost use Rattle.command_line.specs.Input.{HasRead};
 ghost use Rattle.pipeline_app.specs.Play.{IsRun, HasRun, WritesRun, AfterFault, IsEarlyFault, IsFaultOf};
 
-use crate::rig::Rig;
+use crate::obey::obey_all;
 use command_line::{AppFault, read_all, write_text};
+use event_device::{Device, DeviceFault, Report};
+use evt_types::{Shape, Step};
 use play_documents::{Document, read_document};
 use play_text::text_of;
-use std::alloc::Global;
+use std::alloc::{AllocError, Global};
 use std::io::{Read, Write};
+
+/// A device of this configuration, in which nothing has happened, with a log that keeps every step.
+fn make_device(alloc: Global, shape: Shape) -> Result<Device<Vec<Step>>, AppFault>
+    ensures fresh { IfOk result (IsFresh shape) }
+    ensures fault { (known : Option (List ℕ)) → IfErr result (IsEarlyFault known) }
+{
+    match Device::with_log(alloc, Vec::new(alloc), shape) {
+        Ok(device) => Ok(device),
+        Err(DeviceFault::Memory(_)) => Err(AppFault::Memory),
+        Err(DeviceFault::NoSeat(_)) => Err(AppFault::NoSeat),
+    }
+}
+
+/// Stops the device. All of it is at home, so what it may want is memory.
+fn stop(device: Device<Vec<Step>>) -> Result<Report, AllocError>
+    ensures { IfOk result (Stops steps_in device) }
+{
+    match device.stop() {
+        Ok(report) => Ok(report),
+        Err(_) => Err(AllocError),
+    }
+}
 
 /// The text of the document's run.
 fn run_text(alloc: Global, document: Document) -> Result<String, AppFault>
@@ -21,9 +48,9 @@ fn run_text(alloc: Global, document: Document) -> Result<String, AppFault>
     let Document { shape, commands } = document;
     let queues = Vec::from_slice(alloc, shape.queues())?;
     let limit = u64::from(shape.limit());
-    let mut rig = Rig::new(alloc, shape)?;
-    let answers = rig.obey_all(alloc, &commands)?;
-    let report = rig.stop(alloc)?;
+    let mut device = make_device(alloc, shape)?;
+    let answers = obey_all(&mut device, alloc, &commands)?;
+    let report = stop(device)?;
     Ok(text_of(alloc, &queues, limit, &answers, &report)?)
 }
 

@@ -4,7 +4,6 @@
 
 mod drive;
 mod obey;
-mod rig;
 mod run;
 
 pub use command_line::{AppFault, Choice, choice, fault_line};

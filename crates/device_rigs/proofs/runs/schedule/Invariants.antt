@@ -1,6 +1,6 @@
 use Rattle.std.proofs.Common.{◌≡◌}
-use Rattle.event_device.specs.Device.{scheduler_of}
+use Rattle.event_device.specs.Parts.{device_of}
 use Rattle.device_rigs.proofs.runs.schedule.Given as goal
 
 abbrev pub invariant-loop : goal.invariant-loop
-invariant-loop l = scheduler_of l.recorder.sight ≡ scheduler_of l.initial.recorder.sight
+invariant-loop l = device_of l.device ≡ device_of l.initial.device

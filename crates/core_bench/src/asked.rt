@@ -4,6 +4,8 @@ ghost use Rattle.std.specs.Prelude.{◌≤◌, IfOk, IfSome};
 
 use crate::fault::BenchFault;
 use evt_types::MAX_QUEUES;
+use std::env;
+use std::rt::Env;
 
 /// The most unanswered events of the workers.
 pub const MAX_HELD: u64 = 64;
@@ -93,4 +95,12 @@ pub fn read_words(words: &[String]) -> Result<Asked, BenchFault>
         burst,
         rounds,
     })
+}
+
+/// The words of the command line after the program's name.
+pub fn words<R: AllocGlobal + Env>(rt: &R) -> Result<Vec<String>, BenchFault> {
+    let args = env::args(rt).map_err(|_| BenchFault::WordCount)?;
+    args.skip(1)
+        .collect(rt.alloc())
+        .map_err(|_| BenchFault::Memory)
 }

@@ -1,6 +1,6 @@
 //! Why a run stops before its end.
 
-use std::alloc::{AllocError, AllocFailed};
+use std::alloc::AllocError;
 
 /// Why a run stops before its end.
 #[derive(Clone, Copy, Debug, PartialEq, Eq)]
@@ -82,12 +82,6 @@ impl BenchFault {
 
 impl From<AllocError> for BenchFault {
     fn from(_error: AllocError) -> BenchFault {
-        BenchFault::Memory
-    }
-}
-
-impl<T: Drop> From<AllocFailed<T>> for BenchFault {
-    fn from(_error: AllocFailed<T>) -> BenchFault {
         BenchFault::Memory
     }
 }

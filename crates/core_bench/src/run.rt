@@ -141,7 +141,9 @@ impl Run {
     /// What the core proposes is given to a worker.
     pub fn hand(&mut self, skips: &mut Skips) -> Result<(), BenchFault> {
         let lane = self.give(skips)?;
-        self.lanes.push_back(lane)?;
-        Ok(())
+        match self.lanes.push_back(lane) {
+            Ok(()) => Ok(()),
+            Err(_) => Err(BenchFault::Memory),
+        }
     }
 }

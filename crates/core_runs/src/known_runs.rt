@@ -58,10 +58,20 @@ const FLOW_LANES: Device = Device {
     ..TWO_WORKERS
 };
 
+/// Two events of a flow come.
+const TWO_COME: &[Turn] = &[
+    Turn::Reply(0, FIRST, ACCEPTED),
+    Turn::Reply(0, SECOND, ACCEPTED),
+];
+
+/// An event comes, and is given to a worker.
+const FIRST_GIVEN: &[Turn] = &[Turn::Reply(0, FIRST, ACCEPTED), Turn::Give(1, 0, FIRST)];
+
 pub(crate) static RUNS: [KnownRun; 11] = [
     KnownRun {
         name: "two flows of one slot",
         device: TWO_WORKERS,
+        opening: &[],
         turns: &[
             Turn::Reply(0, OF_FLOW_3, ACCEPTED),
             Turn::Reply(0, SECOND, ACCEPTED),
@@ -85,9 +95,8 @@ pub(crate) static RUNS: [KnownRun; 11] = [
             ports: &[(4, &[]), (1, &[0]), (1, &[0])],
             ..TWO_WORKERS
         },
+        opening: TWO_COME,
         turns: &[
-            Turn::Reply(0, FIRST, ACCEPTED),
-            Turn::Reply(0, SECOND, ACCEPTED),
             Turn::Reply(0, OF_FLOW_5, ACCEPTED),
             Turn::Give(1, 0, FIRST),
             Turn::Give(2, 2, OF_FLOW_5),
@@ -99,6 +108,7 @@ pub(crate) static RUNS: [KnownRun; 11] = [
     KnownRun {
         name: "a sweep passes over a lane without room",
         device: TWO_WORKERS,
+        opening: &[],
         turns: &[
             Turn::LogRoom(60),
             Turn::Reply(0, OF_FLOW_3, ACCEPTED),
@@ -114,9 +124,8 @@ pub(crate) static RUNS: [KnownRun; 11] = [
             ports: OF_BOTH,
             ..TWO_WORKERS
         },
+        opening: FIRST_GIVEN,
         turns: &[
-            Turn::Reply(0, FIRST, ACCEPTED),
-            Turn::Give(1, 0, FIRST),
             Turn::Reply(1, FORWARD, ACCEPTED),
             Turn::Inside(1),
             Turn::Give(1, 0, FORWARD),
@@ -138,19 +147,14 @@ pub(crate) static RUNS: [KnownRun; 11] = [
             queues: &[PARALLEL],
             ..TWO_WORKERS
         },
-        turns: &[
-            Turn::Reply(0, FIRST, ACCEPTED),
-            Turn::Reply(0, SECOND, ACCEPTED),
-            Turn::Give(1, 0, FIRST),
-            Turn::Give(2, 1, SECOND),
-        ],
+        opening: TWO_COME,
+        turns: &[Turn::Give(1, 0, FIRST), Turn::Give(2, 1, SECOND)],
     },
     KnownRun {
         name: "a shut core",
         device: TWO_WORKERS,
+        opening: FIRST_GIVEN,
         turns: &[
-            Turn::Reply(0, FIRST, ACCEPTED),
-            Turn::Give(1, 0, FIRST),
             Turn::Shut,
             Turn::Shut,
             Turn::Reply(0, SECOND, TURNED),
@@ -174,6 +178,7 @@ pub(crate) static RUNS: [KnownRun; 11] = [
             ports: &[(4, &[]), (4, &[0, 1])],
             ..TWO_WORKERS
         },
+        opening: &[],
         turns: &[
             Turn::Reply(0, FIRST, ACCEPTED),
             Turn::Reply(0, FOR_THE_SECOND, ACCEPTED),
@@ -185,6 +190,7 @@ pub(crate) static RUNS: [KnownRun; 11] = [
     KnownRun {
         name: "a later event of a lower level is given first",
         device: ONE_WORKER,
+        opening: &[],
         turns: &[
             Turn::Reply(0, OF_LEVEL_1, ACCEPTED),
             Turn::Reply(0, OF_LEVEL_0, ACCEPTED),
@@ -199,9 +205,8 @@ pub(crate) static RUNS: [KnownRun; 11] = [
             sweep: 1,
             ..ONE_WORKER
         },
+        opening: TWO_COME,
         turns: &[
-            Turn::Reply(0, FIRST, ACCEPTED),
-            Turn::Reply(0, SECOND, ACCEPTED),
             Turn::Give(1, 0, FIRST),
             Turn::GiveNone,
             Turn::NextSweep,
@@ -211,9 +216,8 @@ pub(crate) static RUNS: [KnownRun; 11] = [
     KnownRun {
         name: "flow lanes are given the events of their slots",
         device: FLOW_LANES,
+        opening: TWO_COME,
         turns: &[
-            Turn::Reply(0, FIRST, ACCEPTED),
-            Turn::Reply(0, SECOND, ACCEPTED),
             Turn::Reply(0, OF_FLOW_5, ACCEPTED),
             Turn::Give(6, 0, FIRST),
             Turn::Give(6, 1, SECOND),
@@ -235,6 +239,7 @@ pub(crate) static RUNS: [KnownRun; 11] = [
     KnownRun {
         name: "a flow lane brings no new event",
         device: FLOW_LANES,
+        opening: &[],
         turns: &[Turn::Reply(3, FIRST, None), Turn::Reply(2, FIRST, ACCEPTED)],
     },
 ];

@@ -40,15 +40,28 @@ const ORDER_OF_1: Device = Device {
     ..ORDER_OF_8
 };
 
+/// Two events come, and each is given to a worker.
+const BOTH_GIVEN: &[Turn] = &[
+    Turn::Reply(0, NUMBER_0, ACCEPTED),
+    Turn::Reply(0, NUMBER_1, ACCEPTED),
+    Turn::Give(1, 0, NUMBER_0),
+    Turn::Give(2, 1, NUMBER_1),
+];
+
+/// Two events come, of which one can be given.
+const ONE_GIVEN: &[Turn] = &[
+    Turn::Reply(0, NUMBER_0, ACCEPTED),
+    Turn::Reply(0, NUMBER_1, ACCEPTED),
+    Turn::Give(1, 0, NUMBER_0),
+    Turn::GiveNone,
+];
+
 pub(crate) static RUNS: [KnownRun; 6] = [
     KnownRun {
         name: "forwards are accepted in hand-out order",
         device: ORDER_OF_8,
+        opening: BOTH_GIVEN,
         turns: &[
-            Turn::Reply(0, NUMBER_0, ACCEPTED),
-            Turn::Reply(0, NUMBER_1, ACCEPTED),
-            Turn::Give(1, 0, NUMBER_0),
-            Turn::Give(2, 1, NUMBER_1),
             Turn::Reply(2, PASSED_1, KEPT),
             Turn::GiveNone,
             Turn::Logged(4, &[Logged::Forwarded(2, PASSED_1)]),
@@ -69,11 +82,8 @@ pub(crate) static RUNS: [KnownRun; 6] = [
     KnownRun {
         name: "a forward passes a released event",
         device: ORDER_OF_8,
+        opening: BOTH_GIVEN,
         turns: &[
-            Turn::Reply(0, NUMBER_0, ACCEPTED),
-            Turn::Reply(0, NUMBER_1, ACCEPTED),
-            Turn::Give(1, 0, NUMBER_0),
-            Turn::Give(2, 1, NUMBER_1),
             Turn::Reply(1, RELEASE, RELEASED),
             Turn::Reply(2, PASSED_1, ACCEPTED),
             Turn::Inside(1),
@@ -90,11 +100,8 @@ pub(crate) static RUNS: [KnownRun; 6] = [
     KnownRun {
         name: "a release sets a kept forward free",
         device: ORDER_OF_8,
+        opening: BOTH_GIVEN,
         turns: &[
-            Turn::Reply(0, NUMBER_0, ACCEPTED),
-            Turn::Reply(0, NUMBER_1, ACCEPTED),
-            Turn::Give(1, 0, NUMBER_0),
-            Turn::Give(2, 1, NUMBER_1),
             Turn::Reply(2, PASSED_1, KEPT),
             Turn::Inside(2),
             Turn::Reply(1, RELEASE, RELEASED),
@@ -112,11 +119,8 @@ pub(crate) static RUNS: [KnownRun; 6] = [
     KnownRun {
         name: "a kept forward is listed",
         device: ORDER_OF_8,
+        opening: BOTH_GIVEN,
         turns: &[
-            Turn::Reply(0, NUMBER_0, ACCEPTED),
-            Turn::Reply(0, NUMBER_1, ACCEPTED),
-            Turn::Give(1, 0, NUMBER_0),
-            Turn::Give(2, 1, NUMBER_1),
             Turn::Reply(2, PASSED_1, KEPT),
             Turn::Kept(2, &[(1, PASSED_1)]),
         ],
@@ -124,11 +128,8 @@ pub(crate) static RUNS: [KnownRun; 6] = [
     KnownRun {
         name: "an order of one hands out one event at a time",
         device: ORDER_OF_1,
+        opening: ONE_GIVEN,
         turns: &[
-            Turn::Reply(0, NUMBER_0, ACCEPTED),
-            Turn::Reply(0, NUMBER_1, ACCEPTED),
-            Turn::Give(1, 0, NUMBER_0),
-            Turn::GiveNone,
             Turn::Reply(1, RELEASE, RELEASED),
             Turn::Give(1, 1, NUMBER_1),
         ],
@@ -136,12 +137,10 @@ pub(crate) static RUNS: [KnownRun; 6] = [
     KnownRun {
         name: "a kept event is open still",
         device: ORDER_OF_2,
+        opening: BOTH_GIVEN,
         turns: &[
-            Turn::Reply(0, NUMBER_0, ACCEPTED),
-            Turn::Reply(0, NUMBER_1, ACCEPTED),
             Turn::Reply(0, NUMBER_2, ACCEPTED),
-            Turn::Give(1, 0, NUMBER_0),
-            Turn::Give(2, 1, NUMBER_1),
+            Turn::GiveNone,
             Turn::Reply(2, PASSED_1, KEPT),
             Turn::GiveNone,
             Turn::Reply(1, RELEASE, RELEASED),

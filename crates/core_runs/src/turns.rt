@@ -8,11 +8,12 @@ use core_oracle::{PlainOffer, PlainTook};
 use evt_types::{Delivery, KeptEvent, Outcome, Source, Step};
 use std::alloc::Global;
 
-/// A run of which is known what comes of each turn.
+/// A run of which is known what comes of each turn: of those that it begins with, as others may too, and of its own.
 #[derive(Clone, Copy)]
 pub(crate) struct KnownRun {
     pub(crate) name: &'static str,
     pub(crate) device: Device,
+    pub(crate) opening: &'static [Turn],
     pub(crate) turns: &'static [Turn],
 }
 
@@ -111,6 +112,14 @@ fn proposed(lane: usize, number: u64, packet: Packet) -> Made {
 }
 
 impl Run {
+    /// Makes the turns. What comes of each must be as known.
+    fn play(&mut self, alloc: Global, turns: &[Turn]) -> Result<(), RunFault> {
+        for turn in turns {
+            self.turn(alloc, turn)?;
+        }
+        Ok(())
+    }
+
     /// Makes the turn. What comes of it must be as known.
     fn turn(&mut self, alloc: Global, turn: &Turn) -> Result<(), RunFault> {
         let (step, wanted) = match *turn {
@@ -202,8 +211,6 @@ impl Run {
 /// Plays a known run. What comes of each turn must be as known.
 pub(crate) fn play(alloc: Global, known: &KnownRun) -> Result<(), RunFault> {
     let mut run = Run::new(alloc, &known.device)?;
-    for turn in known.turns {
-        run.turn(alloc, turn)?;
-    }
-    Ok(())
+    run.play(alloc, known.opening)?;
+    run.play(alloc, known.turns)
 }

@@ -51,29 +51,10 @@ own 0
 limit 4
 "#;
 
-/// A device in which nothing happens.
-pub const EMPTY_SCRIPT: &str = r#"limit = 4
-quantum = 2
-sweep = 8
-script = """
-"""
-[[queue]]
-kind = "atomic"
-slots = 4
-[[port]]
-threshold = 4
-depth = 4
-replies = 4
-implicit = false
-links = []
-[[port]]
-threshold = 4
-depth = 4
-replies = 4
-implicit = false
-links = [0]
-"#;
+/// The script of that document.
+pub const FIRST_SCRIPT: &str = "new 0 0 7 128 5\nsweep\ndeq 1 4\nrel 1\nsweep\n";
 
+/// The text of the document without its script's lines: nothing happens in the device.
 pub const EMPTY_SCRIPT_TEXT: &str = r#"log
 report
 free 4

@@ -1,20 +1,22 @@
 //! Documents as long as they may be, and longer by a byte.
 
-use crate::documents::{EMPTY_SCRIPT, EMPTY_SCRIPT_TEXT, plays};
+use crate::documents::{EMPTY_SCRIPT_TEXT, FIRST_EVENT, FIRST_SCRIPT, plays};
 use play_documents::DocFault;
-use std::alloc::{AllocError, Global};
+use std::alloc::Global;
 use std::test::Fail;
 
 /// The most bytes that a document may have.
 const MOST: usize = 1_048_576;
 
-/// The document of the empty script, with a comment of spaces behind it up to so many bytes.
-fn lengthened(alloc: Global, len: usize) -> Result<String, AllocError> {
+/// The document of the first event without its script's lines, with a comment of spaces behind it up to so many bytes.
+fn lengthened(alloc: Global, len: usize) -> Result<String, Fail> {
+    let (front, rest) = FIRST_EVENT.split_once(FIRST_SCRIPT).ok_or("the script")?;
     let spaces = len
-        .saturating_sub(EMPTY_SCRIPT.len())
+        .saturating_sub(front.len())
+        .saturating_sub(rest.len())
         .saturating_sub("#".len());
     let comment = " ".repeat(alloc, spaces)?;
-    format!(in alloc; "{EMPTY_SCRIPT}#{comment}")
+    Ok(format!(in alloc; "{front}{rest}#{comment}")?)
 }
 
 #[test]

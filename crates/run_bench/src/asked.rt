@@ -5,6 +5,8 @@ ghost use Rattle.run_bench.specs.Fault.{is_of_words};
 
 use crate::fault::BenchFault;
 use evt_types::Serving;
+use std::env;
+use std::rt::Env;
 
 /// The most workers.
 pub const MAX_WORKERS: u64 = 8;
@@ -68,4 +70,12 @@ pub fn read_words(words: &[String]) -> Result<Asked, BenchFault>
         workers,
         events,
     })
+}
+
+/// The words of the command line after the program's name.
+pub fn words<R: AllocGlobal + Env>(rt: &R) -> Result<Vec<String>, BenchFault> {
+    let args = env::args(rt).map_err(|_| BenchFault::WordCount)?;
+    args.skip(1)
+        .collect(rt.alloc())
+        .map_err(|_| BenchFault::Memory)
 }

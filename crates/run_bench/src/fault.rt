@@ -5,7 +5,7 @@ ghost use Rattle.run_bench.specs.Fault.{is_of_words};
 
 use pipeline_app::AppFault;
 use play_documents::ReadFault;
-use std::alloc::{AllocError, AllocFailed};
+use std::alloc::AllocError;
 
 /// Why a run stops before its end.
 #[derive(Clone, Copy, Debug, PartialEq, Eq)]
@@ -68,12 +68,6 @@ impl BenchFault {
 
 impl From<AllocError> for BenchFault {
     fn from(_error: AllocError) -> BenchFault {
-        BenchFault::Memory
-    }
-}
-
-impl<T: Drop> From<AllocFailed<T>> for BenchFault {
-    fn from(_error: AllocFailed<T>) -> BenchFault {
         BenchFault::Memory
     }
 }

@@ -10,28 +10,16 @@ mod run;
 mod timer;
 mod trace;
 
-use asked::{Asked, read_words, serving_word};
+use asked::{Asked, read_words, serving_word, words};
 use document::document;
 use fault::BenchFault;
 use run::text_length;
-use std::env;
 use std::process::ExitCode;
 use std::rt::Env;
 use std::sync::Wait;
 use std::thread::Threads;
 use std::time::Clock;
 use timer::Timer;
-
-/// The words of the command line after the program's name.
-fn words<R: AllocGlobal + Env>(rt: &R) -> Result<Vec<String>, BenchFault> {
-    match env::args(rt) {
-        Ok(args) => match args.skip(1).collect(rt.alloc()) {
-            Ok(words) => Ok(words),
-            Err(_) => Err(BenchFault::Memory),
-        },
-        Err(_) => Err(BenchFault::WordCount),
-    }
-}
 
 /// Makes the run that the words ask for, and prints its line.
 fn print_run<R: AllocGlobal + Clock + Env + Print + Eprint + Threads + Wait + Sync>(

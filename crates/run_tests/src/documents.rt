@@ -5,6 +5,7 @@ use play_documents::DocFault;
 use std::alloc::Global;
 use std::process::Abort;
 use std::sync::Wait;
+use std::test::Fail;
 use std::thread::Threads;
 
 /// The first stage adds 1, the second drops the even payloads. The trace has two flows, of which one has two levels.
@@ -43,6 +44,17 @@ stage 2 flow 7 level 2: 3
 stage 2 flow 7 level 3: 5
 stage 2 flow 9 level 0: 7
 ";
+
+/// The pipeline's document, in which new texts stand for old ones.
+pub fn changed(alloc: Global, changes: &[(&str, &str)]) -> Result<String, Fail> {
+    let mut document = format!(in alloc; "{PIPELINE}")?;
+    for (old, new) in changes {
+        let (front, rest) = document.split_once(*old).ok_or("the old text")?;
+        let next = format!(in alloc; "{front}{new}{rest}")?;
+        document = next;
+    }
+    Ok(document)
+}
 
 /// Runs a document of these bytes, which has this end: the whole text, or a fault with nothing written.
 pub fn runs<R: Threads + Wait + Abort + Sync, G: Gate>(

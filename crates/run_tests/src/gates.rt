@@ -2,11 +2,10 @@
 
 use crate::documents::runs;
 use pipeline_app::Gate;
-use std::alloc::Global;
-use std::process::Abort;
-use std::sync::Wait;
+use std::alloc::{AllocError, Global};
 use std::sync::atomic::{AtomicBool, AtomicU64, Ordering};
-use std::thread::{Threads, yield_now};
+use std::test::Fail;
+use std::thread::yield_now;
 
 /// How often a worker looks for the others in vain before it goes on and the test fails.
 const PATIENCE: u32 = 100_000_000;
@@ -49,83 +48,71 @@ impl Gate for Meeting {
     }
 }
 
-/// Two events of one flow of a parallel queue, for two workers.
-const TWO_BY_PORTS: &str = r#"limit = 32
-quantum = 1
-sweep = 8
-depth = 4
-replies = 8
-trace = """
-1 128 1
-1 128 2
-"""
-[[stage]]
-kind = "parallel"
-"#;
-
-/// Events of two slots of an atomic queue, for two workers.
-const TWO_BY_FLOWS: &str = r#"serving = "flows"
-limit = 32
-quantum = 1
-sweep = 8
-depth = 4
-replies = 8
-trace = """
-1 128 1
-2 128 2
-"""
-[[stage]]
-kind = "atomic"
-slots = 4
-"#;
-
-/// Eight events of one flow of a parallel queue, for eight workers.
-const EIGHT: &str = r#"limit = 32
-quantum = 1
-sweep = 8
-depth = 4
-replies = 8
-trace = """
-1 128 1
-1 128 2
-1 128 3
-1 128 4
-1 128 5
-1 128 6
-1 128 7
-1 128 8
-"""
-[[stage]]
-kind = "parallel"
-"#;
-
-/// Runs a document, whose events meet at the gate, by as many workers.
-fn meets<R: Threads + Wait + Abort + Sync>(
-    rt: &R,
-    alloc: Global,
-    document: &str,
+/// A document of one stage, by its serving, its trace and its stage; and how many workers meet in its run, which writes this.
+#[derive(Clone, Copy)]
+struct Met {
+    serving: &'static str,
+    trace: &'static str,
+    stage: &'static str,
     workers: u32,
-    text: &str,
-) {
-    let gate = Meeting::of(u64::from(workers));
-    runs(rt, alloc, document.as_bytes(), workers, &gate, Ok(text));
-    assert!(rt; !gate.missed.load(Ordering::SeqCst));
+    text: &'static str,
+}
+
+static MEETINGS: [Met; 3] = [
+    // Two events of one flow of a parallel queue.
+    Met {
+        serving: "ports",
+        trace: "1 128 1\n1 128 2\n",
+        stage: "kind = \"parallel\"",
+        workers: 2,
+        text: "stage 0 flow 1 level 2: 1 2\n",
+    },
+    // Events of two slots of an atomic queue.
+    Met {
+        serving: "flows",
+        trace: "1 128 1\n2 128 2\n",
+        stage: "kind = \"atomic\"\nslots = 4",
+        workers: 2,
+        text: "stage 0 flow 1 level 2: 1\nstage 0 flow 2 level 2: 2\n",
+    },
+    // Eight events of one flow of a parallel queue.
+    Met {
+        serving: "ports",
+        trace: "1 128 1\n1 128 2\n1 128 3\n1 128 4\n1 128 5\n1 128 6\n1 128 7\n1 128 8\n",
+        stage: "kind = \"parallel\"",
+        workers: 8,
+        text: "stage 0 flow 1 level 2: 1 2 3 4 5 6 7 8\n",
+    },
+];
+
+/// The document. Each worker holds one event at most, so that none dequeues two.
+fn document_of(alloc: Global, met: &Met) -> Result<String, AllocError> {
+    let Met {
+        serving,
+        trace,
+        stage,
+        ..
+    } = met;
+    format!(in alloc;
+        "serving = \"{serving}\"\nlimit = 32\nquantum = 1\nsweep = 8\ndepth = 1\nreplies = 8\ntrace = \"\"\"\n{trace}\"\"\"\n[[stage]]\n{stage}\n"
+    )
 }
 
 #[test]
-fn two_workers_meet_by_ports(rt: HostRuntime) {
-    let text = "stage 0 flow 1 level 2: 1 2\n";
-    meets(&rt, rt.alloc(), TWO_BY_PORTS, 2, text);
-}
-
-#[test]
-fn two_workers_meet_by_flows(rt: HostRuntime) {
-    let text = "stage 0 flow 1 level 2: 1\nstage 0 flow 2 level 2: 2\n";
-    meets(&rt, rt.alloc(), TWO_BY_FLOWS, 2, text);
-}
-
-#[test]
-fn eight_workers_meet(rt: HostRuntime) {
-    let text = "stage 0 flow 1 level 2: 1 2 3 4 5 6 7 8\n";
-    meets(&rt, rt.alloc(), EIGHT, 8, text);
+fn all_workers_meet(rt: HostRuntime) -> Result<(), Fail> {
+    for met in &MEETINGS {
+        let alloc = rt.alloc();
+        let document = document_of(alloc, met)?;
+        let gate = Meeting::of(u64::from(met.workers));
+        runs(
+            &rt,
+            alloc,
+            document.as_bytes(),
+            met.workers,
+            &gate,
+            Ok(met.text),
+        );
+        assert!(rt; !gate.missed.load(Ordering::SeqCst));
+    }
+    Ok(())
 }

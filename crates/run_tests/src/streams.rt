@@ -2,68 +2,17 @@
 
 use crate::documents::{PIPELINE, PIPELINE_TEXT};
 use pipeline_app::{AppFault, OpenGate, run_trace};
+use play_tests::slow::{SlowReader, SlowWriter};
 use std::alloc::Global;
-use std::io::{Error, ErrorKind, Read, Result as IoResult, Write};
 use std::process::Abort;
 use std::sync::Wait;
 use std::thread::Threads;
-
-/// Gives one byte a read, and fails after some reads.
-#[derive(Drop)]
-struct SlowReader<'a> {
-    rest: &'a [u8],
-    reads: usize,
-}
-
-impl Read for SlowReader<'_> {
-    fn read(&mut self, buf: &mut [u8]) -> IoResult<usize> {
-        if self.reads == 0 {
-            return Err(Error::from(ErrorKind::Interrupted));
-        }
-        self.reads -= 1;
-        match self.rest.split_first() {
-            Some((first, rest)) if !buf.is_empty() => {
-                buf[0] = *first;
-                self.rest = rest;
-                Ok(1)
-            }
-            _ => Ok(0),
-        }
-    }
-}
-
-/// Takes so many bytes a write, and fails after some writes.
-#[derive(Drop)]
-struct SlowWriter {
-    taken: Vec<u8>,
-    step: usize,
-    writes: usize,
-}
-
-impl Write for SlowWriter {
-    fn write(&mut self, buf: &[u8]) -> IoResult<usize> {
-        if self.writes == 0 {
-            return Err(Error::from(ErrorKind::Interrupted));
-        }
-        self.writes -= 1;
-        let count = self.step.min(buf.len());
-        self.taken.extend_from_slice(&buf[..count])?;
-        Ok(count)
-    }
-
-    fn flush(&mut self) -> IoResult<()> {
-        Ok(())
-    }
-}
 
 #[test]
 fn runs_after_failing_reads(rt: HostRuntime) {
     // A read for each of the 243 bytes, and one that finds the end.
     for reads in 0..245 {
-        let mut reader = SlowReader {
-            rest: PIPELINE.as_bytes(),
-            reads,
-        };
+        let mut reader = SlowReader::new(PIPELINE.as_bytes(), reads);
         let mut written = Vec::new(rt.alloc());
         let outcome = run_trace(&rt, rt.alloc(), &mut reader, 2, &OpenGate, &mut written);
         let (wanted, text) = if reads < 244 {
@@ -86,11 +35,7 @@ fn runs_into<R: Threads + Wait + Abort + Sync>(
     taken: &[u8],
 ) {
     let mut reader = PIPELINE.as_bytes();
-    let mut writer = SlowWriter {
-        taken: Vec::new(alloc),
-        step,
-        writes,
-    };
+    let mut writer = SlowWriter::new(alloc, step, writes);
     let outcome = run_trace(rt, alloc, &mut reader, 2, &OpenGate, &mut writer);
     assert_eq!(rt; outcome, wanted);
     assert!(rt; writer.taken.as_slice() == taken);

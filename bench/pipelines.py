@@ -7,7 +7,7 @@ of a run of 200,000 events is more than 2.3 times that of a run of 100,000.
 
 Where DPDK's `dpdk-test-eventdev` is installed, its `perf_queue` over `event_sw` runs with the same stages (atomic, ordered, parallel) and
 as many workers, by turns with these, each of its threads on all processors: the events per second that it says itself, on the average
-of some seconds. A worker of it dequeues up to 16 events at once, one of these up to one.
+of some seconds. A worker of it dequeues up to 16 events at once, one of these up to 32.
 
 The program is `run_bench`; where none is named it is built. Each time is the best of three runs, and that of the check and the text
 less what a run with no event takes besides its threads. How much faster more workers are is no fault: how many processors there are

@@ -117,7 +117,7 @@ TESTS = (
     ("Claims::new", "lane_tests", "calls"),
     ("Claims::new", "lane_tests", "memory"),
     ("Claims::new", "lane_tests", "port"),
-    ("device, Scheduler::sweep, Recorder::sweep, stop", "device_tests", "again"),
+    ("Device::with_log, sweep, stop", "device_tests", "again"),
 )
 A_TEST = re.compile(r"^#\[test\]\n(?:#.*\n)*fn (\w+)", re.MULTILINE)
 

@@ -47,6 +47,7 @@ impl StepLog for Counted {
 
     ghost short = { Prim.search rules };
 
+    #[inline(always)]
     fn push_step(&mut self, step: Step) {
         self.seen = Unkept::then(&self.seen, &step);
         self.count += 1;

@@ -35,6 +35,7 @@ impl StepLog for Vec<Step> {
 
     ghost short = { Prim.search rules };
 
+    #[inline(always)]
     fn push_step(&mut self, step: Step) {
         self.push_reserved(step);
     }

@@ -29,6 +29,7 @@ impl Unkept {
     }
 
     /// These steps, and then this one.
+    #[inline(always)]
     pub(crate) fn then(_before: &Unkept, _step: &Step) -> Unkept
         ensures { result.seen ≡ _before.now.seen ++ _step.now ∷ [] }
     {

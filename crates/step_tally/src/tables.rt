@@ -9,6 +9,7 @@ use evt_types::{Outcome, Source, Step};
 use step_log::StepLog;
 
 /// The queue of which the step is counted.
+#[inline(always)]
 fn queue_in(step: &Step) -> Option<usize>
     ensures { result ≡ queue_in step.now }
 {
@@ -23,6 +24,7 @@ fn queue_in(step: &Step) -> Option<usize>
 }
 
 /// Counts the step of this queue.
+#[inline(always)]
 fn count_of_queue(counts: &mut QueueCounts, step: &Step)
     requires { HasFewOfQueue counts.old }
     ensures { counts.new ≡ queue_after counts.old step.now }
@@ -42,6 +44,7 @@ fn count_of_queue(counts: &mut QueueCounts, step: &Step)
 }
 
 /// Counts the step, which comes after those of the log, at its queue, where the table has it.
+#[inline(always)]
 pub(crate) fn count_at_queue<L: StepLog>(table: &mut [QueueCounts], _log: &L, step: &Step)
     requires { AreCounts (queue_counts (L.steps _log.now)) table.old }
     ensures counts { AreCounts (queue_counts (L.steps _log.now ++ step.now ∷ [])) table.new }
@@ -55,6 +58,7 @@ pub(crate) fn count_at_queue<L: StepLog>(table: &mut [QueueCounts], _log: &L, st
 }
 
 /// The lane of which the step is counted.
+#[inline(always)]
 fn lane_in(step: &Step) -> Option<usize>
     ensures { result ≡ lane_in step.now }
 {
@@ -69,6 +73,7 @@ fn lane_in(step: &Step) -> Option<usize>
 }
 
 /// Counts the step of this lane.
+#[inline(always)]
 fn count_of_lane(counts: &mut LaneCounts, step: &Step)
     requires { HasFewOfLane counts.old }
     ensures { counts.new ≡ lane_after counts.old step.now }
@@ -87,6 +92,7 @@ fn count_of_lane(counts: &mut LaneCounts, step: &Step)
 }
 
 /// Counts the step, which comes after those of the log, at its lane, where the table has it.
+#[inline(always)]
 pub(crate) fn count_at_lane<L: StepLog>(table: &mut [LaneCounts], _log: &L, step: &Step)
     requires { AreCounts (lane_counts (L.steps _log.now)) table.old }
     ensures counts { AreCounts (lane_counts (L.steps _log.now ++ step.now ∷ [])) table.new }

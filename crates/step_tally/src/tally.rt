@@ -97,6 +97,7 @@ impl<L: StepLog> StepLog for Tally<L> {
 
     ghost short = { λ log. L.short log };
 
+    #[inline(always)]
     fn push_step(&mut self, step: Step) {
         count_at_queue(&mut self.queues, &self.log, &step);
         count_at_lane(&mut self.lanes, &self.log, &step);

@@ -102,7 +102,7 @@ new_turns : (b : Bool) (l : ℕ) (e : Event) → turned_count (cond b (Turned l 
 new_turns true l e = refl
 new_turns false l e = refl
 
-passed_turns_none : (b : Bool) → turned_by (cond b tooks.Accepted tooks.Kept) ≡ 0
+pub passed_turns_none : (b : Bool) → turned_by (cond b tooks.Accepted tooks.Kept) ≡ 0
 passed_turns_none true = refl
 passed_turns_none false = refl
 

@@ -3,11 +3,12 @@ use Rattle.std.proofs.Common.{◌≡◌, ◌≢◌, ℕ, ◌+◌, ◌<◌, ◌�
 use Rattle.std.proofs.lemmas.Bool.{cases_eq}
 use Rattle.std.proofs.lemmas.List.{get_or-set_other, get_or-set_same, get_or-map, get_or_past, length-map, map-set}
 use Rattle.std.proofs.Math.Seq.{map-set_same}
+use mathlib.Core.List.{IsPrefix}
 use Rattle.credit_pool.specs.declared.account.Account.{Account}
 use Rattle.credit_pool.specs.declared.pool.Credits.{Credits}
 use Rattle.event_scheduler.specs.Hidden.{NoneHidden, OneHidden, hidden_at}
 use Rattle.event_scheduler.specs.Scheduler.{Sight, sight}
-use Rattle.event_scheduler.specs.Seeking.{SameLanes, seen_in}
+use Rattle.event_scheduler.specs.Seeking.{SameLanes, fetched_in, seen_in}
 use Rattle.evt_types.specs.declared.event.Delivery.{Delivery}
 use Rattle.evt_types.specs.declared.event.Reply.{Reply}
 use Rattle.lane_rings.specs.Ends.{fetched_replies, hidden_offers, offered, seen_replies, taken}
@@ -58,14 +59,27 @@ same_sight pool core lanes v p n i near after is id offers takings seens =
     of_lists ids offers takings seens =
         record { site = record { pool = pool; lanes = ids }; core = core; offered = offers; taken = takings; seen = seens; account = v; pocket = p; accepted_new = n }
 
--- what was fetched is seen
-pub some_seen : (near : Near) → fetched_replies near ≢ [] → seen_replies near ≢ []
-some_seen near some none = some (first_none (fetched_replies near) _ none)
+-- where nothing is seen later nothing was seen before
+pub prefix_none : {X : Type 0} (xs ys : List X) → IsPrefix xs ys → ys ≡ [] → xs ≡ []
+prefix_none xs ys p none = first_none xs p.0 (p.1 ∙ none)
 
 -- what is seen at the lane is its end's, and that of the others is as it was
 pub seen_here : (lanes : List Near) (i : ℕ) (after : Near) → i < length lanes → get_or (map seen_replies (set lanes i after)) i [] ≡ seen_replies after
 seen_here lanes i after within =
     ap (λ xs. get_or xs i []) (map-set seen_replies lanes i after) ∙ get_or-set_same (map seen_replies lanes) i (seen_replies after) [] (omega (arith, length-map lanes seen_replies, within))
+
+-- what was fetched of the lane is what was fetched at its end
+pub fetched_here : (lanes : List Near) (i : ℕ) (near : Near) → i < length lanes → near ≡ get_or lanes i near → fetched_in lanes i ≡ fetched_replies near
+fetched_here lanes i near within is = get_or-map fetched_replies lanes i near [] within ∙ ap fetched_replies (sym is)
+
+-- and what was fetched at the lane's new end
+pub fetched_now : (lanes : List Near) (i : ℕ) (after : Near) → i < length lanes → fetched_in (set lanes i after) i ≡ fetched_replies after
+fetched_now lanes i after within =
+    ap (λ xs. get_or xs i []) (map-set fetched_replies lanes i after) ∙ get_or-set_same (map fetched_replies lanes) i (fetched_replies after) [] (omega (arith, length-map lanes fetched_replies, within))
+
+-- where the lane's end is the same, so is what is seen at each lane
+pub same_seen : (lanes : List Near) (i : ℕ) (near : Near) (l : ℕ) → near ≡ get_or lanes i near → get_or (map seen_replies (set lanes i near)) l [] ≡ get_or (map seen_replies lanes) l []
+same_seen lanes i near l is = ap (λ xs. get_or xs l []) (same_lists seen_replies lanes i near near is refl)
 
 pub seen_elsewhere : (lanes : List Near) (i : ℕ) (after : Near) (l : ℕ) → l ≢ i → get_or (map seen_replies (set lanes i after)) l [] ≡ get_or (map seen_replies lanes) l []
 seen_elsewhere lanes i after l other =

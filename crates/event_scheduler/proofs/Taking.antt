@@ -1,12 +1,12 @@
 -- Replies are taken: one, none, and some after others.
-use Rattle.std.proofs.Common.{add-zero, ◌≡◌, ℕ, ◌+◌, ◌*◌, ◌<◌, ◌≤◌, ◌%◌, ◌^◌, ◌==◌, Bool, true, false, cond, nat_lt, ◌&&◌, ◌||◌, ◌⊎◌, inl, inr, List, [], ◌∷◌, ◌++◌, length, map, set, get_or, All, refl, sym, ap, ◌∙◌, subst, append_assoc, append-nil, arith}
+use Rattle.std.proofs.Common.{add-zero, ◌≡◌, ◌≢◌, ℕ, ◌+◌, ◌*◌, ◌<◌, ◌≤◌, ◌%◌, ◌^◌, ◌==◌, Bool, true, false, cond, nat_lt, ◌&&◌, ◌||◌, ◌⊎◌, inl, inr, List, [], ◌∷◌, ◌++◌, length, map, set, get_or, All, refl, sym, ap, ◌∙◌, subst, append_assoc, append-nil, arith}
 use Rattle.std.proofs.lemmas.Bool.{cases_lt, false≢true, le-ltb}
 use Rattle.std.proofs.lemmas.List.{length-append, map-append}
 use Rattle.std.proofs.Math.Nat.{mul-le-mul_left}
 use Rattle.std.proofs.lemmas.List.Elements.{filter_map-append}
 use Rattle.credit_pool.specs.declared.account.Account.{Account}
 use Rattle.credit_pool.specs.declared.pool.Credits.{Credits}
-use Rattle.event_scheduler.proofs.Counts.{count-append, new_fits, reply_enters, reply_shuts_none, reply_turns}
+use Rattle.event_scheduler.proofs.Counts.{count-append, new_fits, passed_turns_none, reply_enters, reply_shuts_none, reply_turns}
 use Rattle.event_scheduler.proofs.Lanes.{each_lane, same_lists}
 use Rattle.event_scheduler.proofs.Looking.{append_none}
 use Rattle.event_scheduler.proofs.Replies.{after-append, by_lane-append, first_more, may-append, of_first_is, only_is, only_more, one_count, one_elsewhere, one_here, one_said, one_steps, steps-append}
@@ -27,6 +27,7 @@ use Rattle.lane_rings.specs.Ends.{offered, seen_replies, taken}
 use Rattle.lane_rings.specs.Identity.{LaneId, near_id}
 use Rattle.lane_rings.specs.declared.near.Near.{Near}
 use Rattle.sched_core.specs.Taken.{took_by, took_of}
+use Rattle.sched_core.specs.declared.take.Took.{Took}
 use Rattle.sched_core.specs.declared.take.Took.TheVariants as tooks
 use Rattle.transcripts.proofs.Replies.{steps_of-out}
 use Rattle.transcripts.specs.Replies.{new_count, said, turned_count}
@@ -137,14 +138,30 @@ room_by ops.ForwardMore v l e n may fits few = omega (arith, fits)
 entered_fits : (v : View) (l : ℕ) (e : Event) (n : ℕ) (T : List Step) → may_take v l e ≡ true → n < 2 ^ 64 → Stands T v → n ≡ new_count T → n + entered_by e.op (took_of v l e) < 2 ^ 64
 entered_fits v l e n T may fits stands is = room_by e.op v l e n may fits (omega (arith, is, new_fits v T stands))
 
-pub took :
+-- of what isn't new nothing is turned away, and nothing enters
+pub none_turned : (o : Op) (v : View) (l : ℕ) (e : Event) → o ≢ ops.New → turned_by (took_by o v l e) ≡ 0
+none_turned ops.New v l e other = absurd (other refl)
+none_turned ops.Forward v l e other = passed_turns_none _
+none_turned ops.Release v l e other = refl
+none_turned ops.ForwardMore v l e other = passed_turns_none _
+
+pub none_entered : (o : Op) (t : Took) → o ≢ ops.New → entered_by o t ≡ 0
+none_entered ops.New t other = absurd (other refl)
+none_entered ops.Forward t other = refl
+none_entered ops.Release t other = refl
+none_entered ops.ForwardMore t other = refl
+
+pub entered_new : (o : Op) (s t : Took) → o ≡ ops.New → s ≡ t → entered_as s ≡ entered_by o t
+entered_new o s t is same = ap entered_as same ∙ ap (λ x. entered_by x t) (sym is)
+
+took_in_all :
     (pool : Credits) (core later : View) (lanes : List Near) (v : Account) (p n l k m : ℕ) (e : Event) (near seen : Near) (log longer : List Step)
     → l < length lanes → near ≡ get_or lanes l near → near_id seen ≡ near_id near → offered seen ≡ offered near → taken seen ≡ taken near ++ record { event = e } ∷ []
     → l < lanes_of core.shape → may_take core l e ≡ true → later ≡ after core (steps_of core l e) → later.shape ≡ core.shape → longer ≡ log ++ steps_of core l e
     → ((T : List Step) → Stands T core → Stands (T ++ steps_of core l e) later)
     → n < 2 ^ 64 → k ≡ turned_by (took_of core l e) → m ≡ entered_by e.op (took_of core l e)
     → Takes (only l 1) 1 (sight pool core lanes v p n) log (sight pool later (set lanes l seen) v ((p + k) % 2 ^ 64) ((n + m) % 2 ^ 64)) longer
-took pool core later lanes v p n l k m e near seen log longer within is id offers takings lane may view shape logged stands fits turns enters =
+took_in_all pool core later lanes v p n l k m e near seen log longer within is id offers takings lane may view shape logged stands fits turns enters =
     record {
       replies = (l, e) ∷ [];
       runs = subst (λ S. Runs S s log t longer) (sym (one_steps core l e)) (runs_by (steps_of core l e) s t log longer logged adds);
@@ -187,6 +204,19 @@ took pool core later lanes v p n l k m e near seen log longer within is id offer
           shut = λ has. absurd (false≢true (sym (reply_shuts_none core l e) ∙ has));
           account = stays_same v;
         }
+
+-- the lane's oldest reply, and what it leaves in the pocket and in the count of new events
+pub took :
+    (pool : Credits) (core later : View) (lanes : List Near) (v : Account) (p n held came l k m : ℕ) (e : Event) (near seen : Near) (log longer : List Step)
+    → l < length lanes → near ≡ get_or lanes l near → near_id seen ≡ near_id near → offered seen ≡ offered near → taken seen ≡ taken near ++ record { event = e } ∷ []
+    → l < lanes_of core.shape → may_take core l e ≡ true → later ≡ after core (steps_of core l e) → later.shape ≡ core.shape → longer ≡ log ++ steps_of core l e
+    → ((T : List Step) → Stands T core → Stands (T ++ steps_of core l e) later)
+    → n < 2 ^ 64 → k ≡ turned_by (took_of core l e) → m ≡ entered_by e.op (took_of core l e) → held ≡ (p + k) % 2 ^ 64 → came ≡ (n + m) % 2 ^ 64
+    → Takes (only l 1) 1 (sight pool core lanes v p n) log (sight pool later (set lanes l seen) v held came) longer
+took pool core later lanes v p n held came l k m e near seen log longer within is id offers takings lane may view shape logged stands fits turns enters holds comes =
+    let With : ℕ → ℕ → Type 0 = λ x y. Takes (only l 1) 1 (sight pool core lanes v p n) log (sight pool later (set lanes l seen) v x y) longer in
+    subst (λ x. With x came) (sym holds)
+    (subst (λ y. With ((p + k) % 2 ^ 64) y) (sym comes) (took_in_all pool core later lanes v p n l k m e near seen log longer within is id offers takings lane may view shape logged stands fits turns enters))
 
 -- ---- some after others
 
@@ -253,19 +283,26 @@ next_lane i most same n k s t u log mid longer is h m =
     takes_both (of_first i most) (only i same) (of_first (i + 1) most) n k s t u log mid longer h m (λ a b some more. omega (arith, of_first_is i most a some, only_is i same b more))
     (λ a. subst (λ j. of_first i most a + only i j a ≤ of_first (i + 1) most a) (sym is) (first_more i most a))
 
+-- none of a lane is none of any
+none_by : (b : Bool) → ◌≡◌ {A = ℕ} (cond b 0 0) 0
+none_by true = refl
+none_by false = refl
+
+none_of : (l m : ℕ) → only l 0 m ≡ 0
+none_of l m = none_by (m == l)
+
+-- none of the lane was taken, and then so many
+pub lane_later : (l k : ℕ) (s t u : Sight) (log mid longer : List Step) → Takes (only l 0) 0 s log t mid → Takes (only l k) k t mid u longer → Takes (only l k) k s log u longer
+lane_later l k s t u log mid longer h more =
+    subst (λ n. Takes (only l k) n s log u longer) (omega arith)
+    (takes_takes (only l 0) (only l k) (only l k) 0 k s t u log mid longer h more (λ i j some none. absurd (omega (arith, some, none_of l i))) (λ m. omega (arith, none_of l m)))
+
 -- nothing more of a lane was taken
 pub lane_ends : (l n q : ℕ) (s t u : Sight) (log mid longer : List Step) → n ≤ q → Takes (only l n) n s log t mid → Takes (only l 0) 0 t mid u longer → Takes (only l q) n s log u longer
 lane_ends l n q s t u log mid longer few h k =
     subst (λ k. Takes (only l q) k s log u longer) (omega arith)
-    (takes_takes (only l n) (only l 0) (only l q) n 0 s t u log mid longer h k (λ i j some more. absurd (omega (arith, more, none j))) (λ m. omega (arith, none m, within m)))
+    (takes_takes (only l n) (only l 0) (only l q) n 0 s t u log mid longer h k (λ i j some more. absurd (omega (arith, more, none_of l j))) (λ m. omega (arith, none_of l m, within m)))
   where
-    none_by : (b : Bool) → ◌≡◌ {A = ℕ} (cond b 0 0) 0
-    none_by true = refl
-    none_by false = refl
-
-    none : (m : ℕ) → only l 0 m ≡ 0
-    none m = none_by (m == l)
-
     within_by : (b : Bool) → cond b n 0 ≤ cond b q 0
     within_by true = few
     within_by false = omega arith

@@ -10,12 +10,11 @@ ghost use Rattle.evt_types.specs.Plan.{lanes_of};
 use crate::scheduler::Scheduler;
 use lane_rings::Near;
 
-/// Brings replies out of the rings of these lanes, from this one on and no more than `most` of each, up to the first lane that has
-/// one: that lane, or how many lanes there are where none has one. The replies are untaken still.
+/// The first of these lanes, from this one on, of which a reply is seen, or how many lanes there are where of none is. Mostly a lane
+/// has nothing, so that no more is done here than to look.
 #[inline(always)]
-fn first_fetched(lanes: &mut [Near], from: usize, most: usize) -> usize
-    requires from { from ≤ length lanes.old }
-    requires most { 0 < most }
+fn first_shown(lanes: &mut [Near], from: usize) -> usize
+    requires { from ≤ length lanes.old }
     ensures same { SameLanes lanes.old lanes.new }
     ensures lane { (from ≤ result) × (result ≤ length lanes.old) }
     ensures none { (l : ℕ) → from ≤ l → l < result → seen_in lanes.new l ≡ [] }
@@ -25,16 +24,34 @@ fn first_fetched(lanes: &mut [Near], from: usize, most: usize) -> usize
     let count = lanes.len();
     for lane in from..count {
         let near = &mut lanes[lane];
-        if near.fetch(most) {
+        if near.shows() {
             return lane;
         }
     }
     count
 }
 
+/// The same lane. It brings replies out of its ring, no more than `most`, which are untaken still.
+#[inline(always)]
+fn first_fetched(lanes: &mut [Near], from: usize, most: usize) -> usize
+    requires { from ≤ length lanes.old }
+    ensures same { SameLanes lanes.old lanes.new }
+    ensures lane { (from ≤ result) × (result ≤ length lanes.old) }
+    ensures none { (l : ℕ) → from ≤ l → l < result → seen_in lanes.new l ≡ [] }
+    ensures found { result < length lanes.old → seen_in lanes.new result ≢ [] }
+    ensures others { (l : ℕ) → l < from → seen_in lanes.new l ≡ seen_in lanes.old l }
+{
+    let lane = first_shown(lanes, from);
+    if lane >= lanes.len() {
+        return lane;
+    }
+    lanes[lane].fetch(most);
+    lane
+}
+
 impl Scheduler {
     /// The first lane from this one on that has a reply, or how many lanes there are where none has one. It looks at the rings of
-    /// the lanes up to that one alone, and brings no more replies out of each than the sweep quantum. They are untaken still.
+    /// the lanes up to that one alone, and brings no more replies out of its ring than the sweep quantum. They are untaken still.
     #[inline(always)]
     pub(crate) fn seek(&mut self, from: usize) -> usize
         requires { from ≤ lanes_of self.old.core.shape }

@@ -54,6 +54,11 @@ module _ {T : Type 0} where
   first-none [] e = refl
   first-none (x ∷ xs) e = absurd (none-some x (sym e))
 
+  -- where both rows together are nothing the first is
+  pub none-first : (xs ys : List T) → xs ++ ys ≡ [] → xs ≡ []
+  none-first [] ys e = refl
+  none-first (x ∷ xs) ys e = grind (arith, common_steps, ap length e)
+
   -- as many of the first of two rows as of both
   pub take-first : (n : ℕ) (xs ys : List T) → n ≤ length xs → take n (xs ++ ys) ≡ take n xs
   take-first n xs ys within = grind (arith, common_steps)

@@ -166,9 +166,10 @@ impl Far {
         ensures refused { IfErr result (RefusesReply self.old (reply_of event.now)) }
     {
         let (held, extras) = self.after(event)?;
-        if !self.replies.put(&Reply { event: *event }) {
+        if !self.replies.has_room() {
             return Err(Refusal::Full);
         }
+        self.replies.gather(Reply { event: *event });
         self.held = held;
         self.extras = extras;
         Ok(())

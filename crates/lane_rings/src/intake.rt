@@ -74,6 +74,19 @@ impl<T: Copy> Intake<T> {
         self.end != 0
     }
 
+    /// Whether something is in the batch or is seen in the ring.
+    #[inline(always)]
+    pub(crate) fn shows(&mut self) -> bool
+        ensures ring { SameConsumer self.old.ring self.new.ring }
+        ensures handed { handed self.new ≡ handed self.old }
+        ensures batch { inside self.new ≡ inside self.old }
+        ensures ahead { IsPrefix (ahead self.old) (ahead self.new) }
+        ensures some { IsTrue result → ahead self.new ≢ [] }
+        ensures none { IsFalse result → ahead self.new ≡ [] }
+    {
+        self.at != self.end || self.ring.slots() != 0
+    }
+
     /// The oldest item of the batch, which leaves.
     #[tactic(auto, using(crate::proofs::Handing::of_rows))]
     pub(crate) fn next(&mut self) -> Option<T>

@@ -12,7 +12,7 @@ pub struct Near {
 }
 
 impl Near {
-    ghost use Rattle.std.specs.Prelude.{◌≡◌, ◌≢◌, ◌<◌, ◌≤◌, [], ◌∷◌, ◌++◌, drop, length, Some, IsFalse, IsTrue, OnOk, OnErr, IfErr, IfNone, IfSome, MatchOption};
+    ghost use Rattle.std.specs.Prelude.{◌≡◌, ◌≢◌, ◌<◌, ◌≤◌, [], ◌∷◌, ◌++◌, drop, length, Some, IsFalse, IsTrue, OnOk, OnErr, IfErr, IfNone, IfSome, IsSome, MatchOption};
     ghost use mathlib.Core.List.{IsPrefix};
     ghost use Rattle.lane_rings.specs.Ends.{offered, hidden_offers, taken, seen_replies, fetched_replies, next_reply};
     ghost use Rattle.lane_rings.specs.Identity.{near_id};
@@ -70,6 +70,19 @@ impl Near {
         self.replies.look(most)
     }
 
+    /// Whether a reply is seen that isn't taken, in the ring or out of it: a look, by which nothing comes out of the ring.
+    #[inline(always)]
+    pub fn shows(&mut self) -> bool
+        ensures lane { near_id self.new ≡ near_id self.old }
+        ensures lists { (offered self.new ≡ offered self.old) × (hidden_offers self.new ≡ hidden_offers self.old) × (taken self.new ≡ taken self.old) }
+        ensures fetched { fetched_replies self.new ≡ fetched_replies self.old }
+        ensures seen { IsPrefix (seen_replies self.old) (seen_replies self.new) }
+        ensures some { IsTrue result → seen_replies self.new ≢ [] }
+        ensures none { IsFalse result → seen_replies self.new ≡ [] }
+    {
+        self.replies.shows()
+    }
+
     /// The oldest reply that wasn't taken, which stays: the next `take` gives the same one. `None` where no reply is seen; the
     /// holder may have given one by the next call.
     #[tactic(auto, using(crate::proofs::Handing::of_looks))]
@@ -89,6 +102,7 @@ impl Near {
     #[tactic(auto, using(crate::proofs::Handing::of_looks))]
     pub fn fetched(&self) -> Option<&Reply>
         ensures next { IfSome result (λ r. next_reply self.now ≡ Some r.now) }
+        ensures some { IsSome result → fetched_replies self.now ≢ [] }
         ensures none { IfNone result (fetched_replies self.now ≡ []) }
     {
         self.replies.first()

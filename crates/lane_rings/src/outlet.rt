@@ -12,7 +12,7 @@ pub(crate) struct Outlet<T> {
     pub(crate) ring: Producer<T>,
     pub(crate) batch: Vec<T>,
     /// So many slots at least are free. The ring works this out of two places at each question.
-    free: usize,
+    pub(crate) free: usize,
     pub(crate) ghost known: { free ≤ known_free ring },
     pub(crate) ghost fits: { length batch.items ≤ free },
     ghost room: { producer_capacity ring ≤ vec_capacity batch },
@@ -47,14 +47,25 @@ impl<T: Copy> Outlet<T> {
         if !self.has_room() {
             return false;
         }
-        self.batch.push_reserved(*item);
+        self.gather(*item);
         true
     }
 
-    // Whether there is a free slot for one item more. The other end's progress is looked at only where what was known to be free is
-    // used up.
-    fn has_room(&mut self) -> bool
+    /// Gathers an item, for which there is room.
+    #[inline(always)]
+    pub(crate) fn gather(&mut self, item: T)
+        requires { length self.old.batch.items < self.old.free }
+        ensures ring { SameProducer self.old.ring self.new.ring }
+        ensures put { put_in self.new ≡ put_in self.old ++ item ∷ [] }
+    {
+        self.batch.push_reserved(item);
+    }
+
+    /// Whether there is a free slot for one item more. The other end's progress is looked at only where what was known to be free is
+    /// used up.
+    pub(crate) fn has_room(&mut self) -> bool
         ensures ring { SameProducer self.old.ring self.new.ring × (sent self.new.ring ≡ sent self.old.ring) }
+        ensures put { put_in self.new ≡ put_in self.old }
         ensures batch { self.new.batch ≡ self.old.batch }
         ensures room { IsTrue result → length self.new.batch.items < self.new.free }
         ensures full { IsFalse result → producer_capacity self.old.ring ≤ length (put_in self.old) }

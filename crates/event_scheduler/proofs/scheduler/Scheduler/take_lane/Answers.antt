@@ -8,14 +8,14 @@ loop-taken-init g c = (takes_none _ _ _, omega arith, λ j other. refl)
 
 pub loop-taken-preserved : goal.loop-taken-preserved
 loop-taken-preserved g c = (
-  lane_more _ _ _ _ _ _ _ _ _ c.if-not-take_one.false c.loop-taken.invariant.0 c.take_one.ensures.takes,
-  omega (arith, c.loop-taken.invariant.1, c.take_one.ensures.room),
-  λ j other. c.take_one.ensures.others j other ∙ c.loop-taken.invariant.2 j other,
+  lane_more _ _ _ _ _ _ _ _ _ c.if-not-take_next.false c.loop-taken.invariant.0 c.take_next.ensures.takes,
+  omega (arith, c.loop-taken.invariant.1, c.take_next.ensures.room),
+  λ j other. c.take_next.ensures.others j other ∙ c.loop-taken.invariant.2 j other,
 )
 
-pub returns-then-not-take_one-clause-ends : goal.returns-then-not-take_one-clause-ends
-returns-then-not-take_one-clause-ends g c = c.take_one.ensures.ends c.loop-taken.taken _ c.if-not-take_one.true
+pub returns-then-not-take_next-clause-ends : goal.returns-then-not-take_next-clause-ends
+returns-then-not-take_next-clause-ends g c = c.take_next.ensures.ends c.loop-taken.taken _ c.if-not-take_next.true
 
-pub returns-then-not-take_one-clause-takes : goal.returns-then-not-take_one-clause-takes
-returns-then-not-take_one-clause-takes g c =
-    lane_ends _ _ _ _ _ _ _ _ _ (omega (arith, c.loop-taken-test.true, c.sweep-most.ensures.value, ap (λ (p : Plan). p.sweep) c.shape.ensures)) c.loop-taken.invariant.0 c.if-not-take_one.ensures.takes
+pub returns-then-not-take_next-clause-takes : goal.returns-then-not-take_next-clause-takes
+returns-then-not-take_next-clause-takes g c =
+    lane_ends _ _ _ _ _ _ _ _ _ (omega (arith, c.loop-taken-test.true, c.sweep-most.ensures.value, ap (λ (p : Plan). p.sweep) c.shape.ensures)) c.loop-taken.invariant.0 c.if-not-take_next.ensures.takes

@@ -1,5 +1,5 @@
 -- A reply goes behind the others: an answer ends the oldest and its additions, and another adds one or changes nothing.
-use Rattle.std.proofs.Common.{◌≡◌, ◌∙◌, ◌+◌, ℕ, List, [], ◌∷◌, ap, arith, cond, length, rules, subst, sym}
+use Rattle.std.proofs.Common.{◌≡◌, ◌∙◌, ◌+◌, ℕ, List, [], ◌∷◌, ◌++◌, ap, arith, cond, length, rules, subst, sym}
 use Rattle.std.proofs.lemmas.List.Sums.{sum_by-append}
 use Rattle.evt_types.proofs.Additions.{beside-append, extras-append}
 use Rattle.evt_types.specs.Additions.{AreBeside, extras_of, more_after}
@@ -13,18 +13,18 @@ use Rattle.lane_rings.proofs.far.Far.stage.Goals as goal
 pub invariant_of-self-2-clause-held_is : goal.invariant_of-self-2-clause-held_is
 invariant_of-self-2-clause-held_is c =
     let one : List Reply = reply_of c.args.event.now ∷ [] in
-    let count : answers_among (put_in c.put.new.self) ≡ answers_among (answered c.args.self.now) + answers_among one = ap answers_among (c.put.ensures.ok (search rules)) ∙ sum_by-append (λ x. cond (is_answer x) 1 0) (answered c.args.self.now) one in
+    let count : answers_among (put_in c.gather.new.self) ≡ answers_among (answered c.args.self.now) + answers_among one = ap answers_among (c.gather.ensures.put ∙ ap (λ (rs : List Reply). rs ++ reply_of c.args.event.now ∷ []) c.has_room.ensures.put) ∙ sum_by-append (λ x. cond (is_answer x) 1 0) (answered c.args.self.now) one in
     omega (arith, count, c.in_ok-held.ensures.held, c.args.self.now.held_is)
 
 pub invariant_of-self-2-clause-extras_are : goal.invariant_of-self-2-clause-extras_are
 invariant_of-self-2-clause-extras_are c =
     c.in_ok-held.ensures.extras.0
     ∙ (ap (λ n. more_after n (reply_of c.args.event.now)) c.args.self.now.extras_are
-    ∙ sym (ap extras_of (c.put.ensures.ok (search rules)) ∙ extras-append (answered c.args.self.now) (reply_of c.args.event.now)))
+    ∙ sym (ap extras_of (c.gather.ensures.put ∙ ap (λ (rs : List Reply). rs ++ reply_of c.args.event.now ∷ []) c.has_room.ensures.put) ∙ extras-append (answered c.args.self.now) (reply_of c.args.event.now)))
 
 pub invariant_of-self-2-clause-beside : goal.invariant_of-self-2-clause-beside
 invariant_of-self-2-clause-beside c =
     let received : ℕ = length (received_by c.args.self.now) in
-    subst (AreBeside received) (sym (c.put.ensures.ok (search rules)))
+    subst (AreBeside received) (sym (c.gather.ensures.put ∙ ap (λ (rs : List Reply). rs ++ reply_of c.args.event.now ∷ []) c.has_room.ensures.put))
     (beside-append received (answered c.args.self.now) (reply_of c.args.event.now) c.args.self.now.beside
     (λ adds. (omega (arith, (c.in_ok-held.ensures.may_add adds).0, c.args.self.now.held_is), omega (arith, (c.in_ok-held.ensures.may_add adds).1, c.args.self.now.extras_are))))

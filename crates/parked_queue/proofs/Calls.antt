@@ -1,5 +1,5 @@
 -- What a call makes of one queue.
-use Rattle.std.proofs.Common.{◌≡◌, ℕ, ◌+◌, ◌-◌, ◌^◌, ◌<◌, ◌≤◌, true, false, List, [], ◌∷◌, ◌++◌, drop, length, set, filter, Option, Some, None, slice_get, refl, sym, ap, ◌∙◌, subst, arith}
+use Rattle.std.proofs.Common.{◌≡◌, ℕ, ◌+◌, ◌-◌, ◌^◌, ◌<◌, ◌≤◌, true, false, [], ◌∷◌, ◌++◌, drop, length, set, filter, Option, Some, None, slice_get, refl, sym, ap, ◌∙◌, subst, arith}
 use Rattle.std.specs.Option.{is_some}
 use Rattle.std.proofs.lemmas.Bool.{false≢true}
 use Rattle.std.proofs.lemmas.List.{length_push}
@@ -11,7 +11,7 @@ use Rattle.evt_types.specs.declared.event.Numbered.{Numbered}
 use Rattle.small_set.specs.SmallSets.{Has, SameBut}
 use Rattle.small_set.specs.declared.set.SmallSet.{SmallSet}
 use Rattle.parked_queue.specs.Lists.{Lists, has_number, list_at, total_of, with_last, with_list, without_first}
-use Rattle.parked_queue.specs.Marks.{marks_at}
+use Rattle.parked_queue.specs.Marks.{IsMasked, marks_at}
 use Rattle.parked_queue.specs.Merge.{is_in}
 use Rattle.parked_queue.specs.Parkings.{IsBut, IsChanged, IsParted, kept, parted_by, segment, waits_by}
 use Rattle.parked_queue.specs.Parted.{HasMarks, Parted, list_in, own_first, list_of_slot, list_of_number, list_of, list_count, with_below, with_waits}
@@ -45,6 +45,9 @@ module _ (l : Lists) (p : Parking) (is : IsParted l p) where
 
   pub holds : Holds (kept l p) v
   holds = held (kept l p) v is.parking refl
+
+  pub masked_slots : IsMasked p.slots p.mask
+  masked_slots = record { some = is.parking.waits.some; few = is.parking.waits.few; mask = is.parking.mask }
 
   some : 0 < p.slots
   some = is.parking.waits.some

@@ -13,7 +13,9 @@ use Rattle.small_set.specs.SmallSets.{Has, IsEmpty, SameBut}
 use Rattle.small_set.specs.declared.set.SmallSet.{SmallSet}
 use Rattle.parked_queue.specs.Merge.{is_in}
 use Rattle.parked_queue.specs.Parted.{Parted, HasMarks, HasNoneParked, below_at, list_in, list_of, with_below}
-use Rattle.parked_queue.specs.Waits.{Waits, AreLevels, AreWaits, HasNoneAllowed, HasNoneOf, IsFirstAllowed, is_other, slot_of, with_event, without_number}
+use Rattle.parked_queue.specs.LevelSets.{AreLevels, members}
+use Rattle.parked_queue.specs.Waits.{Waits, AreWaits, HasNoneAllowed, HasNoneOf, IsFirstAllowed, is_other, slot_of, with_event, without_number}
+use Rattle.parked_queue.specs.declared.level.Levels.{Levels}
 use Rattle.parked_queue.proofs.Holding.{list_if_not}
 use Rattle.parked_queue.proofs.Parks.{level_of_own, list_after, older}
 use Rattle.parked_queue.proofs.Splits.{Split, first_alone, first_least, first_split, first_there, none_first}
@@ -105,27 +107,26 @@ some_of_level v c waits lt some none =
     none here.0 w here.1 (ap (λ (u : Numbered). level_of u.event) here.2 ∙ sym (level_of_own v c w waits lt first.1))
 
 -- a level of which an event waits is known
-pub level_known : (v : Waits) (c : ℕ) (levels : SmallSet) → AreLevels v levels → ¬ HasNoneOf v c → Has levels c
-level_known v c levels are some = ⊎_elim (λ has. has) (λ never. absurd (some (are.rest c never))) (cases_eq (bit_at levels.bits c) 1)
+level_known : (v : Waits) (c : ℕ) (levels : Levels) → AreLevels v levels → ¬ HasNoneOf v c → Has (members levels) c
+level_known v c levels are some = ⊎_elim (λ has. has) (λ never. absurd (some (are.rest c never))) (cases_eq (bit_at (members levels).bits c) 1)
 
 -- of an empty queue no event of any level waits
 pub none_of_empty : (v : Waits) (c : ℕ) → v.waiting ≡ [] → HasNoneOf v c
 none_of_empty v c empty k d h = let e = ap length empty in absurd (omega (arith, h, e))
 
 -- the level of an event that comes is added
-pub levels_with : (v : Waits) (e : Event) (was now : SmallSet) → level_of e < 4 → Has now (level_of e) → SameBut (level_of e) was now → AreLevels v was → AreLevels (with_event v e) now
-levels_with v e was now lt here others levels =
+pub levels_with : (v : Waits) (e : Event) (was now : Levels) → Has (members now) (level_of e) → SameBut (level_of e) (members was) (members now) → AreLevels v was → AreLevels (with_event v e) now
+levels_with v e was now here others are =
     record {
-      there = λ k has. ⊎_elim (λ same. subst (λ n. n < 4) (sym same) lt) (λ ne. levels.there k ((others k ne).0 has)) (cases_eq k (level_of e));
       rest = λ k never.
-          let ne : k ≢ level_of e = λ same. never (subst (Has now) (sym same) here) in
-          All-push (λ (u : Numbered). level_of u.event ≢ k) v.waiting (record { number = v.next; event = e }) (levels.rest k (λ has. never ((others k ne).1 has))) (λ same. ne (sym same));
+          let ne : k ≢ level_of e = λ same. never (subst (Has (members now)) (sym same) here) in
+          All-push (λ (u : Numbered). level_of u.event ≢ k) v.waiting (record { number = v.next; event = e }) (are.rest k (λ has. never ((others k ne).1 has))) (λ same. ne (sym same));
     }
 
 -- where an event of its level waits, an event that comes adds no level
-pub levels_still : (v : Waits) (e : Event) (levels : SmallSet) → level_of e < 4 → ¬ HasNoneOf v (level_of e) → AreLevels v levels → AreLevels (with_event v e) levels
-levels_still v e levels lt some are = levels_with v e levels levels lt (level_known v (level_of e) levels are some) (λ i ne. (λ has. has, λ has. has)) are
+pub levels_still : (v : Waits) (e : Event) (levels : Levels) → ¬ HasNoneOf v (level_of e) → AreLevels v levels → AreLevels (with_event v e) levels
+levels_still v e levels some are = levels_with v e levels levels (level_known v (level_of e) levels are some) (λ i ne. (λ has. has, λ has. has)) are
 
 -- an event that goes leaves no other level
-pub levels_without : (v : Waits) (n : ℕ) (levels : SmallSet) → AreLevels v levels → AreLevels (without_number v n) levels
-levels_without v n levels are = record { there = are.there; rest = λ k never. All-filter (is_other n) (λ (u : Numbered). level_of u.event ≢ k) v.waiting (are.rest k never) }
+pub levels_without : (v : Waits) (n : ℕ) (levels : Levels) → AreLevels v levels → AreLevels (without_number v n) levels
+levels_without v n levels are = record { rest = λ k never. All-filter (is_other n) (λ (u : Numbered). level_of u.event ≢ k) v.waiting (are.rest k never) }

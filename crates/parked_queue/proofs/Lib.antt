@@ -16,7 +16,7 @@ pub mod Parkings
 pub mod Seen
 pub mod Segments
 pub mod Calls
-pub mod Levels
+pub mod LevelSets
 pub mod News
 pub mod Busy
 pub mod ChainDeliveries

@@ -1,5 +1,5 @@
 -- One queue among several, and what a change of it leaves of the others.
-use Rattle.std.proofs.Common.{◌≡◌, ◌≢◌, ℕ, ◌+◌, ◌^◌, ◌<◌, ◌≤◌, inl, inr, ⊎_elim, List, length, set, get_or, refl, sym, ap, ◌∙◌, subst, arith, ◌==◌, false}
+use Rattle.std.proofs.Common.{◌≡◌, ◌≢◌, ℕ, ◌+◌, ◌^◌, ◌<◌, ◌≤◌, inl, inr, ⊎_elim, List, length, set, get_or, sym, ap, ◌∙◌, subst, arith, ◌==◌, false}
 use Rattle.std.proofs.lemmas.Bool.{cases_eq, cases_lt}
 use Rattle.std.proofs.lemmas.List.{length-map, length-set, get_or-map, get_or-set_same, get_or-set_other, get_or_default, ext_get_or}
 use Rattle.std.proofs.lemmas.List.Sums.{get_or-le-sum_by, sum_by-set}
@@ -11,7 +11,9 @@ use Rattle.parked_queue.specs.Lists.{Lists, list_at, total_of, with_last}
 use Rattle.parked_queue.specs.Marks.{IsParking, parted_in}
 use Rattle.parked_queue.specs.Parkings.{AreApart, AreParkings, IsChanged, IsParted, all_waits, kept, no_parking, parking_at, parted_by, segment, waits_by}
 use Rattle.parked_queue.specs.Parted.{list_in, list_count}
-use Rattle.parked_queue.specs.Waits.{HasNoneOf, Waits, all_waiting, count_of, no_waits, waits_at, with_event}
+use Rattle.parked_queue.specs.Waits.{AreWaits, HasNoneOf, Waits, all_waiting, count_of, no_waits, waits_at, with_event}
+use Rattle.parked_queue.specs.declared.level.Level.{Level}
+use Rattle.parked_queue.specs.declared.level.Levels.{Levels}
 use Rattle.parked_queue.specs.declared.parking.Parking.{Parking}
 use Rattle.parked_queue.proofs.Accepting.{total_held}
 use Rattle.parked_queue.proofs.Calls.{accepted, holds, level_list, list_is}
@@ -144,6 +146,7 @@ pub record IsAsked (l : Lists) (ps : List Parking) (qs : List Waits) (q : ℕ) (
   pub is : p ≡ parking_at ps q
   pub part : IsParted l p
   pub waits : waits_by l p ≡ waits_at qs q
+  pub sound : AreWaits (waits_at qs q)
   pub total : total_of l ≡ all_waiting qs
   pub share : length (waits_at qs q).waiting ≤ all_waiting qs
   pub small : l.room < 2 ^ 64
@@ -155,48 +158,66 @@ module _ (l : Lists) (ps : List Parking) (qs : List Waits) (q : ℕ) (are : AreP
   pub asked : (p : Parking) → p ≡ get_or ps q p → IsAsked l ps qs q p
   asked p read =
       let is : p ≡ parking_at ps q = read ∙ get_or_default ps q p no_parking there in
+      let part : IsParted l p = subst (IsParted l) (sym is) (part_at l ps q are there) in
+      let same : waits_by l p ≡ waits_at qs q = ap (waits_by l) is ∙ (sym (waits_read l ps q there) ∙ ap (λ ws. waits_at ws q) view) in
       record {
         there = there;
         is = is;
-        part = subst (IsParted l) (sym is) (part_at l ps q are there);
-        waits = ap (waits_by l) is ∙ (sym (waits_read l ps q there) ∙ ap (λ ws. waits_at ws q) view);
+        part = part;
+        waits = same;
+        sound = subst AreWaits same part.parking.waits;
         total = are.total ∙ ap all_waiting view;
         share = get_or-le-sum_by count_of qs q (no_waits 1 0) lt;
         small = are.small;
       }
 
+  -- it is another then, made of what waited in it
+  module _ (m : Lists) (p x : Parking) (f : Waits → Waits) (read : p ≡ get_or ps q p) (is : IsChanged l p m x (f (waits_by l p))) where
+    moved : IsChanged l (parking_at ps q) m x (f (waits_by l p))
+    moved = subst (λ y. IsChanged l y m x (f (waits_by l p))) (read ∙ get_or_default ps q p no_parking there) is
+
+    pub waits_changed : all_waits m (set ps q x) ≡ set qs q (f (waits_at qs q))
+    waits_changed = waits_after l m ps q x (f (waits_by l p)) are there moved ∙ (ap (λ ws. set ws q (f (waits_by l p))) view ∙ ap (λ w. set qs q (f w)) (asked p read).waits)
+
+    pub sound_changed : AreWaits (f (waits_at qs q))
+    sound_changed = subst (λ w. AreWaits (f w)) (asked p read).waits (subst AreWaits is.waits is.part.parking.waits)
+
+    pub queues_changed : (ls : List Levels) (busy : SmallSet) → AreNoted (set qs q (f (waits_at qs q))) ls busy → AreQueues m (set ps q x) ls busy
+    queues_changed ls busy noted =
+        record { parkings = parkings_after l m ps q x (f (waits_by l p)) are there moved; noted = subst (λ ws. AreNoted ws ls busy) (sym waits_changed) noted }
+
   -- an event of the level comes
-  module _ (p : Parking) (read : p ≡ get_or ps q p) (e : Event) (c : ℕ) (is : c ≡ level_of e) (level : level_of e < 4) where
-    pub comes : all_waiting qs < (waits_at qs q).room → (waits_at qs q).next < 2 ^ 63 → (m : Lists) → m ≡ with_last l (p.base + c) (record { number = p.next; event = e })
-        → IsChanged l p m (record p { next = p.next + 1; count = p.count + 1 }) (with_event (waits_by l p) e)
-    comes room numbers m pushed =
-        let a = asked p read in
-        let total = a.total in
-        let share = a.share in
-        let limit : l.room ≡ (waits_at qs q).room = ap (λ (w : Waits). w.room) a.waits in
-        let many : length (waits_by l p).waiting ≡ length (waits_at qs q).waiting = ap (λ (w : Waits). length w.waiting) a.waits in
-        let next : p.next ≡ (waits_at qs q).next = ap (λ (w : Waits). w.next) a.waits in
-        accepted l p a.part m e level (omega arith) (omega arith) (omega arith) (pushed ∙ ap (λ k. with_last l (p.base + k) (record { number = p.next; event = e })) is)
+  module _ (p : Parking) (read : p ≡ get_or ps q p) (e : Event) (c : Level) (is : c.number ≡ level_of e) where
+    level : level_of e < 4
+    level = subst (λ n. n < 4) is c.few
+
+    module _ (room : all_waiting qs < (waits_at qs q).room) (numbers : (waits_at qs q).next < 2 ^ 63) (m : Lists) (pushed : m ≡ with_last l (p.base + c.number) (record { number = p.next; event = e })) where
+      abbrev entered : Parking
+      entered = record p { next = p.next + 1; count = p.count + 1 }
+
+      comes : IsChanged l p m entered (with_event (waits_by l p) e)
+      comes =
+          let a = asked p read in
+          let total = a.total in
+          let share = a.share in
+          let limit : l.room ≡ (waits_at qs q).room = ap (λ (w : Waits). w.room) a.waits in
+          let many : length (waits_by l p).waiting ≡ length (waits_at qs q).waiting = ap (λ (w : Waits). length w.waiting) a.waits in
+          let next : p.next ≡ (waits_at qs q).next = ap (λ (w : Waits). w.next) a.waits in
+          accepted l p a.part m e level (omega arith) (omega arith) (omega arith) (pushed ∙ ap (λ k. with_last l (p.base + k) (record { number = p.next; event = e })) is)
+
+      pub waits_come : all_waits m (set ps q entered) ≡ set qs q (with_event (waits_at qs q) e)
+      waits_come = waits_changed m p entered (λ w. with_event w e) read comes
+
+      pub sound_come : AreWaits (with_event (waits_at qs q) e)
+      sound_come = sound_changed m p entered (λ w. with_event w e) read comes
+
+      pub queues_come : (ls : List Levels) (busy : SmallSet) → AreNoted (set qs q (with_event (waits_at qs q) e)) ls busy → AreQueues m (set ps q entered) ls busy
+      queues_come = queues_changed m p entered (λ w. with_event w e) read comes
 
     -- others of its level waited before, where its list had any
-    pub some_before : (length (list_at l (p.base + c)) == 0) ≡ false → ¬ HasNoneOf (waits_at qs q) (level_of e)
+    pub some_before : (length (list_at l (p.base + c.number)) == 0) ≡ false → ¬ HasNoneOf (waits_at qs q) (level_of e)
     some_before none =
         let a = asked p read in
-        let less : c < 4 = omega arith in
         subst (λ w. ¬ HasNoneOf w (level_of e)) a.waits
         (subst (λ k. ¬ HasNoneOf (waits_by l p) k) is
-        (some_of_level (parted_by l p) c a.part.parking.waits less (not_empty (list_at l (p.base + c)) (list_in (parted_by l p) c) (list_is l p a.part c (level_list l p a.part c less)) none)))
-
-  -- it is another then
-  module _ (m : Lists) (p x : Parking) (w : Waits) (read : p ≡ get_or ps q p) (is : IsChanged l p m x w) where
-    moved : IsChanged l (parking_at ps q) m x w
-    moved = subst (λ y. IsChanged l y m x w) (read ∙ get_or_default ps q p no_parking there) is
-
-    pub parkings_changed : AreParkings m (set ps q x)
-    parkings_changed = parkings_after l m ps q x w are there moved
-
-    pub waits_changed : all_waits m (set ps q x) ≡ set qs q w
-    waits_changed = waits_after l m ps q x w are there moved ∙ ap (λ ws. set ws q w) view
-
-    pub queues_changed : (ls : List SmallSet) (busy : SmallSet) → AreNoted (set qs q w) ls busy → AreQueues m (set ps q x) ls busy
-    queues_changed ls busy noted = record { parkings = parkings_changed; noted = subst (λ ws. AreNoted ws ls busy) (sym waits_changed) noted }
+        (some_of_level (parted_by l p) c.number a.part.parking.waits c.few (not_empty (list_at l (p.base + c.number)) (list_in (parted_by l p) c.number) (list_is l p a.part c.number (level_list l p a.part c.number c.few)) none)))

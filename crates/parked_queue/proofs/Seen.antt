@@ -1,5 +1,5 @@
 -- The words of what waits, once a queue is another.
-use Rattle.std.proofs.Common.{◌≡◌, ℕ, ◌<◌, List, [], filter, length, set, get_or, sym, ap, ◌∙◌, subst, ⊎_elim, arith}
+use Rattle.std.proofs.Common.{◌≡◌, ℕ, ◌<◌, List, [], filter, length, set, get_or, sym, ap, ◌∙◌, subst, ⊎_elim}
 use Rattle.std.proofs.lemmas.Bool.{cases_eq}
 use Rattle.std.proofs.lemmas.List.{nil_from_length, set-get_or}
 use Rattle.evt_types.specs.Plan.{level_of}
@@ -7,46 +7,53 @@ use Rattle.evt_types.specs.declared.event.Event.{Event}
 use Rattle.small_set.specs.SmallSets.{Has, SameBut}
 use Rattle.small_set.specs.declared.set.SmallSet.{SmallSet}
 use Rattle.parked_queue.specs.Busy.{AreNoted}
-use Rattle.parked_queue.specs.Levels.{HaveLevels, levels_at}
-use Rattle.parked_queue.specs.Waits.{AreLevels, HasNoneOf, Waits, is_other, no_waits, waits_at, with_event, without_number}
+use Rattle.parked_queue.specs.LevelSets.{AreLevels, levels_at, members}
+use Rattle.parked_queue.specs.Waits.{HasNoneOf, Waits, is_other, no_waits, waits_at, with_event, without_number}
+use Rattle.parked_queue.specs.declared.level.Levels.{Levels}
 use Rattle.parked_queue.proofs.Busy.{busy_set}
 use Rattle.parked_queue.proofs.Firsts.{levels_still, levels_with, levels_without, none_of_empty}
-use Rattle.parked_queue.proofs.Levels.{levels_kept, levels_read, levels_set}
+use Rattle.parked_queue.proofs.LevelSets.{levels_kept, levels_read, levels_set, levels_there}
 
 -- a level of which nothing waits is no longer looked at
-levels_less : (w : Waits) (c : ℕ) (was now : SmallSet) → AreLevels w was → SameBut c was now → ¬ Has now c → HasNoneOf w c → AreLevels w now
-levels_less w c was now are others gone none =
-    record {
-      there = λ k has. ⊎_elim (λ e. absurd (gone (subst (Has now) e has))) (λ ne. are.there k ((others k ne).0 has)) (cases_eq k c);
-      rest = λ k never. ⊎_elim (λ e. subst (HasNoneOf w) (sym e) none) (λ ne. are.rest k (λ has. never ((others k ne).1 has))) (cases_eq k c);
-    }
+levels_less : (w : Waits) (c : ℕ) (was now : Levels) → AreLevels w was → SameBut c (members was) (members now) → HasNoneOf w c → AreLevels w now
+levels_less w c was now are others none = record { rest = λ k never. ⊎_elim (λ e. subst (HasNoneOf w) (sym e) none) (λ ne. are.rest k (λ has. never ((others k ne).1 has))) (cases_eq k c) }
 
-module _ (qs : List Waits) (ls : List SmallSet) (busy : SmallSet) (q : ℕ) (are : AreNoted qs ls busy) (lt : q < length qs) where
+module _ (all qs : List Waits) (ls : List Levels) (busy : SmallSet) (q : ℕ) (noted : AreNoted all ls busy) (view : all ≡ qs) (lt : q < length qs) where
+  are : AreNoted qs ls busy
+  are = subst (λ ws. AreNoted ws ls busy) view noted
+
+  pub noted_there : q < length ls
+  noted_there = levels_there qs ls q are.levels lt
+
   -- the levels as they are read
-  of_read : (was : SmallSet) → was ≡ get_or ls q was → AreLevels (waits_at qs q) was
+  of_read : (was : Levels) → was ≡ get_or ls q was → AreLevels (waits_at qs q) was
   of_read was read = subst (AreLevels (waits_at qs q)) (sym (read ∙ levels_read qs ls q are.levels lt was)) (are.levels.each q lt)
 
+  -- the same waits as before
+  pub noted_still : AreNoted (set qs q (waits_at qs q)) ls busy
+  noted_still = subst (λ ws. AreNoted ws ls busy) (sym (set-get_or qs q (no_waits 1 0))) are
+
   -- a level of which nothing waits has left
-  pub emptied : (c : ℕ) (was now : SmallSet) → was ≡ get_or ls q was → SameBut c was now → ¬ Has now c → HasNoneOf (waits_at qs q) c → AreNoted qs (set ls q now) busy
-  emptied c was now read others gone none =
+  pub emptied : (c : ℕ) (was now : Levels) → was ≡ get_or ls q was → SameBut c (members was) (members now) → HasNoneOf (waits_at qs q) c → AreNoted (set qs q (waits_at qs q)) (set ls q now) busy
+  emptied c was now read others none =
       record {
-        levels = subst (λ ws. HaveLevels ws (set ls q now)) (set-get_or qs q (no_waits 1 0)) (levels_set qs ls q are.levels lt (waits_at qs q) now (levels_less (waits_at qs q) c was now (of_read was read) others gone none));
-        busy = are.busy;
+        levels = levels_set qs ls q are.levels lt (waits_at qs q) now (levels_less (waits_at qs q) c was now (of_read was read) others none);
+        busy = noted_still.busy;
       }
 
   -- the first event of a level has come
-  pub noted_first : (e : Event) (was now many : SmallSet) → was ≡ get_or ls q was → level_of e < 4 → Has now (level_of e) → SameBut (level_of e) was now → Has many q → SameBut q busy many → AreNoted (set qs q (with_event (waits_at qs q) e)) (set ls q now) many
-  noted_first e was now many read level has others into same =
+  pub noted_first : (e : Event) (was now : Levels) (many : SmallSet) → was ≡ get_or ls q was → Has (members now) (level_of e) → SameBut (level_of e) (members was) (members now) → Has many q → SameBut q busy many → AreNoted (set qs q (with_event (waits_at qs q) e)) (set ls q now) many
+  noted_first e was now many read has others into same =
       record {
-        levels = levels_set qs ls q are.levels lt (with_event (waits_at qs q) e) now (levels_with (waits_at qs q) e was now level has others (of_read was read));
+        levels = levels_set qs ls q are.levels lt (with_event (waits_at qs q) e) now (levels_with (waits_at qs q) e was now has others (of_read was read));
         busy = busy_set qs q (with_event (waits_at qs q) e) busy many are.busy lt same (λ never. absurd (never into));
       }
 
   -- one more has come
-  pub noted_more : (e : Event) → level_of e < 4 → ¬ HasNoneOf (waits_at qs q) (level_of e) → AreNoted (set qs q (with_event (waits_at qs q) e)) ls busy
-  noted_more e level some =
+  pub noted_more : (e : Event) → ¬ HasNoneOf (waits_at qs q) (level_of e) → AreNoted (set qs q (with_event (waits_at qs q) e)) ls busy
+  noted_more e some =
       record {
-        levels = levels_kept qs ls q are.levels lt (with_event (waits_at qs q) e) (levels_still (waits_at qs q) e (levels_at ls q) level some (are.levels.each q lt));
+        levels = levels_kept qs ls q are.levels lt (with_event (waits_at qs q) e) (levels_still (waits_at qs q) e (levels_at ls q) some (are.levels.each q lt));
         busy =
             busy_set qs q (with_event (waits_at qs q) e) busy busy are.busy lt (λ k ne. ((λ has. has), (λ has. has)))
             (λ never. absurd (some (none_of_empty (waits_at qs q) (level_of e) (are.busy.rest q never))));
@@ -66,7 +73,3 @@ module _ (qs : List Waits) (ls : List SmallSet) (busy : SmallSet) (q : ℕ) (are
 
   pub noted_less : (n : ℕ) → AreNoted (set qs q (without_number (waits_at qs q) n)) ls busy
   noted_less n = noted_without n busy (λ k ne. ((λ has. has), (λ has. has))) (λ never. ap (filter (is_other n)) (are.busy.rest q never))
-
--- the same waits as before
-pub noted_still : (qs : List Waits) (ls : List SmallSet) (busy : SmallSet) (q : ℕ) (w : Waits) → w ≡ waits_at qs q → AreNoted qs ls busy → AreNoted (set qs q w) ls busy
-noted_still qs ls busy q w is are = subst (λ ws. AreNoted ws ls busy) (sym (ap (set qs q) is ∙ set-get_or qs q (no_waits 1 0))) are

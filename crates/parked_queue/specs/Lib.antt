@@ -1,6 +1,6 @@
 pub mod Busy
 pub mod Chains
-pub mod Levels
+pub mod LevelSets
 pub mod Lists
 pub mod Marks
 pub mod Merge

@@ -32,6 +32,12 @@ pub record AreMarks (v : Parted) (parked : List SmallSet) : Type 0 where
 abbrev pub mask_of : ℕ → ℕ
 mask_of slots = if bit_and slots (slots - 1) == 0 then slots - 1 else 64
 
+-- there are some slots, few of them, and the mask is theirs
+pub record IsMasked (slots m : ℕ) : Type 0 where
+  pub some : 0 < slots
+  pub few : slots ≤ 64
+  pub mask : m ≡ mask_of slots
+
 abbrev pub parted_in : Kept → Parted
 parted_in a = record { waits = record { waiting = by_number a.lists.lists; next = a.next; room = a.lists.room; slots = a.slots }; below = a.below }
 

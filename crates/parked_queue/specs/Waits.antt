@@ -86,8 +86,3 @@ IsOnlyOf v c slot n = All (λ (w : Numbered). w.number ≡ n → (level_of w.eve
 -- no event of the level waits
 abbrev pub HasNoneOf : Waits → ℕ → Type 0
 HasNoneOf v c = All (λ (u : Numbered). level_of u.event ≢ c) v.waiting
-
--- these are levels, and each level of which an event waits is among them
-pub record AreLevels (v : Waits) (levels : SmallSet) : Type 0 where
-  pub there : (c : ℕ) → Has levels c → c < 4
-  pub rest : (c : ℕ) → ¬ Has levels c → HasNoneOf v c

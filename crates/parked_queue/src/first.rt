@@ -7,6 +7,7 @@ ghost use Rattle.parked_queue.specs.Parkings.{IsChanged, IsParted, parted_by, wa
 ghost use Rattle.parked_queue.specs.Parted.{IsFirstParked, HasNoneParked, IsNoLater};
 ghost use Rattle.parked_queue.specs.Waits.{IsFirstAllowed, HasNoneAllowed, slot_of};
 
+use crate::level::Level;
 use crate::parking::Parking;
 use crate::slot::slot_in;
 use crate::waiting::WaitingLists;
@@ -40,17 +41,16 @@ impl Parking {
     fn first_parked(
         &mut self,
         lists: &WaitingLists,
-        level: usize,
+        level: Level,
         marked: SmallSet,
     ) -> Option<Found>
         requires parted { IsParted lists.now self.old }
-        requires level { level < 4 }
         requires there { (k : ℕ) → Has marked k → k < self.old.slots }
         ensures changed { IsChanged lists.now self.old lists.now self.new (waits_by lists.now self.old) }
         ensures same { parted_by lists.now self.new ≡ parted_by lists.now self.old }
-        ensures first { IfSome result (λ f. IsFirstParked (parted_by lists.now self.old) level marked f.waiting) }
+        ensures first { IfSome result (λ f. IsFirstParked (parted_by lists.now self.old) level.number marked f.waiting) }
         ensures slot { IfSome result (λ f. f.slot ≡ slot_of self.old.slots f.waiting) }
-        ensures none { IfNone result (HasNoneParked (parted_by lists.now self.old) level marked) }
+        ensures none { IfNone result (HasNoneParked (parted_by lists.now self.old) level.number marked) }
     {
         let mut best = None;
         let mut left = marked;
@@ -78,16 +78,15 @@ impl Parking {
     fn first_main(
         &mut self,
         lists: &mut WaitingLists,
-        level: usize,
+        level: Level,
         allowed: SmallSet,
     ) -> Option<Found>
         requires parted { IsParted lists.old self.old }
-        requires level { level < 4 }
-        requires none { HasNoneParked (parted_by lists.old self.old) level allowed }
+        requires none { HasNoneParked (parted_by lists.old self.old) level.number allowed }
         ensures changed { IsChanged lists.old self.old lists.new self.new (waits_by lists.old self.old) }
-        ensures first { IfSome result (λ f. IsFirstAllowed (waits_by lists.old self.old) level allowed f.waiting) }
+        ensures first { IfSome result (λ f. IsFirstAllowed (waits_by lists.old self.old) level.number allowed f.waiting) }
         ensures slot { IfSome result (λ f. f.slot ≡ slot_of self.old.slots f.waiting) }
-        ensures none { IfNone result (HasNoneAllowed (waits_by lists.old self.old) level allowed) }
+        ensures none { IfNone result (HasNoneAllowed (waits_by lists.old self.old) level.number allowed) }
     {
         while let Some(waiting) = self.front(lists, level) {
             let flow = waiting.event.flow;
@@ -110,17 +109,16 @@ impl Parking {
     pub(crate) fn first(
         &mut self,
         lists: &mut WaitingLists,
-        level: usize,
+        level: Level,
         allowed: SmallSet,
     ) -> Option<Found>
-        requires parted { IsParted lists.old self.old }
-        requires level { level < 4 }
+        requires { IsParted lists.old self.old }
         ensures changed { IsChanged lists.old self.old lists.new self.new (waits_by lists.old self.old) }
-        ensures first { IfSome result (λ f. IsFirstAllowed (waits_by lists.old self.old) level allowed f.waiting) }
+        ensures first { IfSome result (λ f. IsFirstAllowed (waits_by lists.old self.old) level.number allowed f.waiting) }
         ensures slot { IfSome result (λ f. f.slot ≡ slot_of self.old.slots f.waiting) }
-        ensures none { IfNone result (HasNoneAllowed (waits_by lists.old self.old) level allowed) }
+        ensures none { IfNone result (HasNoneAllowed (waits_by lists.old self.old) level.number allowed) }
     {
-        let marked = self.parked[level].both(allowed);
+        let marked = self.parked[level.number].both(allowed);
         if marked.is_empty() {
             return self.first_main(lists, level, allowed);
         }

@@ -5,6 +5,7 @@
 
 mod chain;
 mod first;
+mod level;
 mod parking;
 mod queues;
 mod slot;
@@ -12,5 +13,6 @@ mod turn;
 mod waiting;
 
 pub use first::Found;
+pub use level::{Level, Levels};
 pub use queues::ParkedQueues;
 pub use waiting::WaitingLists;

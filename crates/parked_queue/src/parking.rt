@@ -5,7 +5,8 @@ ghost use Rattle.parked_queue.specs.Parted.{list_in, own_first, list_of_slot, li
 ghost use Rattle.parked_queue.specs.Parkings.{AreNewParkings, IsChanged, IsNewParking, IsParted, parted_by, waits_by};
 ghost use Rattle.parked_queue.specs.Waits.{AreSlots, HasNoneOf, IsOnlyOf, slot_of, without_number};
 
-use crate::slot::{LEVELS, mask_for, parked_list};
+use crate::level::{LEVELS, Level};
+use crate::slot::{mask_for, parked_list};
 use crate::turn::take_number;
 use crate::waiting::WaitingLists;
 use evt_types::Numbered;
@@ -63,22 +64,20 @@ pub(crate) fn empty_parkings(
 impl Parking {
     /// The first event of the level's own list, where it lies.
     #[inline(always)]
-    pub(crate) fn front<'a>(&self, lists: &'a WaitingLists, level: usize) -> Option<&'a Numbered>
-        requires parted { IsParted lists.now self.now }
-        requires level { level < 4 }
-        ensures { option_copied result ≡ own_first (parted_by lists.now self.now) level }
+    pub(crate) fn front<'a>(&self, lists: &'a WaitingLists, level: Level) -> Option<&'a Numbered>
+        requires { IsParted lists.now self.now }
+        ensures { option_copied result ≡ own_first (parted_by lists.now self.now) level.number }
     {
-        lists.head(self.base + level)
+        lists.head(self.base + level.number)
     }
 
     /// Whether no event of the level waits. It may say no where none does, until the marks of its slots are gone.
     #[inline(always)]
-    pub(crate) fn is_level_empty(&self, lists: &WaitingLists, level: usize) -> bool
-        requires parted { IsParted lists.now self.now }
-        requires level { level < 4 }
-        ensures { IsTrue result → HasNoneOf (waits_by lists.now self.now) level }
+    pub(crate) fn is_level_empty(&self, lists: &WaitingLists, level: Level) -> bool
+        requires { IsParted lists.now self.now }
+        ensures { IsTrue result → HasNoneOf (waits_by lists.now self.now) level.number }
     {
-        self.front(lists, level).is_none() && self.parked[level].is_empty()
+        self.front(lists, level).is_none() && self.parked[level.number].is_empty()
     }
 
     /// The first parked event of the level and the slot. Where there is none, the slot is no longer looked at.
@@ -86,38 +85,36 @@ impl Parking {
     pub(crate) fn parked_front(
         &mut self,
         lists: &WaitingLists,
-        level: usize,
+        level: Level,
         slot: usize,
     ) -> Option<Numbered>
         requires parted { IsParted lists.now self.old }
-        requires level { level < 4 }
         requires slot { slot < self.old.slots }
         ensures changed { IsChanged lists.now self.old lists.now self.new (waits_by lists.now self.old) }
         ensures same { parted_by lists.now self.new ≡ parted_by lists.now self.old }
-        ensures value { result ≡ slice_get (list_in (parted_by lists.now self.old) (list_of_slot slot level)) 0 }
+        ensures value { result ≡ slice_get (list_in (parted_by lists.now self.old) (list_of_slot slot level.number)) 0 }
     {
         let list = self.base + parked_list(level, slot);
         let head = lists.head(list).copied();
         if head.is_none() {
-            self.parked[level].remove(slot);
+            self.parked[level.number].remove(slot);
         }
         head
     }
 
     /// Sets the first event of the level's own list aside, which is of the slot.
     #[cold]
-    pub(crate) fn park(&mut self, lists: &mut WaitingLists, level: usize, slot: usize)
+    pub(crate) fn park(&mut self, lists: &mut WaitingLists, level: Level, slot: usize)
         requires parted { IsParted lists.old self.old }
-        requires level { level < 4 }
-        requires first { is_some (own_first (parted_by lists.old self.old) level) ≡ true }
-        requires slot { IfSome (own_first (parted_by lists.old self.old) level) (λ w. slot ≡ slot_of self.old.slots w) }
+        requires first { is_some (own_first (parted_by lists.old self.old) level.number) ≡ true }
+        requires slot { IfSome (own_first (parted_by lists.old self.old) level.number) (λ w. slot ≡ slot_of self.old.slots w) }
         ensures changed { IsChanged lists.old self.old lists.new self.new (waits_by lists.old self.old) }
-        ensures below { IfSome (own_first (parted_by lists.old self.old) level) (λ w. parted_by lists.new self.new ≡ with_below (parted_by lists.old self.old) level (w.number + 1)) }
+        ensures below { IfSome (own_first (parted_by lists.old self.old) level.number) (λ w. parted_by lists.new self.new ≡ with_below (parted_by lists.old self.old) level.number (w.number + 1)) }
     {
-        if let Some(head) = lists.pop(self.base + level) {
+        if let Some(head) = lists.pop(self.base + level.number) {
             lists.push(self.base + parked_list(level, slot), head);
-            self.below[level] = head.number + 1;
-            self.parked[level].add(slot);
+            self.below[level.number] = head.number + 1;
+            self.parked[level.number].add(slot);
         }
     }
 
@@ -126,17 +123,16 @@ impl Parking {
     pub(crate) fn remove(
         &mut self,
         lists: &mut WaitingLists,
-        level: usize,
+        level: Level,
         slot: usize,
         number: u64,
     )
         requires parted { IsParted lists.old self.old }
-        requires level { level < 4 }
         requires slot { slot < self.old.slots }
-        requires only { IsOnlyOf (waits_by lists.old self.old) level slot number }
+        requires only { IsOnlyOf (waits_by lists.old self.old) level.number slot number }
         ensures { IsChanged lists.old self.old lists.new self.new (without_number (waits_by lists.old self.old) number) }
     {
-        if lists.pop_number(self.base + level, number) {
+        if lists.pop_number(self.base + level.number, number) {
             self.count -= 1;
         } else {
             self.remove_other(lists, level, slot, number);
@@ -145,11 +141,10 @@ impl Parking {
 
     /// The same, where the event isn't the first one of the level's own list.
     #[cold]
-    fn remove_other(&mut self, lists: &mut WaitingLists, level: usize, slot: usize, number: u64)
+    fn remove_other(&mut self, lists: &mut WaitingLists, level: Level, slot: usize, number: u64)
         requires parted { IsParted lists.old self.old }
-        requires level { level < 4 }
         requires slot { slot < self.old.slots }
-        requires only { IsOnlyOf (waits_by lists.old self.old) level slot number }
+        requires only { IsOnlyOf (waits_by lists.old self.old) level.number slot number }
         ensures { IsChanged lists.old self.old lists.new self.new (without_number (waits_by lists.old self.old) number) }
     {
         let list = self.base + list_for(&self.below, level, slot, number);
@@ -160,14 +155,13 @@ impl Parking {
 }
 
 /// The list of the event of this number, which is of the level and the slot.
-fn list_for(below: &[u64; LEVELS], level: usize, slot: usize, number: u64) -> usize
-    requires level { level < 4 }
-    requires slot { slot < 64 }
-    ensures { result ≡ list_of_number below.now level slot number }
+fn list_for(below: &[u64; LEVELS], level: Level, slot: usize, number: u64) -> usize
+    requires { slot < 64 }
+    ensures { result ≡ list_of_number below.now level.number slot number }
 {
-    if number < below[level] {
+    if number < below[level.number] {
         parked_list(level, slot)
     } else {
-        level
+        level.number
     }
 }

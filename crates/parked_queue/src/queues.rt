@@ -2,13 +2,15 @@
 
 ghost use Rattle.std.specs.Prelude.{◌≡◌, ℕ, ◌+◌, ◌<◌, ◌≤◌, ◌^◌, ◌%◌, ◌++◌, length, map, slice_set, vec_len, vec_capacity, IsTrue, IfOk, IfSome, IfNone};
 ghost use Rattle.parked_queue.specs.Busy.{AreBusy};
-ghost use Rattle.parked_queue.specs.Waits.{AreLevels, AreSlots, AreWaits, HasNoneAllowed, IsFirstAllowed, IsOnlyOf, all_empty, all_waiting, slot_of, waits_at, with_event, without_number};
+ghost use Rattle.parked_queue.specs.Waits.{AreSlots, AreWaits, HasNoneAllowed, IsFirstAllowed, IsOnlyOf, all_empty, all_waiting, slot_of, waits_at, with_event, without_number};
+ghost use Rattle.parked_queue.specs.LevelSets.{AreLevels};
 ghost use Rattle.parked_queue.specs.Lists.{delivery_of};
 ghost use Rattle.small_set.specs.SmallSets.{Has};
 
 use crate::first::Found;
+use crate::level::{LEVELS, Level, Levels};
 use crate::parking::{Parking, empty_parkings};
-use crate::slot::{LEVELS, slot_in};
+use crate::slot::slot_in;
 use crate::waiting::WaitingLists;
 use evt_types::{Delivery, Event};
 use small_set::SmallSet;
@@ -25,7 +27,7 @@ pub struct ParkedQueues {
     /// How each queue's events are parted into its own lists.
     queues: Vec<Parking>,
     /// For each queue the levels of which an event waits. One that has become empty leaves when it is next looked at.
-    levels: Vec<SmallSet>,
+    levels: Vec<Levels>,
     /// The queues in which something waits.
     busy: SmallSet,
 }
@@ -52,7 +54,7 @@ impl ParkedQueues {
     {
         let (queues, lists) = empty_parkings(alloc, slots)?;
         let lists = WaitingLists::new(alloc, lists, room)?;
-        let levels = vec![in alloc; SmallSet::none(); slots.len()]?;
+        let levels = vec![in alloc; Levels::none(); slots.len()]?;
         Ok(ParkedQueues {
             lists,
             queues,
@@ -77,14 +79,12 @@ impl ParkedQueues {
         ensures value { self.new ≡ slice_set self.old queue (with_event (waits_at self.old queue) event.now) }
         ensures waits { AreWaits (with_event (waits_at self.old queue) event.now) }
     {
-        // The read makes the field's range known, and so the level's.
-        let _priority = event.priority;
-        let level = event.level();
+        let level = Level::of(event);
         let entered = &mut self.queues[queue];
         let number = entered.next;
         entered.next = number + 1;
         entered.count += 1;
-        let list = entered.base + level;
+        let list = entered.base + level.number;
         if self.lists.push_event(list, number, event) {
             self.levels[queue].add(level);
             self.busy.add(queue);
@@ -100,7 +100,7 @@ impl ParkedQueues {
 
     /// The levels of the queue of which an event waits, and perhaps some that have become empty.
     #[inline(always)]
-    pub fn levels(&self, queue: usize) -> SmallSet
+    pub fn levels(&self, queue: usize) -> Levels
         requires { queue < length self.now }
         ensures { AreLevels (waits_at self.now queue) result }
     {
@@ -120,13 +120,12 @@ impl ParkedQueues {
 
     /// The first event of the queue's level whose slot is allowed. The events before it are set aside, each once.
     #[inline(always)]
-    pub fn first(&mut self, queue: usize, level: usize, allowed: SmallSet) -> Option<Found>
-        requires there { queue < length self.old }
-        requires level { level < 4 }
+    pub fn first(&mut self, queue: usize, level: Level, allowed: SmallSet) -> Option<Found>
+        requires { queue < length self.old }
         ensures same { self.new ≡ self.old }
-        ensures first { IfSome result (λ f. IsFirstAllowed (waits_at self.old queue) level allowed f.waiting) }
+        ensures first { IfSome result (λ f. IsFirstAllowed (waits_at self.old queue) level.number allowed f.waiting) }
         ensures slot { IfSome result (λ f. f.slot ≡ slot_of (waits_at self.old queue).slots f.waiting) }
-        ensures none { IfNone result (HasNoneAllowed (waits_at self.old queue) level allowed) }
+        ensures none { IfNone result (HasNoneAllowed (waits_at self.old queue) level.number allowed) }
         ensures waits { AreWaits (waits_at self.old queue) }
     {
         let asked = &mut self.queues[queue];
@@ -140,18 +139,17 @@ impl ParkedQueues {
     /// The first event of the queue's level whose slot is allowed, where that is quick to see. Where it is not, the answer is `None`
     /// too.
     #[inline(always)]
-    pub fn head(&self, queue: usize, level: usize, allowed: SmallSet) -> Option<Found>
-        requires there { queue < length self.now }
-        requires level { level < 4 }
-        ensures first { IfSome result (λ f. IsFirstAllowed (waits_at self.now queue) level allowed f.waiting) }
+    pub fn head(&self, queue: usize, level: Level, allowed: SmallSet) -> Option<Found>
+        requires { queue < length self.now }
+        ensures first { IfSome result (λ f. IsFirstAllowed (waits_at self.now queue) level.number allowed f.waiting) }
         ensures slot { IfSome result (λ f. f.slot ≡ slot_of (waits_at self.now queue).slots f.waiting) }
         ensures waits { AreWaits (waits_at self.now queue) }
     {
         let asked = &self.queues[queue];
-        if !asked.parked[level].both(allowed).is_empty() {
+        if !asked.parked[level.number].both(allowed).is_empty() {
             return None;
         }
-        let waiting = self.lists.head(asked.base + level)?;
+        let waiting = self.lists.head(asked.base + level.number)?;
         let flow = waiting.event.flow;
         let slot = slot_in(asked.slots, asked.mask, flow);
         if allowed.has(slot) {
@@ -168,36 +166,34 @@ impl ParkedQueues {
     /// A hint: the slots of which events of the queue's level may be set aside. All that is promised is that they are slots of the
     /// queue, and no other call's answer rests on them.
     #[inline(always)]
-    pub fn parked_slots(&self, queue: usize, level: usize) -> SmallSet
-        requires there { queue < length self.now }
-        requires level { level < 4 }
+    pub fn parked_slots(&self, queue: usize, level: Level) -> SmallSet
+        requires { queue < length self.now }
         ensures { (slot : ℕ) → Has result slot → slot < (waits_at self.now queue).slots }
     {
-        self.queues[queue].parked[level]
+        self.queues[queue].parked[level.number]
     }
 
-    /// Whether all events of the queue's level are set aside, and none of them has an allowed slot.
+    /// Whether all events of the queue's level are set aside, and none of them has an allowed slot. It may say no where all of that is
+    /// so: only a yes is promised to be right.
     #[inline(always)]
-    pub fn is_blocked(&self, queue: usize, level: usize, allowed: SmallSet) -> bool
-        requires there { queue < length self.now }
-        requires level { level < 4 }
-        ensures { IsTrue result → HasNoneAllowed (waits_at self.now queue) level allowed }
+    pub fn is_blocked(&self, queue: usize, level: Level, allowed: SmallSet) -> bool
+        requires { queue < length self.now }
+        ensures { IsTrue result → HasNoneAllowed (waits_at self.now queue) level.number allowed }
     {
         let asked = &self.queues[queue];
-        let marks = asked.parked[level];
+        let marks = asked.parked[level.number];
         !marks.is_empty()
             && marks.both(allowed).is_empty()
-            && self.lists.head(asked.base + level).is_none()
+            && self.lists.head(asked.base + level.number).is_none()
     }
 
     /// Takes the event of this number out of the queue, which is of the level and the slot. At the head of its list it goes at once;
     /// else its list is turned once round.
     #[inline(always)]
-    pub fn remove(&mut self, queue: usize, level: usize, slot: usize, number: u64)
+    pub fn remove(&mut self, queue: usize, level: Level, slot: usize, number: u64)
         requires there { queue < length self.old }
-        requires level { level < 4 }
         requires slot { slot < (waits_at self.old queue).slots }
-        requires only { IsOnlyOf (waits_at self.old queue) level slot number }
+        requires only { IsOnlyOf (waits_at self.old queue) level.number slot number }
         ensures value { self.new ≡ slice_set self.old queue (without_number (waits_at self.old queue) number) }
         ensures waits { AreWaits (without_number (waits_at self.old queue) number) }
     {

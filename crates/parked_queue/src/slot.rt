@@ -1,11 +1,10 @@
 //! The slot of a flow, and the list of a slot's parked events.
 
 ghost use Rattle.std.specs.Prelude.{◌≡◌, ◌%◌, ◌<◌, ◌≤◌};
-ghost use Rattle.parked_queue.specs.Marks.{mask_of};
+ghost use Rattle.parked_queue.specs.Marks.{IsMasked, mask_of};
 ghost use Rattle.parked_queue.specs.Parted.{list_of_slot};
 
-/// How many levels a queue has.
-pub(crate) const LEVELS: usize = 4;
+use crate::level::{LEVELS, Level};
 
 /// In place of a mask, and above each, where the slots are no power of two.
 const NO_MASK: usize = 64;
@@ -31,9 +30,7 @@ fn remainder(flow: usize, slots: usize) -> usize
 /// The flow's slot, of so many with this mask. A power of two needs no division.
 #[inline(always)]
 pub(crate) fn slot_in(slots: usize, mask: usize, flow: u32) -> usize
-    requires some { 0 < slots }
-    requires few { slots ≤ 64 }
-    requires mask { mask ≡ mask_of slots }
+    requires { IsMasked slots mask }
     ensures value { result ≡ flow % slots }
     ensures within { result < slots }
 {
@@ -46,10 +43,9 @@ pub(crate) fn slot_in(slots: usize, mask: usize, flow: u32) -> usize
 }
 
 /// The list of the slot's parked events of the level.
-pub(crate) fn parked_list(level: usize, slot: usize) -> usize
-    requires level { level < 4 }
-    requires slot { slot < 64 }
-    ensures { result ≡ list_of_slot slot level }
+pub(crate) fn parked_list(level: Level, slot: usize) -> usize
+    requires { slot < 64 }
+    ensures { result ≡ list_of_slot slot level.number }
 {
-    LEVELS * (slot + 1) + level
+    LEVELS * (slot + 1) + level.number
 }

@@ -114,6 +114,7 @@ impl WaitingLists {
     }
 
     /// Takes the oldest event of the list out.
+    #[inline(always)]
     pub fn pop(&mut self, list: usize) -> Option<Numbered>
         requires { list < length self.old.lists }
         ensures value { result ≡ slice_get (list_at self.old list) 0 }
@@ -129,6 +130,18 @@ impl WaitingLists {
         Some(node.item)
     }
 
+    /// Whether the oldest event of the list has the number.
+    #[inline(always)]
+    fn begins_with(&self, list: usize, number: u64) -> bool
+        requires { list < length self.now.lists }
+        ensures { result ≡ has_number number (slice_get (list_at self.now list) 0) }
+    {
+        match self.head(list) {
+            Some(oldest) => oldest.number == number,
+            None => false,
+        }
+    }
+
     /// Takes the oldest event of the list out, where it has the number: whether it has.
     #[inline(always)]
     pub fn pop_number(&mut self, list: usize, number: u64) -> bool
@@ -137,17 +150,11 @@ impl WaitingLists {
         ensures taken { IsTrue result → self.new ≡ without_first self.old list }
         ensures kept { IsFalse result → self.new ≡ self.old }
     {
-        let chain = self.chains[list];
-        if chain.len == 0 {
-            return false;
+        let found = self.begins_with(list, number);
+        if found {
+            let _ = self.pop(list);
         }
-        let oldest = self.nodes[chain.first];
-        if oldest.item.number != number {
-            return false;
-        }
-        self.free.push_reserved(chain.first);
-        shorten(&mut self.chains[list], oldest.next);
-        true
+        found
     }
 
     /// Appends each of the list's events, oldest first, as a delivery of the queue.

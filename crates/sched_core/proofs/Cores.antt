@@ -9,7 +9,7 @@ use Rattle.transcripts.proofs.ViewLists.{event_in_at, event_in_some}
 use Rattle.lists.proofs.Sums.{sum_of_map}
 use Rattle.evt_types.specs.Fault.{IsWithinLimits}
 use Rattle.evt_types.specs.declared.shape.TheConstants.{MAX_ORDER, MAX_QUEUES}
-use Rattle.evt_types.specs.Plan.{Plan, is_ordered, kept_room, level_of, depth_of, bound_of, lanes_of}
+use Rattle.evt_types.specs.Plan.{Plan, is_ordered, kept_room, depth_of, bound_of, lanes_of}
 use Rattle.transcripts.specs.Standing.{View, event_in, inside_of, entries_of, kept_in, waiting_at, next_at, places_at, unanswered_at, after_accept}
 use Rattle.evt_types.specs.Place.{Place}
 use Rattle.transcripts.specs.Transcript.{Held}
@@ -238,15 +238,7 @@ accept_counts a i old new e v core same fits fewer h is value waits =
 pub waits_here : (a : Inside) (i : ℕ) (old : Waits) (w : Numbered) → i < length a.queues → old ≡ get_or a.queues i old → Contains (waiting_at (view_in a) i) w → Contains old.waiting w
 waits_here a i old w h is waits = subst (λ ws. Contains ws w) (waiting_here a i old h is) waits
 
-pub levels_here : (a : Inside) (i : ℕ) (old : Waits) → IsCore a → i < length a.queues → old ≡ get_or a.queues i old → All (λ (w : Numbered). level_of w.event < 4) (waiting_at (view_in a) i)
-levels_here a i old core h is = subst (All (λ (w : Numbered). level_of w.event < 4)) (sym (waiting_here a i old h is)) (queue_here a i old core h is).waits.levels
-
--- what waits is of one of the four levels, and alone has its number
-pub level_below : (a : Inside) (i : ℕ) (old : Waits) (w : Numbered) → IsCore a → i < length a.queues → old ≡ get_or a.queues i old → Contains (waiting_at (view_in a) i) w → level_of w.event < 4
-level_below a i old w core h is waits =
-    let here : Contains old.waiting w = waits_here a i old w h is waits in
-    subst (λ (u : Numbered). level_of u.event < 4) here.2 ((queue_here a i old core h is).waits.levels here.0 w here.1)
-
+-- what waits alone has its number
 pub only_event : (a : Inside) (i : ℕ) (old : Waits) (w : Numbered) → IsCore a → i < length a.queues → old ≡ get_or a.queues i old → Contains (waiting_at (view_in a) i) w → All (λ (u : Numbered). u.number ≡ w.number → u.event ≡ w.event) old.waiting
 only_event a i old w core h is waits k d lt same =
     let rises = (queue_here a i old core h is).waits.rising in

@@ -14,7 +14,9 @@ use Rattle.parked_queue.specs.Busy.{AreBusy}
 use Rattle.sched_core.specs.Inner.{slots_for}
 use Rattle.sched_core.specs.Offered.{HasNoneAllowedIn, IsFirstIn, slot_at}
 use Rattle.sched_core.specs.View.{view_in, IsCore}
-use Rattle.parked_queue.specs.Waits.{AreLevels, Waits, HasNoneAllowed, IsFirstAllowed, waits_at}
+use Rattle.parked_queue.specs.LevelSets.{AreLevels, members}
+use Rattle.parked_queue.specs.Waits.{Waits, HasNoneAllowed, IsFirstAllowed, waits_at}
+use Rattle.parked_queue.specs.declared.level.Levels.{Levels}
 use Rattle.sched_core.specs.declared.state.Core.TheInside.{Inside}
 use Rattle.transcripts.specs.Choice.{Passed, HasNone}
 use Rattle.transcripts.specs.Standing.{View}
@@ -36,10 +38,10 @@ pub slots_within : (v : View) (q : ℕ) → IsWithinLimits v.shape → q < lengt
 slots_within v q limits h w = slot_below v.shape q w.event.flow limits h
 
 -- nothing can be given of the levels that a queue doesn't name
-pub levels_here : (a : Inside) (v : View) (s : Passed) (q : ℕ) (left : SmallSet) → view_in a ≡ v → AreLevels (waits_at a.queues q) left → HasNoneBeside v s q left
+pub levels_here : (a : Inside) (v : View) (s : Passed) (q : ℕ) (left : Levels) → view_in a ≡ v → AreLevels (waits_at a.queues q) left → HasNoneBeside v s q (members left)
 levels_here a v s q left view levels =
-    subst (λ (u : View). HasNoneBeside u s q left) view
-    (levels_beside (view_in a) s q left (λ c never. subst (All (λ (w : Numbered). level_of w.event ≢ c)) (sym (waiting_there a q)) (levels.rest c never)))
+    subst (λ (u : View). HasNoneBeside u s q (members left)) view
+    (levels_beside (view_in a) s q (members left) (λ c never. subst (All (λ (w : Numbered). level_of w.event ≢ c)) (sym (waiting_there a q)) (levels.rest c never)))
 
 -- nothing can be given of the queues in which nothing waits
 pub busy_none : (a : Inside) (v : View) (s : Passed) (busy : SmallSet) → view_in a ≡ v → AreBusy a.queues busy → (r : ℕ) → (¬ Has busy r) → HasNone v s r

@@ -138,10 +138,6 @@ offer_first v s q c left (Some y) least none offer =
 abbrev pub NothingBeside : View → Passed → SmallSet → Type 0
 NothingBeside v s left = (q : ℕ) → (¬ Has left q) → HasQuota v s q → HasNone v s q
 
--- what is left without a place was left before
-pub still : (n r : ℕ) (left rest : SmallSet) → (¬ Has rest n) → SameBut n left rest → Has rest r → Has left r
-still n r left rest gone others has = ⊎_elim (λ e. absurd (gone (subst (Has rest) e has))) (λ ne. (others r ne).0 has) (cases_eq r n)
-
 -- a queue's offer is the choice where the queues that are served before have none
 choice_is : (v : View) (s : Passed) (q l : ℕ) (w : Numbered) → q < length v.shape.queues → HasQuota v s q → IsOfferOf v s q l w → ((r : ℕ) → HasQuota v s r → IsServedBefore v.shape r q → HasNone v s r) → IsChoice v s l q w
 choice_is v s q l w there quota offer before = record { there = there; quota = quota; waits = offer.waits; fits = offer.fits; lane = offer.best; event = offer.first; queue = λ r _ quota first. before r quota first }

@@ -60,8 +60,6 @@ impl Core {
         ensures stands { (T : List StepValue) → Stands T self.now → Stands (T ++ Step.Bounced lane ∷ []) self.now }
         ensures room { L.room log.old ≤ L.room log.new + 1 }
     {
-        // The use of a field makes known what holds of each core.
-        let _ = &self.shape;
         log.push_step(Step::Bounced { lane });
     }
 }

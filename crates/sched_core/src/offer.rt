@@ -5,7 +5,7 @@ ghost use Rattle.evt_types.specs.Plan.{level_of};
 ghost use Rattle.sched_core.specs.Offered.{numbered_in};
 
 use evt_types::{Delivery, Numbered};
-use parked_queue::Found;
+use parked_queue::{Found, Level};
 
 /// An event that may be given to a lane.
 #[derive(Clone, Copy, Debug, PartialEq, Eq)]
@@ -13,17 +13,17 @@ pub struct Offer {
     pub lane: usize,
     pub delivery: Delivery,
     /// The event's level and its flow, so that the event itself is only copied whole where it is given.
-    pub(crate) level: usize,
+    pub(crate) level: Level,
     pub(crate) flow: u32,
-    ghost level_is: { level ≡ level_of delivery.event },
+    ghost level_is: { level.number ≡ level_of delivery.event },
     ghost flow_is: { flow ≡ delivery.event.flow },
 }
 
 impl Offer {
     /// The event that was found at the level of the queue, for the lane.
     #[inline(always)]
-    pub(crate) fn of(queue: usize, level: usize, lane: usize, found: Found) -> Offer
-        requires { level ≡ level_of found.waiting.event }
+    pub(crate) fn of(queue: usize, level: Level, lane: usize, found: Found) -> Offer
+        requires { level.number ≡ level_of found.waiting.event }
         ensures lane { result.lane ≡ lane }
         ensures queue { result.delivery.queue ≡ queue }
         ensures event { numbered_in result.delivery ≡ found.waiting }

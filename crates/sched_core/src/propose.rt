@@ -14,6 +14,7 @@ ghost use Rattle.sched_core.specs.Service.{IsServedFirst};
 use crate::offer::Offer;
 use crate::skips::Skips;
 use crate::state::Core;
+use parked_queue::Level;
 use small_set::{MAX_MEMBERS, SmallSet};
 
 impl Core {
@@ -65,8 +66,6 @@ impl Core {
         ensures offer { IfSome result (λ o. (o.delivery.queue ≡ queue) × IsOfferOf self.old skips.now queue o.lane (numbered_in o.delivery)) }
         ensures none { IfNone result (HasNone self.old skips.now queue) }
     {
-        // The use of a field makes known what holds of each core.
-        let _ = &self.shape;
         let lanes = self.open_lanes(queue, skips);
         let mut others = self.queues.levels(queue);
         let level = others.pop()?;
@@ -85,14 +84,11 @@ impl Core {
 
     /// The slots of the queue whose events some lane may take, and perhaps others: all, as long as no event of the level is set aside.
     #[inline(always)]
-    fn allowed_at(&self, queue: usize, level: usize, lanes: SmallSet, skips: &Skips) -> SmallSet
+    fn allowed_at(&self, queue: usize, level: Level, lanes: SmallSet, skips: &Skips) -> SmallSet
         requires queue { queue < length self.now.shape.queues }
-        requires level { level < 4 }
         requires lanes { AreOpenLanes self.now skips.now queue lanes }
         ensures { HasAllowed self.now skips.now queue result }
     {
-        // The use of a field makes known what holds of each core.
-        let _ = &self.shape;
         if self.queues.parked_slots(queue, level).is_empty() {
             SmallSet::below(MAX_MEMBERS)
         } else {
@@ -109,8 +105,6 @@ impl Core {
         ensures offer { IfSome result (λ o. (o.delivery.queue ≡ queue) × IsOfferOf self.old skips.now queue o.lane (numbered_in o.delivery)) }
         ensures none { IfNone result (HasNone self.old skips.now queue) }
     {
-        // The use of a field makes known what holds of each core.
-        let _ = &self.shape;
         let mut left = self.queues.levels(queue);
         while let Some(level) = left.pop() {
             let offer = self.offer_in(queue, level, lanes, skips);
@@ -126,19 +120,16 @@ impl Core {
     fn offer_in(
         &mut self,
         queue: usize,
-        level: usize,
+        level: Level,
         lanes: SmallSet,
         skips: &Skips,
     ) -> Option<Offer>
         requires queue { queue < length self.old.shape.queues }
-        requires level { level < 4 }
         requires lanes { AreOpenLanes self.old skips.now queue lanes }
         ensures same { self.new ≡ self.old }
-        ensures offer { IfSome result (λ o. (o.delivery.queue ≡ queue) × IsOfferIn self.old skips.now queue level o.lane (numbered_in o.delivery)) }
-        ensures none { IfNone result (HasNoneIn self.old skips.now queue level) }
+        ensures offer { IfSome result (λ o. (o.delivery.queue ≡ queue) × IsOfferIn self.old skips.now queue level.number o.lane (numbered_in o.delivery)) }
+        ensures none { IfNone result (HasNoneIn self.old skips.now queue level.number) }
     {
-        // The use of a field makes known what holds of each core.
-        let _ = &self.shape;
         let allowed = self.allowed(queue, lanes, skips);
         if self.queues.is_blocked(queue, level, allowed) {
             return None;
@@ -156,16 +147,15 @@ impl Core {
     fn offer_at_head(
         &self,
         queue: usize,
-        level: usize,
+        level: Level,
         lanes: SmallSet,
         allowed: SmallSet,
         skips: &Skips,
     ) -> Option<Offer>
         requires queue { queue < length self.now.shape.queues }
-        requires level { level < 4 }
         requires lanes { AreOpenLanes self.now skips.now queue lanes }
         requires allowed { HasAllowed self.now skips.now queue allowed }
-        ensures { IfSome result (λ o. (o.delivery.queue ≡ queue) × IsOfferIn self.now skips.now queue level o.lane (numbered_in o.delivery)) }
+        ensures { IfSome result (λ o. (o.delivery.queue ≡ queue) × IsOfferIn self.now skips.now queue level.number o.lane (numbered_in o.delivery)) }
     {
         let found = self.queues.head(queue, level, allowed)?;
         let lane = self.lane_for(queue, found.slot, lanes, skips)?;
@@ -178,21 +168,18 @@ impl Core {
     fn offer_behind(
         &mut self,
         queue: usize,
-        level: usize,
+        level: Level,
         lanes: SmallSet,
         allowed: SmallSet,
         skips: &Skips,
     ) -> Option<Offer>
         requires queue { queue < length self.old.shape.queues }
-        requires level { level < 4 }
         requires lanes { AreOpenLanes self.old skips.now queue lanes }
         requires allowed { HasAllowed self.old skips.now queue allowed }
         ensures same { self.new ≡ self.old }
-        ensures offer { IfSome result (λ o. (o.delivery.queue ≡ queue) × IsOfferIn self.old skips.now queue level o.lane (numbered_in o.delivery)) }
-        ensures none { IfNone result (HasNoneIn self.old skips.now queue level) }
+        ensures offer { IfSome result (λ o. (o.delivery.queue ≡ queue) × IsOfferIn self.old skips.now queue level.number o.lane (numbered_in o.delivery)) }
+        ensures none { IfNone result (HasNoneIn self.old skips.now queue level.number) }
     {
-        // The use of a field makes known what holds of each core.
-        let _ = &self.shape;
         let mut left = allowed;
         while let Some(found) = self.queues.first(queue, level, left) {
             if let Some(lane) = self.lane_for(queue, found.slot, lanes, skips) {

@@ -32,6 +32,7 @@ impl Core {
     /// that the lane has, as one of few, and there is room for it; or a NEW of a port's own lane and, unless the core is shut, there is
     /// room for it; and the queue that it names is there. Whether or not, its steps would be two at most beside the kept events that it
     /// lets go.
+    #[inline(always)]
     pub fn takes(&self, lane: usize, reply: &Reply) -> bool
         requires lane { lane < lanes_of self.now.shape }
         ensures value { result ≡ may_take self.now lane reply.now.event }

@@ -6,7 +6,7 @@ use Rattle.small_set.specs.SmallSets.{Has}
 use Rattle.parked_queue.specs.Parkings.{parted_by}
 use Rattle.parked_queue.specs.Parted.{HasNoneParked, Parted, list_in, own_first, with_below}
 use Rattle.parked_queue.specs.Waits.{HasNoneAllowed, IsFirstAllowed, slot_of}
-use Rattle.parked_queue.proofs.Calls.{changed_then, unchanged}
+use Rattle.parked_queue.proofs.Calls.{changed_then, masked_slots, unchanged}
 use Rattle.parked_queue.proofs.Firsts.{fewer_left, main_first, none_left, still_none}
 use Rattle.parked_queue.proofs.Options.{if_some, of_some}
 use Rattle.parked_queue.proofs.parking.Parking.first_main.Goals as goal
@@ -15,21 +15,12 @@ pub loop-waiting-init : goal.loop-waiting-init
 loop-waiting-init c =
     record { changed = unchanged c.args.lists.now c.args.self.now c.requires.parted; none = c.requires.none }
 
-pub front-requires-clause-parted : goal.front-requires-clause-parted
-front-requires-clause-parted c =
+pub front-requires : goal.front-requires
+front-requires c =
     c.loop-waiting.invariant.changed.part
 
-pub slot_in-slot-requires-clause-some : goal.slot_in-slot-requires-clause-some
-slot_in-slot-requires-clause-some c =
-    c.loop-waiting.invariant.changed.part.parking.waits.some
-
-pub slot_in-slot-requires-clause-few : goal.slot_in-slot-requires-clause-few
-slot_in-slot-requires-clause-few c =
-    c.loop-waiting.invariant.changed.part.parking.waits.few
-
-pub slot_in-slot-requires-clause-mask : goal.slot_in-slot-requires-clause-mask
-slot_in-slot-requires-clause-mask c =
-    c.loop-waiting.invariant.changed.part.parking.mask
+pub slot_in-slot-requires : goal.slot_in-slot-requires
+slot_in-slot-requires c = masked_slots c.loop-waiting.lists c.loop-waiting.self c.loop-waiting.invariant.changed.part
 
 pub has-requires : goal.has-requires
 has-requires c =
@@ -43,8 +34,8 @@ returns-then-has-clause-changed c =
 pub returns-then-has-clause-first : goal.returns-then-has-clause-first
 returns-then-has-clause-first c =
     let v : Parted = parted_by c.loop-waiting.lists c.loop-waiting.self in
-    subst (λ q. IsFirstAllowed q c.args.level c.args.allowed c.in-Some.waiting.now) c.loop-waiting.invariant.changed.waits
-    (main_first v c.args.level c.args.allowed c.loop-waiting.invariant.changed.part.parking.waits c.requires.level c.loop-waiting.invariant.none c.in-Some.waiting.now (sym c.in-Some.ensures) (subst (Has c.args.allowed) c.slot_in-slot.ensures.value (c.has.ensures.0 c.if-has.true)))
+    subst (λ q. IsFirstAllowed q c.args.level.number c.args.allowed c.in-Some.waiting.now) c.loop-waiting.invariant.changed.waits
+    (main_first v c.args.level.number c.args.allowed c.loop-waiting.invariant.changed.part.parking.waits c.args.level.few c.loop-waiting.invariant.none c.in-Some.waiting.now (sym c.in-Some.ensures) (subst (Has c.args.allowed) c.slot_in-slot.ensures.value (c.has.ensures.0 c.if-has.true)))
 
 pub returns-then-has-clause-slot : goal.returns-then-has-clause-slot
 returns-then-has-clause-slot c =
@@ -61,25 +52,25 @@ park-requires-clause-first c =
 pub park-requires-clause-slot : goal.park-requires-clause-slot
 park-requires-clause-slot c =
     let v : Parted = parted_by c.loop-waiting.lists c.loop-waiting.self in
-    if_some (own_first v c.args.level) c.in-Some.waiting.now (λ (w : Numbered). c.slot_in-slot.result ≡ slot_of c.loop-waiting.self.slots w) (sym c.in-Some.ensures) c.slot_in-slot.ensures.value
+    if_some (own_first v c.args.level.number) c.in-Some.waiting.now (λ (w : Numbered). c.slot_in-slot.result ≡ slot_of c.loop-waiting.self.slots w) (sym c.in-Some.ensures) c.slot_in-slot.ensures.value
 
 pub loop-waiting-smaller : goal.loop-waiting-smaller
 loop-waiting-smaller c =
     let v : Parted = parted_by c.loop-waiting.lists c.loop-waiting.self in
     let parked =
-    of_some (own_first v c.args.level) c.in-Some.waiting.now (λ (w : Numbered). parted_by c.park.new.lists c.park.new.self ≡ with_below v c.args.level (w.number + 1)) (sym c.in-Some.ensures) c.park.ensures.below in
-    subst (λ u. length (list_in u c.args.level) < length (list_in v c.args.level)) (sym parked) (fewer_left v c.args.level c.args.allowed c.loop-waiting.invariant.changed.part.parking.waits c.requires.level c.loop-waiting.invariant.none c.in-Some.waiting.now (sym c.in-Some.ensures) c.loop-waiting.invariant.changed.part.parking.four)
+    of_some (own_first v c.args.level.number) c.in-Some.waiting.now (λ (w : Numbered). parted_by c.park.new.lists c.park.new.self ≡ with_below v c.args.level.number (w.number + 1)) (sym c.in-Some.ensures) c.park.ensures.below in
+    subst (λ u. length (list_in u c.args.level.number) < length (list_in v c.args.level.number)) (sym parked) (fewer_left v c.args.level.number c.args.allowed c.loop-waiting.invariant.changed.part.parking.waits c.args.level.few c.loop-waiting.invariant.none c.in-Some.waiting.now (sym c.in-Some.ensures) c.loop-waiting.invariant.changed.part.parking.four)
 
 pub loop-waiting-preserved : goal.loop-waiting-preserved
 loop-waiting-preserved c =
     let v : Parted = parted_by c.loop-waiting.lists c.loop-waiting.self in
     let parked =
-    of_some (own_first v c.args.level) c.in-Some.waiting.now (λ (w : Numbered). parted_by c.park.new.lists c.park.new.self ≡ with_below v c.args.level (w.number + 1)) (sym c.in-Some.ensures) c.park.ensures.below in
+    of_some (own_first v c.args.level.number) c.in-Some.waiting.now (λ (w : Numbered). parted_by c.park.new.lists c.park.new.self ≡ with_below v c.args.level.number (w.number + 1)) (sym c.in-Some.ensures) c.park.ensures.below in
     record {
       changed = changed_then c.args.lists.now c.loop-waiting.lists c.park.new.lists c.args.self.now c.loop-waiting.self c.park.new.self c.loop-waiting.invariant.changed c.park.ensures.changed;
       none =
-          subst (λ u. HasNoneParked u c.args.level c.args.allowed) (sym parked)
-          (still_none v c.args.level c.args.allowed c.loop-waiting.invariant.changed.part.parking.waits c.requires.level c.loop-waiting.invariant.none c.in-Some.waiting.now (sym c.in-Some.ensures) c.loop-waiting.invariant.changed.part.parking.four
+          subst (λ u. HasNoneParked u c.args.level.number c.args.allowed) (sym parked)
+          (still_none v c.args.level.number c.args.allowed c.loop-waiting.invariant.changed.part.parking.waits c.args.level.few c.loop-waiting.invariant.none c.in-Some.waiting.now (sym c.in-Some.ensures) c.loop-waiting.invariant.changed.part.parking.four
           (λ may. false≢true (sym c.if-has.false ∙ c.has.ensures.1 (subst (Has c.args.allowed) (sym c.slot_in-slot.ensures.value) may))));
     }
 
@@ -90,4 +81,4 @@ returns-clause-changed c =
 pub returns-clause-none : goal.returns-clause-none
 returns-clause-none c =
     let v : Parted = parted_by c.loop-waiting.lists c.loop-waiting.self in
-    subst (λ q. HasNoneAllowed q c.args.level c.args.allowed) c.loop-waiting.invariant.changed.waits (none_left v c.args.level c.args.allowed c.loop-waiting.invariant.changed.part.parking.waits c.requires.level c.loop-waiting.invariant.none (sym c.in_default.ensures))
+    subst (λ q. HasNoneAllowed q c.args.level.number c.args.allowed) c.loop-waiting.invariant.changed.waits (none_left v c.args.level.number c.args.allowed c.loop-waiting.invariant.changed.part.parking.waits c.args.level.few c.loop-waiting.invariant.none (sym c.in_default.ensures))

@@ -10,8 +10,8 @@ invariant-loop-slot l =
       changed : IsChanged l.lists l.fn.self l.lists l.self (waits_by l.lists l.fn.self);
       same : parted_by l.lists l.self ≡ parted_by l.lists l.fn.self;
       there : (k : ℕ) → Has l.left k → Has l.fn.marked k × (k < l.fn.self.slots);
-      one : IfSome l.best (IsParkedAllowed (parted_by l.lists l.fn.self) l.level l.fn.marked);
-      best : IsBest (parted_by l.lists l.fn.self) l.level l.fn.marked l.left l.best;
+      one : IfSome l.best (IsParkedAllowed (parted_by l.lists l.fn.self) l.level.number l.fn.marked);
+      best : IsBest (parted_by l.lists l.fn.self) l.level.number l.fn.marked l.left l.best;
     }
 
 abbrev pub decreases-loop-slot : goal.decreases-loop-slot

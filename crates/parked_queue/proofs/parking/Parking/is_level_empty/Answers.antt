@@ -9,5 +9,5 @@ use Rattle.parked_queue.proofs.parking.Parking.is_level_empty.Goals as goal
 
 pub returns-then-is_none : goal.returns-then-is_none
 returns-then-is_none c e =
-    none_of_level (parted_by c.args.lists.now c.args.self.now) c.args.level (marks_at c.args.self.now.parked c.args.level) (marks_are c.args.lists.now c.args.self.now c.requires.parted c.args.level) (c.is_empty.ensures.0 e)
+    none_of_level (parted_by c.args.lists.now c.args.self.now) c.args.level.number (marks_at c.args.self.now.parked c.args.level.number) (marks_are c.args.lists.now c.args.self.now c.requires c.args.level.number) (c.is_empty.ensures.0 e)
     (sym c.front.ensures ∙ ap option_copied (none_is c.front.result (c.is_none.ensures ∙ ap not c.if-is_none.true)))

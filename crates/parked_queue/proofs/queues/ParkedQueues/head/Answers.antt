@@ -2,65 +2,45 @@ use Rattle.std.proofs.Common.{◌≤◌, ◌%◌, ◌∙◌, Some, ap, arith, re
 use Rattle.small_set.specs.SmallSets.{Has}
 use Rattle.parked_queue.specs.Marks.{marks_at}
 use Rattle.parked_queue.specs.Parkings.{parted_by}
-use Rattle.parked_queue.specs.Waits.{AreWaits, IsFirstAllowed, Waits}
-use Rattle.parked_queue.proofs.Calls.{first_is, level_list, marks_are}
+use Rattle.parked_queue.specs.Waits.{IsFirstAllowed, Waits}
+use Rattle.parked_queue.proofs.Calls.{first_is, level_list, marks_are, masked_slots}
 use Rattle.parked_queue.proofs.Firsts.{main_first}
 use Rattle.parked_queue.proofs.Parkings.{asked}
 use Rattle.parked_queue.proofs.Slots.{none_marked}
 use Rattle.parked_queue.proofs.queues.ParkedQueues.head.Goals as goal
 
-pub slot_in-slot-requires-clause-some : goal.slot_in-slot-requires-clause-some
-slot_in-slot-requires-clause-some c =
-    let a = asked c.self.inside.lists c.self.inside.queues.items c.args.self.now c.args.queue c.self.invariant.parkings c.self.view_is c.requires.there c.index-asked.result.now c.index-asked.ensures in
-    a.part.parking.waits.some
-
-pub slot_in-slot-requires-clause-few : goal.slot_in-slot-requires-clause-few
-slot_in-slot-requires-clause-few c =
-    let a = asked c.self.inside.lists c.self.inside.queues.items c.args.self.now c.args.queue c.self.invariant.parkings c.self.view_is c.requires.there c.index-asked.result.now c.index-asked.ensures in
-    a.part.parking.waits.few
-
-pub slot_in-slot-requires-clause-mask : goal.slot_in-slot-requires-clause-mask
-slot_in-slot-requires-clause-mask c =
-    let a = asked c.self.inside.lists c.self.inside.queues.items c.args.self.now c.args.queue c.self.invariant.parkings c.self.view_is c.requires.there c.index-asked.result.now c.index-asked.ensures in
-    a.part.parking.mask
+pub slot_in-slot-requires : goal.slot_in-slot-requires
+slot_in-slot-requires c = masked_slots c.self.inside.lists c.index-asked.result.now (asked c.self.inside.lists c.self.inside.queues.items c.args.self.now c.args.queue c.self.invariant.parkings c.self.view_is c.requires c.index-asked.result.now c.index-asked.ensures).part
 
 pub has-requires : goal.has-requires
 has-requires c =
-    let a = asked c.self.inside.lists c.self.inside.queues.items c.args.self.now c.args.queue c.self.invariant.parkings c.self.view_is c.requires.there c.index-asked.result.now c.index-asked.ensures in
+    let a = asked c.self.inside.lists c.self.inside.queues.items c.args.self.now c.args.queue c.self.invariant.parkings c.self.view_is c.requires c.index-asked.result.now c.index-asked.ensures in
     let few : c.index-asked.result.now.slots ≤ 64 = a.part.parking.waits.few in
     omega (arith, c.slot_in-slot.ensures.within)
 
 pub returns-then-has-clause-first : goal.returns-then-has-clause-first
 returns-then-has-clause-first c =
-    let a = asked c.self.inside.lists c.self.inside.queues.items c.args.self.now c.args.queue c.self.invariant.parkings c.self.view_is c.requires.there c.index-asked.result.now c.index-asked.ensures in
+    let a = asked c.self.inside.lists c.self.inside.queues.items c.args.self.now c.args.queue c.self.invariant.parkings c.self.view_is c.requires c.index-asked.result.now c.index-asked.ensures in
     let v = parted_by c.self.inside.lists c.index-asked.result.now in
-    let none = none_marked v c.args.level (marks_at c.index-asked.result.now.parked c.args.level) c.args.allowed c.both.result (marks_are c.self.inside.lists c.index-asked.result.now a.part c.args.level) c.both.ensures (c.if-not-is_empty.ensures.0 refl) in
-    subst (λ w. IsFirstAllowed w c.args.level c.args.allowed c.in_ok-waiting.waiting.now) a.waits
-    (main_first v c.args.level c.args.allowed a.part.parking.waits c.requires.level none c.in_ok-waiting.waiting.now
-    (sym (first_is c.self.inside.lists c.index-asked.result.now a.part c.args.level c.args.level (level_list c.self.inside.lists c.index-asked.result.now a.part c.args.level c.requires.level) refl (Some c.in_ok-waiting.waiting.now) c.in_ok-waiting.ensures))
+    let none = none_marked v c.args.level.number (marks_at c.index-asked.result.now.parked c.args.level.number) c.args.allowed c.both.result (marks_are c.self.inside.lists c.index-asked.result.now a.part c.args.level.number) c.both.ensures (c.if-not-is_empty.ensures.0 refl) in
+    subst (λ w. IsFirstAllowed w c.args.level.number c.args.allowed c.in_ok-waiting.waiting.now) a.waits
+    (main_first v c.args.level.number c.args.allowed a.part.parking.waits c.args.level.few none c.in_ok-waiting.waiting.now
+    (sym (first_is c.self.inside.lists c.index-asked.result.now a.part c.args.level.number c.args.level.number (level_list c.self.inside.lists c.index-asked.result.now a.part c.args.level.number c.args.level.few) refl (Some c.in_ok-waiting.waiting.now) c.in_ok-waiting.ensures))
     (subst (Has c.args.allowed) c.slot_in-slot.ensures.value (c.has.ensures.0 c.if-has.true)))
 
 pub returns-then-has-clause-slot : goal.returns-then-has-clause-slot
 returns-then-has-clause-slot c =
-    let a = asked c.self.inside.lists c.self.inside.queues.items c.args.self.now c.args.queue c.self.invariant.parkings c.self.view_is c.requires.there c.index-asked.result.now c.index-asked.ensures in
+    let a = asked c.self.inside.lists c.self.inside.queues.items c.args.self.now c.args.queue c.self.invariant.parkings c.self.view_is c.requires c.index-asked.result.now c.index-asked.ensures in
     c.slot_in-slot.ensures.value ∙ ap (λ (w : Waits). c.in_ok-waiting.waiting.now.event.flow % w.slots) a.waits
 
 pub returns-then-has-clause-waits : goal.returns-then-has-clause-waits
-returns-then-has-clause-waits c =
-    let a = asked c.self.inside.lists c.self.inside.queues.items c.args.self.now c.args.queue c.self.invariant.parkings c.self.view_is c.requires.there c.index-asked.result.now c.index-asked.ensures in
-    subst AreWaits a.waits a.part.parking.waits
+returns-then-has-clause-waits c = (asked c.self.inside.lists c.self.inside.queues.items c.args.self.now c.args.queue c.self.invariant.parkings c.self.view_is c.requires c.index-asked.result.now c.index-asked.ensures).sound
 
 pub returns-else-has-clause-waits : goal.returns-else-has-clause-waits
-returns-else-has-clause-waits c =
-    let a = asked c.self.inside.lists c.self.inside.queues.items c.args.self.now c.args.queue c.self.invariant.parkings c.self.view_is c.requires.there c.index-asked.result.now c.index-asked.ensures in
-    subst AreWaits a.waits a.part.parking.waits
+returns-else-has-clause-waits c = (asked c.self.inside.lists c.self.inside.queues.items c.args.self.now c.args.queue c.self.invariant.parkings c.self.view_is c.requires c.index-asked.result.now c.index-asked.ensures).sound
 
 pub returns-in_err-waiting-clause-waits : goal.returns-in_err-waiting-clause-waits
-returns-in_err-waiting-clause-waits c =
-    let a = asked c.self.inside.lists c.self.inside.queues.items c.args.self.now c.args.queue c.self.invariant.parkings c.self.view_is c.requires.there c.index-asked.result.now c.index-asked.ensures in
-    subst AreWaits a.waits a.part.parking.waits
+returns-in_err-waiting-clause-waits c = (asked c.self.inside.lists c.self.inside.queues.items c.args.self.now c.args.queue c.self.invariant.parkings c.self.view_is c.requires c.index-asked.result.now c.index-asked.ensures).sound
 
 pub returns-then-not-is_empty-clause-waits : goal.returns-then-not-is_empty-clause-waits
-returns-then-not-is_empty-clause-waits c =
-    let a = asked c.self.inside.lists c.self.inside.queues.items c.args.self.now c.args.queue c.self.invariant.parkings c.self.view_is c.requires.there c.index-asked.result.now c.index-asked.ensures in
-    subst AreWaits a.waits a.part.parking.waits
+returns-then-not-is_empty-clause-waits c = (asked c.self.inside.lists c.self.inside.queues.items c.args.self.now c.args.queue c.self.invariant.parkings c.self.view_is c.requires c.index-asked.result.now c.index-asked.ensures).sound

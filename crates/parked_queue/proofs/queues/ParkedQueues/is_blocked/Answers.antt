@@ -14,14 +14,14 @@ use Rattle.parked_queue.proofs.queues.ParkedQueues.is_blocked.Goals.{then-not-is
 
 pub returns-then-is_empty : goal.returns-then-is_empty
 returns-then-is_empty c e =
-    let a = asked c.self.inside.lists c.self.inside.queues.items c.args.self.now c.args.queue c.self.invariant.parkings c.self.view_is c.requires.there c.index-asked.result.now c.index-asked.ensures in
+    let a = asked c.self.inside.lists c.self.inside.queues.items c.args.self.now c.args.queue c.self.invariant.parkings c.self.view_is c.requires c.index-asked.result.now c.index-asked.ensures in
     let v = parted_by c.self.inside.lists c.index-asked.result.now in
-    let marks = marks_at c.index-asked.result.now.parked c.args.level in
+    let marks = marks_at c.index-asked.result.now.parked c.args.level.number in
     elim c.if-not-is_empty.branch [
       | then-not-is_empty w ↦
-          subst (λ u. HasNoneAllowed u c.args.level c.args.allowed) a.waits
-          (none_left v c.args.level c.args.allowed a.part.parking.waits c.requires.level
-          (none_marked v c.args.level marks c.args.allowed w.both.result (marks_are c.self.inside.lists c.index-asked.result.now a.part c.args.level) w.both.ensures (w.is_empty-then-not-is_empty.ensures.0 (sym w.value-is ∙ c.if-is_empty.true)))
-          (sym (first_is c.self.inside.lists c.index-asked.result.now a.part c.args.level c.args.level (level_list c.self.inside.lists c.index-asked.result.now a.part c.args.level c.requires.level) refl (option_copied c.head.result) c.head.ensures) ∙ ap option_copied (none_is c.head.result (c.is_none.ensures ∙ ap not e))))
+          subst (λ u. HasNoneAllowed u c.args.level.number c.args.allowed) a.waits
+          (none_left v c.args.level.number c.args.allowed a.part.parking.waits c.args.level.few
+          (none_marked v c.args.level.number marks c.args.allowed w.both.result (marks_are c.self.inside.lists c.index-asked.result.now a.part c.args.level.number) w.both.ensures (w.is_empty-then-not-is_empty.ensures.0 (sym w.value-is ∙ c.if-is_empty.true)))
+          (sym (first_is c.self.inside.lists c.index-asked.result.now a.part c.args.level.number c.args.level.number (level_list c.self.inside.lists c.index-asked.result.now a.part c.args.level.number c.args.level.few) refl (option_copied c.head.result) c.head.ensures) ∙ ap option_copied (none_is c.head.result (c.is_none.ensures ∙ ap not e))))
       | else-not-is_empty w ↦ absurd (false≢true (ap not (sym w.if-not-is_empty.false) ∙ (sym w.value-is ∙ c.if-is_empty.true)))
     ]

@@ -1,10 +1,10 @@
 use Rattle.std.proofs.Common.{◌∙◌, ap, arith, subst, sym}
 use Rattle.parked_queue.specs.Busy.{AreNoted, AreQueues}
-use Rattle.parked_queue.specs.Levels.{HaveLevels}
+use Rattle.parked_queue.specs.LevelSets.{HaveLevels}
 use Rattle.parked_queue.specs.Parkings.{all_waits}
 use Rattle.parked_queue.specs.Waits.{all_empty}
 use Rattle.parked_queue.proofs.Busy.{busy_new}
-use Rattle.parked_queue.proofs.Levels.{levels_new}
+use Rattle.parked_queue.proofs.LevelSets.{levels_new}
 use Rattle.parked_queue.proofs.News.{parkings_new, waits_new}
 use Rattle.parked_queue.proofs.queues.ParkedQueues.new.Goals as goal
 

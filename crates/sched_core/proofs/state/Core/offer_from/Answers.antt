@@ -2,6 +2,7 @@ use Rattle.std.proofs.Common.{subst}
 use Rattle.evt_types.specs.Fault.{IsWithinLimits}
 use Rattle.transcripts.specs.Choice.{HasNone}
 use Rattle.transcripts.specs.Standing.{View}
+use Rattle.parked_queue.specs.LevelSets.{members}
 use Rattle.sched_core.proofs.FirstOnes.{found_none, levels_here, slots_within}
 use Rattle.sched_core.proofs.Offers.{level_more, none_beside, none_either, none_in, offer_first}
 use Rattle.sched_core.proofs.state.Core.offer_from.Goals as goal
@@ -9,12 +10,12 @@ use Rattle.sched_core.proofs.state.Core.offer_from.Goals as goal
 pub returns-in_err-level-clause-none : goal.returns-in_err-level-clause-none
 returns-in_err-level-clause-none c =
     none_either c.from_residual.result (HasNone c.args.self.now c.args.skips.now c.args.queue)
-    (none_beside c.args.self.now c.args.skips.now c.args.queue c.levels-others.result c.in_err-level.ensures.none
+    (none_beside c.args.self.now c.args.skips.now c.args.queue (members c.levels-others.result) c.in_err-level.ensures.none
     (levels_here c.self.inside c.args.self.now c.args.skips.now c.args.queue c.levels-others.result c.self.view_is c.levels-others.ensures))
 
 pub returns-then-is_some-clause-offer : goal.returns-then-is_some-clause-offer
 returns-then-is_some-clause-offer c =
-    offer_first c.args.self.now c.args.skips.now c.args.queue c.in_ok-level.level c.levels-others.result c.offer_at_head-offer.result c.in_ok-level.ensures.first
+    offer_first c.args.self.now c.args.skips.now c.args.queue c.in_ok-level.level.number (members c.levels-others.result) c.offer_at_head-offer.result c.in_ok-level.ensures.first
     (levels_here c.self.inside c.args.self.now c.args.skips.now c.args.queue c.levels-others.result c.self.view_is c.levels-others.ensures) c.offer_at_head-offer.ensures
 
 pub returns-then-is_blocked-clause-none : goal.returns-then-is_blocked-clause-none
@@ -22,11 +23,11 @@ returns-then-is_blocked-clause-none c =
     let v : View = c.args.self.now in
     let s = c.args.skips.now in
     let q = c.args.queue in
-    let level = c.in_ok-level.level in
+    let level = c.in_ok-level.level.number in
     let allowed = c.allowed_at-allowed.result in
     let limits : IsWithinLimits v.shape = subst (λ (u : View). IsWithinLimits u.shape) c.self.view_is c.self.invariant.limits in
-    none_beside v s q c.pop.new.self (c.is_empty.ensures.0 c.if-is_empty.true)
-    (level_more v s q level c.levels-others.result c.pop.new.self c.in_ok-level.ensures.others
+    none_beside v s q (members c.pop.new.self) (c.is_empty.ensures.0 c.if-is_empty.true)
+    (level_more v s q level (members c.levels-others.result) (members c.pop.new.self) c.in_ok-level.ensures.others
     (none_in v s q level allowed c.allowed_at-allowed.ensures (slots_within v q limits c.requires)
     (found_none c.self.inside v q c.self.invariant c.self.view_is c.requires level allowed (c.is_blocked.ensures c.if-is_blocked.true)))
     (levels_here c.self.inside v s q c.levels-others.result c.self.view_is c.levels-others.ensures))

@@ -10,8 +10,8 @@ pub returns-then-is_blocked-clause-none : goal.returns-then-is_blocked-clause-no
 returns-then-is_blocked-clause-none c =
     let v : View = c.args.self.now in
     let limits : IsWithinLimits v.shape = subst (λ (u : View). IsWithinLimits u.shape) c.self.view_is c.self.invariant.limits in
-    none_in v c.args.skips.now c.args.queue c.args.level c.allowed-allowed.result c.allowed-allowed.ensures (slots_within v c.args.queue limits c.requires.queue)
-    (found_none c.self.inside v c.args.queue c.self.invariant c.self.view_is c.requires.queue c.args.level c.allowed-allowed.result (c.is_blocked.ensures c.if-is_blocked.true))
+    none_in v c.args.skips.now c.args.queue c.args.level.number c.allowed-allowed.result c.allowed-allowed.ensures (slots_within v c.args.queue limits c.requires.queue)
+    (found_none c.self.inside v c.args.queue c.self.invariant c.self.view_is c.requires.queue c.args.level.number c.allowed-allowed.result (c.is_blocked.ensures c.if-is_blocked.true))
 
 pub returns-then-is_some-clause-none : goal.returns-then-is_some-clause-none
-returns-then-is_some-clause-none c = some_here c.offer_at_head-offer.result (HasNoneIn c.args.self.now c.args.skips.now c.args.queue c.args.level) (sym c.is_some.ensures ∙ c.if-is_some.true)
+returns-then-is_some-clause-none c = some_here c.offer_at_head-offer.result (HasNoneIn c.args.self.now c.args.skips.now c.args.queue c.args.level.number) (sym c.is_some.ensures ∙ c.if-is_some.true)

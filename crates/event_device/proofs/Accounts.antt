@@ -24,6 +24,7 @@ use Rattle.lane_rings.specs.Ends.{answered, held_list, unanswered}
 use Rattle.lane_rings.specs.declared.far.Far.{Far}
 use Rattle.lane_rings.specs.declared.near.Near.{Near}
 use Rattle.lists.proofs.Sums.{sum_agree, sum_of_map}
+use Rattle.event_device.specs.Apart.{AreEndsOf}
 use Rattle.event_device.specs.Between.{rest_at}
 use Rattle.event_device.specs.Listed.{kept_all, waiting_all}
 use Rattle.transcripts.proofs.ByLane.{sum_plus}
@@ -39,14 +40,6 @@ use Rattle.event_device.proofs.LaneSums.{lane_sum}
 use Rattle.event_device.proofs.Pockets.{pocket_lacks, pockets_lack}
 
 -- ---- what is known
-
--- What the lanes' ends have is what the ports submitted and hold: the ports' own ends by port, the flow lanes' ends in all.
-pub record AreEndsOf (owns ends : List Far) (sorted : List Port) : Type 0 where
-  pub answered_is : map answered owns ≡ map (λ q. (hand q).said Own) sorted
-  pub held : map held_list owns ≡ map (λ q. map pair_in (held_of Own (hand q).holding)) sorted
-  pub holding : sum_by (λ q. length (hand q).holding) sorted ≡ sum_by (λ q. length (held_of Own (hand q).holding)) sorted + sum_by (λ far. length (unanswered far)) ends
-  pub flows : (P : Reply → Bool) → sum_by (λ far. count_by P (answered far)) ends ≡ sum_by (flows_in P (length ends)) sorted
-  pub counts : All (λ q. flow_count (own_site q).lanes ≡ length ends) sorted
 
 -- The ports and the scheduler paid for what they had, and the rest is in their pockets; what was drawn and not returned is no longer
 -- free.

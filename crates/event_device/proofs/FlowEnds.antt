@@ -29,6 +29,8 @@ use Rattle.event_ports.specs.Stop.{AreEnds, AreLinkedBy, IsCounted, IsJoined, Is
 use Rattle.event_ports.specs.declared.rest.Rest as left
 use Rattle.event_ports.specs.declared.lane.Lane.TheVariants.{Own}
 use Rattle.event_ports.specs.declared.port.Port.{Port}
+use Rattle.flow_claims.specs.declared.seating.Past.{Past}
+use Rattle.event_device.specs.Apart.{IsFlowEnd, own_end}
 use Rattle.event_device.specs.Between.{rest_at, rest_between}
 use Rattle.event_device.specs.Stop.{AreStints}
 use Rattle.event_device.proofs.Found.{flow_end, past_own, rest_is}
@@ -51,40 +53,15 @@ module _ (pool : Credits) (claims : Claims) (credit : CreditSeat) (claim : Claim
   are_ends : (far : Far) → AreEnds (lanes_of claims) (seating claims_after).finished (length (lanes_of claims)) (λ j. get_or ends j far)
   are_ends far j lt = ended j (get_or ends j far) (slice_get-get_or ends j far (omega (arith, lt, as_many)))
 
-  -- no NEW came on a flow lane
-  pub no_new_past : (fars : List Far) (rests : List left.Rest) (n l : ℕ) (far : Far) → fars ≡ map (λ (r : left.Rest). r.own) rests ++ ends → length rests ≡ n → n ≤ l → slice_get fars l ≡ Some far → count_by is_new_reply (answered far) ≡ 0
-  no_new_past fars rests n l far are count past at =
-      let there : slice_get ends (l - n) ≡ Some far = past_own fars ends rests n l far are count past at in
-      let low : l - n < length (lanes_of claims) = omega (arith, slice_get_within ends (l - n) far there, as_many) in
-      ap (λ (x : Far). count_by is_new_reply (answered x)) (sym (get_or_from_slice_get ends (l - n) far far there))
-      ∙ at_stop.no_new pool claims credit claim sorted credits_after claims_after (λ j. get_or ends j far) is fresh (are_ends far) (l - n) low
-
-  -- each flow lane's lists are those of its stints, whose ports are linked to it, with no NEW among them
-  pub stints_are :
-      (p : Plan) (nears : List Near) (fars : List Far) (rests : List left.Rest) (n j : ℕ) → fars ≡ map (λ (r : left.Rest). r.own) rests ++ ends → length rests ≡ n → length fars ≡ length nears
-      → All (LinksAgree (λ port lane. has lane (flow_links p port))) sorted → j < length ends → AreStints p j (seating claims_after).finished (rest_at nears fars (n + j))
-  stints_are p nears fars rests n j are count same linked low =
-      let linked_by : ℕ → ℕ → Bool = λ port lane. has lane (flow_links p port) in
-      let at = slice_get-some ends j low in
-      let far : Far = at.0 in
-      let at_far : slice_get fars (n + j) ≡ Some far = flow_end fars ends rests n j far are count at.1 in
-      let near = slice_get-some nears (n + j) (omega (arith, slice_get_within fars (n + j) far at_far, same)) in
-      let rest : rest_at nears fars (n + j) ≡ rest_between near.0 far = rest_is nears fars (n + j) near.0 far near.1 at_far in
-      let none : AreLinkedBy linked_by (seating claim).finished = subst (AreLinkedBy linked_by) (sym fresh) (λ k x lt. absurd (omega (arith, lt))) in
-      let has_shared = shared linked_by (lanes_of claims) (seating claims_after).finished j far (is.linked linked_by linked none) (ended j far at.1) in
-      subst (AreStints p j (seating claims_after).finished) (sym rest)
-      (record {
-        past = has_shared.past;
-        recorded = has_shared.recorded;
-        linked = has_shared.linked_ports;
-        received = has_shared.received;
-        answered_is = has_shared.answered_is;
-        no_news = none_counted is_new_reply (answered far) (no_new_past fars rests n (n + j) far are count (omega arith) at_far);
-        in_record = has_shared.in_record;
-        among = has_shared.among;
-        once = has_shared.once;
-        held = ap (map pair_of) (sym has_shared.left);
-      })
+  -- each flow lane's end has what its stints had, whose ports are linked to it, and no NEW
+  pub flow_ends : (linked : ℕ → ℕ → Bool) → All (LinksAgree linked) sorted → (j : ℕ) (far : Far) → slice_get ends j ≡ Some far → IsFlowEnd linked (seating claims_after).finished j far
+  flow_ends linked agree j far at =
+      let low : j < length (lanes_of claims) = omega (arith, slice_get_within ends j far at, as_many) in
+      let none : AreLinkedBy linked (seating claim).finished = subst (AreLinkedBy linked) (sym fresh) (λ k x lt. absurd (omega (arith, lt))) in (
+        shared linked (lanes_of claims) (seating claims_after).finished j far (is.linked linked agree none) (ended j far at),
+        ap (λ (x : Far). count_by is_new_reply (answered x)) (sym (get_or_from_slice_get ends j far far at))
+            ∙ at_stop.no_new pool claims credit claim sorted credits_after claims_after (λ k. get_or ends k far) is fresh (are_ends far) j low,
+      )
 
   -- all that the ports held, and all that they answered to flow lanes
   pub held_by_ends : (far : Far) → All IsCounted sorted → All (IsPortOf pool claims) sorted
@@ -101,3 +78,35 @@ module _ (pool : Credits) (claims : Claims) (credit : CreditSeat) (claim : Claim
       sym (sum_by_place f ends far)
       ∙ (ap (λ k. sum_by (λ j. f (get_or ends j far)) (range_with_len 0 k)) as_many
       ∙ (at_stop.all_counted pool claims credit claim sorted credits_after claims_after (λ j. get_or ends j far) is fresh (are_ends far) P ∙ ap (λ k. sum_by (flows_in P k) sorted) (sym as_many)))
+
+-- ---- the lanes, of which the flow lanes' ends stand after the ports'
+
+module _ (fars ends : List Far) (rests : List left.Rest) (n : ℕ) (are : fars ≡ map own_end rests ++ ends) (count : length rests ≡ n) (linked : ℕ → ℕ → Bool) (finished : List Past)
+    (shared : (j : ℕ) (far : Far) → slice_get ends j ≡ Some far → IsFlowEnd linked finished j far) where
+  -- no NEW came on a flow lane
+  pub no_new_past : (l : ℕ) (far : Far) → n ≤ l → slice_get fars l ≡ Some far → count_by is_new_reply (answered far) ≡ 0
+  no_new_past l far past at = (shared (l - n) far (past_own fars ends rests n l far are count past at)).1
+
+  -- each flow lane's lists are those of its stints
+  pub stints_are : (p : Plan) (nears : List Near) (j : ℕ) → length fars ≡ length nears → ((port lane : ℕ) → linked port lane ≡ has lane (flow_links p port)) → j < length ends
+      → AreStints p j finished (rest_at nears fars (n + j))
+  stints_are p nears j same by_plan low =
+      let at = slice_get-some ends j low in
+      let far : Far = at.0 in
+      let at_far : slice_get fars (n + j) ≡ Some far = flow_end fars ends rests n j far are count at.1 in
+      let near = slice_get-some nears (n + j) (omega (arith, slice_get_within fars (n + j) far at_far, same)) in
+      let rest : rest_at nears fars (n + j) ≡ rest_between near.0 far = rest_is nears fars (n + j) near.0 far near.1 at_far in
+      let has_shared = (shared j far at.1).0 in
+      subst (AreStints p j finished) (sym rest)
+      (record {
+        past = has_shared.past;
+        recorded = has_shared.recorded;
+        linked = λ k x lt. sym (by_plan (get_or has_shared.past k x).port j) ∙ has_shared.linked_ports k x lt;
+        received = has_shared.received;
+        answered_is = has_shared.answered_is;
+        no_news = none_counted is_new_reply (answered far) (shared j far at.1).1;
+        in_record = has_shared.in_record;
+        among = has_shared.among;
+        once = has_shared.once;
+        held = ap (map pair_of) (sym has_shared.left);
+      })

@@ -1,13 +1,11 @@
 -- A device just made is one device, and nothing was done with it.
-use Rattle.std.proofs.Common.{◌≡◌, ℕ, ◌<◌, List, [], length, map, get_or, Some, None, refl, sym, ap, subst, ◌∙◌, arith, zero-add}
+use Rattle.std.proofs.Common.{◌≡◌, List, [], length, map, Some, refl, sym, ap, subst, ◌∙◌}
 use Rattle.std.specs.Prelude.{slice_get}
 use Rattle.std.specs.List.{range_with_len}
-use Rattle.std.proofs.lemmas.List.{get_or-map, length-map}
-use Rattle.std.proofs.lemmas.List.FromFn.{get_or-map-range_with_len, length-map-range_with_len}
-use Rattle.std.proofs.lemmas.Option.{get_or_from_slice_get, slice_get_within}
+use Rattle.std.proofs.lemmas.List.{length-map}
 use Rattle.event_ports.specs.declared.port.Port.{Port}
 use Rattle.event_device.specs.Control.{control_of}
-use Rattle.event_device.specs.Device.{ControlSite, Device, IsDevice, IsPortOf, PortSite, control_site, number_of, port_site, scheduler_of, scheduler_site, site_of}
+use Rattle.event_device.specs.Device.{ControlSite, Device, IsDevice, control_site, port_site, scheduler_of, scheduler_site, site_of}
 use Rattle.event_device.specs.declared.control.Control.{Control}
 use Rattle.event_scheduler.specs.Scheduler.{Serves, Sight, sight_of}
 use Rattle.event_scheduler.specs.declared.scheduler.Scheduler.{Scheduler}

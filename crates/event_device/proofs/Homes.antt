@@ -14,6 +14,12 @@ read_written (x ∷ xs) (suc i) zero v y h = inr h
 read_written (x ∷ xs) (suc i) (suc j) v y h =
     elim (read_written xs i j v y h) [ inl p ↦ inl (ap suc p.0, p.1) | inr there ↦ inr there ]
 
+-- and it is there, where it was written over another
+pub read_here : {X : Type 0} (xs : List X) (i : ℕ) (v y : X) → slice_get xs i ≡ Some y → slice_get (set xs i v) i ≡ Some v
+read_here [] i v y h = cc
+read_here (x ∷ xs) zero v y h = refl
+read_here (x ∷ xs) (suc i) v y h = read_here xs i v y h
+
 some_twice : {X : Type 0} (o : Option X) (x : X) → option_map Some o ≡ Some (Some x) → o ≡ Some x
 some_twice None x h = cc
 some_twice (Some y) x h = same_Some (Some y) (Some x) h
@@ -23,8 +29,11 @@ module _ {X : Type 0} (xs : List X) where
   pub there_in_all : (i : ℕ) (x : X) → slice_get (map Some xs) i ≡ Some (Some x) → slice_get xs i ≡ Some x
   there_in_all i x h = some_twice (slice_get xs i) x (sym (slice_get-map Some xs i) ∙ h)
 
+  pub in_home : (i : ℕ) (x : X) → slice_get xs i ≡ Some x → slice_get (map Some xs) i ≡ Some (Some x)
+  in_home i x h = slice_get-map Some xs i ∙ ap (option_map Some) h
+
   pub in_all : (i : ℕ) (d : X) → i < length xs → slice_get (map Some xs) i ≡ Some (Some (get_or xs i d))
-  in_all i d low = slice_get-map Some xs i ∙ ap (option_map Some) (slice_get-get_or xs i d low)
+  in_all i d low = in_home i (get_or xs i d) (slice_get-get_or xs i d low)
 
 -- what a test of a home says
 pub some_there : {X : Type 0} (o : Option X) → is_some o ≡ true → (x : X) × (o ≡ Some x)

@@ -18,6 +18,7 @@ pub mod Ones
 pub mod Pockets
 pub mod Queues
 pub mod Rooms
+pub mod Sends
 pub mod Served
 pub mod Settings
 pub mod Sites

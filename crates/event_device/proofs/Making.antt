@@ -83,6 +83,12 @@ turn p shared owns done rest own number fits same unused is at =
 pub made_count : (d : Device) (n : ℕ) (ports : List Port) → AreNewPorts d n ports → length ports ≡ n
 made_count d n ports are = sym (length-map ports site_of) ∙ ap (λ (sites : List _). length sites) are.sites ∙ length-map-range_with_len (port_site d) 0 n
 
+-- where an end is left, fewer were made than there are ends
+pub made_fewer : (p : Plan) (shared : Shared) (owns done left rest : List Far) (own : Far) (ports : List Port) (seats : Seats) → IsMaking p shared owns done left ports seats → left ≡ own ∷ rest
+    → length ports < length owns
+made_fewer p shared owns done left rest own ports seats so_far is =
+    omega (arith, ap length so_far.owns_are, length-append done left, ap length is, made_count (device_by p shared owns) (length done) ports so_far.made)
+
 -- the turn of the next end
 pub turn_now : (p : Plan) (shared : Shared) (owns done left rest : List Far) (own : Far) (ports : List Port) (seats : Seats) (number : ℕ)
     → IsDevice (device_by p shared owns) → length owns ≡ length p.ports → All IsUnused owns → IsMaking p shared owns done left ports seats

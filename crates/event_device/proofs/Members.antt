@@ -2,11 +2,9 @@
 use Rattle.std.proofs.Common.{◌≡◌, ℕ, ◌+◌, ◌<◌, ◌≤◌, suc, List, [], ◌∷◌, take, drop, length, length-drop, map, get_or, All, false, refl, sym, ap, subst, ◌∙◌, arith}
 use Rattle.std.specs.Prelude.{slice_get, Some, sum_by}
 use Rattle.std.specs.List.{range_with_len}
-use Rattle.std.specs.List.Sorted.{IsPermutation}
 use Rattle.std.proofs.lemmas.List.{length-map, get_or-map}
 use Rattle.std.proofs.lemmas.List.Elements.{All-head, All-tail}
 use Rattle.std.proofs.lemmas.List.FromFn.{length-range_with_len}
-use Rattle.std.proofs.lemmas.List.Sorted.{All-permutation}
 use Rattle.std.proofs.lemmas.List.Sums.{sum_by-cons}
 use Rattle.lists.proofs.Lists.{drop-slice_get}
 use Rattle.lists.proofs.Ranges.{mapped_at}
@@ -24,7 +22,6 @@ use Rattle.event_ports.specs.Ports.{account_of, links, own_site}
 use Rattle.event_ports.specs.Stop as ports
 use Rattle.event_ports.specs.declared.port.Port.{Port}
 use Rattle.event_device.specs.Device.{Device, IsDevice, IsPortOf, PortSite, depth_in, number_of, room_in}
-use Rattle.event_device.specs.Ports.{AreByNumber}
 
 -- ---- lanes
 
@@ -52,11 +49,8 @@ lanes_are_small d nears h within same k near short =
 
 -- ---- ports
 
-pub sorted_are : (d : Device) (unsorted sorted : List Port) → All (IsPortOf d) unsorted → IsPermutation unsorted sorted → All (IsPortOf d) sorted
-sorted_are d unsorted sorted all same = All-permutation (IsPortOf d) unsorted sorted same all
-
-pub sorted_count : (n : ℕ) (unsorted sorted : List Port) → AreByNumber n unsorted sorted → length sorted ≡ n
-sorted_count n unsorted sorted by = omega (arith, ap length by.numbers, length-map sorted number_of, length-range_with_len 0 n)
+pub sorted_count : (n : ℕ) (sorted : List Port) → map number_of sorted ≡ range_with_len 0 n → length sorted ≡ n
+sorted_count n sorted numbers = omega (arith, ap length numbers, length-map sorted number_of, length-range_with_len 0 n)
 
 -- the lanes of the ports that are numbered from k on
 lanes_from : {X Y : Type 0} (number : X → ℕ) (own : X → Y) (ys : List Y) (xs : List X) (k : ℕ) → All (λ x. slice_get ys (number x) ≡ Some (own x)) xs → map number xs ≡ range_with_len k (length xs) → map own xs ≡ take (length xs) (drop k ys)
@@ -69,12 +63,12 @@ lanes_from {X} {Y} number own ys (x ∷ xs) k all e =
     ap (λ zs. own x ∷ zs) rest ∙ ap (take (suc (length xs))) (sym (drop-slice_get ys k (own x) at))
 
 -- the ports' own lanes are the first of the device's
-pub own_lanes : (d : Device) (unsorted sorted : List Port) → All (IsPortOf d) sorted → AreByNumber (length d.plan.ports) unsorted sorted → map (λ p. (own_site p).lanes.own) sorted ≡ take (length d.plan.ports) d.lanes
-own_lanes d unsorted sorted all by =
+pub own_lanes : (d : Device) (sorted : List Port) → All (IsPortOf d) sorted → map number_of sorted ≡ range_with_len 0 (length d.plan.ports) → map (λ p. (own_site p).lanes.own) sorted ≡ take (length d.plan.ports) d.lanes
+own_lanes d sorted all numbers =
     let own : Port → LaneId = λ p. (own_site p).lanes.own in
-    let count : length sorted ≡ length d.plan.ports = sorted_count (length d.plan.ports) unsorted sorted by in
+    let count : length sorted ≡ length d.plan.ports = sorted_count (length d.plan.ports) sorted numbers in
     let there : All (λ p. slice_get d.lanes (number_of p) ≡ Some (own p)) sorted = λ k p short. sym (ap (λ (s : PortSite). s.lane) (all k p short).1) in
-    lanes_from number_of own d.lanes sorted 0 there (by.numbers ∙ ap (range_with_len 0) (sym count)) ∙ ap (λ n. take n d.lanes) count
+    lanes_from number_of own d.lanes sorted 0 there (numbers ∙ ap (range_with_len 0) (sym count)) ∙ ap (λ n. take n d.lanes) count
 
 -- each has one part
 all_ones : {X : Type 0} (f : X → ℕ) (xs : List X) → All (λ x. f x ≡ 1) xs → sum_by f xs ≡ length xs

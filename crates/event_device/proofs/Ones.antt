@@ -4,7 +4,7 @@ use Rattle.std.proofs.Common.{◌≡◌, ℕ, ◌<◌, List, length, get_or, set
 use Rattle.std.specs.Prelude.{Ok, Err, IfOk, IsErr, Option, Result, slice_get, slice_set}
 use Rattle.std.specs.declared.alloc.AllocError.{AllocError}
 use Rattle.std.proofs.lemmas.List.{length-set, set-get_or}
-use Rattle.std.proofs.lemmas.Option.{get_or_from_slice_get}
+use Rattle.std.proofs.lemmas.Option.{get_or_from_slice_get, slice_get_read}
 use Rattle.event_answers.specs.declared.answer.Swept.{Swept}
 use Rattle.event_ports.specs.declared.port.Port.{Port}
 use Rattle.event_device.specs.Control.{control_of}
@@ -40,6 +40,11 @@ module _ (r : Parts) (one : IsOne r) where
       with_ports (slice_set r.ports n None) (length-set r.ports n None)
       (λ m x here. ⊎_elim (λ written. cc written.1) (λ there. one.ports_are m x there) (read_written r.ports n m None (Some x) here))
 
+  -- what is read at the number of a port of the device is in its home
+  pub home_of : (port : Port) → IsPortOf (device_of r) port → (n : ℕ) (home : Option Port) → n ≡ number_of port → home ≡ get_or r.ports n home → slice_get r.ports (number_of port) ≡ Some home
+  home_of port is n home number read =
+      ap (slice_get r.ports) (sym number) ∙ slice_get_read r.ports (length r.ports) n home refl (omega (arith, is.0, number, one.count)) read
+
   -- a port of the device is put in its home
   pub one_with : (port : Port) → IsPortOf (device_of r) port → IsOne (record r { ports = slice_set r.ports (number_of port) (Some port) })
   one_with port is =
@@ -65,18 +70,6 @@ module _ (r : Parts) (one : IsOne r) where
 
     pub may_leave : MayLeave n home r (record r { ports = set r.ports n after })
     may_leave = option_cases (λ o. MayLeave n o r (record r { ports = set r.ports n after })) home stays_away leaves
-
-  pub one_with_control : (c : Option Control) → ((x : Control) → c ≡ Some x → control_of x ≡ control_site (device_of r)) → IsOne (record r { control = c })
-  one_with_control c each =
-      record {
-        fits = one.fits;
-        scheduler_is = one.scheduler_is;
-        control_is = each;
-        ports_are = one.ports_are;
-        count = one.count;
-        small = one.small;
-        serves = one.serves;
-      }
 
   -- its scheduler swept
   pub one_swept : (s : Recorded) → scheduler_of s.sight ≡ scheduler_of r.recorded.sight → ∥ Serves s.log s.sight ∥₁ → IsOne (record r { recorded = s })

@@ -1,5 +1,5 @@
 -- The scheduler of a device that runs stands at the recorder's log.
-use Rattle.std.proofs.Common.{◌≡◌, ◌<◌, ◌≤◌, ◌^◌, List, length, sym, subst, arith}
+use Rattle.std.proofs.Common.{◌<◌, ◌≤◌, ◌^◌, List, length, sym, subst, arith}
 use Rattle.std.proofs.Math.Logic.{∥∥₁_elim, ∥∥₁_map}
 use Rattle.std.specs.Coded.{le_prop}
 use Rattle.std.proofs.lemmas.List.{take_all}

@@ -13,5 +13,6 @@ pub mod Lent
 pub mod Start
 pub mod Between
 pub mod Listed
+pub mod Apart
 pub mod Stop
 pub mod Home

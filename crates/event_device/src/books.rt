@@ -10,6 +10,7 @@ use std::alloc::Global;
 use step_log::{Memory, StepLog};
 
 /// The NEW that a step turned away.
+#[inline(always)]
 fn turned_in(step: &Step) -> Option<Turned>
     ensures { result ≡ turned_by step.now }
 {
@@ -40,6 +41,13 @@ impl<L: StepLog> Books<L> {
             turned: Vec::new(alloc),
         }
     }
+
+    /// Makes room in the log for so many more steps. The list beside it, which is mostly empty, grows as it needs to.
+    pub(crate) fn make_log_room(&mut self, count: usize) -> Result<(), Memory>
+        ensures { L.steps self.new.log ≡ L.steps self.old.log }
+    {
+        self.log.make_room(count)
+    }
 }
 
 /// Its steps are the log's. Each step may be one that turns an event away, so that there is room for as many of these.
@@ -50,6 +58,7 @@ impl<L: StepLog> StepLog for Books<L> {
 
     ghost short = { λ books. L.short books.log };
 
+    #[inline(always)]
     fn push_step(&mut self, step: Step) {
         if let Some(turned) = turned_in(&step) {
             self.turned.push_reserved(turned);

@@ -2,6 +2,7 @@
 //! that a program names.
 #![tactic(auto)]
 
+mod apart;
 mod books;
 mod control;
 mod fault;

@@ -60,6 +60,14 @@ impl<L: StepLog> Recorder<L> {
         Recorder { scheduler, books }
     }
 
+    /// Makes room in the log for so many steps more, and for those of a sweep.
+    pub(crate) fn make_log_room(&mut self, steps: usize) -> Result<(), Memory>
+        ensures { self.new ≡ self.old }
+    {
+        let sweep = self.scheduler.core().log_room();
+        self.books.make_log_room(steps.saturating_add(sweep))
+    }
+
     /// One sweep of the scheduler. After want of memory nothing has changed.
     pub fn sweep(&mut self) -> Result<Swept, Memory>
         ensures sweeps { IfOk result (λ n. Sweeps n self.old.sight self.old.log self.new.sight self.new.log) }

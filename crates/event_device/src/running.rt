@@ -103,6 +103,16 @@ impl<L: StepLog> Device<L> {
         })
     }
 
+    /// Asks for room in the log for so many steps more, and for those of a sweep, so that a log that grows doesn't move as it grows. It is
+    /// a hint, of which no other promise speaks: nothing that is seen of the device changes, and a sweep makes the room that it needs.
+    /// After want of memory the log has the room that it had.
+    pub fn make_log_room(&mut self, steps: usize) -> Result<(), Memory>
+        ensures same { self.new ≡ self.old }
+        ensures device { device_of self.new ≡ device_of self.old }
+    {
+        self.recorder.make_log_room(steps)
+    }
+
     /// One sweep of the scheduler. After want of memory nothing has changed.
     pub fn sweep(&mut self) -> Result<Swept, Memory>
         ensures sweeps { IfOk result (λ n. Sweeps n self.old.recorded.sight self.old.recorded.log self.new.recorded.sight self.new.recorded.log) }

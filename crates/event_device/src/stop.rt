@@ -1,5 +1,6 @@
 //! A device is stopped, and each of its events accounted for.
 
+use crate::apart::{Apart, Still};
 use crate::books::Books;
 use crate::control::Control;
 use crate::held::{add_ends, list_ports};
@@ -9,15 +10,17 @@ use crate::port_order::{by_number, missing};
 use crate::recorder::Recorder;
 use crate::room::Room;
 use event_answers::{Report, StopFault};
-use event_ports::{Port, join_ports};
-use event_scheduler::Parts;
+use event_ports::Port;
 use std::alloc::Global;
 use step_log::StepLog;
 
 impl<L: StepLog> Recorder<L> {
-    ghost use Rattle.std.specs.Prelude.{◌≡◌, ◌<◌, ℕ, length, IfOk, IfErr};
+    ghost use Rattle.std.specs.Prelude.{◌≡◌, ◌<◌, ◌≤◌, ℕ, [], length, vec_capacity, IfOk, IfErr};
+    ghost use Rattle.event_scheduler.specs.Parts.{sight_in};
+    ghost use Rattle.event_scheduler.specs.Scheduler.{Serves};
     ghost use Rattle.evt_types.specs.Fault.{IsWithinLimits};
-    ghost use Rattle.event_device.specs.Ports.{IsThere, Refuses};
+    ghost use Rattle.event_device.specs.Apart.{IsApart};
+    ghost use Rattle.event_device.specs.Ports.{AreByNumber, IsThere, Refuses};
     ghost use Rattle.event_device.specs.Room.{HasRoom};
     ghost use Rattle.event_device.specs.Stop.{AreOf, IsReport};
 
@@ -53,22 +56,6 @@ impl<L: StepLog> Recorder<L> {
         requires room { HasRoom self.sight.core room }
         ensures { IsReport L.steps self control ports.items result }
     {
-        let count = self.port_count();
-        let Recorder { scheduler, books } = self;
-        let Books { log, turned } = books;
-        let Parts {
-            pool,
-            seat,
-            core,
-            lanes,
-            pocket: own,
-        } = scheduler.into_parts();
-        let Control {
-            claims,
-            credit,
-            claim,
-            ..
-        } = control;
         let Room {
             ports: sorted,
             mut rests,
@@ -87,15 +74,18 @@ impl<L: StepLog> Recorder<L> {
                 own: _,
             },
         } = room;
-        let ports = by_number(ports, sorted, count);
-        let (credit, claim) = join_ports(&pool, &claims, credit, claim, ports, &mut rests);
-        claims.close(claim, &mut ends);
-        let free = pool.close(pool.join(credit, seat));
+        let (Books { log, turned }, apart) = self.take_apart(control, ports, sorted);
+        let Still {
+            free,
+            own,
+            core,
+            nears,
+        } = apart.join_seats(&mut rests, &mut ends);
         list_waiting(&core, &mut waiting);
         list_kept(&core, &mut kept);
         list_ports(rests, &mut held, &mut pockets, &mut fars);
         add_ends(ends, &mut fars);
-        list_lanes(lanes, fars, &mut undelivered, &mut untaken);
+        list_lanes(nears, fars, &mut undelivered, &mut untaken);
         Report {
             log,
             waiting,
@@ -108,6 +98,28 @@ impl<L: StepLog> Recorder<L> {
             pockets,
             own,
         }
+    }
+
+    /// The device's parts, its ports by number in `sorted`, which has room for them.
+    fn take_apart(self, control: Control, ports: Vec<Port>, sorted: Vec<Port>) -> (Books<L>, Apart)
+        requires of { AreOf self control ports.items }
+        requires there { (n : ℕ) → n < length self.sight.core.shape.ports → IsThere ports.items n }
+        requires room { (sorted.items ≡ []) × (length self.sight.core.shape.ports ≤ vec_capacity sorted) }
+        ensures books { L.steps result.0.log ≡ self.log }
+        ensures apart { IsApart result.1 }
+        ensures scheduler { sight_in result.1.parts self.sight.accepted_new ≡ self.sight }
+        ensures control { result.1.control ≡ control }
+        ensures ports { AreByNumber (length self.sight.core.shape.ports) ports.items result.1.ports.items }
+        ensures serves { Serves self.log self.sight }
+    {
+        let count = self.port_count();
+        let Recorder { scheduler, books } = self;
+        let apart = Apart {
+            parts: scheduler.into_parts(),
+            control,
+            ports: by_number(ports, sorted, count),
+        };
+        (books, apart)
     }
 
     fn port_count(&self) -> usize

@@ -70,3 +70,14 @@ module _ (trace : List Entry) where
             ∙ (sym (append_assoc (map said (submitted_by p)) (map said_new b.next) rest)
             ∙ (ap (λ xs. xs ++ rest) b.brought ∙ (sym (map-append said_new (take n trace) (drop n trace)) ∙ ap (map said_new) (take-append-drop n trace)))))),
       )
+
+  -- the event of this place was enqueued as a NEW: whether or not it was taken
+  module _ (n : ℕ) (t : Entry) (e : Event) (p q : Port) (new : e ≡ new_event t) (within : n < length trace) (is : t ≡ get_or trace n t) (was : HasBrought n [] (hand p)) where
+    next : HasBrought (n + 1) (e ∷ []) (hand p)
+    next = subst (λ x. HasBrought (n + 1) (x ∷ []) (hand p)) (sym new) (brought_more n t [] (hand p) within is was)
+
+    pub brought_some : SubmitsFront (e ∷ []) (hand p) (hand q) → IsProducer trace (lists_of q)
+    brought_some = brought_front (n + 1) (e ∷ []) p q next
+
+    pub brought_one : SubmitsAll (e ∷ []) (hand p) (hand q) → HasBrought (n + 1) [] (hand q)
+    brought_one = brought_all (n + 1) (e ∷ []) (hand p) (hand q) next

@@ -1,6 +1,5 @@
 pub mod Answering
 pub mod Bringing
-pub mod Engines
 pub mod Reports
 pub mod Runs
 pub mod Submitting

@@ -1,16 +1,20 @@
 -- From what the threads promised of their ports to the log that the stop hands out.
-use Rattle.std.proofs.Common.{◌≡◌, ℕ, zero, suc, ◌+◌, ◌-◌, ◌<◌, ◌≤◌, false, List, [], ◌∷◌, ◌++◌, length, map, get_or, All, sym, ap, subst, ◌∙◌, arith, ⊎_elim}
+use Rattle.std.proofs.Common.{◌≡◌, ℕ, zero, suc, ◌+◌, ◌-◌, ◌<◌, ◌≤◌, false, List, [], ◌++◌, length, map, get_or, All, Some, refl, sym, ap, subst, ◌∙◌, arith, ⊎_elim}
+use Rattle.std.specs.Prelude.{slice_get}
 use Rattle.std.proofs.lemmas.List.{map-append}
-use Rattle.std.proofs.lemmas.List.Elements.{All-push}
 use Rattle.std.proofs.lemmas.Bool.{cases_lt}
+use Rattle.std.proofs.lemmas.Option.{get_or_from_slice_get, slice_get_within}
 use Rattle.event_ports.specs.Ports.{hand, links}
 use Rattle.event_ports.specs.declared.lane.Lane.TheVariants.{Own}
 use Rattle.event_ports.specs.declared.port.Port.{Port}
-use Rattle.event_device.specs.Device.{Device, number_of, port_site, site_of}
+use Rattle.event_device.proofs.Homes.{there_in_all}
+use Rattle.event_device.specs.Device.{PortSite, number_of}
+use Rattle.event_device.specs.Parts.{Parts, device_of}
 use Rattle.event_device.specs.Stop.{AreStints}
 use Rattle.flow_claims.specs.declared.seating.Past.{Past}
 use Rattle.evt_types.specs.Operation.{is_new_reply}
-use Rattle.evt_types.specs.Plan.{Plan, flow_lanes, lanes_of}
+use Rattle.evt_types.specs.Plan.{Plan, flow_lanes, flow_links, lanes_of, linked_places}
+use Rattle.evt_types.specs.declared.draft.Serving.TheVariants.{Ports}
 use Rattle.evt_types.specs.declared.event.Reply.{Reply}
 use Rattle.evt_types.specs.declared.step.Step.{Step}
 use Rattle.event_scheduler.specs.Scheduler.{IsAccepted}
@@ -18,13 +22,11 @@ use Rattle.lists.proofs.Lists.{All-front}
 use Rattle.pipeline_laws.specs.Promises.{IsLane, IsProducer, IsWorker, KeepPromises, OthersSayNoNew, PortLists}
 use Rattle.pipeline_laws.specs.declared.stage.Action.{Action}
 use Rattle.pipeline_laws.specs.declared.stage.Entry.{Entry}
-use Rattle.pipeline_threads.specs.Ports.{HasWorked, lists_of}
-use Rattle.pipeline_threads.specs.Run.{ArePromised}
-use Rattle.std.specs.List.{range_with_len}
+use Rattle.pipeline_threads.specs.Ports.{HasWorked, IsPromised, lists_of}
+use Rattle.pipeline_threads.specs.Run.{IsBack}
 use Rattle.evt_types.specs.Event.{pair_of}
 use Rattle.transcripts.specs.Replies.{said}
 use Rattle.world_laws.specs.Rest.{IsRest, Rest}
-use Rattle.event_device.proofs.InOrder.{number_here, port_count}
 
 -- what a lane's holder submitted and received
 abbrev pub lists_at : (ℕ → Rest) → ℕ → PortLists
@@ -39,12 +41,20 @@ lane_known T l r h accepted =
       events = All-front (IsAccepted T) r.received r.undelivered (subst (All (IsAccepted T)) h.received accepted);
     }
 
--- ---- one more port that kept a worker's promise
+-- ---- served by ports alone
 
-pub promised_more : (actions : List Action) (trace : List Entry) (ports : List Port) (p : Port) → ArePromised actions trace ports → HasWorked actions p
-    → ArePromised actions trace (ports ++ p ∷ [])
-promised_more actions trace [] p h w = absurd h
-promised_more actions trace (x ∷ xs) p h w = (h.0, All-push (HasWorked actions) xs p h.1 w)
+no_flows : (p : Plan) → p.serving ≡ Ports → flow_lanes p ≡ []
+unfolding flow_lanes
+no_flows p e = rw e refl
+
+no_links : (p : Plan) (n : ℕ) → p.serving ≡ Ports → flow_links p n ≡ []
+unfolding linked_places
+no_links p n e = rw (no_flows p e) refl
+
+-- there are as many lanes as ports
+own_lanes : (p : Plan) → p.serving ≡ Ports → lanes_of p ≡ length p.ports
+unfolding lanes_of
+own_lanes p e = omega (arith, ap length (no_flows p e))
 
 -- ---- the promises, by lane
 
@@ -52,55 +62,53 @@ promised_more actions trace (x ∷ xs) p h w = (h.0, All-push (HasWorked actions
 abbrev pub AreOwn : (ℕ → Rest) → List Port → Type 0
 AreOwn rest ports = All (λ (p : Port). (rest (number_of p)).received ≡ (hand p).got Own) ports × All (λ (p : Port). (rest (number_of p)).answered ≡ (hand p).said Own) ports
 
-module _ (d : Device) (actions : List Action) (trace : List Entry) (rest : ℕ → Rest) where
-  own_lists : (ports : List Port) (n l : ℕ) (x : Port) → map site_of ports ≡ map (port_site d) (range_with_len 0 n) → AreOwn rest ports → l < length ports
-      → lists_at rest l ≡ lists_of (get_or ports l x)
-  own_lists ports n l x sites own there =
-      let number = number_here d ports n sites l x there in
-      let same : lists_at rest (number_of (get_or ports l x)) ≡ lists_of (get_or ports l x) =
-      λ i. record { submitted = own.1 l x there i; received = own.0 l x there i } in
-      ap (lists_at rest) (sym number) ∙ same
+module _ (actions : List Action) (trace : List Entry) (rest : ℕ → Rest) (r : Parts) (ports : List Port) (at_home : r.ports ≡ map Some ports) (own : AreOwn rest ports) where
+  -- the lists of a lane are those of its port
+  own_lists : (l : ℕ) (b : IsBack actions trace l r) → lists_at rest l ≡ lists_of b.port
+  own_lists l b =
+      let number : number_of b.port ≡ l = ap (λ (s : PortSite). s.number) b.site in
+      let here : slice_get ports l ≡ Some b.port = there_in_all ports l b.port (ap (λ homes. slice_get homes l) (sym at_home) ∙ b.at_home) in
+      let there : l < length ports = slice_get_within ports l b.port here in
+      let same : lists_at rest (number_of (get_or ports l b.port)) ≡ lists_of (get_or ports l b.port) =
+      λ i. record { submitted = own.1 l b.port there i; received = own.0 l b.port there i } in
+      ap (lists_at rest) (sym number) ∙ subst (λ x. lists_at rest (number_of x) ≡ lists_of x) (get_or_from_slice_get ports l b.port b.port here) same
 
   -- the first port's lane has the trace's front
-  pub kept_producer : (ports : List Port) (n : ℕ) → map site_of ports ≡ map (port_site d) (range_with_len 0 n) → AreOwn rest ports → ArePromised actions trace ports
-      → IsProducer trace (lists_at rest 0)
-  kept_producer [] n sites own h = absurd h
-  kept_producer (x ∷ xs) n sites own h = subst (IsProducer trace) (sym (own_lists (x ∷ xs) n 0 x sites own (omega arith))) h.0
+  pub kept_producer : IsBack actions trace 0 r → IsProducer trace (lists_at rest 0)
+  kept_producer b = subst (IsProducer trace) (sym (own_lists 0 b)) b.promised
 
   -- each other port worked
-  worked_at : (ports : List Port) (l : ℕ) → ArePromised actions trace ports → 0 < l → l < length ports → (x : Port) → HasWorked actions (get_or ports l x)
-  worked_at [] l h some low x = absurd h
-  worked_at (y ∷ ys) zero h some low x = absurd (omega (arith, some))
-  worked_at (y ∷ ys) (suc l) h some low x = h.1 l x (omega (arith, low))
+  worked : (l : ℕ) (x : Port) → 0 < l → IsPromised actions trace l x → HasWorked actions x
+  worked zero x some h = absurd (omega (arith, some))
+  worked (suc l) x some h = h
 
-  -- all promises are kept where the ports' own lanes are all the lanes
-  pub kept_promises : (p : Plan) (ports : List Port) (n : ℕ) → map site_of ports ≡ map (port_site d) (range_with_len 0 n) → lanes_of p ≡ n
-      → All (λ (x : Port). links x ≡ []) ports → AreOwn rest ports → ArePromised actions trace ports → KeepPromises p actions trace (lists_at rest)
-  kept_promises p [] n sites count alone own h = absurd h
-  kept_promises p (x ∷ xs) n sites count alone own h =
-      record {
-        producer = kept_producer (x ∷ xs) n sites own h;
-        workers = λ l some low. worker l some (omega (arith, low, count, port_count d (x ∷ xs) n sites));
-      }
-    where
-      worker : (l : ℕ) → 0 < l → l < length (x ∷ xs) → IsWorker actions (lists_at rest l)
-      worker l some low =
-          subst (IsWorker actions) (sym (own_lists (x ∷ xs) n l x sites own low)) ((worked_at (x ∷ xs) l h some low x).worker (alone l x low))
+  module _ (back : (n : ℕ) → n < length (device_of r).plan.ports → IsBack actions trace n r) where
+    -- all promises are kept where the ports' own lanes are all the lanes
+    pub kept_promises : (device_of r).plan.serving ≡ Ports → 0 < length (device_of r).plan.ports → KeepPromises (device_of r).plan actions trace (lists_at rest)
+    kept_promises serving first =
+        record {
+          producer = kept_producer (back 0 first);
+          workers = λ l some low.
+              let b = back l (omega (arith, low, own_lanes (device_of r).plan serving)) in
+              let alone : links b.port ≡ [] = ap (λ (s : PortSite). s.links) b.site ∙ no_links (device_of r).plan l serving in
+              subst (IsWorker actions) (sym (own_lists l b)) ((worked l b.port some b.promised).worker alone);
+        }
 
-  -- no other lane got a NEW: of its own no worker's, and no flow lane
-  pub no_other_news : (p : Plan) (finished : List Past) (ports : List Port) → map site_of ports ≡ map (port_site d) (range_with_len 0 (length p.ports)) → AreOwn rest ports
-      → ArePromised actions trace ports → ((j : ℕ) → j < length (flow_lanes p) → AreStints p j finished (rest (length p.ports + j))) → OthersSayNoNew p (lists_at rest)
-  unfolding lanes_of
-  no_other_news p finished [] sites own h flows l some low = absurd h
-  no_other_news p finished (x ∷ xs) sites own h flows l some low = ⊎_elim worker flow (cases_lt l (length p.ports))
-    where
-      worker : l < length p.ports → All (λ (r : Reply). is_new_reply r ≡ false) (rest l).answered
-      worker lt =
-          let there : l < length (x ∷ xs) = omega (arith, lt, port_count d (x ∷ xs) (length p.ports) sites) in
-          subst (λ (a : PortLists). All (λ (r : Reply). is_new_reply r ≡ false) a.submitted) (sym (own_lists (x ∷ xs) (length p.ports) l x sites own there))
-          (worked_at (x ∷ xs) l h some there x).no_news
+    -- no other lane got a NEW: of its own no worker's, and no flow lane
+    pub no_other_news : (finished : List Past)
+        → ((j : ℕ) → j < length (flow_lanes (device_of r).plan) → AreStints (device_of r).plan j finished (rest (length (device_of r).plan.ports + j))) → OthersSayNoNew (device_of r).plan (lists_at rest)
+    unfolding lanes_of
+    no_other_news finished flows l some low = ⊎_elim worker flow (cases_lt l count)
+      where
+        count : ℕ
+        count = length (device_of r).plan.ports
 
-      flow : length p.ports ≤ l → All (λ (r : Reply). is_new_reply r ≡ false) (rest l).answered
-      flow le =
-          let place : length p.ports + (l - length p.ports) ≡ l = omega (arith, le) in
-          subst (λ k. All (λ (r : Reply). is_new_reply r ≡ false) (rest k).answered) place (flows (l - length p.ports) (omega (arith, low, le))).no_news
+        worker : l < count → All (λ (r : Reply). is_new_reply r ≡ false) (rest l).answered
+        worker lt =
+            let b = back l lt in
+            subst (λ (a : PortLists). All (λ (r : Reply). is_new_reply r ≡ false) a.submitted) (sym (own_lists l b)) (worked l b.port some b.promised).no_news
+
+        flow : count ≤ l → All (λ (r : Reply). is_new_reply r ≡ false) (rest l).answered
+        flow le =
+            let place : count + (l - count) ≡ l = omega (arith, le) in
+            subst (λ k. All (λ (r : Reply). is_new_reply r ≡ false) (rest k).answered) place (flows (l - count) (omega (arith, low, le))).no_news

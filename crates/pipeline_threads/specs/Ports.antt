@@ -1,12 +1,12 @@
 -- What the threads of a pipeline do with their ports, and what each promises of the port that it returns.
-use Rattle.std.specs.Prelude.{◌≡◌, ℕ, true, false, List, [], ◌++◌, length, map, take, All}
+use Rattle.std.specs.Prelude.{◌≡◌, ℕ, zero, suc, true, false, List, [], ◌++◌, length, map, take, All}
 use Rattle.std.specs.List.{AllZip}
 use Rattle.event_ports.specs.Lanes.{Hand, IsEmptyHand, SubmitsAll, reply_of}
 use Rattle.event_ports.specs.Ports.{hand, links}
 use Rattle.event_ports.specs.declared.lane.Holding.{Holding}
 use Rattle.event_ports.specs.declared.lane.Lane.TheVariants.{Own}
 use Rattle.event_ports.specs.declared.port.Port.{Port}
-use Rattle.event_device.specs.Device.{site_of}
+use Rattle.event_device.specs.Device.{number_of, site_of}
 use Rattle.evt_types.specs.Operation.{is_answer_op, is_new_reply}
 use Rattle.evt_types.specs.declared.event.Delivery.{Delivery}
 use Rattle.evt_types.specs.declared.event.Event.{Event}
@@ -68,12 +68,12 @@ pub record HasWorked (actions : List Action) (p : Port) : Type 0 where
   pub worker : links p ≡ [] → IsWorker actions (lists_of p)
   pub no_news : HasNoNews (hand p)
 
--- the port that a worker returns is the one that it was given, and it worked with it
-pub record ReturnsWorker (actions : List Action) (start back : Port) : Type 0 where
-  pub site : site_of back ≡ site_of start
-  pub worked : HasWorked actions back
+-- what the thread of the port of this number promises: port 0's is the producer, each other's a worker
+abbrev pub IsPromised : List Action → List Entry → ℕ → Port → Type 0
+IsPromised actions trace zero p = IsProducer trace (lists_of p)
+IsPromised actions trace (suc n) p = HasWorked actions p
 
--- the port that the producer returns is the one that it was given, and what it submitted is the front of the trace, in order
-pub record ReturnsProducer (trace : List Entry) (start back : Port) : Type 0 where
+-- the port that a thread returns is the one that it was given, and it did with it as it promised
+pub record Returns (actions : List Action) (trace : List Entry) (start back : Port) : Type 0 where
   pub site : site_of back ≡ site_of start
-  pub producer : IsProducer trace (lists_of back)
+  pub promised : IsPromised actions trace (number_of start) back

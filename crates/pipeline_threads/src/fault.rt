@@ -1,6 +1,6 @@
 //! Why a pipeline isn't run to its end.
 
-use event_device::Memory;
+use event_device::{DeviceFault, Memory};
 use thiserror::Error;
 
 /// Why a pipeline wasn't run to its end.
@@ -17,5 +17,14 @@ pub enum RunFault {
 impl From<Memory> for RunFault {
     fn from(_: Memory) -> RunFault {
         RunFault::Memory
+    }
+}
+
+impl From<DeviceFault> for RunFault {
+    fn from(fault: DeviceFault) -> RunFault {
+        match fault {
+            DeviceFault::Memory(_) => RunFault::Memory,
+            DeviceFault::NoSeat(_) => RunFault::NoSeat,
+        }
     }
 }

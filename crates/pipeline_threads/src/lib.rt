@@ -2,7 +2,6 @@
 //! own, and the scheduler in the caller's.
 #![tactic(auto)]
 
-mod engine;
 mod fault;
 mod gate;
 mod patience;
@@ -10,6 +9,7 @@ mod producer;
 mod promise;
 mod run;
 mod submit;
+mod sweeps;
 mod threads;
 mod worker;
 

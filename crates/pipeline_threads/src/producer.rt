@@ -2,7 +2,9 @@
 
 ghost use Rattle.std.specs.Prelude.{◌≡◌};
 ghost use Rattle.pipeline_laws.specs.Worked as worked;
-ghost use Rattle.pipeline_threads.specs.Ports.{IsIdle, ReturnsProducer};
+ghost use Rattle.pipeline_laws.specs.Promises.{IsProducer};
+ghost use Rattle.event_device.specs.Device.{site_of};
+ghost use Rattle.pipeline_threads.specs.Ports.{IsIdle, lists_of};
 
 use crate::submit::submit_all;
 use event_device::Port;
@@ -29,7 +31,8 @@ fn new_event(entry: &Entry) -> Event
 /// Enqueues the events of the trace, one after the other, until all are taken or the device is shut.
 pub(crate) fn produce<R: Wait>(rt: &R, trace: &[Entry], port: Port) -> Port
     requires { IsIdle port }
-    ensures { ReturnsProducer trace.now port result }
+    ensures site { site_of result ≡ site_of port }
+    ensures producer { IsProducer trace.now (lists_of result) }
 {
     let mut port = port;
     for entry in trace {

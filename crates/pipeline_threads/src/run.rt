@@ -1,6 +1,7 @@
 //! A pipeline is run on a device.
 
 ghost use Rattle.std.specs.Prelude.{◌≡◌, ◌<◌, [], All, IfOk, length, map};
+ghost use Rattle.event_device.specs.Start.{IsFresh};
 ghost use Rattle.evt_types.specs.Plan.{port_of};
 ghost use Rattle.evt_types.specs.declared.draft.Serving.TheVariants.{Ports};
 ghost use Rattle.pipeline_laws.specs.Pipeline.{IsProper};
@@ -8,12 +9,11 @@ ghost use Rattle.pipeline_laws.specs.Worked.{AnswersAreDue, IsFinished, IsStaged
 ghost use Rattle.transcripts.specs.Lawful.{IsPrefix, Lawful};
 ghost use Rattle.transcripts.specs.Laws.{AddsNone};
 
-use crate::engine::Engine;
 use crate::fault::RunFault;
 use crate::gate::Gate;
 use crate::threads::run_threads;
-use event_device::Report;
-use evt_types::Shape;
+use event_device::{Device, Report};
+use evt_types::{Shape, Step};
 use pipeline_laws::{Action, Entry};
 use std::alloc::Global;
 use std::sync::Wait;
@@ -21,6 +21,17 @@ use std::thread::Threads;
 
 /// How many steps an event takes at a stage: it is accepted, given and answered.
 const STAGE_STEPS: usize = 3;
+
+/// A device of this configuration, in which nothing has happened. Its log has room for so many steps, and for those of a sweep, so that
+/// it doesn't move as it grows: what isn't written of that room takes no memory.
+fn make_device(alloc: Global, shape: Shape, steps: usize) -> Result<Device<Vec<Step>>, RunFault>
+    ensures { IfOk result (IsFresh shape) }
+{
+    let mut device = Device::with_log(alloc, Vec::new(alloc), shape)?;
+    // Where so much can't be had at once the log begins with none.
+    let _ = device.make_log_room(steps);
+    Ok(device)
+}
 
 /// Runs the trace through the pipeline whose stages are the queues, on a device of this configuration: port 0 brings the events in, each
 /// other port carries out the stages' actions, each in a thread of its own, and the scheduler runs in this one. The report is that of
@@ -47,10 +58,11 @@ pub fn run_pipeline<R: Threads + Wait + Sync, G: Gate>(
     let steps = STAGE_STEPS
         .saturating_mul(actions.len())
         .saturating_mul(trace.len());
-    let engine = Engine::new(alloc, shape, steps)?;
-    let engine = run_threads(rt, gate, actions, trace, engine)?;
-    match engine.recorder.stop(alloc, engine.control, engine.ports) {
+    let ports = shape.ports().len();
+    let device = make_device(alloc, shape, steps)?;
+    let device = run_threads(rt, gate, actions, trace, device, ports)?;
+    match device.stop() {
         Ok(report) => Ok(report),
-        Err((_, ..)) => Err(RunFault::Memory),
+        Err(_) => Err(RunFault::Memory),
     }
 }

@@ -1,16 +1,20 @@
 //! The threads of a pipeline.
 
-ghost use Rattle.std.specs.Prelude.{◌≡◌, ◌≤◌, All, IfOk, OnOk, length, [], ◌∷◌, ◌++◌};
+ghost use Rattle.std.specs.Prelude.{◌≡◌, ◌≤◌, All, IfOk, OnOk, Some, None, length, slice_get};
 ghost use Rattle.pipeline_laws.specs.Pipeline.{IsProper};
-ghost use Rattle.pipeline_threads.specs.Ports.{IsIdle, ReturnsProducer, ReturnsWorker};
-ghost use Rattle.pipeline_threads.specs.Run.{HasProduced, HasRun, IsReady};
+ghost use Rattle.event_device.specs.Device.{IsPortOf, number_of};
+ghost use Rattle.event_device.specs.Lent.{ComesBack};
+ghost use Rattle.event_device.specs.Parts.{device_of};
+ghost use Rattle.pipeline_threads.specs.Ports.{IsIdle, Returns};
+ghost use Rattle.pipeline_threads.specs.Run.{AreIdle, HasRun};
 
-use crate::engine::{Engine, sweep_all};
 use crate::gate::Gate;
 use crate::producer::produce;
-use crate::promise::{Produced, Worked};
+use crate::promise::Returned;
+use crate::sweeps::sweep_all;
 use crate::worker::work;
-use event_device::{Memory, Port};
+use event_device::{Device, Memory, Port};
+use evt_types::Step;
 use pipeline_laws::{Action, Entry};
 use std::alloc::AllocError;
 use std::snapshot::Snapshot;
@@ -18,103 +22,107 @@ use std::sync::Wait;
 use std::thread;
 use std::thread::{Scope, Threads};
 
-/// Starts the producer with this port, sweeps until the whole trace went through, shuts the device and joins the producer.
-fn run_producer<'s, E, R: Threads + Wait + Sync, G: Gate>(
-    rt: &'s R,
-    scope: &Scope<'s, E>,
+/// What a port's thread does: port 0's is the producer, each other's a worker.
+fn run_port<R: Wait, G: Gate>(
+    rt: &R,
     gate: &G,
-    trace: &'s [Entry],
-    engine: &mut Engine,
+    actions: &[Action],
+    trace: &[Entry],
     port: Port,
-) -> Result<(), Memory>
-    requires alone { engine.old.ports.items ≡ [] }
+) -> Port
+    requires actions { All IsProper actions.now }
+    requires few { length actions.now ≤ 255 }
     requires idle { IsIdle port }
-    ensures { OnOk result (HasProduced trace.now port engine.old engine.new) }
+    ensures { Returns actions.now trace.now port result }
 {
-    let promise = Produced {
-        start: Snapshot::of(&port),
-        trace,
-    };
-    let job = move || -> Port
-        requires { IsIdle port }
-        ensures { ReturnsProducer trace.entry.now port result }
-    { produce(rt, trace, port) };
-    let Ok(producer) = scope.spawn_with(promise, job) else {
-        engine.control.shut();
-        return Err(AllocError);
-    };
-    let swept = sweep_all(rt, gate, &mut engine.recorder, trace.len());
-    engine.control.shut();
-    let port = producer.join(rt);
-    swept?;
-    engine.ports.push(port)?;
-    Ok(())
+    if port.number() == 0 {
+        produce(rt, trace, port)
+    } else {
+        work(rt, gate, actions, port)
+    }
 }
 
-/// Starts a thread for the last port, runs the other ports and joins that thread. The first port's thread is the producer; while it
-/// runs this one sweeps, and shuts the device at the end. Where a thread can't be started or memory runs out the device is shut and
-/// the threads are joined.
+/// Puts a port into its home, which is empty.
+fn put_home(device: &mut Device<Vec<Step>>, port: Port)
+    requires port { IsPortOf (device_of device.old) port }
+    requires empty { slice_get device.old.ports (number_of port) ≡ Some None }
+    ensures back { ComesBack port device.old device.new }
+    ensures device { device_of device.new ≡ device_of device.old }
+{
+    let Ok(()) = device.put_back(port) else {
+        unreachable!()
+    };
+}
+
+/// Starts a thread for the last of so many ports, runs the ports before it and joins that thread. Once all have a thread this one
+/// sweeps, and shuts the device at the end. Where a thread can't be started or memory runs out the device is shut and the threads are
+/// joined.
 fn run_ports<'s, E, R: Threads + Wait + Sync, G: Gate>(
     rt: &'s R,
     scope: &Scope<'s, E>,
     gate: &'s G,
     actions: &'s [Action],
     trace: &'s [Entry],
-    engine: &mut Engine,
+    device: &mut Device<Vec<Step>>,
+    count: usize,
 ) -> Result<(), Memory>
     requires actions { All IsProper actions.now }
     requires few { length actions.now ≤ 255 }
-    requires ready { IsReady engine.old }
-    ensures { OnOk result (HasRun actions.now trace.now engine.old engine.new) }
+    requires idle { AreIdle count device.old }
+    ensures { OnOk result (HasRun actions.now trace.now count device.old device.new) }
 {
-    let Some(port) = engine.ports.pop() else {
+    if count == 0 {
+        let swept = sweep_all(rt, gate, device, trace);
+        device.shut();
+        return swept;
+    }
+    let Some(port) = device.take_port(count - 1) else {
         unreachable!()
     };
-    if engine.ports.is_empty() {
-        return run_producer(rt, scope, gate, trace, engine, port);
-    }
-    let promise = Worked {
+    let promise = Returned {
         start: Snapshot::of(&port),
         actions,
+        trace,
     };
     let job = move || -> Port
         requires { (All IsProper actions.now) × (length actions.now ≤ 255) × IsIdle port }
-        ensures { ReturnsWorker actions.entry.now port result }
-    { work(rt, gate, actions, port) };
-    let Ok(worker) = scope.spawn_with(promise, job) else {
-        engine.control.shut();
+        ensures { Returns actions.entry.now trace.entry.now port result }
+    { run_port(rt, gate, actions, trace, port) };
+    let Ok(thread) = scope.spawn_with(promise, job) else {
+        device.shut();
         return Err(AllocError);
     };
-    let ran = run_ports(rt, scope, gate, actions, trace, engine);
-    let port = worker.join(rt);
+    let ran = run_ports(rt, scope, gate, actions, trace, device, count - 1);
+    let port = thread.join(rt);
     ran?;
-    engine.ports.push(port)?;
+    put_home(device, port);
     Ok(())
 }
 
-/// Runs the trace through the pipeline: each port in a thread of its own, the scheduler in this one.
+/// Runs the trace through the pipeline: each of so many ports in a thread of its own, the scheduler in this one.
 pub(crate) fn run_threads<R: Threads + Wait + Sync, G: Gate>(
     rt: &R,
     gate: &G,
     actions: &[Action],
     trace: &[Entry],
-    engine: Engine,
-) -> Result<Engine, Memory>
+    device: Device<Vec<Step>>,
+    count: usize,
+) -> Result<Device<Vec<Step>>, Memory>
     requires actions { All IsProper actions.now }
     requires few { length actions.now ≤ 255 }
-    requires ready { IsReady engine }
-    ensures { IfOk result (HasRun actions.now trace.now engine) }
+    requires idle { AreIdle count device }
+    ensures { IfOk result (HasRun actions.now trace.now count device) }
 {
     thread::scope(
         thread::scope_env(),
         rt,
-        |scope| -> Result<Engine, Memory>
-            requires { (All IsProper actions.now) × (length actions.now ≤ 255) × IsReady engine }
-            ensures { IfOk result (HasRun actions.entry.now trace.entry.now engine) }
+        |scope| -> Result<Device<Vec<Step>>, Memory>
+            requires { (All IsProper actions.now) × (length actions.now ≤ 255) × AreIdle count device }
+            ensures { IfOk result (HasRun actions.entry.now trace.entry.now count device) }
         {
-            let mut engine = engine;
-            run_ports(rt, scope, gate, actions, trace, &mut engine)?;
-            Ok(engine)
+            let mut device = device;
+            run_ports(rt, scope, gate, actions, trace, &mut device, count)?;
+            Ok(device)
         },
     )
 }

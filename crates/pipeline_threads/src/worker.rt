@@ -6,7 +6,7 @@ ghost use Rattle.event_device.specs.Device.{site_of};
 ghost use Rattle.evt_types.specs.Operation.{is_answer_op};
 ghost use Rattle.pipeline_laws.specs.Pipeline.{IsProper};
 ghost use Rattle.pipeline_laws.specs.Promises.{said_to};
-ghost use Rattle.pipeline_threads.specs.Ports.{AreDue, HasWorked, IsEven, IsIdle, ReturnsWorker};
+ghost use Rattle.pipeline_threads.specs.Ports.{AreDue, HasWorked, IsEven, IsIdle};
 ghost use Rattle.transcripts.specs.Replies.{said};
 
 use crate::gate::Gate;
@@ -109,7 +109,8 @@ pub(crate) fn work<R: Wait, G: Gate>(rt: &R, gate: &G, actions: &[Action], port:
     requires actions { All IsProper actions.now }
     requires few { length actions.now ≤ 255 }
     requires idle { IsIdle port }
-    ensures { ReturnsWorker actions.now port result }
+    ensures site { site_of result ≡ site_of port }
+    ensures worked { HasWorked actions.now result }
 {
     let mut port = port;
     let mut burst = Burst::new();

@@ -1,4 +1,4 @@
-use Rattle.std.proofs.Common.{refl, sym, ◌∙◌, not, true, false, ap, arith}
+use Rattle.std.proofs.Common.{refl, arith}
 use Rattle.std.proofs.lemmas.Option.{slice_get_read}
 use Rattle.event_device.proofs.Stopping.{filled_more}
 use Rattle.event_device.proofs.halt.first_lent.Goals as goal

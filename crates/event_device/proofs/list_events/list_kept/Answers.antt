@@ -1,4 +1,4 @@
-use Rattle.std.proofs.Common.{◌≡◌, ◌<◌, ◌≤◌, ◌+◌, ◌++◌, ap, sym, ◌∙◌, arith, length, vec_capacity, vec_len}
+use Rattle.std.proofs.Common.{◌≡◌, ◌<◌, ◌++◌, ap, sym, ◌∙◌, arith, length}
 use Rattle.transcripts.specs.Standing.{places_at}
 use Rattle.transcripts.specs.Transcript.{kept_events}
 use Rattle.lists.proofs.Ranges.{flat_map_range_more}

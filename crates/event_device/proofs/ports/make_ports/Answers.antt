@@ -1,42 +1,33 @@
 -- One port more is made.
 use Rattle.std.proofs.Common.{◌≡◌, ◌∷◌, length, arith, rules}
-use Rattle.event_device.proofs.Making.{fits_plan, making_more, turn_now}
+use Rattle.event_device.proofs.Making.{fits_plan, made_fewer, making_more, turn_now}
 use Rattle.event_device.proofs.ports.make_ports.Goals as goal
 
 pub split-requires-clause-port : goal.split-requires-clause-port
 split-requires-clause-port c =
     let left : c.loop-own.own-iterator.rest.items ≡ c.in-Some.own ∷ c.next.new.self.rest.items = search rules in
     let number : c.len-number.result ≡ length c.loop-own.ports.items = search rules in
-    let t = turn_now c.args.shape.now c.args.shared.now c.args.owns.items c.loop-own.yielded c.loop-own.own-iterator.rest.items c.next.new.self.rest.items c.in-Some.own
-    c.loop-own.ports.items c.loop-own.seats c.len-number.result c.requires.device c.requires.owns.0 c.requires.owns.1 c.loop-own.invariant.0 left number in
-    omega (arith, t.there, c.requires.limits.port_count.1)
+    omega (arith, made_fewer _ _ _ _ _ _ _ _ _ c.loop-own.invariant.0 left, number, c.requires.owns.0, c.requires.limits.port_count.1)
 
-pub make_port-requires-clause-number : goal.make_port-requires-clause-number
-make_port-requires-clause-number c =
+pub make_port-requires : goal.make_port-requires
+make_port-requires c =
     let left : c.loop-own.own-iterator.rest.items ≡ c.in-Some.own ∷ c.next.new.self.rest.items = search rules in
     let number : c.len-number.result ≡ length c.loop-own.ports.items = search rules in
     let t = turn_now c.args.shape.now c.args.shared.now c.args.owns.items c.loop-own.yielded c.loop-own.own-iterator.rest.items c.next.new.self.rest.items c.in-Some.own
     c.loop-own.ports.items c.loop-own.seats c.len-number.result c.requires.device c.requires.owns.0 c.requires.owns.1 c.loop-own.invariant.0 left number in
-    t.there
-
-pub make_port-requires-clause-shared : goal.make_port-requires-clause-shared
-make_port-requires-clause-shared c = fits_plan c.args.shape.now c.args.shared.now c.args.owns.items c.requires.device c.requires.owns.0
-
-pub make_port-requires-clause-own : goal.make_port-requires-clause-own
-make_port-requires-clause-own c =
-    let left : c.loop-own.own-iterator.rest.items ≡ c.in-Some.own ∷ c.next.new.self.rest.items = search rules in
-    let number : c.len-number.result ≡ length c.loop-own.ports.items = search rules in
-    let t = turn_now c.args.shape.now c.args.shared.now c.args.owns.items c.loop-own.yielded c.loop-own.own-iterator.rest.items c.next.new.self.rest.items c.in-Some.own
-    c.loop-own.ports.items c.loop-own.seats c.len-number.result c.requires.device c.requires.owns.0 c.requires.owns.1 c.loop-own.invariant.0 left number in
-    (t.depth, t.unused)
+    record {
+      limits = c.requires.limits;
+      number = t.there;
+      shared = fits_plan c.args.shape.now c.args.shared.now c.args.owns.items c.requires.device c.requires.owns.0;
+      seats = (c.in_ok-rest.ensures.part, c.in_ok-rest.ensures.port);
+      own = (t.depth, t.unused);
+    }
 
 pub push_reserved-requires : goal.push_reserved-requires
 push_reserved-requires c =
     let left : c.loop-own.own-iterator.rest.items ≡ c.in-Some.own ∷ c.next.new.self.rest.items = search rules in
     let number : c.len-number.result ≡ length c.loop-own.ports.items = search rules in
-    let t = turn_now c.args.shape.now c.args.shared.now c.args.owns.items c.loop-own.yielded c.loop-own.own-iterator.rest.items c.next.new.self.rest.items c.in-Some.own
-    c.loop-own.ports.items c.loop-own.seats c.len-number.result c.requires.device c.requires.owns.0 c.requires.owns.1 c.loop-own.invariant.0 left number in
-    omega (arith, t.there, number, c.len-number.ensures, c.loop-own.invariant.1, c.requires.owns.0)
+    omega (arith, made_fewer _ _ _ _ _ _ _ _ _ c.loop-own.invariant.0 left, number, c.len-number.ensures, c.loop-own.invariant.1)
 
 pub loop-own-preserved : goal.loop-own-preserved
 loop-own-preserved c =

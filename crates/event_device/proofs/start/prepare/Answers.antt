@@ -23,22 +23,19 @@ add_lanes-requires-2 c =
     let own = count_shown p c.ports-own_lanes.result.now c.ports-own_lanes.ensures in
     (omega (arith, own, lanes_are p, c.lanes-all_lanes.ensures.value), omega (arith, c.lanes-all_lanes.ensures.value))
 
-pub make_ports-requires-clause-device : goal.make_ports-requires-clause-device
-make_ports-requires-clause-device c =
+pub make_ports-requires : goal.make_ports-requires
+make_ports-requires c =
     let p : Plan = c.args.shape.now in
     let own = count_shown p c.ports-own_lanes.result.now c.ports-own_lanes.ensures in
     let all = all_lanes p c.in_ok-owns.owns.items c.in_ok-ends.ends.items c.in_ok-nears.nears.items c.add_lanes.new.nears.items c.add_lanes-2.new.nears.items
     (length c.ports-own_lanes.result.now) c.lanes-all_lanes.result own c.lanes-all_lanes.ensures.value c.in_ok-nears.ensures.items c.in_ok-owns.ensures c.in_ok-ends.ensures in
-    device_fits p c.in_ok-shared.shared c.in_ok-owns.owns.items c.in_ok-ends.ends.items c.add_lanes-2.new.nears.items all
-    (c.in_ok-shared.ensures.pool ∙ c.from.ensures ∙ c.limit.ensures.value) c.in_ok-shared.ensures.claims
-
-pub make_ports-requires-clause-owns : goal.make_ports-requires-clause-owns
-make_ports-requires-clause-owns c =
-    let p : Plan = c.args.shape.now in
-    let own = count_shown p c.ports-own_lanes.result.now c.ports-own_lanes.ensures in
-    let all = all_lanes p c.in_ok-owns.owns.items c.in_ok-ends.ends.items c.in_ok-nears.nears.items c.add_lanes.new.nears.items c.add_lanes-2.new.nears.items
-    (length c.ports-own_lanes.result.now) c.lanes-all_lanes.result own c.lanes-all_lanes.ensures.value c.in_ok-nears.ensures.items c.in_ok-owns.ensures c.in_ok-ends.ensures in
-    (all.own_count, all.own_unused)
+    record {
+      limits = c.limit.ensures.within;
+      device = device_fits p c.in_ok-shared.shared c.in_ok-owns.owns.items c.in_ok-ends.ends.items c.add_lanes-2.new.nears.items all
+          (c.in_ok-shared.ensures.pool ∙ c.from.ensures ∙ c.limit.ensures.value) c.in_ok-shared.ensures.claims;
+      owns = (all.own_count, all.own_unused);
+      seats = c.in_ok-shared.ensures.seats;
+    }
 
 pub returns : goal.returns
 returns c =

@@ -1,22 +1,22 @@
-use Rattle.pipeline_threads.proofs.Wholes.{run_log, stop_parts}
+use Rattle.std.proofs.Common.{ℕ, sym, subst, arith}
+use Rattle.event_device.proofs.Sites.{count_shown}
+use Rattle.pipeline_threads.proofs.Runs.{fresh_idle}
+use Rattle.pipeline_threads.proofs.Wholes.{run_log}
+use Rattle.pipeline_threads.specs.Run.{AreIdle, HasRun}
 use Rattle.pipeline_threads.proofs.run.run_pipeline.Goals as goal
 
-pub stop-requires : goal.stop-requires
-stop-requires g c =
-    stop_parts c.args.shape c.args.actions.now c.args.trace.now c.in_ok-engine.engine c.in_ok-engine-2.engine c.in_ok-engine.ensures.made c.in_ok-engine-2.ensures
+pub run_threads-requires-clause-idle : goal.run_threads-requires-clause-idle
+run_threads-requires-clause-idle g c κs within =
+    let count = count_shown c.args.shape c.ports-ports.result.now c.ports-ports.ensures in
+    subst (λ n. AreIdle n c.in_ok-device.device) (sym count) (fresh_idle c.args.shape c.in_ok-device.device c.in_ok-device.ensures)
 
-pub returns-in-Ok-clause-lawful : goal.returns-in-Ok-clause-lawful
-returns-in-Ok-clause-lawful g c =
-    (run_log c.args.shape c.args.actions.now c.args.trace.now c.in_ok-engine.engine c.in_ok-engine-2.engine c.in_ok-engine.ensures.made c.in_ok-engine-2.ensures c.in-Ok.report c.in-Ok.ensures.report).lawful
-
-pub returns-in-Ok-clause-answers : goal.returns-in-Ok-clause-answers
-returns-in-Ok-clause-answers g c =
-    (run_log c.args.shape c.args.actions.now c.args.trace.now c.in_ok-engine.engine c.in_ok-engine-2.engine c.in_ok-engine.ensures.made c.in_ok-engine-2.ensures c.in-Ok.report c.in-Ok.ensures.report).answers
-
-pub returns-in-Ok-clause-newcomers : goal.returns-in-Ok-clause-newcomers
-returns-in-Ok-clause-newcomers g c =
-    (run_log c.args.shape c.args.actions.now c.args.trace.now c.in_ok-engine.engine c.in_ok-engine-2.engine c.in_ok-engine.ensures.made c.in_ok-engine-2.ensures c.in-Ok.report c.in-Ok.ensures.report).newcomers
-
-pub returns-in-Ok-clause-finished : goal.returns-in-Ok-clause-finished
-returns-in-Ok-clause-finished g c =
-    (run_log c.args.shape c.args.actions.now c.args.trace.now c.in_ok-engine.engine c.in_ok-engine-2.engine c.in_ok-engine.ensures.made c.in_ok-engine-2.ensures c.in-Ok.report c.in-Ok.ensures.report).finished
+pub returns-in-Ok : goal.returns-in-Ok
+returns-in-Ok g c =
+    let actions = c.args.actions.now in
+    let trace = c.args.trace.now in
+    let before = c.in_ok-device.device in
+    let after = c.in_ok-device-2.device in
+    let Ran : ℕ → Type 0 = λ n. HasRun actions trace n before after in
+    let ran = subst Ran (count_shown c.args.shape c.ports-ports.result.now c.ports-ports.ensures) c.in_ok-device-2.ensures in
+    let log = run_log c.args.shape actions trace before after c.in-Ok.report c.in_ok-device.ensures (omega arith) ran c.in-Ok.ensures.stopped in
+    record { lawful = log.lawful; answers = log.answers; newcomers = log.newcomers; finished = log.finished }

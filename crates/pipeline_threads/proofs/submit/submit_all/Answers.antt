@@ -1,7 +1,6 @@
-use Rattle.std.proofs.Common.{◌≡◌, ◌+◌, ◌≤◌, length, take, ap, ◌∙◌}
+use Rattle.std.proofs.Common.{◌+◌, take, ap, ◌∙◌}
 use Rattle.std.specs.Option.{is_some}
 use Rattle.event_device.proofs.Keeping.{same_site}
-use Rattle.event_ports.specs.Lanes.{SubmitsAll}
 use Rattle.event_ports.specs.Ports.{hand}
 use Rattle.pipeline_threads.proofs.Submitting.{all_before, burst_last, burst_then}
 use Rattle.pipeline_threads.proofs.submit.submit_all.Goals as goal

@@ -1,42 +1,42 @@
-use Rattle.std.proofs.Common.{◌≡◌, ℕ, zero, suc, ◌<◌, ◌==◌, Bool, false, length, rules, arith, refl, sym, subst, vec_len, ◌∙◌}
-use Rattle.std.specs.declared.alloc.Global.{Global}
-use Rattle.std.specs.declared.vec.Vec.{Vec}
-use Rattle.std.proofs.lemmas.Bool.{false≢true}
+use Rattle.std.proofs.Common.{◌-◌, rules, arith, sym, subst}
+use Rattle.std.specs.Prelude.{OnOk}
+use Rattle.std.proofs.lemmas.Result.{on_ok_weaker}
 use Rattle.event_ports.specs.declared.port.Port.{Port}
-use Rattle.pipeline_threads.proofs.Runs.{front_idle, last_idle, worker_run}
-use Rattle.pipeline_threads.specs.Ports.{ReturnsWorker}
-use Rattle.pipeline_threads.specs.declared.promise.Worked.{Worked}
+use Rattle.pipeline_threads.proofs.Runs.{idle_others, idle_port, none_away, none_run, one_more, still_empty}
+use Rattle.pipeline_threads.specs.Ports.{Returns}
+use Rattle.pipeline_threads.specs.Run.{HasRun}
+use Rattle.pipeline_threads.specs.declared.promise.Returned.{Returned}
 use Rattle.pipeline_threads.proofs.threads.+run_ports.Goals as goal
 
--- a Vec that isn't seen to be empty has an item
-some_left : (ports : Vec Port Global) (b : Bool) → b ≡ (vec_len ports == 0) → b ≡ false → 0 < length ports.items
-some_left ports b e f = subst (λ n. 0 < n) ports.ok.0 (not_zero (vec_len ports) (sym e ∙ f))
-  where
-    not_zero : (n : ℕ) → (n == 0) ≡ false → 0 < n
-    not_zero zero h = absurd (false≢true (sym h))
-    not_zero (suc n) h = omega arith
+pub returns-then-count-eq0 : goal.returns-then-count-eq0
+returns-then-count-eq0 g t c =
+    let swept = c.sweep_all-swept in
+    subst (λ n. OnOk swept.result (HasRun c.args.actions.now c.args.trace.now n c.args.device.now c.shut.new.self)) (sym c.if-count-eq0.true)
+    (on_ok_weaker swept.result (none_run c.args.actions.now c.args.trace.now c.args.device.now swept.new.device c.shut.new.self c.shut.result swept.ensures.others swept.ensures.device c.shut.ensures.shut)
+    swept.ensures.done)
 
-pub run_producer-requires-clause-idle : goal.run_producer-requires-clause-idle
-run_producer-requires-clause-idle g t c κs within = last_idle c.pop.new.self.items c.args.engine.now.ports.items c.in-Some.port c.in-Some.ensures.items c.requires.ready.idle
+pub unreachable-requires : goal.unreachable-requires
+unreachable-requires g t c = none_away c.args.count (c.args.count - 1) c.args.device.now c.requires.idle (omega arith) c.in_default.ensures.lent.0
 
 pub spawn_with-requires-clause-runs : goal.spawn_with-requires-clause-runs
 spawn_with-requires-clause-runs g t c κs within =
-    ((c.requires.actions, c.requires.few, last_idle c.pop.new.self.items c.args.engine.now.ports.items c.in-Some.port c.in-Some.ensures.items c.requires.ready.idle), search rules)
+    let idle = idle_port (c.args.count - 1) c.args.device.now c.take_port.new.self c.in-Some.port c.in-Some.ensures.lent c.args.count c.requires.idle (omega arith) in
+    ((c.requires.actions, c.requires.few, idle), search rules)
 
-pub run_ports-ran-requires-clause-ready : goal.run_ports-ran-requires-clause-ready
-run_ports-ran-requires-clause-ready g t c κs within =
-    record {
-      some = some_left c.pop.new.self c.is_empty.result c.is_empty.ensures c.if-is_empty.false;
-      idle = front_idle c.pop.new.self.items c.args.engine.now.ports.items c.in-Some.port c.in-Some.ensures.items c.requires.ready.idle;
-    }
+pub run_ports-ran-requires-clause-idle : goal.run_ports-ran-requires-clause-idle
+run_ports-ran-requires-clause-idle g t c κs within =
+    idle_others (c.args.count - 1) c.args.device.now c.take_port.new.self c.in-Some.port c.in-Some.ensures.lent c.args.count c.requires.idle (omega arith)
+
+pub put_home-requires-clause-empty : goal.put_home-requires-clause-empty
+put_home-requires-clause-empty g t c =
+    let back = c.join-port.result in
+    let kept = subst (λ (p : Returned). Returns p.actions.now p.trace.now p.start.value back) c.in-Ok.ensures.ok c.join-port.ensures in
+    let returns = subst (λ (p : Port). Returns c.args.actions.now c.args.trace.now p back) c.of.ensures kept in
+    still_empty (c.args.count - 1) c.args.device.now c.take_port.new.self c.in-Some.port c.in-Some.ensures.lent c.args.actions.now c.args.trace.now c.run_ports-ran.new.device c.in_ok-ran.ensures back returns
 
 pub returns : goal.returns
 returns g t c =
     let back = c.join-port.result in
-    let kept = subst (λ (p : Worked). ReturnsWorker p.actions.now p.start.value back) c.in-Ok.ensures.ok c.join-port.ensures in
-    let promised = subst (λ (p : Port). ReturnsWorker c.args.actions.now p back) c.of.ensures kept in
-    worker_run c.args.actions.now c.args.trace.now c.args.engine.now
-    (record { recorder = c.args.engine.now.recorder; control = c.args.engine.now.control; ports = c.pop.new.self })
-    c.run_ports-ran.new.engine
-    (record { recorder = c.run_ports-ran.new.engine.recorder; control = c.run_ports-ran.new.engine.control; ports = c.push.new.self })
-    c.in-Some.port back refl refl c.in-Some.ensures.items c.in_ok-ran.ensures promised refl refl c.in_ok-push.ensures.items
+    let kept = subst (λ (p : Returned). Returns p.actions.now p.trace.now p.start.value back) c.in-Ok.ensures.ok c.join-port.ensures in
+    let returns = subst (λ (p : Port). Returns c.args.actions.now c.args.trace.now p back) c.of.ensures kept in
+    one_more (c.args.count - 1) c.args.device.now c.take_port.new.self c.in-Some.port c.in-Some.ensures.lent c.args.actions.now c.args.trace.now c.run_ports-ran.new.device c.in_ok-ran.ensures back returns c.args.count c.put_home.new.device (omega arith) c.put_home.ensures.back

@@ -9,8 +9,8 @@ use Rattle.pipeline_threads.proofs.Answering.{answered_all, answered_owes, deque
 use Rattle.pipeline_threads.specs.Ports.{AreDue, IsEven, Owes}
 use Rattle.pipeline_threads.proofs.worker.turn.Goals as goal
 
-pub returns-then-came-eq0-clause-even : goal.returns-then-came-eq0-clause-even
-returns-then-came-eq0-clause-even g c on =
+pub returns-then-came-eq0 : goal.returns-then-came-eq0
+returns-then-came-eq0 g c =
     let actions = c.args.actions.now in
     let before = c.args.port.now in
     let between = c.dequeue_burst.new.self in
@@ -19,41 +19,14 @@ returns-then-came-eq0-clause-even g c on =
     let owes : Owes actions (links before) came (hand between) =
     dequeued_owes actions (links before) (released_first before) (hand before) (hand between) came c.requires.even c.in-Ok.ensures.ok in
     let none : came ≡ [] = nil_from_length came (sym c.in-Ok.ensures.count ∙ c.if-came-eq0.true) in
-    let even = rests_owes actions (links before) [] (hand between) (hand after) (subst (λ (ds : List Delivery). Owes actions (links before) ds (hand between)) none owes) c.shut_seen.ensures.same.0 in
-    owes_at actions before after []
-    (same_site between after c.shut_seen.ensures.site c.shut_seen.ensures.credit ∙ same_site before between c.dequeue_burst.ensures.site c.dequeue_burst.ensures.credit) even
+    let site : site_of after ≡ site_of before = same_site between after c.shut_seen.ensures.site c.shut_seen.ensures.credit ∙ same_site before between c.dequeue_burst.ensures.site c.dequeue_burst.ensures.credit in
+    let even : IsEven actions after =
+    owes_at actions before after [] site
+    (rests_owes actions (links before) [] (hand between) (hand after) (subst (λ (ds : List Delivery). Owes actions (links before) ds (hand between)) none owes) c.shut_seen.ensures.same.0) in
+    record { site = site; even = λ on. even; worked = owes_worked actions after [] even }
 
-pub returns-then-came-eq0-clause-worked : goal.returns-then-came-eq0-clause-worked
-returns-then-came-eq0-clause-worked g c =
-    let actions = c.args.actions.now in
-    let before = c.args.port.now in
-    let between = c.dequeue_burst.new.self in
-    let after = c.shut_seen.new.self in
-    let came = c.dequeue_burst.new.into.items in
-    let owes : Owes actions (links before) came (hand between) =
-    dequeued_owes actions (links before) (released_first before) (hand before) (hand between) came c.requires.even c.in-Ok.ensures.ok in
-    owes_worked actions after came
-    (owes_at actions before after came
-    (same_site between after c.shut_seen.ensures.site c.shut_seen.ensures.credit ∙ same_site before between c.dequeue_burst.ensures.site c.dequeue_burst.ensures.credit)
-    (rests_owes actions (links before) came (hand between) (hand after) owes c.shut_seen.ensures.same.0))
-
-pub returns-clause-even : goal.returns-clause-even
-returns-clause-even g c taken =
-    let actions = c.args.actions.now in
-    let before = c.args.port.now in
-    let between = c.dequeue_burst.new.self in
-    let after = c.submit_all.new.port in
-    let came = c.dequeue_burst.new.into.items in
-    let owes : Owes actions (links before) came (hand between) =
-    dequeued_owes actions (links before) (released_first before) (hand before) (hand between) came c.requires.even c.in-Ok.ensures.ok in
-    let due : AreDue actions came c.answer_each.new.answers.items =
-    subst (λ (ds : List Delivery). AreDue actions ds c.answer_each.new.answers.items) c.deref.ensures.0 c.answer_each.ensures in
-    let answers : AreDue actions came c.deref-2.result.now = subst (λ (es : List Event). AreDue actions came es) (sym c.deref-2.ensures.0) due in
-    owes_at actions before after [] (c.submit_all.ensures.site ∙ same_site before between c.dequeue_burst.ensures.site c.dequeue_burst.ensures.credit)
-    (answered_all actions (links before) came c.deref-2.result.now (hand between) (hand after) owes answers (c.submit_all.ensures.all taken))
-
-pub returns-clause-worked : goal.returns-clause-worked
-returns-clause-worked g c =
+pub returns : goal.returns
+returns g c =
     let actions = c.args.actions.now in
     let before = c.args.port.now in
     let between = c.dequeue_burst.new.self in
@@ -65,6 +38,10 @@ returns-clause-worked g c =
     let due : AreDue actions came c.answer_each.new.answers.items =
     subst (λ (ds : List Delivery). AreDue actions ds c.answer_each.new.answers.items) c.deref.ensures.0 c.answer_each.ensures in
     let answers : AreDue actions came c.deref-2.result.now = subst (λ (es : List Event). AreDue actions came es) (sym c.deref-2.ensures.0) due in
-    owes_worked actions after (drop front.0 came)
-    (owes_at actions before after (drop front.0 came) (c.submit_all.ensures.site ∙ same_site before between c.dequeue_burst.ensures.site c.dequeue_burst.ensures.credit)
-    (answered_owes actions (links before) came c.deref-2.result.now front.0 (hand between) (hand after) owes answers front.1))
+    let site : site_of after ≡ site_of before = c.submit_all.ensures.site ∙ same_site before between c.dequeue_burst.ensures.site c.dequeue_burst.ensures.credit in
+    record {
+      site = site;
+      even = λ taken. owes_at actions before after [] site (answered_all actions (links before) came c.deref-2.result.now (hand between) (hand after) owes answers (c.submit_all.ensures.all taken));
+      worked = owes_worked actions after (drop front.0 came)
+          (owes_at actions before after (drop front.0 came) site (answered_owes actions (links before) came c.deref-2.result.now front.0 (hand between) (hand after) owes answers front.1));
+    }

@@ -1,4 +1,4 @@
-use Rattle.std.proofs.Common.{◌<◌, ◌^◌, sym, subst, arith}
+use Rattle.std.proofs.Common.{arith}
 use Rattle.event_device.proofs.Served.{inside_fits}
 use Rattle.event_device.proofs.running.Device.inside.Goals as goal
 

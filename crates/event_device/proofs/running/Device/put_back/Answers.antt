@@ -1,10 +1,8 @@
-use Rattle.std.proofs.Common.{Some, ◌<◌, length, refl, sym, ap, subst, ◌∙◌, set, arith}
-use Rattle.std.specs.Prelude.{slice_get}
-use Rattle.std.proofs.lemmas.Option.{slice_get_read}
+use Rattle.std.proofs.Common.{Some, refl, sym, ap, subst, ◌∙◌, set}
 use Rattle.event_device.specs.Device.{IsPortOf}
 use Rattle.event_device.specs.Lent.{ComesBack, IsThere}
 use Rattle.event_device.specs.Parts.{IsOne, Parts, device_of}
-use Rattle.event_device.proofs.Ones.{one_with}
+use Rattle.event_device.proofs.Ones.{home_of, one_with}
 use Rattle.event_device.proofs.Homes.{none_there, some_there}
 use Rattle.event_device.proofs.running.Device.put_back.Goals as goal
 
@@ -13,12 +11,11 @@ returns-then-is_some-clause-there g c =
     let r : Parts = record { recorded = c.self.inside.recorder; control = c.self.inside.control; claims = c.self.inside.claims.value; ports = c.self.inside.ports.items } in
     let home = c.index.result.now in
     let of_it : IsPortOf (device_of r) c.args.port = subst (λ old. IsPortOf (device_of old) c.args.port) (sym c.self.view_is) c.requires in
-    let there_is : c.number-number.result < length r.ports = omega (arith, of_it.0, c.number-number.ensures, c.self.invariant.count) in
-    let read = slice_get_read r.ports _ c.number-number.result home refl there_is c.index.ensures in
+    let read = home_of r c.self.invariant c.args.port of_it c.number-number.result home c.number-number.ensures c.index.ensures in
     let there = some_there home (sym c.is_some.ensures ∙ c.if-is_some.true) in
     let is : IsThere c.args.port r r = record {
       other = there.0;
-      was_home = ap (slice_get r.ports) (sym c.number-number.ensures) ∙ (read ∙ ap Some there.1);
+      was_home = read ∙ ap Some there.1;
       same = refl;
     } in
     (refl, subst (λ v. IsThere c.args.port v v) c.self.view_is is)
@@ -34,12 +31,11 @@ returns-clause-back g c =
     let r : Parts = record { recorded = c.self.inside.recorder; control = c.self.inside.control; claims = c.self.inside.claims.value; ports = c.self.inside.ports.items } in
     let home = c.index.result.now in
     let of_it : IsPortOf (device_of r) c.args.port = subst (λ old. IsPortOf (device_of old) c.args.port) (sym c.self.view_is) c.requires in
-    let there_is : c.number-number.result < length r.ports = omega (arith, of_it.0, c.number-number.ensures, c.self.invariant.count) in
-    let read = slice_get_read r.ports _ c.number-number.result home refl there_is c.index.ensures in
+    let read = home_of r c.self.invariant c.args.port of_it c.number-number.result home c.number-number.ensures c.index.ensures in
     let empty = none_there home (sym c.is_some.ensures ∙ c.if-is_some.false) in
     let new : Parts = record r { ports = set r.ports c.number-number.result (Some c.args.port) } in
     let is : ComesBack c.args.port r new = record {
-      was_away = ap (slice_get r.ports) (sym c.number-number.ensures) ∙ (read ∙ ap Some empty);
+      was_away = read ∙ ap Some empty;
       at_home = ap (λ n. record r { ports = set r.ports n (Some c.args.port) }) c.number-number.ensures;
     } in
     subst (λ old. ComesBack c.args.port old new) c.self.view_is is

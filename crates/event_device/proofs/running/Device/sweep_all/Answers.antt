@@ -1,4 +1,4 @@
-use Rattle.std.proofs.Common.{add-one, refl, sym, suc, ◌∙◌, ◌+◌, inl}
+use Rattle.std.proofs.Common.{add-one, refl, sym, suc, ◌∙◌, inl}
 use Rattle.event_device.specs.Lent.{SweepsTimes}
 use Rattle.event_device.proofs.running.Device.sweep_all.Goals as goal
 

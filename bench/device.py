@@ -2,9 +2,8 @@
 """Times events that go through a device in one thread: new, swept, dequeued and released, in bursts of 1, of 8 and of 32. The cases of an
 atomic queue stand there twice: with all events handed to the ports, and (`-lanes`) with a lane for each slot of the queue, which the
 worker claims; such a lane holds 16 events, so that a burst of 32 of one flow is swept and dequeued in two portions. The device's log
-counts its steps and keeps none; `atomic-64-flows` stands there twice more, over a vector that is cleared before each sweep (`-vector`)
-and over a tally of queues and lanes (`-tally`). It fails where the last 100,000 of 1,000,000 events take more than 1.3 times as long as
-the first 100,000.
+counts its steps and keeps none; `atomic-64-flows` stands there once more, over a tally of queues and lanes (`-tally`). It fails where
+the last 100,000 of 1,000,000 events take more than 1.3 times as long as the first 100,000.
 
     device.py PROGRAM
 

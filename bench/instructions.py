@@ -38,7 +38,8 @@ def total(file):
 def through_device(at, program):
     """The instructions per event, by case and burst. A profile is written before each device is made, of what came since the last."""
     rows = callgrind(at, ["--collect-atstart=no", "--toggle-collect=*Bench::rounds*", "--dump-before=*Bench::new*"], [program]).splitlines()
-    cases = [(name, int(burst)) for name, burst, *_ in map(str.split, rows)]
+    # The last lines are those of pipelines.
+    cases = [(name, int(burst)) for name, burst, *passed in map(str.split, rows) if len(passed) == 4]
     # What is counted before the first device is made is nothing; the last profile has no number.
     profiles = [at / f"out.{number}" for number in range(2, len(cases) + 1)] + [at / "out"]
     if not all(it.is_file() for it in profiles) or (at / f"out.{len(cases) + 1}").exists():

@@ -9,9 +9,9 @@ Where DPDK's `dpdk-test-eventdev` is installed, its `perf_queue` over `event_sw`
 as many workers, by turns with these, each of its threads on all processors: the events per second that it says itself, on the average
 of some seconds. A worker of it dequeues up to 16 events at once, one of these up to 32.
 
-The program is `run_bench`; where none is named it is built. Each time is the best of three runs, and that of the check and the text
-less what a run with no event takes besides its threads. How much faster more workers are is no fault: how many processors there are
-decides that.
+The program is `device_bench` with its word `run`; where none is named it is built. Each time is the best of three runs, and that of the
+check and the text less what a run with no event takes besides its threads. How much faster more workers are is no fault: how many
+processors there are decides that.
 """
 import os
 import pathlib
@@ -24,16 +24,15 @@ import time
 SERVINGS, WORKERS, EVENTS, RUNS = ("ports", "flows"), (1, 2, 4, 8), 200_000, 3
 COUNTS, MOST = (100_000, 200_000), 2.3
 THEIR_SECONDS = 5
-CRATE = pathlib.Path(__file__).resolve().parent.parent / "crates" / "run_bench"
+CRATE = pathlib.Path(__file__).resolve().parent.parent / "crates" / "device_bench"
 
 
 def built():
     """The program, which `rt run` proves and builds where it is older than its sources."""
-    words = (CRATE / "args").read_text().split()
-    run = subprocess.run(["rt", "run", "--", *words], cwd=CRATE, stdout=subprocess.PIPE, stderr=subprocess.STDOUT, check=False)
+    run = subprocess.run(["rt", "run", "--", "run", "ports", "2", "1000"], cwd=CRATE, stdout=subprocess.PIPE, stderr=subprocess.STDOUT, check=False)
     if run.returncode != 0:
-        sys.exit(f"run_bench isn't built: {run.stdout.decode()[-2000:]}")
-    return CRATE / "out" / "run_bench"
+        sys.exit(f"device_bench isn't built: {run.stdout.decode()[-2000:]}")
+    return CRATE / "out" / "device_bench"
 
 
 def named():
@@ -46,7 +45,7 @@ def run(program, serving, workers, events):
     checked.
     """
     start = time.perf_counter()
-    child = subprocess.Popen([program, serving, str(workers), str(events)], stdout=subprocess.PIPE, stderr=subprocess.PIPE)
+    child = subprocess.Popen([program, "run", serving, str(workers), str(events)], stdout=subprocess.PIPE, stderr=subprocess.PIPE)
     line, said = child.stdout.read().decode(), child.stderr.read().decode()
     _, status, used = os.wait4(child.pid, 0)
     elapsed = time.perf_counter() - start

@@ -106,18 +106,18 @@ RUNS = (
 )
 # The calls whose refusals tests meet, the crate of the tests, and the tests: all of a module, or one by its path.
 TESTS = (
-    ("Shape::build", "core_part_tests", "shapes"),
-    ("Pins::new, Reorder::new, History::new", "core_part_tests", "orders"),
-    ("WaitingLists::new, ParkedQueues::new", "core_part_tests", "queues"),
-    ("Levels::new", "core_part_tests", "levels"),
-    ("Core::new", "core_part_tests", "core_again"),
-    ("Tail::new, Tally::new", "core_part_tests", "logs"),
-    ("Credits::new", "lane_tests", "credits::credit_calls"),
-    ("lane", "lane_tests", "lanes"),
-    ("Claims::new", "lane_tests", "calls"),
-    ("Claims::new", "lane_tests", "memory"),
-    ("Claims::new", "lane_tests", "port"),
-    ("Device::with_log, sweep, stop", "device_tests", "again"),
+    ("Shape::build", "core_part_tests", "tests::shapes"),
+    ("Pins::new, Reorder::new, History::new", "core_part_tests", "tests::orders"),
+    ("WaitingLists::new, ParkedQueues::new", "core_part_tests", "tests::queues"),
+    ("Levels::new", "core_part_tests", "tests::levels"),
+    ("Core::new", "core_part_tests", "tests::core_again"),
+    ("Tail::new, Tally::new", "core_part_tests", "tests::logs"),
+    ("Credits::new", "lane_tests", "tests::credits::credit_calls"),
+    ("lane", "lane_tests", "tests::lanes"),
+    ("Claims::new", "lane_tests", "tests::calls"),
+    ("Claims::new", "lane_tests", "tests::memory"),
+    ("Claims::new", "lane_tests", "tests::port"),
+    ("Device::with_log, sweep, stop", "device_tests", "tests::again"),
 )
 A_TEST = re.compile(r"^#\[test\]\n(?:#.*\n)*fn (\w+)", re.MULTILINE)
 

@@ -1,26 +1,21 @@
 //! Why the plain core gives up.
 
 use std::alloc::{AllocError, AllocFailed};
+use thiserror::Error;
 
 /// Why the plain core gives up. Without want of memory neither of the others comes.
-#[derive(Clone, Copy, Debug, PartialEq, Eq)]
+#[derive(Clone, Copy, Debug, PartialEq, Eq, Error)]
 pub enum PlainFault {
-    /// Memory is lacking.
-    Memory,
-    /// A queue isn't there.
+    #[error("memory is lacking")]
+    Memory(#[from] AllocError),
+    #[error("a queue isn't there")]
     Queue,
-    /// A level has no room.
+    #[error("a level has no room")]
     Room,
 }
 
-impl From<AllocError> for PlainFault {
-    fn from(_: AllocError) -> PlainFault {
-        PlainFault::Memory
-    }
-}
-
 impl<T: Drop> From<AllocFailed<T>> for PlainFault {
-    fn from(_: AllocFailed<T>) -> PlainFault {
-        PlainFault::Memory
+    fn from(failed: AllocFailed<T>) -> PlainFault {
+        PlainFault::Memory(AllocError::from(failed))
     }
 }

@@ -4,16 +4,4 @@
 #![tactic(auto)]
 
 #[cfg(test)]
-mod core_again;
-#[cfg(test)]
-mod events;
-#[cfg(test)]
-mod levels;
-#[cfg(test)]
-mod logs;
-#[cfg(test)]
-mod orders;
-#[cfg(test)]
-mod queues;
-#[cfg(test)]
-mod shapes;
+mod tests;

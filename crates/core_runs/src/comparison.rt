@@ -24,16 +24,24 @@ pub(crate) struct Compared {
     flows: usize,
 }
 
+/// A device in which few events may be.
+const SMALL: Device = Device {
+    limit: 10,
+    sweep: 4,
+    serving: Serving::Ports,
+    queues: &[],
+    ports: &[],
+};
+
 /// The devices on which the cores are compared.
 pub(crate) static COMPARED: [Compared; 6] = [
     Compared {
         name: "a parallel queue",
         device: Device {
             limit: 6,
-            sweep: 4,
-            serving: Serving::Ports,
             queues: &[(Kind::Parallel, 128, 1)],
             ports: &[(4, &[]), (3, &[0]), (2, &[0])],
+            ..SMALL
         },
         flows: 6,
     },
@@ -42,20 +50,18 @@ pub(crate) static COMPARED: [Compared; 6] = [
         device: Device {
             limit: 8,
             sweep: 3,
-            serving: Serving::Ports,
             queues: &[(Kind::Atomic, 128, 2), (Kind::Atomic, 128, 3)],
             ports: &[(4, &[0]), (3, &[0, 1]), (4, &[1, 0])],
+            ..SMALL
         },
         flows: 6,
     },
     Compared {
         name: "ordered queues of few places",
         device: Device {
-            limit: 10,
-            sweep: 4,
-            serving: Serving::Ports,
             queues: &[(Kind::Ordered, 128, 3), (Kind::Ordered, 128, 5)],
             ports: &[(4, &[]), (2, &[0]), (3, &[0, 1]), (2, &[1, 0])],
+            ..SMALL
         },
         flows: 6,
     },
@@ -64,7 +70,6 @@ pub(crate) static COMPARED: [Compared; 6] = [
         device: Device {
             limit: 16,
             sweep: 2,
-            serving: Serving::Ports,
             queues: &[
                 (Kind::Parallel, 200, 1),
                 (Kind::Atomic, 10, 2),
@@ -77,13 +82,13 @@ pub(crate) static COMPARED: [Compared; 6] = [
                 (6, &[0, 1, 2, 3]),
                 (3, &[3, 2, 1]),
             ],
+            ..SMALL
         },
         flows: 6,
     },
     Compared {
         name: "flow lanes beside an ordered and a parallel queue",
         device: Device {
-            limit: 10,
             sweep: 3,
             serving: Serving::Flows,
             queues: &[
@@ -92,6 +97,7 @@ pub(crate) static COMPARED: [Compared; 6] = [
                 (Kind::Parallel, 128, 1),
             ],
             ports: &[(4, &[]), (3, &[0, 1]), (4, &[2, 1, 0])],
+            ..SMALL
         },
         flows: 6,
     },
@@ -101,9 +107,9 @@ pub(crate) static COMPARED: [Compared; 6] = [
         device: Device {
             limit: 200,
             sweep: 16,
-            serving: Serving::Ports,
             queues: &[(Kind::Atomic, 128, 64)],
             ports: &[(4, &[]), (1, &[0]), (1, &[0]), (2, &[0]), (8, &[0])],
+            ..SMALL
         },
         flows: 40,
     },

@@ -2,43 +2,25 @@
 
 use core_oracle::PlainFault;
 use evt_types::ShapeFault;
-use std::alloc::{AllocError, AllocFailed};
+use std::alloc::AllocError;
+use thiserror::Error;
 
 /// Why a run stops before its end.
-#[derive(Debug, Drop)]
+#[derive(Debug, Drop, Error)]
 pub(crate) enum RunFault {
     /// Something came otherwise than it must; the text says what.
+    #[error("{0}")]
     Otherwise(String),
     /// The device's configuration is refused.
-    Shape(ShapeFault),
+    #[error("the configuration is refused: {0}")]
+    Shape(#[from] ShapeFault),
     /// The plain core gave up.
-    Plain(PlainFault),
+    #[error("the plain core gave up: {0}")]
+    Plain(#[from] PlainFault),
     /// A line couldn't be written.
+    #[error("a line can't be written")]
     Write,
     /// Memory ran out.
-    Memory,
-}
-
-impl From<ShapeFault> for RunFault {
-    fn from(fault: ShapeFault) -> RunFault {
-        RunFault::Shape(fault)
-    }
-}
-
-impl From<PlainFault> for RunFault {
-    fn from(fault: PlainFault) -> RunFault {
-        RunFault::Plain(fault)
-    }
-}
-
-impl From<AllocError> for RunFault {
-    fn from(_: AllocError) -> RunFault {
-        RunFault::Memory
-    }
-}
-
-impl<T: Drop> From<AllocFailed<T>> for RunFault {
-    fn from(_: AllocFailed<T>) -> RunFault {
-        RunFault::Memory
-    }
+    #[error("memory is lacking")]
+    Memory(#[from] AllocError),
 }

@@ -9,42 +9,33 @@ use crate::rows::{
 use crate::turns::{KnownRun, Logged, Turn};
 use evt_types::{Kind, Serving};
 
-/// New events of flow 7, by their payload.
-const FIRST: Packet = Packet { payload: 1, ..NEW };
+/// A new event of flow 7 for the first queue, but for these fields.
+macro_rules! new_event {
+    ($($field:ident: $value:literal),*) => {
+        Packet { $($field: $value,)* ..NEW }
+    };
+}
 
-const SECOND: Packet = Packet { payload: 2, ..NEW };
+/// New events, by their payload.
+const FIRST: Packet = new_event!(payload: 1);
 
-const FOURTH: Packet = Packet { payload: 4, ..NEW };
+const SECOND: Packet = new_event!(payload: 2);
+
+const FOURTH: Packet = new_event!(payload: 4);
+
 /// New events of other flows. Flow 3 falls into the slot of flow 7, flow 5 into another.
-const OF_FLOW_3: Packet = Packet {
-    flow: 3,
-    payload: 1,
-    ..NEW
-};
+const OF_FLOW_3: Packet = new_event!(flow: 3, payload: 1);
 
-const OF_FLOW_5: Packet = Packet {
-    flow: 5,
-    payload: 3,
-    ..NEW
-};
+const OF_FLOW_5: Packet = new_event!(flow: 5, payload: 3);
+
 /// A new event for the second queue.
-const FOR_THE_SECOND: Packet = Packet {
-    queue: 1,
-    payload: 2,
-    ..NEW
-};
-/// New events of the levels 1 and 0.
-const OF_LEVEL_1: Packet = Packet {
-    priority: 64,
-    payload: 1,
-    ..NEW
-};
+const FOR_THE_SECOND: Packet = new_event!(queue: 1, payload: 2);
 
-const OF_LEVEL_0: Packet = Packet {
-    priority: 63,
-    payload: 2,
-    ..NEW
-};
+/// New events of the levels 1 and 0.
+const OF_LEVEL_1: Packet = new_event!(priority: 64, payload: 1);
+
+const OF_LEVEL_0: Packet = new_event!(priority: 63, payload: 2);
+
 /// An event that is forwarded to the first queue.
 const BACK: Packet = Packet {
     queue: 0,

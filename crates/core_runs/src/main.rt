@@ -80,7 +80,7 @@ fn main(rt: HostRuntime) -> ExitCode {
         Ok(true) => ExitCode::from(0),
         Ok(false) => ExitCode::from(1),
         Err(fault) => {
-            let _ = eprintln!(rt; "core_runs: {fault:?}");
+            let _ = eprintln!(rt; "core_runs: {fault}");
             ExitCode::from(1)
         }
     }

@@ -17,14 +17,14 @@ impl Packet {
     /// The event.
     pub(crate) fn event(&self) -> Event {
         Event {
-            flow: u32::from(self.flow),
-            sub_type: 0,
-            event_type: 0,
             op: self.op,
             queue: self.queue,
+            flow: u32::from(self.flow),
             priority: self.priority,
-            impl_opaque: 0,
             payload: self.payload,
+            sub_type: 0,
+            event_type: 0,
+            impl_opaque: 0,
         }
     }
 }

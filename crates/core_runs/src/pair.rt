@@ -10,7 +10,6 @@ use std::alloc::Global;
 /// Both cores, in which the same has happened.
 #[derive(Drop)]
 pub(crate) struct Pair {
-    alloc: Global,
     run: Run,
     plain: PlainRun,
 }
@@ -19,7 +18,6 @@ impl Pair {
     /// Two cores for a device, in which nothing has happened.
     pub(crate) fn new(alloc: Global, device: &Device) -> Result<Pair, RunFault> {
         Ok(Pair {
-            alloc,
             run: Run::new(alloc, device)?,
             plain: PlainRun::new(alloc, device)?,
         })
@@ -44,7 +42,7 @@ impl Pair {
             return Ok(made);
         }
         let (logged, logged_plainly) = (self.run.log.last(), self.plain.core.log().last());
-        Err(RunFault::Otherwise(format!(in self.alloc;
+        Err(RunFault::Otherwise(format!(in self.run.alloc;
             "after {steps} steps {step:?} made {made:?} and plainly {plainly:?}; the last step logged is {logged:?} and plainly {logged_plainly:?}"
         )?))
     }
@@ -68,25 +66,25 @@ impl Pair {
 
     /// The same events must wait in the queue.
     fn must_wait_alike(&self, queue: usize) -> Result<(), RunFault> {
-        let waiting = self.run.waiting(self.alloc, queue)?;
+        let waiting = self.run.waiting(queue)?;
         let plainly = self.plain.core.list_waiting(queue)?;
         if waiting.as_slice() == plainly.as_slice() {
             return Ok(());
         }
-        Err(RunFault::Otherwise(format!(in self.alloc;
+        Err(RunFault::Otherwise(format!(in self.run.alloc;
             "in queue {queue} {waiting:?} wait and plainly {plainly:?}"
         )?))
     }
 
     /// The queue must have as many open events, where it is ordered, and keep the same ones.
     fn must_keep_alike(&self, queue: usize) -> Result<(), RunFault> {
-        let kept = self.run.kept(self.alloc, queue)?;
+        let kept = self.run.kept(queue)?;
         let plainly = self.plain.core.list_kept(queue)?;
         let (places, open) = (self.run.places_len(queue), self.open_len(queue));
         if places == open && kept.as_slice() == plainly.as_slice() {
             return Ok(());
         }
-        Err(RunFault::Otherwise(format!(in self.alloc;
+        Err(RunFault::Otherwise(format!(in self.run.alloc;
             "queue {queue} has {places} places and keeps {kept:?}, and plainly {open} and {plainly:?}"
         )?))
     }

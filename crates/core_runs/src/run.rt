@@ -8,7 +8,7 @@ use evt_types::{
     Delivery, Event, KeptEvent, MAX_FORWARDS, MAX_LANES, MAX_QUEUES, MAX_SWEEP, Reply, Step,
 };
 use sched_core::{Core, Offer, Skips, Took};
-use std::alloc::Global;
+use std::alloc::{AllocError, Global};
 
 /// What became of a reply, in the plain core's words.
 fn plain_took(took: Took) -> PlainTook {
@@ -38,6 +38,7 @@ fn plain_offer(offer: Offer) -> PlainOffer {
 /// A core, what its sweep passes over, and the log of all steps that it has made.
 #[derive(Drop)]
 pub(crate) struct Run {
+    pub(crate) alloc: Global,
     pub(crate) core: Core,
     skips: Skips,
     pub(crate) log: Vec<Step>,
@@ -48,11 +49,12 @@ impl Run {
     pub(crate) fn new(alloc: Global, device: &Device) -> Result<Run, RunFault> {
         match Core::new(alloc, device.shape(alloc)?) {
             Ok(core) => Ok(Run {
+                alloc,
                 core,
                 skips: Skips::none(),
                 log: Vec::new(alloc),
             }),
-            Err(_) => Err(RunFault::Memory),
+            Err((memory, _)) => Err(RunFault::from(memory)),
         }
     }
 
@@ -114,8 +116,8 @@ impl Run {
     }
 
     /// The events that wait in the queue.
-    pub(crate) fn waiting(&self, alloc: Global, queue: usize) -> Result<Vec<Delivery>, RunFault> {
-        let mut waiting = Vec::new(alloc);
+    pub(crate) fn waiting(&self, queue: usize) -> Result<Vec<Delivery>, RunFault> {
+        let mut waiting = Vec::new(self.alloc);
         if queue < self.core.shape().queues().len() {
             waiting.reserve(self.core.waiting_len(queue))?;
             self.core.list_waiting(queue, &mut waiting);
@@ -124,12 +126,12 @@ impl Run {
     }
 
     /// The queue's kept events.
-    pub(crate) fn kept(&self, alloc: Global, queue: usize) -> Result<Vec<KeptEvent>, RunFault> {
-        let mut kept = Vec::new(alloc);
+    pub(crate) fn kept(&self, queue: usize) -> Result<Vec<KeptEvent>, RunFault> {
+        let mut kept = Vec::new(self.alloc);
         if queue < self.core.shape().queues().len() {
             let places = self.core.places_len(queue);
             let room = places.checked_mul(MAX_FORWARDS);
-            kept.reserve(room.ok_or(RunFault::Memory)?)?;
+            kept.reserve(room.ok_or(AllocError)?)?;
             self.core.list_kept(queue, &mut kept);
         }
         Ok(kept)

@@ -5,7 +5,7 @@ use crate::fault::RunFault;
 use crate::moves::{Made, Move, Packet};
 use crate::run::Run;
 use core_oracle::{PlainOffer, PlainTook};
-use evt_types::{Delivery, KeptEvent, Outcome, Source, Step};
+use evt_types::{Outcome, Source, Step};
 use std::alloc::Global;
 
 /// A run of which is known what comes of each turn: of those that it begins with, as others may too, and of its own.
@@ -65,33 +65,28 @@ pub(crate) enum Logged {
     Shut,
 }
 
+/// The event's queue accepts it.
+fn accepted(packet: Packet, source: Source) -> Step {
+    Step::Accept {
+        queue: usize::from(packet.queue),
+        event: packet.event(),
+        source,
+    }
+}
+
 impl Logged {
     /// The step.
     fn step(&self) -> Step {
         match *self {
-            Logged::Entered(packet) => Step::Accept {
-                queue: usize::from(packet.queue),
-                event: packet.event(),
-                source: Source::New { lane: 0 },
-            },
-            Logged::PassedOn(number, packet) => Step::Accept {
-                queue: usize::from(packet.queue),
-                event: packet.event(),
-                source: Source::Of { queue: 0, number },
-            },
+            Logged::Entered(packet) => accepted(packet, Source::New { lane: 0 }),
+            Logged::PassedOn(number, packet) => accepted(packet, Source::Of { queue: 0, number }),
             Logged::Given(lane, queue, number) => Step::Give {
                 lane,
                 queue,
                 number,
             },
-            Logged::Forwarded(lane, packet) => Step::Done {
-                lane,
-                outcome: Outcome::Forwarded(packet.event()),
-            },
-            Logged::Released(lane) => Step::Done {
-                lane,
-                outcome: Outcome::Released,
-            },
+            Logged::Forwarded(lane, packet) => done(lane, Outcome::Forwarded(packet.event())),
+            Logged::Released(lane) => done(lane, Outcome::Released),
             Logged::Turned(packet) => Step::Turned {
                 lane: 0,
                 event: packet.event(),
@@ -99,6 +94,11 @@ impl Logged {
             Logged::Shut => Step::Shut,
         }
     }
+}
+
+/// The lane's oldest event is answered so.
+fn done(lane: usize, outcome: Outcome) -> Step {
+    Step::Done { lane, outcome }
 }
 
 /// The event of this number of its queue is proposed for the lane.
@@ -113,15 +113,15 @@ fn proposed(lane: usize, number: u64, packet: Packet) -> Made {
 
 impl Run {
     /// Makes the turns. What comes of each must be as known.
-    fn play(&mut self, alloc: Global, turns: &[Turn]) -> Result<(), RunFault> {
+    fn play(&mut self, turns: &[Turn]) -> Result<(), RunFault> {
         for turn in turns {
-            self.turn(alloc, turn)?;
+            self.turn(turn)?;
         }
         Ok(())
     }
 
     /// Makes the turn. What comes of it must be as known.
-    fn turn(&mut self, alloc: Global, turn: &Turn) -> Result<(), RunFault> {
+    fn turn(&mut self, turn: &Turn) -> Result<(), RunFault> {
         let (step, wanted) = match *turn {
             Turn::Reply(lane, packet, took) => (Move::Reply { lane, packet }, Made::Took(took)),
             Turn::Give(lane, number, packet) => (Move::Give, proposed(lane, number, packet)),
@@ -129,31 +129,33 @@ impl Run {
             Turn::GiveNone => (Move::Give, Made::Proposed(None)),
             Turn::Shut => (Move::Shut, Made::Nothing),
             Turn::NextSweep => (Move::NextSweep, Made::Nothing),
-            _ => return self.must_be_read(alloc, turn),
+            _ => return self.must_be_read(turn),
         };
         let made = self.make(step)?;
         if made == wanted {
             return Ok(());
         }
-        Err(RunFault::Otherwise(format!(in alloc; "{step:?} made {made:?}, and not {wanted:?}")?))
+        Err(RunFault::Otherwise(format!(in self.alloc;
+            "{step:?} made {made:?}, and not {wanted:?}"
+        )?))
     }
 
     /// What is read of the core must be as known.
-    fn must_be_read(&self, alloc: Global, turn: &Turn) -> Result<(), RunFault> {
+    fn must_be_read(&self, turn: &Turn) -> Result<(), RunFault> {
         let is_so = match *turn {
             Turn::Inside(count) => self.core.inside() == count,
             Turn::LogRoom(room) => self.core.log_room() == room,
             Turn::LogLen(count) => self.log.len() == count,
             Turn::Logged(start, steps) => self.has_logged(start, steps),
-            Turn::Waiting(queue, waiting) => self.has_waiting(alloc, queue, waiting)?,
-            Turn::Kept(places, kept) => self.has_kept(alloc, places, kept)?,
+            Turn::Waiting(queue, waiting) => self.has_waiting(queue, waiting)?,
+            Turn::Kept(places, kept) => self.has_kept(places, kept)?,
             _ => true,
         };
         if is_so {
             return Ok(());
         }
         let (inside, log) = (self.core.inside(), &self.log);
-        Err(RunFault::Otherwise(format!(in alloc;
+        Err(RunFault::Otherwise(format!(in self.alloc;
             "not {turn:?}: {inside} are inside after {log:?}"
         )?))
     }
@@ -170,47 +172,31 @@ impl Run {
     }
 
     /// Whether just these events wait in the queue.
-    fn has_waiting(
-        &self,
-        alloc: Global,
-        queue: usize,
-        wanted: &[(u64, Packet)],
-    ) -> Result<bool, RunFault> {
-        let mut all = Vec::with_capacity(alloc, wanted.len())?;
-        for (number, packet) in wanted {
-            all.push(Delivery {
-                event: packet.event(),
-                queue,
-                number: *number,
-            })?;
-        }
-        let waiting = self.waiting(alloc, queue)?;
-        Ok(self.waiting_len(queue) == wanted.len() && waiting.as_slice() == all.as_slice())
+    fn has_waiting(&self, queue: usize, wanted: &[(u64, Packet)]) -> Result<bool, RunFault> {
+        let waiting = self.waiting(queue)?;
+        let count = wanted.len();
+        let mut both = waiting.iter().zip(wanted);
+        let are_wanted = both.all(|(delivery, (number, packet))| {
+            (delivery.queue, delivery.number) == (queue, *number)
+                && delivery.event == packet.event()
+        });
+        Ok(are_wanted && waiting.len() == count && self.waiting_len(queue) == count)
     }
 
     /// Whether the first queue has so many places, and keeps these events.
-    fn has_kept(
-        &self,
-        alloc: Global,
-        places: usize,
-        wanted: &[(u64, Packet)],
-    ) -> Result<bool, RunFault> {
-        let mut all = Vec::with_capacity(alloc, wanted.len())?;
-        for (number, packet) in wanted {
-            all.push(KeptEvent {
-                queue: 0,
-                number: *number,
-                event: packet.event(),
-            })?;
-        }
-        let kept = self.kept(alloc, 0)?;
-        Ok(self.places_len(0) == places && kept.as_slice() == all.as_slice())
+    fn has_kept(&self, places: usize, wanted: &[(u64, Packet)]) -> Result<bool, RunFault> {
+        let kept = self.kept(0)?;
+        let mut both = kept.iter().zip(wanted);
+        let are_wanted = both.all(|(kept, (number, packet))| {
+            (kept.queue, kept.number) == (0, *number) && kept.event == packet.event()
+        });
+        Ok(are_wanted && kept.len() == wanted.len() && self.places_len(0) == places)
     }
 }
 
 /// Plays a known run. What comes of each turn must be as known.
 pub(crate) fn play(alloc: Global, known: &KnownRun) -> Result<(), RunFault> {
     let mut run = Run::new(alloc, &known.device)?;
-    run.play(alloc, known.opening)?;
-    run.play(alloc, known.turns)
+    run.play(known.opening)?;
+    run.play(known.turns)
 }

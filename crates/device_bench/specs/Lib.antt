@@ -1,1 +1,4 @@
+pub mod Fault
 pub mod Rounds
+pub mod Run
+pub mod Trace

@@ -1,15 +1,14 @@
 //! A device, and the calls by which a burst of events goes through it.
 
-ghost use Rattle.std.specs.Prelude.{◌≡◌, ◌+◌, ◌*◌, IfOk, OnOk};
+ghost use Rattle.std.specs.Prelude.{◌≡◌, ◌+◌, ◌*◌, [], IfOk, OnOk};
 ghost use Rattle.device_bench.specs.Rounds.{IsFresh, Moves, gifts_of, through};
 
 use crate::burst::Burst;
 use crate::case::{Case, SECOND};
 use crate::config::bench_shape;
 use crate::fault::BenchFault;
-use crate::logs::BenchLog;
 use arrayvec::ArrayVec;
-use event_device::{Port, Scheduler, device};
+use event_device::{Device, Port, StepLog};
 use evt_types::{Delivery, Event};
 use std::alloc::Global;
 
@@ -24,13 +23,12 @@ pub struct Counts {
     pub released: u64,
 }
 
-/// A device with its log, what is enqueued in a round, and what went by. Events go through it in bursts of one length.
+/// A device and its two ports, what is enqueued in a round, and what went by. Events go through it in bursts of one length.
 #[derive(Drop)]
-pub struct Bench<L> {
-    scheduler: Scheduler,
+pub struct Bench<L: StepLog> {
+    device: Device<L>,
     source: Port,
     worker: Port,
-    log: L,
     /// The events of a burst.
     events: Vec<Event>,
     /// A portion of releases.
@@ -40,29 +38,6 @@ pub struct Bench<L> {
     case: Case,
     burst: Burst,
     pub counts: Counts,
-}
-
-/// The two ports of the device: the source, and then the worker.
-fn two_of(mut ports: Vec<Port>) -> Option<(Port, Port)> {
-    let worker = ports.pop()?;
-    let source = ports.pop()?;
-    Some((source, worker))
-}
-
-/// The scheduler and the ports of a device of the case.
-fn parts_of(alloc: Global, case: Case) -> Result<(Scheduler, Port, Port), BenchFault> {
-    let shape = bench_shape(alloc, case)?;
-    let Ok((scheduler, ports, control)) = device(alloc, shape) else {
-        return Err(BenchFault::Device);
-    };
-    drop(control);
-    match two_of(ports) {
-        Some((source, worker)) => Ok((scheduler, source, worker)),
-        None => {
-            drop(scheduler);
-            Err(BenchFault::Device)
-        }
-    }
 }
 
 /// The count once so many came as were wanted; anything else is a fault.
@@ -84,21 +59,26 @@ fn push_forwards(deliveries: &[Delivery], events: &mut Vec<Event>) -> Result<(),
     Ok(())
 }
 
-impl<L: BenchLog> Bench<L> {
-    /// A device of the case, in which nothing has happened.
-    pub fn new(alloc: Global, case: Case, burst: usize) -> Result<Bench<L>, BenchFault>
+impl<L: StepLog> Bench<L> {
+    /// A device of the case with this log, in which nothing has happened.
+    pub fn new(alloc: Global, log: L, case: Case, burst: usize) -> Result<Bench<L>, BenchFault>
+        requires { L.steps log ≡ [] }
         ensures { IfOk result (λ b. IsFresh b case burst) }
     {
         let burst = Burst::new(burst, case.room())?;
         let events = Vec::with_capacity(alloc, burst.length as usize)?;
         let releases = vec![in alloc; Event::release(); burst.portion as usize]?;
-        let log = L::make(alloc)?;
-        let (scheduler, source, worker) = parts_of(alloc, case)?;
+        let shape = bench_shape(alloc, case)?;
+        let Ok(mut device) = Device::with_log(alloc, log, shape) else {
+            return Err(BenchFault::Device);
+        };
+        let (Some(source), Some(worker)) = (device.take_port(0), device.take_port(1)) else {
+            return Err(BenchFault::Device);
+        };
         Ok(Bench {
-            scheduler,
+            device,
             source,
             worker,
-            log,
             events,
             releases,
             deliveries: ArrayVec::new(),
@@ -131,8 +111,7 @@ impl<L: BenchLog> Bench<L> {
     fn sweep(&mut self) -> Result<(), BenchFault>
         ensures { OnOk result (Moves self.old self.new 0 self.old.burst.portion 0) }
     {
-        self.log.before_sweep();
-        let swept = self.scheduler.sweep(&mut self.log)?;
+        let swept = self.device.sweep()?;
         self.counts.given = add(self.counts.given, swept.given, self.burst.portion)?;
         Ok(())
     }
@@ -210,11 +189,10 @@ impl<L: BenchLog> Bench<L> {
     }
 
     /// How many events are inside once the last releases were taken.
-    pub fn settle(&mut self) -> Result<usize, BenchFault>
+    pub fn last_sweep(&mut self) -> Result<usize, BenchFault>
         ensures { OnOk result (Moves self.old self.new 0 0 0) }
     {
-        self.log.before_sweep();
-        self.scheduler.sweep(&mut self.log)?;
-        Ok(self.scheduler.inside())
+        self.device.sweep()?;
+        Ok(self.device.inside())
     }
 }

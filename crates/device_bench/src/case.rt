@@ -2,7 +2,6 @@
 
 ghost use Rattle.std.specs.Prelude.{◌≡◌, ◌<◌, ◌≤◌, ◌^◌};
 
-use crate::logs::LogKind;
 use evt_types::{Event, FLOW_DEPTH, Kind, MAX_DEPTH, MAX_SLOTS, Op, Serving};
 
 /// The queue that new events enter.
@@ -11,6 +10,15 @@ pub const FIRST: u8 = 0;
 pub const SECOND: u8 = 1;
 /// The bursts with which each case runs.
 pub const BURSTS: [usize; 3] = [1, 8, 32];
+
+/// Which log a device has.
+#[derive(Clone, Copy, Debug, PartialEq, Eq)]
+pub enum LogKind {
+    /// It counts the steps and keeps none, as a program of packets wants it.
+    Counted,
+    /// It counts them by queue and by lane too.
+    Tally,
+}
 
 /// A case: the queue that new events enter, and what the worker does with them.
 #[derive(Clone, Copy, Debug, PartialEq, Eq)]
@@ -54,25 +62,24 @@ fn make_lane_case(name: &'static str, flows: u32) -> Case
     }
 }
 
-/// A case in which the device has this log, with what it is compared with in the case `atomic-64-flows`.
-fn make_log_case(name: &'static str, log: LogKind) -> Case {
+/// The case `atomic-64-flows` over a log that counts by queue and by lane.
+fn make_tally_case(name: &'static str) -> Case {
     Case {
         name,
         kind: Kind::Atomic,
         serving: Serving::Ports,
         flows: 64,
         forwards: false,
-        log,
+        log: LogKind::Tally,
     }
 }
 
 /// The cases, in the order in which they run.
-pub fn cases() -> [Case; 11] {
+pub fn cases() -> [Case; 10] {
     [
         make_case("atomic-1-flow", Kind::Atomic, 1, false),
         make_case("atomic-64-flows", Kind::Atomic, 64, false),
-        make_log_case("atomic-64-flows-vector", LogKind::Vector),
-        make_log_case("atomic-64-flows-tally", LogKind::Tally),
+        make_tally_case("atomic-64-flows-tally"),
         make_case("atomic-1024-flows", Kind::Atomic, 1024, false),
         make_lane_case("atomic-1-flow-lanes", 1),
         make_lane_case("atomic-64-flows-lanes", 64),

@@ -1,11 +1,11 @@
 //! How long the events of a case take.
 
+ghost use Rattle.std.specs.Prelude.{◌≡◌, []};
+
 use crate::bench::Bench;
-use crate::case::Case;
+use crate::case::{Case, LogKind};
 use crate::fault::BenchFault;
-use crate::logs::{BenchLog, LogKind};
-use event_device::{Counted, Tally};
-use evt_types::Step;
+use event_device::{Counted, StepLog, Tally};
 use std::alloc::Global;
 use std::fmt;
 use std::time::{CpuClock, Duration};
@@ -52,7 +52,7 @@ pub struct Times {
 }
 
 /// The processor time in which so many events go through.
-fn timed<L: BenchLog>(
+fn timed<L: StepLog>(
     clock: &impl CpuClock,
     bench: &mut Bench<L>,
     rounds: u64,
@@ -68,7 +68,7 @@ fn timed<L: BenchLog>(
 }
 
 /// How long an event takes that goes through this device in bursts of this length.
-fn measure_in<L: BenchLog>(
+fn measure_in<L: StepLog>(
     clock: &impl CpuClock,
     bench: &mut Bench<L>,
     burst: usize,
@@ -85,27 +85,34 @@ fn measure_in<L: BenchLog>(
     })
 }
 
-/// How long an event of the case takes where the device has a log of this type.
-fn measure_with<L: BenchLog, C: CpuClock>(
-    clock: &C,
+/// How long an event of the case takes where the device has this log.
+fn measure_with<L: StepLog>(
+    clock: &impl CpuClock,
     alloc: Global,
+    log: L,
     case: Case,
     burst: usize,
-) -> Result<Times, BenchFault> {
-    let mut bench: Bench<L> = Bench::new(alloc, case, burst)?;
-    measure_in(clock, &mut bench, burst)
+) -> Result<Times, BenchFault>
+    requires { L.steps log ≡ [] }
+{
+    let mut bench = Bench::new(alloc, log, case, burst)?;
+    let times = measure_in(clock, &mut bench, burst);
+    drop(bench);
+    times
 }
 
 /// How long an event of the case takes.
-pub fn measure<C: CpuClock>(
-    clock: &C,
+pub fn measure(
+    clock: &impl CpuClock,
     alloc: Global,
     case: Case,
     burst: usize,
 ) -> Result<Times, BenchFault> {
     match case.log {
-        LogKind::Counted => measure_with::<Counted, C>(clock, alloc, case, burst),
-        LogKind::Vector => measure_with::<Vec<Step>, C>(clock, alloc, case, burst),
-        LogKind::Tally => measure_with::<Tally<Counted>, C>(clock, alloc, case, burst),
+        LogKind::Counted => measure_with(clock, alloc, Counted::new(), case, burst),
+        LogKind::Tally => {
+            let log = Tally::new(alloc, Counted::new())?;
+            measure_with(clock, alloc, log, case, burst)
+        }
     }
 }

@@ -2,14 +2,4 @@
 #![tactic(auto)]
 
 #[cfg(test)]
-mod again;
-#[cfg(test)]
-mod left;
-#[cfg(test)]
-mod refused_stop;
-#[cfg(test)]
-mod rows;
-#[cfg(test)]
-mod steps;
-#[cfg(test)]
-mod threads;
+mod tests;

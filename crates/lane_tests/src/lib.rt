@@ -3,24 +3,4 @@
 #![tactic(auto)]
 
 #[cfg(test)]
-mod calls;
-#[cfg(test)]
-mod credits;
-#[cfg(test)]
-mod lane_threads;
-#[cfg(test)]
-mod lanes;
-#[cfg(test)]
-mod left;
-#[cfg(test)]
-mod made;
-#[cfg(test)]
-mod made_claims;
-#[cfg(test)]
-mod memory;
-#[cfg(test)]
-mod port;
-#[cfg(test)]
-mod refusals;
-#[cfg(test)]
-mod turns;
+mod tests;

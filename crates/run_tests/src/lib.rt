@@ -4,16 +4,4 @@
 #![tactic(auto)]
 
 #[cfg(test)]
-mod cuts;
-#[cfg(test)]
-mod documents;
-#[cfg(test)]
-mod faults;
-#[cfg(test)]
-mod gates;
-#[cfg(test)]
-mod logs;
-#[cfg(test)]
-mod pipelines;
-#[cfg(test)]
-mod streams;
+mod tests;

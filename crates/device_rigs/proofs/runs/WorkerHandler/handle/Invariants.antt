@@ -1,6 +1,0 @@
-use Rattle.std.proofs.Common.{◌≡◌}
-use Rattle.event_device.specs.Device.{site_of}
-use Rattle.device_rigs.proofs.runs.WorkerHandler.handle.Given as goal
-
-abbrev pub invariant-loop-delivery : goal.invariant-loop-delivery
-invariant-loop-delivery l = site_of l.port ≡ site_of l.initial.port

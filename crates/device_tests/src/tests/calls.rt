@@ -1,0 +1,120 @@
+//! The calls that one thread makes on a device.
+
+use super::fault::RigFault;
+use arrayvec::ArrayVec;
+use event_device::{Device, Memory, Refused, Report, StepLog, Swept};
+use evt_types::{Delivery, Event, Op, Step};
+
+/// An event of a middle priority that a port enqueues: operation, queue, flow and payload.
+#[derive(Clone, Copy)]
+pub(crate) struct Sent(pub(crate) Op, pub(crate) u8, pub(crate) u8, pub(crate) u64);
+
+impl Sent {
+    pub(crate) fn event(self) -> Event {
+        let Sent(op, queue, flow, payload) = self;
+        Event {
+            flow: u32::from(flow),
+            sub_type: 0,
+            event_type: 0,
+            op,
+            queue,
+            priority: 128,
+            impl_opaque: 0,
+            payload,
+        }
+    }
+}
+
+/// A call, with what must come of it. A port is named by its number.
+#[derive(Clone, Copy)]
+pub(crate) enum Call {
+    /// The port enqueues the event, and it is taken.
+    Enqueue(usize, Sent),
+    /// The port dequeues at most so many events; those that come are queue 0's, by their numbers.
+    Dequeue(usize, usize, &'static [(u64, Sent)]),
+    /// One sweep takes so many replies, gives so many events, and finds no ring full.
+    Sweep(usize, usize),
+    /// The control shuts the device.
+    Shut,
+}
+
+/// Makes the calls.
+pub(crate) fn play(device: &mut Device<Vec<Step>>, calls: &[Call]) -> Result<(), RigFault> {
+    for (place, call) in calls.iter().enumerate() {
+        if !make(device, *call)? {
+            return Err(RigFault::Unexpected { place });
+        }
+    }
+    Ok(())
+}
+
+/// Makes the call: whether that came of it which must.
+fn make(device: &mut Device<Vec<Step>>, call: Call) -> Result<bool, Memory> {
+    match call {
+        Call::Enqueue(port, sent) => Ok(enqueue(device, port, sent.event()) == Some(Ok(()))),
+        Call::Dequeue(port, most, wanted) => Ok(is_dequeued(device, port, most, wanted)),
+        Call::Sweep(taken, given) => {
+            let wanted = Swept {
+                taken,
+                given,
+                bounced: 0,
+            };
+            Ok(device.sweep()? == wanted)
+        }
+        Call::Shut => Ok(device.shut()),
+    }
+}
+
+/// The port of this number enqueues the event; `None` where it isn't at home.
+fn enqueue(
+    device: &mut Device<Vec<Step>>,
+    number: usize,
+    event: Event,
+) -> Option<Result<(), Refused>> {
+    let mut port = device.take_port(number)?;
+    let answer = port.enqueue(event);
+    device.put_back(port).ok()?;
+    Some(answer)
+}
+
+/// Whether the port of this number dequeues these events of queue 0.
+fn is_dequeued(
+    device: &mut Device<Vec<Step>>,
+    number: usize,
+    most: usize,
+    wanted: &[(u64, Sent)],
+) -> bool {
+    let Some(mut port) = device.take_port(number) else {
+        return false;
+    };
+    let mut came = ArrayVec::new();
+    let answer = port.dequeue_burst(most, &mut came);
+    let is_back = device.put_back(port).is_ok();
+    is_back && answer.is_ok() && are_queue_zeros(&came, wanted)
+}
+
+/// Whether the deliveries are these of queue 0.
+fn are_queue_zeros(deliveries: &[Delivery], wanted: &[(u64, Sent)]) -> bool {
+    for (delivery, (number, sent)) in deliveries.iter().zip(wanted.iter()) {
+        let wanted = Delivery {
+            event: sent.event(),
+            queue: 0,
+            number: *number,
+        };
+        if *delivery != wanted {
+            return false;
+        }
+    }
+    deliveries.len() == wanted.len()
+}
+
+/// Stops the device.
+pub(crate) fn stop<L: StepLog>(device: Device<L>) -> Result<Report<L>, RigFault> {
+    match device.stop() {
+        Ok(report) => Ok(report),
+        Err((why, device)) => {
+            drop(device);
+            Err(RigFault::Stop(why))
+        }
+    }
+}

@@ -1,3 +1,0 @@
-pub mod Fault
-pub mod Run
-pub mod Trace

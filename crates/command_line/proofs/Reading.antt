@@ -23,8 +23,8 @@ whole_err new n (Ok x) h = tt
 whole_err new n (Err f) h = ends_whole new n f h
 
 -- a call that read all, followed by any result
-pub reads_whole : {X Y : Type 0} (old new : Option (List ℕ)) (r : Result X AppFault) (s : Result Y AppFault) (x : X) → r ≡ Ok x → HasRead old new r → HasRead old new s
-reads_whole old new r s x is reads =
+pub reads_whole : {X Y : Type 0} {old new : Option (List ℕ)} {r : Result X AppFault} {s : Result Y AppFault} {x : X} → r ≡ Ok x → HasRead old new r → HasRead old new s
+reads_whole {X} {Y} {old} {new} {r} {s} {x} is reads =
     let end : IsAtEnd new = subst (λ o. IfOk o (λ _. IsAtEnd new)) is reads.ok in
     record { bytes = reads.bytes; consumed = reads.consumed; few = reads.few; ok = whole_ok new s end; err = whole_err new (length reads.bytes) s end }
 
@@ -37,8 +37,7 @@ same_err P (Ok x) f h p = tt
 same_err P (Err g) f h p = subst P (sym h) p
 
 -- a call that answered a fault, which is handed on
-pub reads_fault : {X Y : Type 0} (old new : Option (List ℕ)) (r : Result X AppFault) (s : Result Y AppFault) (f : AppFault) → r ≡ Err f → IsErrAnd s (λ g. g ≡ f)
-    → HasRead old new r → HasRead old new s
-reads_fault old new r s f is same reads =
+pub reads_fault : {X Y : Type 0} {old new : Option (List ℕ)} {r : Result X AppFault} {s : Result Y AppFault} {f : AppFault} → r ≡ Err f → IsErrAnd s (λ g. g ≡ f) → HasRead old new r → HasRead old new s
+reads_fault {X} {Y} {old} {new} {r} {s} {f} is same reads =
     let P = EndsReading new (length reads.bytes) in
     record { bytes = reads.bytes; consumed = reads.consumed; few = reads.few; ok = same_ok (IsAtEnd new) s f same; err = same_err P s f same (subst (λ o. IfErr o P) is reads.err) }

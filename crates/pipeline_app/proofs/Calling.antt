@@ -1,16 +1,19 @@
 -- A port leaves its home for a call and comes back.
-use Rattle.std.proofs.Common.{◌≡◌, ℕ, zero, suc, ◌<◌, List, [], ◌∷◌, Some, None, length, set, refl, sym, ap, subst, ◌∙◌, arith}
+use Rattle.std.proofs.Common.{◌≡◌, ℕ, zero, suc, ◌<◌, List, [], ◌∷◌, Some, None, Result, length, set, refl, sym, ap, subst, ◌∙◌, arith}
 use Rattle.std.specs.Prelude.{slice_get, slice_set}
 use Rattle.std.proofs.lemmas.List.{get_or-set_same, length-set}
 use Rattle.std.proofs.lemmas.Option.{slice_get-get_or, slice_get_within}
 use Rattle.credit_pool.specs.Accounts.{Stays}
+use Rattle.event_answers.specs.declared.answer.Behind.{Behind}
 use Rattle.event_ports.specs.Ports.{account_of, own_site}
 use Rattle.event_ports.specs.declared.port.Port.{Port}
 use Rattle.event_device.proofs.Keeping.{same_site}
 use Rattle.event_device.specs.Device.{PortSite, number_of, site_of}
-use Rattle.event_device.specs.Lent.{ComesBack, IsThere, Leaves}
+use Rattle.event_device.specs.Lent.{ComesBack, Leaves}
 use Rattle.event_device.specs.Parts.{Parts}
-use Rattle.pipeline_app.specs.Commands.{AreAllHome}
+use Rattle.evt_types.specs.declared.event.Delivery.{Delivery}
+use Rattle.pipeline_app.specs.Calls.{IsDequeue}
+use Rattle.pipeline_app.specs.Commands.{AreAllHome, PortDequeues}
 use Rattle.pipeline_app.proofs.Home.{all_home_with}
 
 -- what is written twice is what was written last
@@ -27,14 +30,12 @@ module _ (r left : Parts) (n : ℕ) (port after : Port) (leaves : Leaves n port 
   number = ap (λ (s : PortSite). s.number) same ∙ leaves.number
 
   -- its home is empty
-  pub home_is_empty : (q : Parts) → IsThere after left q → ⊥
-  home_is_empty q there =
+  pub home_is_empty : slice_get left.ports (number_of after) ≡ Some None
+  home_is_empty =
       let low : n < length r.ports = slice_get_within r.ports n (Some port) leaves.was_home in
       let none : slice_get (set r.ports n None) n ≡ Some None =
       slice_get-get_or (set r.ports n None) n None (omega (arith, low, length-set r.ports n None)) ∙ ap Some (get_or-set_same r.ports n None None low) in
-      let empty : slice_get left.ports n ≡ Some None = ap (λ (s : Parts). slice_get s.ports n) leaves.away ∙ none in
-      let full : slice_get left.ports n ≡ Some (Some there.other) = ap (slice_get left.ports) (sym number) ∙ there.was_home in
-      cc (empty, full)
+      ap (slice_get left.ports) number ∙ (ap (λ (s : Parts). slice_get s.ports n) leaves.away ∙ none)
 
   -- and there it comes back to, so that it alone has changed
   pub comes_home : (q : Parts) → ComesBack after left q → q ≡ record r { ports = slice_set r.ports n (Some after) }
@@ -46,3 +47,7 @@ module _ (r left : Parts) (n : ℕ) (port after : Port) (leaves : Leaves n port 
 
   pub all_come_home : (q : Parts) → ComesBack after left q → AreAllHome r → AreAllHome q
   all_come_home q back home = subst AreAllHome (sym (comes_home q back)) (all_home_with r home n after)
+
+  -- it dequeued, and nothing else changed
+  pub port_dequeues : (q : Parts) (max : ℕ) (outcome : Result (List Delivery) Behind) → ComesBack after left q → IsDequeue port max outcome after → PortDequeues n max outcome r q
+  port_dequeues q max outcome back call = record { port = port; after = after; port_is = leaves.was_home; call = call; changed = comes_home q back }

@@ -1,5 +1,5 @@
 -- A finished log's text is that of the plain pipeline.
-use Rattle.std.proofs.Common.{◌≡◌, ℕ, List, length, map, sym, ap, subst, ◌∙◌}
+use Rattle.std.proofs.Common.{◌≡◌, ℕ, List, length, map, ap, subst, ◌∙◌}
 use Rattle.evt_types.specs.Plan.{Plan}
 use Rattle.evt_types.specs.declared.step.Step.{Step}
 use Rattle.pipeline_laws.proofs.RunTexts.{text_is_plain}

@@ -1,15 +1,42 @@
 //! The commands of a script are carried out on a device, of which each port stays at home between two calls.
 
-ghost use Rattle.std.specs.Prelude.{◌≡◌, ◌<◌, All, IfOk, length, map};
+ghost use Rattle.std.specs.Prelude.{◌≡◌, ◌<◌, All, IfOk, Some, None, length, map, slice_get};
+ghost use Rattle.event_device.specs.Device.{IsPortOf, number_of};
+ghost use Rattle.event_device.specs.Lent.{ComesBack, Leaves};
 ghost use Rattle.event_device.specs.Parts.{device_of};
 ghost use Rattle.play_documents.specs.Command.{IsPortThere, fields_of, line_of};
 ghost use Rattle.pipeline_app.specs.Commands.{AreAllHome, ArePlayed, IsAnswerTo, PortDequeues, PortEnqueues, outcome_of};
 
-use event_device::Device;
+use event_device::{Device, Port};
 use evt_types::{Delivery, Event, Step};
 use play_documents::Command;
 use play_text::{Answer, Behind, Refused};
 use std::alloc::{AllocError, Global};
+
+/// Takes the port of this number, which is at home.
+fn take_port(device: &mut Device<Vec<Step>>, number: usize) -> Port
+    requires home { AreAllHome device.old }
+    requires there { number < length (device_of device.old).plan.ports }
+    ensures left { Leaves number result device.old device.new }
+    ensures device { device_of device.new ≡ device_of device.old }
+{
+    match device.take_port(number) {
+        Some(port) => port,
+        None => unreachable!(),
+    }
+}
+
+/// Puts a port back, whose home is empty.
+fn put_back(device: &mut Device<Vec<Step>>, port: Port)
+    requires port { IsPortOf (device_of device.old) port }
+    requires away { slice_get device.old.ports (number_of port) ≡ Some None }
+    ensures back { ComesBack port device.old device.new }
+    ensures device { device_of device.new ≡ device_of device.old }
+{
+    let Ok(()) = device.put_back(port) else {
+        unreachable!()
+    };
+}
 
 /// The port of this number enqueues an event.
 fn enqueue(device: &mut Device<Vec<Step>>, number: usize, event: Event) -> Result<(), Refused>
@@ -19,13 +46,9 @@ fn enqueue(device: &mut Device<Vec<Step>>, number: usize, event: Event) -> Resul
     ensures home { AreAllHome device.new }
     ensures device { device_of device.new ≡ device_of device.old }
 {
-    let Some(mut port) = device.take_port(number) else {
-        unreachable!()
-    };
+    let mut port = take_port(device, number);
     let outcome = port.enqueue(event);
-    let Ok(()) = device.put_back(port) else {
-        unreachable!()
-    };
+    put_back(device, port);
     outcome
 }
 
@@ -42,13 +65,9 @@ fn dequeue(
     ensures home { AreAllHome device.new }
     ensures device { device_of device.new ≡ device_of device.old }
 {
-    let Some(mut port) = device.take_port(number) else {
-        unreachable!()
-    };
+    let mut port = take_port(device, number);
     let outcome = port.dequeue(max);
-    let Ok(()) = device.put_back(port) else {
-        unreachable!()
-    };
+    put_back(device, port);
     match outcome {
         Ok(deliveries) => Ok(Ok(Vec::from_slice(alloc, &deliveries)?)),
         Err(behind) => Ok(Err(behind)),

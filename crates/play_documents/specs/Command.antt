@@ -27,16 +27,7 @@ pub data Line : Type 0 where
 
 abbrev pub fields_of : Event → Fields
 fields_of e =
-    record {
-      flow = e.flow;
-      sub_type = e.sub_type;
-      event_type = e.event_type;
-      op = e.op;
-      queue = e.queue;
-      priority = e.priority;
-      impl_opaque = e.impl_opaque;
-      payload = e.payload;
-    }
+    record { flow = e.flow; sub_type = e.sub_type; event_type = e.event_type; op = e.op; queue = e.queue; priority = e.priority; impl_opaque = e.impl_opaque; payload = e.payload }
 
 -- what a command says
 abbrev pub line_of : Command → Line

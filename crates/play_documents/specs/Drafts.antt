@@ -1,5 +1,5 @@
 -- The configuration that a document's rows ask for, with the values that stand where a key is left out.
-use Rattle.std.specs.Prelude.{true, false, map}
+use Rattle.std.specs.Prelude.{true, false, List, map}
 use Rattle.evt_types.specs.Plan.{Plan, PortPlan}
 use Rattle.evt_types.specs.declared.draft.QueueDraft.{QueueDraft}
 use Rattle.evt_types.specs.declared.draft.Serving.TheVariants.{Ports}
@@ -7,9 +7,10 @@ use Rattle.evt_types.specs.declared.event.Kind.TheVariants.{Atomic}
 use Rattle.play_documents.specs.Field.{value_or, rows}
 use Rattle.play_documents.specs.Survey.{PortSeen, SurveySeen}
 use Rattle.play_documents.specs.declared.drafts.TheConstants.{NORMAL_PRIORITY}
+use Rattle.play_documents.specs.declared.survey.DeviceRow.{DeviceRow}
 use Rattle.play_documents.specs.declared.survey.QueueRow.{QueueRow}
 
--- a queue, a port and a device
+-- a queue and a port
 abbrev pub queue_asked : QueueRow → QueueDraft
 queue_asked q =
     record { kind = value_or Atomic q.kind; priority = value_or NORMAL_PRIORITY q.priority; slots = value_or 0 q.slots; order = value_or 0 q.order; single = value_or false q.single }
@@ -24,13 +25,17 @@ port_asked p =
       links = rows p.links;
     }
 
-unfoldable pub plan_asked : SurveySeen → Plan
-plan_asked s =
+-- a device of these queues and ports
+abbrev pub device_asked : DeviceRow → List QueueDraft → List PortPlan → Plan
+device_asked d queues ports =
     record {
-      limit = value_or 0 s.device.limit;
-      quantum = value_or 0 s.device.quantum;
-      sweep = value_or 0 s.device.sweep;
-      serving = value_or Ports s.device.serving;
-      queues = map queue_asked (rows s.queues);
-      ports = map port_asked (rows s.ports);
+      limit = value_or 0 d.limit;
+      quantum = value_or 0 d.quantum;
+      sweep = value_or 0 d.sweep;
+      serving = value_or Ports d.serving;
+      queues = queues;
+      ports = ports;
     }
+
+unfoldable pub plan_asked : SurveySeen → Plan
+plan_asked s = device_asked s.device (map queue_asked (rows s.queues)) (map port_asked (rows s.ports))

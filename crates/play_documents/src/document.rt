@@ -1,18 +1,17 @@
 //! The reading of a document.
 
-ghost use Rattle.std.specs.Prelude.{◌≡◌, [], IfOk, IfErr};
+ghost use Rattle.std.specs.Prelude.{◌≡◌, IfOk, IfErr};
 ghost use Rattle.toml.specs.View.{table_view};
 ghost use Rattle.evt_types.specs.Plan.{plan_of};
 ghost use Rattle.play_documents.specs.Command.{AllPortsThere};
 ghost use Rattle.play_documents.specs.Document.{Gives, IsNamed, parsed, table_of, shape_fault, checked, judged, planned_of, document_of};
 ghost use Rattle.play_documents.specs.Drafts.{plan_asked};
-ghost use Rattle.play_documents.specs.Field.{value_or};
 ghost use Rattle.play_documents.specs.Survey.{survey_seen};
 
 use crate::command::Command;
 use crate::drafts::draft_of;
 use crate::fault::{DocFault, ReadFault};
-use crate::field::Field;
+use crate::field::text_or_none;
 use crate::judge::first_fault;
 use crate::script::read_script;
 use crate::survey::{Survey, survey_of};
@@ -98,16 +97,6 @@ fn shape_of(alloc: Global, survey: &Survey) -> Result<Shape, ReadFault>
     checked(alloc, &draft)
 }
 
-/// The script's text.
-fn script_text<'a>(survey: &Survey<'a>) -> &'a str
-    ensures { result.now ≡ value_or [] (survey_seen survey.now).script }
-{
-    match survey.script {
-        Field::Good(script) => script,
-        Field::Absent | Field::Bad => "",
-    }
-}
-
 /// What the rows say.
 #[tactic(auto, unfolding(crate::specs::Document::judged))]
 fn judged(alloc: Global, survey: &Survey) -> Result<Document, ReadFault>
@@ -117,7 +106,7 @@ fn judged(alloc: Global, survey: &Survey) -> Result<Document, ReadFault>
         return Err(ReadFault::Document(fault));
     }
     let shape = shape_of(alloc, survey)?;
-    let commands = read_script(alloc, shape.ports().len(), script_text(survey))?;
+    let commands = read_script(alloc, shape.ports().len(), text_or_none(&survey.script))?;
     Ok(Document { shape, commands })
 }
 

@@ -3,13 +3,13 @@
 ghost use Rattle.std.specs.Prelude.{◌≡◌, map, IfOk};
 ghost use Rattle.evt_types.specs.Plan.{port_plan};
 ghost use Rattle.evt_types.specs.Plan as plans;
-ghost use Rattle.play_documents.specs.Drafts.{queue_asked, port_asked, plan_asked};
+ghost use Rattle.play_documents.specs.Drafts.{queue_asked, port_asked, device_asked, plan_asked};
 ghost use Rattle.play_documents.specs.Field.{rows, field_map};
 ghost use Rattle.play_documents.specs.Survey.{port_seen, survey_seen};
 
 use crate::field::Field;
 use crate::judge::port_rows;
-use crate::survey::{PortRow, QueueRow, Survey};
+use crate::survey::{DeviceRow, PortRow, QueueRow, Survey};
 use evt_types::{Draft, Kind, PortDraft, QueueDraft, Serving};
 use std::alloc::{AllocError, Global};
 
@@ -72,17 +72,26 @@ fn port_drafts(alloc: Global, rows: &[PortRow]) -> Result<Vec<PortDraft>, AllocE
     Ok(drafts)
 }
 
+/// The device that a row asks for, of these queues and ports.
+pub fn device_draft(row: &DeviceRow, queues: Vec<QueueDraft>, ports: Vec<PortDraft>) -> Draft
+    ensures { plans.plan_of result ≡ device_asked row.now queues.items (map port_plan ports.items) }
+{
+    Draft {
+        limit: row.limit.value_or(0),
+        quantum: row.quantum.value_or(0),
+        sweep: row.sweep.value_or(0),
+        serving: row.serving.value_or(Serving::Ports),
+        queues,
+        ports,
+    }
+}
+
 /// What a document's rows ask for.
 #[tactic(auto, unfolding(crate::specs::Drafts::plan_asked))]
 pub fn draft_of(alloc: Global, survey: &Survey) -> Result<Draft, AllocError>
     ensures { IfOk result (λ d. plans.plan_of d ≡ plan_asked (survey_seen survey.now)) }
 {
-    Ok(Draft {
-        limit: survey.device.limit.value_or(0),
-        quantum: survey.device.quantum.value_or(0),
-        sweep: survey.device.sweep.value_or(0),
-        serving: survey.device.serving.value_or(Serving::Ports),
-        queues: queue_drafts(alloc, survey.queues.rows())?,
-        ports: port_drafts(alloc, port_rows(survey))?,
-    })
+    let queues = queue_drafts(alloc, survey.queues.rows())?;
+    let ports = port_drafts(alloc, port_rows(survey))?;
+    Ok(device_draft(&survey.device, queues, ports))
 }

@@ -1,6 +1,6 @@
 //! What a TOML table has at a key.
 
-ghost use Rattle.std.specs.Prelude.{◌≡◌, map, IfOk, option_map, string_bytes};
+ghost use Rattle.std.specs.Prelude.{◌≡◌, [], map, IfOk, option_map, string_bytes};
 ghost use Rattle.std.specs.List.{list_any, list_all};
 ghost use Rattle.std.specs.Map.{keys_of};
 ghost use Rattle.toml.specs.Data.{get_member, as_table};
@@ -136,6 +136,16 @@ pub fn text_at<'a>(table: &'a Table, key: &str) -> Field<&'a str>
     match value_at(table, key) {
         Some(value) => good_or_bad(value.as_str()),
         None => Field::Absent,
+    }
+}
+
+/// A field's text, which is empty where there is none.
+pub fn text_or_none<'a>(field: &Field<&'a str>) -> &'a str
+    ensures { result.now ≡ value_or [] (field_map (λ t. t.now) field.now) }
+{
+    match field {
+        Field::Good(text) => text,
+        Field::Absent | Field::Bad => "",
     }
 }
 

@@ -13,7 +13,7 @@ pub mod words;
 
 pub use command::Command;
 pub use document::{Document, MAX_INPUT, checked, read_document, shape_fault, table_of};
-pub use drafts::queue_draft;
+pub use drafts::{device_draft, queue_draft};
 pub use fault::{DocFault, ReadFault};
 pub use judge::{has_bad_device, has_bad_queue, misses_device, misses_queue, rows_fault};
 pub use survey::{DeviceRow, QueueRow, device_row, queue_row};

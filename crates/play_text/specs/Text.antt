@@ -109,15 +109,19 @@ step_line qs n (Turned lane e) = codes "turned l" ++ decimal lane ++ codes " " +
 step_line qs n (Bounced lane) = codes "bounced l" ++ decimal lane ++ codes "\n"
 step_line qs n Shut = codes "shut\n"
 
+-- of a step that accepts, what is said of its queue; of another, this
+abbrev pub if_accepts : {A : Type 0} → A → (ℕ → A) → Step → A
+if_accepts other said (Accept queue e source) = said queue
+if_accepts other said (Give lane queue number) = other
+if_accepts other said (Done lane outcome) = other
+if_accepts other said (More lane e) = other
+if_accepts other said (Turned lane e) = other
+if_accepts other said (Bounced lane) = other
+if_accepts other said Shut = other
+
 -- the number of the event that the step accepts after those past: it counts what the queue accepted before
 abbrev pub number_after : List Step → Step → ℕ
-number_after past (Accept queue e source) = length (accepted past queue)
-number_after past (Give lane queue number) = 0
-number_after past (Done lane outcome) = 0
-number_after past (More lane e) = 0
-number_after past (Turned lane e) = 0
-number_after past (Bounced lane) = 0
-number_after past Shut = 0
+number_after past s = if_accepts 0 (λ queue. length (accepted past queue)) s
 
 -- the lines of the steps that come after those past
 abbrev pub lines_after : List QueueDraft → List Step → List Step → List ℕ
@@ -178,20 +182,8 @@ IsInRange n Shut = Unit {0}
 
 -- of the counts of what each queue accepted, the one that numbers the step's event
 abbrev pub count_of : List ℕ → Step → ℕ
-count_of counts (Accept queue e source) = slice_index counts queue
-count_of counts (Give lane queue number) = 0
-count_of counts (Done lane outcome) = 0
-count_of counts (More lane e) = 0
-count_of counts (Turned lane e) = 0
-count_of counts (Bounced lane) = 0
-count_of counts Shut = 0
+count_of counts s = if_accepts 0 (slice_index counts) s
 
 -- the counts after the step
 abbrev pub counts_after : List ℕ → Step → List ℕ
-counts_after counts (Accept queue e source) = slice_set counts queue (slice_index counts queue + 1)
-counts_after counts (Give lane queue number) = counts
-counts_after counts (Done lane outcome) = counts
-counts_after counts (More lane e) = counts
-counts_after counts (Turned lane e) = counts
-counts_after counts (Bounced lane) = counts
-counts_after counts Shut = counts
+counts_after counts s = if_accepts counts (λ queue. slice_set counts queue (slice_index counts queue + 1)) s

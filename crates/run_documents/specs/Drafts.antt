@@ -3,9 +3,8 @@ use Rattle.std.specs.Prelude.{ℕ, false, List, [], ◌∷◌, length, map, repl
 use Rattle.std.specs.List.{range_with_len}
 use Rattle.evt_types.specs.Plan.{Plan, PortPlan}
 use Rattle.evt_types.specs.declared.draft.QueueDraft.{QueueDraft}
-use Rattle.evt_types.specs.declared.draft.Serving.TheVariants.{Ports}
 use Rattle.pipeline_laws.specs.declared.stage.Action.{Action}
-use Rattle.play_documents.specs.Drafts.{queue_asked}
+use Rattle.play_documents.specs.Drafts.{device_asked, queue_asked}
 use Rattle.play_documents.specs.Field.{rows, value_or}
 use Rattle.run_documents.specs.Judge.{action_asked}
 use Rattle.run_documents.specs.Survey.{SurveySeen}
@@ -31,15 +30,7 @@ ports_asked workers s = producer_asked s ∷ replicate workers (worker_asked s)
 
 -- the device, for so many workers
 unfoldable pub plan_asked : ℕ → SurveySeen → Plan
-plan_asked workers s =
-    record {
-      limit = value_or 0 s.device.limit;
-      quantum = value_or 0 s.device.quantum;
-      sweep = value_or 0 s.device.sweep;
-      serving = value_or Ports s.device.serving;
-      queues = map stage_asked (rows s.stages);
-      ports = ports_asked workers s;
-    }
+plan_asked workers s = device_asked s.device (map stage_asked (rows s.stages)) (ports_asked workers s)
 
 -- the stages' actions
 abbrev pub actions_asked : SurveySeen → List Action

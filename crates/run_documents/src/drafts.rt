@@ -10,9 +10,9 @@ ghost use Rattle.run_documents.specs.Survey.{survey_seen};
 
 use crate::judge::action_asked;
 use crate::survey::{StageRow, Survey};
-use evt_types::{Draft, MAX_QUEUES, PortDraft, QueueDraft, Serving};
+use evt_types::{Draft, MAX_QUEUES, PortDraft, QueueDraft};
 use pipeline_laws::Action;
-use play_documents::queue_draft;
+use play_documents::{device_draft, queue_draft};
 use std::alloc::{AllocError, Global};
 
 /// The stages' queues.
@@ -75,14 +75,9 @@ pub fn draft_of(alloc: Global, survey: &Survey, workers: usize) -> Result<Draft,
     requires { length (rows (survey_seen survey.now).stages) ≤ MAX_QUEUES }
     ensures { IfOk result (λ d. plans.plan_of d ≡ plan_asked workers (survey_seen survey.now)) }
 {
-    Ok(Draft {
-        limit: survey.device.limit.value_or(0),
-        quantum: survey.device.quantum.value_or(0),
-        sweep: survey.device.sweep.value_or(0),
-        serving: survey.device.serving.value_or(Serving::Ports),
-        queues: queue_drafts(alloc, survey.stages.rows())?,
-        ports: port_drafts(alloc, survey, workers)?,
-    })
+    let queues = queue_drafts(alloc, survey.stages.rows())?;
+    let ports = port_drafts(alloc, survey, workers)?;
+    Ok(device_draft(&survey.device, queues, ports))
 }
 
 /// The stages' actions.

@@ -1,10 +1,9 @@
 //! The reading of a pipeline's document.
 
-ghost use Rattle.std.specs.Prelude.{◌≡◌, ◌≤◌, ◌<◌, ◌+◌, ◌*◌, [], length, All, IfOk, IfErr, OnOk};
+ghost use Rattle.std.specs.Prelude.{◌≡◌, ◌≤◌, ◌<◌, ◌+◌, ◌*◌, length, All, IfOk, IfErr, OnOk};
 ghost use Rattle.pipeline_laws.specs.Pipeline.{IsProper};
 ghost use Rattle.pipeline_laws.specs.Worked.{IsStaged};
 ghost use Rattle.play_documents.specs.Document.{Gives, IsNamed, checked};
-ghost use Rattle.play_documents.specs.Field.{value_or};
 ghost use Rattle.run_documents.specs.Drafts.{plan_asked};
 ghost use Rattle.run_documents.specs.Pipelines.{HasWorkers, is_tight, judged, pipeline_of, planned_of, trace_in};
 ghost use Rattle.run_documents.specs.Survey.{survey_seen};
@@ -15,7 +14,7 @@ use crate::survey::{Survey, survey_of};
 use crate::trace::read_trace;
 use evt_types::{MAX_PORTS, MAX_QUEUES, Shape, ShapeFault};
 use pipeline_laws::{Action, Entry};
-use play_documents::field::Field;
+use play_documents::field::text_or_none;
 use play_documents::{DocFault, ReadFault, checked, shape_fault, table_of};
 use std::alloc::Global;
 
@@ -57,22 +56,12 @@ fn is_tight(shape: &Shape, workers: usize) -> bool
     u64::from(shape.limit()) < 2 * u64::from(shape.quantum()) * ports
 }
 
-/// The trace's text.
-fn trace_text<'a>(survey: &Survey<'a>) -> &'a str
-    ensures { result.now ≡ value_or [] (survey_seen survey.now).trace }
-{
-    match survey.trace {
-        Field::Good(trace) => trace,
-        Field::Absent | Field::Bad => "",
-    }
-}
-
 /// The events of the trace.
 #[tactic(auto, unfolding(crate::specs::Pipelines::trace_in))]
 fn trace_in(alloc: Global, survey: &Survey) -> Result<Vec<Entry>, ReadFault>
     ensures { Gives (λ v. v.items) result (trace_in (survey_seen survey.now)) }
 {
-    read_trace(alloc, trace_text(survey))
+    read_trace(alloc, text_or_none(&survey.trace))
 }
 
 /// What the rows say, for so many workers.

@@ -15,12 +15,10 @@ after_write known old new text written (Err e) run is h =
     subst (AfterFault known old new) (sym h.0) part
 
 pub returns-in_err-text-clause-reads : goal.returns-in_err-text-clause-reads
-returns-in_err-text-clause-reads g c =
-    reads_fault _ _ c.played_text.result c.from_residual.result _ c.in_err-text.was c.from_residual.ensures.1 c.played_text.ensures.reads
+returns-in_err-text-clause-reads g c = reads_fault c.in_err-text.was c.from_residual.ensures.1 c.played_text.ensures.reads
 
 pub returns-clause-reads : goal.returns-clause-reads
-returns-clause-reads g c =
-    reads_whole _ _ c.played_text.result c.write_text.result c.in_ok-text.text c.in_ok-text.was c.played_text.ensures.reads
+returns-clause-reads g c = reads_whole c.in_ok-text.was c.played_text.ensures.reads
 
 pub returns-clause-err : goal.returns-clause-err
 returns-clause-err g c =

@@ -9,9 +9,7 @@ returns-in_err-bytes-clause-fault g c =
     search rules
 
 pub returns-in_err-bytes-clause-reads : goal.returns-in_err-bytes-clause-reads
-returns-in_err-bytes-clause-reads g c =
-    reads_fault _ _ c.read_all.result c.from_residual.result _ c.in_err-bytes.was c.from_residual.ensures.1 c.read_all.ensures.reads
+returns-in_err-bytes-clause-reads g c = reads_fault c.in_err-bytes.was c.from_residual.ensures.1 c.read_all.ensures.reads
 
 pub returns-clause-reads : goal.returns-clause-reads
-returns-clause-reads g c =
-    reads_whole _ _ c.read_all.result c.document_text.result c.in_ok-bytes.bytes c.in_ok-bytes.was c.read_all.ensures.reads
+returns-clause-reads g c = reads_whole c.in_ok-bytes.was c.read_all.ensures.reads

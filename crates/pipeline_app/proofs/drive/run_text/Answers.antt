@@ -1,4 +1,4 @@
-use Rattle.std.proofs.Common.{Result, Ok, Err, ◌≡◌, ℕ, List, All, refl, sym, ap, subst, ◌∙◌, length, Vec, Global}
+use Rattle.std.proofs.Common.{Result, Ok, Err, ◌≡◌, ℕ, List, All, sym, ap, subst, ◌∙◌, length, Vec, Global}
 use Rattle.std.specs.Prelude.{IfErr, IsErrAnd}
 use Rattle.command_line.specs.declared.fault.AppFault.{AppFault}
 use Rattle.event_answers.specs.declared.report.Report.{Report}

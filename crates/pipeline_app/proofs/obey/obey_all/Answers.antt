@@ -1,4 +1,4 @@
-use Rattle.std.proofs.Common.{◌≡◌, length, sym, ap, ◌∙◌}
+use Rattle.std.proofs.Common.{length, sym, ap, ◌∙◌}
 use Rattle.event_device.specs.Device.{Device}
 use Rattle.pipeline_app.proofs.Playing.{next_there, played_more}
 use Rattle.pipeline_app.proofs.obey.obey_all.Goals as goal

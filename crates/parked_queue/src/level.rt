@@ -86,6 +86,7 @@ impl Levels {
         ensures others { IfSome result (λ l. SameBut l.number (members self.old) (members self.new)) }
         ensures lighter { IfSome result (λ _. weight (members self.new) < weight (members self.old)) }
         ensures none { IfNone result (IsEmpty (members self.old)) }
+        ensures same { IfNone result (self.new ≡ self.old) }
     {
         let mut left = self.set;
         let number = left.pop()?;

@@ -114,6 +114,7 @@ impl SmallSet {
         ensures others { IfSome result (λ k. SameBut k self.old self.new) }
         ensures lighter { IfSome result (λ _. weight self.new < weight self.old) }
         ensures none { IfNone result (IsEmpty self.old) }
+        ensures same { IfNone result (self.new ≡ self.old) }
     {
         let member = self.first()?;
         // The lowest member alone is taken out by this.

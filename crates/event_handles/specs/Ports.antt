@@ -5,7 +5,7 @@ use Rattle.std.specs.List.{AllZip}
 use Rattle.credit_pool.specs.Accounts.{Stays}
 use Rattle.event_answers.specs.declared.answer.Refused.{Refused}
 use Rattle.event_ports.specs.Counts.{after_behind, after_burst, after_dequeue, plus}
-use Rattle.event_ports.specs.Draws.{Settles}
+use Rattle.event_ports.specs.Draws.{ReturnsSpare}
 use Rattle.event_ports.specs.Lanes as lanes
 use Rattle.event_ports.specs.Lanes.{Releases, SubmitsAll}
 use Rattle.event_ports.specs.Ports.{Bursts, StopsAt, account_of, counts_of, hand, links, own_site, pocket_of, released_first, seen_by, was_filled}
@@ -67,7 +67,7 @@ pub record Receives (p : Port) (max : ℕ) (deliveries : List Delivery) (q : Por
   pub few : (length deliveries ≤ max) × (length (hand q).holding ≤ (own_site p).lanes.depth)
   pub drained : length deliveries < max → length (hand q).holding < (own_site p).lanes.depth → seen_by q ≡ []
   pub own_first : length ((hand q).got Own) ≢ length ((hand p).got Own) + length deliveries → seen_by q ≡ []
-  pub settled : Settles (own_site p).quantum ((pocket_of p + released_first p) % 2 ^ 64) (account_of p) (pocket_of q) (account_of q)
+  pub returned_spare : ReturnsSpare (own_site p).quantum ((pocket_of p + released_first p) % 2 ^ 64) (account_of p) (pocket_of q) (account_of q)
   pub counted : counts_of q ≡ after_dequeue (released_first p) (length deliveries) (counts_of p)
 
 -- A reply ring had no room for all that is released first, and nothing came: all that `Port::dequeue_burst` says of `Behind`. The port
@@ -80,7 +80,7 @@ pub record FallsBehind (p : Port) (released : ℕ) (q : Port) : Type 0 where
   pub some_held : released < length (hand p).holding
   pub releases : Releases released (hand p) (hand q)
   pub filled : was_filled q ops.Release
-  pub settled : Settles (own_site p).quantum ((pocket_of p + released) % 2 ^ 64) (account_of p) (pocket_of q) (account_of q)
+  pub returned_spare : ReturnsSpare (own_site p).quantum ((pocket_of p + released) % 2 ^ 64) (account_of p) (pocket_of q) (account_of q)
   pub counted : counts_of q ≡ after_behind released (counts_of p)
 
 -- the deliveries are written to the front of the array

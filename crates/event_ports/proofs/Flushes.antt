@@ -12,7 +12,7 @@ use Rattle.event_answers.specs.declared.answer.Refused.{Refused}
 use Rattle.event_answers.specs.declared.answer.Refused.TheVariants.{Stopped, BadQueue, NothingHeld, Backpressure, Raced, Full, TooMany}
 use Rattle.event_ports.specs.declared.desk.Desk.{Desk}
 use Rattle.event_ports.specs.declared.lanes.Lanes.{Lanes}
-use Rattle.event_ports.specs.Draws.{FillsWithin, HasAsked, HasCredits, HasDrawn, HasLooked, SameSums, Settles, most_draws}
+use Rattle.event_ports.specs.Draws.{FillsWithin, HasAsked, HasCredits, HasDrawn, HasLooked, ReturnsSpare, SameSums, most_draws}
 use Rattle.event_ports.specs.Handed.{LanesSite, lanes_site, hand_of, flow_count}
 use Rattle.event_ports.specs.Lanes.{Hand, Rests, SubmitsTo, counted, lane_for, reply_of}
 use Rattle.event_ports.specs.Desks.{account_of, pocket_of, own_site, hand, AsksPool, Bursts, DrawsPool, EndsWith, Gathers, GathersUpTo, IsFlushed, MaySpend, MaySpendMore, Pays, Refuses, StopsAt, SameCredits, Stocks}
@@ -64,8 +64,8 @@ module _ (q r : Desk) (f : IsFlushed q r) where
   still_pays p ops.Forward pays = (same_credits p pays.0, same_account p pays.1)
   still_pays p ops.Release pays =
       let came : ℕ = (pocket_of p + 1) % 2 ^ 64 in
-      subst (λ (n : ℕ). Settles (own_site p).quantum came (account_of p) n (account_of r)) (sym f.pocket)
-      (subst (λ (w : Account). Settles (own_site p).quantum came (account_of p) (pocket_of q) w) (sym f.account) pays)
+      subst (λ (n : ℕ). ReturnsSpare (own_site p).quantum came (account_of p) n (account_of r)) (sym f.pocket)
+      (subst (λ (w : Account). ReturnsSpare (own_site p).quantum came (account_of p) (pocket_of q) w) (sym f.account) pays)
   still_pays p ops.ForwardMore pays =
       let more : pocket_of r + 1 ≡ pocket_of q + 1 = ap (λ n. n + 1) f.pocket in
       (same_stocks p (pocket_of q + 1) (pocket_of r + 1) more pays.0, same_spend_more p (pocket_of q + 1) (pocket_of r + 1) more pays.1)

@@ -22,7 +22,7 @@ use Rattle.event_ports.specs.declared.desk.Desk.{Desk}
 use Rattle.event_ports.specs.Flows.{hands_of}
 use Rattle.event_ports.specs.Lanes.{Hand, Rests, SubmitsAll, SubmitsTo, TakesMore, extras_in, lane_for, reply_of}
 use Rattle.event_ports.specs.Handed.{LanesSite, lanes_site, seen_own, hand_of, mores_of, news_of, releases_of, IsFilled}
-use Rattle.event_ports.specs.Draws.{FillsWithin, HasAsked, HasCredits, HasDrawn, HasLooked, SameSums, Settles, most_draws}
+use Rattle.event_ports.specs.Draws.{FillsWithin, HasAsked, HasCredits, HasDrawn, HasLooked, ReturnsSpare, SameSums, most_draws}
 
 -- what never changes of it
 pub record DeskSite : Type 0 where
@@ -109,7 +109,7 @@ MaySpendMore p credits q = HasDrawn (own_site p).quantum (own_site p).threshold 
 abbrev pub Pays : Op → Desk → Desk → Type 0
 Pays ops.New p q = Stocks p (pocket_of q + 1) q × MaySpend p (pocket_of q + 1) q
 Pays ops.Forward p q = SameCredits p q × (account_of q ≡ account_of p)
-Pays ops.Release p q = Settles (own_site p).quantum ((pocket_of p + 1) % 2 ^ 64) (account_of p) (pocket_of q) (account_of q)
+Pays ops.Release p q = ReturnsSpare (own_site p).quantum ((pocket_of p + 1) % 2 ^ 64) (account_of p) (pocket_of q) (account_of q)
 Pays ops.ForwardMore p q = Stocks p (pocket_of q + 1) q × MaySpendMore p (pocket_of q + 1) q
 
 -- Why an event was refused, and what becomes of the credits: the port before, the event, the refusal and the port after.

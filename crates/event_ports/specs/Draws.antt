@@ -69,6 +69,6 @@ left_after (gives.Raced first second) quantum came = came
 
 -- The return rule, with so many credits in the pocket: of two quanta or more one return of all but a quantum is tried, by one load
 -- and at most one exchange; of fewer none is.
-pub record Settles (quantum came : ℕ) (v : Account) (pocket : ℕ) (after : Account) : Type 0 where
+pub record ReturnsSpare (quantum came : ℕ) (v : Account) (pocket : ℕ) (after : Account) : Type 0 where
   pub few : came < 2 * quantum → (pocket ≡ came) × (after ≡ v)
   pub many : 2 * quantum ≤ came → (answer : Give) × AnswersGive (came - quantum) v answer after × (pocket ≡ left_after answer quantum came)

@@ -44,7 +44,7 @@ impl Desk {
     ghost use Rattle.credit_pool.specs.Accounts.{IsOpen, IsShut, Stays};
     ghost use Rattle.event_answers.specs.declared.answer.Refused.TheVariants as refusals;
     ghost use Rattle.event_ports.specs.Lanes.{Rests, SubmitsTo, TakesMore, lane_for, reply_of};
-    ghost use Rattle.event_ports.specs.Draws.{HasLooked, Settles};
+    ghost use Rattle.event_ports.specs.Draws.{HasLooked, ReturnsSpare};
     ghost use Rattle.event_ports.specs.Handed.{AllShown};
     ghost use Rattle.event_ports.specs.Desks.{own_site, account_of, pocket_of, hand, was_filled, SameCredits, IsFlushed, MaySpendMore, Pays, Refuses, SpendsNone};
 
@@ -94,7 +94,7 @@ impl Desk {
             Op::Release => match self.lanes.answer(event) {
                 Ok(()) => {
                     self.pocket = self.pocket.wrapping_add(1);
-                    self.settle();
+                    self.return_spare();
                     Ok(())
                 }
                 Err(refusal) => Err(refused_by(refusal)),
@@ -182,11 +182,11 @@ impl Desk {
     }
 
     // The return rule: of two quanta or more in the pocket, all but one are given back, by one try.
-    pub(crate) fn settle(&mut self)
+    pub(crate) fn return_spare(&mut self)
         ensures site { own_site self.new ≡ own_site self.old }
         ensures credit { Stays (account_of self.old) (account_of self.new) }
         ensures lanes { self.new.lanes ≡ self.old.lanes }
-        ensures settled { Settles (own_site self.old).quantum (pocket_of self.old) (account_of self.old) (pocket_of self.new) (account_of self.new) }
+        ensures returned_spare { ReturnsSpare (own_site self.old).quantum (pocket_of self.old) (account_of self.old) (pocket_of self.new) (account_of self.new) }
     {
         if self.pocket / 2 < self.quantum {
             return;

@@ -29,7 +29,7 @@ impl Port {
     ghost use Rattle.event_answers.specs.declared.answer.Refused.TheVariants as refusals;
     ghost use Rattle.event_ports.specs.Lanes.{Rests, Releases, Dequeues, SubmitsTo, SubmitsAll, lane_for, reply_of};
     ghost use Rattle.event_ports.specs.declared.lane.Lane.TheVariants as lanes;
-    ghost use Rattle.event_ports.specs.Draws.{HasLooked, Settles};
+    ghost use Rattle.event_ports.specs.Draws.{HasLooked, ReturnsSpare};
     ghost use Rattle.event_ports.specs.Counts.{after_behind, after_burst, after_dequeue, after_enqueue, plus};
     ghost use Rattle.event_ports.specs.Ports.{own_site, account_of, counts_of, pocket_of, hand, seen_by, links, was_filled, SameCredits, Pays, Refuses, released_first, Bursts, StopsAt};
 
@@ -102,9 +102,9 @@ impl Port {
         ensures drained { IfOk result (λ v. length v.items < max → length (hand self.new).holding < (own_site self.old).lanes.depth → seen_by self.new ≡ []) }
         ensures own_first { IfOk result (λ v. length ((hand self.new).got lanes.Own) ≢ length ((hand self.old).got lanes.Own) + length v.items → seen_by self.new ≡ []) }
         ensures behind { IfErr result (λ b. IsTrue (own_site self.old).implicit × (b.released < length (hand self.old).holding) × Releases b.released (hand self.old) (hand self.new) × was_filled self.new ops.Release) }
-        ensures settled { MatchResult result
-            (λ _. Settles (own_site self.old).quantum ((pocket_of self.old + released_first self.old) % 2 ^ 64) (account_of self.old) (pocket_of self.new) (account_of self.new))
-            (λ b. Settles (own_site self.old).quantum ((pocket_of self.old + b.released) % 2 ^ 64) (account_of self.old) (pocket_of self.new) (account_of self.new)) }
+        ensures returned_spare { MatchResult result
+            (λ _. ReturnsSpare (own_site self.old).quantum ((pocket_of self.old + released_first self.old) % 2 ^ 64) (account_of self.old) (pocket_of self.new) (account_of self.new))
+            (λ b. ReturnsSpare (own_site self.old).quantum ((pocket_of self.old + b.released) % 2 ^ 64) (account_of self.old) (pocket_of self.new) (account_of self.new)) }
         ensures counted { MatchResult result
             (λ v. counts_of self.new ≡ after_dequeue (released_first self.old) (length v.items) (counts_of self.old))
             (λ b. counts_of self.new ≡ after_behind b.released (counts_of self.old)) }
@@ -132,16 +132,16 @@ impl Port {
         ensures count { IfOk result (λ n. n ≡ length into.new.items) }
         ensures none { IsErr result → into.new.items ≡ [] }
         ensures behind { IfErr result (λ b. IsTrue (own_site self.old).implicit × (b.released < length (hand self.old).holding) × Releases b.released (hand self.old) (hand self.new) × was_filled self.new ops.Release) }
-        ensures settled { MatchResult result
-            (λ _. Settles (own_site self.old).quantum ((pocket_of self.old + released_first self.old) % 2 ^ 64) (account_of self.old) (pocket_of self.new) (account_of self.new))
-            (λ b. Settles (own_site self.old).quantum ((pocket_of self.old + b.released) % 2 ^ 64) (account_of self.old) (pocket_of self.new) (account_of self.new)) }
+        ensures returned_spare { MatchResult result
+            (λ _. ReturnsSpare (own_site self.old).quantum ((pocket_of self.old + released_first self.old) % 2 ^ 64) (account_of self.old) (pocket_of self.new) (account_of self.new))
+            (λ b. ReturnsSpare (own_site self.old).quantum ((pocket_of self.old + b.released) % 2 ^ 64) (account_of self.old) (pocket_of self.new) (account_of self.new)) }
         ensures counted { MatchResult result
             (λ _. counts_of self.new ≡ after_dequeue (released_first self.old) (length into.new.items) (counts_of self.old))
             (λ b. counts_of self.new ≡ after_behind b.released (counts_of self.old)) }
     {
         into.clear();
         let answer = self.desk.exchange(max, into);
-        self.desk.settle();
+        self.desk.return_spare();
         match answer {
             Ok(released) => {
                 let came = into.len();

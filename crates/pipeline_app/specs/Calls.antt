@@ -4,7 +4,7 @@ use Rattle.credit_pool.specs.Accounts.{Stays}
 use Rattle.event_answers.specs.declared.answer.Behind.{Behind}
 use Rattle.event_answers.specs.declared.answer.Refused.{Refused}
 use Rattle.event_answers.specs.declared.answer.Refused.TheVariants.{Stopped}
-use Rattle.event_ports.specs.Draws.{Settles}
+use Rattle.event_ports.specs.Draws.{ReturnsSpare}
 use Rattle.event_ports.specs.Lanes.{Dequeues, Releases, Rests, SubmitsTo, lane_for, reply_of}
 use Rattle.event_ports.specs.Ports.{Pays, Refuses, account_of, hand, links, own_site, pocket_of, released_first, seen_by, was_filled}
 use Rattle.event_ports.specs.declared.lane.Lane.TheVariants.{Own}
@@ -33,6 +33,6 @@ pub record IsDequeue (p : Port) (max : ℕ) (outcome : Result (List Delivery) Be
   pub drained : IfOk outcome (λ deliveries. length deliveries < max → length (hand q).holding < (own_site p).lanes.depth → seen_by q ≡ [])
   pub own_first : IfOk outcome (λ deliveries. length ((hand q).got Own) ≢ length ((hand p).got Own) + length deliveries → seen_by q ≡ [])
   pub behind : IfErr outcome (λ b. IsTrue (own_site p).implicit × (b.released < length (hand p).holding) × Releases b.released (hand p) (hand q) × was_filled q ops.Release)
-  pub settled : MatchResult outcome
-      (λ _. Settles (own_site p).quantum ((pocket_of p + released_first p) % 2 ^ 64) (account_of p) (pocket_of q) (account_of q))
-      (λ b. Settles (own_site p).quantum ((pocket_of p + b.released) % 2 ^ 64) (account_of p) (pocket_of q) (account_of q))
+  pub returned_spare : MatchResult outcome
+      (λ _. ReturnsSpare (own_site p).quantum ((pocket_of p + released_first p) % 2 ^ 64) (account_of p) (pocket_of q) (account_of q))
+      (λ b. ReturnsSpare (own_site p).quantum ((pocket_of p + b.released) % 2 ^ 64) (account_of p) (pocket_of q) (account_of q))

@@ -1,12 +1,15 @@
 -- Lists of what each queue accepted: at the begin, and one step more.
-use Rattle.std.proofs.Common.{◌≡◌, ◌≢◌, ℕ, ◌<◌, ◌≤◌, List, [], ◌∷◌, ◌++◌, length, set, replicate, Option, Some, None, refl, sym, ap, ◌∙◌, arith}
+use Rattle.std.proofs.Common.{◌≡◌, ◌≢◌, ℕ, ◌+◌, ◌<◌, ◌≤◌, List, [], ◌∷◌, ◌++◌, length, map, filter_map, take, get_or, set, replicate, Option, Some, None, refl, sym, ap, subst, ◌∙◌, arith}
+use Rattle.std.specs.List.{cons_option}
 use Rattle.std.specs.Option.{unwrap_or}
-use Rattle.std.proofs.lemmas.List.{length-set}
+use Rattle.std.proofs.lemmas.List.{length-set, map-append, take_all, take_more}
 use Rattle.std.proofs.lemmas.Option.{none-some}
 use Rattle.evt_types.specs.declared.event.Event.{Event}
 use Rattle.evt_types.specs.declared.step.Source.{Source}
+use Rattle.evt_types.specs.declared.step.Source.TheVariants.{New}
 use Rattle.evt_types.specs.declared.step.Step.{Step}
 use Rattle.evt_types.specs.declared.step.Step.TheVariants.{Accept, Give, Done, More, Turned, Bounced, Shut}
+use Rattle.lists.proofs.Lists.{more_none, more_some}
 use Rattle.pipeline_laws.proofs.Pasts.{length-rows, row_more, row_none}
 use Rattle.pipeline_laws.specs.Past.{HoldAccepted, accepted_by_step, row, rows}
 use Rattle.std.specs.declared.alloc.Global.{Global}
@@ -64,3 +67,44 @@ hold_more T old new s q e some within is hold r there =
     row_more (rows old) (rows new) q e (accepted T) (accepted (T ++ s ∷ [])) (omega (arith, length-rows old)) is
     (accepted-some T q s e (accepts_here s q e some)) (λ k other. accepted-none T k s (accepts_there s q k e some other)) r
     (hold r (omega (arith, there, count, length-rows old, length-rows new)))
+
+-- ---- the events that were accepted, each with its queue
+
+-- a step that accepts it
+abbrev pub accept_of : ℕ × Event → Step
+accept_of x = Accept x.0 x.1 (New 0)
+
+-- of each queue these accept what the steps do
+pub kept_accepted : (T : List Step) (q : ℕ) → accepted (map accept_of (filter_map accepted_by_step T)) q ≡ accepted T q
+unfolding accepted
+kept_accepted [] q = refl
+kept_accepted (Accept r e x ∷ T) q = ap (cons_option (accepted_in q (Accept r e x))) (kept_accepted T q)
+kept_accepted (Give l r n ∷ T) q = kept_accepted T q
+kept_accepted (Done l o ∷ T) q = kept_accepted T q
+kept_accepted (More l e ∷ T) q = kept_accepted T q
+kept_accepted (Turned l e ∷ T) q = kept_accepted T q
+kept_accepted (Bounced l ∷ T) q = kept_accepted T q
+kept_accepted (Shut ∷ T) q = kept_accepted T q
+
+-- the first of them, and one more
+pub hold_one : (xs : List (ℕ × Event)) (k : ℕ) (x : ℕ × Event) (lists : List (Vec Event Global)) → k < length xs → x ≡ get_or xs k x
+    → HoldAccepted (map accept_of (take k xs) ++ accept_of x ∷ []) lists → HoldAccepted (map accept_of (take (k + 1) xs)) lists
+hold_one xs k x lists low is =
+    let more : map accept_of (take (k + 1) xs) ≡ map accept_of (take k xs) ++ accept_of (get_or xs k x) ∷ [] =
+    ap (map accept_of) (take_more xs k x low) ∙ map-append accept_of (take k xs) (get_or xs k x ∷ []) in
+    subst (λ T. HoldAccepted T lists) (ap (λ y. map accept_of (take k xs) ++ accept_of y ∷ []) is ∙ sym more)
+
+-- all of them
+pub hold_all : (T : List Step) (xs : List (ℕ × Event)) (k : ℕ) (lists : List (Vec Event Global)) → xs ≡ filter_map accepted_by_step T → length xs ≤ k
+    → HoldAccepted (map accept_of (take k xs)) lists → HoldAccepted T lists
+hold_all T xs k lists is past hold q there = hold q there ∙ (ap (λ ys. accepted (map accept_of ys) q) (take_all k xs past ∙ is) ∙ kept_accepted T q)
+
+-- ---- one step more of them
+
+pub kept_more : (T : List Step) (kept : List (ℕ × Event)) (s : Step) (x : ℕ × Event) → accepted_by_step s ≡ Some x → kept ≡ filter_map accepted_by_step T
+    → kept ++ x ∷ [] ≡ filter_map accepted_by_step (T ++ s ∷ [])
+kept_more T kept s x some is = ap (λ xs. xs ++ x ∷ []) is ∙ sym (more_some accepted_by_step T s x some)
+
+pub kept_still : (T : List Step) (kept : List (ℕ × Event)) (s : Step) → accepted_by_step s ≡ None → kept ≡ filter_map accepted_by_step T
+    → kept ≡ filter_map accepted_by_step (T ++ s ∷ [])
+kept_still T kept s none is = is ∙ sym (more_none accepted_by_step T s none)

@@ -1,16 +1,20 @@
 -- The text of a run by what came to each stage, flow and level.
-use Rattle.std.proofs.Common.{◌≡◌, ℕ, ◌<◌, ◌^◌, List, length, get_or, ap, subst, arith}
+use Rattle.std.proofs.Common.{◌≡◌, ℕ, ◌<◌, ◌^◌, List, length, get_or, ap, ◌∙◌, subst, arith}
 use Rattle.std.specs.List.{range_with_len}
 use Rattle.std.proofs.lemmas.List.FromFn.{length-range_with_len, get_or-range_with_len}
 use Rattle.evt_types.specs.Plan.{Plan}
+use Rattle.evt_types.specs.declared.event.Event.{Event}
 use Rattle.evt_types.specs.declared.step.Step.{Step}
 use Rattle.lists.proofs.Lists.{flat_map-agree}
 use Rattle.pipeline_laws.proofs.Stages.{run_is_plain}
+use Rattle.pipeline_laws.specs.Past.{HoldAccepted, row, rows}
 use Rattle.pipeline_laws.specs.Pipeline.{plain}
-use Rattle.pipeline_laws.specs.RunText.{between, flow_text, line_of, plain_text, run_text, stage_text}
+use Rattle.pipeline_laws.specs.RunText.{between, flow_text, line_of, payloads_of, plain_text, run_text, stage_text}
 use Rattle.pipeline_laws.specs.Worked.{IsFinished, IsStaged, IsWorked, logged}
 use Rattle.pipeline_laws.specs.declared.stage.Action.{Action}
 use Rattle.pipeline_laws.specs.declared.stage.Entry.{Entry}
+use Rattle.std.specs.declared.alloc.Global.{Global}
+use Rattle.std.specs.declared.vec.Vec.{Vec}
 use Rattle.transcripts.specs.Lawful.{Lawful}
 
 -- stages of which all flows and levels agree have one text
@@ -34,3 +38,10 @@ pub text_is_plain : (p : Plan) (actions : List Action) (trace : List Entry) (T :
     → IsFinished p trace T → run_text (length actions) (logged T) ≡ plain_text actions trace
 text_is_plain p actions trace T lawful staged worked finished =
     text_same (length actions) (logged T) (plain actions trace) (run_is_plain p actions trace T lawful staged worked finished)
+
+-- lists of what the stages accepted have the text of the steps
+pub text_of_lists : (T : List Step) (lists : List (Vec Event Global)) (stages : ℕ) → length lists ≡ stages → HoldAccepted T lists
+    → run_text (length lists) (λ k. payloads_of (row (rows lists) k)) ≡ run_text stages (logged T)
+text_of_lists T lists stages count hold =
+    text_same (length lists) (λ k. payloads_of (row (rows lists) k)) (logged T) (λ k f c low. ap (λ es. payloads_of es f c) (hold k low))
+    ∙ ap (λ n. run_text n (logged T)) count

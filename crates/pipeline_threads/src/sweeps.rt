@@ -7,16 +7,15 @@ ghost use Rattle.pipeline_threads.specs.Run.{IsDone};
 
 use crate::gate::Gate;
 use crate::patience::Patience;
-use event_device::{Device, Memory};
-use evt_types::Step;
+use event_device::{Device, Memory, StepLog};
 use pipeline_laws::Entry;
 use std::sync::Wait;
 
 /// Sweeps until the whole trace was accepted and none of it is inside.
-pub(crate) fn sweep_all<R: Wait, G: Gate>(
+pub(crate) fn sweep_all<R: Wait, G: Gate, L: StepLog>(
     rt: &R,
     gate: &G,
-    device: &mut Device<Vec<Step>>,
+    device: &mut Device<L>,
     trace: &[Entry],
 ) -> Result<(), Memory>
     ensures others { Keeps device.old device.new }

@@ -13,8 +13,7 @@ use crate::producer::produce;
 use crate::promise::Returned;
 use crate::sweeps::sweep_all;
 use crate::worker::work;
-use event_device::{Device, Memory, Port};
-use evt_types::Step;
+use event_device::{Device, Memory, Port, StepLog};
 use pipeline_laws::{Action, Entry};
 use std::alloc::AllocError;
 use std::snapshot::Snapshot;
@@ -43,7 +42,7 @@ fn run_port<R: Wait, G: Gate>(
 }
 
 /// Puts a port into its home, which is empty.
-fn put_home(device: &mut Device<Vec<Step>>, port: Port)
+fn put_home<L: StepLog>(device: &mut Device<L>, port: Port)
     requires port { IsPortOf (device_of device.old) port }
     requires empty { slice_get device.old.ports (number_of port) ≡ Some None }
     ensures back { ComesBack port device.old device.new }
@@ -57,13 +56,13 @@ fn put_home(device: &mut Device<Vec<Step>>, port: Port)
 /// Starts a thread for the last of so many ports, runs the ports before it and joins that thread. Once all have a thread this one
 /// sweeps, and shuts the device at the end. Where a thread can't be started or memory runs out the device is shut and the threads are
 /// joined.
-fn run_ports<'s, E, R: Threads + Wait + Sync, G: Gate>(
+fn run_ports<'s, E, R: Threads + Wait + Sync, G: Gate, L: StepLog>(
     rt: &'s R,
     scope: &Scope<'s, E>,
     gate: &'s G,
     actions: &'s [Action],
     trace: &'s [Entry],
-    device: &mut Device<Vec<Step>>,
+    device: &mut Device<L>,
     count: usize,
 ) -> Result<(), Memory>
     requires actions { All IsProper actions.now }
@@ -100,14 +99,14 @@ fn run_ports<'s, E, R: Threads + Wait + Sync, G: Gate>(
 }
 
 /// Runs the trace through the pipeline: each of so many ports in a thread of its own, the scheduler in this one.
-pub(crate) fn run_threads<R: Threads + Wait + Sync, G: Gate>(
+pub(crate) fn run_threads<R: Threads + Wait + Sync, G: Gate, L: StepLog>(
     rt: &R,
     gate: &G,
     actions: &[Action],
     trace: &[Entry],
-    device: Device<Vec<Step>>,
+    device: Device<L>,
     count: usize,
-) -> Result<Device<Vec<Step>>, Memory>
+) -> Result<Device<L>, Memory>
     requires actions { All IsProper actions.now }
     requires few { length actions.now ≤ 255 }
     requires idle { AreIdle count device }
@@ -116,7 +115,7 @@ pub(crate) fn run_threads<R: Threads + Wait + Sync, G: Gate>(
     thread::scope(
         thread::scope_env(),
         rt,
-        |scope| -> Result<Device<Vec<Step>>, Memory>
+        |scope| -> Result<Device<L>, Memory>
             requires { (All IsProper actions.now) × (length actions.now ≤ 255) × AreIdle count device }
             ensures { IfOk result (HasRun actions.entry.now trace.entry.now count device) }
         {

@@ -18,5 +18,5 @@ returns-in-Ok g c =
     let after = c.in_ok-device-2.device in
     let Ran : ℕ → Type 0 = λ n. HasRun actions trace n before after in
     let ran = subst Ran (count_shown c.args.shape c.ports-ports.result.now c.ports-ports.ensures) c.in_ok-device-2.ensures in
-    let log = run_log c.args.shape actions trace before after c.in-Ok.report c.in_ok-device.ensures (omega arith) ran c.in-Ok.ensures.stopped in
+    let log = run_log g.L.StepLog.steps c.args.shape actions trace before after c.in-Ok.report c.in_ok-device.ensures (omega arith) ran c.in-Ok.ensures.stopped in
     record { lawful = log.lawful; answers = log.answers; newcomers = log.newcomers; finished = log.finished }

@@ -11,7 +11,7 @@ use Rattle.transcripts.specs.Lawful.{IsPrefix, Lawful}
 use Rattle.transcripts.specs.Laws.{AddsNone}
 
 -- the same actions and the same log
-pub due_same : (actions others : List Action) (T U : List Step) → actions ≡ others → T ≡ U → AddsNone T × AnswersAreDue actions T → AddsNone U × AnswersAreDue others U
+due_same : (actions others : List Action) (T U : List Step) → actions ≡ others → T ≡ U → AddsNone T × AnswersAreDue actions T → AddsNone U × AnswersAreDue others U
 due_same actions others T U a t h = subst (λ S. AddsNone S × AnswersAreDue others S) t (subst (λ xs. AddsNone T × AnswersAreDue xs T) a h)
 
 pub finished_text : (p : Plan) (actions others : List Action) (trace entries : List Entry) (T U V : List Step) (n : ℕ) → n ≡ length actions → others ≡ actions → entries ≡ trace → U ≡ T → V ≡ T

@@ -1,18 +1,17 @@
 //! A pipeline's document is run.
 
-ghost use Rattle.std.specs.Prelude.{◌≡◌, ◌≤◌, ◌↔◌, true, All, IfOk, IfErr, OnOk, length, string_bytes, Some};
-ghost use Rattle.evt_types.specs.declared.draft.Serving.TheVariants.{Ports};
-ghost use Rattle.pipeline_laws.specs.Pipeline.{IsProper};
+ghost use Rattle.std.specs.Prelude.{◌≡◌, ◌≤◌, IfOk, IfErr, OnOk, string_bytes, Some};
+ghost use Rattle.evt_types.specs.declared.draft.Serving.TheVariants.{Flows, Ports};
 ghost use Rattle.pipeline_laws.specs.RunText.{plain_text, run_text};
-ghost use Rattle.pipeline_laws.specs.Worked.{AnswersAreDue, IsLogOf, logged};
-ghost use Rattle.transcripts.specs.Laws.{AddsNone};
+ghost use Rattle.pipeline_laws.specs.Worked.{logged};
 ghost use Rattle.command_line.specs.Input.{HasRead};
 ghost use Rattle.pipeline_app.specs.Runs.{AfterFault, HasText, IsEarlyFault, IsFaultOf, IsRunFault, IsRunnable, WritesText, run_fault};
 ghost use Rattle.run_documents.specs.Pipelines.{planned_of};
 
 use command_line::{AppFault, read_all, write_text};
+use event_device::StepLog;
 use evt_types::{Serving, Step};
-use pipeline_laws::{Action, answers_are_due, write_run};
+use pipeline_laws::{AcceptedLog, answers_are_due, write_accepted, write_run};
 use pipeline_threads::{Gate, RunFault, run_pipeline};
 use run_documents::{Pipeline, read_pipeline};
 use std::alloc::{AllocError, Global};
@@ -20,7 +19,7 @@ use std::io::{Read, Write};
 use std::sync::Wait;
 use std::thread::Threads;
 
-/// The text of a finished log of so many stages.
+/// The text of a finished log of so many stages, which keeps every step.
 fn log_text(alloc: Global, stages: usize, log: &[Step]) -> Result<String, AllocError>
     ensures { IfOk result (λ text. string_bytes text ≡ run_text stages (logged log.now)) }
 {
@@ -29,27 +28,13 @@ fn log_text(alloc: Global, stages: usize, log: &[Step]) -> Result<String, AllocE
     Ok(text)
 }
 
-/// Whether each answer of the log is its stage's action, and no event was added beside another. Where the ports serve the workers'
-/// promises say so; where flow lanes change hands the log itself is looked through.
-fn is_worked(
-    alloc: Global,
-    serving: Serving,
-    queues: usize,
-    lanes: usize,
-    actions: &[Action],
-    log: &[Step],
-) -> Result<bool, AllocError>
-    requires actions { All IsProper actions.now }
-    requires few { length actions.now ≤ 255 }
-    requires log { IsLogOf queues lanes log.now }
-    requires promised { serving ≡ Ports → AddsNone log.now × AnswersAreDue actions.now log.now }
-    ensures due { IfOk result (λ b. (b ≡ true) ↔ (AddsNone log.now × AnswersAreDue actions.now log.now)) }
-    ensures ports { serving ≡ Ports → IfOk result (λ b. b ≡ true) }
+/// The text of a finished log of so many stages, which keeps what was accepted.
+fn accepted_text(alloc: Global, stages: usize, log: &AcceptedLog) -> Result<String, AllocError>
+    ensures { IfOk result (λ text. string_bytes text ≡ run_text stages (logged (⟦<AcceptedLog as StepLog>⟧.steps log.now))) }
 {
-    match serving {
-        Serving::Ports => Ok(true),
-        Serving::Flows => answers_are_due(alloc, queues, lanes, actions, log),
-    }
+    let mut text = String::new(alloc);
+    write_accepted(alloc, stages, log, &mut text)?;
+    Ok(text)
 }
 
 /// The fault of a run that came to no end.
@@ -60,6 +45,63 @@ fn run_fault(fault: RunFault) -> AppFault
         RunFault::Memory => AppFault::Memory,
         RunFault::NoSeat => AppFault::NoSeat,
     }
+}
+
+/// The text of a run where the ports serve. That each answer is its stage's action, and that no event was added beside another, the
+/// workers' promises say, so the log needs to keep no more than what was accepted.
+fn ports_text<R: Threads + Wait + Sync, G: Gate>(
+    rt: &R,
+    alloc: Global,
+    pipeline: Pipeline,
+    gate: &G,
+) -> Result<String, AppFault>
+    requires runnable { IsRunnable (planned_of pipeline) }
+    requires serving { pipeline.shape.serving ≡ Ports }
+    ensures text { IfOk result (λ text. string_bytes text ≡ plain_text pipeline.actions.items pipeline.trace.items) }
+    ensures fault { IfErr result (IsRunFault pipeline.shape) }
+{
+    let Pipeline {
+        shape,
+        actions,
+        trace,
+    } = pipeline;
+    let log = AcceptedLog::new(alloc);
+    let report = match run_pipeline(rt, alloc, log, shape, &actions, &trace, gate) {
+        Ok(report) => report,
+        Err(fault) => return Err(run_fault(fault)),
+    };
+    Ok(accepted_text(alloc, actions.len(), &report.log)?)
+}
+
+/// The text of a run where flow lanes serve. These change hands, so the log keeps every step, and is looked through before its text is
+/// made.
+fn flows_text<R: Threads + Wait + Sync, G: Gate>(
+    rt: &R,
+    alloc: Global,
+    pipeline: Pipeline,
+    gate: &G,
+) -> Result<String, AppFault>
+    requires runnable { IsRunnable (planned_of pipeline) }
+    requires serving { pipeline.shape.serving ≡ Flows }
+    ensures text { IfOk result (λ text. string_bytes text ≡ plain_text pipeline.actions.items pipeline.trace.items) }
+    ensures fault { IfErr result (IsRunFault pipeline.shape) }
+{
+    let Pipeline {
+        shape,
+        actions,
+        trace,
+    } = pipeline;
+    let queues = shape.queues().len();
+    let lanes = shape.lanes();
+    let log: Vec<Step> = Vec::new(alloc);
+    let report = match run_pipeline(rt, alloc, log, shape, &actions, &trace, gate) {
+        Ok(report) => report,
+        Err(fault) => return Err(run_fault(fault)),
+    };
+    if !answers_are_due(alloc, queues, lanes, &actions, &report.log)? {
+        return Err(AppFault::Strayed);
+    }
+    Ok(log_text(alloc, actions.len(), &report.log)?)
 }
 
 /// Runs the pipeline's trace through its stages, each port in a thread of its own, and gives the text of what each stage accepted, by
@@ -74,22 +116,10 @@ pub fn pipeline_text<R: Threads + Wait + Sync, G: Gate>(
     ensures text { IfOk result (λ text. string_bytes text ≡ plain_text pipeline.actions.items pipeline.trace.items) }
     ensures fault { IfErr result (IsRunFault pipeline.shape) }
 {
-    let Pipeline {
-        shape,
-        actions,
-        trace,
-    } = pipeline;
-    let serving = shape.serving();
-    let queues = shape.queues().len();
-    let lanes = shape.lanes();
-    let report = match run_pipeline(rt, alloc, shape, &actions, &trace, gate) {
-        Ok(report) => report,
-        Err(fault) => return Err(run_fault(fault)),
-    };
-    if !is_worked(alloc, serving, queues, lanes, &actions, &report.log)? {
-        return Err(AppFault::Strayed);
+    match pipeline.shape.serving() {
+        Serving::Ports => ports_text(rt, alloc, pipeline, gate),
+        Serving::Flows => flows_text(rt, alloc, pipeline, gate),
     }
-    Ok(log_text(alloc, actions.len(), &report.log)?)
 }
 
 /// The text of the run of the document of these bytes.

@@ -19,6 +19,7 @@ pub mod Pinned
 pub mod Members
 pub mod Busy
 pub mod Service
+pub mod Runs
 pub mod Settling
 pub mod Sound
 pub mod Steps

@@ -5,7 +5,8 @@ use Rattle.evt_types.specs.Place.{Place}
 use Rattle.evt_types.specs.declared.event.TheConstants.{MAX_FORWARDS}
 use Rattle.evt_types.specs.Plan.{kept_room, queue_of}
 use Rattle.sched_core.specs.Ordered.{places_in}
-use Rattle.sched_core.specs.View.{IsCore, unanswered_in, view_in}
+use Rattle.sched_core.specs.Sized.{IsSized}
+use Rattle.sched_core.specs.View.{IsCore, unanswered_in, view_in, waiting_in}
 use Rattle.sched_core.specs.declared.state.Core.TheInside.{Inside}
 use Rattle.sched_core.proofs.Cores.{in_view, places_here}
 use Rattle.sched_core.proofs.Pinned.{oldest_known as known_of}
@@ -25,4 +26,13 @@ core_sound a core =
       there = λ l h lane ordered is.
           let within : l < length a.lanes = omega (arith, core.lanes, lane) in
           known_of a.shape (map unanswered_in a.lanes) a.pins l h core.pins (in_view a l within) is;
+    }
+
+-- and of its lists there is one for each queue or lane
+pub core_sized : (a : Inside) → IsCore a → IsSized (view_in a)
+core_sized a core =
+    record {
+      waiting = length-map a.queues waiting_in ∙ core.queues;
+      places = length-map a.orders places_in ∙ core.places.count;
+      unanswered = length-map a.lanes unanswered_in ∙ core.lanes;
     }

@@ -5,9 +5,11 @@ pub mod Offered
 pub mod Ordered
 pub mod Pinned
 pub mod Members
+pub mod Runs
 pub mod Service
 pub mod Settling
 pub mod Shutting
+pub mod Sized
 pub mod Skipped
 pub mod SlotLanes
 pub mod Taken

@@ -2,16 +2,17 @@
 
 ghost use Rattle.std.specs.Prelude.{◌≡◌, ◌≤◌, ◌+◌, ◌<◌, List, [], ◌∷◌, ◌++◌, Some, length};
 ghost use Rattle.transcripts.specs.Choice.{IsOffer};
-ghost use Rattle.evt_types.specs.Plan.{lanes_of};
 ghost use Rattle.transcripts.specs.Standing.{Stands, after};
 ghost use Rattle.transcripts.specs.Transcript.{event_at};
 ghost use Rattle.evt_types.specs.declared.step.Step.{Step as StepValue};
-ghost use Rattle.sched_core.specs.Offered.{numbered_in};
+ghost use Rattle.evt_types.specs.Plan.{lanes_of, level_of};
+ghost use Rattle.sched_core.specs.Offered.{numbered_in, slot_at};
 
 use crate::offer::Offer;
 use crate::state::Core;
 use evt_types::{Delivery, Step};
 use order_parts::Entry;
+use parked_queue::Level;
 use step_log::StepLog;
 
 impl Core {
@@ -26,14 +27,31 @@ impl Core {
         ensures shape { self.new.shape ≡ self.old.shape }
         ensures room { L.room log.old ≤ L.room log.new + 1 }
     {
-        let Offer {
-            lane,
-            delivery: Delivery { queue, number, .. },
-            level,
-            flow,
-        } = offer;
+        let slot = self.queues.slot_of(offer.delivery.queue, offer.flow);
+        self.give_at(offer.lane, &offer.delivery, offer.level, slot, log);
+    }
+
+    /// The same of an event of this level and slot.
+    #[inline(always)]
+    pub(crate) fn give_at<L: StepLog>(
+        &mut self,
+        lane: usize,
+        delivery: &Delivery,
+        level: Level,
+        slot: usize,
+        log: &mut L,
+    )
+        requires offer { IsOffer self.old lane delivery.now.queue (numbered_in delivery.now) }
+        requires level { level.number ≡ level_of delivery.now.event }
+        requires slot { slot ≡ slot_at self.old delivery.now.queue (numbered_in delivery.now) }
+        requires room { 0 < L.room log.old }
+        ensures view { self.new ≡ after self.old (Step.Give lane delivery.now.queue delivery.now.number ∷ []) }
+        ensures logged { L.steps log.new ≡ L.steps log.old ++ Step.Give lane delivery.now.queue delivery.now.number ∷ [] }
+        ensures shape { self.new.shape ≡ self.old.shape }
+        ensures room { L.room log.old ≤ L.room log.new + 1 }
+    {
+        let Delivery { queue, number, .. } = *delivery;
         let place = self.orders.hand(queue, number);
-        let slot = self.queues.slot_of(queue, flow);
         self.queues.remove(queue, level, slot, number);
         self.pins.pin(queue, slot, lane);
         self.lanes.push(

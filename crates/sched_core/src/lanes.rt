@@ -52,7 +52,7 @@ impl Core {
     }
 
     /// Whether the queue's events are handed to flow lanes.
-    fn has_flow_lanes(&self, queue: usize) -> bool
+    pub(crate) fn has_flow_lanes(&self, queue: usize) -> bool
         requires { queue < length self.now.shape.queues }
         ensures { result ≡ has_flow_lanes self.now.shape queue }
     {

@@ -9,6 +9,7 @@ mod new;
 mod offer;
 mod propose;
 mod queues;
+mod run;
 mod settle;
 mod shut;
 mod skips;
@@ -18,6 +19,7 @@ mod take;
 
 pub use evt_types::Memory;
 pub use offer::Offer;
+pub use run::MAX_RUN;
 pub use skips::Skips;
 pub use state::Core;
 pub use take::Took;

@@ -1,6 +1,6 @@
 //! What a sweep passes over.
 
-ghost use Rattle.std.specs.Prelude.{◌≡◌, ℕ, ◌+◌, ◌<◌, ◌↔◌, true, slice_set, slice_index, nat_lt};
+ghost use Rattle.std.specs.Prelude.{◌≡◌, ℕ, ◌+◌, ◌<◌, ◌↔◌, true, slice_set, slice_index, nat_lt, length};
 ghost use Rattle.transcripts.specs.Choice.{has_bounced};
 ghost use Rattle.small_set.specs.SmallSets.{Has};
 ghost use Rattle.sched_core.specs.Skipped.{nothing_passed};
@@ -80,7 +80,8 @@ impl Skips {
     /// Whether fewer events of the queue were given than the sweep quantum.
     pub fn has_quota(&self, queue: usize, sweep: u32) -> bool
         requires { queue < MAX_QUEUES }
-        ensures { result ≡ nat_lt (slice_index self.now.given queue) sweep }
+        ensures value { result ≡ nat_lt (slice_index self.now.given queue) sweep }
+        ensures counts { length self.now.given ≡ MAX_QUEUES }
     {
         u32::from(self.given[queue]) < sweep
     }

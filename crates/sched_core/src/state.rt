@@ -11,6 +11,7 @@ ghost use Rattle.evt_types.specs.Plan.{lanes_of};
 ghost use Rattle.evt_types.specs.declared.event.Event.{Event as EventValue};
 ghost use Rattle.order_parts.specs.Reorder.{open_place};
 ghost use Rattle.parked_queue.specs.Lists.{delivery_of};
+ghost use Rattle.sched_core.specs.Sized.{IsSized};
 ghost use Rattle.evt_types.specs.declared.step.Step.{Step as StepValue};
 
 use evt_types::{Delivery, KeptEvent, MAX_FORWARDS, Shape};
@@ -64,6 +65,7 @@ impl Core {
     #[inline(always)]
     pub(crate) fn facts(&self)
         ensures limits { IsWithinLimits self.now.shape }
+        ensures sized { IsSized self.now }
         ensures places { length self.now.places ≡ length self.now.shape.queues }
         ensures few { entries_of self.now ≤ 2 ^ 63 }
         ensures replies { (l : ℕ) (e : EventValue) → l < lanes_of self.now.shape → length (steps_of self.now l e) + kept_in (after self.now (steps_of self.now l e)) ≤ kept_in self.now + 2 }

@@ -15,7 +15,7 @@ returns-then-is_some-clause-choice c =
     let same : c.loop-queue.self ≡ v = c.loop-queue.invariant.0 in
     let first : IsServedFirst v.shape c.loop-queue.left n = subst (λ (u : View). IsServedFirst u.shape c.loop-queue.left n) same c.in-Some.ensures.first in
     let sweep : c.sweep-sweep.result ≡ v.shape.sweep = c.sweep-sweep.ensures.value ∙ ap (λ (u : View). u.shape.sweep) c.self.view_is in
-    let quota : slice_index s.given n < c.sweep-sweep.result = ltb-true _ _ (sym c.has_quota.ensures ∙ c.if-has_quota.true) in
+    let quota : slice_index s.given n < c.sweep-sweep.result = ltb-true _ _ (sym c.has_quota.ensures.value ∙ c.if-has_quota.true) in
     served_offer v s n c.loop-queue.left c.offer_from-offer.result first c.loop-queue.invariant.2 (c.loop-queue.invariant.1 n first.there) (omega arith)
     (subst (λ u. IfSome c.offer_from-offer.result (IsOfferFrom u s n)) same c.offer_from-offer.ensures.offer)
 

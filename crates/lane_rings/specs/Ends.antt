@@ -6,7 +6,7 @@ use Rattle.evt_types.specs.declared.event.Delivery.{Delivery}
 use Rattle.evt_types.specs.declared.event.Reply.{Reply}
 use Rattle.evt_types.specs.Event.{pair_of}
 use Rattle.lane_rings.specs.Intakes.{inside, handed, ahead}
-use Rattle.lane_rings.specs.Outlets.{put_in, kept_back}
+use Rattle.lane_rings.specs.Outlets.{put_in, kept_back, room_of}
 use Rattle.lane_rings.specs.declared.far.Far.{Far}
 use Rattle.lane_rings.specs.declared.near.Near.{Near}
 
@@ -17,6 +17,10 @@ offered near = put_in near.deliveries
 -- the last of these, which are not in the ring yet: the holder can't see them before the next `flush`
 abbrev pub hidden_offers : Near → List Delivery
 hidden_offers near = kept_back near.deliveries
+
+-- how many deliveries more there is a free slot for, as far as the scheduler's end knows
+abbrev pub room_in : Near → ℕ
+room_in near = room_of near.deliveries
 
 -- every reply that the scheduler took: out of the ring, or of what `fetch` took out of it
 abbrev pub taken : Near → List Reply

@@ -1,5 +1,5 @@
 -- What went into an outlet.
-use Rattle.std.specs.Prelude.{◌++◌, List}
+use Rattle.std.specs.Prelude.{ℕ, ◌-◌, ◌++◌, List, length}
 use Rattle.rtrb.specs.Ring.{sent}
 use Rattle.lane_rings.specs.declared.outlet.Outlet.{Outlet}
 
@@ -11,3 +11,7 @@ module _ {T : Type 0} where
   -- what the other end can't see yet
   abbrev pub kept_back : Outlet T → List T
   kept_back o = o.batch.items
+
+  -- how many items more there is a free slot for, as far as that is known
+  abbrev pub room_of : Outlet T → ℕ
+  room_of o = o.free - length o.batch.items

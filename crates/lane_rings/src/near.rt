@@ -14,7 +14,7 @@ pub struct Near {
 impl Near {
     ghost use Rattle.std.specs.Prelude.{◌≡◌, ◌≢◌, ◌<◌, ◌≤◌, [], ◌∷◌, ◌++◌, drop, length, Some, IsFalse, IsTrue, OnOk, OnErr, IfErr, IfNone, IfSome, IsSome, MatchOption};
     ghost use mathlib.Core.List.{IsPrefix};
-    ghost use Rattle.lane_rings.specs.Ends.{offered, hidden_offers, taken, seen_replies, fetched_replies, next_reply};
+    ghost use Rattle.lane_rings.specs.Ends.{offered, hidden_offers, room_in, taken, seen_replies, fetched_replies, next_reply};
     ghost use Rattle.lane_rings.specs.Identity.{near_id};
 
     /// Puts a delivery into the ring, where the holder sees it, or hands it back where the ring is full: never before as many were
@@ -52,6 +52,31 @@ impl Near {
         ensures shown { hidden_offers self.new ≡ [] }
     {
         self.deliveries.flush();
+    }
+
+    /// How many deliveries one `offer_all` may have: so many slots of the ring at least are free. The ring is looked at anew where none
+    /// is known to be.
+    #[inline(always)]
+    pub fn room(&mut self) -> usize
+        ensures lane { near_id self.new ≡ near_id self.old }
+        ensures lists { (offered self.new ≡ offered self.old) × (hidden_offers self.new ≡ hidden_offers self.old) × (taken self.new ≡ taken self.old) × (seen_replies self.new ≡ seen_replies self.old) × (fetched_replies self.new ≡ fetched_replies self.old) }
+        ensures room { result ≡ room_in self.new }
+        ensures full { result ≡ 0 → (near_id self.old).depth ≤ length (offered self.old) }
+    {
+        self.deliveries.room()
+    }
+
+    /// Puts the deliveries into the ring, by one store: the holder sees them. They are copied there, and nowhere before.
+    #[inline(always)]
+    pub fn offer_all(&mut self, deliveries: &[Delivery])
+        requires room { length deliveries.now ≤ room_in self.old }
+        requires shown { hidden_offers self.old ≡ [] }
+        ensures lane { near_id self.new ≡ near_id self.old }
+        ensures replies { (taken self.new ≡ taken self.old) × (seen_replies self.new ≡ seen_replies self.old) × (fetched_replies self.new ≡ fetched_replies self.old) }
+        ensures offered { offered self.new ≡ offered self.old ++ deliveries.now }
+        ensures shown { hidden_offers self.new ≡ [] }
+    {
+        self.deliveries.put_all(deliveries);
     }
 
     /// Takes at most `most` replies out of the ring, by one store; where some are left that were fetched before, it does nothing.

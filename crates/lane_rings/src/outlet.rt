@@ -21,7 +21,7 @@ pub(crate) struct Outlet<T> {
 impl<T: Copy> Outlet<T> {
     ghost use Rattle.std.specs.Prelude.{◌≡◌, ◌<◌, ◌≤◌, [], ◌∷◌, ◌++◌, length, IfOk, IsTrue, IsFalse};
     ghost use Rattle.rtrb.specs.Ring.{sent, producer_capacity, SameProducer};
-    ghost use Rattle.lane_rings.specs.Outlets.{put_in, kept_back};
+    ghost use Rattle.lane_rings.specs.Outlets.{put_in, kept_back, room_of};
 
     /// Nothing went into a new ring.
     pub(crate) fn new(alloc: Global, ring: Producer<T>) -> Result<Outlet<T>, AllocError>
@@ -71,6 +71,34 @@ impl<T: Copy> Outlet<T> {
         ensures full { IsFalse result → producer_capacity self.old.ring ≤ length (put_in self.old) }
     {
         self.batch.len() < self.free || self.look()
+    }
+
+    /// How many items more there is a free slot for, as far as that is known; it is looked at anew where no free slot is known.
+    #[inline(always)]
+    pub(crate) fn room(&mut self) -> usize
+        ensures ring { SameProducer self.old.ring self.new.ring × (sent self.new.ring ≡ sent self.old.ring) }
+        ensures put { put_in self.new ≡ put_in self.old }
+        ensures batch { self.new.batch ≡ self.old.batch }
+        ensures room { result ≡ room_of self.new }
+        ensures full { result ≡ 0 → producer_capacity self.old.ring ≤ length (put_in self.old) }
+    {
+        if self.batch.len() == self.free {
+            self.look();
+        }
+        self.free - self.batch.len()
+    }
+
+    /// Puts items into the ring, with one store, where nothing is gathered: they are copied there, and nowhere before.
+    #[inline(always)]
+    pub(crate) fn put_all(&mut self, items: &[T])
+        requires room { length items.now ≤ room_of self.old }
+        requires none { kept_back self.old ≡ [] }
+        ensures ring { SameProducer self.old.ring self.new.ring }
+        ensures put { put_in self.new ≡ put_in self.old ++ items.now }
+        ensures all { kept_back self.new ≡ [] }
+    {
+        push_all(&mut self.ring, items);
+        self.free -= items.len();
     }
 
     #[cold]

@@ -1,12 +1,12 @@
 -- The ends of all lanes where one of them changed.
 use Rattle.std.proofs.Common.{◌≡◌, ◌≢◌, ℕ, ◌+◌, ◌<◌, ◌≤◌, List, [], ◌∷◌, ◌++◌, length, map, set, get_or, ◌⊎◌, inl, inr, refl, sym, ap, ◌∙◌, subst, arith}
 use Rattle.std.proofs.lemmas.Bool.{cases_eq}
-use Rattle.std.proofs.lemmas.List.{get_or-set_other, get_or-set_same, get_or-map, get_or_past, length-map, map-set}
+use Rattle.std.proofs.lemmas.List.{get_or-set_other, get_or-set_same, get_or-map, length-map, map-set}
 use Rattle.std.proofs.Math.Seq.{map-set_same}
 use mathlib.Core.List.{IsPrefix}
 use Rattle.credit_pool.specs.declared.account.Account.{Account}
 use Rattle.credit_pool.specs.declared.pool.Credits.{Credits}
-use Rattle.event_scheduler.specs.Hidden.{NoneHidden, OneHidden, hidden_at}
+use Rattle.event_scheduler.specs.Hidden.{NoneHidden}
 use Rattle.event_scheduler.specs.Scheduler.{Sight, sight}
 use Rattle.event_scheduler.specs.Seeking.{SameLanes, fetched_in, seen_in}
 use Rattle.evt_types.specs.declared.event.Delivery.{Delivery}
@@ -113,23 +113,14 @@ still_seen before lanes from i after past same k lt = seen_elsewhere lanes i aft
 
 -- ---- what is hidden
 
--- nothing that was hidden elsewhere changes
-pub one_hidden : (lanes : List Near) (i : ℕ) (near after : Near) → i < length lanes → near ≡ get_or lanes i near → OneHidden i lanes → OneHidden i (set lanes i after)
-one_hidden lanes i near after within is h l other =
-    each_lane (λ k before now. k ≢ i → before ≡ [] → now ≡ []) hidden_offers lanes i near after within is (λ ne. absurd (ne refl)) (λ k ne xs _ none. none) l other (h l other)
+-- what the lane's end hides, where none is hidden
+pub hidden_here : (lanes : List Near) (i : ℕ) (near : Near) → i < length lanes → near ≡ get_or lanes i near → NoneHidden lanes → hidden_offers near ≡ []
+hidden_here lanes i near within is h = sym (get_or-map hidden_offers lanes i near [] within ∙ ap hidden_offers (sym is)) ∙ h i
 
--- the lane was flushed
-pub none_hidden : (lanes : List Near) (i : ℕ) (near after : Near) → i < length lanes → near ≡ get_or lanes i near → hidden_offers after ≡ [] → OneHidden i lanes → NoneHidden (set lanes i after)
+-- the end hides nothing
+pub none_hidden : (lanes : List Near) (i : ℕ) (near after : Near) → i < length lanes → near ≡ get_or lanes i near → hidden_offers after ≡ [] → NoneHidden lanes → NoneHidden (set lanes i after)
 none_hidden lanes i near after within is shown h l =
-    each_lane (λ k before now. (k ≢ i → before ≡ []) → now ≡ []) hidden_offers lanes i near after within is (λ _. shown) (λ k ne xs none. none ne) l (h l)
-
--- or there is no such lane
-pub none_past : (lanes : List Near) (i : ℕ) → length lanes ≤ i → OneHidden i lanes → NoneHidden lanes
-none_past lanes i past h l = by_place (cases_eq l i)
-  where
-    by_place : (l ≡ i) ⊎ (l ≢ i) → hidden_at lanes l ≡ []
-    by_place (inl same) = get_or_past (map hidden_offers lanes) l [] (omega (arith, length-map lanes hidden_offers, past, same))
-    by_place (inr other) = h l other
+    each_lane (λ k before now. before ≡ [] → now ≡ []) hidden_offers lanes i near after within is (λ _. shown) (λ k ne xs none. none) l (h l)
 
 -- the end hides as much as before
 pub still_hidden : (lanes : List Near) (i : ℕ) (near after : Near) → near ≡ get_or lanes i near → hidden_offers after ≡ hidden_offers near → NoneHidden lanes → NoneHidden (set lanes i after)

@@ -1,5 +1,6 @@
 pub mod Counts
 pub mod Ending
+pub mod Gifts
 pub mod Giving
 pub mod Lanes
 pub mod Looking

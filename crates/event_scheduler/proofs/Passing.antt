@@ -1,38 +1,38 @@
--- What is given in a sweep: one offer after others, what is passed over then, and how much may be given yet.
-use Rattle.std.proofs.Common.{◌≡◌, ℕ, ◌+◌, ◌-◌, ◌*◌, ◌<◌, ◌≤◌, Bool, true, false, cond, List, [], ◌∷◌, ◌++◌, length, map, set, get_or, count_by, sum_by, fold, refl, sym, ap, ◌∙◌, subst, append_assoc, append-nil, add-zero, arith}
-use Rattle.std.proofs.lemmas.Bool.{false≢true}
+-- What is given in a sweep: runs of gifts and refusals after others, what is passed over then, and how much may be given yet.
+use Rattle.std.proofs.Common.{◌≡◌, ℕ, ◌+◌, ◌-◌, ◌*◌, ◌<◌, ◌≤◌, ◌==◌, Bool, true, false, cond, List, [], ◌∷◌, ◌++◌, length, map, set, get_or, count_by, sum_by, fold, refl, sym, ap, ◌∙◌, subst, add-zero, arith}
 use Rattle.std.proofs.lemmas.List.{get_or-set_other, get_or-set_same, length-append, length-replicate, length-set}
 use Rattle.std.proofs.lemmas.List.FromFn.{length-range_with_len}
 use Rattle.std.proofs.lemmas.List.Sums.{fold-append, sum_by-le}
 use Rattle.std.proofs.Math.Nat.{sub-le}
+use Rattle.std.specs.List.{range_with_len}
+use Rattle.credit_pool.specs.declared.account.Account.{Account}
+use Rattle.credit_pool.specs.declared.pool.Credits.{Credits}
 use Rattle.event_scheduler.proofs.Counts.{count-append}
+use Rattle.event_scheduler.proofs.Gifts.{choices_are, choices_end, gifts-append, gifts_are_no, gifts_count}
+use Rattle.event_scheduler.proofs.Giving.{Hands}
 use Rattle.event_scheduler.proofs.Replies.{after-append}
 use Rattle.event_scheduler.proofs.Serving.{runs_none, runs_runs}
-use Rattle.event_scheduler.specs.Giving.{AreGifts, Gives, Hands, IsGift, bounces_left, hand_step, is_bounced, left, passed_by, passed_step, quota_left}
-use Rattle.event_scheduler.specs.Scheduler.{Sight, Site, depth_at, depth_in, offered_at}
+use Rattle.event_scheduler.specs.Giving.{AreGifts, Gives, bounces_left, is_bounced, left, passed_by, passed_step, quota_left}
+use Rattle.event_scheduler.specs.Scheduler.{Sight, Site, depth_at, depth_in, offered_at, sight}
 use Rattle.evt_types.proofs.FlowLanes.{lanes_few}
 use Rattle.evt_types.specs.Fault.{IsWithinLimits}
 use Rattle.evt_types.specs.Plan.{Plan, lanes, lanes_of, queues}
-use Rattle.evt_types.specs.declared.shape.TheConstants.{MAX_LANES, MAX_QUEUES, MAX_SWEEP}
+use Rattle.evt_types.specs.declared.event.Delivery.{Delivery}
+use Rattle.evt_types.specs.declared.event.Numbered.{Numbered}
+use Rattle.evt_types.specs.declared.shape.TheConstants.{MAX_LANES, MAX_QUEUES}
 use Rattle.evt_types.specs.declared.step.Step.{Step}
 use Rattle.evt_types.specs.declared.step.Step.TheVariants.{Accept, Bounced, Done, Give, More, Shut, Turned}
+use Rattle.lane_rings.specs.declared.near.Near.{Near}
+use Rattle.lists.proofs.Lists.{eqb_other, eqb_same}
 use Rattle.lists.proofs.Sums.{sum_changed}
-use Rattle.sched_core.specs.Offered.{numbered_in}
+use Rattle.sched_core.specs.Runs.{AreChoices, gift_of, gifts_of, given_once}
 use Rattle.sched_core.specs.Skipped.{nothing_passed}
-use Rattle.sched_core.specs.declared.offer.Offer.{Offer}
 use Rattle.transcripts.proofs.Replies.{out-append}
 use Rattle.transcripts.specs.Choice.{IsChoice, Passed, has_bounced}
 use Rattle.transcripts.specs.Standing.{View, after}
 use Rattle.transcripts.specs.Transcript.{is_give, out}
 
--- ---- one step more
-
-gifts-push : (s : Sight) (past xs : List Step) (x : Step) → AreGifts s past xs → IsGift s (past ++ xs) x → AreGifts s past (xs ++ x ∷ [])
-gifts-push s past [] x h gift = (subst (λ P. IsGift s P x) (append-nil past) gift, tt)
-gifts-push s past (y ∷ xs) x h gift = (h.0, gifts-push s (past ++ y ∷ []) xs x h.1 (subst (λ P. IsGift s P x) (sym (append_assoc past (y ∷ []) xs)) gift))
-
-pub passed-push : (steps : List Step) (x : Step) → passed_by (steps ++ x ∷ []) ≡ passed_step (passed_by steps) x
-passed-push steps x = fold-append passed_step nothing_passed steps (x ∷ [])
+-- ---- some steps more
 
 pub gives_none : (v : Passed) (s : Sight) (log : List Step) → v ≡ nothing_passed → Gives v 0 0 s log s log
 unfolding out
@@ -52,50 +52,50 @@ gives_none v s log none =
       pocket = refl;
     }
 
--- the choice, by the steps so far
-choice_after : (v w : Passed) (c d : View) (l q : ℕ) (o : Offer) → v ≡ w → c ≡ d → IsChoice c v l q (numbered_in o.delivery) → IsChoice d w l q (numbered_in o.delivery)
-choice_after v w c d l q o same view choice = subst (λ x. IsChoice d x l q (numbered_in o.delivery)) same (subst (λ x. IsChoice x v l q (numbered_in o.delivery)) view choice)
-
-more : (o : Offer) (ok : Bool) (v : Passed) (given bounced a b : ℕ) (s t u : Sight) (log mid longer : List Step) → (h : Gives v given bounced s log t mid) → Hands o ok t mid u longer
-    → IsGift s h.steps (hand_step o ok) → count_by is_give (hand_step o ok ∷ []) ≡ a → count_by is_bounced (hand_step o ok ∷ []) ≡ b
-    → Gives (passed_step v (hand_step o ok)) (given + a) (bounced + b) s log u longer
-more o ok v given bounced a b s t u log mid longer h k gift one_given one_bounced =
+more : (steps : List Step) (v : Passed) (given bounced a b : ℕ) (s t u : Sight) (log mid longer : List Step) → (h : Gives v given bounced s log t mid) → Hands steps t mid u longer
+    → AreGifts s h.steps steps → count_by is_give steps ≡ a → count_by is_bounced steps ≡ b → Gives (fold passed_step v steps) (given + a) (bounced + b) s log u longer
+more steps v given bounced a b s t u log mid longer h k gifts now_given now_bounced =
     record {
-      steps = h.steps ++ hand_step o ok ∷ [];
-      runs = runs_runs h.steps (hand_step o ok ∷ []) s t u log mid longer h.runs k.runs;
-      core = k.core ∙ (ap (λ c. after c (hand_step o ok ∷ [])) h.core ∙ sym (after-append s.core h.steps (hand_step o ok ∷ [])));
-      gifts = gifts-push s [] h.steps (hand_step o ok) h.gifts gift;
-      passed = ap (λ w. passed_step w (hand_step o ok)) h.passed ∙ sym (passed-push h.steps (hand_step o ok));
-      count_given = omega (arith, count-append is_give h.steps (hand_step o ok ∷ []), h.count_given, one_given);
-      count_bounced = omega (arith, count-append is_bounced h.steps (hand_step o ok ∷ []), h.count_bounced, one_bounced);
-      grows = λ l. omega (arith, k.grows l, h.grows l, ap length (out-append h.steps (hand_step o ok ∷ []) l), length-append (out h.steps l) (out (hand_step o ok ∷ []) l));
+      steps = h.steps ++ steps;
+      runs = runs_runs h.steps steps s t u log mid longer h.runs k.runs;
+      core = k.core ∙ (ap (λ c. after c steps) h.core ∙ sym (after-append s.core h.steps steps));
+      gifts = gifts-append s [] h.steps steps h.gifts gifts;
+      passed = ap (λ w. fold passed_step w steps) h.passed ∙ sym (fold-append passed_step nothing_passed h.steps steps);
+      count_given = omega (arith, count-append is_give h.steps steps, h.count_given, now_given);
+      count_bounced = omega (arith, count-append is_bounced h.steps steps, h.count_bounced, now_bounced);
+      grows = λ l. omega (arith, k.grows l, h.grows l, ap length (out-append h.steps steps l), length-append (out h.steps l) (out steps l));
       taken = k.taken ∙ h.taken;
       seen = k.seen ∙ h.seen;
       account = k.account ∙ h.account;
       pocket = k.pocket ∙ h.pocket;
     }
 
-pub gives_given : (o : Offer) (ok : Bool) (v w : Passed) (given bounced : ℕ) (s t u : Sight) (log mid longer : List Step) → ok ≡ true → Gives v given bounced s log t mid
-    → IsChoice t.core v o.lane o.delivery.queue (numbered_in o.delivery) → Hands o ok t mid u longer
-    → w ≡ passed_step v (hand_step o true) → Gives w (given + 1) bounced s log u longer
-gives_given o false v w given bounced s t u log mid longer is h choice k next = absurd (false≢true is)
-gives_given o true v w given bounced s t u log mid longer is h choice k next =
-    subst (λ x. Gives x (given + 1) bounced s log u longer) (sym next)
-    (subst (λ n. Gives (passed_step v (hand_step o true)) (given + 1) n s log u longer) (add-zero bounced)
-    (more o true v given bounced 1 0 s t u log mid longer h k (numbered_in o.delivery, refl, choice_after v (passed_by h.steps) t.core (after s.core h.steps) o.lane o.delivery.queue o h.passed h.core choice) refl refl))
+pub gives_given : (l : ℕ) (ds : List Delivery) (v w : Passed) (given bounced count : ℕ) (s t u : Sight) (log mid longer : List Step) → count ≡ length ds → Gives v given bounced s log t mid
+    → AreChoices l t.core v ds u.core w → Hands (gifts_of l ds) t mid u longer → Gives w (given + count) bounced s log u longer
+gives_given l ds v w given bounced count s t u log mid longer counted h choices k =
+    subst (λ x. Gives x (given + count) bounced s log u longer) (sym (choices_end l t.core v ds u.core w choices).1)
+    (subst (λ n. Gives (fold passed_step v (gifts_of l ds)) (given + count) n s log u longer) (add-zero bounced)
+    (more (gifts_of l ds) v given bounced count 0 s t u log mid longer h k (choices_are s h.steps l t.core v ds u.core w h.core h.passed choices) (gifts_count l ds ∙ sym counted)
+    (gifts_are_no is_bounced l ds (λ d. refl))))
 
-pub gives_bounced : (o : Offer) (ok : Bool) (v w : Passed) (given bounced : ℕ) (s t u : Sight) (log mid longer : List Step) → ok ≡ false → Gives v given bounced s log t mid
-    → IsChoice t.core v o.lane o.delivery.queue (numbered_in o.delivery) → Hands o ok t mid u longer
-    → w ≡ passed_step v (hand_step o false) → Gives w given (bounced + 1) s log u longer
-gives_bounced o true v w given bounced s t u log mid longer is h choice k next = absurd (false≢true (sym is))
-gives_bounced o false v w given bounced s t u log mid longer is h choice k next =
-    subst (λ x. Gives x given (bounced + 1) s log u longer) (sym next)
-    (subst (λ n. Gives (passed_step v (hand_step o false)) n (bounced + 1) s log u longer) (add-zero given)
-    (more o false v given bounced 0 1 s t u log mid longer h k
-    (o.delivery.queue, numbered_in o.delivery, choice_after v (passed_by h.steps) t.core (after s.core h.steps) o.lane o.delivery.queue o h.passed h.core choice, full) refl refl))
+pub gives_bounced : (l q : ℕ) (x : Numbered) (v w : Passed) (given bounced : ℕ) (s t u : Sight) (log mid longer : List Step) → Gives v given bounced s log t mid
+    → IsChoice t.core v l q x → depth_at t l ≤ length (offered_at t l) → Hands (Bounced l ∷ []) t mid u longer → w ≡ passed_step v (Bounced l) → Gives w given (bounced + 1) s log u longer
+gives_bounced l q x v w given bounced s t u log mid longer h choice full k next =
+    subst (λ y. Gives y given (bounced + 1) s log u longer) (sym next)
+    (subst (λ n. Gives (passed_step v (Bounced l)) n (bounced + 1) s log u longer) (add-zero given)
+    (more (Bounced l ∷ []) v given bounced 0 1 s t u log mid longer h k ((q, x, chosen_then, full_then), tt) refl refl))
   where
-    full : depth_at s o.lane ≤ length (offered_at s o.lane) + length (out h.steps o.lane)
-    full = omega (arith, k.full refl, h.grows o.lane, ap (λ (x : Site). get_or (map depth_in x.lanes) o.lane 0) h.runs.site)
+    chosen_then : IsChoice (after s.core h.steps) (passed_by h.steps) l q x
+    chosen_then = subst (λ y. IsChoice (after s.core h.steps) y l q x) h.passed (subst (λ y. IsChoice y v l q x) h.core choice)
+
+    full_then : depth_at s l ≤ length (offered_at s l) + length (out h.steps l)
+    full_then = omega (arith, full, h.grows l, ap (λ (y : Site). get_or (map depth_in y.lanes) l 0) h.runs.site)
+
+-- the core is the same after a look for what is chosen
+pub gives_core : (pool : Credits) (core same : View) (lanes : List Near) (a : Account) (p n : ℕ) (v : Passed) (given bounced : ℕ) (s : Sight) (log longer : List Step) → same ≡ core
+    → Gives v given bounced s log (sight pool core lanes a p n) longer → Gives v given bounced s log (sight pool same lanes a p n) longer
+gives_core pool core same lanes a p n v given bounced s log longer is h =
+    subst (λ x. Gives v given bounced s log (sight pool x lanes a p n) longer) (sym is) h
 
 -- ---- how much may be given yet
 
@@ -152,39 +152,54 @@ left_bounced p v l are there within ready =
           (λ k other. ap {B = ℕ} (λ b. cond b 0 1) (get_or-set_other v.bounced l k true false other)),
     )
 
-pub fewer_left : (p : Plan) (v w : Passed) (x : Step) → w ≡ passed_step v x → left p (passed_step v x) + 1 ≡ left p v → left p w < left p v
-fewer_left p v w x next one = omega (arith, ap (left p) next, one)
+-- a part of a sum is no more than the sum
+one_of : (f : ℕ → ℕ) (n i : ℕ) → i < n → f i ≤ sum_by f (range_with_len 0 n)
+one_of f n i within =
+    let gone : cond (i == i) 0 (f i) ≡ 0 = ap {B = ℕ} (λ b. cond b 0 (f i)) (eqb_same i) in
+    let here : cond (i == i) 0 (f i) + f i ≡ f i + 0 = omega (arith, gone) in
+    omega (
+      arith,
+      sum_changed (λ k. cond (k == i) 0 (f k)) f n i (f i) 0 within here (λ k other. ap {B = ℕ} (λ b. cond b 0 (f k)) (eqb_other k i other)),
+    )
 
 -- what a choice says of the numbers, under the plan with which the sweep began
-pub record IsChosen (p : Plan) (v : Passed) (l q n : ℕ) : Type 0 where
-  pub queue : q < MAX_QUEUES
+pub record IsChosen (p : Plan) (v : Passed) (l q : ℕ) : Type 0 where
   pub lane : l < MAX_LANES
-  pub quota : get_or v.given q 0 < MAX_SWEEP
-  pub given : left p (passed_step v (Give l q n)) + 1 ≡ left p v
+  pub some : 0 < left p v
+  pub quota : p.sweep ≤ left p v + get_or v.given q 0
   pub bounced : left p (passed_step v (Bounced l)) + 1 ≡ left p v
 
-pub chosen : (p : Plan) (v : Passed) (n : ℕ) (core : View) (o : Offer) → IsWithinLimits p → core.shape ≡ p → long v → IsChoice core v o.lane o.delivery.queue (numbered_in o.delivery)
-    → IsChosen p v o.lane o.delivery.queue n
-chosen p v n core o limits shape are choice =
+pub chosen : (p : Plan) (v : Passed) (core : View) (l q : ℕ) (x : Numbered) → IsWithinLimits p → core.shape ≡ p → long v → IsChoice core v l q x → IsChosen p v l q
+chosen p v core l q x limits shape are choice =
     record {
-      queue = queue;
       lane = lane;
-      quota = omega (arith, quota, limits.sweep.1);
-      given = left_given p v o.lane o.delivery.queue n are there queue quota;
-      bounced = left_bounced p v o.lane are on_lane lane choice.fits.ready;
+      some = omega (arith, bounced);
+      quota = omega (arith, one_of (quota_left p v) (length p.queues) q there);
+      bounced = bounced;
     }
   where
-    there : o.delivery.queue < length p.queues
-    there = subst (λ (x : Plan). o.delivery.queue < length x.queues) shape choice.there
+    there : q < length p.queues
+    there = subst (λ (y : Plan). q < length y.queues) shape choice.there
 
-    on_lane : o.lane < lanes_of p
-    on_lane = subst (λ x. o.lane < lanes_of x) shape choice.fits.lane
+    on_lane : l < lanes_of p
+    on_lane = subst (λ y. l < lanes_of y) shape choice.fits.lane
 
-    quota : get_or v.given o.delivery.queue 0 < p.sweep
-    quota = subst (λ (x : Plan). get_or v.given o.delivery.queue 0 < x.sweep) shape choice.quota
-
-    queue : o.delivery.queue < MAX_QUEUES
-    queue = omega (arith, there, limits.queue_count.1)
-
-    lane : o.lane < MAX_LANES
+    lane : l < MAX_LANES
     lane = omega (arith, on_lane, lanes_few p limits)
+
+    bounced : left p (passed_step v (Bounced l)) + 1 ≡ left p v
+    bounced = left_bounced p v l are on_lane lane choice.fits.ready
+
+-- a run leaves less, by as many as were given
+pub left_run : (p : Plan) (l : ℕ) (v : View) (s : Passed) (ds : List Delivery) (w : View) (t : Passed) → IsWithinLimits p → v.shape ≡ p → long s → AreChoices l v s ds w t
+    → (left p t + length ds ≡ left p s) × long t
+left_run p l v s [] w t limits shape are h = (omega (arith, ap (left p) h.1), subst long (sym h.1) are)
+left_run p l v s (d ∷ ds) w t limits shape are h =
+    let rest = left_run p l (after v (gift_of l d ∷ [])) (given_once s d.queue) ds w t limits shape (long_step s (gift_of l d) are) h.1 in
+    (omega (arith, one, rest.0), rest.1)
+  where
+    there : d.queue < length p.queues
+    there = subst (λ (y : Plan). d.queue < length y.queues) shape h.0.there
+
+    one : left p (given_once s d.queue) + 1 ≡ left p s
+    one = left_given p s l d.queue d.number are there (omega (arith, there, limits.queue_count.1)) (subst (λ (y : Plan). get_or s.given d.queue 0 < y.sweep) shape h.0.quota)

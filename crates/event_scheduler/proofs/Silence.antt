@@ -4,7 +4,8 @@ use Rattle.std.proofs.lemmas.Bool.{cases_eq, false≢true}
 use Rattle.std.proofs.lemmas.List.{get_or-set_other, get_or-set_same}
 use Rattle.std.proofs.lemmas.List.Elements.{All-cons, All-nil, All-weaker}
 use Rattle.std.proofs.lemmas.List.Kept.{AllPairs-cons}
-use Rattle.event_scheduler.proofs.Passing.{passed-push, passed_long}
+use Rattle.event_scheduler.proofs.Gifts.{passed-push}
+use Rattle.event_scheduler.proofs.Passing.{passed_long}
 use Rattle.event_scheduler.specs.Giving.{AreGifts, IsGift, MayFollow, is_given_on, is_refused_on, passed_by, passed_step}
 use Rattle.event_scheduler.specs.Scheduler.{Sight}
 use Rattle.evt_types.proofs.FlowLanes.{lanes_few}

@@ -6,7 +6,6 @@ use Rattle.evt_types.specs.declared.event.Numbered.{Numbered}
 use Rattle.evt_types.specs.declared.step.Step.{Step}
 use Rattle.evt_types.specs.declared.step.Step.TheVariants.{Accept, Give, Done, More, Turned, Bounced, Shut}
 use Rattle.sched_core.specs.Skipped.{nothing_passed}
-use Rattle.sched_core.specs.declared.offer.Offer.{Offer}
 use Rattle.transcripts.specs.Choice.{HasNoChoice, IsChoice, Passed, has_bounced}
 use Rattle.transcripts.specs.Standing.{View, after}
 use Rattle.transcripts.specs.Transcript.{is_give, out}
@@ -76,21 +75,6 @@ is_refused_on l Shut = false
 -- a lane whose ring refused an event is given none after it, and is offered none
 abbrev pub MayFollow : Step → Step → Type 0
 MayFollow x y = (l : ℕ) → is_refused_on l x ≡ true → (is_given_on l y ≡ false) × (is_refused_on l y ≡ false)
-
-abbrev pub hand_step : Offer → Bool → Step
-hand_step o true = Give o.lane o.delivery.queue o.delivery.number
-hand_step o false = Bounced o.lane
-
--- One offer was made to its lane's ring.
-pub record Hands (o : Offer) (ok : Bool) (s : Sight) (log : List Step) (t : Sight) (longer : List Step) : Type 0 where
-  pub runs : Runs (hand_step o ok ∷ []) s log t longer
-  pub core : t.core ≡ after s.core (hand_step o ok ∷ [])
-  pub full : ok ≡ false → depth_at s o.lane ≤ length (offered_at s o.lane)
-  pub grows : (l : ℕ) → length (offered_at t l) ≡ length (offered_at s l) + length (out (hand_step o ok ∷ []) l)
-  pub taken : t.taken ≡ s.taken
-  pub seen : t.seen ≡ s.seen
-  pub account : t.account ≡ s.account
-  pub pocket : t.pocket ≡ s.pocket
 
 -- So many events were given, and so many lanes' rings refused one; and that is what is passed over.
 pub record Gives (v : Passed) (given bounced : ℕ) (s : Sight) (log : List Step) (t : Sight) (longer : List Step) : Type 0 where

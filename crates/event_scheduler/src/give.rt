@@ -1,81 +1,26 @@
 //! What waits is given to the lanes.
 
-ghost use Rattle.std.specs.Prelude.{◌≡◌, ℕ, ◌+◌, ◌*◌, ◌≤◌, ◌<◌, List, [], ◌∷◌, length};
+ghost use Rattle.std.specs.Prelude.{◌≡◌, ℕ, ◌+◌, ◌*◌, ◌≤◌, length};
 ghost use Rattle.credit_pool.specs.declared.account.Account.{Account};
 ghost use Rattle.credit_pool.specs.declared.pool.Credits.{Credits};
-ghost use Rattle.event_scheduler.specs.Giving.{Gives, GivesAll, Hands};
-ghost use Rattle.event_scheduler.specs.Hidden.{NoneHidden, OneHidden};
+ghost use Rattle.event_scheduler.specs.Giving.{GivesAll};
+ghost use Rattle.event_scheduler.specs.Hidden.{NoneHidden};
 ghost use Rattle.event_scheduler.specs.Scheduler.{sight};
 ghost use Rattle.evt_types.specs.Plan.{lanes_of};
-ghost use Rattle.sched_core.specs.Offered.{numbered_in};
-ghost use Rattle.transcripts.specs.Choice.{IsOffer};
-ghost use Rattle.transcripts.specs.Standing.{View};
 
+use arrayvec::ArrayVec;
+use evt_types::Delivery;
 use lane_rings::{Hints, Near};
-use sched_core::{Core, Offer, Skips};
+use sched_core::{Core, Skips};
 use step_log::StepLog;
 
-/// Puts what the lane was offered into its ring, where its holder sees it, and then sets the lane's hint.
-fn show(lanes: &mut Vec<Near>, hints: &Hints, lane: usize)
-    requires { OneHidden lane lanes.old.items }
-    ensures shown { NoneHidden lanes.new.items }
-    ensures sight { (pool : Credits) (core : View) (v : Account) (p n : ℕ) → sight pool core lanes.new.items v p n ≡ sight pool core lanes.old.items v p n }
-    ensures count { length lanes.new.items ≡ length lanes.old.items }
-{
-    if lane < lanes.len() {
-        lanes[lane].flush();
-        hints.gave(lane);
-    }
-}
-
-/// Where the next lane is another one than the last, what the last one was offered goes into its ring.
-fn turn(lanes: &mut Vec<Near>, hints: &Hints, last: usize, next: usize)
-    requires { OneHidden last lanes.old.items }
-    ensures hidden { OneHidden next lanes.new.items }
-    ensures sight { (pool : Credits) (core : View) (v : Account) (p n : ℕ) → sight pool core lanes.new.items v p n ≡ sight pool core lanes.old.items v p n }
-    ensures count { length lanes.new.items ≡ length lanes.old.items }
-{
-    if next != last {
-        show(lanes, hints, last);
-    }
-}
-
-/// Offers what was chosen to the lane's ring, once what another lane was offered before it is in the ring; the lane's ring gets it by the
-/// next `show`. Where the ring is full it goes on waiting.
-fn give_one<L: StepLog>(
-    core: &mut Core,
-    lanes: &mut Vec<Near>,
-    hints: &Hints,
-    offer: Offer,
-    last: usize,
-    log: &mut L,
-) -> bool
-    requires offer { IsOffer core.old offer.lane offer.delivery.queue (numbered_in offer.delivery) }
-    requires lanes { length lanes.old.items ≡ lanes_of core.old.shape }
-    requires hidden { OneHidden last lanes.old.items }
-    requires room { 0 < L.room log.old }
-    ensures hands { (pool : Credits) (v : Account) (p n : ℕ) → Hands offer result (sight pool core.old lanes.old.items v p n) (L.steps log.old) (sight pool core.new lanes.new.items v p n) (L.steps log.new) }
-    ensures lanes { length lanes.new.items ≡ lanes_of core.new.shape }
-    ensures shape { core.new.shape ≡ core.old.shape }
-    ensures hidden { OneHidden offer.lane lanes.new.items }
-    ensures room { L.room log.old ≤ L.room log.new + 1 }
-{
-    turn(lanes, hints, last, offer.lane);
-    let near = &mut lanes[offer.lane];
-    if near.stage(&offer.delivery) {
-        core.give(offer, log);
-        true
-    } else {
-        core.bounce(offer.lane, log);
-        false
-    }
-}
-
-/// Gives what is chosen, one event after the other, until no choice is left. What a lane is given in a row its holder sees at once.
+/// Gives what is chosen, one run of events for a lane after the other, until no choice is left. A run has no more events than the lane's
+/// ring has room for; it goes into the ring at once, and then the lane's hint is set. A lane whose ring is full is passed over.
 pub(crate) fn give_all<L: StepLog>(
     core: &mut Core,
     lanes: &mut Vec<Near>,
     hints: &Hints,
+    run: &mut ArrayVec<Delivery, 32>,
     log: &mut L,
 ) -> (usize, usize)
     requires lanes { length lanes.old.items ≡ lanes_of core.old.shape }
@@ -89,17 +34,20 @@ pub(crate) fn give_all<L: StepLog>(
     let mut skips = Skips::none();
     let mut given = 0;
     let mut bounced = 0;
-    let mut lane = 0;
     while let Some(offer) = core.propose(&skips) {
-        if give_one(core, lanes, hints, offer, lane, log) {
-            skips.given(offer.delivery.queue);
-            given += 1;
-        } else {
-            skips.bounced(offer.lane);
+        let lane = offer.lane;
+        let near = &mut lanes[lane];
+        let room = near.room();
+        if room == 0 {
+            core.bounce(lane, log);
+            skips.bounced(lane);
             bounced += 1;
+        } else {
+            core.give_run(offer, room, &mut skips, run, log);
+            near.offer_all(run.as_slice());
+            hints.gave(lane);
+            given += run.len();
         }
-        lane = offer.lane;
     }
-    show(lanes, hints, lane);
     (given, bounced)
 }

@@ -7,7 +7,9 @@ ghost use Rattle.evt_types.specs.Plan.{lanes_of};
 ghost use Rattle.std.specs.Arc.{arc_value};
 
 use crate::parts::Parts;
+use arrayvec::ArrayVec;
 use credit_pool::{CreditSeat, Credits};
+use evt_types::Delivery;
 use lane_rings::{Hints, Near};
 use sched_core::Core;
 use std::alloc::Global;
@@ -27,6 +29,8 @@ pub struct Scheduler {
     pub(crate) pocket: u64,
     /// How many events were accepted as new.
     pub(crate) accepted_new: u64,
+    /// What a sweep gives a lane at once; between sweeps nothing rests on it.
+    pub(crate) run: ArrayVec<Delivery, 32>,
     pub ghost seat_of: { IsSeatOf (arc_value pool) seat },
     pub ghost drew_none: { (account seat).drawn ≡ 0 },
     pub ghost unset: { (account seat).set_shut ≡ false },
@@ -67,6 +71,7 @@ impl Scheduler {
             hints,
             pocket: 0,
             accepted_new: 0,
+            run: ArrayVec::new(),
         }
     }
 
@@ -87,6 +92,7 @@ impl Scheduler {
             hints: _,
             pocket,
             accepted_new: _,
+            run: _,
         } = self;
         Parts {
             pool,

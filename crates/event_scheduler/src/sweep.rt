@@ -22,7 +22,13 @@ impl Scheduler {
         self.look(log);
         let taken = self.take_all(log);
         self.give_back();
-        let (given, bounced) = give_all(&mut self.core, &mut self.lanes, &self.hints, log);
+        let (given, bounced) = give_all(
+            &mut self.core,
+            &mut self.lanes,
+            &self.hints,
+            &mut self.run,
+            log,
+        );
         Ok(Swept {
             taken,
             given,

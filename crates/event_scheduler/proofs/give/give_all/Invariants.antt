@@ -2,7 +2,7 @@ use Rattle.std.proofs.Common.{◌≡◌, ℕ, ◌+◌, ◌*◌, ◌≤◌, lengt
 use Rattle.credit_pool.specs.declared.account.Account.{Account}
 use Rattle.credit_pool.specs.declared.pool.Credits.{Credits}
 use Rattle.event_scheduler.specs.Giving.{Gives, left}
-use Rattle.event_scheduler.specs.Hidden.{OneHidden}
+use Rattle.event_scheduler.specs.Hidden.{NoneHidden}
 use Rattle.event_scheduler.specs.Scheduler.{sight}
 use Rattle.evt_types.specs.Plan.{lanes_of}
 use Rattle.event_scheduler.proofs.Passing.{long}
@@ -13,7 +13,7 @@ invariant-loop-offer g l =
     ((pool : Credits) (v : Account) (p n : ℕ) → Gives l.skips l.given l.bounced (sight pool l.initial.core l.initial.lanes.items v p n) (g.L.StepLog.steps l.initial.log) (sight pool l.core l.lanes.items v p n) (g.L.StepLog.steps l.log))
     × (left l.initial.core.shape l.skips ≤ g.L.StepLog.room l.log)
     × (l.given + l.bounced + left l.initial.core.shape l.skips ≤ l.initial.core.shape.sweep * length l.initial.core.shape.queues + lanes_of l.initial.core.shape)
-    × (length l.lanes.items ≡ lanes_of l.core.shape) × OneHidden l.lane l.lanes.items
+    × (length l.lanes.items ≡ lanes_of l.core.shape) × NoneHidden l.lanes.items
     × (l.core.shape ≡ l.initial.core.shape) × long l.skips
 
 abbrev pub decreases-loop-offer : goal.decreases-loop-offer

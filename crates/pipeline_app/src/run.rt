@@ -98,7 +98,8 @@ fn flows_text<R: Threads + Wait + Sync, G: Gate>(
         Ok(report) => report,
         Err(fault) => return Err(run_fault(fault)),
     };
-    if !answers_are_due(alloc, queues, lanes, &actions, &report.log)? {
+    let due = answers_are_due(alloc, queues, lanes, &actions, &report.log)?;
+    if !due {
         return Err(AppFault::Strayed);
     }
     Ok(log_text(alloc, actions.len(), &report.log)?)

@@ -7,4 +7,4 @@ returns-clause-text g c =
     c.in_ok-log_text.ensures
     ∙ finished_text c.args.pipeline.shape c.args.pipeline.actions.items c.deref-3.result.now c.args.pipeline.trace.items c.deref-2.result.now c.in-Ok.report.log.items c.deref-5.result.now c.deref-4.result.now c.len.result
     (c.len.ensures ∙ (sym c.deref-3.ensures.len ∙ ap length c.deref-3.ensures.value)) c.deref-3.ensures.value c.deref-2.ensures.value c.deref-5.ensures.value c.deref-4.ensures.value c.in-Ok.ensures.lawful c.requires.runnable.staged
-    (c.in_ok-answers_are_due.ensures.0 c.if-not-branch.false) c.in-Ok.ensures.newcomers c.in-Ok.ensures.finished
+    (c.in_ok-due.ensures.0 c.if-not-due.false) c.in-Ok.ensures.newcomers c.in-Ok.ensures.finished

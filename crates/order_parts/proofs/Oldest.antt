@@ -39,11 +39,11 @@ module _ (a : Inside) (r : Reordering) (is : shown a ≡ r) where
         by_answer true resolved = ap is_some (resolved_oldest resolved) ∙ sym resolved
 
     -- it keeps nothing
-    pub bare_oldest : h.answered ≡ true → h.kept ≡ 0 → oldest_answered r.places ≡ Some (left_plain (h.number, None))
-    bare_oldest resolved none =
+    pub bare_oldest : (e : Event) → h.answered ≡ true → h.kept ≡ 0 → oldest_answered r.places ≡ Some (left_plain h.number false e)
+    bare_oldest e resolved none =
         resolved_oldest resolved ∙ ap (place_left h.number) (ap (rows a 0) none ∙ row_none a.rows.items (wrapped a.ring.capacity (a.first_row + 0)))
 
     -- it keeps one event
-    pub plain_oldest : HasRows a → (d : Event) → h.answered ≡ true → h.kept ≡ 1 → oldest_answered r.places ≡ Some (left_plain (h.number, Some (get_or a.rows.items (MAX_FORWARDS * a.first_row) d)))
+    pub plain_oldest : HasRows a → (d : Event) → h.answered ≡ true → h.kept ≡ 1 → oldest_answered r.places ≡ Some (left_plain h.number true (get_or a.rows.items (MAX_FORWARDS * a.first_row) d))
     plain_oldest has d resolved one =
         resolved_oldest resolved ∙ ap (place_left h.number) (ap (rows a 0) one ∙ first_kept a has h there one d)

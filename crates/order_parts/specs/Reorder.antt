@@ -113,9 +113,9 @@ oldest_answered (x ∷ xs) = if x.answered then Some x else None
 abbrev pub left : ℕ × ArrayVec Event → Place
 left r = record { number = r.0; answered = true; forwards = r.1.items }
 
--- the same, where nothing was added
-abbrev pub left_plain : ℕ × Option Event → Place
-left_plain r = record { number = r.0; answered = true; forwards = option_to_list r.1 }
+-- the same, where nothing was added: it was passed on as the event, or as nothing
+abbrev pub left_plain : ℕ → Bool → Event → Place
+left_plain n passed e = record { number = n; answered = true; forwards = if passed then e ∷ [] else [] }
 
 -- the place behind the oldest is the first
 abbrev pub without_oldest : Reordering → Reordering

@@ -158,17 +158,17 @@ impl AllOrders {
         }
     }
 
-    /// The queue's oldest place leaves, where it is answered and keeps one event at most: its event's number, and what it keeps.
-    /// Where it gives nothing it may be that there are more.
+    /// The queue's oldest place leaves, where it is answered and keeps one event at most: its event's number, and whether it keeps
+    /// one, which is copied to `event`. Where it gives nothing it may be that there are more.
     #[inline(always)]
-    pub fn leave_plain(&mut self, queue: usize) -> Option<(u64, Option<Event>)>
+    pub fn leave_plain(&mut self, queue: usize, event: &mut Event) -> Option<(u64, bool)>
         requires { queue < length self.old }
-        ensures value { IfSome result (λ x. oldest_answered (order_at self.old queue).places ≡ Some (left_plain x)) }
+        ensures value { IfSome result (λ x. oldest_answered (order_at self.old queue).places ≡ Some (left_plain x.0 x.1 event.new)) }
         ensures rest { IfSome result (λ x. self.new ≡ slice_set self.old queue (after_leave (order_at self.old queue))) }
-        ensures same { IfNone result (self.new ≡ self.old) }
+        ensures same { IfNone result ((self.new ≡ self.old) × (event.new ≡ event.old)) }
     {
         match &mut self.queues[queue] {
-            Some(order) => order.leave_plain(),
+            Some(order) => order.leave_plain(event),
             None => None,
         }
     }

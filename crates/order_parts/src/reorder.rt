@@ -1,6 +1,6 @@
 //! The reorder buffer of an ordered queue.
 
-ghost use Rattle.std.specs.Prelude.{◌≡◌, false, ◌+◌, ◌*◌, ◌%◌, ◌^◌, ◌<◌, ◌≤◌, ◌++◌, All, MatchOption, Some, length, nat_lt, option_copied, None, slice_get, slice_index_or, option_map, IfOk, IsTrue};
+ghost use Rattle.std.specs.Prelude.{◌≡◌, false, ◌+◌, ◌*◌, ◌%◌, ◌^◌, ◌<◌, ◌≤◌, ◌++◌, All, MatchOption, Some, length, nat_lt, option_copied, None, slice_get, slice_index_or, option_map, IfNone, IfOk, IsTrue};
 ghost use Rattle.order_parts.specs.Reorder.{HasFew, after_add, after_hand, after_keep, after_leave, after_resolve, empty, is_open, kept_of, left, left_plain, next_number, oldest_answered, open_place, place_at, place_or_open, without_oldest, wrapped};
 
 use arrayvec::ArrayVec;
@@ -193,10 +193,13 @@ impl Reorder {
     }
 
     /// The quick way to `leave`, which serves in any case, for a place that keeps one event at most: either it does as that
-    /// would, or it gives nothing and changes nothing. So where this gives nothing, the oldest place may still leave.
+    /// would, or it gives nothing and changes nothing. So where this gives nothing, the oldest place may still leave. It says
+    /// whether an event is kept, and copies that from where it lies to `event`: an answer that holds it would be taken apart
+    /// and put together again.
     #[inline(always)]
-    pub fn leave_plain(&mut self) -> Option<(u64, Option<Event>)>
-        ensures { MatchOption result (self.new ≡ self.old) (λ r. (oldest_answered self.old.places ≡ Some (left_plain r)) × (self.new ≡ after_leave self.old)) }
+    pub fn leave_plain(&mut self, event: &mut Event) -> Option<(u64, bool)>
+        ensures left { MatchOption result (self.new ≡ self.old) (λ r. (oldest_answered self.old.places ≡ Some (left_plain r.0 r.1 event.new)) × (self.new ≡ after_leave self.old)) }
+        ensures same { IfNone result (event.new ≡ event.old) }
     {
         let plain = self.ring.front()?;
         if !plain.answered || plain.kept > 1 {
@@ -205,11 +208,11 @@ impl Reorder {
         let number = plain.number;
         if plain.kept == 0 {
             self.advance();
-            return Some((number, None));
+            return Some((number, false));
         }
-        let event = self.rows[MAX_FORWARDS * self.first_row];
+        *event = self.rows[MAX_FORWARDS * self.first_row];
         self.advance();
-        Some((number, Some(event)))
+        Some((number, true))
     }
 
     /// The oldest place leaves.

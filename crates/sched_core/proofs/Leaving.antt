@@ -1,6 +1,7 @@
 -- A core after a place leaves: its view, and that what holds of each core holds of it.
-use Rattle.std.proofs.Common.{◌≡◌, ℕ, ◌+◌, ◌-◌, ◌<◌, ◌≤◌, ◌^◌, List, [], ◌∷◌, length, map, drop, set, All, Option, Some, None, option_to_list, refl, sym, ap, ◌∙◌, subst, arith}
-use Rattle.std.specs.Option.{IfSome}
+use Rattle.std.proofs.Common.{◌≡◌, ℕ, ◌+◌, ◌-◌, ◌<◌, ◌≤◌, ◌^◌, List, [], ◌∷◌, length, map, drop, set, All, Bool, true, false, cond, Option, Some, None, refl, sym, ap, ◌∙◌, subst, arith}
+use Rattle.std.specs.Prelude.{IsTrue}
+use Rattle.std.proofs.lemmas.Bool.{false≢true}
 use Rattle.std.proofs.lemmas.List.{length-map, map-set}
 use Rattle.std.proofs.lemmas.List.Elements.{All-head}
 use Rattle.std.proofs.lemmas.List.Sums.{sum_by-cons, get_or-le-sum_by}
@@ -94,9 +95,22 @@ module _ (a : Inside) (v : View) (q : ℕ) (x : Place) (k : ℕ) (core : IsCore 
       × (entries_of (view_in (with_orders a (left_orders a.orders q) (a.inside - k) (a.entries - k))) < 2 ^ 63)
   left_some some = (omega (arith, left_room.0, some), omega (arith, left_room.1, some))
 
-pub each_some : (o : Option Event) (P : Event → Type 0) → ((e : Event) → o ≡ Some e → P e) → IfSome o P
-each_some None P holds = tt
-each_some (Some e) P holds = holds e refl
+-- ---- a place that keeps one event or none
 
-pub some_forwards : (o : Option Event) (e : Event) → o ≡ Some e → 0 < length (option_to_list o)
-some_forwards o e is = subst (λ x. 0 < length (option_to_list x)) (sym is) (omega arith)
+-- what it keeps
+abbrev pub kept_if : Bool → Event → List Event
+kept_if b e = cond b (e ∷ []) []
+
+-- it is counted
+pub keeps_count : (b : Bool) (e : Event) (k : ℕ) → k ≡ cond b 1 0 → k ≡ length (kept_if b e)
+keeps_count true e k is = is
+keeps_count false e k is = is
+
+-- where one is kept, that is the event
+pub keeps_one : (b : Bool) (e : Event) → IsTrue b → kept_if b e ≡ e ∷ []
+keeps_one true e is = refl
+keeps_one false e is = absurd (false≢true is)
+
+pub keeps_some : (b : Bool) (e : Event) → IsTrue b → 0 < length (kept_if b e)
+keeps_some true e is = omega arith
+keeps_some false e is = absurd (false≢true is)

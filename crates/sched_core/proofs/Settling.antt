@@ -209,18 +209,18 @@ left_is : (v u : View) (q : ℕ) (x : Place) → oldest_answered (places_at v q)
 left_is v u q x oldest is = is ∙ ap (λ o. with_places_at v q (rest_behind (places_at v q) o)) oldest
 
 -- as nothing
-pub passed_none : (q mine n : ℕ) (v u : View) (log : List Step) → oldest_answered (places_at v q) ≡ Some (left_plain (n, None)) → u ≡ after_leave v q → IsPassedOn q mine v log u log false
-passed_none q mine n v u log oldest is =
-    record { place = left_plain (n, None); oldest = oldest; view = left_is v u q (left_plain (n, None)) oldest is; steps = sym (append-nil log); passes = refl }
+pub passed_none : (q mine n : ℕ) (e : Event) (v u : View) (log : List Step) → oldest_answered (places_at v q) ≡ Some (left_plain n false e) → u ≡ after_leave v q → IsPassedOn q mine v log u log false
+passed_none q mine n e v u log oldest is =
+    record { place = left_plain n false e; oldest = oldest; view = left_is v u q (left_plain n false e) oldest is; steps = sym (append-nil log); passes = refl }
 
 -- as one event
-pub passed_one : (q mine n : ℕ) (e : Event) (v u w : View) (log new : List Step) → oldest_answered (places_at v q) ≡ Some (left_plain (n, Some e)) → u ≡ after_leave v q → w ≡ after_accept u e.queue e
+pub passed_one : (q mine n : ℕ) (e : Event) (v u w : View) (log new : List Step) → oldest_answered (places_at v q) ≡ Some (left_plain n true e) → u ≡ after_leave v q → w ≡ after_accept u e.queue e
     → new ≡ log ++ Accept e.queue e (Of q n) ∷ [] → IsPassedOn q mine v log w new (n == mine)
 passed_one q mine n e v u w log new oldest is accepted logged =
     record {
-      place = left_plain (n, Some e);
+      place = left_plain n true e;
       oldest = oldest;
-      view = accepted ∙ ap (λ x. after_accept x e.queue e) (left_is v u q (left_plain (n, Some e)) oldest is);
+      view = accepted ∙ ap (λ x. after_accept x e.queue e) (left_is v u q (left_plain n true e) oldest is);
       steps = logged;
       passes = sym (tells_one q mine n e);
     }

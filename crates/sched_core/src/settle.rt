@@ -1,6 +1,6 @@
 //! What an ordered queue kept leaves it.
 
-ghost use Rattle.std.specs.Prelude.{◌≡◌, ◌+◌, ◌<◌, ◌≤◌, ◌^◌, ◌++◌, length, None, Some, All, IfNone, IfSome, option_map, option_to_list};
+ghost use Rattle.std.specs.Prelude.{◌≡◌, ◌+◌, ◌<◌, ◌≤◌, ◌^◌, ◌++◌, length, None, Some, All, IfNone, IfSome, IsTrue, if◌then◌else◌, option_map};
 ghost use Rattle.std.specs.List.{list_any};
 ghost use Rattle.evt_types.specs.Plan.{bound_of};
 ghost use Rattle.transcripts.specs.Standing.{inside_of, entries_of, places_at};
@@ -15,16 +15,12 @@ use arrayvec::ArrayVec;
 use evt_types::{Event, MAX_FORWARDS, Source, Step};
 use step_log::StepLog;
 
-/// How many events these are.
+/// How many events a place keeps that keeps one or none.
 #[inline(always)]
-fn count_of(forward: Option<Event>) -> usize
-    ensures value { result ≡ length (option_to_list forward) }
-    ensures few { result ≤ 1 }
+fn count_of(keeps_one: bool) -> usize
+    ensures value { result ≡ if keeps_one then 1 else 0 }
 {
-    match forward {
-        Some(_) => 1,
-        None => 0,
-    }
+    if keeps_one { 1 } else { 0 }
 }
 
 impl Core {
@@ -44,19 +40,19 @@ impl Core {
         Some(left)
     }
 
-    /// The oldest place of the queue leaves, where it is answered and keeps one event at most: its event's number, and what it keeps.
-    /// Where it gives nothing it may be that there are more.
+    /// The oldest place of the queue leaves, where it is answered and keeps one event at most: its event's number, and whether it
+    /// keeps one, which is copied to `event`. Where it gives nothing it may be that there are more.
     #[inline(always)]
-    fn leave_plain(&mut self, queue: usize) -> Option<(u64, Option<Event>)>
+    fn leave_plain(&mut self, queue: usize, event: &mut Event) -> Option<(u64, bool)>
         requires queue { queue < length self.old.shape.queues }
-        ensures value { IfSome result (λ x. oldest_answered (places_at self.old queue) ≡ Some (left_plain x)) }
+        ensures value { IfSome result (λ x. oldest_answered (places_at self.old queue) ≡ Some (left_plain x.0 x.1 event.new)) }
         ensures view { IfSome result (λ x. self.new ≡ after_leave self.old queue) }
         ensures same { IfNone result (self.new ≡ self.old) }
-        ensures named { IfSome result (λ x. IfSome x.1 (λ e. e.queue < length self.old.shape.queues)) }
-        ensures inside { IfSome result (λ x. IfSome x.1 (λ e. inside_of self.new < bound_of self.old.shape)) }
-        ensures entries { IfSome result (λ x. IfSome x.1 (λ e. entries_of self.new < 2 ^ 63)) }
+        ensures named { IfSome result (λ x. IsTrue x.1 → event.new.queue < length self.old.shape.queues) }
+        ensures inside { IfSome result (λ x. IsTrue x.1 → inside_of self.new < bound_of self.old.shape) }
+        ensures entries { IfSome result (λ x. IsTrue x.1 → entries_of self.new < 2 ^ 63) }
     {
-        let left = self.orders.leave_plain(queue)?;
+        let left = self.orders.leave_plain(queue, event)?;
         let count = count_of(left.1);
         self.inside -= count;
         self.entries -= count as u64;
@@ -75,10 +71,11 @@ impl Core {
         ensures room { L.room log.old + length (L.steps log.old) ≤ L.room log.new + length (L.steps log.new) }
     {
         self.facts();
-        let (number, forward) = self.leave_plain(queue)?;
-        let Some(event) = forward else {
+        let mut event = Event::default();
+        let (number, keeps_one) = self.leave_plain(queue, &mut event)?;
+        if !keeps_one {
             return Some(false);
-        };
+        }
         self.accept(&event, Source::Of { queue, number }, log);
         Some(number == answered)
     }

@@ -15,7 +15,7 @@ pub returns-clause-rest : goal.returns-clause-rest
 returns-clause-rest c =
     elim c.match-index_mut.branch [
       | in-Some w ↦
-          rw w.result-is (rw w.self-inside-is (of_second w.leave_plain.result _ _ _ _ w.leave_plain.ensures
+          rw w.result-is (rw w.self-inside-is (of_second w.leave_plain.result _ _ _ _ w.leave_plain.ensures.left
           (λ x gone. set_shown after_leave c.self.inside.queues.items c.args.self.now c.args.queue c.index_mut.result.now (Some w.leave_plain.new.self) c.self.view_is c.requires c.index_mut.ensures.value (gone ∙ ap (λ o. after_leave (shown o)) (sym w.in-Some.is)))))
       | in-None w ↦ rw w.result-is tt
     ]

@@ -1,22 +1,25 @@
 -- Replies are taken: one, none, and some after others.
-use Rattle.std.proofs.Common.{add-zero, ◌≡◌, ◌≢◌, ℕ, ◌+◌, ◌*◌, ◌<◌, ◌≤◌, ◌%◌, ◌^◌, ◌==◌, Bool, true, false, cond, nat_lt, ◌&&◌, ◌||◌, ◌⊎◌, inl, inr, List, [], ◌∷◌, ◌++◌, length, map, set, get_or, All, refl, sym, ap, ◌∙◌, subst, append_assoc, append-nil, arith}
-use Rattle.std.proofs.lemmas.Bool.{cases_lt, false≢true, le-ltb}
-use Rattle.std.proofs.lemmas.List.{length-append, map-append}
+use Rattle.std.proofs.Common.{add-zero, ◌≡◌, ◌≢◌, ℕ, ◌+◌, ◌*◌, ◌<◌, ◌≤◌, ◌%◌, ◌^◌, ◌==◌, Bool, true, false, cond, nat_lt, ◌&&◌, ◌||◌, ◌⊎◌, inl, inr, List, [], ◌∷◌, ◌++◌, length, map, set, get_or, slice_get, take, drop, zero, suc, Some, refl, sym, ap, ◌∙◌, subst, append_assoc, append-nil, arith}
+use Rattle.std.proofs.lemmas.Option.{none-some, slice_get_within}
+use Rattle.std.proofs.lemmas.Bool.{cases_eq, cases_lt, false≢true, le-ltb}
+use Rattle.std.proofs.lemmas.List.{get_or-map, get_or-set_other, get_or-set_same, length-append, length-take, map-append, map-set, take_more}
 use Rattle.std.proofs.Math.Nat.{mul-le-mul_left}
+use Rattle.std.proofs.Math.Seq.{set-get_or, set-set, take-take}
+use mathlib.Core.List.{IsPrefix}
 use Rattle.std.proofs.lemmas.List.Elements.{filter_map-append}
 use Rattle.credit_pool.specs.declared.account.Account.{Account}
 use Rattle.credit_pool.specs.declared.pool.Credits.{Credits}
 use Rattle.event_scheduler.proofs.Counts.{count-append, new_fits, passed_turns_none, reply_enters, reply_shuts_none, reply_turns}
-use Rattle.event_scheduler.proofs.Lanes.{each_lane, same_lists}
+use Rattle.event_scheduler.proofs.Lanes.{same_lists}
 use Rattle.event_scheduler.proofs.Looking.{append_none}
 use Rattle.event_scheduler.proofs.Replies.{after-append, by_lane-append, first_more, may-append, of_first_is, only_is, only_more, one_count, one_elsewhere, one_here, one_said, one_steps, steps-append}
 use Rattle.event_scheduler.proofs.Serving.{Adds, runs_by, runs_none, runs_runs, stays_same}
 use Rattle.credit_pool.specs.Pockets.{IsPocket}
 use Rattle.event_scheduler.specs.Seeking.{SameLanes}
-use Rattle.event_scheduler.specs.Scheduler.{IsAccepted, Runs, Serves, Sight, offered_at, sight, taken_at}
+use Rattle.event_scheduler.specs.Scheduler.{Runs, Serves, Sight, offered_at, sight, taken_at}
 use Rattle.evt_types.specs.declared.event.Delivery.{Delivery}
 use Rattle.evt_types.specs.declared.event.Reply.{Reply}
-use Rattle.event_scheduler.specs.Taking.{Takes, entered_as, entered_by, of_first, only, replies_from, reply_from, turned_by}
+use Rattle.event_scheduler.specs.Taking.{Takes, entered_as, entered_by, of_first, only, replies_from, reply_from, turned_by, with_core, with_taken}
 use Rattle.evt_types.specs.Event.{pair_of}
 use Rattle.evt_types.specs.Plan.{bound_of, lanes_of}
 use Rattle.evt_types.specs.declared.event.Event.{Event}
@@ -154,14 +157,27 @@ none_entered ops.ForwardMore t other = refl
 pub entered_new : (o : Op) (s t : Took) → o ≡ ops.New → s ≡ t → entered_as s ≡ entered_by o t
 entered_new o s t is same = ap entered_as same ∙ ap (λ x. entered_by x t) (sym is)
 
+-- what a lane has, once some were put behind what it had
+put_here : {X : Type 0} (xss : List (List X)) (l : ℕ) (xs : List X) → l < length xss → get_or (set xss l xs) l [] ≡ xs
+put_here xss l xs within = get_or-set_same xss l xs [] within
+
+put_behind : {X : Type 0} (xss : List (List X)) (l j : ℕ) (xs : List X) (behind : ℕ → List X) → l < length xss → xs ≡ behind l → ((m : ℕ) → m ≢ l → behind m ≡ [])
+    → get_or (set xss l (get_or xss l [] ++ xs)) j [] ≡ get_or xss j [] ++ behind j
+put_behind xss l j xs behind within here elsewhere = by_place (cases_eq j l)
+  where
+    by_place : (j ≡ l) ⊎ (j ≢ l) → get_or (set xss l (get_or xss l [] ++ xs)) j [] ≡ get_or xss j [] ++ behind j
+    by_place (inl same) =
+        subst (λ m. get_or (set xss l (get_or xss l [] ++ xs)) m [] ≡ get_or xss m [] ++ behind m) (sym same)
+        (put_here xss l (get_or xss l [] ++ xs) within ∙ ap (λ ys. get_or xss l [] ++ ys) here)
+    by_place (inr other) = get_or-set_other xss l j (get_or xss l [] ++ xs) [] other ∙ append_none (get_or xss j []) (behind j) (elsewhere j other)
+
 took_in_all :
-    (pool : Credits) (core later : View) (lanes : List Near) (v : Account) (p n l k m : ℕ) (e : Event) (near seen : Near) (log longer : List Step)
-    → l < length lanes → near ≡ get_or lanes l near → near_id seen ≡ near_id near → offered seen ≡ offered near → taken seen ≡ taken near ++ record { event = e } ∷ []
-    → l < lanes_of core.shape → may_take core l e ≡ true → later ≡ after core (steps_of core l e) → later.shape ≡ core.shape → longer ≡ log ++ steps_of core l e
+    (s : Sight) (core later : View) (p n l k m : ℕ) (e : Event) (log longer : List Step)
+    → l < length s.taken → l < lanes_of core.shape → may_take core l e ≡ true → later ≡ after core (steps_of core l e) → later.shape ≡ core.shape → longer ≡ log ++ steps_of core l e
     → ((T : List Step) → Stands T core → Stands (T ++ steps_of core l e) later)
     → n < 2 ^ 64 → k ≡ turned_by (took_of core l e) → m ≡ entered_by e.op (took_of core l e)
-    → Takes (only l 1) 1 (sight pool core lanes v p n) log (sight pool later (set lanes l seen) v ((p + k) % 2 ^ 64) ((n + m) % 2 ^ 64)) longer
-took_in_all pool core later lanes v p n l k m e near seen log longer within is id offers takings lane may view shape logged stands fits turns enters =
+    → Takes (only l 1) 1 (with_core s core p n) log (with_core (with_taken s l (record { event = e } ∷ [])) later ((p + k) % 2 ^ 64) ((n + m) % 2 ^ 64)) longer
+took_in_all r core later p n l k m e log longer within lane may view shape logged stands fits turns enters =
     record {
       replies = (l, e) ∷ [];
       runs = subst (λ S. Runs S s log t longer) (sym (one_steps core l e)) (runs_by (steps_of core l e) s t log longer logged adds);
@@ -170,53 +186,47 @@ took_in_all pool core later lanes v p n l k m e near seen log longer within is i
       by_lane = λ i j d lt in_one. absurd (omega arith);
       few = λ m. one_count l m e;
       taken = lists;
-      offered = offers_same;
+      offered = refl;
       count = refl;
       account = refl;
       pocket = omega (arith, turns, reply_turns core l e, ap turned_count (one_steps core l e));
     }
   where
     s : Sight
-    s = sight pool core lanes v p n
+    s = with_core r core p n
 
     t : Sight
-    t = sight pool later (set lanes l seen) v ((p + k) % 2 ^ 64) ((n + m) % 2 ^ 64)
+    t = with_core (with_taken r l (record { event = e } ∷ [])) later ((p + k) % 2 ^ 64) ((n + m) % 2 ^ 64)
 
-    offers_same : map offered (set lanes l seen) ≡ map offered lanes
-    offers_same = same_lists offered lanes l near seen is offers
-
-    lists : (j : ℕ) → get_or (map taken (set lanes l seen)) j [] ≡ get_or (map taken lanes) j [] ++ replies_from j ((l, e) ∷ [])
-    lists =
-        each_lane (λ m before now. now ≡ before ++ replies_from m ((l, e) ∷ [])) taken lanes l near seen within is (takings ∙ ap (λ rs. taken near ++ rs) (sym (one_here l e)))
-        (λ m other xs. append_none xs (replies_from m ((l, e) ∷ [])) (one_elsewhere l m e other))
+    lists : (j : ℕ) → taken_at t j ≡ taken_at s j ++ replies_from j ((l, e) ∷ [])
+    lists j = put_behind r.taken l j (record { event = e } ∷ []) (λ m. replies_from m ((l, e) ∷ [])) within (sym (one_here l e)) (λ m other. one_elsewhere l m e other)
 
     adds : Adds (steps_of core l e) s t
     adds =
         record {
           stands = stands;
           shape = shape;
-          site = ap (λ ids. record { pool = pool; lanes = ids }) (same_lists near_id lanes l near seen is id);
-          offered = λ m. ap (λ xs. map pair_of (get_or xs m [])) offers_same ∙ append_none (map pair_of (offered_at s m)) (out (steps_of core l e) m) (steps_of-out core l e m);
-          events = λ T m at accepted. subst (λ xs. All (IsAccepted T) (get_or xs m [])) (sym offers_same) accepted;
+          site = refl;
+          offered = λ m. append_none (map pair_of (offered_at s m)) (out (steps_of core l e) m) (steps_of-out core l e m);
+          events = λ T m at accepted. accepted;
           taken = λ m. ap (map said) (lists m) ∙ (map-append said (taken_at s m) (replies_from m ((l, e) ∷ [])) ∙ ap (λ xs. map said (taken_at s m) ++ xs) (one_said core l e m));
           entered = λ T at is_new. omega (arith, entered_fits core l e n T may fits at is_new, enters, is_new, reply_enters core l e);
-          own = λ came h. subst (λ j. IsPocket ((p + k) % 2 ^ 64) (came + j) v.returned) (turns ∙ sym (reply_turns core l e)) (more_in p came v.returned k h);
+          own = λ came h. subst (λ j. IsPocket ((p + k) % 2 ^ 64) (came + j) r.account.returned) (turns ∙ sym (reply_turns core l e)) (more_in p came r.account.returned k h);
           shut = λ has. absurd (false≢true (sym (reply_shuts_none core l e) ∙ has));
-          account = stays_same v;
+          account = stays_same r.account;
         }
 
 -- the lane's oldest reply, and what it leaves in the pocket and in the count of new events
 pub took :
-    (pool : Credits) (core later : View) (lanes : List Near) (v : Account) (p n held came l k m : ℕ) (e : Event) (near seen : Near) (log longer : List Step)
-    → l < length lanes → near ≡ get_or lanes l near → near_id seen ≡ near_id near → offered seen ≡ offered near → taken seen ≡ taken near ++ record { event = e } ∷ []
-    → l < lanes_of core.shape → may_take core l e ≡ true → later ≡ after core (steps_of core l e) → later.shape ≡ core.shape → longer ≡ log ++ steps_of core l e
+    (s : Sight) (core later : View) (p n held came l k m : ℕ) (e : Event) (log longer : List Step)
+    → l < length s.taken → l < lanes_of core.shape → may_take core l e ≡ true → later ≡ after core (steps_of core l e) → later.shape ≡ core.shape → longer ≡ log ++ steps_of core l e
     → ((T : List Step) → Stands T core → Stands (T ++ steps_of core l e) later)
     → n < 2 ^ 64 → k ≡ turned_by (took_of core l e) → m ≡ entered_by e.op (took_of core l e) → held ≡ (p + k) % 2 ^ 64 → came ≡ (n + m) % 2 ^ 64
-    → Takes (only l 1) 1 (sight pool core lanes v p n) log (sight pool later (set lanes l seen) v held came) longer
-took pool core later lanes v p n held came l k m e near seen log longer within is id offers takings lane may view shape logged stands fits turns enters holds comes =
-    let With : ℕ → ℕ → Type 0 = λ x y. Takes (only l 1) 1 (sight pool core lanes v p n) log (sight pool later (set lanes l seen) v x y) longer in
+    → Takes (only l 1) 1 (with_core s core p n) log (with_core (with_taken s l (record { event = e } ∷ [])) later held came) longer
+took s core later p n held came l k m e log longer within lane may view shape logged stands fits turns enters holds comes =
+    let With : ℕ → ℕ → Type 0 = λ x y. Takes (only l 1) 1 (with_core s core p n) log (with_core (with_taken s l (record { event = e } ∷ [])) later x y) longer in
     subst (λ x. With x came) (sym holds)
-    (subst (λ y. With ((p + k) % 2 ^ 64) y) (sym comes) (took_in_all pool core later lanes v p n l k m e near seen log longer within is id offers takings lane may view shape logged stands fits turns enters))
+    (subst (λ y. With ((p + k) % 2 ^ 64) y) (sym comes) (took_in_all s core later p n l k m e log longer within lane may view shape logged stands fits turns enters))
 
 -- ---- some after others
 
@@ -271,11 +281,9 @@ takes_within f most n s t log longer h wider = (
 
 -- ---- of one lane, and of one lane after the other
 
-pub lane_more : (l n : ℕ) (b : Bool) (s t u : Sight) (log mid longer : List Step) → b ≡ true → Takes (only l n) n s log t mid → Takes (only l (cond b 1 0)) (cond b 1 0) t mid u longer
-    → Takes (only l (n + 1)) (n + 1) s log u longer
-lane_more l n true s t u log mid longer is h k =
-    takes_takes (only l n) (only l 1) (only l (n + 1)) n 1 s t u log mid longer h k (λ i j some more. omega (arith, only_is l n i some, only_is l 1 j more)) (λ m. only_more l n 1 m)
-lane_more l n false s t u log mid longer is h k = absurd (false≢true is)
+pub lane_more : (l n k : ℕ) (s t u : Sight) (log mid longer : List Step) → Takes (only l n) n s log t mid → Takes (only l k) k t mid u longer → Takes (only l (n + k)) (n + k) s log u longer
+lane_more l n k s t u log mid longer h more =
+    takes_takes (only l n) (only l k) (only l (n + k)) n k s t u log mid longer h more (λ i j some later. omega (arith, only_is l n i some, only_is l k j later)) (λ m. only_more l n k m)
 
 pub next_lane : (i most same n k : ℕ) (s t u : Sight) (log mid longer : List Step) → same ≡ most → (h : Takes (of_first i most) n s log t mid) → (m : Takes (only i same) k t mid u longer)
     → (both : Takes (of_first (i + 1) most) (n + k) s log u longer) × (both.replies ≡ h.replies ++ m.replies)
@@ -291,11 +299,9 @@ none_by false = refl
 none_of : (l m : ℕ) → only l 0 m ≡ 0
 none_of l m = none_by (m == l)
 
--- none of the lane was taken, and then so many
-pub lane_later : (l k : ℕ) (s t u : Sight) (log mid longer : List Step) → Takes (only l 0) 0 s log t mid → Takes (only l k) k t mid u longer → Takes (only l k) k s log u longer
-lane_later l k s t u log mid longer h more =
-    subst (λ n. Takes (only l k) n s log u longer) (omega arith)
-    (takes_takes (only l 0) (only l k) (only l k) 0 k s t u log mid longer h more (λ i j some none. absurd (omega (arith, some, none_of l i))) (λ m. omega (arith, none_of l m)))
+-- so many, where that is none
+pub none_more : (l k : ℕ) (s t : Sight) (log longer : List Step) → k ≡ 0 → Takes (only l k) k s log t longer → Takes (only l 0) 0 s log t longer
+none_more l k s t log longer none h = subst (λ j. Takes (only l j) j s log t longer) none h
 
 -- nothing more of a lane was taken
 pub lane_ends : (l n q : ℕ) (s t u : Sight) (log mid longer : List Step) → n ≤ q → Takes (only l n) n s log t mid → Takes (only l 0) 0 t mid u longer → Takes (only l q) n s log u longer
@@ -309,6 +315,60 @@ lane_ends l n q s t u log mid longer few h k =
 
     within : (m : ℕ) → only l n m ≤ only l q m
     within m = within_by (m == l)
+
+-- ---- a run of replies of one lane
+
+-- none of none, and the first of some
+pub run_none : (s : Sight) (l : ℕ) → l < length s.taken → with_taken s l [] ≡ s
+run_none s l within = ap (λ ts. record s { taken = ts }) (ap (set s.taken l) (append-nil (taken_at s l)) ∙ set-get_or s.taken l [])
+
+-- some replies more, and one
+pub run_more : (s : Sight) (l : ℕ) (xs ys : List Reply) → l < length s.taken → with_taken (with_taken s l xs) l ys ≡ with_taken s l (xs ++ ys)
+run_more s l xs ys within =
+    ap (λ ts. record s { taken = ts })
+    (ap (λ zs. set (set s.taken l (taken_at s l ++ xs)) l (zs ++ ys)) (put_here s.taken l (taken_at s l ++ xs) within)
+    ∙ (set-set s.taken l (taken_at s l ++ xs) ((taken_at s l ++ xs) ++ ys) ∙ ap (set s.taken l) (append_assoc (taken_at s l) xs ys)))
+
+pub run_next : (s : Sight) (l k : ℕ) (rs : List Reply) (r : Reply) → l < length s.taken → k < length rs → r ≡ get_or rs k r → with_taken (with_taken s l (take k rs)) l (r ∷ []) ≡ with_taken s l (take (k + 1) rs)
+run_next s l k rs r within there next =
+    run_more s l (take k rs) (r ∷ []) within ∙ ap (with_taken s l) (ap (λ x. take k rs ++ x ∷ []) next ∙ sym (take_more rs k r there))
+
+-- of the first of some no more are the first
+pub fewer_of : (k n : ℕ) (rs : List Reply) → k ≤ length (take n rs) → take k (take n rs) ≡ take k rs
+fewer_of k n rs few = take-take k n rs (omega (arith, few, length-take n rs))
+
+-- what is the first of those that were fetched is the first that is seen
+first_seen : (n : ℕ) (rs seen : List Reply) (r : Reply) → IsPrefix rs seen → slice_get (take n rs) 0 ≡ Some r → slice_get seen 0 ≡ Some r
+first_seen n [] seen r p there = absurd (omega (arith, slice_get_within (take n []) 0 r there, length-take {A = Reply} n []))
+first_seen zero (x ∷ rs) seen r p there = absurd (none-some r there)
+first_seen (suc n) (x ∷ rs) seen r p there = ap (λ xs. slice_get xs 0) (sym p.1) ∙ there
+
+pub first_left : (k n : ℕ) (rs seen : List Reply) (r : Reply) → IsPrefix rs seen → k ≡ 0 → slice_get (take n rs) k ≡ Some r → slice_get (drop k seen) 0 ≡ Some r
+first_left k n rs seen r p none there = ap (λ j. slice_get (drop j seen) 0) none ∙ first_seen n rs seen r p (ap (λ j. slice_get (take n rs) j) (sym none) ∙ there)
+
+pub some_there : (rs : List Reply) → rs ≢ [] → 0 < length rs
+some_there [] some = absurd (some refl)
+some_there (r ∷ rs) some = omega arith
+
+-- the same replies left the lane's end, and more may have been seen of it
+pub run_left :
+    (pool : Credits) (core now : View) (lanes : List Near) (v : Account) (p n held came i k : ℕ) (near later : Near) (replies : List Reply) (log longer : List Step)
+    → i < length lanes → near ≡ get_or lanes i near → near_id later ≡ near_id near → offered later ≡ offered near → taken later ≡ taken near ++ replies
+    → Takes (only i k) k (sight pool core lanes v p n) log (with_core (with_taken (sight pool core lanes v p n) i replies) now held came) longer
+    → Takes (only i k) k (sight pool core lanes v p n) log (sight pool now (set lanes i later) v held came) longer
+run_left pool core now lanes v p n held came i k near later replies log longer within is id offers takings h =
+    let s : Sight = sight pool core lanes v p n in
+    let after : List Near = set lanes i later in
+    let t : Sight = with_core (with_taken s i replies) now held came in
+    let With : List LaneId → List (List Delivery) → List (List Reply) → Type 0 =
+    λ ids os ts.
+    Takes (only i k) k s log (record { site = record { pool = pool; lanes = ids }; core = now; offered = os; taken = ts; seen = map seen_replies after; account = v; pocket = held; accepted_new = came }) longer in
+    let lists : map taken after ≡ set (map taken lanes) i (get_or (map taken lanes) i [] ++ replies) =
+    map-set taken lanes i later ∙ ap (set (map taken lanes) i) (takings ∙ ap (λ xs. xs ++ replies) (sym (get_or-map taken lanes i near [] within ∙ ap taken (sym is)))) in
+    subst (λ ids. With ids (map offered after) (map taken after)) (sym (same_lists near_id lanes i near later is id))
+    (subst (λ os. With (map near_id lanes) os (map taken after)) (sym (same_lists offered lanes i near later is offers))
+    (subst (λ ts. With (map near_id lanes) (map offered lanes) ts) (sym lists)
+    (lane_ends i k k s t _ log longer longer (omega arith) h (takes_seen (only i 0) t (map seen_replies after) longer))))
 
 -- ---- numbers
 

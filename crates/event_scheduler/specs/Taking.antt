@@ -1,5 +1,5 @@
 -- Replies that are taken.
-use Rattle.std.specs.Prelude.{ℕ, ◌≡◌, ◌+◌, ◌%◌, ◌^◌, ◌<◌, ◌≤◌, ◌⊎◌, false, List, [], ◌++◌, ◌==◌, nat_lt, if◌then◌else◌, length, count_by, filter, filter_map, slice_get, AllPairs, Option, Some, None}
+use Rattle.std.specs.Prelude.{ℕ, ◌≡◌, ◌+◌, ◌%◌, ◌^◌, ◌<◌, ◌≤◌, ◌⊎◌, false, List, [], ◌++◌, ◌==◌, nat_lt, if◌then◌else◌, length, count_by, filter, filter_map, slice_get, slice_set, AllPairs, Option, Some, None}
 use Rattle.event_scheduler.specs.Scheduler.{Runs, Sight, seen_at, taken_at}
 use Rattle.evt_types.specs.Plan.{lanes_of}
 use Rattle.evt_types.specs.declared.event.Event.{Event}
@@ -69,6 +69,14 @@ pub record Takes (most : ℕ → ℕ) (n : ℕ) (s : Sight) (log : List Step) (t
   pub count : length replies ≡ n
   pub account : t.account ≡ s.account
   pub pocket : t.pocket % 2 ^ 64 ≡ (s.pocket + turned_count (replies_steps s.core replies)) % 2 ^ 64
+
+-- the same scheduler with this core and these counts
+abbrev pub with_core : Sight → View → ℕ → ℕ → Sight
+with_core s core pocket accepted_new = record s { core = core; pocket = pocket; accepted_new = accepted_new }
+
+-- the same scheduler, from whose lane these replies were taken too
+abbrev pub with_taken : Sight → ℕ → List Reply → Sight
+with_taken s l replies = record s { taken = slice_set s.taken l (taken_at s l ++ replies) }
 
 -- the first of these replies, up to those of the lane, where they go by rising lane
 abbrev pub up_to : ℕ → List (ℕ × Event) → List (ℕ × Event)

@@ -1,16 +1,15 @@
 //! Replies of the lanes are taken.
 
-ghost use Rattle.std.specs.Prelude.{◌≡◌, ◌≢◌, ℕ, ◌+◌, ◌*◌, ◌%◌, ◌^◌, ◌≤◌, ◌<◌, ◌⊎◌, List, [], IsFalse, Some, if◌then◌else◌, slice_get};
-ghost use Rattle.event_scheduler.specs.Scheduler.{seen_at, sight_of};
-ghost use Rattle.event_scheduler.specs.Seeking.{fetched_in};
-ghost use Rattle.event_scheduler.specs.Taking.{MayEnd, Takes, TakesAll, entered_as, only, turned_by};
-ghost use Rattle.evt_types.specs.declared.step.Step.{Step as StepValue};
+ghost use Rattle.std.specs.Prelude.{◌≡◌, ◌≢◌, ℕ, ◌+◌, ◌*◌, ◌%◌, ◌^◌, ◌≤◌, ◌<◌, false, [], ◌∷◌, IsFalse, IsTrue, Some, length, slice_get, take};
+ghost use Rattle.event_scheduler.specs.Scheduler.{Sight, seen_at, sight_of};
+ghost use Rattle.event_scheduler.specs.Taking.{MayEnd, Takes, TakesAll, entered_as, only, turned_by, with_core, with_taken};
+ghost use Rattle.evt_types.specs.declared.event.Reply.{Reply as ReplyValue};
 ghost use Rattle.evt_types.specs.Plan.{lanes_of};
-ghost use Rattle.transcripts.specs.Standing.{kept_in};
+ghost use Rattle.transcripts.specs.Standing.{kept_in, may_take};
 
 use crate::scheduler::Scheduler;
-use evt_types::Op;
-use sched_core::Took;
+use evt_types::{Op, Reply};
+use sched_core::{Core, Took};
 use step_log::StepLog;
 
 /// Counts what became of a NEW: accepted, or turned away, which leaves its credit to the scheduler.
@@ -27,65 +26,94 @@ fn count_new(pocket: &mut u64, accepted_new: &mut u64, took: Took)
     }
 }
 
+/// Takes the lane's reply where it may be taken: whether it was.
+#[inline(always)]
+fn take_one<L: StepLog>(
+    core: &mut Core,
+    pocket: &mut u64,
+    accepted_new: &mut u64,
+    lane: usize,
+    reply: &Reply,
+    log: &mut L,
+) -> bool
+    requires lane { lane < lanes_of core.old.shape }
+    requires room { kept_in core.old + 2 ≤ L.room log.old }
+    ensures takes { IsTrue result → (s : Sight) → lane < length s.taken → Takes (only lane 1) 1 (with_core s core.old pocket.old accepted_new.old) (L.steps log.old) (with_core (with_taken s lane (reply.now ∷ [])) core.new pocket.new accepted_new.new) (L.steps log.new) }
+    ensures refused { IsFalse result → may_take core.new lane reply.now.event ≡ false }
+    ensures same { IsFalse result → (core.new ≡ core.old) × (pocket.new ≡ pocket.old) × (accepted_new.new ≡ accepted_new.old) × (log.new ≡ log.old) }
+    ensures shape { core.new.shape ≡ core.old.shape }
+    ensures room { L.room log.old + kept_in core.new ≤ L.room log.new + kept_in core.old + 2 }
+{
+    // To read the counts makes known that they are within their range.
+    let (_pocket, _accepted_new) = (*pocket, *accepted_new);
+    if !core.takes(lane, reply) {
+        return false;
+    }
+    let took = core.take_from(lane, reply, log);
+    if reply.event.op == Op::New {
+        count_new(pocket, accepted_new, took);
+    }
+    true
+}
+
+/// Takes these replies of the lane, oldest first, up to the first that may not be taken: how many.
+#[inline(always)]
+fn take_run<L: StepLog>(
+    core: &mut Core,
+    pocket: &mut u64,
+    accepted_new: &mut u64,
+    lane: usize,
+    replies: &[Reply],
+    log: &mut L,
+) -> usize
+    requires lane { lane < lanes_of core.old.shape }
+    requires room { kept_in core.old + 2 * length replies.now ≤ L.room log.old }
+    ensures takes { (s : Sight) → lane < length s.taken → Takes (only lane result) result (with_core s core.old pocket.old accepted_new.old) (L.steps log.old) (with_core (with_taken s lane (take result replies.now)) core.new pocket.new accepted_new.new) (L.steps log.new) }
+    ensures few { result ≤ length replies.now }
+    ensures refused { result < length replies.now → (reply : ReplyValue) × (slice_get replies.now result ≡ Some reply) × (may_take core.new lane reply.event ≡ false) }
+    ensures shape { core.new.shape ≡ core.old.shape }
+    ensures room { L.room log.old + kept_in core.new ≤ L.room log.new + kept_in core.old + 2 * result }
+{
+    for (taken, reply) in replies.iter().enumerate() {
+        if !take_one(core, pocket, accepted_new, lane, reply, log) {
+            return taken;
+        }
+    }
+    replies.len()
+}
+
 impl Scheduler {
-    /// Takes the lane's oldest reply, where one was fetched that may be taken.
+    /// Takes the lane's oldest replies, no more than `most`, up to the first that may not be taken: how many. Where none is left that
+    /// was fetched, it looks at the lane's ring, which gives by one store what is there.
     #[inline(always)]
-    fn take_one<L: StepLog>(&mut self, lane: usize, log: &mut L) -> bool
+    fn take_some<L: StepLog>(&mut self, lane: usize, most: usize, log: &mut L) -> usize
         requires lane { lane < lanes_of self.old.core.shape }
-        requires room { kept_in self.old.core + 2 ≤ L.room log.old }
-        ensures takes { Takes (only lane (if result then 1 else 0)) (if result then 1 else 0) (sight_of self.old) (L.steps log.old) (sight_of self.new) (L.steps log.new) }
-        ensures ends { (n q : ℕ) → IsFalse result → (fetched_in self.old.lanes.items lane ≡ []) ⊎ MayEnd q self.new.core lane n (seen_at (sight_of self.new) lane) }
-        ensures same { IsFalse result → (self.new ≡ self.old) × (log.new ≡ log.old) }
+        requires room { kept_in self.old.core + 2 * most ≤ L.room log.old }
+        ensures takes { Takes (only lane result) result (sight_of self.old) (L.steps log.old) (sight_of self.new) (L.steps log.new) }
+        ensures most { result ≤ most }
+        ensures ends { (n q : ℕ) → 0 < most → result ≡ 0 → MayEnd q self.new.core lane n (seen_at (sight_of self.new) lane) }
         ensures others { (l : ℕ) → l ≢ lane → seen_at (sight_of self.new) l ≡ seen_at (sight_of self.old) l }
-        ensures room { L.room log.old + kept_in self.new.core ≤ L.room log.new + kept_in self.old.core + 2 }
+        ensures room { L.room log.old + kept_in self.new.core ≤ L.room log.new + kept_in self.old.core + 2 * result }
     {
-        // To read the counts makes known that they are within their range.
-        let _pocket = self.pocket;
-        let _accepted_new = self.accepted_new;
         let near = &mut self.lanes[lane];
-        // The reply stays where it was fetched to until the core has taken it.
-        let Some(reply) = near.fetched() else {
-            return false;
-        };
-        if !self.core.takes(lane, reply) {
-            return false;
+        if !near.fetch(most) {
+            return 0;
         }
-        let op = reply.event.op;
-        let took = self.core.take_from(lane, reply, log);
-        near.pass();
-        if op == Op::New {
-            count_new(&mut self.pocket, &mut self.accepted_new, took);
-            return true;
-        }
-        true
+        let replies = near.fetched();
+        let count = replies.len().min(most);
+        let taken = take_run(
+            &mut self.core,
+            &mut self.pocket,
+            &mut self.accepted_new,
+            lane,
+            &replies[..count],
+            log,
+        );
+        near.pass(taken);
+        taken
     }
 
-    /// Takes the lane's oldest reply, where there is one that may be taken. Where all is taken that was fetched it looks once more at
-    /// the lane's ring.
-    #[inline(always)]
-    fn take_next<L: StepLog>(&mut self, lane: usize, log: &mut L) -> bool
-        requires lane { lane < lanes_of self.old.core.shape }
-        requires room { kept_in self.old.core + 2 ≤ L.room log.old }
-        ensures takes { Takes (only lane (if result then 1 else 0)) (if result then 1 else 0) (sight_of self.old) (L.steps log.old) (sight_of self.new) (L.steps log.new) }
-        ensures ends { (n q : ℕ) → IsFalse result → MayEnd q self.new.core lane n (seen_at (sight_of self.new) lane) }
-        ensures others { (l : ℕ) → l ≢ lane → seen_at (sight_of self.new) l ≡ seen_at (sight_of self.old) l }
-        ensures room { L.room log.old + kept_in self.new.core ≤ L.room log.new + kept_in self.old.core + 2 }
-    {
-        if self.take_one(lane, log) {
-            return true;
-        }
-        let near = &mut self.lanes[lane];
-        if near.fetched().is_some() {
-            return false;
-        }
-        if !near.fetch(1) {
-            return false;
-        }
-        self.take_one(lane, log)
-    }
-
-    /// Takes replies of the lane, no more than the sweep quantum, until none is seen or one may not be taken. The ring gives by one
-    /// store what was there when the lane was found.
+    /// Takes replies of the lane, no more than the sweep quantum, until none is seen or one may not be taken.
     #[inline(always)]
     fn take_lane<L: StepLog>(&mut self, lane: usize, log: &mut L) -> usize
         requires lane { lane < lanes_of self.old.core.shape }
@@ -97,12 +125,15 @@ impl Scheduler {
         ensures others { (l : ℕ) → l ≢ lane → seen_at (sight_of self.new) l ≡ seen_at (sight_of self.old) l }
     {
         let most = self.core.shape().sweep() as usize;
-        for taken in 0..most {
-            if !self.take_next(lane, log) {
+        let mut taken = 0;
+        while taken < most {
+            let more = self.take_some(lane, most - taken, log);
+            if more == 0 {
                 return taken;
             }
+            taken += more;
         }
-        most
+        taken
     }
 
     /// Takes replies of each lane, by rising lane.

@@ -1,7 +1,8 @@
 -- What a batch is made of, and what is handed out as its first item leaves.
-use Rattle.std.proofs.Common.{◌≡◌, ◌≢◌, ℕ, ◌+◌, ◌-◌, ◌<◌, ◌≤◌, List, [], ◌∷◌, ◌++◌, length, take, drop, get_or, arith, ap, None, Some, refl, subst, sym, ◌∙◌, length-append}
+use Rattle.std.proofs.Common.{◌≡◌, ℕ, ◌+◌, ◌-◌, ◌<◌, ◌≤◌, List, [], ◌∷◌, ◌++◌, length, take, drop, get_or, arith, ap, None, Some, refl, subst, sym, ◌∙◌, length-append}
 use Rattle.std.specs.Prelude.{slice_get}
 use Rattle.std.proofs.Math.Seq.{take-append_seam}
+use Rattle.std.proofs.lemmas.List.{drop-take}
 use Rattle.std.proofs.lemmas.Grind.{common_steps}
 use Rattle.std.proofs.lemmas.List.{drop_more, drop-drop}
 use Rattle.std.proofs.lemmas.Option.{none-some, same_Some}
@@ -42,12 +43,37 @@ module _ {T : Type 0} where
   first-passed rs (w ∷ ws) vs e rest =
       one-handed rs _ vs w (e ∙ ap (λ (zs : List T). take (length rs - length (w ∷ ws)) rs ++ w ∷ zs) (sym rest))
 
+  -- the last of a row leave from behind the rest
+  behind-rest : (rs hs vs : List T) → rs ≡ hs ++ vs → take (length rs - length vs) rs ≡ hs
+  behind-rest rs hs vs e =
+      let long : length rs - length vs ≡ length hs = omega (arith, ap length e, length-append hs vs) in
+      ap (λ (n : ℕ). take n rs) long ∙ (ap (take (length hs)) e ∙ take-append_seam hs vs)
+
+  -- some of what is last leave: they are handed out
+  in-parts : (n : ℕ) (rs ws : List T) → rs ≡ take (length rs - length ws) rs ++ ws → rs ≡ (take (length rs - length ws) rs ++ take n ws) ++ drop n ws
+  in-parts n rs ws e = grind (arith, common_steps, e)
+
+  pub some-passed : (n : ℕ) (rs ws vs : List T) → rs ≡ take (length rs - length ws) rs ++ ws → vs ≡ drop n ws
+      → take (length rs - length vs) rs ≡ take (length rs - length ws) rs ++ take n ws
+  some-passed n rs ws vs e rest =
+      behind-rest rs (take (length rs - length ws) rs ++ take n ws) vs (in-parts n rs ws e ∙ ap (λ zs. (take (length rs - length ws) rs ++ take n ws) ++ zs) (sym rest))
+
+  pub some-last : (n : ℕ) (rs ws vs : List T) → rs ≡ take (length rs - length ws) rs ++ ws → vs ≡ drop n ws → rs ≡ take (length rs - length vs) rs ++ vs
+  some-last n rs ws vs e rest =
+      in-parts n rs ws e ∙ (ap (λ zs. zs ++ drop n ws) (sym (some-passed n rs ws vs e rest)) ∙ ap (λ zs. take (length rs - length vs) rs ++ zs) (sym rest))
+
   -- the first of a row between two places, and the rest
   pub row-first : (at end : ℕ) (xs : List T) (x : T) → at < end → end ≤ length xs → x ≡ get_or xs at x → drop at (take end xs) ≡ x ∷ drop 1 (drop at (take end xs))
   row-first at end xs x a b e = grind (arith, common_steps, e, drop_more (take end xs) at x)
 
   pub row-rest : (at end : ℕ) (xs : List T) → drop (at + 1) (take end xs) ≡ drop 1 (drop at (take end xs))
   row-rest at end xs = grind (arith, common_steps, drop-drop 1 at (take end xs))
+
+  pub row-skips : (n at end : ℕ) (xs : List T) → drop (at + n) (take end xs) ≡ drop n (drop at (take end xs))
+  row-skips n at end xs = grind (arith, common_steps, drop-drop n at (take end xs))
+
+  pub row-between : (at end : ℕ) (xs : List T) → at ≤ end → take (end - at) (drop at xs) ≡ drop at (take end xs)
+  row-between at end xs within = sym (drop-take at (end - at) xs) ∙ ap (λ n. drop at (take n xs)) (omega (arith, within))
 
   -- where there is no first there is nothing
   pub first-none : (xs : List T) → slice_get xs 0 ≡ None → xs ≡ []
@@ -75,17 +101,6 @@ module _ {T : Type 0} where
 
   pub prefix-next : (ws xs ks : List T) (x y : T) → IsPrefix ws xs → xs ≡ x ∷ ks → slice_get ws 0 ≡ Some y → x ≡ y
   prefix-next ws xs ks x y p e s = same_Some x y (ap (λ (zs : List T). slice_get zs 0) (sym e) ∙ prefix-first ws xs y p s)
-
--- the first of both rows is the first of the one that leaves first
-pub first-taken : {T : Type 0} (ws ks : List T) (x : T) → ws ≢ [] → slice_get (ws ++ ks) 0 ≡ Some x → take 1 ws ≡ x ∷ []
-first-taken [] ks x some e = absurd (some refl)
-first-taken (w ∷ ws) ks x some e = ap (λ z. z ∷ []) (same_Some w x e)
-
-pub first-dropped : {T : Type 0} (ws ks : List T) → ws ≢ [] → drop 1 ws ++ ks ≡ drop 1 (ws ++ ks)
-first-dropped [] ks some = absurd (some refl)
-first-dropped (w ∷ ws) ks some = refl
-
-pub ruleset of_passing = (first-taken, first-dropped)
 
 pub ruleset of_rows = (row-empty, row-filled, row-first, row-rest, take-first)
 

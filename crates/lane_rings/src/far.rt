@@ -55,7 +55,8 @@ pub struct Far {
     pub ghost beside: { AreBeside (length (handed deliveries)) (put_in replies) },
 }
 
-/// Hands out what was fetched. A delivery is read where it lies, and copied once.
+/// Hands out what was fetched: the deliveries are copied from where they lie, and once.
+#[inline(always)]
 fn hand_out(from: &mut Intake<Delivery>, into: &mut ArrayVec<Delivery, 64>)
     requires { length into.old.items + length (inside from.old) ≤ 64 }
     ensures ring { SameConsumer from.old.ring from.new.ring × (known_items from.new.ring ≡ known_items from.old.ring) }
@@ -63,10 +64,10 @@ fn hand_out(from: &mut Intake<Delivery>, into: &mut ArrayVec<Delivery, 64>)
     ensures none { inside from.new ≡ [] }
     ensures into { into.new.items ≡ into.old.items ++ inside from.old }
 {
-    while let Some(delivery) = from.first() {
-        into.push(*delivery);
-        from.next();
-    }
+    let batch = from.batch();
+    let count = batch.len();
+    let _ = into.try_extend_from_slice(batch);
+    from.skip(count);
 }
 
 impl Far {

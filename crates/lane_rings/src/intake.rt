@@ -115,6 +115,25 @@ impl<T: Copy> Intake<T> {
         Some(&self.places[self.at])
     }
 
+    /// All of the batch, oldest first, where it lies.
+    #[inline(always)]
+    pub(crate) fn batch(&self) -> &[T]
+        ensures { result.now ≡ inside self.now }
+    {
+        &self.places[self.at..self.end]
+    }
+
+    /// The first items of the batch leave, so many.
+    #[inline(always)]
+    pub(crate) fn skip(&mut self, count: usize)
+        requires { count ≤ length (inside self.old) }
+        ensures ring { SameConsumer self.old.ring self.new.ring × (known_items self.new.ring ≡ known_items self.old.ring) }
+        ensures handed { handed self.new ≡ handed self.old ++ take count (inside self.old) }
+        ensures batch { inside self.new ≡ drop count (inside self.old) }
+    {
+        self.at += count;
+    }
+
     /// The oldest item that was seen, which leaves.
     #[tactic(auto, using(crate::proofs::Handing::of_handing))]
     pub(crate) fn next_seen(&mut self) -> Option<T>

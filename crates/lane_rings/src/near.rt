@@ -12,7 +12,7 @@ pub struct Near {
 }
 
 impl Near {
-    ghost use Rattle.std.specs.Prelude.{◌≡◌, ◌≢◌, ◌<◌, ◌≤◌, [], ◌∷◌, ◌++◌, drop, length, Some, IsFalse, IsTrue, OnOk, OnErr, IfErr, IfNone, IfSome, IsSome, MatchOption};
+    ghost use Rattle.std.specs.Prelude.{◌≡◌, ◌≢◌, ◌<◌, ◌≤◌, [], ◌∷◌, ◌++◌, drop, length, take, Some, IsFalse, IsTrue, OnOk, OnErr, IfErr, IfNone, IfSome, IsSome, MatchOption};
     ghost use mathlib.Core.List.{IsPrefix};
     ghost use Rattle.lane_rings.specs.Ends.{offered, hidden_offers, room_in, taken, seen_replies, fetched_replies, next_reply};
     ghost use Rattle.lane_rings.specs.Identity.{near_id};
@@ -118,19 +118,7 @@ impl Near {
         ensures same { (r : Reply) → next_reply self.old ≡ Some r → result ≡ Some r }
     {
         self.fetch(1);
-        self.fetched().copied()
-    }
-
-    /// The oldest reply that was fetched and not taken, where it lies: the next `take` gives the same one. `None` where none is
-    /// fetched.
-    #[inline(always)]
-    #[tactic(auto, using(crate::proofs::Handing::of_looks))]
-    pub fn fetched(&self) -> Option<&Reply>
-        ensures next { IfSome result (λ r. next_reply self.now ≡ Some r.now) }
-        ensures some { IsSome result → fetched_replies self.now ≢ [] }
-        ensures none { IfNone result (fetched_replies self.now ≡ []) }
-    {
-        self.replies.first()
+        self.replies.first().copied()
     }
 
     /// Takes the oldest reply: out of the ring, where none is left that was fetched. `None` where no reply is seen.
@@ -149,18 +137,25 @@ impl Near {
         self.replies.next()
     }
 
-    /// Takes the oldest reply that was fetched, which is the one that `fetched` gives: nothing of it is copied. Where none is fetched
-    /// it does nothing.
+    /// The replies that were fetched and not taken, oldest first, where they lie.
     #[inline(always)]
-    #[tactic(auto, using(crate::proofs::Handing::of_passing))]
-    pub fn pass(&mut self)
+    pub fn fetched(&self) -> &[Reply]
+        ensures value { result.now ≡ fetched_replies self.now }
+        ensures seen { IsPrefix result.now (seen_replies self.now) }
+    {
+        self.replies.batch()
+    }
+
+    /// Takes the oldest replies that were fetched, so many: nothing of them is copied.
+    #[inline(always)]
+    pub fn pass(&mut self, count: usize)
+        requires { count ≤ length (fetched_replies self.old) }
         ensures lane { near_id self.new ≡ near_id self.old }
         ensures offered { (offered self.new ≡ offered self.old) × (hidden_offers self.new ≡ hidden_offers self.old) }
-        ensures taken { (r : Reply) → fetched_replies self.old ≢ [] → next_reply self.old ≡ Some r → taken self.new ≡ taken self.old ++ r ∷ [] }
-        ensures fetched { fetched_replies self.new ≡ drop 1 (fetched_replies self.old) }
-        ensures none { fetched_replies self.old ≡ [] → (taken self.new ≡ taken self.old) × (seen_replies self.new ≡ seen_replies self.old) }
-        ensures seen { fetched_replies self.old ≢ [] → seen_replies self.new ≡ drop 1 (seen_replies self.old) }
+        ensures taken { taken self.new ≡ taken self.old ++ take count (fetched_replies self.old) }
+        ensures fetched { fetched_replies self.new ≡ drop count (fetched_replies self.old) }
+        ensures seen { seen_replies self.new ≡ drop count (seen_replies self.old) }
     {
-        let _ = self.replies.next();
+        self.replies.skip(count);
     }
 }

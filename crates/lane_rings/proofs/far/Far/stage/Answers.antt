@@ -1,5 +1,5 @@
 -- A reply goes behind the others: an answer ends the oldest and its additions, and another adds one or changes nothing.
-use Rattle.std.proofs.Common.{◌≡◌, ◌∙◌, ◌+◌, ℕ, List, [], ◌∷◌, ◌++◌, ap, arith, cond, length, rules, subst, sym}
+use Rattle.std.proofs.Common.{◌≡◌, ◌∙◌, ◌+◌, ℕ, List, [], ◌∷◌, ◌++◌, ap, arith, cond, length, subst, sym}
 use Rattle.std.proofs.lemmas.List.Sums.{sum_by-append}
 use Rattle.evt_types.proofs.Additions.{beside-append, extras-append}
 use Rattle.evt_types.specs.Additions.{AreBeside, extras_of, more_after}

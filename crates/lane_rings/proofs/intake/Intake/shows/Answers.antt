@@ -1,5 +1,5 @@
 -- A batch that isn't empty has something.
-use Rattle.std.proofs.Common.{◌≡◌, List, [], ◌∷◌, ◌++◌, refl, rules}
+use Rattle.std.proofs.Common.{◌≡◌, rules}
 use Rattle.rtrb.specs.Ring.{known_items}
 use Rattle.lane_rings.specs.Intakes.{inside}
 use Rattle.lane_rings.proofs.Handing.{none-first, row-filled}

@@ -55,8 +55,7 @@ pub struct Far {
     pub ghost beside: { AreBeside (length (handed deliveries)) (put_in replies) },
 }
 
-/// Hands out what was fetched: the deliveries are copied from where they lie, and once.
-#[inline(always)]
+/// Hands out what was fetched. A delivery is read where it lies, and copied once.
 fn hand_out(from: &mut Intake<Delivery>, into: &mut ArrayVec<Delivery, 64>)
     requires { length into.old.items + length (inside from.old) ≤ 64 }
     ensures ring { SameConsumer from.old.ring from.new.ring × (known_items from.new.ring ≡ known_items from.old.ring) }
@@ -64,10 +63,10 @@ fn hand_out(from: &mut Intake<Delivery>, into: &mut ArrayVec<Delivery, 64>)
     ensures none { inside from.new ≡ [] }
     ensures into { into.new.items ≡ into.old.items ++ inside from.old }
 {
-    let batch = from.batch();
-    let count = batch.len();
-    let _ = into.try_extend_from_slice(batch);
-    from.skip(count);
+    while let Some(delivery) = from.first() {
+        into.push(*delivery);
+        from.next();
+    }
 }
 
 impl Far {

@@ -10,13 +10,12 @@ ghost use Rattle.evt_types.specs.Plan.{lanes_of};
 
 use arrayvec::ArrayVec;
 use evt_types::Delivery;
-use lane_rings::{Hints, LaneSet, Near};
+use lane_rings::{Hints, Near};
 use sched_core::{Core, Skips};
 use step_log::StepLog;
 
 /// Gives what is chosen, one run of events for a lane after the other, until no choice is left. A run has no more events than the lane's
-/// ring has room for; it goes into the ring at once. A lane whose ring is full is passed over. At the end the hints of the
-/// lanes that were given something are set.
+/// ring has room for; it goes into the ring at once, and then the lane's hint is set. A lane whose ring is full is passed over.
 pub(crate) fn give_all<L: StepLog>(
     core: &mut Core,
     lanes: &mut Vec<Near>,
@@ -33,7 +32,6 @@ pub(crate) fn give_all<L: StepLog>(
 {
     let _ = core.shape().limit();
     let mut skips = Skips::none();
-    let mut reached = LaneSet::none();
     let mut given = 0;
     let mut bounced = 0;
     while let Some(offer) = core.propose(&skips) {
@@ -47,10 +45,9 @@ pub(crate) fn give_all<L: StepLog>(
         } else {
             core.give_run(offer, room, &mut skips, run, log);
             near.offer_all(run.as_slice());
-            hints.note(&mut reached, lane);
+            hints.gave(lane);
             given += run.len();
         }
     }
-    hints.gave(reached);
     (given, bounced)
 }

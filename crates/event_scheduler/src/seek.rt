@@ -31,27 +31,9 @@ fn first_shown(lanes: &mut [Near], from: usize) -> usize
     count
 }
 
-/// The same lane. It brings replies out of its ring, no more than `most`, which are untaken still.
-#[inline(always)]
-fn first_fetched(lanes: &mut [Near], from: usize, most: usize) -> usize
-    requires { from ≤ length lanes.old }
-    ensures same { SameLanes lanes.old lanes.new }
-    ensures lane { (from ≤ result) × (result ≤ length lanes.old) }
-    ensures none { (l : ℕ) → from ≤ l → l < result → seen_in lanes.new l ≡ [] }
-    ensures found { result < length lanes.old → seen_in lanes.new result ≢ [] }
-    ensures others { (l : ℕ) → l < from → seen_in lanes.new l ≡ seen_in lanes.old l }
-{
-    let lane = first_shown(lanes, from);
-    if lane >= lanes.len() {
-        return lane;
-    }
-    lanes[lane].fetch(most);
-    lane
-}
-
 impl Scheduler {
     /// The first lane from this one on that has a reply, or how many lanes there are where none has one. It looks at the rings of
-    /// the lanes up to that one alone, and brings no more replies out of its ring than the sweep quantum. They are untaken still.
+    /// the lanes up to that one alone.
     #[inline(always)]
     pub(crate) fn seek(&mut self, from: usize) -> usize
         requires { from ≤ lanes_of self.old.core.shape }
@@ -62,7 +44,6 @@ impl Scheduler {
         ensures found { result < lanes_of self.old.core.shape → seen_at (sight_of self.new) result ≢ [] }
         ensures others { (l : ℕ) → l < from → seen_at (sight_of self.new) l ≡ seen_at (sight_of self.old) l }
     {
-        let most = self.core.shape().sweep() as usize;
-        first_fetched(&mut self.lanes, from, most)
+        first_shown(&mut self.lanes, from)
     }
 }

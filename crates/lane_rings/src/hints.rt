@@ -103,9 +103,9 @@ fn take_out(word: &AtomicU64, bits: u64) {
     }
 }
 
-/// Which flow lanes may have something to be received: a bit for each. At the end of a sweep, once what it gave is in their rings, the
-/// scheduler sets the bits of the lanes that were given something; who holds a lane clears its bit before it looks into the ring, and
-/// sets it again where it left something there. It is a hint, on which no promise rests: no clause says which bits are set.
+/// Which flow lanes may have something to be received: a bit for each. The scheduler sets a lane's bit once what it gave is in the
+/// lane's ring; who holds the lane clears the bit before it looks into the ring, and sets it again where it left something there. It
+/// is a hint, on which no promise rests: no clause says which bits are set.
 #[derive(Drop)]
 pub struct Hints {
     /// How many of the scheduler's lanes come before the first flow lane.
@@ -124,21 +124,11 @@ impl Hints {
         }
     }
 
-    /// Puts the scheduler's lane of this number into the set. Of a lane that isn't a flow lane there is no hint.
+    /// The scheduler put something into the ring of its lane of this number. Of a lane that isn't a flow lane there is no hint.
     #[inline(always)]
-    pub fn note(&self, lanes: &mut LaneSet, lane: usize) {
+    pub fn gave(&self, lane: usize) {
         if lane >= self.before {
-            lanes.add(lane - self.before);
-        }
-    }
-
-    /// The scheduler put something into the rings of these lanes. A word is written only where it has one of them.
-    pub fn gave(&self, lanes: LaneSet) {
-        if lanes.low != 0 {
-            self.low.fetch_or(lanes.low, Ordering::SeqCst);
-        }
-        if lanes.high != 0 {
-            self.high.fetch_or(lanes.high, Ordering::SeqCst);
+            self.set(lane - self.before);
         }
     }
 

@@ -1,7 +1,7 @@
 -- Replies are taken: one, none, and some after others.
-use Rattle.std.proofs.Common.{add-zero, ◌≡◌, ◌≢◌, ℕ, ◌+◌, ◌*◌, ◌<◌, ◌≤◌, ◌%◌, ◌^◌, ◌==◌, Bool, true, false, cond, nat_lt, ◌&&◌, ◌||◌, ◌⊎◌, inl, inr, List, [], ◌∷◌, ◌++◌, length, map, set, get_or, slice_get, take, drop, zero, suc, Some, refl, sym, ap, ◌∙◌, subst, append_assoc, append-nil, arith}
+use Rattle.std.proofs.Common.{add-zero, ◌≡◌, ◌≢◌, ℕ, ◌+◌, ◌*◌, ◌<◌, ◌≤◌, ◌%◌, ◌^◌, ◌==◌, Bool, true, false, cond, nat_lt, not, ◌&&◌, ◌||◌, IsFalse, IsTrue, ◌⊎◌, inl, inr, List, [], ◌∷◌, ◌++◌, length, map, set, get_or, slice_get, take, drop, zero, suc, Some, refl, sym, ap, ◌∙◌, subst, append_assoc, append-nil, arith}
 use Rattle.std.proofs.lemmas.Option.{none-some, slice_get_within}
-use Rattle.std.proofs.lemmas.Bool.{cases_eq, cases_lt, false≢true, le-ltb}
+use Rattle.std.proofs.lemmas.Bool.{cases_eq, cases_lt, false≢true, le-ltb, lt-ltb}
 use Rattle.std.proofs.lemmas.List.{get_or-map, get_or-set_other, get_or-set_same, length-append, length-take, map-append, map-set, take_more}
 use Rattle.std.proofs.Math.Nat.{mul-le-mul_left}
 use Rattle.std.proofs.Math.Seq.{set-get_or, set-set, take-take}
@@ -316,6 +316,12 @@ lane_ends l n q s t u log mid longer few h k =
     within : (m : ℕ) → only l n m ≤ only l q m
     within m = within_by (m == l)
 
+-- a lane was looked at, and some of it were taken
+pub looked_more : (l k : ℕ) (s t u : Sight) (log mid longer : List Step) → Takes (λ m. 0) 0 s log t mid → Takes (only l k) k t mid u longer → Takes (only l k) k s log u longer
+looked_more l k s t u log mid longer h more =
+    subst (λ n. Takes (only l k) n s log u longer) (omega arith)
+    (takes_takes (λ m. 0) (only l k) (only l k) 0 k s t u log mid longer h more (λ i j some later. absurd (omega (arith, some))) (λ m. omega arith))
+
 -- ---- a run of replies of one lane
 
 -- none of none, and the first of some
@@ -343,12 +349,35 @@ first_seen n [] seen r p there = absurd (omega (arith, slice_get_within (take n 
 first_seen zero (x ∷ rs) seen r p there = absurd (none-some r there)
 first_seen (suc n) (x ∷ rs) seen r p there = ap (λ xs. slice_get xs 0) (sym p.1) ∙ there
 
-pub first_left : (k n : ℕ) (rs seen : List Reply) (r : Reply) → IsPrefix rs seen → k ≡ 0 → slice_get (take n rs) k ≡ Some r → slice_get (drop k seen) 0 ≡ Some r
-first_left k n rs seen r p none there = ap (λ j. slice_get (drop j seen) 0) none ∙ first_seen n rs seen r p (ap (λ j. slice_get (take n rs) j) (sym none) ∙ there)
+-- what is at a place of them is the first that is seen behind as many
+pub first_left : (k n : ℕ) (rs seen : List Reply) (r : Reply) → IsPrefix rs seen → slice_get (take n rs) k ≡ Some r → slice_get (drop k seen) 0 ≡ Some r
+first_left zero n rs seen r p there = first_seen n rs seen r p there
+first_left (suc k) n [] seen r p there = absurd (omega (arith, slice_get_within (take n []) (suc k) r there, length-take {A = Reply} n []))
+first_left (suc k) zero (x ∷ rs) seen r p there = absurd (none-some r there)
+first_left (suc k) (suc n) (x ∷ rs) seen r p there = ap (λ xs. slice_get (drop (suc k) xs) 0) (sym p.1) ∙ first_left k n rs (rs ++ p.0) r (p.0, refl) there
 
 pub some_there : (rs : List Reply) → rs ≢ [] → 0 < length rs
 some_there [] some = absurd (some refl)
 some_there (r ∷ rs) some = omega arith
+
+-- taking ends where fewer were taken than were there, or where none is seen, and else all that was there went
+pub ends_by : {E : Type 0} → (k n : ℕ) (sees : Bool) → IsTrue (nat_lt k n || not sees) → (k < n → E) → (sees ≡ false → E) → E
+ends_by {E = E} k n sees over fewer none = by_place (cases_lt k n)
+  where
+    by_sees : (b : Bool) → sees ≡ b → nat_lt k n ≡ false → E
+    by_sees false is past = none is
+    by_sees true is past = absurd (false≢true (sym (ap (λ b. b || not true) past) ∙ subst (λ b. (nat_lt k n || not b) ≡ true) is over))
+
+    by_place : (k < n) ⊎ (n ≤ k) → E
+    by_place (inl below) = fewer below
+    by_place (inr past) = by_sees sees refl (le-ltb k n past)
+
+pub all_went : (k n : ℕ) (sees : Bool) → IsFalse (nat_lt k n || not sees) → n ≤ k
+all_went k n sees on = by_place (cases_lt k n)
+  where
+    by_place : (k < n) ⊎ (n ≤ k) → n ≤ k
+    by_place (inl below) = absurd (false≢true (sym on ∙ ap (λ b. b || not sees) (lt-ltb k n below)))
+    by_place (inr past) = past
 
 -- the same replies left the lane's end, and more may have been seen of it
 pub run_left :

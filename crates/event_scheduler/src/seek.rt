@@ -2,7 +2,7 @@
 
 ghost use Rattle.std.specs.Prelude.{◌≡◌, ◌≢◌, ℕ, ◌<◌, ◌≤◌, List, [], length};
 ghost use Rattle.event_scheduler.specs.Scheduler.{seen_at, sight_of};
-ghost use Rattle.event_scheduler.specs.Seeking.{SameLanes, seen_in};
+ghost use Rattle.event_scheduler.specs.Seeking.{SameLanes, fetched_in, seen_in};
 ghost use Rattle.event_scheduler.specs.Taking.{Takes};
 ghost use Rattle.evt_types.specs.declared.step.Step.{Step as StepValue};
 ghost use Rattle.evt_types.specs.Plan.{lanes_of};
@@ -10,21 +10,22 @@ ghost use Rattle.evt_types.specs.Plan.{lanes_of};
 use crate::scheduler::Scheduler;
 use lane_rings::Near;
 
-/// The first of these lanes, from this one on, of which a reply is seen, or how many lanes there are where of none is. Mostly a lane
-/// has nothing, so that no more is done here than to look.
+/// The first of these lanes, from this one on, of which a reply is fetched, no more than `most` of its replies, or how many lanes there
+/// are where of none is. Mostly a lane has nothing, so that no more is done here than to look.
 #[inline(always)]
-fn first_shown(lanes: &mut [Near], from: usize) -> usize
-    requires { from ≤ length lanes.old }
+fn first_fetched(lanes: &mut [Near], from: usize, most: usize) -> usize
+    requires from { from ≤ length lanes.old }
+    requires most { 0 < most }
     ensures same { SameLanes lanes.old lanes.new }
     ensures lane { (from ≤ result) × (result ≤ length lanes.old) }
     ensures none { (l : ℕ) → from ≤ l → l < result → seen_in lanes.new l ≡ [] }
-    ensures found { result < length lanes.old → seen_in lanes.new result ≢ [] }
+    ensures found { result < length lanes.old → fetched_in lanes.new result ≢ [] }
     ensures others { (l : ℕ) → l < from → seen_in lanes.new l ≡ seen_in lanes.old l }
 {
     let count = lanes.len();
     for lane in from..count {
         let near = &mut lanes[lane];
-        if near.shows() {
+        if near.fetch(most) {
             return lane;
         }
     }
@@ -33,7 +34,7 @@ fn first_shown(lanes: &mut [Near], from: usize) -> usize
 
 impl Scheduler {
     /// The first lane from this one on that has a reply, or how many lanes there are where none has one. It looks at the rings of
-    /// the lanes up to that one alone.
+    /// the lanes up to that one alone, and brings out of its ring no more replies than the sweep quantum.
     #[inline(always)]
     pub(crate) fn seek(&mut self, from: usize) -> usize
         requires { from ≤ lanes_of self.old.core.shape }
@@ -41,9 +42,10 @@ impl Scheduler {
         ensures core { self.new.core ≡ self.old.core }
         ensures lane { (from ≤ result) × (result ≤ lanes_of self.old.core.shape) }
         ensures none { (l : ℕ) → from ≤ l → l < result → seen_at (sight_of self.new) l ≡ [] }
-        ensures found { result < lanes_of self.old.core.shape → seen_at (sight_of self.new) result ≢ [] }
+        ensures found { result < lanes_of self.old.core.shape → fetched_in self.new.lanes.items result ≢ [] }
         ensures others { (l : ℕ) → l < from → seen_at (sight_of self.new) l ≡ seen_at (sight_of self.old) l }
     {
-        first_shown(&mut self.lanes, from)
+        let most = self.core.shape().sweep() as usize;
+        first_fetched(&mut self.lanes, from, most)
     }
 }

@@ -2,7 +2,9 @@
 
 ghost use Rattle.std.specs.Prelude.{◌≡◌, ◌≢◌, ℕ, ◌+◌, ◌*◌, ◌%◌, ◌^◌, ◌≤◌, ◌<◌, false, [], ◌∷◌, IsFalse, IsTrue, Some, length, slice_get, take};
 ghost use Rattle.event_scheduler.specs.Scheduler.{Sight, seen_at, sight_of};
-ghost use Rattle.event_scheduler.specs.Taking.{MayEnd, Takes, TakesAll, entered_as, only, turned_by, with_core, with_taken};
+ghost use Rattle.event_scheduler.specs.Seeking.{fetched_in};
+ghost use Rattle.event_scheduler.specs.Taking.{MayEnd, Takes, TakesAll, entered_by, only, turned_by, with_core, with_taken};
+ghost use Rattle.evt_types.specs.declared.event.Op.TheVariants as ops;
 ghost use Rattle.evt_types.specs.declared.event.Reply.{Reply as ReplyValue};
 ghost use Rattle.evt_types.specs.Plan.{lanes_of};
 ghost use Rattle.transcripts.specs.Standing.{kept_in, may_take};
@@ -12,48 +14,22 @@ use evt_types::{Op, Reply};
 use sched_core::{Core, Took};
 use step_log::StepLog;
 
-/// Counts what became of a NEW: accepted, or turned away, which leaves its credit to the scheduler.
+/// Counts what became of a reply with this operation: a NEW that was accepted, or turned away, which leaves its credit to the scheduler.
 #[inline(always)]
-fn count_new(pocket: &mut u64, accepted_new: &mut u64, took: Took)
+fn count(pocket: &mut u64, accepted_new: &mut u64, op: Op, took: Took)
+    requires none { op ≢ ops.New → turned_by took ≡ 0 }
     ensures pocket { pocket.new ≡ (pocket.old + turned_by took) % 2 ^ 64 }
-    ensures accepted { accepted_new.new ≡ (accepted_new.old + entered_as took) % 2 ^ 64 }
+    ensures accepted { accepted_new.new ≡ (accepted_new.old + entered_by op took) % 2 ^ 64 }
 {
     let (credits, count) = (*pocket, *accepted_new);
+    if op != Op::New {
+        return;
+    }
     match took {
         Took::Turned => *pocket = credits.wrapping_add(1),
         Took::Accepted => *accepted_new = count.wrapping_add(1),
         Took::Kept | Took::Released => {}
     }
-}
-
-/// Takes the lane's reply where it may be taken: whether it was.
-#[inline(always)]
-fn take_one<L: StepLog>(
-    core: &mut Core,
-    pocket: &mut u64,
-    accepted_new: &mut u64,
-    lane: usize,
-    reply: &Reply,
-    log: &mut L,
-) -> bool
-    requires lane { lane < lanes_of core.old.shape }
-    requires room { kept_in core.old + 2 ≤ L.room log.old }
-    ensures takes { IsTrue result → (s : Sight) → lane < length s.taken → Takes (only lane 1) 1 (with_core s core.old pocket.old accepted_new.old) (L.steps log.old) (with_core (with_taken s lane (reply.now ∷ [])) core.new pocket.new accepted_new.new) (L.steps log.new) }
-    ensures refused { IsFalse result → may_take core.new lane reply.now.event ≡ false }
-    ensures same { IsFalse result → (core.new ≡ core.old) × (pocket.new ≡ pocket.old) × (accepted_new.new ≡ accepted_new.old) × (log.new ≡ log.old) }
-    ensures shape { core.new.shape ≡ core.old.shape }
-    ensures room { L.room log.old + kept_in core.new ≤ L.room log.new + kept_in core.old + 2 }
-{
-    // To read the counts makes known that they are within their range.
-    let (_pocket, _accepted_new) = (*pocket, *accepted_new);
-    if !core.takes(lane, reply) {
-        return false;
-    }
-    let took = core.take_from(lane, reply, log);
-    if reply.event.op == Op::New {
-        count_new(pocket, accepted_new, took);
-    }
-    true
 }
 
 /// Takes these replies of the lane, oldest first, up to the first that may not be taken: how many.
@@ -75,30 +51,32 @@ fn take_run<L: StepLog>(
     ensures room { L.room log.old + kept_in core.new ≤ L.room log.new + kept_in core.old + 2 * result }
 {
     for (taken, reply) in replies.iter().enumerate() {
-        if !take_one(core, pocket, accepted_new, lane, reply, log) {
+        // To read the counts makes known that they are within their range.
+        let (_pocket, _accepted_new) = (*pocket, *accepted_new);
+        if !core.takes(lane, reply) {
             return taken;
         }
+        let took = core.take_from(lane, reply, log);
+        count(pocket, accepted_new, reply.event.op, took);
     }
     replies.len()
 }
 
 impl Scheduler {
-    /// Takes the lane's oldest replies, no more than `most`, up to the first that may not be taken: how many. Where none is left that
-    /// was fetched, it looks at the lane's ring, which gives by one store what is there.
+    /// Takes of the lane's replies that were fetched the oldest, no more than `most`, up to the first that may not be taken: how many, and
+    /// whether nothing is left to take, since that one may not be taken or none is seen.
     #[inline(always)]
-    fn take_some<L: StepLog>(&mut self, lane: usize, most: usize, log: &mut L) -> usize
+    fn take_fetched<L: StepLog>(&mut self, lane: usize, most: usize, log: &mut L) -> (usize, bool)
         requires lane { lane < lanes_of self.old.core.shape }
         requires room { kept_in self.old.core + 2 * most ≤ L.room log.old }
-        ensures takes { Takes (only lane result) result (sight_of self.old) (L.steps log.old) (sight_of self.new) (L.steps log.new) }
-        ensures most { result ≤ most }
-        ensures ends { (n q : ℕ) → 0 < most → result ≡ 0 → MayEnd q self.new.core lane n (seen_at (sight_of self.new) lane) }
+        ensures takes { Takes (only lane result.0) result.0 (sight_of self.old) (L.steps log.old) (sight_of self.new) (L.steps log.new) }
+        ensures most { result.0 ≤ most }
+        ensures some { 0 < most → fetched_in self.old.lanes.items lane ≢ [] → IsFalse result.1 → 0 < result.0 }
+        ensures ends { (n q : ℕ) → IsTrue result.1 → MayEnd q self.new.core lane n (seen_at (sight_of self.new) lane) }
         ensures others { (l : ℕ) → l ≢ lane → seen_at (sight_of self.new) l ≡ seen_at (sight_of self.old) l }
-        ensures room { L.room log.old + kept_in self.new.core ≤ L.room log.new + kept_in self.old.core + 2 * result }
+        ensures room { L.room log.old + kept_in self.new.core ≤ L.room log.new + kept_in self.old.core + 2 * result.0 }
     {
         let near = &mut self.lanes[lane];
-        if !near.fetch(most) {
-            return 0;
-        }
         let replies = near.fetched();
         let count = replies.len().min(most);
         let taken = take_run(
@@ -110,10 +88,38 @@ impl Scheduler {
             log,
         );
         near.pass(taken);
+        (taken, (taken < count) | !near.sees())
+    }
+
+    /// Takes on of a lane of which all that was fetched is taken and more is seen: no more than `most`, until none is seen or one may not
+    /// be taken.
+    #[cold]
+    fn take_on<L: StepLog>(&mut self, lane: usize, most: usize, log: &mut L) -> usize
+        requires lane { lane < lanes_of self.old.core.shape }
+        requires room { kept_in self.old.core + 2 * most ≤ L.room log.old }
+        ensures takes { Takes (only lane result) result (sight_of self.old) (L.steps log.old) (sight_of self.new) (L.steps log.new) }
+        ensures most { result ≤ most }
+        ensures ends { (n q : ℕ) → result < most → MayEnd q self.new.core lane n (seen_at (sight_of self.new) lane) }
+        ensures others { (l : ℕ) → l ≢ lane → seen_at (sight_of self.new) l ≡ seen_at (sight_of self.old) l }
+        ensures room { L.room log.old + kept_in self.new.core ≤ L.room log.new + kept_in self.old.core + 2 * result }
+    {
+        let mut taken = 0;
+        while taken < most {
+            let near = &mut self.lanes[lane];
+            if !near.fetch(most - taken) {
+                return taken;
+            }
+            let (more, ends) = self.take_fetched(lane, most - taken, log);
+            taken += more;
+            if ends {
+                return taken;
+            }
+        }
         taken
     }
 
-    /// Takes replies of the lane, no more than the sweep quantum, until none is seen or one may not be taken.
+    /// Takes replies of the lane, no more than the sweep quantum, until none is seen or one may not be taken. Mostly they were fetched as
+    /// the lane was sought, and no more is seen of it then.
     #[inline(always)]
     fn take_lane<L: StepLog>(&mut self, lane: usize, log: &mut L) -> usize
         requires lane { lane < lanes_of self.old.core.shape }
@@ -125,15 +131,11 @@ impl Scheduler {
         ensures others { (l : ℕ) → l ≢ lane → seen_at (sight_of self.new) l ≡ seen_at (sight_of self.old) l }
     {
         let most = self.core.shape().sweep() as usize;
-        let mut taken = 0;
-        while taken < most {
-            let more = self.take_some(lane, most - taken, log);
-            if more == 0 {
-                return taken;
-            }
-            taken += more;
+        let (taken, ends) = self.take_fetched(lane, most, log);
+        if ends {
+            return taken;
         }
-        taken
+        taken + self.take_on(lane, most - taken, log)
     }
 
     /// Takes replies of each lane, by rising lane.

@@ -63,10 +63,12 @@ fn hand_out(from: &mut Intake<Delivery>, into: &mut ArrayVec<Delivery, 64>)
     ensures none { inside from.new ≡ [] }
     ensures into { into.new.items ≡ into.old.items ++ inside from.old }
 {
-    while let Some(delivery) = from.first() {
+    let batch = from.batch();
+    let count = batch.len();
+    for delivery in batch {
         into.push(*delivery);
-        from.next();
     }
+    from.skip(count);
 }
 
 impl Far {

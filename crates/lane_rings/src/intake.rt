@@ -66,7 +66,9 @@ impl<T: Copy> Intake<T> {
         }
         self.at = 0;
         if there == 1 {
-            self.places[0] = self.ring.pop_known();
+            // Copied from where it lies: what a pop gives would be moved three times.
+            self.places[0] = *self.ring.peek_known();
+            let _ = self.ring.pop_known();
             self.end = 1;
             return true;
         }
@@ -74,17 +76,13 @@ impl<T: Copy> Intake<T> {
         self.end != 0
     }
 
-    /// Whether something is in the batch or is seen in the ring.
+    /// Whether something is in the batch or was seen in the ring.
     #[inline(always)]
-    pub(crate) fn shows(&mut self) -> bool
-        ensures ring { SameConsumer self.old.ring self.new.ring }
-        ensures handed { handed self.new ≡ handed self.old }
-        ensures batch { inside self.new ≡ inside self.old }
-        ensures ahead { IsPrefix (ahead self.old) (ahead self.new) }
-        ensures some { IsTrue result → ahead self.new ≢ [] }
-        ensures none { IsFalse result → ahead self.new ≡ [] }
+    pub(crate) fn sees(&self) -> bool
+        ensures some { IsTrue result → ahead self.now ≢ [] }
+        ensures none { IsFalse result → ahead self.now ≡ [] }
     {
-        self.at != self.end || self.ring.slots() != 0
+        self.at != self.end || self.ring.cached_slots() != 0
     }
 
     /// The oldest item of the batch, which leaves.

@@ -95,17 +95,13 @@ impl Near {
         self.replies.look(most)
     }
 
-    /// Whether a reply is seen that isn't taken, in the ring or out of it: a look, by which nothing comes out of the ring.
+    /// Whether a reply is seen that isn't taken, in the ring or out of it, as far as looks have shown: this one looks at no ring.
     #[inline(always)]
-    pub fn shows(&mut self) -> bool
-        ensures lane { near_id self.new ≡ near_id self.old }
-        ensures lists { (offered self.new ≡ offered self.old) × (hidden_offers self.new ≡ hidden_offers self.old) × (taken self.new ≡ taken self.old) }
-        ensures fetched { fetched_replies self.new ≡ fetched_replies self.old }
-        ensures seen { IsPrefix (seen_replies self.old) (seen_replies self.new) }
-        ensures some { IsTrue result → seen_replies self.new ≢ [] }
-        ensures none { IsFalse result → seen_replies self.new ≡ [] }
+    pub fn sees(&self) -> bool
+        ensures some { IsTrue result → seen_replies self.now ≢ [] }
+        ensures none { IsFalse result → seen_replies self.now ≡ [] }
     {
-        self.replies.shows()
+        self.replies.sees()
     }
 
     /// The oldest reply that wasn't taken, which stays: the next `take` gives the same one. `None` where no reply is seen; the

@@ -1,6 +1,6 @@
 //! The reorder buffers of a device's queues.
 
-ghost use Rattle.std.specs.Prelude.{◌≡◌, ◌<◌, ◌≤◌, ◌^◌, ◌&&◌, true, length, map, slice_get, slice_set, slice_index_or, sum_by, is_some, option_copied, option_map, Some, IfNone, IfOk, IfSome, IsTrue};
+ghost use Rattle.std.specs.Prelude.{◌≡◌, ◌<◌, ◌≤◌, ◌^◌, ◌&&◌, true, false, length, map, slice_get, slice_set, slice_index_or, sum_by, is_some, option_copied, option_map, Some, IfNone, IfOk, IfSome, IsTrue};
 ghost use Rattle.order_parts.specs.Reorder.{empty, next_number, place_at, place_or_open, is_open, kept_of, left, left_plain, oldest_answered, after_leave, open_place};
 ghost use Rattle.order_parts.specs.Orders.{IsBuffer, is_restoring, has_place, handed, added_in, resolved_in, order_at};
 ghost use Rattle.evt_types.specs.Plan as plans;
@@ -166,6 +166,7 @@ impl AllOrders {
         ensures value { IfSome result (λ x. oldest_answered (order_at self.old queue).places ≡ Some (left_plain x.0 x.1 event.new)) }
         ensures rest { IfSome result (λ x. self.new ≡ slice_set self.old queue (after_leave (order_at self.old queue))) }
         ensures same { IfNone result ((self.new ≡ self.old) × (event.new ≡ event.old)) }
+        ensures bare { IfSome result (λ x. x.1 ≡ false → event.new ≡ event.old) }
     {
         match &mut self.queues[queue] {
             Some(order) => order.leave_plain(event),

@@ -1,6 +1,6 @@
 //! The reorder buffer of an ordered queue.
 
-ghost use Rattle.std.specs.Prelude.{◌≡◌, false, ◌+◌, ◌*◌, ◌%◌, ◌^◌, ◌<◌, ◌≤◌, ◌++◌, All, MatchOption, Some, length, nat_lt, option_copied, None, slice_get, slice_index_or, option_map, IfNone, IfOk, IsTrue};
+ghost use Rattle.std.specs.Prelude.{◌≡◌, false, ◌+◌, ◌*◌, ◌%◌, ◌^◌, ◌<◌, ◌≤◌, ◌++◌, All, MatchOption, Some, length, nat_lt, option_copied, None, slice_get, slice_index_or, option_map, IfNone, IfOk, IfSome, IsTrue};
 ghost use Rattle.order_parts.specs.Reorder.{HasFew, after_add, after_hand, after_keep, after_leave, after_resolve, empty, is_open, kept_of, left, left_plain, next_number, oldest_answered, open_place, place_at, place_or_open, without_oldest, wrapped};
 
 use arrayvec::ArrayVec;
@@ -200,6 +200,7 @@ impl Reorder {
     pub fn leave_plain(&mut self, event: &mut Event) -> Option<(u64, bool)>
         ensures left { MatchOption result (self.new ≡ self.old) (λ r. (oldest_answered self.old.places ≡ Some (left_plain r.0 r.1 event.new)) × (self.new ≡ after_leave self.old)) }
         ensures same { IfNone result (event.new ≡ event.old) }
+        ensures bare { IfSome result (λ r. r.1 ≡ false → event.new ≡ event.old) }
     {
         let plain = self.ring.front()?;
         if !plain.answered || plain.kept > 1 {

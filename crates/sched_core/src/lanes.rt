@@ -84,7 +84,7 @@ impl Core {
 
     /// Of these lanes the one that may hold the slot and has fewest unanswered events, of several the first.
     #[inline(always)]
-    fn port_for(&self, queue: usize, slot: usize, lanes: SmallSet) -> Option<usize>
+    pub(crate) fn port_for(&self, queue: usize, slot: usize, lanes: SmallSet) -> Option<usize>
         requires queue { queue < length self.now.shape.queues }
         requires lanes { (l : ℕ) → Has lanes l → l < lanes_of self.now.shape }
         ensures fits { IfSome result (MayHold self.now lanes queue slot) }

@@ -1,7 +1,7 @@
 //! Events are given in a run: one after another of one queue and level, to one lane.
 
-ghost use Rattle.std.specs.Prelude.{◌≡◌, ◌+◌, ◌<◌, ◌≤◌, List, ◌++◌, length, slice_index, IfSome};
-ghost use Rattle.evt_types.specs.Plan.{level_of};
+ghost use Rattle.std.specs.Prelude.{◌≡◌, ◌+◌, ◌<◌, ◌≤◌, false, List, ◌++◌, length, slice_index, IfSome};
+ghost use Rattle.evt_types.specs.Plan.{has_flow_lanes, level_of};
 ghost use Rattle.evt_types.specs.declared.shape.TheConstants.{MAX_QUEUES};
 ghost use Rattle.evt_types.specs.declared.step.Step.{Step as StepValue};
 ghost use Rattle.sched_core.specs.Offered.{IsOfferIn, numbered_in, slot_at};
@@ -39,17 +39,14 @@ impl Core {
     /// The event of the queue and level that is given next, where that is quick to see and this lane is the best one for it.
     #[inline(always)]
     fn next_in_run(&self, queue: usize, level: Level, lane: usize, skips: &Skips) -> Option<Found>
-        requires { queue < length self.now.shape.queues }
+        requires there { queue < length self.now.shape.queues }
+        requires ports { has_flow_lanes self.now.shape queue ≡ false }
         ensures quota { IfSome result (λ _. HasQuota self.now skips.now queue) }
         ensures offer { IfSome result (λ f. IsOfferIn self.now skips.now queue level.number lane f.waiting) }
         ensures slot { IfSome result (λ f. f.slot ≡ slot_at self.now queue f.waiting) }
         ensures counts { IfSome result (λ _. length skips.now.given ≡ MAX_QUEUES) }
     {
         self.facts();
-        // With flow lanes the next event mostly goes to another lane.
-        if self.has_flow_lanes(queue) {
-            return None;
-        }
         let found = self
             .queues
             .head(queue, level, SmallSet::below(MAX_MEMBERS))?;
@@ -57,7 +54,7 @@ impl Core {
             return None;
         }
         let lanes = self.open_lanes(queue, skips);
-        let best = self.lane_for(queue, found.slot, lanes, skips)?;
+        let best = self.port_for(queue, found.slot, lanes)?;
         if best == lane { Some(found) } else { None }
     }
 
@@ -92,12 +89,17 @@ impl Core {
         let queue = delivery.queue;
         let mut slot = self.queues.slot_of(queue, flow);
         let mut next = delivery;
+        // With flow lanes the next event mostly goes to another lane.
+        let by_flows = self.has_flow_lanes(queue);
         run.clear();
         for _ in 0..most.min(MAX_RUN) {
             self.facts();
             run.push(next);
             self.give_at(lane, &next, level, slot, log);
             skips.given(queue);
+            if by_flows {
+                return;
+            }
             let Some(found) = self.next_in_run(queue, level, lane, skips) else {
                 return;
             };

@@ -1,23 +1,27 @@
-use Rattle.std.proofs.Common.{refl, ap, arith, ◌∙◌}
-use Rattle.event_scheduler.proofs.Taking.{lane_ends, lane_more, none_more, takes_none}
+use Rattle.std.proofs.Common.{◌+◌, ◌-◌, ◌<◌, ◌≤◌, ◌⊎◌, inl, inr, ap, arith}
+use Rattle.std.proofs.lemmas.Bool.{cases_lt}
+use Rattle.event_scheduler.proofs.Taking.{lane_ends, lane_more, takes_none}
+use Rattle.event_scheduler.specs.Scheduler.{seen_at, sight_of}
+use Rattle.event_scheduler.specs.Taking.{MayEnd}
 use Rattle.evt_types.specs.Plan.{Plan}
 use Rattle.event_scheduler.proofs.scheduler.Scheduler.take_lane.Goals as goal
 
-pub loop-taken-init : goal.loop-taken-init
-loop-taken-init g c = (takes_none _ _ _, omega arith, λ j other. refl, omega arith)
+pub returns-then-ends-clause-takes : goal.returns-then-ends-clause-takes
+returns-then-ends-clause-takes g c =
+    lane_ends _ _ _ _ _ _ _ _ _ (omega (arith, c.take_fetched-taken.ensures.most, c.sweep-most.ensures.value, ap (λ (p : Plan). p.sweep) c.shape.ensures)) c.take_fetched-taken.ensures.takes (takes_none _ _ _)
 
-pub loop-taken-preserved : goal.loop-taken-preserved
-loop-taken-preserved g c = (
-  lane_more _ _ _ _ _ _ _ _ _ c.loop-taken.invariant.0 c.take_some-more.ensures.takes,
-  omega (arith, c.loop-taken.invariant.1, c.take_some-more.ensures.room),
-  λ j other. c.take_some-more.ensures.others j other ∙ c.loop-taken.invariant.2 j other,
-  omega (arith, c.loop-taken-test.true, c.take_some-more.ensures.most),
-)
+pub returns-then-ends-clause-ends : goal.returns-then-ends-clause-ends
+returns-then-ends-clause-ends g c = c.take_fetched-taken.ensures.ends _ _ c.if-ends.true
 
-pub returns-then-more-eq0-clause-ends : goal.returns-then-more-eq0-clause-ends
-returns-then-more-eq0-clause-ends g c = c.take_some-more.ensures.ends c.loop-taken.taken _ (omega (arith, c.loop-taken-test.true)) (omega (arith, c.if-more-eq0.true))
+pub returns-clause-takes : goal.returns-clause-takes
+returns-clause-takes g c =
+    lane_ends _ _ _ _ _ _ _ _ _ (omega (arith, c.take_fetched-taken.ensures.most, c.take_on.ensures.most, c.sweep-most.ensures.value, ap (λ (p : Plan). p.sweep) c.shape.ensures))
+    (lane_more _ _ _ _ _ _ _ _ _ c.take_fetched-taken.ensures.takes c.take_on.ensures.takes) (takes_none _ _ _)
 
-pub returns-then-more-eq0-clause-takes : goal.returns-then-more-eq0-clause-takes
-returns-then-more-eq0-clause-takes g c =
-    lane_ends _ _ _ _ _ _ _ _ _ (omega (arith, c.loop-taken.invariant.3, c.sweep-most.ensures.value, ap (λ (p : Plan). p.sweep) c.shape.ensures)) c.loop-taken.invariant.0
-    (none_more c.args.lane c.take_some-more.result _ _ _ _ (omega (arith, c.if-more-eq0.true)) c.take_some-more.ensures.takes)
+pub returns-clause-ends : goal.returns-clause-ends
+returns-clause-ends g c = by_place (cases_lt c.take_on.result (c.sweep-most.result - c.take_fetched-taken.result.0))
+  where
+    by_place : (c.take_on.result < c.sweep-most.result - c.take_fetched-taken.result.0) ⊎ (c.sweep-most.result - c.take_fetched-taken.result.0 ≤ c.take_on.result)
+        → MayEnd c.args.self.now.core.shape.sweep c.take_on.new.self.core c.args.lane (c.take_fetched-taken.result.0 + c.take_on.result) (seen_at (sight_of c.take_on.new.self) c.args.lane)
+    by_place (inl fewer) = c.take_on.ensures.ends _ _ fewer
+    by_place (inr all) = inl (omega (arith, all, c.take_fetched-taken.ensures.most, c.take_on.ensures.most, c.sweep-most.ensures.value, ap (λ (p : Plan). p.sweep) c.shape.ensures))

@@ -30,6 +30,16 @@ loop-init g c = (
 pub give_at-requires-clause-offer : goal.give_at-requires-clause-offer
 give_at-requires-clause-offer g c = choice_is_offer c.loop.self c.loop.skips c.args.offer.lane c.loop.next.queue (numbered_in c.loop.next) c.loop.invariant.0.choice
 
+pub returns-then-by_flows-clause-choices : goal.returns-then-by_flows-clause-choices
+returns-then-by_flows-clause-choices g c =
+    subst (λ ds. AreChoices c.args.offer.lane c.args.self.now c.args.skips.now ds c.give_at.new.self c.given.new.self) (sym c.push.ensures.items)
+    (running_given c.args.self.now c.args.skips.now c.args.offer.lane c.args.offer.delivery.queue c.args.offer.level.number c.loop.slot c.loop.self c.give_at.new.self c.loop.skips c.given.new.self c.loop.run.items c.loop.next
+    c.loop.invariant.0 c.give_at.ensures.view c.given.ensures)
+
+pub returns-then-by_flows-clause-stands : goal.returns-then-by_flows-clause-stands
+returns-then-by_flows-clause-stands g c T stands =
+    choices_stand c.args.offer.lane c.args.self.now c.args.skips.now c.push.new.self.items c.give_at.new.self c.given.new.self T (returns-then-by_flows-clause-choices g c) stands
+
 pub returns-in_default-clause-choices : goal.returns-in_default-clause-choices
 returns-in_default-clause-choices g c =
     subst (λ ds. AreChoices c.args.offer.lane c.args.self.now c.args.skips.now ds c.give_at.new.self c.given.new.self) (sym c.push.ensures.items)

@@ -1,6 +1,6 @@
 use Rattle.std.proofs.Common.{◌≡◌, ℕ, ◌<◌, ◌≤◌, [], length}
 use Rattle.event_scheduler.specs.Seeking.{SameLanes, seen_in}
-use Rattle.event_scheduler.proofs.seek.first_shown.Given as goal
+use Rattle.event_scheduler.proofs.seek.first_fetched.Given as goal
 
 abbrev pub invariant-loop-lane : goal.invariant-loop-lane
 invariant-loop-lane l =

@@ -3,7 +3,7 @@ use Rattle.std.proofs.Common.{◌≡◌, rules}
 use Rattle.rtrb.specs.Ring.{known_items}
 use Rattle.lane_rings.specs.Intakes.{inside}
 use Rattle.lane_rings.proofs.Handing.{none-first, row-filled}
-use Rattle.lane_rings.proofs.intake.Intake.shows.Goals as goal
+use Rattle.lane_rings.proofs.intake.Intake.sees.Goals as goal
 
 pub returns-then-self-clause-some : goal.returns-then-self-clause-some
 returns-then-self-clause-some g c some none =

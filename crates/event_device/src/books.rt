@@ -2,23 +2,12 @@
 
 ghost use Rattle.std.specs.Prelude.{◌≡◌, ◌-◌, [], min, vec_capacity, vec_len};
 ghost use Rattle.std.proofs.Common.{rules};
-ghost use Rattle.event_device.specs.Listed.{turned_all, turned_by};
+ghost use Rattle.event_device.specs.Listed.{turned_all};
 
 use event_answers::Turned;
 use evt_types::Step;
 use std::alloc::Global;
 use step_log::{Memory, StepLog};
-
-/// The NEW that a step turned away.
-#[inline(always)]
-fn turned_in(step: &Step) -> Option<Turned>
-    ensures { result ≡ turned_by step.now }
-{
-    match *step {
-        Step::Turned { lane, event } => Some(Turned { lane, event }),
-        _ => None,
-    }
-}
 
 /// The log of a recorder, and the NEWs that were turned away, which the log need not keep: their payloads are the program's to free.
 #[derive(Drop)]
@@ -60,8 +49,8 @@ impl<L: StepLog> StepLog for Books<L> {
 
     #[inline(always)]
     fn push_step(&mut self, step: Step) {
-        if let Some(turned) = turned_in(&step) {
-            self.turned.push_reserved(turned);
+        if let Step::Turned { lane, event } = step {
+            self.turned.push_reserved(Turned { lane, event });
         }
         self.log.push_step(step);
     }

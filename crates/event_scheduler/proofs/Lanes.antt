@@ -1,9 +1,8 @@
 -- The ends of all lanes where one of them changed.
-use Rattle.std.proofs.Common.{◌≡◌, ◌≢◌, ℕ, ◌+◌, ◌<◌, ◌≤◌, List, [], ◌∷◌, ◌++◌, length, map, set, get_or, ◌⊎◌, inl, inr, refl, sym, ap, ◌∙◌, subst, arith}
+use Rattle.std.proofs.Common.{◌≡◌, ◌≢◌, ℕ, ◌+◌, ◌<◌, ◌≤◌, List, [], length, map, set, get_or, ◌⊎◌, inl, inr, sym, ap, ◌∙◌, subst, arith}
 use Rattle.std.proofs.lemmas.Bool.{cases_eq}
 use Rattle.std.proofs.lemmas.List.{get_or-set_other, get_or-set_same, get_or-map, length-map, map-set}
 use Rattle.std.proofs.Math.Seq.{map-set_same}
-use mathlib.Core.List.{IsPrefix}
 use Rattle.credit_pool.specs.declared.account.Account.{Account}
 use Rattle.credit_pool.specs.declared.pool.Credits.{Credits}
 use Rattle.event_scheduler.specs.Hidden.{NoneHidden}
@@ -15,10 +14,6 @@ use Rattle.lane_rings.specs.Ends.{fetched_replies, hidden_offers, offered, seen_
 use Rattle.lane_rings.specs.Identity.{LaneId, near_id}
 use Rattle.lane_rings.specs.declared.near.Near.{Near}
 use Rattle.transcripts.specs.Standing.{View}
-
-first_none : {X : Type 0} (xs ys : List X) → xs ++ ys ≡ [] → xs ≡ []
-first_none [] ys e = refl
-first_none (x ∷ xs) ys e = absurd (omega (arith, ap length e))
 
 -- a list of each lane, where one lane's end changed: its own is the new end's, the others are as they were
 pub each_lane :
@@ -59,10 +54,6 @@ same_sight pool core lanes v p n i near after is id offers takings seens =
     of_lists ids offers takings seens =
         record { site = record { pool = pool; lanes = ids }; core = core; offered = offers; taken = takings; seen = seens; account = v; pocket = p; accepted_new = n }
 
--- where nothing is seen later nothing was seen before
-pub prefix_none : {X : Type 0} (xs ys : List X) → IsPrefix xs ys → ys ≡ [] → xs ≡ []
-prefix_none xs ys p none = first_none xs p.0 (p.1 ∙ none)
-
 -- what is seen at the lane is its end's, and that of the others is as it was
 pub seen_here : (lanes : List Near) (i : ℕ) (after : Near) → i < length lanes → get_or (map seen_replies (set lanes i after)) i [] ≡ seen_replies after
 seen_here lanes i after within =
@@ -76,10 +67,6 @@ fetched_here lanes i near within is = get_or-map fetched_replies lanes i near []
 pub fetched_now : (lanes : List Near) (i : ℕ) (after : Near) → i < length lanes → fetched_in (set lanes i after) i ≡ fetched_replies after
 fetched_now lanes i after within =
     ap (λ xs. get_or xs i []) (map-set fetched_replies lanes i after) ∙ get_or-set_same (map fetched_replies lanes) i (fetched_replies after) [] (omega (arith, length-map lanes fetched_replies, within))
-
--- where the lane's end is the same, so is what is seen at each lane
-pub same_seen : (lanes : List Near) (i : ℕ) (near : Near) (l : ℕ) → near ≡ get_or lanes i near → get_or (map seen_replies (set lanes i near)) l [] ≡ get_or (map seen_replies lanes) l []
-same_seen lanes i near l is = ap (λ xs. get_or xs l []) (same_lists seen_replies lanes i near near is refl)
 
 pub seen_elsewhere : (lanes : List Near) (i : ℕ) (after : Near) (l : ℕ) → l ≢ i → get_or (map seen_replies (set lanes i after)) l [] ≡ get_or (map seen_replies lanes) l []
 seen_elsewhere lanes i after l other =

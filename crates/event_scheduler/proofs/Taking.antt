@@ -30,7 +30,6 @@ use Rattle.lane_rings.specs.Ends.{offered, seen_replies, taken}
 use Rattle.lane_rings.specs.Identity.{LaneId, near_id}
 use Rattle.lane_rings.specs.declared.near.Near.{Near}
 use Rattle.sched_core.specs.Taken.{took_by, took_of}
-use Rattle.sched_core.specs.declared.take.Took.{Took}
 use Rattle.sched_core.specs.declared.take.Took.TheVariants as tooks
 use Rattle.transcripts.proofs.Replies.{steps_of-out}
 use Rattle.transcripts.specs.Replies.{new_count, said, turned_count}
@@ -141,21 +140,12 @@ room_by ops.ForwardMore v l e n may fits few = omega (arith, fits)
 entered_fits : (v : View) (l : ℕ) (e : Event) (n : ℕ) (T : List Step) → may_take v l e ≡ true → n < 2 ^ 64 → Stands T v → n ≡ new_count T → n + entered_by e.op (took_of v l e) < 2 ^ 64
 entered_fits v l e n T may fits stands is = room_by e.op v l e n may fits (omega (arith, is, new_fits v T stands))
 
--- of what isn't new nothing is turned away, and nothing enters
+-- of what isn't new nothing is turned away
 pub none_turned : (o : Op) (v : View) (l : ℕ) (e : Event) → o ≢ ops.New → turned_by (took_by o v l e) ≡ 0
 none_turned ops.New v l e other = absurd (other refl)
 none_turned ops.Forward v l e other = passed_turns_none _
 none_turned ops.Release v l e other = refl
 none_turned ops.ForwardMore v l e other = passed_turns_none _
-
-pub none_entered : (o : Op) (t : Took) → o ≢ ops.New → entered_by o t ≡ 0
-none_entered ops.New t other = absurd (other refl)
-none_entered ops.Forward t other = refl
-none_entered ops.Release t other = refl
-none_entered ops.ForwardMore t other = refl
-
-pub entered_new : (o : Op) (s t : Took) → o ≡ ops.New → s ≡ t → entered_as s ≡ entered_by o t
-entered_new o s t is same = ap entered_as same ∙ ap (λ x. entered_by x t) (sym is)
 
 -- what a lane has, once some were put behind what it had
 put_here : {X : Type 0} (xss : List (List X)) (l : ℕ) (xs : List X) → l < length xss → get_or (set xss l xs) l [] ≡ xs
@@ -298,10 +288,6 @@ none_by false = refl
 
 none_of : (l m : ℕ) → only l 0 m ≡ 0
 none_of l m = none_by (m == l)
-
--- so many, where that is none
-pub none_more : (l k : ℕ) (s t : Sight) (log longer : List Step) → k ≡ 0 → Takes (only l k) k s log t longer → Takes (only l 0) 0 s log t longer
-none_more l k s t log longer none h = subst (λ j. Takes (only l j) j s log t longer) none h
 
 -- nothing more of a lane was taken
 pub lane_ends : (l n q : ℕ) (s t u : Sight) (log mid longer : List Step) → n ≤ q → Takes (only l n) n s log t mid → Takes (only l 0) 0 t mid u longer → Takes (only l q) n s log u longer

@@ -10,8 +10,8 @@ ghost use Rattle.evt_types.specs.Plan.{lanes_of};
 use crate::scheduler::Scheduler;
 use lane_rings::Near;
 
-/// The first of these lanes, from this one on, of which a reply is fetched, no more than `most` of its replies, or how many lanes there
-/// are where of none is. Mostly a lane has nothing, so that no more is done here than to look.
+/// The first of these lanes, from this one on, of which a reply is fetched, as each is asked by a `fetch` of `most`; or how many lanes
+/// there are, where none has a reply. Mostly a lane has nothing, and then it costs one look.
 #[inline(always)]
 fn first_fetched(lanes: &mut [Near], from: usize, most: usize) -> usize
     requires from { from ≤ length lanes.old }
@@ -34,7 +34,7 @@ fn first_fetched(lanes: &mut [Near], from: usize, most: usize) -> usize
 
 impl Scheduler {
     /// The first lane from this one on that has a reply, or how many lanes there are where none has one. It looks at the rings of
-    /// the lanes up to that one alone, and brings out of its ring no more replies than the sweep quantum.
+    /// the lanes up to that one alone, by a `fetch` of the sweep quantum.
     #[inline(always)]
     pub(crate) fn seek(&mut self, from: usize) -> usize
         requires { from ≤ lanes_of self.old.core.shape }

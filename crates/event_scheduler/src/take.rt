@@ -1,6 +1,6 @@
 //! Replies of the lanes are taken.
 
-ghost use Rattle.std.specs.Prelude.{◌≡◌, ◌≢◌, ℕ, ◌+◌, ◌*◌, ◌%◌, ◌^◌, ◌≤◌, ◌<◌, false, [], ◌∷◌, IsFalse, IsTrue, Some, length, slice_get, take};
+ghost use Rattle.std.specs.Prelude.{◌≡◌, ◌≢◌, ℕ, ◌+◌, ◌*◌, ◌%◌, ◌^◌, ◌≤◌, ◌<◌, false, [], IsFalse, IsTrue, Some, length, slice_get, take};
 ghost use Rattle.event_scheduler.specs.Scheduler.{Sight, seen_at, sight_of};
 ghost use Rattle.event_scheduler.specs.Seeking.{fetched_in};
 ghost use Rattle.event_scheduler.specs.Taking.{MayEnd, Takes, TakesAll, entered_by, only, turned_by, with_core, with_taken};
@@ -63,8 +63,8 @@ fn take_run<L: StepLog>(
 }
 
 impl Scheduler {
-    /// Takes of the lane's replies that were fetched the oldest, no more than `most`, up to the first that may not be taken: how many, and
-    /// whether nothing is left to take, since that one may not be taken or none is seen.
+    /// Takes the oldest of the lane's fetched replies, no more than `most`, up to the first that may not be taken: how many, and whether
+    /// the lane's taking may end there, since that one may not be taken or none is seen.
     #[inline(always)]
     fn take_fetched<L: StepLog>(&mut self, lane: usize, most: usize, log: &mut L) -> (usize, bool)
         requires lane { lane < lanes_of self.old.core.shape }
@@ -91,8 +91,8 @@ impl Scheduler {
         (taken, (taken < count) | !near.sees())
     }
 
-    /// Takes on of a lane of which all that was fetched is taken and more is seen: no more than `most`, until none is seen or one may not
-    /// be taken.
+    /// Goes on taking from a lane of which more is seen than was fetched: no more than `most` replies, until none is seen or one may not be
+    /// taken.
     #[cold]
     fn take_on<L: StepLog>(&mut self, lane: usize, most: usize, log: &mut L) -> usize
         requires lane { lane < lanes_of self.old.core.shape }
@@ -119,7 +119,7 @@ impl Scheduler {
     }
 
     /// Takes replies of the lane, no more than the sweep quantum, until none is seen or one may not be taken. Mostly they were fetched as
-    /// the lane was sought, and no more is seen of it then.
+    /// the lane was sought, and no more is seen then.
     #[inline(always)]
     fn take_lane<L: StepLog>(&mut self, lane: usize, log: &mut L) -> usize
         requires lane { lane < lanes_of self.old.core.shape }

@@ -1,4 +1,4 @@
-//! The reading side of a ring: one look takes out what is there, and what was taken out is handed out one by one.
+//! The reading side of a ring: one look takes out what is there, and what was taken out is handed out one by one or as a row.
 
 ghost use Rattle.std.specs.Prelude.{◌≡◌, ◌<◌, ◌≤◌, ◌-◌, [], ◌++◌, length, take, max};
 ghost use mathlib.Core.List.{IsPrefix};
@@ -42,8 +42,8 @@ impl<T: Copy> Intake<T> {
         })
     }
 
-    /// Where nothing is in the batch, takes at most `most` items out of the ring, by one store; whether something is in the batch
-    /// then. A ring that shows nothing costs one load, and a single item goes without the loops over a row.
+    /// Where nothing is in the batch, takes at most `most` items out of the ring, by one store; where something is, it only looks at the
+    /// ring. Whether something is in the batch then. A ring that shows nothing costs one load, and a single item goes without the loops over a row.
     #[inline(always)]
     #[tactic(auto, using(crate::proofs::Fetching::of_looks))]
     pub(crate) fn look(&mut self, most: usize) -> bool
@@ -58,6 +58,7 @@ impl<T: Copy> Intake<T> {
         ensures short { inside self.old ≡ [] → length (inside self.new) < most → most ≤ consumer_capacity self.old.ring → known_items self.new.ring ≡ [] }
     {
         if self.at != self.end {
+            self.ring.slots();
             return true;
         }
         let there = self.ring.slots();

@@ -79,8 +79,9 @@ impl Near {
         self.deliveries.put_all(deliveries);
     }
 
-    /// Takes at most `most` replies out of the ring, by one store; where some are left that were fetched before, it does nothing.
-    /// Whether one is fetched. Until they are taken one by one, by `take`, they are untaken; the holder may give as many more.
+    /// Takes at most `most` replies out of the ring, by one store; where some are left that were fetched before, it takes none out, and
+    /// only looks at the ring. Whether one is fetched. Until they are taken, by `take` or `pass`, they are untaken; the holder may give as
+    /// many more.
     #[inline(always)]
     pub fn fetch(&mut self, most: usize) -> bool
         ensures lane { near_id self.new ≡ near_id self.old }
@@ -95,7 +96,7 @@ impl Near {
         self.replies.look(most)
     }
 
-    /// Whether a reply is seen that isn't taken, in the ring or out of it, as far as looks have shown: this one looks at no ring.
+    /// Whether a reply is seen that isn't taken, in the ring or out of it, as far as looks have shown. The ring isn't looked at anew.
     #[inline(always)]
     pub fn sees(&self) -> bool
         ensures some { IsTrue result → seen_replies self.now ≢ [] }

@@ -1,7 +1,7 @@
 //! Events are given in a run: one after another of one queue and level, to one lane.
 
 ghost use Rattle.std.specs.Prelude.{◌≡◌, ◌+◌, ◌<◌, ◌≤◌, false, List, ◌++◌, length, slice_index, IfSome};
-ghost use Rattle.evt_types.specs.Plan.{has_flow_lanes, level_of};
+ghost use Rattle.evt_types.specs.Plan.{has_flow_lanes};
 ghost use Rattle.evt_types.specs.declared.shape.TheConstants.{MAX_QUEUES};
 ghost use Rattle.evt_types.specs.declared.step.Step.{Step as StepValue};
 ghost use Rattle.sched_core.specs.Offered.{IsOfferIn, numbered_in, slot_at};

@@ -6,7 +6,7 @@ ghost use Rattle.evt_types.specs.Plan.{lanes_of};
 use crate::asked::{Asked, MAX_HELD};
 use crate::device::{SOURCE, bench_shape};
 use crate::fault::BenchFault;
-use evt_types::{Event, Op, Reply, Step};
+use evt_types::{Event, Op, PackedEvent, Reply, Step};
 use sched_core::{Core, Skips, Took};
 use std::alloc::Global;
 use std::collections::VecDeque;
@@ -47,8 +47,8 @@ fn next(number: u8, last: u8) -> u8 {
 }
 
 /// A new event of the flow for the queue.
-pub fn new_event(flow: u8, queue: u8) -> Event {
-    Event {
+pub fn new_event(flow: u8, queue: u8) -> PackedEvent {
+    PackedEvent::of(&Event {
         flow: u32::from(flow),
         sub_type: 0,
         event_type: 0,
@@ -57,7 +57,7 @@ pub fn new_event(flow: u8, queue: u8) -> Event {
         priority: 128,
         impl_opaque: 0,
         payload: u64::from(flow),
-    }
+    })
 }
 
 impl Run {
@@ -85,7 +85,7 @@ impl Run {
     }
 
     /// The source's new event is taken.
-    pub fn bring(&mut self, event: Event) -> Result<(), BenchFault> {
+    pub fn bring(&mut self, event: PackedEvent) -> Result<(), BenchFault> {
         let reply = Reply { event };
         // To count the lanes makes known that there is one.
         let _ = self.core.shape().lanes();
@@ -113,7 +113,7 @@ impl Run {
             return Err(BenchFault::Stuck);
         };
         let reply = Reply {
-            event: Event::release(),
+            event: PackedEvent::release(),
         };
         if !self.core.takes(lane, &reply) {
             return Err(BenchFault::Stuck);
@@ -134,7 +134,7 @@ impl Run {
         };
         self.log.clear();
         self.core.give(offer, &mut self.log);
-        skips.given(offer.delivery.queue);
+        skips.given(offer.delivery.queue());
         Ok(offer.lane)
     }
 

@@ -64,7 +64,7 @@ impl PlainCore {
         skips: &PlainSkips,
     ) -> Option<PlainOffer> {
         let draft = self.queue(queue)?;
-        let Numbered { number, event } = *waiting;
+        let (number, event) = (waiting.number, waiting.event.unpack());
         (0..self.shape.lanes())
             .map(|lane| PlainOffer {
                 lane,

@@ -2,7 +2,9 @@
 
 use crate::fault::PlainFault;
 use crate::state::PlainCore;
-use evt_types::{Event, MAX_EXTRAS, MAX_FORWARDS, Numbered, Op, Outcome, Source, Step};
+use evt_types::{
+    Event, MAX_EXTRAS, MAX_FORWARDS, Numbered, Op, Outcome, PackedEvent, Source, Step,
+};
 
 /// How many events a core accepts in all.
 const MAX_ENTRIES: u64 = 1 << 63;
@@ -96,6 +98,7 @@ impl PlainCore {
             source,
         })?;
         let levels = self.waiting.get_mut(queue).ok_or(PlainFault::Queue)?;
+        let event = PackedEvent::of(&event);
         levels
             .push(Numbered { number, event })
             .map_err(|_| PlainFault::Room)

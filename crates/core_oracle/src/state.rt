@@ -3,7 +3,7 @@
 ghost use Rattle.std.specs.Prelude.{◌<◌};
 
 use crate::offer::PlainOffer;
-use evt_types::{Delivery, Event, KeptEvent, QueueDraft, Shape, Step};
+use evt_types::{Delivery, Event, KeptEvent, PackedEvent, QueueDraft, Shape, Step};
 use level_queues::Levels;
 use std::alloc::{AllocError, Global};
 
@@ -139,11 +139,7 @@ impl PlainCore {
         let mut list = Vec::new(self.alloc);
         for number in 0..self.accepted_len(queue) {
             if let Some(event) = self.waiting_event(queue, number) {
-                list.push(Delivery {
-                    event,
-                    queue,
-                    number,
-                })?;
+                list.push(Delivery::new(event, number))?;
             }
         }
         Ok(list)
@@ -156,7 +152,7 @@ impl PlainCore {
     }
 
     /// The queue's event of this number, if it waits.
-    fn waiting_event(&self, queue: usize, number: u64) -> Option<Event> {
+    fn waiting_event(&self, queue: usize, number: u64) -> Option<PackedEvent> {
         let levels = self.waiting.get(queue)?;
         for level in 0..LEVELS {
             if let Some(place) = place_of(levels, level, number) {

@@ -1,11 +1,14 @@
 //! The tests, a file for each subject, and what they have in common.
 
-/// An event for the first queue, by its operation, flow, priority and payload.
+/// An event by its operation, flow, priority and payload, for the first queue where none is named.
 macro_rules! event_of {
     ($op:ident, $flow:expr, $priority:expr, $payload:expr) => {
+        event_of!($op, $flow, $priority, $payload, queue: 0)
+    };
+    ($op:ident, $flow:expr, $priority:expr, $payload:expr, queue: $queue:expr) => {
         Event {
             op: Op::$op,
-            queue: 0,
+            queue: $queue,
             flow: $flow,
             priority: $priority,
             payload: $payload,

@@ -5,7 +5,8 @@ use crate::fault::RunFault;
 use crate::moves::{Made, Move};
 use core_oracle::{PlainOffer, PlainTook};
 use evt_types::{
-    Delivery, Event, KeptEvent, MAX_FORWARDS, MAX_LANES, MAX_QUEUES, MAX_SWEEP, Reply, Step,
+    Delivery, Event, KeptEvent, MAX_FORWARDS, MAX_LANES, MAX_QUEUES, MAX_SWEEP, PackedEvent, Reply,
+    Step,
 };
 use sched_core::{Core, Offer, Skips, Took};
 use std::alloc::{AllocError, Global};
@@ -22,16 +23,12 @@ fn plain_took(took: Took) -> PlainTook {
 
 /// What was proposed, in the plain core's words.
 fn plain_offer(offer: Offer) -> PlainOffer {
-    let Delivery {
-        event,
-        queue,
-        number,
-    } = offer.delivery;
+    let delivery = offer.delivery;
     PlainOffer {
         lane: offer.lane,
-        queue,
-        number,
-        event,
+        queue: delivery.queue(),
+        number: delivery.number(),
+        event: delivery.event(),
     }
 }
 
@@ -78,7 +75,9 @@ impl Run {
 
     /// Takes a reply, where it may be taken.
     fn take(&mut self, lane: usize, event: Event) -> Result<Made, RunFault> {
-        let reply = Reply { event };
+        let reply = Reply {
+            event: PackedEvent::of(&event),
+        };
         if lane >= self.core.shape().lanes() || !self.core.takes(lane, &reply) {
             return Ok(Made::Took(None));
         }
@@ -95,7 +94,7 @@ impl Run {
         };
         self.log.reserve(1)?;
         self.core.give(offer, &mut self.log);
-        let queue = offer.delivery.queue;
+        let queue = offer.delivery.queue();
         if queue < MAX_QUEUES && self.skips.has_quota(queue, MAX_SWEEP) {
             self.skips.given(queue);
         }

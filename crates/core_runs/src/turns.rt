@@ -177,8 +177,8 @@ impl Run {
         let count = wanted.len();
         let mut both = waiting.iter().zip(wanted);
         let are_wanted = both.all(|(delivery, (number, packet))| {
-            (delivery.queue, delivery.number) == (queue, *number)
-                && delivery.event == packet.event()
+            (delivery.queue(), delivery.number()) == (queue, *number)
+                && delivery.event() == packet.event()
         });
         Ok(are_wanted && waiting.len() == count && self.waiting_len(queue) == count)
     }

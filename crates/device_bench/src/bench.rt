@@ -9,7 +9,7 @@ use crate::config::bench_shape;
 use crate::fault::BenchFault;
 use arrayvec::ArrayVec;
 use event_device::{Device, Port, StepLog};
-use evt_types::{Delivery, Event};
+use evt_types::{Delivery, PackedEvent};
 use std::alloc::Global;
 
 /// How many events went by.
@@ -30,9 +30,9 @@ pub struct Bench<L: StepLog> {
     source: Port,
     worker: Port,
     /// The events of a burst.
-    events: Vec<Event>,
+    events: Vec<PackedEvent>,
     /// A portion of releases.
-    releases: Vec<Event>,
+    releases: Vec<PackedEvent>,
     /// What the worker dequeued last.
     deliveries: ArrayVec<Delivery, 64>,
     case: Case,
@@ -51,10 +51,10 @@ fn add(count: u64, came: usize, wanted: u64) -> Result<u64, BenchFault>
 }
 
 /// Appends what each delivery is forwarded to the second queue as.
-fn push_forwards(deliveries: &[Delivery], events: &mut Vec<Event>) -> Result<(), BenchFault> {
+fn push_forwards(deliveries: &[Delivery], events: &mut Vec<PackedEvent>) -> Result<(), BenchFault> {
     for delivery in deliveries {
-        let event = delivery.event;
-        events.push(event.forwarded(SECOND, event.payload))?;
+        let event = delivery.packed();
+        events.push(event.forwarded(SECOND, event.payload()))?;
     }
     Ok(())
 }
@@ -67,7 +67,7 @@ impl<L: StepLog> Bench<L> {
     {
         let burst = Burst::new(burst, case.room())?;
         let events = Vec::with_capacity(alloc, burst.length as usize)?;
-        let releases = vec![in alloc; Event::release(); burst.portion as usize]?;
+        let releases = vec![in alloc; PackedEvent::release(); burst.portion as usize]?;
         let shape = bench_shape(alloc, case)?;
         let Ok(mut device) = Device::with_log(alloc, log, shape) else {
             return Err(BenchFault::Device);
@@ -102,7 +102,7 @@ impl<L: StepLog> Bench<L> {
             self.events
                 .push(self.case.event(first.wrapping_add(place)))?;
         }
-        let (taken, _) = self.source.enqueue_burst(&self.events);
+        let (taken, _) = self.source.enqueue_packed(&self.events);
         self.counts.entered = add(first, taken, self.burst.length)?;
         Ok(())
     }
@@ -132,7 +132,7 @@ impl<L: StepLog> Bench<L> {
         self.receive();
         self.events.clear();
         push_forwards(&self.deliveries, &mut self.events)?;
-        let (taken, _) = self.worker.enqueue_burst(&self.events);
+        let (taken, _) = self.worker.enqueue_packed(&self.events);
         add(0, taken, self.burst.portion)?;
         Ok(())
     }
@@ -143,7 +143,7 @@ impl<L: StepLog> Bench<L> {
     {
         self.receive();
         add(0, self.deliveries.len(), self.burst.portion)?;
-        let (taken, _) = self.worker.enqueue_burst(&self.releases);
+        let (taken, _) = self.worker.enqueue_packed(&self.releases);
         self.counts.released = add(self.counts.released, taken, self.burst.portion)?;
         Ok(())
     }

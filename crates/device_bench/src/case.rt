@@ -2,7 +2,7 @@
 
 ghost use Rattle.std.specs.Prelude.{◌≡◌, ◌<◌, ◌≤◌, ◌^◌};
 
-use evt_types::{Event, FLOW_DEPTH, Kind, MAX_DEPTH, MAX_SLOTS, Op, Serving};
+use evt_types::{Event, FLOW_DEPTH, Kind, MAX_DEPTH, MAX_SLOTS, Op, PackedEvent, Serving};
 
 /// The queue that new events enter.
 pub const FIRST: u8 = 0;
@@ -104,8 +104,8 @@ impl Case {
     }
 
     /// The new event of this number.
-    pub fn event(&self, number: u64) -> Event {
-        Event {
+    pub fn event(&self, number: u64) -> PackedEvent {
+        PackedEvent::of(&Event {
             flow: (number % u64::from(self.flows)) as u32,
             sub_type: 0,
             event_type: 0,
@@ -114,6 +114,6 @@ impl Case {
             priority: 128,
             impl_opaque: 0,
             payload: number,
-        }
+        })
     }
 }

@@ -18,7 +18,7 @@ struct Sum {
 impl Handler for Sum {
     fn handle(&mut self, _port: &mut Port, deliveries: &[Delivery]) {
         for delivery in deliveries {
-            self.sum = self.sum.wrapping_add(delivery.event.payload);
+            self.sum = self.sum.wrapping_add(delivery.event().payload);
         }
     }
 }

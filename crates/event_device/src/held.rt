@@ -3,13 +3,12 @@
 ghost use Rattle.std.specs.Prelude.{◌≡◌, ◌+◌, ◌≤◌, [], ◌++◌, length, map, flat_map, sum_by, vec_len, vec_capacity};
 ghost use Rattle.event_device.specs.Held.{held_in, held_entry};
 
-use circular_buffer::HeapCircularBuffer;
 use event_answers::Held;
-use event_ports::{Holding, Rest};
+use event_ports::{HeldRing, Holding, Rest};
 use lane_rings::Far;
 
 /// Lists what a port holds, oldest first.
-fn list_held(port: usize, mut holding: HeapCircularBuffer<Holding>, held: &mut Vec<Held>)
+fn list_held(port: usize, mut holding: HeldRing, held: &mut Vec<Held>)
     requires { vec_len held.old + length holding.items ≤ vec_capacity held.old }
     ensures listed { held.new.items ≡ held.old.items ++ map (held_entry port) holding.items }
     ensures room { vec_capacity held.new ≡ vec_capacity held.old }

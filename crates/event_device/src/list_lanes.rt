@@ -22,9 +22,9 @@ fn list_undelivered(lane: usize, left: &mut Beside, into: &mut Vec<Undelivered>)
     while let Some(delivery) = left.next_undelivered() {
         into.push_reserved(Undelivered {
             lane,
-            queue: delivery.queue,
-            number: delivery.number,
-            event: delivery.event,
+            queue: delivery.queue(),
+            number: delivery.number(),
+            event: delivery.event(),
         });
     }
 }
@@ -33,7 +33,7 @@ fn list_undelivered(lane: usize, left: &mut Beside, into: &mut Vec<Undelivered>)
 fn untaken(lane: usize, reply: Reply) -> Option<Untaken>
     ensures { result ≡ untaken_of lane reply }
 {
-    let event = reply.event;
+    let event = reply.event.unpack();
     match event.op {
         Op::New | Op::Forward | Op::ForwardMore => Some(Untaken { lane, event }),
         Op::Release => None,

@@ -1,6 +1,7 @@
 -- Events as C has them: what an enqueue reads, and what a dequeue writes (rte_eventdev, struct rte_event).
-use Rattle.std.specs.Prelude.{◌≡◌, ℕ, ◌+◌, ◌*◌, ◌%◌, ◌^◌, List, slice_index_or}
-use Rattle.evt_types.specs.Word.{Fits, kind_code, op_code}
+use Rattle.std.specs.Prelude.{◌≡◌, ℕ, ◌+◌, ◌*◌, ◌^◌, List, slice_index_or}
+use Rattle.evt_types.specs.Packed.{spare}
+use Rattle.evt_types.specs.Word.{Fits, word_of}
 use Rattle.evt_types.specs.declared.event.Delivery.{Delivery}
 use Rattle.evt_types.specs.declared.event.Event.{Event}
 use Rattle.evt_types.specs.declared.event.Kind.{Kind}
@@ -8,30 +9,15 @@ use Rattle.evt_types.specs.declared.event.Kind.TheVariants.{Ordered, Parallel}
 use Rattle.evt_types.specs.declared.event.Op.TheVariants as ops
 use Rattle.event_handles.specs.declared.event.CEvent.{CEvent}
 
--- An event with a scheduling type, field by field as it lies in C's memory. Its first 8 bytes are the event's word (src/event.rt,
--- `c_event`, clause `word`).
+-- an event with a scheduling type, as it lies in C's memory: its word, and its payload
 abbrev pub c_event : Event → Kind → CEvent
-c_event e k = record {
-  flow_and_types = e.flow + 2 ^ 20 * (e.sub_type + 2 ^ 8 * e.event_type);
-  op_and_kind = op_code e.op + 2 ^ 6 * kind_code k;
-  queue = e.queue;
-  priority = e.priority;
-  impl_opaque = e.impl_opaque;
-  payload = e.payload;
-}
+c_event e k = record { word = word_of e k; payload = e.payload }
 
--- the first 8 bytes of an event of C as a number, on a little-endian machine
-abbrev pub word_of_c : CEvent → ℕ
-word_of_c c = c.flow_and_types + 2 ^ 32 * (c.op_and_kind + 2 ^ 8 * (c.queue + 2 ^ 8 * (c.priority + 2 ^ 8 * c.impl_opaque)))
-
--- An event of C with 0 for what an enqueue doesn't judge: the reserved bits, and the scheduling type, whose 0 is that of an ordered
--- queue.
-abbrev pub judged : CEvent → CEvent
-judged c = record c { op_and_kind = c.op_and_kind % 2 ^ 2 }
-
--- the event that an enqueue reads: all of it that is judged is as the program set it
+-- The event that an enqueue reads: all of it is as the program set it. The spare bits of the word, the reserved ones and the scheduling
+-- type, aren't judged, and are no event's.
 pub record IsRead (c : CEvent) (e : Event) : Type 0 where
-  pub fields : c_event e Ordered ≡ judged c
+  pub word : c.word ≡ word_of e Ordered + 2 ^ 34 * spare c.word
+  pub payload : e.payload ≡ c.payload
   pub fits : Fits e
 
 -- a delivery as a program gets it: a FORWARD, with the scheduling type of its queue

@@ -24,7 +24,7 @@ use Rattle.event_handles.specs.declared.port.Seat.{Seat}
 
 -- ---- enqueue
 
--- Of these events the first n were taken, and then came the end or a refusal: all that `Port::enqueue_burst` says. The port is still the
+-- Of these events the first n were taken, and then came the end or a refusal: all that `Port::enqueue_packed` says. The port is still the
 -- same one of its device.
 pub record Submits (p : Port) (events : List Event) (n : ℕ) (end : Option Refused) (q : Port) : Type 0 where
   pub own : own_site q ≡ own_site p

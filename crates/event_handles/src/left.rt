@@ -48,7 +48,7 @@ impl Stopped {
             0 => report
                 .waiting
                 .get(handed)
-                .map(|x| left_in(0, kinds, &x.event, x.number, x.queue)),
+                .map(|x| left_in(0, kinds, &x.event(), x.number(), x.queue())),
             1 => report
                 .kept
                 .get(handed)

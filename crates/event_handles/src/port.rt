@@ -8,7 +8,7 @@ use crate::event::{CEvent, read_all, write_all};
 use crate::refusal::number_of_end;
 use arrayvec::ArrayVec;
 use event_ports::{Port, PortCounts};
-use evt_types::{Delivery, Event, Kind, MAX_QUEUES};
+use evt_types::{Delivery, Kind, MAX_QUEUES, PackedEvent};
 
 /// How many events one call enqueues at most.
 const BURST: usize = 64;
@@ -22,7 +22,7 @@ const COUNTS: usize = 11;
 pub struct Seat {
     pub(crate) port: Port,
     pub(crate) kinds: [Kind; MAX_QUEUES],
-    events: [Event; BURST],
+    events: [PackedEvent; BURST],
     deliveries: ArrayVec<Delivery, 64>,
     why: i64,
 }
@@ -65,7 +65,7 @@ impl Seat {
         Seat {
             port,
             kinds,
-            events: [Event::default(); BURST],
+            events: [PackedEvent::default(); BURST],
             deliveries: ArrayVec::new(),
             why: 0,
         }
@@ -76,7 +76,7 @@ impl Seat {
     {
         let count = events.len().min(BURST);
         read_all(&events[..count], &mut self.events);
-        let (taken, end) = self.port.enqueue_burst(&self.events[..count]);
+        let (taken, end) = self.port.enqueue_packed(&self.events[..count]);
         self.why = number_of_end(&end);
         taken as i64
     }

@@ -25,3 +25,4 @@ pub mod Flushes
 pub mod IdleLanes
 pub mod Noting
 pub mod Shown
+pub mod Rings

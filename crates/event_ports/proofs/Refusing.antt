@@ -1,10 +1,11 @@
 -- What a port refuses, and what it costs, where a call before it changed nothing of that.
-use Rattle.std.proofs.Common.{◌≡◌, ℕ, zero, suc, ◌+◌, ◌<◌, Bool, true, false, inl, inr, [], ◌∷◌, ◌++◌, drop, Option, Some, None, Result, Ok, Err, IfErr, OnOk, MatchResult, sym, ap, ◌∙◌, subst, arith}
+use Rattle.std.proofs.Common.{◌≡◌, ℕ, zero, suc, ◌+◌, ◌<◌, Bool, true, false, inl, inr, [], ◌∷◌, ◌++◌, drop, Option, Some, None, Result, Ok, Err, IfErr, OnOk, MatchResult, refl, sym, ap, ◌∙◌, subst, arith}
+use Rattle.std.proofs.lemmas.Bool.{false≢true}
 use Rattle.evt_types.specs.declared.event.Event.{Event}
 use Rattle.evt_types.specs.declared.event.Op.{Op}
 use Rattle.evt_types.specs.declared.event.Op.TheVariants as ops
 use Rattle.evt_types.specs.declared.event.Reply.{Reply}
-use Rattle.evt_types.specs.Operation.{costs_credit}
+use Rattle.evt_types.specs.Operation.{costs_credit, is_new_op}
 use Rattle.lane_rings.specs.Ends.{answers_among}
 use Rattle.event_answers.specs.declared.answer.Refused.{Refused}
 use Rattle.event_answers.specs.declared.answer.Refused.TheVariants.{Stopped, BadQueue, NothingHeld, Backpressure, Raced, Full, TooMany}
@@ -17,6 +18,13 @@ use Rattle.credit_pool.specs.declared.answer.Draw.TheVariants as draws
 use Rattle.credit_pool.specs.Accounts.{IsOpen}
 use Rattle.event_ports.specs.Draws.{FillsWithin, HasLooked, most_draws}
 use Rattle.event_ports.specs.Desks.{DeskSite, own_site, account_of, pocket_of, AsksPool, MaySpend, MaySpendMore, Pays, SameCredits, SpendsNone, Stocks, Refuses}
+
+-- the operation of a NEW, told by a test
+pub new_told : (o : Op) → is_new_op o ≡ true → o ≡ ops.New
+new_told ops.New e = refl
+new_told ops.Forward e = absurd (false≢true e)
+new_told ops.Release e = absurd (false≢true e)
+new_told ops.ForwardMore e = absurd (false≢true e)
 
 pub rests_then : (lane : Lane) (r : Reply) (h k m : Hand) → Rests h k → Submits lane r k m → Submits lane r h m
 rests_then lane r h k m a b = record {

@@ -1,3 +1,5 @@
+pub mod HeldRings
+pub mod Ring
 pub mod Holds
 pub mod Flows
 pub mod Lanes

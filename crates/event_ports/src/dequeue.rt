@@ -10,11 +10,29 @@ ghost use Rattle.event_ports.specs.Handed.{AllShown, OwnFirst};
 use crate::desk::Desk;
 use arrayvec::ArrayVec;
 use event_answers::{Behind, Refused};
-use evt_types::{Delivery, Event};
+use evt_types::{Delivery, Event, PackedEvent};
 
 impl Desk {
     // Enqueues the events, which the scheduler sees after the next `flush`.
     pub(crate) fn submit_burst(&mut self, events: &[Event]) -> (usize, Option<Refused>)
+        ensures site { own_site self.new ≡ own_site self.old }
+        ensures credit { Stays (account_of self.old) (account_of self.new) }
+        ensures count { result.0 ≤ length events.now }
+        ensures all { IsNone result.1 ↔ (result.0 ≡ length events.now) }
+        ensures submitted { SubmitsAll (take result.0 events.now) (hand self.old) (hand self.new) }
+        ensures refused { IfSome result.1 (λ e. StopsAt self.old events.now result.0 e self.new) }
+        ensures chain { Gathers self.old events.now result.0 result.1 self.new }
+    {
+        for (taken, event) in events.iter().enumerate() {
+            if let Err(refused) = self.submit(&PackedEvent::of(event)) {
+                return (taken, Some(refused));
+            }
+        }
+        (events.len(), None)
+    }
+
+    // The same of packed events.
+    pub(crate) fn submit_packed(&mut self, events: &[PackedEvent]) -> (usize, Option<Refused>)
         ensures site { own_site self.new ≡ own_site self.old }
         ensures credit { Stays (account_of self.old) (account_of self.new) }
         ensures count { result.0 ≤ length events.now }
@@ -74,7 +92,7 @@ impl Desk {
         let _pocket = self.pocket;
         let held = self.lanes.held();
         for released in 0..held {
-            if let Err(_) = self.lanes.answer(&Event::release()) {
+            if let Err(_) = self.lanes.answer(&PackedEvent::release()) {
                 self.flush();
                 return Err(Behind { released });
             }

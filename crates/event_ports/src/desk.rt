@@ -12,7 +12,7 @@ use crate::fill::{DRAWS, fill};
 use crate::lanes::Lanes;
 use credit_pool::{CreditSeat, Credits, Draw, Give};
 use event_answers::Refused;
-use evt_types::{Event, MAX_EXTRAS, Op};
+use evt_types::{MAX_EXTRAS, Op, PackedEvent};
 use lane_rings::Refusal;
 use std::alloc::Global;
 use std::sync::Arc;
@@ -64,7 +64,7 @@ impl Desk {
 
     // Enqueues an event, which the scheduler sees after the next `flush`.
     #[inline(always)]
-    pub(crate) fn submit(&mut self, event: &Event) -> Result<(), Refused>
+    pub(crate) fn submit(&mut self, event: &PackedEvent) -> Result<(), Refused>
         ensures site { own_site self.new ≡ own_site self.old }
         ensures credit { Stays (account_of self.old) (account_of self.new) }
         ensures submitted { MatchResult result (λ _. SubmitsTo (lane_for event.now.op (hand self.old).holding) (reply_of event.now) (hand self.old) (hand self.new)) (λ _. Rests (hand self.old) (hand self.new)) }
@@ -72,18 +72,18 @@ impl Desk {
         ensures refused { IfErr result (λ e. Refuses self.old event.now e self.new) }
         ensures stopped { IsTrue (account_of self.old).saw_shut → event.now.op ≡ ops.New → result ≡ Err refusals.Stopped }
     {
-        match event.op {
-            Op::New => {
-                if self.shut_seen() {
-                    return Err(Refused::Stopped);
-                }
-                if usize::from(event.queue) >= self.queues {
-                    return Err(Refused::BadQueue);
-                }
-                self.spend(event)
+        if event.is_new() {
+            if self.shut_seen() {
+                return Err(Refused::Stopped);
             }
+            if usize::from(event.queue()) >= self.queues {
+                return Err(Refused::BadQueue);
+            }
+            return self.spend(event);
+        }
+        match event.op() {
             Op::Forward => {
-                if usize::from(event.queue) >= self.queues {
+                if usize::from(event.queue()) >= self.queues {
                     return Err(Refused::BadQueue);
                 }
                 match self.lanes.answer(event) {
@@ -99,7 +99,7 @@ impl Desk {
                 }
                 Err(refusal) => Err(refused_by(refusal)),
             },
-            Op::ForwardMore => self.enqueue_more(event),
+            Op::New | Op::ForwardMore => self.enqueue_more(event),
         }
     }
 
@@ -141,7 +141,7 @@ impl Desk {
 
     // Submits a NEW or FORWARD_MORE for a credit of the pocket, into which a quantum is drawn first where it is empty.
     #[inline(always)]
-    fn spend(&mut self, event: &Event) -> Result<(), Refused>
+    fn spend(&mut self, event: &PackedEvent) -> Result<(), Refused>
         requires costs { costs_credit event.now.op ≡ true }
         requires takes { event.now.op ≡ ops.ForwardMore → TakesMore (hand self.old) }
         ensures site { own_site self.new ≡ own_site self.old }
@@ -161,7 +161,7 @@ impl Desk {
     }
 
     // The credit is there before the event is submitted, and is drawn only where the event may be added.
-    fn enqueue_more(&mut self, event: &Event) -> Result<(), Refused>
+    fn enqueue_more(&mut self, event: &PackedEvent) -> Result<(), Refused>
         requires { event.now.op ≡ ops.ForwardMore }
         ensures site { own_site self.new ≡ own_site self.old }
         ensures credit { Stays (account_of self.old) (account_of self.new) }
@@ -169,7 +169,7 @@ impl Desk {
         ensures pays { OnOk result (Pays event.now.op self.old self.new) }
         ensures refused { IfErr result (λ e. Refuses self.old event.now e self.new) }
     {
-        if usize::from(event.queue) >= self.queues {
+        if usize::from(event.queue()) >= self.queues {
             return Err(Refused::BadQueue);
         }
         let Some(extras) = self.lanes.extras() else {

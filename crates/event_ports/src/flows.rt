@@ -4,7 +4,7 @@ ghost use Rattle.std.specs.Arc.{arc_value};
 ghost use Rattle.event_ports.specs.Holds.{AreFlows, AreShown};
 
 use arrayvec::ArrayVec;
-use evt_types::{Delivery, Event};
+use evt_types::{Delivery, PackedEvent};
 use flow_claims::{Claim, ClaimSeat, Claims, Stint};
 use lane_rings::{Hints, LaneSet, Refusal};
 use std::alloc::{AllocError, Global};
@@ -174,7 +174,7 @@ impl FlowLanes {
     }
 
     /// Answers the oldest delivery that is held of the lane, or adds an event beside it. The scheduler sees it after the next `flush`.
-    pub(crate) fn answer(&mut self, lane: usize, event: &Event) -> Result<(), Refusal>
+    pub(crate) fn answer(&mut self, lane: usize, event: &PackedEvent) -> Result<(), Refusal>
         requires exists { lane < length (lanes_of (flow_site self.old).claims) }
         requires held { held_on (hands_of self.old) lane ≢ [] }
         requires few { is_more_reply (reply_of event.now) ≡ true → extras_on (hands_of self.old) lane < MAX_EXTRAS }

@@ -1,17 +1,17 @@
 //! All lanes of a port, and the order in which it dequeued from them.
 
-ghost use Rattle.std.specs.Prelude.{◌≡◌, ◌≤◌, ◌+◌, ℕ, [], ◌++◌, false, drop, length, map};
+ghost use Rattle.std.specs.Prelude.{◌≡◌, ◌≤◌, ℕ, [], false};
 ghost use Rattle.std.specs.Option.{is_some};
 ghost use Rattle.lane_rings.specs.Identity.{far_id};
 ghost use Rattle.event_ports.specs.Holds.{AddedAll, HaveNoNew, GaveBack, held_on, stint_in};
-ghost use Rattle.event_ports.specs.Lanes.{AreOrdered, holding_of};
+ghost use Rattle.event_ports.specs.Lanes.{AreOrdered};
 ghost use Rattle.event_ports.specs.Flows.{hands_of};
 
 use crate::flows::FlowLanes;
-use crate::lane::{Holding, Lane};
+use crate::held_ring::HeldRing;
+use crate::lane::Lane;
 use arrayvec::ArrayVec;
-use circular_buffer::HeapCircularBuffer;
-use evt_types::{Delivery, Event, Op};
+use evt_types::{Delivery, Op, PackedEvent};
 use flow_claims::ClaimSeat;
 use lane_rings::{Far, Refusal};
 
@@ -21,7 +21,7 @@ use lane_rings::{Far, Refusal};
 pub(crate) struct Lanes {
     own: Far,
     flows: FlowLanes,
-    order: HeapCircularBuffer<Holding>,
+    order: HeldRing,
     ghost depth: { (order.capacity ≡ (far_id own).depth) × (order.capacity ≤ 64) },
     ghost ordered: { AreOrdered own (hands_of flows) order.items },
     ghost gave_back: { GaveBack (hands_of flows) },
@@ -36,7 +36,7 @@ impl Lanes {
     ghost use Rattle.evt_types.specs.Operation.{costs_credit, is_answer, is_more_reply, is_new_reply};
     ghost use Rattle.evt_types.specs.declared.event.Op.TheVariants as ops;
     ghost use Rattle.evt_types.specs.declared.event.TheConstants.{MAX_EXTRAS};
-    ghost use Rattle.event_ports.specs.Lanes.{Rests, Submits, SubmitsTo, Arrives, ArrivesFrom, HasRoomFor, IsEmptyHand, IsEndOf, AreOf, TakesMore, extras_in, first_lane, lane_for, held_of, holding_of, pair_in, reply_of};
+    ghost use Rattle.event_ports.specs.Lanes.{Rests, Submits, SubmitsTo, Arrives, ArrivesFrom, HasRoomFor, IsEmptyHand, IsEndOf, AreOf, TakesMore, extras_in, first_lane, lane_for, held_of, pair_in, reply_of};
     ghost use Rattle.event_ports.specs.Handed.{IsReadable, lanes_site, flow_count, links_of, seen_own, hand_of, mores_of, news_of, releases_of, CountsOne, CountsNone, IsFilled, RefusesOldest, AllShown, OwnFirst};
     ghost use Rattle.lane_rings.specs.Ends.{received_by, answered, hidden_answers, held_list};
     ghost use Rattle.evt_types.specs.declared.event.Op.{Op};
@@ -48,7 +48,7 @@ impl Lanes {
     ghost use Rattle.event_ports.specs.declared.lane.Lane.TheVariants as lanes;
 
     /// The lanes of a port that received and answered nothing, and whose order has the room of its own lane's depth.
-    pub(crate) fn new(own: Far, flows: FlowLanes, order: HeapCircularBuffer<Holding>) -> Lanes
+    pub(crate) fn new(own: Far, flows: FlowLanes, order: HeldRing) -> Lanes
         requires own { IsUnused own }
         requires flows { AreEmpty (hands_of flows) × NoneHidden (hands_of flows) }
         requires order { (order.items ≡ []) × (order.capacity ≡ (far_id own).depth) × (order.capacity ≤ 64) }
@@ -89,7 +89,7 @@ impl Lanes {
     /// Submits what costs a credit: a NEW to the port's own lane, and an event that is added beside the oldest delivery that is held to
     /// the lane from which that came. The scheduler sees it after the next `flush`.
     #[inline(always)]
-    pub(crate) fn submit(&mut self, event: &Event) -> Result<(), Refusal>
+    pub(crate) fn submit(&mut self, event: &PackedEvent) -> Result<(), Refusal>
         requires costs { costs_credit event.now.op ≡ true }
         requires takes { event.now.op ≡ ops.ForwardMore → TakesMore (hand_of self.old) }
         ensures site { lanes_site self.new ≡ lanes_site self.old }
@@ -97,14 +97,14 @@ impl Lanes {
         ensures counts { MatchResult result (λ _. CountsOne (reply_of event.now) self.old self.new) (λ _. CountsNone self.old self.new) }
         ensures refused { IfErr result (λ e. (e ≡ Refusal.Full) × IsFilled self.new (lane_for event.now.op (hand_of self.new).holding)) }
     {
-        match event.op {
+        match event.op() {
             Op::New => self.own.stage(event),
             _ => self.add(event),
         }
     }
 
     // Adds an event beside the oldest delivery that is held.
-    fn add(&mut self, event: &Event) -> Result<(), Refusal>
+    fn add(&mut self, event: &PackedEvent) -> Result<(), Refusal>
         requires more { is_more_reply (reply_of event.now) ≡ true }
         requires takes { TakesMore (hand_of self.old) }
         ensures site { lanes_site self.new ≡ lanes_site self.old }
@@ -123,7 +123,7 @@ impl Lanes {
 
     /// Answers the oldest delivery that is held, to the lane from which it came. The scheduler sees it after the next `flush`.
     #[inline(always)]
-    pub(crate) fn answer(&mut self, event: &Event) -> Result<(), Refusal>
+    pub(crate) fn answer(&mut self, event: &PackedEvent) -> Result<(), Refusal>
         requires { is_answer (reply_of event.now) ≡ true }
         ensures site { lanes_site self.new ≡ lanes_site self.old }
         ensures submitted { MatchResult result (λ _. SubmitsTo (first_lane (hand_of self.old).holding) (reply_of event.now) (hand_of self.old) (hand_of self.new)) (λ _. Rests (hand_of self.old) (hand_of self.new)) }
@@ -136,14 +136,14 @@ impl Lanes {
         match lane {
             Lane::Own => match self.own.stage(event) {
                 Ok(()) => {
-                    self.order.pop_front();
+                    self.order.drop_front();
                     Ok(())
                 }
                 Err(fault) => Err(fault),
             },
             Lane::Flow(lane) => match self.flows.answer(lane, event) {
                 Ok(()) => {
-                    self.order.pop_front();
+                    self.order.drop_front();
                     self.flows.leave(lane);
                     Ok(())
                 }
@@ -167,7 +167,7 @@ impl Lanes {
     {
         let most = max.min(self.order.capacity() - self.order.len());
         self.own.receive_some(most, into);
-        note(&mut self.order, Lane::Own, 0, into);
+        self.order.note(Lane::Own, 0, into);
         self.receive_flows(most, into);
     }
 
@@ -183,7 +183,7 @@ impl Lanes {
     }
 
     /// The own end, the port's claim seat once all its flow lanes were surrendered, and what is held.
-    pub(crate) fn into_parts(self) -> (Far, ClaimSeat, HeapCircularBuffer<Holding>)
+    pub(crate) fn into_parts(self) -> (Far, ClaimSeat, HeldRing)
         requires { AllShown self }
         ensures shown { hidden_answers result.0 ≡ [] }
         ensures own { (far_id result.0 ≡ (lanes_site self).own) × (received_by result.0 ≡ (hand_of self).got lanes.Own) × (answered result.0 ≡ (hand_of self).said lanes.Own) }
@@ -244,31 +244,7 @@ impl Lanes {
         }
         let from = into.len();
         self.flows.receive_some(lane, most, into);
-        note(&mut self.order, Lane::Flow(lane), from, into);
+        self.order.note(Lane::Flow(lane), from, into);
         self.flows.leave(lane);
-    }
-}
-
-// Notes the deliveries from this position on, which came from the lane, as held.
-fn note(
-    order: &mut HeapCircularBuffer<Holding>,
-    lane: Lane,
-    from: usize,
-    deliveries: &ArrayVec<Delivery, 64>,
-)
-    requires { length order.old.items + length (drop from deliveries.now.items) ≤ order.old.capacity }
-    ensures noted { order.new.items ≡ order.old.items ++ map (holding_of lane) (drop from deliveries.now.items) }
-    ensures room { order.new.capacity ≡ order.old.capacity }
-{
-    for position in from..deliveries.len() {
-        let delivery = &deliveries[position];
-        let holding = Holding {
-            lane,
-            queue: delivery.queue,
-            number: delivery.number,
-        };
-        let Ok(()) = order.try_push_back(holding) else {
-            unreachable!()
-        };
     }
 }

@@ -21,10 +21,10 @@ ghost use Rattle.event_ports.specs.Parts.{FitTogether, AreFresh, own_site_by};
 use crate::counts::PortCounts;
 use crate::desk::Desk;
 use crate::flows::{FlowLanes, free_entries};
+use crate::held_ring::HeldRing;
 use crate::lanes::Lanes;
 use crate::port::Port;
 use crate::rest::Left;
-use circular_buffer::HeapCircularBuffer;
 use credit_pool::{CreditSeat, Credits};
 use evt_types::Memory;
 use flow_claims::{ClaimSeat, Claims};
@@ -72,7 +72,7 @@ impl Port {
         let Ok(stints) = free_entries(alloc, parts.flows) else {
             return Err((AllocError, parts));
         };
-        let Ok(order) = HeapCircularBuffer::with_capacity(alloc, parts.depth) else {
+        let Ok(order) = HeldRing::new(alloc, parts.depth) else {
             return Err((AllocError, parts));
         };
         let Parts {

@@ -10,7 +10,7 @@ use crate::counts::PortCounts;
 use crate::desk::Desk;
 use arrayvec::ArrayVec;
 use event_answers::{Behind, Refused};
-use evt_types::{Delivery, Event};
+use evt_types::{Delivery, Event, PackedEvent};
 
 /// A port of a device: the way of one thread into it and out of it. Between two of its calls all that it enqueued is in the reply
 /// rings, where the scheduler sees it, and it holds just those flow lanes of which it holds something.
@@ -84,7 +84,8 @@ impl Port {
         ensures stopped { IsTrue (account_of self.old).saw_shut → event.op ≡ ops.New → result ≡ Err refusals.Stopped }
         ensures counted { counts_of self.new ≡ after_enqueue result (counts_of self.old) }
     {
-        let answer = self.desk.submit(&event);
+        let packed = PackedEvent::of(&event);
+        let answer = self.desk.submit(&packed);
         self.desk.flush();
         self.counts.enqueue(&answer);
         answer
@@ -169,6 +170,24 @@ impl Port {
         ensures taken { (counts_of self.new).enqueued ≡ plus (counts_of self.old).enqueued result.0 }
     {
         let answer = self.desk.submit_burst(events);
+        self.desk.flush();
+        self.counts.enqueue_burst(answer.0, &answer.1);
+        answer
+    }
+
+    /// The same of packed events, as they come out of a dequeue: each is copied to where it is gathered, and nowhere before.
+    pub fn enqueue_packed(&mut self, events: &[PackedEvent]) -> (usize, Option<Refused>)
+        ensures site { own_site self.new ≡ own_site self.old }
+        ensures credit { Stays (account_of self.old) (account_of self.new) }
+        ensures count { result.0 ≤ length events.now }
+        ensures all { IsNone result.1 ↔ (result.0 ≡ length events.now) }
+        ensures submitted { SubmitsAll (take result.0 events.now) (hand self.old) (hand self.new) }
+        ensures refused { IfSome result.1 (λ e. StopsAt self.old events.now result.0 e self.new) }
+        ensures singly { Bursts self.old events.now result.0 result.1 self.new }
+        ensures counted { counts_of self.new ≡ after_burst result.0 result.1 (counts_of self.old) }
+        ensures taken { (counts_of self.new).enqueued ≡ plus (counts_of self.old).enqueued result.0 }
+    {
+        let answer = self.desk.submit_packed(events);
         self.desk.flush();
         self.counts.enqueue_burst(answer.0, &answer.1);
         answer

@@ -3,8 +3,7 @@
 ghost use Rattle.std.specs.Prelude.{◌≡◌, []};
 ghost use Rattle.lane_rings.specs.Ends.{hidden_answers};
 
-use crate::lane::Holding;
-use circular_buffer::HeapCircularBuffer;
+use crate::held_ring::HeldRing;
 use credit_pool::CreditSeat;
 use flow_claims::ClaimSeat;
 use lane_rings::Far;
@@ -17,7 +16,7 @@ pub struct Left {
     /// The end of the own lane.
     pub own: Far,
     /// What is held, in the order of the dequeues.
-    pub held: HeapCircularBuffer<Holding>,
+    pub held: HeldRing,
     pub pocket: u64,
     pub ghost shown: { hidden_answers own ≡ [] },
 }
@@ -30,7 +29,7 @@ pub struct Rest {
     /// The end of the own lane.
     pub own: Far,
     /// What is held, in the order of the dequeues.
-    pub held: HeapCircularBuffer<Holding>,
+    pub held: HeldRing,
     pub pocket: u64,
     pub ghost shown: { hidden_answers own ≡ [] },
 }

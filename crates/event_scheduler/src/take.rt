@@ -1,31 +1,47 @@
 //! Replies of the lanes are taken.
 
-ghost use Rattle.std.specs.Prelude.{◌≡◌, ◌≢◌, ℕ, ◌+◌, ◌*◌, ◌%◌, ◌^◌, ◌≤◌, ◌<◌, false, [], IsFalse, IsTrue, Some, length, slice_get, take};
+ghost use Rattle.std.specs.Prelude.{◌≡◌, ◌≢◌, ℕ, ◌+◌, ◌*◌, ◌%◌, ◌^◌, ◌≤◌, ◌<◌, false, true, List, [], ◌++◌, IsFalse, IsTrue, Some, length, slice_get, take};
 ghost use Rattle.event_scheduler.specs.Scheduler.{Sight, seen_at, sight_of};
 ghost use Rattle.event_scheduler.specs.Seeking.{fetched_in};
 ghost use Rattle.event_scheduler.specs.Taking.{MayEnd, Takes, TakesAll, entered_by, only, turned_by, with_core, with_taken};
-ghost use Rattle.evt_types.specs.declared.event.Op.TheVariants as ops;
 ghost use Rattle.evt_types.specs.declared.event.Reply.{Reply as ReplyValue};
 ghost use Rattle.evt_types.specs.Plan.{lanes_of};
-ghost use Rattle.transcripts.specs.Standing.{kept_in, may_take};
+ghost use Rattle.evt_types.specs.declared.step.Step.{Step as StepValue};
+ghost use Rattle.sched_core.specs.Taken.{took_of};
+ghost use Rattle.transcripts.specs.Standing.{Stands, after, kept_in, may_take, steps_of};
 
 use crate::scheduler::Scheduler;
-use evt_types::{Op, Reply};
+use evt_types::Reply;
 use sched_core::{Core, Took};
 use step_log::StepLog;
 
-/// Counts what became of a reply with this operation: a NEW that was accepted, or turned away, which leaves its credit to the scheduler.
+/// Takes the lane's reply, and counts what became of a NEW: it was accepted, or turned away, which leaves its credit to the scheduler.
 #[inline(always)]
-fn count(pocket: &mut u64, accepted_new: &mut u64, op: Op, took: Took)
-    requires none { op ≢ ops.New → turned_by took ≡ 0 }
-    ensures pocket { pocket.new ≡ (pocket.old + turned_by took) % 2 ^ 64 }
-    ensures accepted { accepted_new.new ≡ (accepted_new.old + entered_by op took) % 2 ^ 64 }
+fn take_one<L: StepLog>(
+    core: &mut Core,
+    pocket: &mut u64,
+    accepted_new: &mut u64,
+    lane: usize,
+    reply: &Reply,
+    log: &mut L,
+)
+    requires lane { lane < lanes_of core.old.shape }
+    requires takes { may_take core.old lane reply.now.event ≡ true }
+    requires room { length (steps_of core.old lane reply.now.event) ≤ L.room log.old }
+    ensures view { core.new ≡ after core.old (steps_of core.old lane reply.now.event) }
+    ensures logged { L.steps log.new ≡ L.steps log.old ++ steps_of core.old lane reply.now.event }
+    ensures stands { (T : List StepValue) → Stands T core.old → Stands (T ++ steps_of core.old lane reply.now.event) core.new }
+    ensures pocket { pocket.new ≡ (pocket.old + turned_by (took_of core.old lane reply.now.event)) % 2 ^ 64 }
+    ensures accepted { accepted_new.new ≡ (accepted_new.old + entered_by reply.now.event.op (took_of core.old lane reply.now.event)) % 2 ^ 64 }
+    ensures shape { core.new.shape ≡ core.old.shape }
+    ensures room { L.room log.old ≤ L.room log.new + length (steps_of core.old lane reply.now.event) }
 {
     let (credits, count) = (*pocket, *accepted_new);
-    if op != Op::New {
+    if !reply.event.is_new() {
+        let _ = core.take_from(lane, reply, log);
         return;
     }
-    match took {
+    match core.take_from(lane, reply, log) {
         Took::Turned => *pocket = credits.wrapping_add(1),
         Took::Accepted => *accepted_new = count.wrapping_add(1),
         Took::Kept | Took::Released => {}
@@ -56,8 +72,7 @@ fn take_run<L: StepLog>(
         if !core.takes(lane, reply) {
             return taken;
         }
-        let took = core.take_from(lane, reply, log);
-        count(pocket, accepted_new, reply.event.op, took);
+        take_one(core, pocket, accepted_new, lane, reply, log);
     }
     replies.len()
 }

@@ -1,8 +1,8 @@
 -- The flow lanes of a configuration: how many there are, and what the depth and the replies of a lane are.
-use Rattle.std.proofs.Common.{◌≡◌, ℕ, ◌+◌, ◌-◌, ◌*◌, ◌<◌, ◌≤◌, Bool, true, false, not, ◌&&◌, ◌==◌, cond, List, [], ◌∷◌, ◌++◌, length, get_or, slice_get, Option, Some, None, if◌then◌else◌, nat_lt, refl, sym, ap, ◌∙◌, subst, arith, lit≤, ◌⊎◌, inl, inr}
+use Rattle.std.proofs.Common.{◌≡◌, ℕ, ◌+◌, ◌-◌, ◌*◌, ◌<◌, ◌≤◌, Bool, true, false, not, ◌&&◌, ◌==◌, cond, List, [], ◌∷◌, ◌++◌, length, get_or, Some, if◌then◌else◌, refl, sym, ap, ◌∙◌, subst, arith, lit≤, ◌⊎◌, inl, inr}
 use Rattle.std.proofs.lemmas.Bool.{cases_lt, lt-ltb, le-ltb}
 use Rattle.std.proofs.lemmas.List.{append-nil, get_or_default}
-use Rattle.std.specs.List.{range_with_len, sum_by, flat_map, filter, All}
+use Rattle.std.specs.List.{range_with_len, sum_by, flat_map, filter}
 use Rattle.std.proofs.lemmas.List.Concat.{length-flat_map}
 use Rattle.std.proofs.lemmas.Option.{slice_get-get_or}
 use Rattle.std.proofs.lemmas.List.FromFn.{length-map-range_with_len, map-range_with_len_more}
@@ -10,7 +10,7 @@ use Rattle.lists.proofs.Ranges.{filter_range_more, flat_map_range_more}
 use Rattle.lists.proofs.Sums.{sum_agree, sum_by_place}
 use Rattle.lists.specs.Lists.{has}
 use Rattle.evt_types.specs.Fault.{IsBetween, IsWithinLimits}
-use Rattle.evt_types.specs.Plan.{Plan, PortPlan, atomic_slots, slot_lanes, lanes_at, lanes_by_slot, flow_lanes, lanes_of, flow_at, depth_of, replies_of, port_of, queue_in, is_flows, is_linked_flow, is_lane_of, has_flow_lanes, linked_places, serves, flow_depth, bound_of}
+use Rattle.evt_types.specs.Plan.{Plan, PortPlan, atomic_slots, slot_lanes, lanes_at, lanes_by_slot, flow_lanes, lanes_of, flow_at, depth_of, replies_of, port_of, queue_in, is_flows, is_lane_of, has_flow_lanes, serves, flow_depth, bound_of}
 use Rattle.evt_types.specs.declared.draft.Serving.TheVariants.{Ports}
 use Rattle.evt_types.specs.declared.draft.QueueDraft.{QueueDraft}
 use Rattle.evt_types.specs.declared.event.Kind.TheVariants.{Parallel}

@@ -1,7 +1,10 @@
 pub mod Additions
+pub mod Delivered
+pub mod Deliveries
 pub mod Event
 pub mod Fault
 pub mod Operation
+pub mod Packed
 pub mod Place
 pub mod Plan
 pub mod Shape

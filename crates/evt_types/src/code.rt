@@ -6,7 +6,8 @@ ghost use Rattle.evt_types.specs.Word as words;
 use crate::event::{Kind, Op};
 
 /// The code of an operation.
-pub(crate) fn op_code(op: Op) -> u64
+#[inline(always)]
+pub(crate) fn op_code(op: Op) -> u8
     ensures value { result ≡ words.op_code op }
     ensures small { result < 4 }
 {
@@ -19,7 +20,8 @@ pub(crate) fn op_code(op: Op) -> u64
 }
 
 /// The code of a scheduling type.
-pub(crate) fn kind_code(kind: Kind) -> u64
+#[inline(always)]
+pub(crate) fn kind_code(kind: Kind) -> u8
     ensures value { result ≡ words.kind_code kind }
     ensures small { result < 3 }
 {

@@ -3,6 +3,8 @@
 ghost use Rattle.std.specs.Prelude.{◌≡◌, ℕ, ◌<◌, ◌^◌};
 
 use crate::code::{kind_code, op_code};
+use crate::packed::PackedEvent;
+use std::marker::Model;
 use thiserror::Error;
 
 /// How many flows there are.
@@ -14,7 +16,7 @@ pub const MAX_EXTRAS: usize = 4;
 /// How many events an event may be passed on as: those that were added beside it, and its FORWARD.
 pub const MAX_FORWARDS: usize = MAX_EXTRAS + 1;
 /// How many priorities a level has.
-const LEVEL_PRIORITIES: u8 = 64;
+pub(crate) const LEVEL_PRIORITIES: u8 = 64;
 
 /// What a port asks of the device with an event.
 #[derive(Clone, Copy, Debug, PartialEq, Eq, Default)]
@@ -160,13 +162,14 @@ impl Event {
     }
 
     /// The event and its queue's scheduling type in 64 bits.
+    #[inline(always)]
     pub fn word(&self, kind: Kind) -> u64
         ensures { result ≡ word_of self.now kind }
     {
         let (flow, sub_type, event_type) = (self.flow, self.sub_type, self.event_type);
         let (queue, priority, impl_opaque) = (self.queue, self.priority, self.impl_opaque);
-        let op = op_code(self.op);
-        let kind = kind_code(kind);
+        let op = u64::from(op_code(self.op));
+        let kind = u64::from(kind_code(kind));
         u64::from(flow)
             + (u64::from(sub_type) << 20)
             + (u64::from(event_type) << 28)
@@ -199,25 +202,80 @@ impl Default for Event {
 }
 
 /// An event of a queue on its way to a port: its number counts the events that the queue accepted, from 0. While it is held it is
-/// known by the pair of both.
+/// known by the pair of queue and number. The queue is the one that the event names, so that 24 bytes are enough.
 #[derive(Clone, Copy, Debug, PartialEq, Eq, Default)]
 pub struct Delivery {
-    pub event: Event,
-    pub queue: usize,
-    pub number: u64,
+    event: PackedEvent,
+    number: u64,
+}
+
+impl Model for Delivery {
+    ghost use Rattle.evt_types.specs.Delivered.{Delivered};
+
+    ghost Value = { Delivered };
+
+    ghost use Rattle.evt_types.specs.Deliveries.{delivery_in, inside_of};
+
+    ghost view = { delivery_in };
+
+    ghost inverse = { inside_of };
+}
+
+impl Delivery {
+    ghost use Rattle.std.specs.Prelude.{◌≡◌};
+    ghost use Rattle.evt_types.specs.Delivered.{delivered};
+
+    /// The event of this number of the queue that it names.
+    #[inline(always)]
+    pub fn new(event: PackedEvent, number: u64) -> Delivery
+        ensures { result ≡ delivered event number }
+    {
+        Delivery { event, number }
+    }
+
+    /// The event with its fields.
+    #[inline(always)]
+    pub fn event(&self) -> Event
+        ensures { result ≡ self.now.event }
+    {
+        self.event.unpack()
+    }
+
+    /// The event in 16 bytes.
+    #[inline(always)]
+    pub fn packed(&self) -> PackedEvent
+        ensures { result ≡ self.now.event }
+    {
+        self.event
+    }
+
+    /// The queue that accepted it.
+    #[inline(always)]
+    pub fn queue(&self) -> usize
+        ensures { result ≡ self.now.queue }
+    {
+        usize::from(self.event.queue())
+    }
+
+    #[inline(always)]
+    pub fn number(&self) -> u64
+        ensures { result ≡ self.now.number }
+    {
+        self.number
+    }
 }
 
 /// An event on its way from a port to the scheduler.
 #[derive(Clone, Copy, Debug, PartialEq, Eq, Default)]
 pub struct Reply {
-    pub event: Event,
+    pub event: PackedEvent,
 }
 
 /// An event with its number in its queue.
 #[derive(Clone, Copy, Debug, PartialEq, Eq, Default)]
 pub struct Numbered {
     pub number: u64,
-    pub event: Event,
+    pub event: PackedEvent,
 }
 
 /// An event that an ordered queue keeps until all before it is answered, with the queue and the number of the event that was

@@ -18,7 +18,8 @@ pub enum WordFault {
 }
 
 /// The number in `width` bits of a word, the lowest of which is bit `from`.
-fn bits(word: u64, from: u32, width: u32) -> u64
+#[inline(always)]
+pub(crate) fn bits(word: u64, from: u32, width: u32) -> u64
     requires from { from < 64 }
     requires width { width < 64 }
     ensures { result ≡ word / 2 ^ from % 2 ^ width }
@@ -27,7 +28,8 @@ fn bits(word: u64, from: u32, width: u32) -> u64
 }
 
 /// The operation of a code.
-fn op_of(code: u64) -> Op
+#[inline(always)]
+pub(crate) fn op_of(code: u8) -> Op
     requires { code < 4 }
     ensures { code ≡ words.op_code result }
 {
@@ -68,7 +70,7 @@ impl Event {
         if bits(word, 34, 4) != 0 {
             return Err(WordFault::ReservedBits);
         }
-        let op = op_of(bits(word, 32, 2));
+        let op = op_of(bits(word, 32, 2) as u8);
         let kind = kind_of(bits(word, 38, 2)).ok_or(WordFault::UnknownKind)?;
         let event = Event {
             flow: bits(word, 0, 20) as u32,

@@ -4,7 +4,7 @@ ghost use Rattle.std.specs.Prelude.{◌+◌, ◌<◌, ◌^◌};
 
 use crate::boxed::BoxedFar;
 use arrayvec::ArrayVec;
-use evt_types::{Delivery, Event, MAX_EXTRAS, Reply};
+use evt_types::{Delivery, MAX_EXTRAS, PackedEvent, Reply};
 use lane_rings::{AnswerFault, Refusal};
 
 /// A lane that a port holds, with the lane's end.
@@ -87,7 +87,7 @@ impl Stint {
     }
 
     /// `Far::stage` of the lane's end. The stint stays open in the seat that has it.
-    pub fn stage(&mut self, event: &Event) -> Result<(), Refusal>
+    pub fn stage(&mut self, event: &PackedEvent) -> Result<(), Refusal>
         ensures far { GathersWith self.old.far (reply_of event.now) result self.new.far }
         ensures lane { (self.new.lane ≡ self.old.lane) × (self.new.number ≡ self.old.number) }
         ensures open { (v : Seating) → IsOpen v self.old → IsOpen v self.new }

@@ -11,7 +11,7 @@ ghost use Rattle.lane_rings.specs.Outlets.{put_in};
 use crate::intake::Intake;
 use crate::outlet::Outlet;
 use arrayvec::ArrayVec;
-use evt_types::{Delivery, Event, MAX_EXTRAS, Op, Reply};
+use evt_types::{Delivery, MAX_EXTRAS, Op, PackedEvent, Reply};
 use thiserror::Error;
 
 /// Why a reply is refused; of two causes the first.
@@ -154,7 +154,7 @@ impl Far {
     /// As `answer`, but the event's reply is gathered: it goes into the ring by the next `flush`, and until then the scheduler can't
     /// see it. The event is copied where it is gathered, and nowhere before.
     #[inline(always)]
-    pub fn stage(&mut self, event: &Event) -> Result<(), Refusal>
+    pub fn stage(&mut self, event: &PackedEvent) -> Result<(), Refusal>
         ensures lane { far_id self.new ≡ far_id self.old }
         ensures received { (received_by self.new ≡ received_by self.old) × (seen_deliveries self.new ≡ seen_deliveries self.old) }
         ensures answered { MatchResult result
@@ -179,7 +179,7 @@ impl Far {
 
     // How many deliveries are held, and how many events are beside the oldest, once the event's reply is given; or why it can't be.
     #[inline(always)]
-    fn after(&self, event: &Event) -> Result<(usize, usize), Refusal>
+    fn after(&self, event: &PackedEvent) -> Result<(usize, usize), Refusal>
         ensures held { IfOk result (λ n. answers_among (reply_of event.now ∷ []) + n.0 ≡ self.now.held) }
         ensures extras { IfOk result (λ n. (n.1 ≡ more_after self.now.extras (reply_of event.now)) × (n.1 ≤ MAX_EXTRAS)) }
         ensures may_add { IfOk result (λ n. is_more_reply (reply_of event.now) ≡ true → (0 < self.now.held) × (self.now.extras < MAX_EXTRAS)) }
@@ -188,13 +188,13 @@ impl Far {
         ensures too_many { (result ≡ Err Refusal.TooMany) ↔ ((is_more_reply (reply_of event.now) ≡ true) × (0 < self.now.held) × (MAX_EXTRAS ≤ self.now.extras)) }
         ensures full { result ≢ Err Refusal.Full }
     {
-        if event.op == Op::New {
+        if event.is_new() {
             return Ok((self.held, self.extras));
         }
         if self.held == 0 {
             return Err(Refusal::NothingHeld);
         }
-        if event.op != Op::ForwardMore {
+        if event.op() != Op::ForwardMore {
             return Ok((self.held - 1, 0));
         }
         if self.extras == MAX_EXTRAS {

@@ -14,25 +14,10 @@ use crate::intake::Intake;
 use crate::near::Near;
 use crate::outlet::Outlet;
 use crate::rests::Beside;
-use evt_types::{Delivery, Event, Memory, Reply};
+use evt_types::{Delivery, Memory, Reply};
 use rtrb::RingBuffer;
 use std::alloc::Global;
 use std::collections::VecDeque;
-
-/// What stands in the places of a batch that nothing is in.
-fn no_delivery() -> Delivery {
-    Delivery {
-        event: Event::release(),
-        queue: 0,
-        number: 0,
-    }
-}
-
-fn no_reply() -> Reply {
-    Reply {
-        event: Event::release(),
-    }
-}
 
 /// The two sides of a ring of so many slots, with nothing in it.
 fn ends_of<T: Copy>(
@@ -58,8 +43,8 @@ pub fn lane(alloc: Global, depth: usize, replies: usize) -> Result<(Near, Far), 
     ensures near { IfOk result (λ r. (offered r.0 ≡ []) × (hidden_offers r.0 ≡ []) × (taken r.0 ≡ []) × (seen_replies r.0 ≡ []) × (fetched_replies r.0 ≡ [])) }
     ensures far { IfOk result (λ r. (received_by r.1 ≡ []) × (seen_deliveries r.1 ≡ []) × (answered r.1 ≡ []) × (hidden_answers r.1 ≡ [])) }
 {
-    let (offers, receipts) = ends_of(alloc, depth, no_delivery())?;
-    let (answers, takings) = ends_of(alloc, replies, no_reply())?;
+    let (offers, receipts) = ends_of(alloc, depth, Delivery::default())?;
+    let (answers, takings) = ends_of(alloc, replies, Reply::default())?;
     let near = Near {
         deliveries: offers,
         replies: takings,

@@ -7,7 +7,7 @@ ghost use Rattle.evt_types.specs.Plan as plans;
 
 use crate::reorder::Reorder;
 use arrayvec::ArrayVec;
-use evt_types::{Event, MAX_EXTRAS, MAX_FORWARDS, MAX_QUEUES, Memory, Numbered, QueueDraft};
+use evt_types::{MAX_EXTRAS, MAX_FORWARDS, MAX_QUEUES, Memory, Numbered, PackedEvent, QueueDraft};
 use std::alloc::Global;
 use std::marker::Model;
 
@@ -98,7 +98,7 @@ impl AllOrders {
     }
 
     /// The event is added beside that of the place, which is unanswered: whether it is kept there.
-    pub fn add(&mut self, queue: usize, place: u64, event: Event) -> bool
+    pub fn add(&mut self, queue: usize, place: u64, event: PackedEvent) -> bool
         requires there { queue < length self.old }
         requires open { is_restoring (order_at self.old queue) ≡ true → IsTrue (is_open (place_at (order_at self.old queue) place)) }
         requires room { is_restoring (order_at self.old queue) ≡ true → length (place_or_open (order_at self.old queue) place).forwards < MAX_EXTRAS }
@@ -116,7 +116,7 @@ impl AllOrders {
 
     /// The event of the place is answered, by a forward or by its release: whether the forward is kept.
     #[inline(always)]
-    pub fn resolve(&mut self, queue: usize, place: u64, forward: Option<&Event>) -> bool
+    pub fn resolve(&mut self, queue: usize, place: u64, forward: Option<&PackedEvent>) -> bool
         requires there { queue < length self.old }
         requires open { is_restoring (order_at self.old queue) ≡ true → IsTrue (is_open (place_at (order_at self.old queue) place)) }
         ensures kept { result ≡ (is_restoring (order_at self.old queue) && is_some (option_copied forward.entry)) }
@@ -147,7 +147,7 @@ impl AllOrders {
     }
 
     /// The queue's oldest place leaves, where it is answered: its event's number, and what it was passed on as.
-    pub fn leave(&mut self, queue: usize) -> Option<(u64, ArrayVec<Event, MAX_FORWARDS>)>
+    pub fn leave(&mut self, queue: usize) -> Option<(u64, ArrayVec<PackedEvent, MAX_FORWARDS>)>
         requires { queue < length self.old }
         ensures value { option_map left result ≡ oldest_answered (order_at self.old queue).places }
         ensures rest { self.new ≡ slice_set self.old queue (after_leave (order_at self.old queue)) }
@@ -161,7 +161,7 @@ impl AllOrders {
     /// The queue's oldest place leaves, where it is answered and keeps one event at most: its event's number, and whether it keeps
     /// one, which is copied to `event`. Where it gives nothing it may be that there are more.
     #[inline(always)]
-    pub fn leave_plain(&mut self, queue: usize, event: &mut Event) -> Option<(u64, bool)>
+    pub fn leave_plain(&mut self, queue: usize, event: &mut PackedEvent) -> Option<(u64, bool)>
         requires { queue < length self.old }
         ensures value { IfSome result (λ x. oldest_answered (order_at self.old queue).places ≡ Some (left_plain x.0 x.1 event.new)) }
         ensures rest { IfSome result (λ x. self.new ≡ slice_set self.old queue (after_leave (order_at self.old queue))) }

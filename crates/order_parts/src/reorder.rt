@@ -5,7 +5,7 @@ ghost use Rattle.order_parts.specs.Reorder.{HasFew, after_add, after_hand, after
 
 use arrayvec::ArrayVec;
 use circular_buffer::HeapCircularBuffer;
-use evt_types::{Event, MAX_EXTRAS, MAX_FORWARDS, Memory, Numbered};
+use evt_types::{MAX_EXTRAS, MAX_FORWARDS, Memory, Numbered, PackedEvent};
 use std::alloc::Global;
 use std::marker::Model;
 
@@ -25,7 +25,7 @@ pub struct Reorder {
     first: u64,
     /// A row of `MAX_FORWARDS` for the events that each place keeps: those that were added and behind them the forward. The
     /// rows turn with the ring. They stand apart, so that a place whose event is released costs no more than its words.
-    rows: Vec<Event>,
+    rows: Vec<PackedEvent>,
     /// The row of the oldest place.
     first_row: usize,
 }
@@ -50,7 +50,7 @@ fn around(row: usize, rows: usize) -> usize
 }
 
 /// The events that leave with a place.
-fn passed_on(kept: &[Event]) -> ArrayVec<Event, MAX_FORWARDS>
+fn passed_on(kept: &[PackedEvent]) -> ArrayVec<PackedEvent, MAX_FORWARDS>
     requires { length kept.now ≤ MAX_FORWARDS }
     ensures { result.items ≡ kept.now }
 {
@@ -67,7 +67,7 @@ impl Reorder {
         let ring = HeapCircularBuffer::with_capacity(alloc, depth)?;
         // More events than can be counted are asked for as the most that can be, which no memory has.
         let room = depth.checked_mul(MAX_FORWARDS).unwrap_or(usize::MAX);
-        let rows = vec![in alloc; Event::default(); room]?;
+        let rows = vec![in alloc; PackedEvent::default(); room]?;
         Ok(Reorder {
             ring,
             first: 0,
@@ -127,7 +127,7 @@ impl Reorder {
     }
 
     /// An event is added beside that of the place, which stays unanswered: it goes behind those that were added before.
-    pub fn add(&mut self, place: u64, event: Event)
+    pub fn add(&mut self, place: u64, event: PackedEvent)
         requires open { IsTrue (is_open (place_at self.old place)) }
         requires room { length (place_or_open self.old place).forwards < MAX_EXTRAS }
         ensures { self.new ≡ after_add self.old place event }
@@ -137,7 +137,7 @@ impl Reorder {
 
     /// The place keeps an event more, behind those that it keeps: the event of the place is answered by it, or it was added.
     #[inline(always)]
-    fn keep(&mut self, place: u64, event: &Event, answered: bool)
+    fn keep(&mut self, place: u64, event: &PackedEvent, answered: bool)
         requires open { IsTrue (is_open (place_at self.old place)) }
         requires room { answered ≡ false → length (place_or_open self.old place).forwards < MAX_EXTRAS }
         ensures { self.new ≡ after_keep self.old place event.now answered }
@@ -154,7 +154,7 @@ impl Reorder {
 
     /// The event of the place is answered, by a forward or by its release.
     #[inline(always)]
-    pub fn resolve(&mut self, place: u64, forward: Option<&Event>)
+    pub fn resolve(&mut self, place: u64, forward: Option<&PackedEvent>)
         requires { IsTrue (is_open (place_at self.old place)) }
         ensures { self.new ≡ after_resolve self.old place (option_copied forward.entry) }
     {
@@ -178,7 +178,7 @@ impl Reorder {
 
     /// The oldest place leaves, where it is resolved: its event's number, and what it was passed on as, in order: the events
     /// that were added, and then the forward.
-    pub fn leave(&mut self) -> Option<(u64, ArrayVec<Event, MAX_FORWARDS>)>
+    pub fn leave(&mut self) -> Option<(u64, ArrayVec<PackedEvent, MAX_FORWARDS>)>
         ensures value { option_map left result ≡ oldest_answered self.old.places }
         ensures rest { self.new ≡ after_leave self.old }
     {
@@ -197,7 +197,7 @@ impl Reorder {
     /// whether an event is kept, and copies that from where it lies to `event`: an answer that holds it would be taken apart
     /// and put together again.
     #[inline(always)]
-    pub fn leave_plain(&mut self, event: &mut Event) -> Option<(u64, bool)>
+    pub fn leave_plain(&mut self, event: &mut PackedEvent) -> Option<(u64, bool)>
         ensures left { MatchOption result (self.new ≡ self.old) (λ r. (oldest_answered self.old.places ≡ Some (left_plain r.0 r.1 event.new)) × (self.new ≡ after_leave self.old)) }
         ensures same { IfNone result (event.new ≡ event.old) }
         ensures bare { IfSome result (λ r. r.1 ≡ false → event.new ≡ event.old) }

@@ -18,7 +18,7 @@ use Rattle.parked_queue.specs.Parts.{all_parts, parts_of}
 use Rattle.parked_queue.specs.Waits.{AreWaits}
 use Rattle.parked_queue.proofs.Holding.{back}
 use Rattle.parked_queue.proofs.Merges.{by_number_length, by_number_sum}
-use Rattle.parked_queue.specs.Lists.{delivery_of}
+use Rattle.parked_queue.specs.Lists.{named_delivery}
 use borrow.Rule.Slice.PartMut.{mid_of, put_mid}
 
 -- ---- one list after the other
@@ -68,15 +68,15 @@ parts_fit v n waits lt =
     let whole = all_length v waits in
     omega arith
 
-pub deliveries_more : (q : ℕ) (v : Parted) (n : ℕ) (before xs ys : List Delivery) (us : List Numbered) → us ≡ list_in v n → xs ≡ before ++ map (delivery_of q) (parts_of v n) → ys ≡ xs ++ map (delivery_of q) us → ys ≡ before ++ map (delivery_of q) (parts_of v (n + 1))
-deliveries_more q v n before xs ys us list is come =
+pub deliveries_more : (v : Parted) (n : ℕ) (before xs ys : List Delivery) (us : List Numbered) → us ≡ list_in v n → xs ≡ before ++ map named_delivery (parts_of v n) → ys ≡ xs ++ map named_delivery us → ys ≡ before ++ map named_delivery (parts_of v (n + 1))
+deliveries_more v n before xs ys us list is come =
     come
-    ∙ (ap (λ zs. zs ++ map (delivery_of q) us) is
-    ∙ (append_assoc before (map (delivery_of q) (parts_of v n)) (map (delivery_of q) us)
-    ∙ ap (λ zs. before ++ zs) (ap (λ zs. map (delivery_of q) (parts_of v n) ++ map (delivery_of q) zs) list ∙ (sym (map-append (delivery_of q) (parts_of v n) (list_in v n)) ∙ ap (map (delivery_of q)) (sym (parts_more v n))))))
+    ∙ (ap (λ zs. zs ++ map named_delivery us) is
+    ∙ (append_assoc before (map named_delivery (parts_of v n)) (map named_delivery us)
+    ∙ ap (λ zs. before ++ zs) (ap (λ zs. map named_delivery (parts_of v n) ++ map named_delivery zs) list ∙ (sym (map-append named_delivery (parts_of v n) (list_in v n)) ∙ ap (map named_delivery) (sym (parts_more v n))))))
 
-pub deliveries_length : (q : ℕ) (before xs : List Delivery) (us : List Numbered) → xs ≡ before ++ map (delivery_of q) us → length xs ≡ length before + length us
-deliveries_length q before xs us is = ap length is ∙ (length-append before (map (delivery_of q) us) ∙ ap (λ n. length before + n) (length-map us (delivery_of q)))
+pub deliveries_length : (before xs : List Delivery) (us : List Numbered) → xs ≡ before ++ map named_delivery us → length xs ≡ length before + length us
+deliveries_length before xs us is = ap length is ∙ (length-append before (map named_delivery us) ∙ ap (λ n. length before + n) (length-map us named_delivery))
 
 -- ---- in the order of keys
 
@@ -147,37 +147,37 @@ parts_each : (P : Numbered → Type 0) (v : Parted) → All P v.waits.waiting �
 parts_each P v all =
     joined_each P (λ k. list_in v k) (range_with_len 0 (list_count v.waits.slots)) (λ k. All-filter (is_in (list_of v.waits.slots v.below) k) P v.waits.waiting all)
 
-delivered_sum : (f : Delivery → ℕ) (q : ℕ) (v : Parted) → AreWaits v.waits → sum_by f (map (delivery_of q) (all_parts v)) ≡ sum_by f (map (delivery_of q) v.waits.waiting)
-delivered_sum f q v waits =
-    sum_of_map f (delivery_of q) (all_parts v)
-    ∙ (all_sum (λ u. f (delivery_of q u)) v waits ∙ sym (sum_of_map f (delivery_of q) v.waits.waiting))
+delivered_sum : (f : Delivery → ℕ) (v : Parted) → AreWaits v.waits → sum_by f (map named_delivery (all_parts v)) ≡ sum_by f (map named_delivery v.waits.waiting)
+delivered_sum f v waits =
+    sum_of_map f named_delivery (all_parts v)
+    ∙ (all_sum (λ u. f (named_delivery u)) v waits ∙ sym (sum_of_map f named_delivery v.waits.waiting))
 
-sorted_deliveries : (q : ℕ) (v : Parted) (sorted : List Delivery) → AreWaits v.waits → IsPermutation (map (delivery_of q) (all_parts v)) sorted → IsNonDecreasingBy number_of sorted → sorted ≡ map (delivery_of q) v.waits.waiting
-sorted_deliveries q v sorted waits permutes order =
+sorted_deliveries : (v : Parted) (sorted : List Delivery) → AreWaits v.waits → IsPermutation (map named_delivery (all_parts v)) sorted → IsNonDecreasingBy number_of sorted → sorted ≡ map named_delivery v.waits.waiting
+sorted_deliveries v sorted waits permutes order =
     sorted_by_key number_of wanted sorted rises order
-    (λ f. sym (sum_by-IsPermutation f (map (delivery_of q) (all_parts v)) sorted permutes ∙ delivered_sum f q v waits))
-    (All-permutation (IsTheOne number_of wanted) (map (delivery_of q) (all_parts v)) sorted permutes
-    (All-map (IsTheOne number_of wanted) (delivery_of q) (all_parts v) (parts_each (λ u. IsTheOne number_of wanted (delivery_of q u)) v ones)))
+    (λ f. sym (sum_by-IsPermutation f (map named_delivery (all_parts v)) sorted permutes ∙ delivered_sum f v waits))
+    (All-permutation (IsTheOne number_of wanted) (map named_delivery (all_parts v)) sorted permutes
+    (All-map (IsTheOne number_of wanted) named_delivery (all_parts v) (parts_each (λ u. IsTheOne number_of wanted (named_delivery u)) v ones)))
   where
     wanted : List Delivery
-    wanted = map (delivery_of q) v.waits.waiting
+    wanted = map named_delivery v.waits.waiting
 
     rises : AllPairs (λ x y. number_of x < number_of y) wanted
-    rises = pairs_mapped (λ x y. number_of x < number_of y) (delivery_of q) v.waits.waiting waits.rising
+    rises = pairs_mapped (λ x y. number_of x < number_of y) named_delivery v.waits.waiting waits.rising
 
-    ones : All (λ u. IsTheOne number_of wanted (delivery_of q u)) v.waits.waiting
+    ones : All (λ u. IsTheOne number_of wanted (named_delivery u)) v.waits.waiting
     ones k d h =
-        subst (IsTheOne number_of wanted) (get_or-map (delivery_of q) v.waits.waiting k d (delivery_of q d) h)
-        (the_ones number_of wanted rises k (delivery_of q d) (subst (λ n. k < n) (sym (length-map v.waits.waiting (delivery_of q))) h))
+        subst (IsTheOne number_of wanted) (get_or-map named_delivery v.waits.waiting k d (named_delivery d) h)
+        (the_ones number_of wanted rises k (named_delivery d) (subst (λ n. k < n) (sym (length-map v.waits.waiting named_delivery)) h))
 
 -- the deliveries after those that were there before
-pub listed : (q : ℕ) (v : Parted) (now items before sorted : List Delivery) (n s : ℕ) → AreWaits v.waits
-    → now ≡ items → items ≡ before ++ map (delivery_of q) (all_parts v) → s ≡ length before → n ≡ length items
+pub listed : (v : Parted) (now items before sorted : List Delivery) (n s : ℕ) → AreWaits v.waits
+    → now ≡ items → items ≡ before ++ map named_delivery (all_parts v) → s ≡ length before → n ≡ length items
     → IsPermutation (mid_of s (length now - s) now) sorted → IsNonDecreasingBy number_of sorted
-    → take n (put_mid s (length now - s) now sorted ++ drop (length (put_mid s (length now - s) now sorted)) items) ≡ before ++ map (delivery_of q) v.waits.waiting
-listed q v now items before sorted n s waits same is start end permutes order =
-    let xs : List Delivery = map (delivery_of q) (all_parts v) in
+    → take n (put_mid s (length now - s) now sorted ++ drop (length (put_mid s (length now - s) now sorted)) items) ≡ before ++ map named_delivery v.waits.waiting
+listed v now items before sorted n s waits same is start end permutes order =
+    let xs : List Delivery = map named_delivery (all_parts v) in
     let here : IsPermutation (mid_of s (length items - s) items) sorted = subst (λ zs. IsPermutation (mid_of s (length zs - s) zs) sorted) same permutes in
     let moved : IsPermutation xs sorted = subst (λ zs. IsPermutation zs sorted) (tail_is items before xs s is start) here in
-    subst (λ zs. take n (put_mid s (length zs - s) zs sorted ++ drop (length (put_mid s (length zs - s) zs sorted)) items) ≡ before ++ map (delivery_of q) v.waits.waiting) (sym same)
-    (tail_sorted items before xs sorted n s is start end (length_permutation xs sorted moved) ∙ ap (λ zs. before ++ zs) (sorted_deliveries q v sorted waits moved order))
+    subst (λ zs. take n (put_mid s (length zs - s) zs sorted ++ drop (length (put_mid s (length zs - s) zs sorted)) items) ≡ before ++ map named_delivery v.waits.waiting) (sym same)
+    (tail_sorted items before xs sorted n s is start end (length_permutation xs sorted moved) ∙ ap (λ zs. before ++ zs) (sorted_deliveries v sorted waits moved order))

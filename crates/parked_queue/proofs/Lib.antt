@@ -17,6 +17,7 @@ pub mod Seen
 pub mod Segments
 pub mod Calls
 pub mod LevelSets
+pub mod Named
 pub mod News
 pub mod Busy
 pub mod ChainDeliveries

@@ -8,10 +8,12 @@ use Rattle.small_set.specs.SmallSets.{Has, SameBut}
 use Rattle.small_set.specs.declared.set.SmallSet.{SmallSet}
 use Rattle.parked_queue.specs.Busy.{AreNoted}
 use Rattle.parked_queue.specs.LevelSets.{AreLevels, levels_at, members}
-use Rattle.parked_queue.specs.Waits.{HasNoneOf, Waits, is_other, no_waits, waits_at, with_event, without_number}
+use Rattle.parked_queue.specs.Lists.{numbered}
+use Rattle.parked_queue.specs.Waits.{AreNamed, HasNoneOf, Waits, is_other, no_waits, waits_at, with_event, without_number}
 use Rattle.parked_queue.specs.declared.level.Levels.{Levels}
 use Rattle.parked_queue.proofs.Busy.{busy_set}
 use Rattle.parked_queue.proofs.Firsts.{levels_still, levels_with, levels_without, none_of_empty}
+use Rattle.parked_queue.proofs.Named.{named_less, named_more, named_set}
 use Rattle.parked_queue.proofs.LevelSets.{levels_kept, levels_read, levels_set, levels_there}
 
 -- a level of which nothing waits is no longer looked at
@@ -21,6 +23,10 @@ levels_less w c was now are others none = record { rest = λ k never. ⊎_elim (
 module _ (all qs : List Waits) (ls : List Levels) (busy : SmallSet) (q : ℕ) (noted : AreNoted all ls busy) (view : all ≡ qs) (lt : q < length qs) where
   are : AreNoted qs ls busy
   are = subst (λ ws. AreNoted ws ls busy) view noted
+
+  -- the events of the queue name it
+  pub names_here : AreNamed q (waits_at qs q).waiting
+  names_here = are.named q
 
   pub noted_there : q < length ls
   noted_there = levels_there qs ls q are.levels lt
@@ -39,24 +45,27 @@ module _ (all qs : List Waits) (ls : List Levels) (busy : SmallSet) (q : ℕ) (n
       record {
         levels = levels_set qs ls q are.levels lt (waits_at qs q) now (levels_less (waits_at qs q) c was now (of_read was read) others none);
         busy = noted_still.busy;
+        named = noted_still.named;
       }
 
   -- the first event of a level has come
-  pub noted_first : (e : Event) (was now : Levels) (many : SmallSet) → was ≡ get_or ls q was → Has (members now) (level_of e) → SameBut (level_of e) (members was) (members now) → Has many q → SameBut q busy many → AreNoted (set qs q (with_event (waits_at qs q) e)) (set ls q now) many
-  noted_first e was now many read has others into same =
+  pub noted_first : (e : Event) → e.queue ≡ q → (was now : Levels) (many : SmallSet) → was ≡ get_or ls q was → Has (members now) (level_of e) → SameBut (level_of e) (members was) (members now) → Has many q → SameBut q busy many → AreNoted (set qs q (with_event (waits_at qs q) e)) (set ls q now) many
+  noted_first e names was now many read has others into same =
       record {
         levels = levels_set qs ls q are.levels lt (with_event (waits_at qs q) e) now (levels_with (waits_at qs q) e was now has others (of_read was read));
         busy = busy_set qs q (with_event (waits_at qs q) e) busy many are.busy lt same (λ never. absurd (never into));
+        named = named_set qs q (with_event (waits_at qs q) e) are.named lt (named_more q (waits_at qs q).waiting (numbered (waits_at qs q).next e) (are.named q) names);
       }
 
   -- one more has come
-  pub noted_more : (e : Event) → ¬ HasNoneOf (waits_at qs q) (level_of e) → AreNoted (set qs q (with_event (waits_at qs q) e)) ls busy
-  noted_more e some =
+  pub noted_more : (e : Event) → e.queue ≡ q → ¬ HasNoneOf (waits_at qs q) (level_of e) → AreNoted (set qs q (with_event (waits_at qs q) e)) ls busy
+  noted_more e names some =
       record {
         levels = levels_kept qs ls q are.levels lt (with_event (waits_at qs q) e) (levels_still (waits_at qs q) e (levels_at ls q) some (are.levels.each q lt));
         busy =
             busy_set qs q (with_event (waits_at qs q) e) busy busy are.busy lt (λ k ne. ((λ has. has), (λ has. has)))
             (λ never. absurd (some (none_of_empty (waits_at qs q) (level_of e) (are.busy.rest q never))));
+        named = named_set qs q (with_event (waits_at qs q) e) are.named lt (named_more q (waits_at qs q).waiting (numbered (waits_at qs q).next e) (are.named q) names);
       }
 
   -- an event has left
@@ -65,6 +74,7 @@ module _ (all qs : List Waits) (ls : List Levels) (busy : SmallSet) (q : ℕ) (n
       record {
         levels = levels_kept qs ls q are.levels lt (without_number (waits_at qs q) n) (levels_without (waits_at qs q) n (levels_at ls q) (are.levels.each q lt));
         busy = busy_set qs q (without_number (waits_at qs q) n) busy now are.busy lt same none;
+        named = named_set qs q (without_number (waits_at qs q) n) are.named lt (named_less q n (waits_at qs q).waiting (are.named q));
       }
 
   -- as the last one, or not

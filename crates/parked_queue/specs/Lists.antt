@@ -1,5 +1,6 @@
 -- Many lists of waiting events, and how many events they may have in all.
 use Rattle.std.specs.Prelude.{ℕ, ◌==◌, Bool, false, List, [], ◌∷◌, ◌++◌, length, drop, Option, Some, None, replicate, slice_set, slice_index_or, sum_by}
+use Rattle.evt_types.specs.Delivered.{delivered}
 use Rattle.evt_types.specs.declared.event.Delivery.{Delivery}
 use Rattle.evt_types.specs.declared.event.Event.{Event}
 use Rattle.evt_types.specs.declared.event.Numbered.{Numbered}
@@ -40,6 +41,10 @@ has_number n (Some w) = w.number == n
 -- the event under a number
 abbrev pub numbered : ℕ → Event → Numbered
 numbered n e = record { number = n; event = e }
+
+-- the event as it is delivered by the queue that it names
+abbrev pub named_delivery : Numbered → Delivery
+named_delivery w = delivered w.event w.number
 
 -- the queue's event as it is delivered
 abbrev pub delivery_of : ℕ → Numbered → Delivery

@@ -56,6 +56,10 @@ all_waiting qs = sum_by count_of qs
 abbrev pub all_empty : ℕ → List ℕ → List Waits
 all_empty room slots = map (no_waits_of room) slots
 
+-- the events name this queue
+abbrev pub AreNamed : ℕ → List Numbered → Type 0
+AreNamed q ws = All (λ (w : Numbered). w.event.queue ≡ q) ws
+
 -- the event waits under the next number
 abbrev pub with_event : Waits → Event → Waits
 with_event q e = record q { waiting = q.waiting ++ record { number = q.next; event = e } ∷ []; next = q.next + 1 }

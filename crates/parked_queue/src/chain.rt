@@ -4,7 +4,7 @@ ghost use Rattle.std.specs.Prelude.{◌≡◌, ◌==◌, ◌+◌, ◌<◌, ◌^�
 ghost use Rattle.parked_queue.specs.Chains.{IsLinked, IsTaken, alone, final, longer, shorter};
 ghost use Rattle.parked_queue.specs.Lists.{numbered};
 
-use evt_types::{Event, Numbered};
+use evt_types::{Numbered, PackedEvent};
 
 /// An event, and the node behind it, which counts only where the chain goes on.
 #[derive(Clone, Copy, Debug)]
@@ -28,7 +28,7 @@ pub(crate) fn take_node(
     nodes: &mut Vec<Node>,
     free: &mut Vec<usize>,
     number: u64,
-    event: &Event,
+    event: &PackedEvent,
 ) -> usize
     requires last { 0 < vec_len free.old → final 0 free.old.items < vec_len nodes.old }
     requires room { vec_len free.old ≡ 0 → vec_len nodes.old < vec_capacity nodes.old }

@@ -61,7 +61,7 @@ impl Parking {
         }
         match best {
             Some(waiting) => {
-                let flow = waiting.event.flow;
+                let flow = waiting.event.flow();
                 let slot = slot_in(self.slots, self.mask, flow);
                 Some(Found {
                     slot,
@@ -89,7 +89,7 @@ impl Parking {
         ensures none { IfNone result (HasNoneAllowed (waits_by lists.old self.old) level.number allowed) }
     {
         while let Some(waiting) = self.front(lists, level) {
-            let flow = waiting.event.flow;
+            let flow = waiting.event.flow();
             let slot = slot_in(self.slots, self.mask, flow);
             if allowed.has(slot) {
                 return Some(Found {

@@ -4,7 +4,7 @@ ghost use Rattle.std.specs.Prelude.{◌≡◌, ℕ, ◌<◌};
 ghost use Rattle.evt_types.specs.Plan.{level_of};
 ghost use Rattle.small_set.specs.SmallSets.{Has};
 
-use evt_types::Event;
+use evt_types::PackedEvent;
 use small_set::SmallSet;
 
 /// How many levels a queue has.
@@ -20,11 +20,9 @@ pub struct Level {
 impl Level {
     /// The level of the event.
     #[inline(always)]
-    pub fn of(event: &Event) -> Level
+    pub fn of(event: &PackedEvent) -> Level
         ensures { result.number ≡ level_of event.now }
     {
-        // The read makes the field's range known, and so the level's.
-        let _priority = event.priority;
         Level {
             number: event.level(),
         }

@@ -112,8 +112,9 @@ impl Parking {
         ensures below { IfSome (own_first (parted_by lists.old self.old) level.number) (λ w. parted_by lists.new self.new ≡ with_below (parted_by lists.old self.old) level.number (w.number + 1)) }
     {
         if let Some(head) = lists.pop(self.base + level.number) {
+            let number = head.number;
             lists.push(self.base + parked_list(level, slot), head);
-            self.below[level.number] = head.number + 1;
+            self.below[level.number] = number + 1;
             self.parked[level.number].add(slot);
         }
     }

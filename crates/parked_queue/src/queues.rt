@@ -12,7 +12,7 @@ use crate::level::{LEVELS, Level, Levels};
 use crate::parking::{Parking, empty_parkings};
 use crate::slot::slot_in;
 use crate::waiting::WaitingLists;
-use evt_types::{Delivery, Event};
+use evt_types::{Delivery, PackedEvent};
 use small_set::SmallSet;
 use std::alloc::{AllocError, Global};
 use std::marker::Model;
@@ -70,10 +70,11 @@ impl ParkedQueues {
         self.queues.len()
     }
 
-    /// Lets the event wait in the queue, under the queue's next number. Wants room: fewer than there is room for wait in all queues.
+    /// Lets the event wait in the queue, which is the one that it names, under the queue's next number. Wants room: fewer than there is room for wait in all queues.
     #[inline(always)]
-    pub fn accept(&mut self, queue: usize, event: &Event)
+    pub fn accept(&mut self, queue: usize, event: &PackedEvent)
         requires there { queue < length self.old }
+        requires named { queue ≡ event.now.queue }
         requires room { all_waiting self.old < (waits_at self.old queue).room }
         requires numbers { (waits_at self.old queue).next < 2 ^ 63 }
         ensures value { self.new ≡ slice_set self.old queue (with_event (waits_at self.old queue) event.now) }
@@ -125,6 +126,7 @@ impl ParkedQueues {
         ensures same { self.new ≡ self.old }
         ensures first { IfSome result (λ f. IsFirstAllowed (waits_at self.old queue) level.number allowed f.waiting) }
         ensures slot { IfSome result (λ f. f.slot ≡ slot_of (waits_at self.old queue).slots f.waiting) }
+        ensures names { IfSome result (λ f. f.waiting.event.queue ≡ queue) }
         ensures none { IfNone result (HasNoneAllowed (waits_at self.old queue) level.number allowed) }
         ensures waits { AreWaits (waits_at self.old queue) }
     {
@@ -143,6 +145,7 @@ impl ParkedQueues {
         requires { queue < length self.now }
         ensures first { IfSome result (λ f. IsFirstAllowed (waits_at self.now queue) level.number allowed f.waiting) }
         ensures slot { IfSome result (λ f. f.slot ≡ slot_of (waits_at self.now queue).slots f.waiting) }
+        ensures names { IfSome result (λ f. f.waiting.event.queue ≡ queue) }
         ensures waits { AreWaits (waits_at self.now queue) }
     {
         let asked = &self.queues[queue];
@@ -150,7 +153,7 @@ impl ParkedQueues {
             return None;
         }
         let waiting = self.lists.head(asked.base + level.number)?;
-        let flow = waiting.event.flow;
+        let flow = waiting.event.flow();
         let slot = slot_in(asked.slots, asked.mask, flow);
         if allowed.has(slot) {
             Some(Found {
@@ -224,8 +227,8 @@ impl ParkedQueues {
         let start = into.len();
         let asked = &self.queues[queue];
         for list in 0..LEVELS * (asked.slots + 1) {
-            self.lists.push_deliveries(asked.base + list, queue, into);
+            self.lists.push_deliveries(asked.base + list, into);
         }
-        into[start..].sort_unstable_by_key(|delivery| delivery.number);
+        into[start..].sort_unstable_by_key(|delivery| delivery.number());
     }
 }

@@ -1,10 +1,10 @@
 //! Many lists of waiting events.
 
 ghost use Rattle.std.specs.Prelude.{◌≡◌, ◌==◌, ◌+◌, ◌<◌, ◌≤◌, [], ◌++◌, length, map, slice_get, vec_len, vec_capacity, IfOk, IsFalse, IsTrue, option_copied};
-ghost use Rattle.parked_queue.specs.Lists.{list_at, total_of, all_empty, delivery_of, has_number, numbered, with_last, without_first};
+ghost use Rattle.parked_queue.specs.Lists.{list_at, total_of, all_empty, has_number, named_delivery, numbered, with_last, without_first};
 
 use crate::chain::{Chain, Node, append, shorten, take_node};
-use evt_types::{Delivery, Event, Numbered};
+use evt_types::{Delivery, Numbered, PackedEvent};
 use std::alloc::{AllocError, Global};
 use std::marker::Model;
 
@@ -103,7 +103,7 @@ impl WaitingLists {
 
     /// The same of an event where it lies, under this number: whether it is the list's only one.
     #[inline(always)]
-    pub fn push_event(&mut self, list: usize, number: u64, event: &Event) -> bool
+    pub fn push_event(&mut self, list: usize, number: u64, event: &PackedEvent) -> bool
         requires list { list < length self.old.lists }
         requires room { total_of self.old < self.old.room }
         ensures only { result ≡ (length (list_at self.old list) == 0) }
@@ -157,22 +157,19 @@ impl WaitingLists {
         found
     }
 
-    /// Appends each of the list's events, oldest first, as a delivery of the queue.
-    pub fn push_deliveries(&self, list: usize, queue: usize, into: &mut Vec<Delivery>)
+    /// Appends each of the list's events, oldest first, as a delivery of the queue that it names.
+    pub fn push_deliveries(&self, list: usize, into: &mut Vec<Delivery>)
         requires list { list < length self.now.lists }
         requires room { vec_len into.old + length (list_at self.now list) ≤ vec_capacity into.old }
-        ensures deliveries { into.new.items ≡ into.old.items ++ map (delivery_of queue) (list_at self.now list) }
+        ensures deliveries { into.new.items ≡ into.old.items ++ map named_delivery (list_at self.now list) }
         ensures room { vec_capacity into.new ≡ vec_capacity into.old }
     {
         let chain = self.chains[list];
         let mut cursor = chain.first;
         for _ in 0..chain.len {
             let node = self.nodes[cursor];
-            into.push_reserved(Delivery {
-                event: node.item.event,
-                queue,
-                number: node.item.number,
-            });
+            let Numbered { number, event } = node.item;
+            into.push_reserved(Delivery::new(event, number));
             cursor = node.next;
         }
     }

@@ -44,7 +44,7 @@ fn answer_event(actions: &[Action], delivery: &Delivery) -> Event
     ensures said { said (reply_of result) ≡ said_to actions.now delivery.now }
     ensures answers { is_answer_op result.op ≡ true }
 {
-    match answer(actions, delivery.queue, &delivery.event) {
+    match answer(actions, delivery.queue(), &delivery.event()) {
         Outcome::Forwarded(event) => event,
         Outcome::Released => Event::release(),
     }
@@ -65,7 +65,7 @@ fn answer_each<G: Gate>(
 {
     answers.clear();
     for delivery in deliveries {
-        gate.enter(worker, delivery.event.payload);
+        gate.enter(worker, delivery.event().payload);
         answers.push(answer_event(actions, delivery));
     }
 }

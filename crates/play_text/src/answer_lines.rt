@@ -50,9 +50,9 @@ fn write_delivery(
 ) -> Result<(), AllocError>
     ensures { OnOk result (string_bytes out.new ≡ string_bytes out.old ++ texts.delivery_line queues.now delivery.now) }
 {
-    let (queue, number) = (delivery.queue, delivery.number);
+    let (queue, number) = (delivery.queue(), delivery.number());
     write!(out, "- q{queue} #{number} ")?;
-    write_event(queues, &delivery.event, out)?;
+    write_event(queues, &delivery.event(), out)?;
     out.push_str("\n")
 }
 

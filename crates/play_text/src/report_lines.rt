@@ -12,7 +12,7 @@ fn write_waiting(all: &[Delivery], out: &mut String) -> Result<(), AllocError>
     ensures { OnOk result (string_bytes out.new ≡ string_bytes out.old ++ flat_map texts.waiting_line all.now) }
 {
     for waiting in all {
-        let (queue, number) = (waiting.queue, waiting.number);
+        let (queue, number) = (waiting.queue(), waiting.number());
         writeln!(out, "waiting q{queue} #{number}")?;
     }
     Ok(())

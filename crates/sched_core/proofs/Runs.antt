@@ -10,6 +10,7 @@ use Rattle.evt_types.specs.Plan.{Plan, level_of, queue_of, is_ordered}
 use Rattle.evt_types.specs.declared.event.Delivery.{Delivery}
 use Rattle.evt_types.specs.declared.event.Numbered.{Numbered}
 use Rattle.evt_types.specs.declared.step.Step.{Step}
+use Rattle.evt_types.specs.declared.step.Step.TheVariants.{Give}
 use Rattle.sched_core.proofs.Offers.{choice_is_offer}
 use Rattle.sched_core.specs.Offered.{IsOfferIn, numbered_in, slot_at}
 use Rattle.sched_core.specs.Sized.{IsSized}
@@ -194,6 +195,10 @@ pub record IsRunning (v : View) (s : Passed) (l q c k : ℕ) (w : View) (t : Pas
   pub level : c ≡ level_of d.event
   pub slot : k ≡ slot_at w d.queue (numbered_in d)
   pub shape : w.shape ≡ v.shape
+
+-- an event of the queue, as it is given and as it is delivered
+pub gift_is : (l q : ℕ) (u : Numbered) (d : Delivery) → d.queue ≡ q → u ≡ numbered_in d → Give l q u.number ≡ gift_of l d
+gift_is l q u d queue event = ap (λ n. Give l n u.number) (sym queue) ∙ ap (λ (w : Numbered). Give l d.queue w.number) event
 
 pub running_given : (v : View) (s : Passed) (l q c slot : ℕ) (w x : View) (t y : Passed) (ds : List Delivery) (d : Delivery) → IsRunning v s l q c slot w t ds d
     → x ≡ after w (gift_of l d ∷ []) → y ≡ given_once t q → AreChoices l v s (ds ++ d ∷ []) x y

@@ -1,6 +1,6 @@
 -- The steps of a reply and of a shut, and what they make of a core's view.
-use Rattle.std.proofs.Common.{◌≡◌, ℕ, ◌+◌, ◌<◌, ◌≤◌, Bool, true, false, cond, ◌&&◌, ◌||◌, ◌==◌, List, [], ◌∷◌, ◌++◌, length, Some, refl, sym, ap, ◌∙◌, subst, arith, append-nil, append_assoc}
-use Rattle.std.proofs.lemmas.Bool.{cond-true, cond-false}
+use Rattle.std.proofs.Common.{◌≡◌, ℕ, ◌+◌, ◌<◌, ◌≤◌, Bool, true, false, cond, ◌&&◌, ◌||◌, ◌==◌, List, [], ◌∷◌, ◌++◌, length, Some, ◌⊎◌, inl, inr, refl, sym, ap, ◌∙◌, subst, arith, append-nil, append_assoc}
+use Rattle.std.proofs.lemmas.Bool.{cond-true, cond-false, false≢true}
 use Rattle.std.proofs.lemmas.List.{length-append}
 use Rattle.transcripts.proofs.ViewTells.{may_take_is}
 use Rattle.transcripts.proofs.WholeStands.{stands_shut, takes_stand}
@@ -10,7 +10,9 @@ use Rattle.transcripts.specs.Transcript.{Held}
 use Rattle.evt_types.specs.declared.step.Outcome.{Outcome}
 use Rattle.evt_types.specs.declared.step.Step.{Step}
 use Rattle.evt_types.specs.declared.event.Event.{Event}
+use Rattle.evt_types.specs.Operation.{is_new_op}
 use Rattle.evt_types.specs.declared.event.Op.{Op}
+use Rattle.evt_types.specs.declared.event.Op.TheVariants as ops
 use Rattle.evt_types.specs.declared.step.Source.TheVariants.{Of}
 use Rattle.evt_types.specs.declared.step.Step.TheVariants.{Accept, Done, More, Shut}
 use Rattle.sched_core.proofs.Settling.{after_answer-ordered, after_answer-plain, after_answer_is, answer_steps-ordered, answer_steps-plain}
@@ -132,3 +134,15 @@ shut_stands v T stands = by_shut v.shut refl
     by_shut : (b : Bool) → v.shut ≡ b → Stands (T ++ cond b [] (Shut ∷ [])) (record v { shut = true })
     by_shut false unshut = stands_shut v T unshut stands
     by_shut true shut = rw append-nil (subst (λ b. Stands T (record v { shut = b })) shut stands)
+
+-- ---- operations told apart
+
+pub new_told : (o : Op) → is_new_op o ≡ true → o ≡ ops.New
+new_told ops.New e = refl
+new_told ops.Forward e = absurd (false≢true e)
+new_told ops.Release e = absurd (false≢true e)
+new_told ops.ForwardMore e = absurd (false≢true e)
+
+pub more_told : (o p : Op) → p ≡ o → is_new_op o ≡ false → ((p ≡ ops.New) ⊎ (p ≡ ops.ForwardMore)) → o ≡ ops.ForwardMore
+more_told o p same old (inl new) = absurd (false≢true (sym old ∙ ap is_new_op (sym same ∙ new)))
+more_told o p same old (inr more) = sym same ∙ more

@@ -9,17 +9,17 @@ ghost use Rattle.sched_core.specs.Ordered.{outcome_of};
 ghost use Rattle.sched_core.specs.Answered.{after_answer};
 
 use crate::state::Core;
-use evt_types::{Event, Outcome, Source, Step};
+use evt_types::{Outcome, PackedEvent, Source, Step};
 use order_parts::Entry;
 use step_log::StepLog;
 
 /// How an event is answered, by what it is forwarded as.
 #[inline(always)]
-fn outcome_of(forward: Option<&Event>) -> Outcome
+fn outcome_of(forward: Option<&PackedEvent>) -> Outcome
     ensures { result ≡ outcome_of (option_copied forward.entry) }
 {
     match forward {
-        Some(event) => Outcome::Forwarded(*event),
+        Some(event) => Outcome::Forwarded(event.unpack()),
         None => Outcome::Released,
     }
 }
@@ -27,7 +27,7 @@ fn outcome_of(forward: Option<&Event>) -> Outcome
 impl Core {
     /// The event waits in its queue, under the next number.
     #[inline(always)]
-    pub(crate) fn accept<L: StepLog>(&mut self, event: &Event, source: Source, log: &mut L)
+    pub(crate) fn accept<L: StepLog>(&mut self, event: &PackedEvent, source: Source, log: &mut L)
         requires queue { event.now.queue < length self.old.shape.queues }
         requires inside { inside_of self.old < bound_of self.old.shape }
         requires entries { entries_of self.old < 2 ^ 63 }
@@ -37,13 +37,13 @@ impl Core {
         ensures logged { L.steps log.new ≡ L.steps log.old ++ Step.Accept event.now.queue event.now source ∷ [] }
         ensures room { L.room log.old ≤ L.room log.new + 1 }
     {
-        let queue = usize::from(event.queue);
+        let queue = usize::from(event.queue());
         self.queues.accept(queue, event);
         self.inside += 1;
         self.entries += 1;
         log.push_step(Step::Accept {
             queue,
-            event: *event,
+            event: event.unpack(),
             source,
         });
     }
@@ -53,7 +53,7 @@ impl Core {
         &mut self,
         queue: usize,
         number: u64,
-        events: &[Event],
+        events: &[PackedEvent],
         log: &mut L,
     )
         requires named { All (λ (e : EventValue). e.queue < length self.old.shape.queues) events.now }
@@ -70,7 +70,7 @@ impl Core {
     }
 
     /// The event is added beside the lane's oldest unanswered one. An ordered queue's event keeps it in its place.
-    pub(crate) fn add<L: StepLog>(&mut self, lane: usize, event: &Event, log: &mut L) -> Entry
+    pub(crate) fn add<L: StepLog>(&mut self, lane: usize, event: &PackedEvent, log: &mut L) -> Entry
         requires lane { lane < lanes_of self.old.shape }
         requires may { may_add self.old lane event.now.queue ≡ true }
         requires room { 0 < L.room log.old }
@@ -91,7 +91,7 @@ impl Core {
         }
         log.push_step(Step::More {
             lane,
-            event: *event,
+            event: event.unpack(),
         });
         entry
     }
@@ -101,7 +101,7 @@ impl Core {
     pub(crate) fn answer<L: StepLog>(
         &mut self,
         lane: usize,
-        forward: Option<&Event>,
+        forward: Option<&PackedEvent>,
         log: &mut L,
     ) -> Entry
         requires lane { lane < lanes_of self.old.shape }

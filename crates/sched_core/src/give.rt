@@ -8,9 +8,9 @@ ghost use Rattle.evt_types.specs.declared.step.Step.{Step as StepValue};
 ghost use Rattle.evt_types.specs.Plan.{lanes_of, level_of};
 ghost use Rattle.sched_core.specs.Offered.{numbered_in, slot_at};
 
-use crate::offer::Offer;
+use crate::offer::{Offer, numbered};
 use crate::state::Core;
-use evt_types::{Delivery, Step};
+use evt_types::{Numbered, Step};
 use order_parts::Entry;
 use parked_queue::Level;
 use step_log::StepLog;
@@ -27,32 +27,40 @@ impl Core {
         ensures shape { self.new.shape ≡ self.old.shape }
         ensures room { L.room log.old ≤ L.room log.new + 1 }
     {
-        let slot = self.queues.slot_of(offer.delivery.queue, offer.flow);
-        self.give_at(offer.lane, &offer.delivery, offer.level, slot, log);
+        let (lane, queue) = (offer.lane, offer.delivery.queue());
+        let slot = self.queues.slot_of(queue, offer.flow);
+        self.give_at(
+            lane,
+            queue,
+            &numbered(&offer.delivery),
+            offer.level,
+            slot,
+            log,
+        );
     }
 
-    /// The same of an event of this level and slot.
+    /// The same of an event of the queue, of this level and slot.
     #[inline(always)]
     pub(crate) fn give_at<L: StepLog>(
         &mut self,
         lane: usize,
-        delivery: &Delivery,
+        queue: usize,
+        waiting: &Numbered,
         level: Level,
         slot: usize,
         log: &mut L,
     )
-        requires offer { IsOffer self.old lane delivery.now.queue (numbered_in delivery.now) }
-        requires level { level.number ≡ level_of delivery.now.event }
-        requires slot { slot ≡ slot_at self.old delivery.now.queue (numbered_in delivery.now) }
+        requires offer { IsOffer self.old lane queue waiting.now }
+        requires level { level.number ≡ level_of waiting.now.event }
+        requires slot { slot ≡ slot_at self.old queue waiting.now }
         requires room { 0 < L.room log.old }
-        ensures view { self.new ≡ after self.old (Step.Give lane delivery.now.queue delivery.now.number ∷ []) }
-        ensures logged { L.steps log.new ≡ L.steps log.old ++ Step.Give lane delivery.now.queue delivery.now.number ∷ [] }
+        ensures view { self.new ≡ after self.old (Step.Give lane queue waiting.now.number ∷ []) }
+        ensures logged { L.steps log.new ≡ L.steps log.old ++ Step.Give lane queue waiting.now.number ∷ [] }
         ensures shape { self.new.shape ≡ self.old.shape }
         ensures room { L.room log.old ≤ L.room log.new + 1 }
     {
-        let Delivery { queue, number, .. } = *delivery;
+        let number = waiting.number;
         let place = self.orders.hand(queue, number);
-        self.queues.remove(queue, level, slot, number);
         self.pins.pin(queue, slot, lane);
         self.lanes.push(
             lane,
@@ -68,6 +76,8 @@ impl Core {
             queue,
             number,
         });
+        // Last, so that what it reads of the queue's list serves the look for the next event too.
+        self.queues.remove(queue, level, slot, number);
     }
 
     /// Appends to the log that the lane's ring had no room for a delivery.

@@ -19,24 +19,31 @@ pub struct Offer {
     ghost flow_is: { flow ≡ delivery.event.flow },
 }
 
+/// A delivery's event with its number.
+#[inline(always)]
+pub(crate) fn numbered(delivery: &Delivery) -> Numbered
+    ensures { result ≡ numbered_in delivery.now }
+{
+    Numbered {
+        number: delivery.number(),
+        event: delivery.packed(),
+    }
+}
+
 impl Offer {
-    /// The event that was found at the level of the queue, for the lane.
+    /// The event that was found at the level of its queue, for the lane.
     #[inline(always)]
-    pub(crate) fn of(queue: usize, level: Level, lane: usize, found: Found) -> Offer
+    pub(crate) fn of(level: Level, lane: usize, found: Found) -> Offer
         requires { level.number ≡ level_of found.waiting.event }
         ensures lane { result.lane ≡ lane }
-        ensures queue { result.delivery.queue ≡ queue }
+        ensures queue { result.delivery.queue ≡ found.waiting.event.queue }
         ensures event { numbered_in result.delivery ≡ found.waiting }
     {
         let Found { flow, waiting, .. } = found;
         let Numbered { number, event } = waiting;
         Offer {
             lane,
-            delivery: Delivery {
-                event,
-                queue,
-                number,
-            },
+            delivery: Delivery::new(event, number),
             level,
             flow,
         }

@@ -159,7 +159,7 @@ impl Core {
     {
         let found = self.queues.head(queue, level, allowed)?;
         let lane = self.lane_for(queue, found.slot, lanes, skips)?;
-        Some(Offer::of(queue, level, lane, found))
+        Some(Offer::of(level, lane, found))
     }
 
     /// The first event of the queue's level that some lane may take, for the best lane, as it is searched. A slot whose event no
@@ -183,7 +183,7 @@ impl Core {
         let mut left = allowed;
         while let Some(found) = self.queues.first(queue, level, left) {
             if let Some(lane) = self.lane_for(queue, found.slot, lanes, skips) {
-                return Some(Offer::of(queue, level, lane, found));
+                return Some(Offer::of(level, lane, found));
             }
             left.remove(found.slot);
         }

@@ -9,7 +9,7 @@ ghost use Rattle.sched_core.specs.Runs.{AreChoices, gifts_of};
 ghost use Rattle.transcripts.specs.Choice.{HasQuota, IsChoice};
 ghost use Rattle.transcripts.specs.Standing.{Stands};
 
-use crate::offer::Offer;
+use crate::offer::{Offer, numbered};
 use crate::skips::Skips;
 use crate::state::Core;
 use arrayvec::ArrayVec;
@@ -23,16 +23,12 @@ pub const MAX_RUN: usize = 32;
 
 /// What was found, as it is delivered.
 #[inline(always)]
-fn delivery_of(queue: usize, found: &Found) -> Delivery
-    ensures queue { result.queue ≡ queue }
+fn delivery_of(found: &Found) -> Delivery
+    ensures queue { result.queue ≡ found.now.waiting.event.queue }
     ensures event { numbered_in result ≡ found.now.waiting }
 {
     let Numbered { number, event } = found.waiting;
-    Delivery {
-        event,
-        queue,
-        number,
-    }
+    Delivery::new(event, number)
 }
 
 impl Core {
@@ -44,6 +40,7 @@ impl Core {
         ensures quota { IfSome result (λ _. HasQuota self.now skips.now queue) }
         ensures offer { IfSome result (λ f. IsOfferIn self.now skips.now queue level.number lane f.waiting) }
         ensures slot { IfSome result (λ f. f.slot ≡ slot_at self.now queue f.waiting) }
+        ensures names { IfSome result (λ f. f.waiting.event.queue ≡ queue) }
         ensures counts { IfSome result (λ _. length skips.now.given ≡ MAX_QUEUES) }
     {
         self.facts();
@@ -86,7 +83,7 @@ impl Core {
             level,
             flow,
         } = offer;
-        let queue = delivery.queue;
+        let queue = delivery.queue();
         let mut slot = self.queues.slot_of(queue, flow);
         let mut next = delivery;
         // With flow lanes the next event mostly goes to another lane.
@@ -95,7 +92,7 @@ impl Core {
         for _ in 0..most.min(MAX_RUN) {
             self.facts();
             run.push(next);
-            self.give_at(lane, &next, level, slot, log);
+            self.give_at(lane, queue, &numbered(&next), level, slot, log);
             skips.given(queue);
             if by_flows {
                 return;
@@ -104,7 +101,7 @@ impl Core {
                 return;
             };
             slot = found.slot;
-            next = delivery_of(queue, &found);
+            next = delivery_of(&found);
         }
     }
 }

@@ -12,7 +12,7 @@ ghost use Rattle.sched_core.specs.Taken.{is_accept_of};
 
 use crate::state::Core;
 use arrayvec::ArrayVec;
-use evt_types::{Event, MAX_FORWARDS, Source, Step};
+use evt_types::{MAX_FORWARDS, PackedEvent, Source, Step};
 use step_log::StepLog;
 
 /// How many events a place keeps that keeps one or none.
@@ -25,7 +25,7 @@ fn count_of(keeps_one: bool) -> usize
 
 impl Core {
     /// The oldest place of the queue leaves, where it is answered: its event's number, and what it was passed on as.
-    fn leave(&mut self, queue: usize) -> Option<(u64, ArrayVec<Event, MAX_FORWARDS>)>
+    fn leave(&mut self, queue: usize) -> Option<(u64, ArrayVec<PackedEvent, MAX_FORWARDS>)>
         requires queue { queue < length self.old.shape.queues }
         ensures value { option_map left result ≡ oldest_answered (places_at self.old queue) }
         ensures view { self.new ≡ after_leave self.old queue }
@@ -43,7 +43,7 @@ impl Core {
     /// The oldest place of the queue leaves, where it is answered and keeps one event at most: its event's number, and whether it
     /// keeps one, which is copied to `event`. Where it gives nothing it may be that there are more.
     #[inline(always)]
-    fn leave_plain(&mut self, queue: usize, event: &mut Event) -> Option<(u64, bool)>
+    fn leave_plain(&mut self, queue: usize, event: &mut PackedEvent) -> Option<(u64, bool)>
         requires queue { queue < length self.old.shape.queues }
         ensures value { IfSome result (λ x. oldest_answered (places_at self.old queue) ≡ Some (left_plain x.0 x.1 event.new)) }
         ensures view { IfSome result (λ x. self.new ≡ after_leave self.old queue) }
@@ -71,7 +71,7 @@ impl Core {
         ensures room { L.room log.old + length (L.steps log.old) ≤ L.room log.new + length (L.steps log.new) }
     {
         self.facts();
-        let mut event = Event::default();
+        let mut event = PackedEvent::default();
         let (number, keeps_one) = self.leave_plain(queue, &mut event)?;
         if !keeps_one {
             return Some(false);

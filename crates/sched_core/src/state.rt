@@ -153,7 +153,7 @@ impl Core {
                 into.push_reserved(KeptEvent {
                     queue,
                     number: kept.number,
-                    event: kept.event,
+                    event: kept.event.unpack(),
                 });
             }
         }

@@ -7,7 +7,7 @@ ghost use Rattle.evt_types.specs.declared.step.Step.{Step as StepValue};
 ghost use Rattle.sched_core.specs.Taken.{took_by, took_of};
 
 use crate::state::Core;
-use evt_types::{Event, MAX_EXTRAS, Op, Outcome, Reply, Source, Step};
+use evt_types::{MAX_EXTRAS, Op, Outcome, PackedEvent, Reply, Source, Step};
 use order_parts::Entry;
 use step_log::StepLog;
 
@@ -40,12 +40,14 @@ impl Core {
         ensures few { length (steps_of self.now lane reply.now.event) + kept_in (after self.now (steps_of self.now lane reply.now.event)) ≤ kept_in self.now + 2 }
     {
         self.facts();
-        let queue = usize::from(reply.event.queue);
-        match reply.event.op {
-            Op::New => self.may_bring(lane, queue),
+        let queue = usize::from(reply.event.queue());
+        if reply.event.is_new() {
+            return self.may_bring(lane, queue);
+        }
+        match reply.event.op() {
             Op::Forward => self.may_forward(lane, queue),
             Op::Release => self.may_answer(lane),
-            Op::ForwardMore => self.may_add(lane, queue),
+            Op::New | Op::ForwardMore => self.may_add(lane, queue),
         }
     }
 
@@ -126,17 +128,19 @@ impl Core {
         ensures room { L.room log.old ≤ L.room log.new + length (steps_of self.old lane reply.now.event) }
     {
         let event = &reply.event;
-        match event.op {
-            Op::New => self.take_new(lane, event, log),
+        if event.is_new() {
+            return self.take_new(lane, event, log);
+        }
+        match event.op() {
             Op::Forward => self.take_forward(lane, event, log),
             Op::Release => self.take_release(lane, log),
-            Op::ForwardMore => self.take_more(lane, event, log),
+            Op::New | Op::ForwardMore => self.take_more(lane, event, log),
         }
     }
 
     /// A new event waits in its queue; once the core is shut it is turned away.
     #[inline(always)]
-    fn take_new<L: StepLog>(&mut self, lane: usize, event: &Event, log: &mut L) -> Took
+    fn take_new<L: StepLog>(&mut self, lane: usize, event: &PackedEvent, log: &mut L) -> Took
         requires takes { may_enter self.old event.now.queue ≡ true }
         requires room { length (steps_by Op.New self.old lane event.now) ≤ L.room log.old }
         ensures view { self.new ≡ after self.old (steps_by Op.New self.old lane event.now) }
@@ -148,7 +152,7 @@ impl Core {
         if is_turned {
             log.push_step(Step::Turned {
                 lane,
-                event: *event,
+                event: event.unpack(),
             });
             return Took::Turned;
         }
@@ -159,7 +163,7 @@ impl Core {
     /// The lane's oldest unanswered event is done with, and what it is forwarded as waits in its queue. An ordered queue
     /// keeps it, with what was added beside it, until all that it handed out before is answered.
     #[inline(always)]
-    fn take_forward<L: StepLog>(&mut self, lane: usize, event: &Event, log: &mut L) -> Took
+    fn take_forward<L: StepLog>(&mut self, lane: usize, event: &PackedEvent, log: &mut L) -> Took
         requires op { event.now.op ≡ Op.Forward }
         requires lane { lane < lanes_of self.old.shape }
         requires takes { may_forward self.old lane event.now.queue ≡ true }
@@ -200,7 +204,7 @@ impl Core {
     /// The event is added beside the lane's oldest unanswered one. An ordered queue's event keeps it in its place; beside any other
     /// it waits in its queue at once.
     #[cold]
-    fn take_more<L: StepLog>(&mut self, lane: usize, event: &Event, log: &mut L) -> Took
+    fn take_more<L: StepLog>(&mut self, lane: usize, event: &PackedEvent, log: &mut L) -> Took
         requires op { event.now.op ≡ Op.ForwardMore }
         requires lane { lane < lanes_of self.old.shape }
         requires takes { may_add self.old lane event.now.queue ≡ true }

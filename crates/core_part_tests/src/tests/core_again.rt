@@ -4,7 +4,7 @@
 ghost use Rattle.std.specs.Prelude.{◌≡◌, vec_len, vec_capacity, IfOk};
 
 use super::shapes::{ATOMIC, Parts, made_of};
-use evt_types::{Event, Op, Outcome, Reply, Serving, Source, Step};
+use evt_types::{Event, Op, Outcome, PackedEvent, Reply, Serving, Source, Step};
 use sched_core::{Core, Skips};
 use std::alloc::{AllocError, Global};
 use std::test::Fail;
@@ -131,7 +131,9 @@ fn take(
     lane: usize,
     event: Event,
 ) -> Result<Vec<Step>, AllocError> {
-    let reply = Reply { event };
+    let reply = Reply {
+        event: PackedEvent::of(&event),
+    };
     // What is enough for a sweep is enough for a reply.
     let mut log = log_of(alloc, core.log_room())?;
     if lane < core.shape().lanes() && core.takes(lane, &reply) {

@@ -3,7 +3,7 @@
 ghost use Rattle.std.specs.Prelude.{◌≡◌, IfOk};
 ghost use Rattle.level_queues.specs.Lists.{no_events};
 
-use evt_types::{Event, Numbered, Op};
+use evt_types::{Event, Numbered, Op, PackedEvent};
 use level_queues::{Levels, Memory};
 use std::alloc::Global;
 use std::process::Abort;
@@ -20,7 +20,7 @@ fn levels_of(alloc: Global, capacity: usize) -> Result<Levels, Memory>
 
 /// An event that waits under this number.
 fn waiting(number: u64, priority: u8) -> Numbered {
-    let event = event_of!(New, 7, priority, number);
+    let event = PackedEvent::of(&event_of!(New, 7, priority, number));
     Numbered { number, event }
 }
 

@@ -5,7 +5,7 @@ ghost use Rattle.order_parts.specs.History.{entries_of};
 ghost use Rattle.order_parts.specs.Pins.{free};
 ghost use Rattle.order_parts.specs.Reorder.{after_leave, empty};
 
-use evt_types::{Event, Numbered, Op};
+use evt_types::{Event, Numbered, Op, PackedEvent};
 use order_parts::{Entry, History, Memory, Pins, Reorder};
 use std::alloc::Global;
 use std::test::Fail;
@@ -58,13 +58,23 @@ fn a_slot_is_free_once_all_are_answered(rt: HostRuntime) -> Result<(), Fail> {
     Ok(())
 }
 
+/// Whether these are the events.
+fn are_events(events: &[PackedEvent], wanted: &[Event]) -> bool {
+    for (event, other) in events.iter().zip(wanted.iter()) {
+        if event.unpack() != *other {
+            return false;
+        }
+    }
+    events.len() == wanted.len()
+}
+
 /// Whether a place leaves that had this number and was passed on as these events, or none leaves.
 fn leaves(reorder: &mut Reorder, wanted: Option<(u64, &[Event])>) -> bool
     ensures { reorder.new ≡ after_leave reorder.old }
 {
     match (reorder.leave(), wanted) {
         (Some((number, events)), Some((other, all))) => {
-            number == other && events.as_slice() == all
+            number == other && are_events(events.as_slice(), all)
         }
         (None, None) => true,
         _ => false,
@@ -92,10 +102,10 @@ fn the_oldest_place_leaves_first(rt: HostRuntime) -> Result<(), Fail> {
 fn added_events_leave_before_the_forward(rt: HostRuntime) -> Result<(), Fail> {
     let mut reorder = reorder_of(rt.alloc(), 1)?;
     reorder.hand(5);
-    reorder.add(0, FIRST);
-    reorder.add(0, SECOND);
+    reorder.add(0, PackedEvent::of(&FIRST));
+    reorder.add(0, PackedEvent::of(&SECOND));
     let early = leaves(&mut reorder, None);
-    reorder.resolve(0, Some(&FORWARD));
+    reorder.resolve(0, Some(&PackedEvent::of(&FORWARD)));
     let kept = (
         reorder.kept_count(0),
         reorder.kept_at(0, 1),
@@ -104,7 +114,7 @@ fn added_events_leave_before_the_forward(rt: HostRuntime) -> Result<(), Fail> {
     let all = leaves(&mut reorder, Some((5, &[FIRST, SECOND, FORWARD])));
     let second = Numbered {
         number: 5,
-        event: SECOND,
+        event: PackedEvent::of(&SECOND),
     };
     assert_eq!(rt; (kept, [early, all]), ((3, Some(second), None), [true; 2]));
     Ok(())

@@ -5,16 +5,16 @@ ghost use Rattle.std.specs.Prelude.{◌≡◌, ◌<◌, ◌≤◌, [], ◌∷◌
 ghost use Rattle.parked_queue.specs.Waits.{all_empty, waits_at};
 ghost use Rattle.parked_queue.specs.Lists as lists;
 
-use evt_types::{Event, Numbered, Op};
+use evt_types::{Event, Numbered, Op, PackedEvent};
 use parked_queue::{Level, ParkedQueues, WaitingLists};
 use small_set::SmallSet;
 use std::alloc::{AllocError, Global};
 use std::test::Fail;
 
-/// Flows 1 and 6; of four slots flow 6 has slot 2.
+/// Flow 1 for the first queue, and flow 6 for the second; of four slots flow 6 has slot 2.
 const ONE: Event = event_of!(New, 1, 128, 10);
 
-const SIX: Event = event_of!(New, 6, 128, 11);
+const SIX: Event = event_of!(New, 6, 128, 11, queue: 1);
 
 /// Two queues of so many slots each.
 fn queues_of(alloc: Global, slots: usize, room: usize) -> Result<ParkedQueues, AllocError>
@@ -80,8 +80,8 @@ fn first_of(
 /// In each queue an event waits, and there is room for no more.
 fn one_in_each(alloc: Global) -> Result<ParkedQueues, AllocError> {
     let mut queues = queues_of(alloc, 4, 2)?;
-    queues.accept(0, &ONE);
-    queues.accept(1, &SIX);
+    queues.accept(0, &PackedEvent::of(&ONE));
+    queues.accept(1, &PackedEvent::of(&SIX));
     Ok(queues)
 }
 
@@ -104,15 +104,19 @@ fn queues_share_their_room(rt: HostRuntime) -> Result<(), Fail> {
     Ok(())
 }
 
-const HEAD: Numbered = Numbered {
-    number: 0,
-    event: ONE,
-};
+fn head() -> Numbered {
+    Numbered {
+        number: 0,
+        event: PackedEvent::of(&ONE),
+    }
+}
 
-const SECOND: Numbered = Numbered {
-    number: 1,
-    event: SIX,
-};
+fn second() -> Numbered {
+    Numbered {
+        number: 1,
+        event: PackedEvent::of(&SIX),
+    }
+}
 
 /// Lists in which there is room for two: the first is in list 1, the second in list 0.
 fn two_listed(alloc: Global, first: Numbered, second: Numbered) -> Result<WaitingLists, AllocError>
@@ -126,12 +130,12 @@ fn two_listed(alloc: Global, first: Numbered, second: Numbered) -> Result<Waitin
 
 #[test]
 fn lists_share_their_room(rt: HostRuntime) -> Result<(), Fail> {
-    let lists = two_listed(rt.alloc(), HEAD, SECOND)?;
+    let lists = two_listed(rt.alloc(), head(), second())?;
     let lengths = (lists.total(), lists.len(0), lists.len(1));
     assert_eq!(rt; lengths, (2, 1, 1));
     assert_eq!(rt;
         (lists.head(0).copied(), lists.head(1).copied()),
-        (Some(SECOND), Some(HEAD))
+        (Some(second()), Some(head()))
     );
     Ok(())
 }

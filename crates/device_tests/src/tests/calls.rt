@@ -96,12 +96,8 @@ fn is_dequeued(
 /// Whether the deliveries are these of queue 0.
 fn are_queue_zeros(deliveries: &[Delivery], wanted: &[(u64, Sent)]) -> bool {
     for (delivery, (number, sent)) in deliveries.iter().zip(wanted.iter()) {
-        let wanted = Delivery {
-            event: sent.event(),
-            queue: 0,
-            number: *number,
-        };
-        if *delivery != wanted {
+        let is_there = (delivery.queue(), delivery.number()) == (0, *number);
+        if !is_there || delivery.event() != sent.event() {
             return false;
         }
     }

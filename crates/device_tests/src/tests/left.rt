@@ -34,7 +34,8 @@ pub(crate) const NOTHING: Left = Left {
 
 fn are_waiting(waiting: &[Delivery], wanted: &[(usize, u64, Sent)]) -> bool {
     for (event, (queue, number, sent)) in waiting.iter().zip(wanted.iter()) {
-        if event.queue != *queue || event.number != *number || event.event != sent.event() {
+        let is_there = (event.queue(), event.number()) == (*queue, *number);
+        if !is_there || event.event() != sent.event() {
             return false;
         }
     }

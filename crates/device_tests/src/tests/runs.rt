@@ -90,9 +90,10 @@ struct Worker {
 
 impl Worker {
     fn answer_to(&self, delivery: &Delivery) -> Event {
-        let next = delivery.queue.saturating_add(1);
+        let next = delivery.queue().saturating_add(1);
         if next <= usize::from(self.last) {
-            delivery.event.forwarded(next as u8, delivery.event.payload)
+            let event = delivery.event();
+            event.forwarded(next as u8, event.payload)
         } else {
             Event::release()
         }

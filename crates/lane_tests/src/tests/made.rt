@@ -1,32 +1,28 @@
 //! Deliveries and replies, which are known by their numbers.
 
-use evt_types::{Delivery, Event, Op, Reply};
+use evt_types::{Delivery, Event, Op, PackedEvent, Reply};
 
-fn event(op: Op, payload: u64) -> Event {
-    Event {
+fn event(op: Op, queue: u8, payload: u64) -> PackedEvent {
+    PackedEvent::of(&Event {
         flow: 7,
         sub_type: 0,
         event_type: 0,
         op,
-        queue: 0,
+        queue,
         priority: 128,
         impl_opaque: 0,
         payload,
-    }
+    })
 }
 
-/// The delivery of this number.
+/// The delivery of this number, of queue 3.
 pub(crate) fn delivery(number: u64) -> Delivery {
-    Delivery {
-        event: event(Op::New, number),
-        queue: 3,
-        number,
-    }
+    Delivery::new(event(Op::New, 3, number), number)
 }
 
 /// The reply of this number.
 pub(crate) fn reply(op: Op, number: u64) -> Reply {
     Reply {
-        event: event(op, number),
+        event: event(op, 0, number),
     }
 }

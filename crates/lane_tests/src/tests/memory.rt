@@ -16,7 +16,7 @@ fn waiting_at(end: Option<Far>) -> Option<u64> {
     if far.is_full() {
         return None;
     }
-    Some(far.receive()?.number)
+    Some(far.receive()?.number())
 }
 
 /// The holder's end of a lane in which a delivery of this number waits.

@@ -180,14 +180,19 @@ fn turn(near: &mut Near, far: &mut Far, count: u64) -> bool
     true
 }
 
-/// The reply that is refused, and its cause.
-type Refused = (Reply, Refusal);
+/// The operation of the reply that is refused, and its cause.
+type Refused = (Op, Refusal);
+
+/// The reply that is refused.
+fn refused_reply(op: Op) -> Reply {
+    reply(op, 7)
+}
 
 /// How many deliveries are held once number 9 was received too and the reply was accepted. An answer ends one, and where no more
 /// could be added the oldest was released before.
 fn held_then(row: &Row, refused: Refused) -> usize {
-    let (reply, refusal) = refused;
-    let is_answer = matches!(reply.event.op, Op::Forward | Op::Release);
+    let (op, refusal) = refused;
+    let is_answer = matches!(op, Op::Forward | Op::Release);
     let ended = usize::from(is_answer) + usize::from(refusal == Refusal::TooMany);
     row.held.saturating_add(1).saturating_sub(ended)
 }
@@ -202,9 +207,11 @@ fn stands(far: &Far, row: &Row, stand: Stand) -> bool {
 fn refuses(far: &mut Far, row: &Row, stand: Stand, refused: Refused, gathers: bool) -> bool
     ensures { far_id far.new ≡ far_id far.old }
 {
-    let (reply, refusal) = refused;
-    let said = Err(fault_of(refusal, reply));
-    stands(far, row, stand) && say(far, reply, gathers) == said && stands(far, row, stand)
+    let (op, refusal) = refused;
+    let said = Err(fault_of(refusal, refused_reply(op)));
+    stands(far, row, stand)
+        && say(far, refused_reply(op), gathers) == said
+        && stands(far, row, stand)
 }
 
 /// Where no more may be added beside the oldest that is held, that is released; whether the release is taken.
@@ -224,11 +231,13 @@ fn goes_on(near: &mut Near, far: &mut Far, refused: Refused) -> bool
     ensures near { near_id near.new ≡ near_id near.old }
     ensures far { far_id far.new ≡ far_id far.old }
 {
-    let (reply, refusal) = refused;
+    let (op, refusal) = refused;
     if far.is_full() || far.receive() != Some(delivery(9)) || !makes_way(near, far, refusal) {
         return false;
     }
-    far.answer(reply) == Ok(()) && near.take() == Some(reply) && near.take() == None
+    far.answer(refused_reply(op)) == Ok(())
+        && near.take() == Some(refused_reply(op))
+        && near.take() == None
 }
 
 /// Brings a lane to where replies are refused; whether all came there.
@@ -280,7 +289,7 @@ fn other_of(
     ops: &[Op],
 ) -> Result<Option<Op>, Memory> {
     for op in ops {
-        if !plays_each(alloc, row, stand, (reply(*op, 7), refusal))? {
+        if !plays_each(alloc, row, stand, (*op, refusal))? {
             return Ok(Some(*op));
         }
     }

@@ -9,6 +9,6 @@ pub loop-index-preserved : goal.loop-index-preserved
 loop-index-preserved c =
     let there : c.loop-index.index < length c.args.given.now = omega arith in
     let room : c.loop-index.index < length c.loop-index.events = omega arith in
-    let zero : CEvent = record { flow_and_types = 0; op_and_kind = 0; queue = 0; priority = 0; impl_opaque = 0; payload = 0 } in
+    let zero : CEvent = record { word = 0; payload = 0 } in
     rw (take_more c.args.given.now c.loop-index.index zero there, take_more_set _ _ c.read.result room)
     (all_zipped_more IsRead _ _ _ _ c.loop-index.invariant c.read.ensures)

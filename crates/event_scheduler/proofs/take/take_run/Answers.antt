@@ -2,8 +2,8 @@ use Rattle.std.proofs.Common.{rules, ◌+◌, ◌<◌, ◌++◌, Some, length, s
 use Rattle.std.proofs.lemmas.List.{length-set}
 use Rattle.std.proofs.lemmas.Option.{slice_get-get_or}
 use Rattle.event_scheduler.specs.Scheduler.{Sight, taken_at}
-use Rattle.event_scheduler.specs.Taking.{Takes, entered_by, only, turned_by, with_core, with_taken}
-use Rattle.event_scheduler.proofs.Taking.{lane_more, none_turned, run_next, run_none, takes_none, took}
+use Rattle.event_scheduler.specs.Taking.{Takes, only, with_core, with_taken}
+use Rattle.event_scheduler.proofs.Taking.{lane_more, run_next, run_none, takes_none, took}
 use Rattle.transcripts.specs.Standing.{kept_in}
 use Rattle.event_scheduler.proofs.take.take_run.Goals as goal
 
@@ -19,9 +19,6 @@ loop-taken-init g c = (
 pub returns-then-not-takes-clause-refused : goal.returns-then-not-takes-clause-refused
 returns-then-not-takes-clause-refused g c within = (c.index-replies-taken.result, slice_get-get_or c.args.replies.now c.loop-taken.taken c.index-replies-taken.result within ∙ ap Some (sym c.index-replies-taken.is), sym c.takes.ensures.value ∙ c.if-not-takes.true)
 
-pub count-requires : goal.count-requires
-count-requires g c = record { none = λ other. ap turned_by c.take_from-took.ensures.took ∙ none_turned _ _ _ _ other }
-
 pub loop-taken-preserved : goal.loop-taken-preserved
 loop-taken-preserved g c =
     let was = c.loop-taken.invariant in
@@ -29,12 +26,12 @@ loop-taken-preserved g c =
       λ s within.
           let more = taken_at s c.args.lane ++ take c.loop-taken.taken c.args.replies.now in
           let inside : c.args.lane < length (set s.taken c.args.lane more) = omega (arith, within, length-set s.taken c.args.lane more) in
-          subst (λ (x : Sight). Takes (only c.args.lane (c.loop-taken.taken + 1)) (c.loop-taken.taken + 1) (with_core s c.args.core.now c.args.pocket.now c.args.accepted_new.now) (g.L.StepLog.steps c.args.log.now) (with_core x c.take_from-took.new.self c.count.new.pocket c.count.new.accepted_new) (g.L.StepLog.steps c.take_from-took.new.log))
+          subst (λ (x : Sight). Takes (only c.args.lane (c.loop-taken.taken + 1)) (c.loop-taken.taken + 1) (with_core s c.args.core.now c.args.pocket.now c.args.accepted_new.now) (g.L.StepLog.steps c.args.log.now) (with_core x c.take_one.new.core c.take_one.new.pocket c.take_one.new.accepted_new) (g.L.StepLog.steps c.take_one.new.log))
           (run_next s c.args.lane c.loop-taken.taken c.args.replies.now c.index-replies-taken.result within (omega (arith, c.loop-taken-test.true)) c.index-replies-taken.is)
           (lane_more c.args.lane c.loop-taken.taken 1 _ _ _ _ _ _ (was.0 s within)
-          (took (with_taken s c.args.lane (take c.loop-taken.taken c.args.replies.now)) c.loop-taken.core c.take_from-took.new.self c.loop-taken.pocket c.loop-taken.accepted_new _ _ c.args.lane _ _ event _ _ inside (search rules) (search rules)
-          c.take_from-took.ensures.view c.take_from-took.ensures.shape c.take_from-took.ensures.logged (λ T at. (c.take_from-took.ensures.stands T at).1) (search rules)
-          (ap turned_by c.take_from-took.ensures.took) (ap (entered_by event.op) c.take_from-took.ensures.took) c.count.ensures.pocket c.count.ensures.accepted)),
-      c.take_from-took.ensures.shape ∙ was.1,
-      omega (arith, was.2, c.takes.ensures.few, c.take_from-took.ensures.room, ap kept_in c.take_from-took.ensures.view),
+          (took (with_taken s c.args.lane (take c.loop-taken.taken c.args.replies.now)) c.loop-taken.core c.take_one.new.core c.loop-taken.pocket c.loop-taken.accepted_new _ _ c.args.lane _ _ event _ _ inside (search rules) (search rules)
+          c.take_one.ensures.view c.take_one.ensures.shape c.take_one.ensures.logged c.take_one.ensures.stands (search rules)
+          refl refl c.take_one.ensures.pocket c.take_one.ensures.accepted)),
+      c.take_one.ensures.shape ∙ was.1,
+      omega (arith, was.2, c.takes.ensures.few, c.take_one.ensures.room, ap kept_in c.take_one.ensures.view),
     )

@@ -1,6 +1,5 @@
-use Rattle.std.proofs.Common.{◌≡◌, ◌<◌, Bool, true, false, List, length, get_or, slice_get, ap, sym, ◌∙◌, arith}
+use Rattle.std.proofs.Common.{◌≡◌, ◌<◌, length, slice_get, ap, sym, ◌∙◌, arith}
 use Rattle.std.proofs.lemmas.Option.{slice_get-get_or}
-use Rattle.lists.specs.Lists.{has}
 use Rattle.evt_types.specs.Plan.{is_linked_flow}
 use Rattle.evt_types.specs.declared.flows.FlowLane.{FlowLane}
 use Rattle.evt_types.proofs.FlowLanes.{linked_more, linked_same}

@@ -10,22 +10,22 @@ use Rattle.event_handles.proofs.port.Seat.enqueue.Goals as goal
 
 pub returns : goal.returns
 returns c =
-    let burst = c.enqueue_burst-taken.ensures in
+    let burst = c.enqueue_packed-taken.ensures in
     let count : c.min-count.result ≡ min 64 (length c.args.events.now) = omega arith in
     let within : c.min-count.result ≤ length c.args.events.now = omega arith in
     let front : take c.min-count.result c.args.events.now ≡ take 64 c.args.events.now = ap (λ n. take n c.args.events.now) count ∙ take_min 64 c.args.events.now in
     let counted : length (take c.min-count.result c.args.events.now) ≡ c.min-count.result = length-take-le _ _ within in
-    let few : c.enqueue_burst-taken.result.0 ≤ 64 = omega (arith, burst.count, length-take c.min-count.result c.read_all.new.events) in
+    let few : c.enqueue_packed-taken.result.0 ≤ 64 = omega (arith, burst.count, length-take c.min-count.result c.read_all.new.events) in
     record {
       events = take c.min-count.result c.read_all.new.events;
       read = subst (λ (given : List CEvent). AllZip IsRead given (take c.min-count.result c.read_all.new.events)) front
           (subst (λ (n : ℕ). AllZip IsRead (take c.min-count.result c.args.events.now) (take n c.read_all.new.events)) counted c.read_all.ensures);
-      n = c.enqueue_burst-taken.result.0;
-      end = c.enqueue_burst-taken.result.1;
+      n = c.enqueue_packed-taken.result.0;
+      end = c.enqueue_packed-taken.result.1;
       submits = record {
         own = burst.site;
         credit = burst.credit;
-        site = same_site c.args.self.now.port c.enqueue_burst-taken.new.self burst.site burst.credit;
+        site = same_site c.args.self.now.port c.enqueue_packed-taken.new.self burst.site burst.credit;
         count = burst.count;
         all = burst.all;
         submitted = burst.submitted;

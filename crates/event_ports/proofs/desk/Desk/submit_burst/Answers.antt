@@ -1,5 +1,5 @@
 -- One event more was taken, or refused.
-use Rattle.std.proofs.Common.{rules, ◌≡◌, ◌∙◌, Some, refl, slice_get, subst, take}
+use Rattle.std.proofs.Common.{rules, ◌≡◌, ◌∙◌, ap, sym, Some, refl, slice_get, subst, take}
 use Rattle.event_ports.proofs.Refusing.{same_refusal}
 use Rattle.event_ports.specs.Desks.{hand, Enqueues, EnqueuesAll}
 use Rattle.event_ports.proofs.Bursts.{taken_more, chain_taken, read_next}
@@ -9,9 +9,9 @@ pub returns-in-Err-clause-refused : goal.returns-in-Err-clause-refused
 returns-in-Err-clause-refused c =
     let was = c.loop-taken.invariant in
     record {
-      event = c.index-events-taken.result;
+      event = c.of.result;
       between = c.loop-taken.self;
-      is_next = read_next c.args.events.now c.loop-taken.taken c.index-events-taken.result c.loop-taken-test.true c.index-events-taken.is;
+      is_next = (read_next c.args.events.now c.loop-taken.taken c.index-events-taken.result c.loop-taken-test.true c.index-events-taken.is ∙ ap Some (sym c.of.ensures));
       site = was.0;
       credit = was.1;
       submitted = was.2;
@@ -25,8 +25,8 @@ returns-in-Err-clause-chain c =
       between = c.loop-taken.self;
       taken = was.3;
       ends = (
-        c.index-events-taken.result,
-        read_next c.args.events.now c.loop-taken.taken c.index-events-taken.result c.loop-taken-test.true c.index-events-taken.is,
+        c.of.result,
+        (read_next c.args.events.now c.loop-taken.taken c.index-events-taken.result c.loop-taken-test.true c.index-events-taken.is ∙ ap Some (sym c.of.ensures)),
         record {
           site = c.submit.ensures.site;
           credit = c.submit.ensures.credit;
@@ -40,8 +40,8 @@ returns-in-Err-clause-chain c =
 pub loop-taken-preserved : goal.loop-taken-preserved
 loop-taken-preserved c =
     let was = c.loop-taken.invariant in
-    let at : slice_get c.args.events.now c.loop-taken.taken ≡ Some c.index-events-taken.result = read_next c.args.events.now c.loop-taken.taken c.index-events-taken.result c.loop-taken-test.true c.index-events-taken.is in
-    let one : Enqueues c.index-events-taken.result c.loop-taken.self c.submit.new.self = record {
+    let at : slice_get c.args.events.now c.loop-taken.taken ≡ Some c.of.result = (read_next c.args.events.now c.loop-taken.taken c.index-events-taken.result c.loop-taken-test.true c.index-events-taken.is ∙ ap Some (sym c.of.ensures)) in
+    let one : Enqueues c.of.result c.loop-taken.self c.submit.new.self = record {
       site = c.submit.ensures.site;
       credit = c.submit.ensures.credit;
       submitted = c.in_default.ensures.submitted;
@@ -50,8 +50,8 @@ loop-taken-preserved c =
     } in (
       c.submit.ensures.site ∙ was.0,
       (search rules),
-      taken_more c.args.events.now c.loop-taken.taken c.index-events-taken.result (hand c.args.self.now) (hand c.loop-taken.self) (hand c.submit.new.self) at was.2 c.in_default.ensures.submitted,
-      chain_taken c.args.events.now c.loop-taken.taken c.index-events-taken.result c.args.self.now c.loop-taken.self c.submit.new.self at was.3 one,
+      taken_more c.args.events.now c.loop-taken.taken c.of.result (hand c.args.self.now) (hand c.loop-taken.self) (hand c.submit.new.self) at was.2 c.in_default.ensures.submitted,
+      chain_taken c.args.events.now c.loop-taken.taken c.of.result c.args.self.now c.loop-taken.self c.submit.new.self at was.3 one,
     )
 
 pub returns-clause-chain : goal.returns-clause-chain

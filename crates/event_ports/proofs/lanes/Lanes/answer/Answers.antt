@@ -27,7 +27,7 @@ invariant_of-self-clause-ordered c =
     let here : after Own ≡ drop 1 (before Own) = c.in-Ok.ensures.held ∙ ap (λ n. drop n (before Own)) (one_answer (reply_of c.args.event.now) c.requires) in
     let others : (l : Lane) → l ≢ Own → after l ≡ before l = each_lane (λ l. l ≢ Own → after l ≡ before l) (λ ne. absurd (ne refl)) (λ j ne. refl) in
     let To : List Holding → Type 0 = λ xs. Notes xs after in
-    subst To (sym (ap (λ b. b.items) c.pop_front.ensures.items)) (answered_first c.args.self.now.order.items Own before after (sym c.in-Some.ensures ∙ ap Some c.in-Own.is) here others c.args.self.now.ordered)
+    subst To (sym (ap (λ b. b.items) c.drop_front.ensures.items)) (answered_first c.args.self.now.order.items Own before after (sym c.in-Some.ensures ∙ ap Some c.in-Own.is) here others c.args.self.now.ordered)
 
 pub returns-in-Err-clause-refused : goal.returns-in-Err-clause-refused
 returns-in-Err-clause-refused c =
@@ -59,7 +59,7 @@ invariant_of-self-in-Ok-answer-clause-ordered c =
     let others : (l : Lane) → l ≢ Flow c.in-Flow.lane → after l ≡ before l =
     each_lane (λ l. l ≢ Flow c.in-Flow.lane → after l ≡ before l) (λ ne. refl) (λ j ne. says.others.held j (λ e. ne (ap Flow e))) in
     let To : List Holding → Type 0 = λ xs. Notes xs after in
-    subst To (sym (ap (λ b. b.items) c.pop_front-in-Ok-answer.ensures.items)) (answered_first c.args.self.now.order.items (Flow c.in-Flow.lane) before after (sym c.in-Some.ensures ∙ ap Some c.in-Flow.is) here others c.args.self.now.ordered)
+    subst To (sym (ap (λ b. b.items) c.drop_front-in-Ok-answer.ensures.items)) (answered_first c.args.self.now.order.items (Flow c.in-Flow.lane) before after (sym c.in-Some.ensures ∙ ap Some c.in-Flow.is) here others c.args.self.now.ordered)
 
 pub invariant_of-self-in-Ok-answer-clause-gave_back : goal.invariant_of-self-in-Ok-answer-clause-gave_back
 invariant_of-self-in-Ok-answer-clause-gave_back c =
@@ -95,11 +95,11 @@ returns-in-Ok-answer-clause-submitted c =
     let says : Says c.in-Flow.lane (reply_of c.args.event.now) (hands_of c.args.self.now.flows) (hands_of c.leave.new.self) =
     says_before _ (hands_of c.answer.new.self) _ c.in-Flow.lane (reply_of c.args.event.now) c.in-Ok-answer.ensures.lists c.leave.ensures.same in
     let own = c.args.self.now.own in
-    let after : Hand = record { said = said_on own (hands_of c.leave.new.self); got = got_on own (hands_of c.leave.new.self); holding = c.pop_front-in-Ok-answer.new.self.items } in
+    let after : Hand = record { said = said_on own (hands_of c.leave.new.self); got = got_on own (hands_of c.leave.new.self); holding = c.drop_front-in-Ok-answer.new.self.items } in
     subst (λ o. SubmitsTo o (reply_of c.args.event.now) (hand_of c.args.self.now) after) (sym (sym c.in-Some.ensures ∙ ap Some c.in-Flow.is))
     (record {
       said_here = says.answered_is;
       said = each_lane (λ l. l ≢ Flow c.in-Flow.lane → after.said l ≡ said_on own (hands_of c.args.self.now.flows) l) (λ ne. refl) (λ j ne. says.others.answered_is j (λ h. ne (ap Flow h)));
       got = each_lane (λ l. after.got l ≡ got_on own (hands_of c.args.self.now.flows) l) refl (says_received _ _ c.in-Flow.lane (reply_of c.args.event.now) says);
-      holding = ap (λ b. b.items) c.pop_front-in-Ok-answer.ensures.items ∙ ap (λ n. drop n c.args.self.now.order.items) (sym (one_answer (reply_of c.args.event.now) c.requires));
+      holding = ap (λ b. b.items) c.drop_front-in-Ok-answer.ensures.items ∙ ap (λ n. drop n c.args.self.now.order.items) (sym (one_answer (reply_of c.args.event.now) c.requires));
     })

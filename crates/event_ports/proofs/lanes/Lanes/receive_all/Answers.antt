@@ -37,7 +37,7 @@ invariant_of-self-clause-ordered c =
     let after : Lane → List Delivery = open_on c.receive_some.new.self (hands_of c.args.self.now.flows) in
     let others : (l : Lane) → l ≢ Own → after l ≡ before l = each_lane (λ l. l ≢ Own → after l ≡ before l) (λ ne. absurd (ne refl)) (λ j ne. refl) in
     let To : List Holding → Type 0 = λ xs. Notes xs after in
-    subst To (sym (noted_are Own 0 c.args.into.now.items c.receive_some.new.into.items came.came c.args.self.now.order.items c.note.new.order.items came.array (ap length (sym c.requires)) c.note.ensures.noted))
+    subst To (sym (noted_are Own 0 c.args.into.now.items c.receive_some.new.into.items came.came c.args.self.now.order.items c.note.new.self.items came.array (ap length (sym c.requires)) c.note.ensures.noted))
     (received_last c.args.self.now.order.items Own came.came before after came.held others c.args.self.now.ordered)
 
 pub receive_flows-requires : goal.receive_flows-requires
@@ -45,13 +45,13 @@ receive_flows-requires c =
     let came = c.receive_some.ensures.came in
     let room = room_first c.args.max c.min-most.result _ c.args.self.now.order.capacity c.args.self.now.order.items c.args.into.now.items c.min-most.ensures (omega (arith, c.capacity.ensures.capacity, c.len.ensures.len))
     (omega (arith, c.capacity.ensures.capacity, c.capacity.ensures.within.0)) c.args.self.now.depth.1 c.requires in
-    room_less c.min-most.result _ c.args.self.now.order.items c.note.new.order.items Own c.args.into.now.items c.receive_some.new.into.items came.came
+    room_less c.min-most.result _ c.args.self.now.order.items c.note.new.self.items Own c.args.into.now.items c.receive_some.new.into.items came.came
     (subst (λ n. HasRoomFor c.min-most.result n c.args.self.now.order.items c.args.into.now.items) (sym c.note.ensures.room) room) (c.receive_some.ensures.few room.few)
-    (noted_are Own 0 c.args.into.now.items c.receive_some.new.into.items came.came c.args.self.now.order.items c.note.new.order.items came.array (ap length (sym c.requires)) c.note.ensures.noted) came.array
+    (noted_are Own 0 c.args.into.now.items c.receive_some.new.into.items came.came c.args.self.now.order.items c.note.new.self.items came.array (ap length (sym c.requires)) c.note.ensures.noted) came.array
 
 -- the port between the own lane and the flow lanes
 abbrev mid : After-receive_flows → Hand
-mid c = record { said = said_on c.receive_some.new.self (hands_of c.args.self.now.flows); got = got_on c.receive_some.new.self (hands_of c.args.self.now.flows); holding = c.note.new.order.items }
+mid c = record { said = said_on c.receive_some.new.self (hands_of c.args.self.now.flows); got = got_on c.receive_some.new.self (hands_of c.args.self.now.flows); holding = c.note.new.self.items }
 
 -- what came from the own lane
 first : (c : After-receive_flows) → ArrivesFrom (Own ∷ []) (hand_of c.args.self.now) (mid c) [] c.receive_some.new.into.items
@@ -63,7 +63,7 @@ first c =
       said = each_lane (λ l. said_on c.receive_some.new.self (hands_of c.args.self.now.flows) l ≡ said_on c.args.self.now.own (hands_of c.args.self.now.flows) l) c.receive_some.ensures.answered.0 (λ j. refl);
       got_here = came.received;
       got = each_lane (λ l. l ≢ Own → got_on c.receive_some.new.self (hands_of c.args.self.now.flows) l ≡ got_on c.args.self.now.own (hands_of c.args.self.now.flows) l) (λ ne. absurd (ne refl)) (λ j ne. refl);
-      holding = noted_are Own 0 c.args.into.now.items c.receive_some.new.into.items came.came c.args.self.now.order.items c.note.new.order.items came.array (ap length (sym c.requires)) c.note.ensures.noted;
+      holding = noted_are Own 0 c.args.into.now.items c.receive_some.new.into.items came.came c.args.self.now.order.items c.note.new.self.items came.array (ap length (sym c.requires)) c.note.ensures.noted;
     }) came.array)
 
 -- and then from the flow lanes

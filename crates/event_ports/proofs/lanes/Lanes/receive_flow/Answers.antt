@@ -30,7 +30,7 @@ invariant_of-self-2-clause-ordered c =
     let others : (l : Lane) → l ≢ Flow c.args.lane → after l ≡ before l =
     each_lane (λ l. l ≢ Flow c.args.lane → after l ≡ before l) (λ ne. refl) (λ j ne. gets.others.held j (λ e. ne (ap Flow e))) in
     let To : List Holding → Type 0 = λ xs. Notes xs after in
-    subst To (sym (noted_are (Flow c.args.lane) c.len-from.result c.args.into.now.items c.receive_some.new.into.items came.came c.args.self.now.order.items c.note.new.order.items came.array (search rules) c.note.ensures.noted))
+    subst To (sym (noted_are (Flow c.args.lane) c.len-from.result c.args.into.now.items c.receive_some.new.into.items came.came c.args.self.now.order.items c.note.new.self.items came.array (search rules) c.note.ensures.noted))
     (received_last c.args.self.now.order.items (Flow c.args.lane) came.came before after gets.held others c.args.self.now.ordered)
 
 pub invariant_of-self-2-clause-gave_back : goal.invariant_of-self-2-clause-gave_back
@@ -70,14 +70,14 @@ returns-clause-arrived c =
       said = each_lane (λ l. said_on c.args.self.now.own (hands_of c.leave.new.self) l ≡ said_on c.args.self.now.own (hands_of c.args.self.now.flows) l) refl (λ j. gets_no_answer _ _ c.args.lane came.came gets j);
       got_here = gets.received;
       got = each_lane (λ l. l ≢ Flow c.args.lane → got_on c.args.self.now.own (hands_of c.leave.new.self) l ≡ got_on c.args.self.now.own (hands_of c.args.self.now.flows) l) (λ ne. refl) (λ j ne. gets.others.received j (λ e. ne (ap Flow e)));
-      holding = noted_are (Flow c.args.lane) c.len-from.result c.args.into.now.items c.receive_some.new.into.items came.came c.args.self.now.order.items c.note.new.order.items came.array (search rules) c.note.ensures.noted;
+      holding = noted_are (Flow c.args.lane) c.len-from.result c.args.into.now.items c.receive_some.new.into.items came.came c.args.self.now.order.items c.note.new.self.items came.array (search rules) c.note.ensures.noted;
     }) came.array
 
 pub returns-clause-room : goal.returns-clause-room
 returns-clause-room c =
     let came = c.receive_some.ensures.lists in
-    room_less c.args.most _ c.args.self.now.order.items c.note.new.order.items (Flow c.args.lane) c.args.into.now.items c.receive_some.new.into.items came.came (subst (λ n. HasRoomFor c.args.most n c.args.self.now.order.items c.args.into.now.items) (sym c.note.ensures.room) c.requires.room) (c.receive_some.ensures.few c.requires.room.few)
-    (noted_are (Flow c.args.lane) c.len-from.result c.args.into.now.items c.receive_some.new.into.items came.came c.args.self.now.order.items c.note.new.order.items came.array (search rules) c.note.ensures.noted) came.array
+    room_less c.args.most _ c.args.self.now.order.items c.note.new.self.items (Flow c.args.lane) c.args.into.now.items c.receive_some.new.into.items came.came (subst (λ n. HasRoomFor c.args.most n c.args.self.now.order.items c.args.into.now.items) (sym c.note.ensures.room) c.requires.room) (c.receive_some.ensures.few c.requires.room.few)
+    (noted_are (Flow c.args.lane) c.len-from.result c.args.into.now.items c.receive_some.new.into.items came.came c.args.self.now.order.items c.note.new.self.items came.array (search rules) c.note.ensures.noted) came.array
 
 pub returns-then-len-most-clause-arrived : goal.returns-then-len-most-clause-arrived
 returns-then-len-most-clause-arrived c = arrives_none (Flow c.args.lane) _ _ c.args.into.now.items (record { said = λ l. refl; got = λ l. refl; holding = refl })

@@ -1,8 +1,7 @@
-use Rattle.evt_types.specs.declared.flows.TheConstants.{FLOW_DEPTH}
-use Rattle.evt_types.specs.declared.shape.TheConstants.{MAX_ALL_SLOTS, MAX_BOUND, MAX_PORT_REPLIES}
-use Rattle.std.proofs.Common.{◌≡◌, ◌+◌, ◌*◌, ◌<◌, ◌≤◌, ◌^◌, length, map, ap, sym, ◌∙◌, subst, arith}
+use Rattle.evt_types.specs.declared.shape.TheConstants.{MAX_PORT_REPLIES}
+use Rattle.std.proofs.Common.{◌≡◌, ◌+◌, ◌*◌, ◌≤◌, length, ap, ◌∙◌, subst, arith}
 use Rattle.std.specs.List.{sum_by}
-use Rattle.evt_types.specs.Plan.{Plan, PortPlan, bound_of, flow_lanes, port_plan}
+use Rattle.evt_types.specs.Plan.{bound_of, flow_lanes}
 use Rattle.evt_types.specs.Shape.{plan_in}
 use Rattle.evt_types.proofs.FlowLanes.{bound_is, flows_few}
 use Rattle.evt_types.proofs.Limits.{replies_few}

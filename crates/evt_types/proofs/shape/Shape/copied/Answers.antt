@@ -1,5 +1,5 @@
-use Rattle.std.proofs.Common.{◌≡◌, map, ap, sym, ◌∙◌}
-use Rattle.evt_types.specs.Plan.{Plan, flow_lanes, plan_of, port_plan}
+use Rattle.std.proofs.Common.{◌≡◌, map, ap, ◌∙◌}
+use Rattle.evt_types.specs.Plan.{flow_lanes, plan_of, port_plan}
 use Rattle.evt_types.specs.Shape.{links_of_ports}
 use Rattle.evt_types.proofs.Limits.{within}
 use Rattle.evt_types.proofs.shape.Shape.copied.Goals as goal

@@ -1,6 +1,5 @@
-use Rattle.evt_types.specs.declared.flows.TheConstants.{FLOW_DEPTH}
 use Rattle.evt_types.specs.declared.shape.TheConstants.{MAX_DEPTH}
-use Rattle.std.proofs.Common.{◌≡◌, ◌<◌, ◌≤◌, length, map, ap, sym, ◌∙◌, subst, refl, arith}
+use Rattle.std.proofs.Common.{◌<◌, ◌≤◌, length, ap, sym, ◌∙◌, subst, refl, arith}
 use Rattle.std.proofs.lemmas.List.{length-map}
 use Rattle.evt_types.specs.Fault.{IsBetween}
 use Rattle.evt_types.specs.Plan.{Plan, PortPlan, lanes_of, port_plan, depth_of}

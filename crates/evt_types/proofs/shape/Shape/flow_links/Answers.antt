@@ -1,6 +1,6 @@
-use Rattle.std.proofs.Common.{◌≡◌, ◌<◌, List, [], length, map, get_or, Vec, Global, ℕ, ap, sym, ◌∙◌, subst, arith}
-use Rattle.std.proofs.lemmas.List.{get_or-map, get_or_default, length-map}
-use Rattle.evt_types.specs.Plan.{Plan, PortPlan, flow_lanes, flow_links, linked_places, port_of}
+use Rattle.std.proofs.Common.{◌≡◌, ◌<◌, List, [], length, get_or, Vec, Global, ℕ, ap, sym, ◌∙◌, subst, arith}
+use Rattle.std.proofs.lemmas.List.{get_or-map, length-map}
+use Rattle.evt_types.specs.Plan.{Plan, PortPlan, flow_lanes, flow_links, linked_places}
 use Rattle.evt_types.specs.Shape.{links_of_ports, lists_in, plan_in}
 use Rattle.evt_types.specs.declared.flows.FlowLane.{FlowLane}
 use Rattle.evt_types.proofs.shape.Shape.flow_links.Goals as goal

@@ -1,4 +1,4 @@
-use Rattle.std.proofs.Common.{◌≡◌, ◌≤◌, List, length, ap, sym, ◌∙◌, subst}
+use Rattle.std.proofs.Common.{◌≤◌, List, length, sym, ◌∙◌, subst}
 use Rattle.evt_types.specs.declared.flows.FlowLane.{FlowLane}
 use Rattle.evt_types.specs.declared.shape.TheConstants.{MAX_ALL_SLOTS}
 use Rattle.evt_types.proofs.FlowLanes.{flows_few}

@@ -1,11 +1,10 @@
-use Rattle.std.proofs.Common.{◌≡◌, ◌+◌, ◌-◌, ◌<◌, ◌≤◌, Bool, true, false, not, ◌&&◌, ◌==◌, length, map, slice_get, Some, ap, sym, ◌∙◌, subst, refl, arith, eq-eqb}
+use Rattle.std.proofs.Common.{◌≡◌, ◌-◌, ◌<◌, ◌≤◌, true, false, not, ◌&&◌, ◌==◌, length, slice_get, Some, ap, sym, ◌∙◌, subst, refl, arith, eq-eqb}
 use Rattle.std.proofs.lemmas.Bool.{ne_eqb}
 use Rattle.std.proofs.lemmas.List.{length-map}
 use Rattle.std.proofs.lemmas.Option.{slice_get_read}
 use Rattle.lists.specs.Lists.{has}
 use Rattle.evt_types.specs.Plan.{Plan, PortPlan, flow_at, flow_lanes, has_flow_lanes, lanes_of, port_of, port_plan, serves}
 use Rattle.evt_types.specs.Shape.{plan_in}
-use Rattle.evt_types.specs.declared.flows.FlowLane.{FlowLane}
 use Rattle.evt_types.proofs.FlowLanes.{lane_of_place, lanes_are, serves_port}
 use Rattle.evt_types.proofs.Plans.{port_read}
 use Rattle.evt_types.proofs.shape.Shape.serves.Goals as goal

@@ -1,4 +1,4 @@
-use Rattle.std.proofs.Common.{◌≡◌, ◌+◌, ◌<◌, ◌≤◌, ◌∙◌, length, subst, sym, ap, arith}
+use Rattle.std.proofs.Common.{◌≡◌, ◌+◌, ◌<◌, ◌≤◌, ◌%◌, ◌∙◌, length, subst, sym, ap, arith}
 use Rattle.std.proofs.lemmas.Bool.{false≢true}
 use Rattle.std.specs.Option.{is_some}
 use Rattle.evt_types.specs.declared.event.Numbered.{Numbered}
@@ -35,11 +35,11 @@ pub returns-then-has-clause-first : goal.returns-then-has-clause-first
 returns-then-has-clause-first c =
     let v : Parted = parted_by c.loop-waiting.lists c.loop-waiting.self in
     subst (λ q. IsFirstAllowed q c.args.level.number c.args.allowed c.in-Some.waiting.now) c.loop-waiting.invariant.changed.waits
-    (main_first v c.args.level.number c.args.allowed c.loop-waiting.invariant.changed.part.parking.waits c.args.level.few c.loop-waiting.invariant.none c.in-Some.waiting.now (sym c.in-Some.ensures) (subst (Has c.args.allowed) c.slot_in-slot.ensures.value (c.has.ensures.0 c.if-has.true)))
+    (main_first v c.args.level.number c.args.allowed c.loop-waiting.invariant.changed.part.parking.waits c.args.level.few c.loop-waiting.invariant.none c.in-Some.waiting.now (sym c.in-Some.ensures) (subst (Has c.args.allowed) (c.slot_in-slot.ensures.value ∙ ap (λ f. f % c.loop-waiting.self.slots) c.flow-flow.ensures) (c.has.ensures.0 c.if-has.true)))
 
 pub returns-then-has-clause-slot : goal.returns-then-has-clause-slot
 returns-then-has-clause-slot c =
-    c.slot_in-slot.ensures.value ∙ ap (λ n. slot_of n c.in-Some.waiting.now) c.loop-waiting.invariant.changed.slots
+    (c.slot_in-slot.ensures.value ∙ ap (λ f. f % c.loop-waiting.self.slots) c.flow-flow.ensures) ∙ ap (λ n. slot_of n c.in-Some.waiting.now) c.loop-waiting.invariant.changed.slots
 
 pub park-requires-clause-parted : goal.park-requires-clause-parted
 park-requires-clause-parted c =
@@ -52,7 +52,7 @@ park-requires-clause-first c =
 pub park-requires-clause-slot : goal.park-requires-clause-slot
 park-requires-clause-slot c =
     let v : Parted = parted_by c.loop-waiting.lists c.loop-waiting.self in
-    if_some (own_first v c.args.level.number) c.in-Some.waiting.now (λ (w : Numbered). c.slot_in-slot.result ≡ slot_of c.loop-waiting.self.slots w) (sym c.in-Some.ensures) c.slot_in-slot.ensures.value
+    if_some (own_first v c.args.level.number) c.in-Some.waiting.now (λ (w : Numbered). c.slot_in-slot.result ≡ slot_of c.loop-waiting.self.slots w) (sym c.in-Some.ensures) (c.slot_in-slot.ensures.value ∙ ap (λ f. f % c.loop-waiting.self.slots) c.flow-flow.ensures)
 
 pub loop-waiting-smaller : goal.loop-waiting-smaller
 loop-waiting-smaller c =
@@ -71,7 +71,7 @@ loop-waiting-preserved c =
       none =
           subst (λ u. HasNoneParked u c.args.level.number c.args.allowed) (sym parked)
           (still_none v c.args.level.number c.args.allowed c.loop-waiting.invariant.changed.part.parking.waits c.args.level.few c.loop-waiting.invariant.none c.in-Some.waiting.now (sym c.in-Some.ensures) c.loop-waiting.invariant.changed.part.parking.four
-          (λ may. false≢true (sym c.if-has.false ∙ c.has.ensures.1 (subst (Has c.args.allowed) (sym c.slot_in-slot.ensures.value) may))));
+          (λ may. false≢true (sym c.if-has.false ∙ c.has.ensures.1 (subst (Has c.args.allowed) (sym (c.slot_in-slot.ensures.value ∙ ap (λ f. f % c.loop-waiting.self.slots) c.flow-flow.ensures)) may))));
     }
 
 pub returns-clause-changed : goal.returns-clause-changed

@@ -1,4 +1,4 @@
-use Rattle.std.proofs.Common.{◌≡◌, ◌<◌, ◌∙◌, Some, None, ap, slice_get, subst, sym, refl}
+use Rattle.std.proofs.Common.{◌≡◌, ◌<◌, ◌%◌, ◌∙◌, Some, None, ap, slice_get, subst, sym, refl}
 use Rattle.small_set.specs.SmallSets.{Has}
 use Rattle.parked_queue.specs.Parkings.{parted_by}
 use Rattle.parked_queue.specs.Parted.{HasNoneParked, IsFirstParked, list_in, list_of_slot}
@@ -78,7 +78,7 @@ returns-in-Some-best-clause-first c =
 
 pub returns-in-Some-best-clause-slot : goal.returns-in-Some-best-clause-slot
 returns-in-Some-best-clause-slot c =
-    c.slot_in-slot.ensures.value ∙ ap (λ n. slot_of n c.in-Some-best.waiting) c.loop-slot.invariant.changed.slots
+    c.slot_in-slot.ensures.value ∙ ap (λ f. f % c.loop-slot.self.slots) c.flow-flow.ensures ∙ ap (λ n. slot_of n c.in-Some-best.waiting) c.loop-slot.invariant.changed.slots
 
 pub returns-in-None-clause-changed : goal.returns-in-None-clause-changed
 returns-in-None-clause-changed c =

@@ -42,12 +42,12 @@ index_mut-requires c = omega (arith, noted_there _ c.args.self.now c.self.inside
 pub invariant_of-self : goal.invariant_of-self
 invariant_of-self c =
     queues_come c.self.inside.lists c.self.inside.queues.items c.args.self.now c.args.queue c.self.invariant.parkings c.self.view_is c.requires.there c.index_mut-entered.result.now c.index_mut-entered.ensures.value c.args.event.now c.of-level.result c.of-level.ensures c.requires.room c.requires.numbers c.push_event.new.self c.push_event.ensures.value (set c.self.inside.levels.items c.args.queue c.add.new.self) c.add-then-push_event.new.self
-    (noted_first _ c.args.self.now c.self.inside.levels.items c.self.inside.busy c.args.queue c.self.invariant.noted c.self.view_is c.requires.there c.args.event.now c.index_mut.result.now c.add.new.self c.add-then-push_event.new.self c.index_mut.ensures.value (subst (Has (members c.add.new.self)) c.of-level.ensures c.add.ensures.there) (subst (λ k. SameBut k (members c.index_mut.result.now) (members c.add.new.self)) c.of-level.ensures c.add.ensures.others) c.add-then-push_event.ensures.there c.add-then-push_event.ensures.others)
+    (noted_first _ c.args.self.now c.self.inside.levels.items c.self.inside.busy c.args.queue c.self.invariant.noted c.self.view_is c.requires.there c.args.event.now (sym c.requires.named) c.index_mut.result.now c.add.new.self c.add-then-push_event.new.self c.index_mut.ensures.value (subst (Has (members c.add.new.self)) c.of-level.ensures c.add.ensures.there) (subst (λ k. SameBut k (members c.index_mut.result.now) (members c.add.new.self)) c.of-level.ensures c.add.ensures.others) c.add-then-push_event.ensures.there c.add-then-push_event.ensures.others)
 
 pub invariant_of-self-else-push_event : goal.invariant_of-self-else-push_event
 invariant_of-self-else-push_event c =
     let some = some_before c.self.inside.lists c.self.inside.queues.items c.args.self.now c.args.queue c.self.invariant.parkings c.self.view_is c.requires.there c.index_mut-entered.result.now c.index_mut-entered.ensures.value c.args.event.now c.of-level.result c.of-level.ensures (sym c.push_event.ensures.only ∙ c.if-push_event.false) in
-    queues_come c.self.inside.lists c.self.inside.queues.items c.args.self.now c.args.queue c.self.invariant.parkings c.self.view_is c.requires.there c.index_mut-entered.result.now c.index_mut-entered.ensures.value c.args.event.now c.of-level.result c.of-level.ensures c.requires.room c.requires.numbers c.push_event.new.self c.push_event.ensures.value c.self.inside.levels.items c.self.inside.busy (noted_more _ c.args.self.now c.self.inside.levels.items c.self.inside.busy c.args.queue c.self.invariant.noted c.self.view_is c.requires.there c.args.event.now some)
+    queues_come c.self.inside.lists c.self.inside.queues.items c.args.self.now c.args.queue c.self.invariant.parkings c.self.view_is c.requires.there c.index_mut-entered.result.now c.index_mut-entered.ensures.value c.args.event.now c.of-level.result c.of-level.ensures c.requires.room c.requires.numbers c.push_event.new.self c.push_event.ensures.value c.self.inside.levels.items c.self.inside.busy (noted_more _ c.args.self.now c.self.inside.levels.items c.self.inside.busy c.args.queue c.self.invariant.noted c.self.view_is c.requires.there c.args.event.now (sym c.requires.named) some)
 
 pub returns-then-push_event-clause-value : goal.returns-then-push_event-clause-value
 returns-then-push_event-clause-value c = waits_come c.self.inside.lists c.self.inside.queues.items c.args.self.now c.args.queue c.self.invariant.parkings c.self.view_is c.requires.there c.index_mut-entered.result.now c.index_mut-entered.ensures.value c.args.event.now c.of-level.result c.of-level.ensures c.requires.room c.requires.numbers c.push_event.new.self c.push_event.ensures.value

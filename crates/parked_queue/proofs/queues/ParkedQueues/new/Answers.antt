@@ -5,6 +5,7 @@ use Rattle.parked_queue.specs.Parkings.{all_waits}
 use Rattle.parked_queue.specs.Waits.{all_empty}
 use Rattle.parked_queue.proofs.Busy.{busy_new}
 use Rattle.parked_queue.proofs.LevelSets.{levels_new}
+use Rattle.parked_queue.proofs.Named.{named_new}
 use Rattle.parked_queue.proofs.News.{parkings_new, waits_new}
 use Rattle.parked_queue.proofs.queues.ParkedQueues.new.Goals as goal
 
@@ -23,5 +24,6 @@ invariant_of-result c =
           (record {
             levels = subst (HaveLevels (all_empty c.args.room c.args.slots.now)) (sym (c.in_ok-levels.ensures.items_if_clones_equal (λ y e. e))) (levels_new c.args.room c.args.slots.now c.none.result c.none.ensures);
             busy = busy_new c.args.room c.args.slots.now c.none-2.result c.requires.few c.none-2.ensures;
+            named = named_new c.args.room c.args.slots.now;
           });
     })

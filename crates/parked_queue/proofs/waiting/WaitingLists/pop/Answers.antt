@@ -22,17 +22,17 @@ push_reserved-requires c =
     omega (arith, c.if-chain-eq0.false, ap len_of read, len_within c.self.inside.chains.items c.args.list there, c.self.invariant.count, c.self.invariant.within, c.self.invariant.free_fit)
 
 -- the node that the code read
-found : (c : goal.After-result-1) → slice_get c.self.inside.nodes.items c.index-chain.result.now.first ≡ Some c.index-node.result.now
+found : (c : goal.After-self-1) → slice_get c.self.inside.nodes.items c.index-chain.result.now.first ≡ Some c.index-node.result.now
 found c =
     let there = there_seen c.self.inside.nodes c.self.inside.chains.items c.self.inside.room c.args.self.now c.self.view_is c.args.list c.requires in
     let read = chain_read c.self.inside.chains.items c.args.list c.index-chain.result.now there c.index-chain.ensures in
     let within = first_within c.self.inside.nodes c.self.inside.free.items c.self.inside.chains.items c.args.list c.index-chain.result.now read c.self.invariant.chains (omega (arith, c.if-chain-eq0.false)) in
     node_read c.self.inside.nodes c.index-chain.result.now.first c.index-node.result.now within c.index-node.ensures
 
-freed : (c : goal.After-result-1) → IsFreed c.self.inside.free c.push_reserved.new.self c.index-chain.result.now.first
+freed : (c : goal.After-self-1) → IsFreed c.self.inside.free c.push_reserved.new.self c.index-chain.result.now.first
 freed c = record { items = c.push_reserved.ensures.items; count = c.push_reserved.ensures.len; capacity = c.push_reserved.ensures.capacity }
 
-cut : (c : goal.After-result-1) → c.shorten.new.chain ≡ shorter c.index-chain.result.now c.index-node.result.now.next
+cut : (c : goal.After-self-1) → c.shorten.new.chain ≡ shorter c.index-chain.result.now c.index-node.result.now.next
 cut c =
     let there = there_seen c.self.inside.nodes c.self.inside.chains.items c.self.inside.room c.args.self.now c.self.view_is c.args.list c.requires in
     let read = chain_read c.self.inside.chains.items c.args.list c.index-chain.result.now there c.index-chain.ensures in

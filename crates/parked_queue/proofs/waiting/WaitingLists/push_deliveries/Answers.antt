@@ -1,7 +1,8 @@
-use Rattle.std.proofs.Common.{◌≡◌, ◌+◌, ◌-◌, ◌<◌, ◌∙◌, ◌++◌, ℕ, List, ap, arith, length, map, refl, slice_get, subst, suc, sym}
+use Rattle.std.proofs.Common.{◌≡◌, ◌+◌, ◌-◌, ◌<◌, ◌∙◌, ◌++◌, [], ◌∷◌, ℕ, List, ap, arith, length, map, refl, slice_get, subst, suc, sym}
+use Rattle.evt_types.specs.declared.event.Delivery.{Delivery}
 use Rattle.evt_types.specs.declared.event.Numbered.{Numbered}
 use Rattle.parked_queue.specs.Chains.{AreNodes, events_of, items, path}
-use Rattle.parked_queue.specs.Lists.{delivery_of, list_at}
+use Rattle.parked_queue.specs.Lists.{named_delivery, list_at}
 use Rattle.parked_queue.specs.Store.{len_of}
 use Rattle.parked_queue.specs.declared.chain.Chain.{Chain}
 use Rattle.parked_queue.proofs.ChainFirsts.{first_node, rest_nodes}
@@ -27,8 +28,8 @@ loop-init c =
           subst (λ (m : ℕ). AreNodes (slice_get c.self.inside.nodes.items) c.self.invariant.chains.owner (suc c.args.list) (path (slice_get c.self.inside.nodes.items) c.index-chain.result.now.first m)) whole
           (subst (λ (x : Chain). AreNodes (slice_get c.self.inside.nodes.items) c.self.invariant.chains.owner (suc c.args.list) (path (slice_get c.self.inside.nodes.items) x.first x.len)) (sym read) (c.self.invariant.chains.taken c.args.list));
       deliveries =
-          ap (λ (m : ℕ). c.args.into.now.items ++ map (delivery_of c.args.queue) (items (slice_get c.self.inside.nodes.items) (path (slice_get c.self.inside.nodes.items) c.index-chain.result.now.first m))) (sym whole)
-          ∙ ap (λ (ws : List Numbered). c.args.into.now.items ++ map (delivery_of c.args.queue) ws) events;
+          ap (λ (m : ℕ). c.args.into.now.items ++ map named_delivery (items (slice_get c.self.inside.nodes.items) (path (slice_get c.self.inside.nodes.items) c.index-chain.result.now.first m))) (sym whole)
+          ∙ ap (λ (ws : List Numbered). c.args.into.now.items ++ map named_delivery ws) events;
       room = omega (arith, count, c.requires.room);
       capacity = refl;
     }
@@ -54,8 +55,8 @@ loop-preserved c =
           subst (λ (m : ℕ). AreNodes (slice_get c.self.inside.nodes.items) c.loop.invariant.owner (suc c.args.list) (path (slice_get c.self.inside.nodes.items) c.index-node.result.now.next m)) less
           (rest_nodes (slice_get c.self.inside.nodes.items) c.loop.invariant.owner (suc c.args.list) c.loop.cursor (c.index-chain.result.now.len - c.loop.counter) c.index-node.result.now some found c.loop.invariant.taken);
       deliveries =
-          ap (λ (m : ℕ). c.push_reserved.new.self.items ++ map (delivery_of c.args.queue) (items (slice_get c.self.inside.nodes.items) (path (slice_get c.self.inside.nodes.items) c.index-node.result.now.next m))) (sym less)
-          ∙ deliveries_more (slice_get c.self.inside.nodes.items) c.args.queue c.loop.cursor (c.index-chain.result.now.len - c.loop.counter) c.index-node.result.now c.loop.into.items c.push_reserved.new.self.items some found c.push_reserved.ensures.items
+          ap (λ (m : ℕ). c.push_reserved.new.self.items ++ map named_delivery (items (slice_get c.self.inside.nodes.items) (path (slice_get c.self.inside.nodes.items) c.index-node.result.now.next m))) (sym less)
+          ∙ deliveries_more (slice_get c.self.inside.nodes.items) c.loop.cursor (c.index-chain.result.now.len - c.loop.counter) c.index-node.result.now c.loop.into.items c.push_reserved.new.self.items some found (c.push_reserved.ensures.items ∙ ap (λ (d : Delivery). c.loop.into.items ++ d ∷ []) c.new.ensures)
           ∙ c.loop.invariant.deliveries;
       room = omega (arith, c.loop-test.true, c.loop.invariant.room, c.push_reserved.ensures.len, c.push_reserved.ensures.capacity);
       capacity = c.push_reserved.ensures.capacity ∙ c.loop.invariant.capacity;
@@ -63,4 +64,4 @@ loop-preserved c =
 
 pub returns-clause-deliveries : goal.returns-clause-deliveries
 returns-clause-deliveries c =
-    deliveries_done (slice_get c.self.inside.nodes.items) c.args.queue c.loop.cursor (c.index-chain.result.now.len - c.loop.counter) c.loop.into.items _ (omega (arith, c.loop-test.false)) c.loop.invariant.deliveries
+    deliveries_done (slice_get c.self.inside.nodes.items) c.loop.cursor (c.index-chain.result.now.len - c.loop.counter) c.loop.into.items _ (omega (arith, c.loop-test.false)) c.loop.invariant.deliveries

@@ -10,7 +10,7 @@ use Rattle.sched_core.proofs.state.Core.accept.Goals as goal
 pub accept-requires-clause-room : goal.accept-requires-clause-room
 accept-requires-clause-room g c =
     let queue : c.args.event.now.queue < length c.self.inside.shape.queues = subst (λ (v : View). c.args.event.now.queue < length v.shape.queues) (sym c.self.view_is) c.requires.queue in
-    let is = c.from-queue.ensures in
+    let is = c.from-queue.ensures ∙ c.queue.ensures in
     let h : c.from-queue.result < length c.self.inside.queues = omega (arith, queue, c.self.invariant.queues) in
     let room : inside_of (view_in c.self.inside) < bound_of c.self.inside.shape = subst (λ (v : View). inside_of v < bound_of v.shape) (sym c.self.view_is) c.requires.inside in
     fits_queue c.self.inside c.from-queue.result (waits_at c.self.inside.queues c.from-queue.result) c.self.invariant h (waits_is c.self.inside.queues c.from-queue.result h) room
@@ -18,7 +18,7 @@ accept-requires-clause-room g c =
 pub accept-requires-clause-numbers : goal.accept-requires-clause-numbers
 accept-requires-clause-numbers g c =
     let queue : c.args.event.now.queue < length c.self.inside.shape.queues = subst (λ (v : View). c.args.event.now.queue < length v.shape.queues) (sym c.self.view_is) c.requires.queue in
-    let is = c.from-queue.ensures in
+    let is = c.from-queue.ensures ∙ c.queue.ensures in
     let h : c.from-queue.result < length c.self.inside.queues = omega (arith, queue, c.self.invariant.queues) in
     let le = fits_number c.self.inside c.from-queue.result (waits_at c.self.inside.queues c.from-queue.result) h (waits_is c.self.inside.queues c.from-queue.result h) in
     let few = ap entries_of c.self.view_is in
@@ -27,7 +27,7 @@ accept-requires-clause-numbers g c =
 pub invariant_of-self : goal.invariant_of-self
 invariant_of-self g c =
     let queue : c.args.event.now.queue < length c.self.inside.shape.queues = subst (λ (v : View). c.args.event.now.queue < length v.shape.queues) (sym c.self.view_is) c.requires.queue in
-    let is = c.from-queue.ensures in
+    let is = c.from-queue.ensures ∙ c.queue.ensures in
     let h : c.from-queue.result < length c.self.inside.queues = omega (arith, queue, c.self.invariant.queues) in
     let room : inside_of (view_in c.self.inside) < bound_of c.self.inside.shape = subst (λ (v : View). inside_of v < bound_of v.shape) (sym c.self.view_is) c.requires.inside in
     let fewer : entries_of (view_in c.self.inside) < 2 ^ 63 = subst (λ (v : View). entries_of v < 2 ^ 63) (sym c.self.view_is) c.requires.entries in
@@ -36,7 +36,7 @@ invariant_of-self g c =
 pub returns-clause-view : goal.returns-clause-view
 returns-clause-view g c =
     let queue : c.args.event.now.queue < length c.self.inside.shape.queues = subst (λ (v : View). c.args.event.now.queue < length v.shape.queues) (sym c.self.view_is) c.requires.queue in
-    let is = c.from-queue.ensures in
+    let is = c.from-queue.ensures ∙ c.queue.ensures in
     let h : c.from-queue.result < length c.self.inside.queues = omega (arith, queue, c.self.invariant.queues) in
     rw c.accept.ensures.value (view_accepts c.self.inside c.from-queue.result (waits_at c.self.inside.queues c.from-queue.result) (with_event (waits_at c.self.inside.queues c.from-queue.result) c.args.event.now) c.args.event.now h (waits_is c.self.inside.queues c.from-queue.result h) refl)
     ∙ (ap (λ q. after_accept (view_in c.self.inside) q c.args.event.now) is ∙ ap (λ v. after_accept v c.args.event.now.queue c.args.event.now) c.self.view_is)
@@ -44,7 +44,7 @@ returns-clause-view g c =
 pub returns-clause-counts : goal.returns-clause-counts
 returns-clause-counts g c =
     let queue : c.args.event.now.queue < length c.self.inside.shape.queues = subst (λ (v : View). c.args.event.now.queue < length v.shape.queues) (sym c.self.view_is) c.requires.queue in
-    let is = c.from-queue.ensures in
+    let is = c.from-queue.ensures ∙ c.queue.ensures in
     let h : c.from-queue.result < length c.self.inside.queues = omega (arith, queue, c.self.invariant.queues) in
     let room : inside_of (view_in c.self.inside) < bound_of c.self.inside.shape = subst (λ (v : View). inside_of v < bound_of v.shape) (sym c.self.view_is) c.requires.inside in
     let fewer : entries_of (view_in c.self.inside) < 2 ^ 63 = subst (λ (v : View). entries_of v < 2 ^ 63) (sym c.self.view_is) c.requires.entries in

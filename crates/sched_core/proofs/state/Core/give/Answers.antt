@@ -1,20 +1,26 @@
 use Rattle.std.proofs.Common.{◌%◌, ◌++◌, ◌∷◌, [], subst, sym, ap, ◌∙◌}
+use Rattle.evt_types.specs.declared.step.Step.{Step}
 use Rattle.evt_types.specs.declared.step.Step.TheVariants.{Give}
 use Rattle.sched_core.proofs.FirstOnes.{found_slot}
-use Rattle.sched_core.specs.Offered.{numbered_in}
+use Rattle.sched_core.proofs.Runs.{gift_is}
+use Rattle.sched_core.specs.Offered.{numbered_in, slot_at}
 use Rattle.parked_queue.specs.Waits.{waits_at}
 use Rattle.transcripts.proofs.WholeStands.{stands_give, offer_is_accepted}
-use Rattle.transcripts.specs.Standing.{Stands}
+use Rattle.transcripts.specs.Standing.{Stands, after}
 use Rattle.sched_core.proofs.state.Core.give.Goals as goal
 
 pub give_at-requires-clause-slot : goal.give_at-requires-clause-slot
 give_at-requires-clause-slot g c =
     found_slot c.self.inside c.args.self.now c.args.offer.delivery.queue c.self.invariant c.self.view_is c.requires.offer.queue c.slot_of-slot.result (numbered_in c.args.offer.delivery)
-    (c.slot_of-slot.ensures.value ∙ ap (λ f. f % (waits_at c.self.inside.queues c.args.offer.delivery.queue).slots) c.args.offer.flow_is)
+    (c.slot_of-slot.ensures.value ∙ ap (λ n. c.args.offer.flow % (waits_at c.self.inside.queues n).slots) c.queue-queue.ensures
+    ∙ ap (λ f. f % (waits_at c.self.inside.queues c.args.offer.delivery.queue).slots) c.args.offer.flow_is)
+    ∙ ap (λ n. slot_at c.args.self.now n (numbered_in c.args.offer.delivery)) (sym c.queue-queue.ensures) ∙ ap (slot_at c.args.self.now c.queue-queue.result) (sym c.numbered.ensures)
 
 pub returns-clause-stands : goal.returns-clause-stands
 returns-clause-stands g c T stands =
-    subst (λ v. Stands (T ++ Give c.args.offer.lane c.args.offer.delivery.queue c.args.offer.delivery.number ∷ []) v) (sym c.give_at.ensures.view)
+    subst (λ v. Stands (T ++ Give c.args.offer.lane c.args.offer.delivery.queue c.args.offer.delivery.number ∷ []) v)
+    (sym (c.give_at.ensures.view
+    ∙ ap (λ (s : Step). after c.args.self.now (s ∷ [])) (gift_is c.args.offer.lane c.queue-queue.result c.numbered.result c.args.offer.delivery (sym c.queue-queue.ensures) c.numbered.ensures)))
     (stands_give c.args.self.now T c.args.offer.lane c.args.offer.delivery.queue (numbered_in c.args.offer.delivery) stands c.requires.offer)
 
 pub returns-clause-event : goal.returns-clause-event

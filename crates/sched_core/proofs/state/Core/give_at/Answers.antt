@@ -11,7 +11,7 @@ use Rattle.sched_core.proofs.Cores.{waits_here, only_event}
 use Rattle.sched_core.proofs.FirstOnes.{slot_in_queue}
 use Rattle.evt_types.specs.declared.event.Event.{Event}
 use Rattle.evt_types.specs.declared.event.Numbered.{Numbered}
-use Rattle.sched_core.specs.Offered.{numbered_in, slot_at}
+use Rattle.sched_core.specs.Offered.{slot_at}
 use Rattle.sched_core.specs.View.{view_in}
 use Rattle.sched_core.specs.declared.state.Core.TheInside.{Inside}
 use Rattle.parked_queue.specs.Waits.{without_number, waits_at}
@@ -24,64 +24,64 @@ slot_here a v q slot w view is = is ∙ ap (λ u. slot_at u q w) (sym view)
 
 pub remove-requires-clause-only : goal.remove-requires-clause-only
 remove-requires-clause-only g c =
-    let offer : IsOffer (view_in c.self.inside) c.args.lane c.args.delivery.now.queue (numbered_in c.args.delivery.now) = subst (λ v. IsOffer v c.args.lane c.args.delivery.now.queue (numbered_in c.args.delivery.now)) (sym c.self.view_is) c.requires.offer in
-    let h : c.args.delivery.now.queue < length c.self.inside.queues = omega (arith, offer.queue, c.self.invariant.queues) in
+    let offer : IsOffer (view_in c.self.inside) c.args.lane c.args.queue c.args.waiting.now = subst (λ v. IsOffer v c.args.lane c.args.queue c.args.waiting.now) (sym c.self.view_is) c.requires.offer in
+    let h : c.args.queue < length c.self.inside.queues = omega (arith, offer.queue, c.self.invariant.queues) in
     λ k d lt same.
-    let one = only_event c.self.inside c.args.delivery.now.queue (waits_at c.self.inside.queues c.args.delivery.now.queue) (numbered_in c.args.delivery.now) c.self.invariant h (waits_is c.self.inside.queues c.args.delivery.now.queue h) offer.waits k d lt same in
-    (ap level_of one ∙ sym c.requires.level, ap (λ (e : Event). e.flow % (waits_at c.self.inside.queues c.args.delivery.now.queue).slots) one ∙ (slot_in_queue c.self.inside c.args.delivery.now.queue (waits_at c.self.inside.queues c.args.delivery.now.queue) c.self.invariant h (waits_is c.self.inside.queues c.args.delivery.now.queue h) (numbered_in c.args.delivery.now) ∙ sym (slot_here c.self.inside c.args.self.now c.args.delivery.now.queue c.args.slot (numbered_in c.args.delivery.now) c.self.view_is c.requires.slot)))
+    let one = only_event c.self.inside c.args.queue (waits_at c.self.inside.queues c.args.queue) c.args.waiting.now c.self.invariant h (waits_is c.self.inside.queues c.args.queue h) offer.waits k d lt same in
+    (ap level_of one ∙ sym c.requires.level, ap (λ (e : Event). e.flow % (waits_at c.self.inside.queues c.args.queue).slots) one ∙ (slot_in_queue c.self.inside c.args.queue (waits_at c.self.inside.queues c.args.queue) c.self.invariant h (waits_is c.self.inside.queues c.args.queue h) c.args.waiting.now ∙ sym (slot_here c.self.inside c.args.self.now c.args.queue c.args.slot c.args.waiting.now c.self.view_is c.requires.slot)))
 
 pub pin-requires-clause-there : goal.pin-requires-clause-there
 pin-requires-clause-there g c =
-    let queue : c.args.delivery.now.queue < length c.self.inside.shape.queues = subst (λ (v : View). c.args.delivery.now.queue < length v.shape.queues) (sym c.self.view_is) c.requires.offer.queue in
+    let queue : c.args.queue < length c.self.inside.shape.queues = subst (λ (v : View). c.args.queue < length v.shape.queues) (sym c.self.view_is) c.requires.offer.queue in
     omega (arith, queue, c.self.invariant.pins.count)
 
 pub pin-requires-clause-may : goal.pin-requires-clause-may
 pin-requires-clause-may g c =
-    let queue : c.args.delivery.now.queue < length c.self.inside.shape.queues = subst (λ (v : View). c.args.delivery.now.queue < length v.shape.queues) (sym c.self.view_is) c.requires.offer.queue in
-    let h : c.args.delivery.now.queue < length c.self.inside.queues = omega (arith, queue, c.self.invariant.queues) in
-    offer_may c.self.inside c.args.self.now c.args.lane c.args.delivery.now.queue c.args.slot (numbered_in c.args.delivery.now) c.self.invariant c.self.view_is c.requires.offer (slot_here c.self.inside c.args.self.now c.args.delivery.now.queue c.args.slot (numbered_in c.args.delivery.now) c.self.view_is c.requires.slot)
+    let queue : c.args.queue < length c.self.inside.shape.queues = subst (λ (v : View). c.args.queue < length v.shape.queues) (sym c.self.view_is) c.requires.offer.queue in
+    let h : c.args.queue < length c.self.inside.queues = omega (arith, queue, c.self.invariant.queues) in
+    offer_may c.self.inside c.args.self.now c.args.lane c.args.queue c.args.slot c.args.waiting.now c.self.invariant c.self.view_is c.requires.offer (slot_here c.self.inside c.args.self.now c.args.queue c.args.slot c.args.waiting.now c.self.view_is c.requires.slot)
 
 pub pin-requires-clause-room : goal.pin-requires-clause-room
 pin-requires-clause-room g c =
-    let queue : c.args.delivery.now.queue < length c.self.inside.shape.queues = subst (λ (v : View). c.args.delivery.now.queue < length v.shape.queues) (sym c.self.view_is) c.requires.offer.queue in
-    let h : c.args.delivery.now.queue < length c.self.inside.queues = omega (arith, queue, c.self.invariant.queues) in
-    offer_room c.self.inside c.args.self.now c.args.lane c.args.delivery.now.queue c.args.slot (numbered_in c.args.delivery.now) c.self.invariant c.self.view_is c.requires.offer (slot_here c.self.inside c.args.self.now c.args.delivery.now.queue c.args.slot (numbered_in c.args.delivery.now) c.self.view_is c.requires.slot)
+    let queue : c.args.queue < length c.self.inside.shape.queues = subst (λ (v : View). c.args.queue < length v.shape.queues) (sym c.self.view_is) c.requires.offer.queue in
+    let h : c.args.queue < length c.self.inside.queues = omega (arith, queue, c.self.invariant.queues) in
+    offer_room c.self.inside c.args.self.now c.args.lane c.args.queue c.args.slot c.args.waiting.now c.self.invariant c.self.view_is c.requires.offer (slot_here c.self.inside c.args.self.now c.args.queue c.args.slot c.args.waiting.now c.self.view_is c.requires.slot)
 
 pub hand-place-requires-clause-there : goal.hand-place-requires-clause-there
 hand-place-requires-clause-there g c =
-    let queue : c.args.delivery.now.queue < length c.self.inside.shape.queues = subst (λ (v : View). c.args.delivery.now.queue < length v.shape.queues) (sym c.self.view_is) c.requires.offer.queue in
+    let queue : c.args.queue < length c.self.inside.shape.queues = subst (λ (v : View). c.args.queue < length v.shape.queues) (sym c.self.view_is) c.requires.offer.queue in
     omega (arith, queue, c.self.invariant.places.count)
 
 pub hand-place-requires-clause-room : goal.hand-place-requires-clause-room
-hand-place-requires-clause-room g c = offer_place c.self.inside c.args.self.now c.args.lane c.args.delivery.now.queue (numbered_in c.args.delivery.now) c.self.invariant c.self.view_is c.requires.offer
+hand-place-requires-clause-room g c = offer_place c.self.inside c.args.self.now c.args.lane c.args.queue c.args.waiting.now c.self.invariant c.self.view_is c.requires.offer
 
 pub invariant_of-self : goal.invariant_of-self
 invariant_of-self g c =
-    let offer : IsOffer (view_in c.self.inside) c.args.lane c.args.delivery.now.queue (numbered_in c.args.delivery.now) = subst (λ v. IsOffer v c.args.lane c.args.delivery.now.queue (numbered_in c.args.delivery.now)) (sym c.self.view_is) c.requires.offer in
-    let h : c.args.delivery.now.queue < length c.self.inside.queues = omega (arith, offer.queue, c.self.invariant.queues) in
+    let offer : IsOffer (view_in c.self.inside) c.args.lane c.args.queue c.args.waiting.now = subst (λ v. IsOffer v c.args.lane c.args.queue c.args.waiting.now) (sym c.self.view_is) c.requires.offer in
+    let h : c.args.queue < length c.self.inside.queues = omega (arith, offer.queue, c.self.invariant.queues) in
     let k : c.args.lane < length c.self.inside.lanes = omega (arith, offer.lane, c.self.invariant.lanes) in
     rw c.push.ensures (rw (c.hand-place.ensures.handed, c.remove.ensures.value)
-    (core_gives c.self.inside c.args.delivery.now.queue c.args.lane (waits_at c.self.inside.queues c.args.delivery.now.queue) (without_number (waits_at c.self.inside.queues c.args.delivery.now.queue) c.args.delivery.now.number) (lane_in c.self.inside.lanes c.args.lane) (entries_of ((lane_in c.self.inside.lanes c.args.lane).entries ++ record { queue = c.args.delivery.now.queue; number = c.args.delivery.now.number; slot = c.args.slot; place = c.hand-place.result } ∷ []) (lane_in c.self.inside.lanes c.args.lane).capacity) (numbered_in c.args.delivery.now) (record { queue = c.args.delivery.now.queue; number = c.args.delivery.now.number; slot = c.args.slot; place = c.hand-place.result }) c.pin.new.self c.self.invariant offer
-    h (waits_is c.self.inside.queues c.args.delivery.now.queue h) k (lane_is c.self.inside.lanes c.args.lane k) (waits_here c.self.inside c.args.delivery.now.queue (waits_at c.self.inside.queues c.args.delivery.now.queue) (numbered_in c.args.delivery.now) h (waits_is c.self.inside.queues c.args.delivery.now.queue h) offer.waits)
-    refl c.remove.ensures.waits refl refl refl refl (slot_here c.self.inside c.args.self.now c.args.delivery.now.queue c.args.slot (numbered_in c.args.delivery.now) c.self.view_is c.requires.slot) c.hand-place.ensures.place c.pin.ensures))
+    (core_gives c.self.inside c.args.queue c.args.lane (waits_at c.self.inside.queues c.args.queue) (without_number (waits_at c.self.inside.queues c.args.queue) c.args.waiting.now.number) (lane_in c.self.inside.lanes c.args.lane) (entries_of ((lane_in c.self.inside.lanes c.args.lane).entries ++ record { queue = c.args.queue; number = c.args.waiting.now.number; slot = c.args.slot; place = c.hand-place.result } ∷ []) (lane_in c.self.inside.lanes c.args.lane).capacity) c.args.waiting.now (record { queue = c.args.queue; number = c.args.waiting.now.number; slot = c.args.slot; place = c.hand-place.result }) c.pin.new.self c.self.invariant offer
+    h (waits_is c.self.inside.queues c.args.queue h) k (lane_is c.self.inside.lanes c.args.lane k) (waits_here c.self.inside c.args.queue (waits_at c.self.inside.queues c.args.queue) c.args.waiting.now h (waits_is c.self.inside.queues c.args.queue h) offer.waits)
+    refl c.remove.ensures.waits refl refl refl refl (slot_here c.self.inside c.args.self.now c.args.queue c.args.slot c.args.waiting.now c.self.view_is c.requires.slot) c.hand-place.ensures.place c.pin.ensures))
 
 pub returns-clause-view : goal.returns-clause-view
 returns-clause-view g c =
-    let offer : IsOffer (view_in c.self.inside) c.args.lane c.args.delivery.now.queue (numbered_in c.args.delivery.now) = subst (λ v. IsOffer v c.args.lane c.args.delivery.now.queue (numbered_in c.args.delivery.now)) (sym c.self.view_is) c.requires.offer in
-    let h : c.args.delivery.now.queue < length c.self.inside.queues = omega (arith, offer.queue, c.self.invariant.queues) in
+    let offer : IsOffer (view_in c.self.inside) c.args.lane c.args.queue c.args.waiting.now = subst (λ v. IsOffer v c.args.lane c.args.queue c.args.waiting.now) (sym c.self.view_is) c.requires.offer in
+    let h : c.args.queue < length c.self.inside.queues = omega (arith, offer.queue, c.self.invariant.queues) in
     let k : c.args.lane < length c.self.inside.lanes = omega (arith, offer.lane, c.self.invariant.lanes) in
     rw c.push.ensures (rw (c.hand-place.ensures.handed, c.remove.ensures.value)
-    (view_gives c.self.inside c.args.delivery.now.queue c.args.lane (waits_at c.self.inside.queues c.args.delivery.now.queue) (without_number (waits_at c.self.inside.queues c.args.delivery.now.queue) c.args.delivery.now.number) (lane_in c.self.inside.lanes c.args.lane) (entries_of ((lane_in c.self.inside.lanes c.args.lane).entries ++ record { queue = c.args.delivery.now.queue; number = c.args.delivery.now.number; slot = c.args.slot; place = c.hand-place.result } ∷ []) (lane_in c.self.inside.lanes c.args.lane).capacity) (numbered_in c.args.delivery.now) (record { queue = c.args.delivery.now.queue; number = c.args.delivery.now.number; slot = c.args.slot; place = c.hand-place.result }) c.pin.new.self c.self.invariant offer
-    h (waits_is c.self.inside.queues c.args.delivery.now.queue h) k (lane_is c.self.inside.lanes c.args.lane k) (waits_here c.self.inside c.args.delivery.now.queue (waits_at c.self.inside.queues c.args.delivery.now.queue) (numbered_in c.args.delivery.now) h (waits_is c.self.inside.queues c.args.delivery.now.queue h) offer.waits)
-    refl refl (ap (λ s. record { queue = c.args.delivery.now.queue; number = c.args.delivery.now.number; slot = s }) (slot_here c.self.inside c.args.self.now c.args.delivery.now.queue c.args.slot (numbered_in c.args.delivery.now) c.self.view_is c.requires.slot)) c.hand-place.ensures.place))
-    ∙ ap (λ v. after_give v c.args.lane c.args.delivery.now.queue c.args.delivery.now.number) c.self.view_is
+    (view_gives c.self.inside c.args.queue c.args.lane (waits_at c.self.inside.queues c.args.queue) (without_number (waits_at c.self.inside.queues c.args.queue) c.args.waiting.now.number) (lane_in c.self.inside.lanes c.args.lane) (entries_of ((lane_in c.self.inside.lanes c.args.lane).entries ++ record { queue = c.args.queue; number = c.args.waiting.now.number; slot = c.args.slot; place = c.hand-place.result } ∷ []) (lane_in c.self.inside.lanes c.args.lane).capacity) c.args.waiting.now (record { queue = c.args.queue; number = c.args.waiting.now.number; slot = c.args.slot; place = c.hand-place.result }) c.pin.new.self c.self.invariant offer
+    h (waits_is c.self.inside.queues c.args.queue h) k (lane_is c.self.inside.lanes c.args.lane k) (waits_here c.self.inside c.args.queue (waits_at c.self.inside.queues c.args.queue) c.args.waiting.now h (waits_is c.self.inside.queues c.args.queue h) offer.waits)
+    refl refl (ap (λ s. record { queue = c.args.queue; number = c.args.waiting.now.number; slot = s }) (slot_here c.self.inside c.args.self.now c.args.queue c.args.slot c.args.waiting.now c.self.view_is c.requires.slot)) c.hand-place.ensures.place))
+    ∙ ap (λ v. after_give v c.args.lane c.args.queue c.args.waiting.now.number) c.self.view_is
 
 pub push-requires-clause-there : goal.push-requires-clause-there
 push-requires-clause-there g c =
-    let offer : IsOffer (view_in c.self.inside) c.args.lane c.args.delivery.now.queue (numbered_in c.args.delivery.now) = subst (λ v. IsOffer v c.args.lane c.args.delivery.now.queue (numbered_in c.args.delivery.now)) (sym c.self.view_is) c.requires.offer in
+    let offer : IsOffer (view_in c.self.inside) c.args.lane c.args.queue c.args.waiting.now = subst (λ v. IsOffer v c.args.lane c.args.queue c.args.waiting.now) (sym c.self.view_is) c.requires.offer in
     omega (arith, offer.lane, c.self.invariant.lanes)
 
 pub push-requires-clause-room : goal.push-requires-clause-room
 push-requires-clause-room g c =
-    let offer : IsOffer (view_in c.self.inside) c.args.lane c.args.delivery.now.queue (numbered_in c.args.delivery.now) = subst (λ v. IsOffer v c.args.lane c.args.delivery.now.queue (numbered_in c.args.delivery.now)) (sym c.self.view_is) c.requires.offer in
+    let offer : IsOffer (view_in c.self.inside) c.args.lane c.args.queue c.args.waiting.now = subst (λ v. IsOffer v c.args.lane c.args.queue c.args.waiting.now) (sym c.self.view_is) c.requires.offer in
     (room_here c.self.inside c.args.lane c.self.invariant (omega (arith, offer.lane, c.self.invariant.lanes))).1 offer.room

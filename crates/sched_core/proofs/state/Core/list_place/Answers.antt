@@ -1,7 +1,8 @@
-use Rattle.std.proofs.Common.{◌≡◌, ◌+◌, ◌<◌, List, get_or, length, slice_get, sym, ap, ◌∙◌, subst, arith}
+use Rattle.std.proofs.Common.{◌≡◌, ◌+◌, ◌<◌, ◌++◌, ◌∷◌, [], List, get_or, length, slice_get, sym, ap, ◌∙◌, subst, arith}
 use Rattle.std.proofs.lemmas.List.{length-map}
 use Rattle.std.proofs.lemmas.Option.{none-some}
 use Rattle.lists.proofs.Lists.{slice_get-some}
+use Rattle.evt_types.specs.declared.event.Event.{Event}
 use Rattle.evt_types.specs.Place.{Place}
 use Rattle.transcripts.specs.Standing.{View, places_at}
 use Rattle.order_parts.specs.Reorder.{kept_of, open_place}
@@ -23,6 +24,6 @@ loop-nth-preserved c =
     elim c.match-kept_at.branch [
       | in-Some w ↦
           subst (λ into. IsBegun c.args.into.now into c.args.queue (kept_of x) (c.loop-nth.nth + 1)) (sym w.into-is)
-          (one_listed c.args.into.now c.loop-nth.into w.push_reserved.new.self c.args.queue (kept_of x) c.loop-nth.nth w.in-Some.kept c.loop-nth.invariant (sym here ∙ w.in-Some.is) w.push_reserved.ensures.items w.push_reserved.ensures.capacity)
+          (one_listed c.args.into.now c.loop-nth.into w.push_reserved.new.self c.args.queue (kept_of x) c.loop-nth.nth w.in-Some.kept c.loop-nth.invariant (sym here ∙ w.in-Some.is) (w.push_reserved.ensures.items ∙ ap (λ (e : Event). c.loop-nth.into.items ++ record { queue = c.args.queue; number = w.in-Some.kept.number; event = e } ∷ []) w.unpack.ensures) w.push_reserved.ensures.capacity)
       | in_default w ↦ let some = slice_get-some (kept_of x) c.loop-nth.nth lt in absurd (none-some some.0 (sym w.in_default.is ∙ (here ∙ some.1)))
     ]

@@ -1,4 +1,4 @@
-use Rattle.std.proofs.Common.{subst, arith}
+use Rattle.std.proofs.Common.{subst, ◌∙◌, arith}
 use Rattle.evt_types.specs.Fault.{IsWithinLimits}
 use Rattle.transcripts.specs.Standing.{View}
 use Rattle.sched_core.proofs.FirstOnes.{found_first, found_slot, slots_within}
@@ -13,7 +13,7 @@ returns c =
     let v : View = c.args.self.now in
     let limits : IsWithinLimits v.shape = subst (λ (u : View). IsWithinLimits u.shape) c.self.view_is c.self.invariant.limits in
     let found = c.in_ok-found.found in
-    offer_made v c.args.skips.now c.args.queue c.args.level.number c.in_ok-lane.lane found.waiting c.of.result c.of.ensures.lane c.of.ensures.queue c.of.ensures.event
+    offer_made v c.args.skips.now c.args.queue c.args.level.number c.in_ok-lane.lane found.waiting c.of.result c.of.ensures.lane (c.of.ensures.queue ∙ c.in_ok-found.ensures.names) c.of.ensures.event
     (offer_in v c.args.skips.now c.args.queue c.args.level.number c.in_ok-lane.lane found.slot c.args.allowed found.waiting c.requires.allowed (slots_within v c.args.queue limits c.requires.queue)
     (found_first c.self.inside v c.args.queue c.self.invariant c.self.view_is c.requires.queue c.args.level.number c.args.allowed found.waiting c.in_ok-found.ensures.first)
     (found_slot c.self.inside v c.args.queue c.self.invariant c.self.view_is c.requires.queue found.slot found.waiting c.in_ok-found.ensures.slot)

@@ -29,7 +29,7 @@ returns-in-Some-lane_for-clause-offer c =
     let view : view_in a ≡ v = c.self.view_is ∙ c.loop-found.invariant.0 in
     let limits : IsWithinLimits v.shape = subst (λ (u : View). IsWithinLimits u.shape) view c.self.invariant.limits in
     let now : view_in (with_queues a c.first.new.self) ≡ v = ap (λ qs. view_in (with_queues a qs)) c.in-Some.ensures.same ∙ view in
-    offer_made v s q c.args.level.number lane found.waiting c.of.result c.of.ensures.lane c.of.ensures.queue c.of.ensures.event
+    offer_made v s q c.args.level.number lane found.waiting c.of.result c.of.ensures.lane (c.of.ensures.queue ∙ c.in-Some.ensures.names) c.of.ensures.event
     (offer_in v s q c.args.level.number lane found.slot c.loop-found.left found.waiting c.loop-found.invariant.1 (slots_within v q limits c.requires.queue)
     (found_first a v q c.self.invariant view c.requires.queue c.args.level.number c.loop-found.left found.waiting c.in-Some.ensures.first)
     (found_slot a v q c.self.invariant view c.requires.queue found.slot found.waiting c.in-Some.ensures.slot)

@@ -1,0 +1,60 @@
+-- One event more was taken, or refused.
+use Rattle.std.proofs.Common.{rules, ◌≡◌, ◌∙◌, Some, refl, slice_get, subst, take}
+use Rattle.event_ports.proofs.Refusing.{same_refusal}
+use Rattle.event_ports.specs.Desks.{hand, Enqueues, EnqueuesAll}
+use Rattle.event_ports.proofs.Bursts.{taken_more, chain_taken, read_next}
+use Rattle.event_ports.proofs.desk.Desk.submit_packed.Goals as goal
+
+pub returns-in-Err-clause-refused : goal.returns-in-Err-clause-refused
+returns-in-Err-clause-refused c =
+    let was = c.loop-taken.invariant in
+    record {
+      event = c.index-events-taken.result;
+      between = c.loop-taken.self;
+      is_next = read_next c.args.events.now c.loop-taken.taken c.index-events-taken.result c.loop-taken-test.true c.index-events-taken.is;
+      site = was.0;
+      credit = was.1;
+      submitted = was.2;
+      refused = c.in-Err.ensures.refused;
+    }
+
+pub returns-in-Err-clause-chain : goal.returns-in-Err-clause-chain
+returns-in-Err-clause-chain c =
+    let was = c.loop-taken.invariant in
+    record {
+      between = c.loop-taken.self;
+      taken = was.3;
+      ends = (
+        c.index-events-taken.result,
+        read_next c.args.events.now c.loop-taken.taken c.index-events-taken.result c.loop-taken-test.true c.index-events-taken.is,
+        record {
+          site = c.submit.ensures.site;
+          credit = c.submit.ensures.credit;
+          rests = c.in-Err.ensures.submitted;
+          why = c.in-Err.ensures.refused;
+          stopped = λ saw new. same_refusal _ _ (c.in-Err.ensures.stopped saw new);
+        },
+      );
+    }
+
+pub loop-taken-preserved : goal.loop-taken-preserved
+loop-taken-preserved c =
+    let was = c.loop-taken.invariant in
+    let at : slice_get c.args.events.now c.loop-taken.taken ≡ Some c.index-events-taken.result = read_next c.args.events.now c.loop-taken.taken c.index-events-taken.result c.loop-taken-test.true c.index-events-taken.is in
+    let one : Enqueues c.index-events-taken.result c.loop-taken.self c.submit.new.self = record {
+      site = c.submit.ensures.site;
+      credit = c.submit.ensures.credit;
+      submitted = c.in_default.ensures.submitted;
+      pays = c.in_default.ensures.pays;
+      unshut = (search rules);
+    } in (
+      c.submit.ensures.site ∙ was.0,
+      (search rules),
+      taken_more c.args.events.now c.loop-taken.taken c.index-events-taken.result (hand c.args.self.now) (hand c.loop-taken.self) (hand c.submit.new.self) at was.2 c.in_default.ensures.submitted,
+      chain_taken c.args.events.now c.loop-taken.taken c.index-events-taken.result c.args.self.now c.loop-taken.self c.submit.new.self at was.3 one,
+    )
+
+pub returns-clause-chain : goal.returns-clause-chain
+returns-clause-chain c =
+    let was = c.loop-taken.invariant in
+    record { between = c.loop-taken.self; taken = subst (λ n. EnqueuesAll (take n c.args.events.now) c.args.self.now c.loop-taken.self) (search rules) was.3; ends = refl }

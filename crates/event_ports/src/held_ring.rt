@@ -1,0 +1,156 @@
+//! What a port holds, in a ring whose number of places is fixed, so that its mask is a constant.
+
+ghost use Rattle.std.specs.Prelude.{◌≡◌, ◌+◌, ◌<◌, ◌≤◌, [], ◌++◌, length, map, drop, slice_get, option_copied, IfOk};
+ghost use Rattle.event_ports.specs.HeldRings.{holds, window};
+ghost use Rattle.event_ports.specs.Lanes.{holding_of};
+
+use crate::lane::{Holding, Lane};
+use arrayvec::ArrayVec;
+use evt_types::{Delivery, Memory};
+use std::alloc::Global;
+use std::marker::Model;
+
+/// How many places there are: as many as a port may hold at most, and a power of two, so that a mask finds the next place.
+const PLACES: usize = 64;
+
+/// What a port holds, oldest first, in a ring.
+#[derive(Drop)]
+pub struct HeldRing {
+    places: Vec<Holding>,
+    /// The oldest one's place.
+    first: usize,
+    len: usize,
+    capacity: usize,
+}
+
+impl Model for HeldRing {
+    ghost use Rattle.event_ports.specs.HeldRings.{Held, holds};
+
+    ghost Value = { Held };
+
+    ghost use Rattle.event_ports.specs.Ring.{in_ring, IsRing};
+
+    ghost view = { λ a. holds (in_ring a) a.capacity };
+
+    ghost invariant = { IsRing };
+}
+
+impl HeldRing {
+    /// A ring that holds nothing, with room for so many.
+    pub fn new(alloc: Global, capacity: usize) -> Result<HeldRing, Memory>
+        requires { capacity ≤ 64 }
+        ensures { IfOk result (λ r. r ≡ holds [] capacity) }
+    {
+        let blank = Holding {
+            lane: Lane::Own,
+            queue: 0,
+            number: 0,
+        };
+        let places = vec![in alloc; blank; PLACES]?;
+        Ok(HeldRing {
+            places,
+            first: 0,
+            len: 0,
+            capacity,
+        })
+    }
+
+    /// How many are held.
+    #[inline(always)]
+    pub fn len(&self) -> usize
+        ensures len { result ≡ length self.now.items }
+        ensures within { (result ≤ self.now.capacity) × (self.now.capacity ≤ 64) }
+    {
+        self.len
+    }
+
+    /// How many may be held.
+    #[inline(always)]
+    pub fn capacity(&self) -> usize
+        ensures capacity { result ≡ self.now.capacity }
+        ensures within { (length self.now.items ≤ result) × (result ≤ 64) }
+    {
+        self.capacity
+    }
+
+    /// The oldest one, which stays.
+    #[inline(always)]
+    pub fn front(&self) -> Option<&Holding>
+        ensures { option_copied result ≡ slice_get self.now.items 0 }
+    {
+        if self.len == 0 {
+            return None;
+        }
+        Some(&self.places[self.first])
+    }
+
+    /// Notes the deliveries from this position on, which came from the lane, as held.
+    #[inline(always)]
+    pub(crate) fn note(&mut self, lane: Lane, from: usize, deliveries: &ArrayVec<Delivery, 64>)
+        requires { length self.old.items + length (drop from deliveries.now.items) ≤ self.old.capacity }
+        ensures noted { self.new.items ≡ self.old.items ++ map (holding_of lane) (drop from deliveries.now.items) }
+        ensures room { self.new.capacity ≡ self.old.capacity }
+    {
+        self.len = write(
+            &mut self.places,
+            self.first,
+            self.len,
+            lane,
+            from,
+            deliveries,
+        );
+    }
+
+    /// Takes the oldest one out.
+    #[inline(always)]
+    pub fn pop_front(&mut self) -> Option<Holding>
+        ensures value { result ≡ slice_get self.old.items 0 }
+        ensures items { self.new ≡ holds (drop 1 self.old.items) self.old.capacity }
+    {
+        if self.len == 0 {
+            return None;
+        }
+        let oldest = self.places[self.first];
+        self.drop_front();
+        Some(oldest)
+    }
+
+    /// Drops the oldest one.
+    #[inline(always)]
+    pub fn drop_front(&mut self)
+        requires { 0 < length self.old.items }
+        ensures items { self.new ≡ holds (drop 1 self.old.items) self.old.capacity }
+    {
+        self.first = (self.first + 1) % PLACES;
+        self.len -= 1;
+    }
+}
+
+// Writes the deliveries from this position on, which came from the lane, behind the `len` places that are taken from `first` on, and
+// gives how many are taken then. Of the ring it has the places alone: the ring's own fields would be read and written at each delivery.
+#[inline(always)]
+fn write(
+    places: &mut [Holding],
+    first: usize,
+    mut len: usize,
+    lane: Lane,
+    from: usize,
+    deliveries: &ArrayVec<Delivery, 64>,
+) -> usize
+    requires places { (length places.old ≡ 64) × (first < 64) }
+    requires room { len + length (drop from deliveries.now.items) ≤ 64 }
+    ensures places { length places.new ≡ 64 }
+    ensures len { result ≡ len + length (drop from deliveries.now.items) }
+    ensures written { window first result places.new ≡ window first len places.old ++ map (holding_of lane) (drop from deliveries.now.items) }
+{
+    for position in from..deliveries.len() {
+        let delivery = &deliveries[position];
+        places[(first + len) % PLACES] = Holding {
+            lane,
+            queue: delivery.queue(),
+            number: delivery.number(),
+        };
+        len += 1;
+    }
+    len
+}

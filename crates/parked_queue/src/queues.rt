@@ -70,16 +70,17 @@ impl ParkedQueues {
         self.queues.len()
     }
 
-    /// Lets the event wait in the queue, which is the one that it names, under the queue's next number. Wants room: fewer than there is room for wait in all queues.
+    /// Lets the event wait in the queue that it names, under that queue's next number. Wants room: fewer than there is room for wait in
+    /// all queues.
     #[inline(always)]
-    pub fn accept(&mut self, queue: usize, event: &PackedEvent)
-        requires there { queue < length self.old }
-        requires named { queue ≡ event.now.queue }
-        requires room { all_waiting self.old < (waits_at self.old queue).room }
-        requires numbers { (waits_at self.old queue).next < 2 ^ 63 }
-        ensures value { self.new ≡ slice_set self.old queue (with_event (waits_at self.old queue) event.now) }
-        ensures waits { AreWaits (with_event (waits_at self.old queue) event.now) }
+    pub fn accept(&mut self, event: &PackedEvent)
+        requires there { event.now.queue < length self.old }
+        requires room { all_waiting self.old < (waits_at self.old event.now.queue).room }
+        requires numbers { (waits_at self.old event.now.queue).next < 2 ^ 63 }
+        ensures value { self.new ≡ slice_set self.old event.now.queue (with_event (waits_at self.old event.now.queue) event.now) }
+        ensures waits { AreWaits (with_event (waits_at self.old event.now.queue) event.now) }
     {
+        let queue = usize::from(event.queue());
         let level = Level::of(event);
         let entered = &mut self.queues[queue];
         let number = entered.next;

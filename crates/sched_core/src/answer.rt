@@ -38,7 +38,7 @@ impl Core {
         ensures room { L.room log.old ≤ L.room log.new + 1 }
     {
         let queue = usize::from(event.queue());
-        self.queues.accept(queue, event);
+        self.queues.accept(event);
         self.inside += 1;
         self.entries += 1;
         log.push_step(Step::Accept {

@@ -80,8 +80,8 @@ fn first_of(
 /// In each queue an event waits, and there is room for no more.
 fn one_in_each(alloc: Global) -> Result<ParkedQueues, AllocError> {
     let mut queues = queues_of(alloc, 4, 2)?;
-    queues.accept(0, &PackedEvent::of(&ONE));
-    queues.accept(1, &PackedEvent::of(&SIX));
+    queues.accept(&PackedEvent::of(&ONE));
+    queues.accept(&PackedEvent::of(&SIX));
     Ok(queues)
 }
 

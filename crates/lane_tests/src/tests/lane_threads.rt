@@ -57,18 +57,19 @@ fn hold(far: Far) -> (Far, bool)
         }
         idle += 1;
         if received < PASSES && !far.is_full() {
-            match far.receive() {
-                Some(next) => {
-                    in_order = in_order && next == delivery(received);
-                    received += 1;
-                    idle = 0;
-                }
-                None => thread::yield_now(),
+            if let Some(next) = far.receive() {
+                in_order = in_order && next == delivery(received);
+                received += 1;
+                idle = 0;
             }
         }
         if far.held() > 0 && far.answer(reply(Op::Forward, answered)).is_ok() {
             answered += 1;
             idle = 0;
+        }
+        // Also where nothing more may be held and the other ring is full: the other thread may wait for this one's processor.
+        if idle > 0 {
+            thread::yield_now();
         }
     }
     (far, in_order && answered == PASSES)

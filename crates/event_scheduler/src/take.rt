@@ -37,12 +37,11 @@ fn take_one<L: StepLog>(
     ensures room { L.room log.old ≤ L.room log.new + length (steps_of core.old lane reply.now.event) }
 {
     let (credits, count) = (*pocket, *accepted_new);
-    // One call for both: with a call in each arm this would be too large to be compiled into the loop.
-    let took = core.take_from(lane, reply, log);
     if !reply.event.is_new() {
+        core.take_answer(lane, reply, log);
         return;
     }
-    match took {
+    match core.take_new(lane, reply, log) {
         Took::Turned => *pocket = credits.wrapping_add(1),
         Took::Accepted => *accepted_new = count.wrapping_add(1),
         Took::Kept | Took::Released => {}

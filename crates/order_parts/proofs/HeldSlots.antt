@@ -1,9 +1,9 @@
 -- The sets of the slots that stand on each lane: how a pin and an answer change them, and which slots stand on none of some lanes.
-use Rattle.std.proofs.Common.{◌≡◌, ◌≢◌, ℕ, ◌<◌, ◌≤◌, ◌==◌, List, length, replicate, slice_set, ⊎_elim, refl, sym, ap, ◌∙◌, subst, arith, eqb-true}
+use Rattle.std.proofs.Common.{◌≡◌, ◌≢◌, ℕ, ◌+◌, ◌<◌, ◌≤◌, ◌==◌, List, length, replicate, slice_set, ⊎_elim, refl, sym, ap, ◌∙◌, subst, arith, eqb-true}
 use Rattle.std.specs.Prelude.{◌↔◌, IsTrue}
 use Rattle.std.proofs.lemmas.Bool.{cases_lt, cases_eq, or_cases}
 use Rattle.std.proofs.lemmas.List.{get_or-set_same, get_or-set_other, get_or_past, length-set, length-replicate, get_or-replicate}
-use Rattle.order_parts.specs.Held.{AreHeld, IsHeldIn}
+use Rattle.order_parts.specs.Held.{AreHeld, AreHeldBelow, IsHeldIn}
 use Rattle.order_parts.specs.Pins.{Pin, IsOn, cell_of, free, may_pin, pin_at, pinned, unpinned}
 use Rattle.small_set.specs.SmallSets.{Has, SameBut, no_places, set_at}
 use Rattle.small_set.specs.declared.set.SmallSet.{SmallSet}
@@ -15,22 +15,6 @@ cell_low l = omega arith
 
 pub cell_own : (l : ℕ) → l < 64 → cell_of l ≡ l
 cell_own l few = omega (arith, few)
-
--- ---- nothing stands anywhere
-
-none_held : (n k s : ℕ) → IsHeldIn (replicate n free) k s → ⊥
-none_held n k s held =
-    let lt : s < n = omega (arith, held.slot, length-replicate n free) in
-    let e = ap (λ (p : Pin). p.count) (get_or-replicate n s free free lt) in
-    omega (arith, held.some, e)
-
-pub new_held : (n : ℕ) (empty : SmallSet) → n ≤ 64 → ((i : ℕ) → ¬ Has empty i) → AreHeld (replicate n free) (replicate 64 empty)
-new_held n empty few none =
-    record {
-      few = omega (arith, few, length-replicate n free);
-      cells = refl;
-      held = λ k s lt. (λ has. absurd (none s (subst (λ x. Has x s) (get_or-replicate 64 k empty no_places lt) has)), λ held. absurd (none_held n k s held));
-    }
 
 -- ---- one slot's pin changes
 
@@ -171,6 +155,77 @@ module _ (ps : List Pin) (sets : List SmallSet) (are : AreHeld ps sets) (slot : 
         λ held. subst (λ m. IsHeldIn (slice_set ps slot fewer) m slot) held.cell (this_held ps slot within fewer (omega (arith, several, some))),
         λ held. record { slot = within; some = some; cell = (this_slot ps slot within fewer k held).1 },
       )
+
+-- ---- the sets are made, slot by slot
+
+-- of no slot
+pub none_below : (ps : List Pin) (empty : SmallSet) → ((i : ℕ) → ¬ Has empty i) → AreHeldBelow ps 0 (replicate 64 empty)
+none_below ps empty none =
+    record {
+      cells = refl;
+      held = λ k s lt. (λ has. absurd (none s (subst (λ x. Has x s) (get_or-replicate 64 k empty no_places lt) has)), λ held. let past = held.0 in absurd (omega arith));
+    }
+
+-- of all slots
+pub all_below : (ps : List Pin) (sets : List SmallSet) (n : ℕ) → length ps ≤ 64 → n ≡ length ps → AreHeldBelow ps n sets → AreHeld ps sets
+all_below ps sets n few all are =
+    record {
+      few = few;
+      cells = are.cells;
+      held = λ k s lt. (λ has. ((are.held k s lt).0 has).1, λ held. (are.held k s lt).1 (let slot = held.slot in omega arith, held));
+    }
+
+module _ (ps : List Pin) (sets : List SmallSet) (n : ℕ) (are : AreHeldBelow ps n sets) (within : n < length ps) where
+  -- a slot more that is free
+  pub free_below : (pin_at ps n).count ≡ 0 → AreHeldBelow ps (n + 1) sets
+  free_below zero =
+      record {
+        cells = are.cells;
+        held = λ k s lt. (
+          λ has. let was = (are.held k s lt).0 has in (let low = was.0 in omega arith, was.1),
+          λ held. (are.held k s lt).1 (
+            ⊎_elim (λ e. let some = subst (λ m. 0 < (pin_at ps m).count) e held.1.some in absurd (omega (arith, zero, some))) (λ ne. let low = held.0 in omega (arith, low, ne)) (cases_eq s n),
+            held.1,
+          ),
+        );
+      }
+
+  -- a slot more that stands on a lane
+  pub next_below : (old new : SmallSet) → 0 < (pin_at ps n).count → set_at sets (cell_of (pin_at ps n).lane) ≡ old → Has new n → SameBut n old new → AreHeldBelow ps (n + 1) (slice_set sets (cell_of (pin_at ps n).lane) new)
+  next_below old new some is there_new others = record { cells = length-set sets cell new ∙ are.cells; held = agree_on }
+    where
+      cell : ℕ
+      cell = cell_of (pin_at ps n).lane
+
+      here_now : set_at (slice_set sets cell new) cell ≡ new
+      here_now = get_or-set_same sets cell new no_places (omega (arith, cell_low (pin_at ps n).lane, are.cells))
+
+      there_now : (k : ℕ) → k ≢ cell → set_at (slice_set sets cell new) k ≡ set_at sets k
+      there_now k apart = get_or-set_other sets cell k new no_places apart
+
+      at_slot : (k : ℕ) → k < 64 → Has (set_at (slice_set sets cell new) k) n ↔ ((n < n + 1) × IsHeldIn ps k n)
+      at_slot k lt = (
+        λ has. (
+          omega arith,
+          ⊎_elim (λ e. record { slot = within; some = some; cell = sym e })
+              (λ ne. let past = ((are.held k n lt).0 (subst (λ set. Has set n) (there_now k ne) has)).0 in absurd (omega arith)) (cases_eq k cell),
+        ),
+        λ held. subst (λ m. Has (set_at (slice_set sets cell new) m) n) held.1.cell (subst (λ set. Has set n) (sym here_now) there_new),
+      )
+
+      stays_there : (k s : ℕ) → s ≢ n → Has (set_at (slice_set sets cell new) k) s ↔ Has (set_at sets k) s
+      stays_there k s apart =
+          ⊎_elim
+          (λ e. subst (λ m. Has (set_at (slice_set sets cell new) m) s ↔ Has (set_at sets m) s) (sym e)
+          (subst (λ set. Has set s ↔ Has (set_at sets cell) s) (sym here_now) (subst (λ set. Has new s ↔ Has set s) (sym is) (others s apart))))
+          (λ ne. subst (λ set. Has set s ↔ Has (set_at sets k) s) (sym (there_now k ne)) (λ has. has, λ has. has))
+          (cases_eq k cell)
+
+      at_other : (k s : ℕ) → k < 64 → s ≢ n → Has (set_at (slice_set sets cell new) k) s ↔ ((s < n + 1) × IsHeldIn ps k s)
+      at_other k s lt apart = both_ways (both_ways (stays_there k s apart) (are.held k s lt)) (λ held. let low = held.0 in (omega arith, held.1), λ held. let low = held.0 in (omega (arith, low, apart), held.1))
+
+      agree_on : (k s : ℕ) → k < 64 → Has (set_at (slice_set sets cell new) k) s ↔ ((s < n + 1) × IsHeldIn ps k s)
+      agree_on k s lt = ⊎_elim (λ e. subst (λ t. Has (set_at (slice_set sets cell new) k) t ↔ ((t < n + 1) × IsHeldIn ps k t)) (sym e) (at_slot k lt)) (at_other k s lt) (cases_eq s n)
 
 -- ---- which slots stand on none of some lanes
 

@@ -1,5 +1,5 @@
 -- The reorder buffers of a device's queues: one of a queue that restores no order has no places, and no room for any.
-use Rattle.std.specs.Prelude.{ℕ, ◌≡◌, ◌<◌, Bool, ◌==◌, ◌||◌, List, length, nat_lt, slice_index_or, Option, Some, None, All, if◌then◌else◌}
+use Rattle.std.specs.Prelude.{ℕ, ◌≡◌, ◌<◌, ◌-◌, Bool, ◌==◌, ◌||◌, List, length, nat_lt, min, slice_index_or, Option, Some, None, All, if◌then◌else◌}
 use Rattle.evt_types.specs.declared.event.Event.{Event}
 use Rattle.order_parts.specs.Reorder.{Reordering, empty, after_hand, after_add, after_resolve}
 use Rattle.order_parts.specs.declared.all_orders.AllOrders.TheInside.{Inside}
@@ -28,6 +28,10 @@ is_restoring r = nat_lt 0 r.depth
 -- there is a place for one more event, or it needs none
 abbrev pub has_place : Reordering → Bool
 has_place r = r.depth == 0 || nat_lt (length r.places) r.depth
+
+-- of so many events, how many have a place or need none
+abbrev pub places_for : Reordering → ℕ → ℕ
+places_for r n = if is_restoring r then min (r.depth - length r.places) n else n
 
 -- an event more was handed out, an event was added beside one, and an event answered
 abbrev pub handed : Reordering → ℕ → Reordering

@@ -25,6 +25,10 @@ may_pin p l = p.count == 0 || p.lane == l
 abbrev pub holder_of : Pin → Option ℕ
 holder_of p = if p.count == 0 then None else Some p.lane
 
+-- so many events on the lane
+abbrev pub pin_on : ℕ → ℕ → Pin
+pin_on n l = record { count = n; lane = l }
+
 -- one event more, on the lane
 abbrev pub pinned : Pin → ℕ → Pin
 pinned p l = record { count = p.count + 1; lane = l }

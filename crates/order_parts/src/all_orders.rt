@@ -2,7 +2,7 @@
 
 ghost use Rattle.std.specs.Prelude.{◌≡◌, ◌<◌, ◌≤◌, ◌^◌, ◌&&◌, true, false, length, map, slice_get, slice_set, slice_index_or, sum_by, is_some, option_copied, option_map, Some, IfNone, IfOk, IfSome, IsTrue};
 ghost use Rattle.order_parts.specs.Reorder.{empty, next_number, place_at, place_or_open, is_open, kept_of, left, left_plain, oldest_answered, after_leave, open_place};
-ghost use Rattle.order_parts.specs.Orders.{IsBuffer, is_restoring, has_place, handed, added_in, resolved_in, order_at};
+ghost use Rattle.order_parts.specs.Orders.{IsBuffer, is_restoring, has_place, places_for, handed, added_in, resolved_in, order_at};
 ghost use Rattle.evt_types.specs.Plan as plans;
 
 use crate::reorder::Reorder;
@@ -80,6 +80,18 @@ impl AllOrders {
         match &self.queues[queue] {
             Some(order) => order.room(),
             None => true,
+        }
+    }
+
+    /// Of so many events of the queue, how many may be handed out before one is answered: an ordered queue has a place for each.
+    #[inline(always)]
+    pub fn places_for(&self, queue: usize, most: usize) -> usize
+        requires { queue < length self.now }
+        ensures { result ≡ places_for (order_at self.now queue) most }
+    {
+        match &self.queues[queue] {
+            Some(order) => order.free().min(most),
+            None => most,
         }
     }
 

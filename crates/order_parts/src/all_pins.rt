@@ -8,7 +8,7 @@ ghost use Rattle.order_parts.specs.QueuePins.{AreFreePins, pins_at, pin_in, with
 
 use crate::pins::Pins;
 use evt_types::{MAX_DEPTH, Memory, QueueDraft, Shape};
-use small_set::{MAX_MEMBERS, SmallSet};
+use small_set::SmallSet;
 use std::alloc::Global;
 use std::marker::Model;
 
@@ -78,19 +78,22 @@ impl AllPins {
     }
 
     /// The slots that stand on none of these lanes: they are free, or stand on another one. Of a slot that stands on a lane beyond the
-    /// first 64 nothing is said.
+    /// first 64 nothing is said. From here on the slots of each lane are kept up, until they are forgotten.
     #[inline(always)]
-    pub fn slots_off(&self, queue: usize, lanes: SmallSet) -> SmallSet
-        requires { queue < length self.now }
-        ensures { (s : ℕ) → s < 64 → (0 < (pin_in self.now queue s).count → (pin_in self.now queue s).lane < 64) → Has result s ↔ ((l : ℕ) → Has lanes l → ¬ IsOn (pin_in self.now queue s) l) }
+    pub fn slots_off(&mut self, queue: usize, lanes: SmallSet) -> SmallSet
+        requires { queue < length self.old }
+        ensures same { self.new ≡ self.old }
+        ensures off { (s : ℕ) → s < 64 → (0 < (pin_in self.old queue s).count → (pin_in self.old queue s).lane < 64) → Has result s ↔ ((l : ℕ) → Has lanes l → ¬ IsOn (pin_in self.old queue s) l) }
     {
-        let pins = &self.queues[queue];
-        let mut left = lanes;
-        let mut slots = SmallSet::below(MAX_MEMBERS);
-        while let Some(lane) = left.pop() {
-            slots = slots.except(pins.held[lane]);
-        }
-        slots
+        self.queues[queue].slots_off(lanes)
+    }
+
+    /// The slots of each lane are no longer kept up for the queue, until they are asked for again.
+    pub fn forget(&mut self, queue: usize)
+        requires { queue < length self.old }
+        ensures { self.new ≡ self.old }
+    {
+        self.queues[queue].forget();
     }
 
     /// One event more of the slot goes to the lane.

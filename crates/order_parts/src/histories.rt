@@ -1,6 +1,6 @@
 //! The unanswered events of all lanes.
 
-ghost use Rattle.std.specs.Prelude.{◌≡◌, ◌<◌, ◌==◌, ◌∷◌, ◌++◌, [], length, drop, slice_get, slice_set, Some, IfOk, IsTrue, IsFalse};
+ghost use Rattle.std.specs.Prelude.{◌≡◌, ◌+◌, ◌<◌, ◌==◌, ◌∷◌, ◌++◌, [], length, drop, slice_get, slice_set, Some, IfOk, IsTrue, IsFalse};
 ghost use Rattle.evt_types.specs.Plan.{lanes_of};
 ghost use Rattle.order_parts.specs.History.{entries_of};
 ghost use Rattle.order_parts.specs.Histories.{AreRoomy, HasRoom, lane_in, AreEmptyLanes};
@@ -105,6 +105,14 @@ impl Histories {
         ensures { result ≡ (length (lane_in self.now lane).entries == 0) }
     {
         self.lanes[lane].len == 0
+    }
+
+    /// How many events more the lane has room for.
+    pub fn room(&self, lane: usize) -> usize
+        requires { lane < length self.now }
+        ensures { result + length (lane_in self.now lane).entries ≡ (lane_in self.now lane).capacity }
+    {
+        self.lanes[lane].room()
     }
 
     /// Of the first lanes those that have room.

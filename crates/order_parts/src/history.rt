@@ -1,6 +1,6 @@
 //! The events that a lane hasn't answered.
 
-ghost use Rattle.std.specs.Prelude.{◌≡◌, ◌^◌, ◌<◌, ◌≤◌, ◌==◌, [], ◌∷◌, ◌++◌, length, drop, slice_get, IfOk};
+ghost use Rattle.std.specs.Prelude.{◌≡◌, ◌+◌, ◌^◌, ◌<◌, ◌≤◌, ◌==◌, [], ◌∷◌, ◌++◌, length, drop, slice_get, IfOk};
 ghost use Rattle.order_parts.specs.History.{entries_of};
 
 use evt_types::Memory;
@@ -83,6 +83,13 @@ impl History {
         ensures { result ≡ (length self.now.entries == self.now.capacity) }
     {
         self.len == self.capacity
+    }
+
+    /// How many entries more there is room for.
+    pub fn room(&self) -> usize
+        ensures { result + length self.now.entries ≡ self.now.capacity }
+    {
+        self.capacity - self.len
     }
 
     /// Appends an entry.

@@ -1,8 +1,10 @@
 //! Which lane holds each slot of an atomic queue.
 
-ghost use Rattle.std.specs.Prelude.{◌≡◌, ◌<◌, ◌≤◌, length, replicate, slice_set, IfOk, IsTrue};
+ghost use Rattle.std.specs.Prelude.{◌≡◌, ℕ, ◌+◌, ◌<◌, ◌≤◌, ◌↔◌, List, length, map, replicate, slice_set, IfOk, IsTrue};
 ghost use Rattle.evt_types.specs.declared.shape.TheConstants.{MAX_DEPTH};
-ghost use Rattle.order_parts.specs.Pins.{cell_of, free, pin_at, may_pin, pinned, unpinned};
+ghost use Rattle.order_parts.specs.Held.{AreHeld, AreHeldBelow, AreNoted};
+ghost use Rattle.order_parts.specs.Pins.{IsOn, Pin, cell_of, free, pin_at, pin_of, pin_on, may_pin, pinned, unpinned};
+ghost use Rattle.small_set.specs.SmallSets.{Has};
 
 use evt_types::{MAX_SLOTS, Memory};
 use small_set::{MAX_MEMBERS, SmallSet};
@@ -20,8 +22,11 @@ pub(crate) struct Hold {
 #[derive(Debug, Drop)]
 pub struct Pins {
     pub(crate) holds: Vec<Hold>,
-    /// For each lane the slots that stand on it. Only the first lanes, as many as there are sets, have one of their own.
-    pub(crate) held: [SmallSet; MAX_MEMBERS],
+    /// For each lane the slots that stand on it, while this is kept up. Only the first lanes, as many as there are sets, have one of
+    /// their own.
+    held: [SmallSet; MAX_MEMBERS],
+    /// Whether these sets are kept up: they are made when they are asked for.
+    is_kept: bool,
 }
 
 /// The set of the lane's slots.
@@ -32,16 +37,100 @@ fn cell_of(lane: usize) -> usize
     lane % MAX_MEMBERS
 }
 
+/// The slot of these events stands on their lane, where there are any.
+fn note_hold(held: &mut [SmallSet; MAX_MEMBERS], slot: usize, hold: Hold)
+    requires { slot < MAX_SLOTS }
+    ensures { (ps : List Pin) → AreHeldBelow ps slot held.old → slot < length ps → pin_at ps slot ≡ pin_of hold → AreHeldBelow ps (slot + 1) held.new }
+{
+    if hold.count > 0 {
+        let cell = cell_of(hold.lane);
+        let mut slots = held[cell];
+        slots.add(slot);
+        held[cell] = slots;
+    }
+}
+
+/// The sets of the slots that stand on each lane.
+#[cold]
+fn held_slots(holds: &[Hold]) -> [SmallSet; MAX_MEMBERS]
+    requires { length holds.now ≤ MAX_SLOTS }
+    ensures { AreHeld (map pin_of holds.now) result }
+{
+    let mut held = [SmallSet::none(); MAX_MEMBERS];
+    for slot in 0..holds.len() {
+        let hold = holds[slot];
+        note_hold(&mut held, slot, hold);
+    }
+    held
+}
+
+/// Makes the sets, where they aren't kept up.
+fn keep(held: &mut [SmallSet; MAX_MEMBERS], is_kept: bool, holds: &[Hold])
+    requires { AreNoted (map pin_of holds.now) is_kept held.old }
+    ensures { AreHeld (map pin_of holds.now) held.new }
+{
+    if !is_kept {
+        *held = held_slots(holds);
+    }
+}
+
+/// The slots that are in the sets of none of these lanes.
+#[inline(always)]
+fn slots_off(held: &[SmallSet; MAX_MEMBERS], lanes: SmallSet) -> SmallSet
+    ensures { (ps : List Pin) (s : ℕ) → AreHeld ps held.now → s < 64 → (0 < (pin_at ps s).count → (pin_at ps s).lane < 64) → Has result s ↔ ((l : ℕ) → Has lanes l → ¬ IsOn (pin_at ps s) l) }
+{
+    let mut left = lanes;
+    let mut slots = SmallSet::below(MAX_MEMBERS);
+    while let Some(lane) = left.pop() {
+        slots = slots.except(held[lane]);
+    }
+    slots
+}
+
+/// An event more of the slot stands on the lane, as is noted where the sets are kept up.
+#[inline(always)]
+fn note_pinned(held: &mut [SmallSet; MAX_MEMBERS], is_kept: bool, slot: usize, lane: usize)
+    requires { slot < MAX_SLOTS }
+    ensures { (ps : List Pin) → IsTrue is_kept → AreHeld ps held.old → slot < length ps → IsTrue (may_pin (pin_at ps slot) lane) → AreHeld (slice_set ps slot (pinned (pin_at ps slot) lane)) held.new }
+{
+    if is_kept {
+        let cell = cell_of(lane);
+        let mut slots = held[cell];
+        slots.add(slot);
+        held[cell] = slots;
+    }
+}
+
+/// An event fewer of the slot stands on the lane, where so many are left, as is noted where the sets are kept up.
+#[inline(always)]
+fn note_unpinned(
+    held: &mut [SmallSet; MAX_MEMBERS],
+    is_kept: bool,
+    slot: usize,
+    lane: usize,
+    left: u8,
+)
+    requires { slot < MAX_SLOTS }
+    ensures { (ps : List Pin) → IsTrue is_kept → AreHeld ps held.old → slot < length ps → pin_at ps slot ≡ pin_on (left + 1) lane → AreHeld (slice_set ps slot (unpinned (pin_at ps slot))) held.new }
+{
+    if is_kept && left == 0 {
+        let cell = cell_of(lane);
+        let mut slots = held[cell];
+        slots.remove(slot);
+        held[cell] = slots;
+    }
+}
+
 impl Model for Pins {
     ghost use Rattle.std.specs.Prelude.{List, map};
     ghost use Rattle.order_parts.specs.Pins.{Pin, pin_of};
-    ghost use Rattle.order_parts.specs.Held.{AreHeld};
+    ghost use Rattle.order_parts.specs.Held.{AreNoted};
 
     ghost Value = { List Pin };
 
     ghost view = { λ a. map pin_of a.holds.items };
 
-    ghost invariant = { λ a. AreHeld (map pin_of a.holds.items) a.held };
+    ghost invariant = { λ a. AreNoted (map pin_of a.holds.items) a.is_kept a.held };
 }
 
 impl Pins {
@@ -54,6 +143,7 @@ impl Pins {
         Ok(Pins {
             holds,
             held: [SmallSet::none(); MAX_MEMBERS],
+            is_kept: false,
         })
     }
 
@@ -80,13 +170,10 @@ impl Pins {
         requires room { (pin_at self.old slot).count < MAX_DEPTH }
         ensures { self.new ≡ slice_set self.old slot (pinned (pin_at self.old slot) lane) }
     {
-        let cell = cell_of(lane);
-        let mut slots = self.held[cell];
-        slots.add(slot);
-        self.held[cell] = slots;
         let hold = &mut self.holds[slot];
         hold.count += 1;
         hold.lane = lane;
+        note_pinned(&mut self.held, self.is_kept, slot, lane);
     }
 
     /// One event of the slot was answered. The slot is free once all of them were.
@@ -97,11 +184,26 @@ impl Pins {
     {
         let hold = &mut self.holds[slot];
         hold.count -= 1;
-        if hold.count == 0 {
-            let cell = cell_of(hold.lane);
-            let mut slots = self.held[cell];
-            slots.remove(slot);
-            self.held[cell] = slots;
-        }
+        let Hold { count, lane } = *hold;
+        note_unpinned(&mut self.held, self.is_kept, slot, lane, count);
+    }
+
+    /// The slots that stand on none of these lanes: they are free, or stand on another one. Of a slot that stands on a lane beyond the
+    /// first 64 nothing is said. From here on the slots of each lane are kept up, until they are forgotten.
+    #[inline(always)]
+    pub fn slots_off(&mut self, lanes: SmallSet) -> SmallSet
+        ensures same { self.new ≡ self.old }
+        ensures off { (s : ℕ) → s < 64 → (0 < (pin_at self.old s).count → (pin_at self.old s).lane < 64) → Has result s ↔ ((l : ℕ) → Has lanes l → ¬ IsOn (pin_at self.old s) l) }
+    {
+        keep(&mut self.held, self.is_kept, &self.holds);
+        self.is_kept = true;
+        slots_off(&self.held, lanes)
+    }
+
+    /// The slots of each lane are no longer kept up.
+    pub fn forget(&mut self)
+        ensures { self.new ≡ self.old }
+    {
+        self.is_kept = false;
     }
 }

@@ -85,6 +85,13 @@ impl Reorder {
         self.ring.len() < self.ring.capacity()
     }
 
+    /// How many places more there is room for.
+    pub fn free(&self) -> usize
+        ensures { result + length self.now.places ≡ self.now.depth }
+    {
+        self.ring.capacity() - self.ring.len()
+    }
+
     /// How many events the place at this index, counted from the oldest, keeps.
     pub fn kept_count(&self, index: usize) -> usize
         ensures value { result ≡ length (slice_index_or self.now.places index (open_place 0)).forwards }

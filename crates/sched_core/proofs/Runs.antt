@@ -1,20 +1,21 @@
 -- A run of gifts: what a gift leaves of the choice, and the choices one after another.
-use Rattle.std.proofs.Common.{◌≡◌, ◌≢◌, ℕ, ◌<◌, ◌≤◌, ◌+◌, Bool, true, false, cond, not, nat_lt, ◌&&◌, ◌||◌, ◌==◌, List, [], ◌∷◌, ◌++◌, length, filter, set, get_or, All, Contains, inl, inr, ⊎_elim, sym, ap, ◌∙◌, subst, append_assoc, append-nil, arith, eqb-true}
+use Rattle.std.proofs.Common.{◌≡◌, ◌≢◌, ℕ, ◌<◌, ◌≤◌, ◌+◌, Bool, true, false, cond, not, nat_lt, ◌&&◌, ◌||◌, ◌==◌, List, [], ◌∷◌, ◌++◌, length, filter, set, get_or, All, Contains, inl, inr, ⊎_elim, refl, sym, ap, ◌∙◌, subst, append_assoc, append-nil, arith, eqb-true}
 use Rattle.std.proofs.lemmas.Bool.{and_parts, or_cases, cases_eq, false≢true, false_from_ne_true, ltb-true, lt-ltb}
 use Rattle.std.proofs.lemmas.Grind.{get_or-set_at}
 use Rattle.std.proofs.lemmas.List.{get_or-set_other, length-append, map_push}
 use Rattle.std.proofs.lemmas.List.Elements.{All-contains, All-contains_itself, All-filter}
 use Rattle.lists.proofs.Lists.{All-front}
 use Rattle.evt_types.specs.Place.{Place}
-use Rattle.evt_types.specs.Plan.{Plan, level_of, queue_of, is_ordered}
+use Rattle.evt_types.specs.Plan.{Plan, depth_of, level_of, queue_of, is_ordered}
 use Rattle.evt_types.specs.declared.event.Delivery.{Delivery}
 use Rattle.evt_types.specs.declared.event.Numbered.{Numbered}
 use Rattle.evt_types.specs.declared.step.Step.{Step}
 use Rattle.evt_types.specs.declared.step.Step.TheVariants.{Give}
 use Rattle.sched_core.proofs.Offers.{choice_is_offer}
-use Rattle.sched_core.specs.Offered.{IsOfferIn, numbered_in, slot_at}
+use Rattle.sched_core.specs.Offered.{IsOfferIn, IsOpenLane, numbered_in}
 use Rattle.sched_core.specs.Sized.{IsSized}
-use Rattle.sched_core.specs.Runs.{AreChoices, gift_of, gifts_of, given_once}
+use Rattle.sched_core.specs.Runs.{AreChoices, IsSteady, HasTurn, gift_of, gifts_of, given_once}
+use Rattle.small_set.specs.declared.set.SmallSet.{SmallSet}
 use Rattle.transcripts.proofs.WholeStands.{stands_give}
 use Rattle.transcripts.specs.Choice.{Passed, Fits, HasNoOther, HasNone, HasQuota, IsChoice, IsOffer, IsServedBefore, WaitsIn, is_earlier}
 use Rattle.transcripts.specs.Standing.{View, Stands, after, after_give, event_in, places_at, slot_in, unanswered_at, waiting_at}
@@ -100,19 +101,75 @@ module _ (v : View) (s : Passed) (l q : ℕ) (w : Numbered) (sized : IsSized v) 
         places = λ ordered. let less = more_places r in let has = fits.places ordered in omega arith;
       }
 
+  -- one event more is out at the lane alone, and has a place in the queue alone
+  out_one : length (unanswered_at (after_give v l q w.number) l) ≤ length (unanswered_at v l) + 1
+  out_one =
+      let held : Held = record { queue = q; number = w.number; slot = slot_in v q (event_in (waiting_at v q) w.number) } in
+      omega (
+        arith,
+        ap length (get_or-set_at v.unanswered l l (unanswered_at v l ++ held ∷ []) [] refl (omega (arith, sized.unanswered, offer.lane))),
+        length-append (unanswered_at v l) (held ∷ []),
+      )
+
+  out_other : (m : ℕ) → m ≢ l → length (unanswered_at (after_give v l q w.number) m) ≡ length (unanswered_at v m)
+  out_other m differs =
+      let held : Held = record { queue = q; number = w.number; slot = slot_in v q (event_in (waiting_at v q) w.number) } in
+      ap length (get_or-set_other v.unanswered l m (unanswered_at v l ++ held ∷ []) [] differs)
+
+  place_one : length (places_at (after_give v l q w.number) q) ≤ length (places_at v q) + 1
+  place_one = by_kind (is_ordered (queue_of v.shape q).kind)
+    where
+      place : Place
+      place = record { number = w.number; answered = false; forwards = [] }
+
+      by_kind : (b : Bool) → length (get_or (cond b (set v.places q (places_at v q ++ place ∷ [])) v.places) q []) ≤ length (places_at v q) + 1
+      by_kind true =
+          omega (
+            arith,
+            ap length (get_or-set_at v.places q q (places_at v q ++ place ∷ []) [] refl (omega (arith, sized.places, offer.queue))),
+            length-append (places_at v q) (place ∷ []),
+          )
+      by_kind false = omega arith
+
+  -- while no count is full, the same lanes are open
+  steady_after : (more : ℕ) (lanes : SmallSet) → q < length s.given → IsSteady v s l q (more + 1) lanes → IsSteady (after_give v l q w.number) (given_once s q) l q more lanes
+  steady_after more lanes within steady =
+      record {
+        quota = let quota = steady.quota in omega (arith, get_or-set_at s.given q q (get_or s.given q 0 + 1) 0 refl within);
+        opened = λ some m. (
+          λ has. opened some m ((steady.opened (omega arith) m).0 has),
+          λ is. (steady.opened (omega arith) m).1 (record {
+            lane = is.lane;
+            ready = is.ready;
+            linked = is.linked;
+            room = let fewer = more_out m in let room = is.room in omega arith;
+            places = λ ordered. let less = more_places q in let has = is.places ordered in omega arith;
+          }),
+        );
+        room = let room = steady.room in let one = out_one in omega arith;
+        places = λ ordered. let places = steady.places ordered in let one = place_one in omega arith;
+      }
+    where
+      opened : 0 < more → (m : ℕ) → IsOpenLane v s q m → IsOpenLane (after_give v l q w.number) (given_once s q) q m
+      opened some m is =
+          record {
+            lane = is.lane;
+            ready = is.ready;
+            linked = is.linked;
+            room =
+                ⊎_elim
+                (λ e. let one = out_one in let room = steady.room in subst (λ k. length (unanswered_at (after_give v l q w.number) k) < depth_of v.shape k) (sym e) (omega (arith, some)))
+                (λ ne. let room = is.room in omega (arith, out_other m ne)) (cases_eq m l);
+            places = λ ordered. let one = place_one in let places = steady.places ordered in omega (arith, some);
+          }
+
   none_after : (r : ℕ) → HasNone v s r → HasNone (after_give v l q w.number) (given_once s q) r
   none_after r none u waits m fits = none u (waits_before r u waits) m (fits_before m r u fits)
 
 -- ---- the turn of a queue and level
 
--- Nothing can be given of the queues that are served before this one, and of its own levels before this one.
-pub record IsTurn (v : View) (s : Passed) (q c : ℕ) : Type 0 where
-  pub there : q < length v.shape.queues
-  pub lower : (u : Numbered) (m : ℕ) → WaitsIn v q u → level_of u.event < c → ¬ Fits v s m q u
-  pub before : (r : ℕ) → r < length v.shape.queues → HasQuota v s r → IsServedBefore v.shape r q → HasNone v s r
-
 -- a choice is made at its queue's and level's turn
-pub turn_of : (v : View) (s : Passed) (l q c : ℕ) (w : Numbered) → IsChoice v s l q w → c ≡ level_of w.event → IsTurn v s q c
+pub turn_of : (v : View) (s : Passed) (l q c : ℕ) (w : Numbered) → IsChoice v s l q w → c ≡ level_of w.event → HasTurn v s q c
 turn_of v s l q c w choice level =
     record {
       there = choice.there;
@@ -127,7 +184,7 @@ served_differs p r q (inl first) same = let e = ap (λ k. (queue_of p k).priorit
 served_differs p r q (inr both) same = let lt = both.1 in omega arith
 
 -- what the choice was of is at its turn still
-pub turn_after : (v : View) (s : Passed) (l q c : ℕ) (w : Numbered) → IsSized v → IsOffer v l q w → IsTurn v s q c → IsTurn (after_give v l q w.number) (given_once s q) q c
+pub turn_after : (v : View) (s : Passed) (l q c : ℕ) (w : Numbered) → IsSized v → IsOffer v l q w → HasTurn v s q c → HasTurn (after_give v l q w.number) (given_once s q) q c
 turn_after v s l q c w sized offer turn =
     record {
       there = turn.there;
@@ -138,7 +195,7 @@ turn_after v s l q c w sized offer turn =
     }
 
 -- at its turn the level's first event that a lane may take is the choice
-pub choice_in_turn : (v : View) (s : Passed) (l q c : ℕ) (w : Numbered) → IsTurn v s q c → HasQuota v s q → IsOfferIn v s q c l w → IsChoice v s l q w
+pub choice_in_turn : (v : View) (s : Passed) (l q c : ℕ) (w : Numbered) → HasTurn v s q c → HasQuota v s q → IsOfferIn v s q c l w → IsChoice v s l q w
 choice_in_turn v s l q c w turn quota offer =
     record {
       there = turn.there;
@@ -187,46 +244,35 @@ gifts_push l before log longer ds es d is push more =
 
 -- ---- a run
 
--- A run from one core goes on at another: these were its choices, and this one is next, of the queue, level and slot.
-pub record IsRunning (v : View) (s : Passed) (l q c k : ℕ) (w : View) (t : Passed) (ds : List Delivery) (d : Delivery) : Type 0 where
-  pub choices : AreChoices l v s ds w t
-  pub choice : IsChoice w t l d.queue (numbered_in d)
-  pub queue : d.queue ≡ q
-  pub level : c ≡ level_of d.event
-  pub slot : k ≡ slot_at w d.queue (numbered_in d)
-  pub shape : w.shape ≡ v.shape
-
 -- an event of the queue, as it is given and as it is delivered
 pub gift_is : (l q : ℕ) (u : Numbered) (d : Delivery) → d.queue ≡ q → u ≡ numbered_in d → Give l q u.number ≡ gift_of l d
 gift_is l q u d queue event = ap (λ n. Give l n u.number) (sym queue) ∙ ap (λ (w : Numbered). Give l d.queue w.number) event
 
-pub running_given : (v : View) (s : Passed) (l q c slot : ℕ) (w x : View) (t y : Passed) (ds : List Delivery) (d : Delivery) → IsRunning v s l q c slot w t ds d
-    → x ≡ after w (gift_of l d ∷ []) → y ≡ given_once t q → AreChoices l v s (ds ++ d ∷ []) x y
-running_given v s l q c slot w x t y ds d h view given =
-    subst (λ z. AreChoices l v s (ds ++ d ∷ []) z y) (sym view)
-    (subst (λ z. AreChoices l v s (ds ++ d ∷ []) (after w (gift_of l d ∷ [])) z) (sym (given ∙ ap (given_once t) (sym h.queue))) (choices_push l v s ds w t d h.choices h.choice))
+-- a gift more
+pub run_more : (l q : ℕ) (v : View) (s : Passed) (ds es : List Delivery) (w x : View) (t y : Passed) (d : Delivery) (u : Numbered) → AreChoices l v s ds w t → IsChoice w t l q u → d.queue ≡ q → numbered_in d ≡ u
+    → x ≡ after w (Give l q u.number ∷ []) → y ≡ given_once t q → es ≡ ds ++ d ∷ [] → AreChoices l v s es x y
+run_more l q v s ds es w x t y d u choices choice queue event view given more =
+    subst (λ fs. AreChoices l v s fs x y) (sym more)
+    (subst (λ z. AreChoices l v s (ds ++ d ∷ []) z y) (sym (view ∙ ap (λ (g : Step). after w (g ∷ [])) (gift_is l q u d queue (sym event))))
+    (subst (λ z. AreChoices l v s (ds ++ d ∷ []) (after w (gift_of l d ∷ [])) z) (sym (given ∙ ap (given_once t) (sym queue)))
+    (choices_push l v s ds w t d choices (subst (λ n. IsChoice w t l n (numbered_in d)) (sym queue) (subst (IsChoice w t l q) (sym event) choice)))))
 
-pub running_on : (v : View) (s : Passed) (l q c slot k : ℕ) (w x : View) (t y : Passed) (ds : List Delivery) (d e : Delivery) (u : Numbered) → IsSized w → IsRunning v s l q c slot w t ds d
-    → x ≡ after w (gift_of l d ∷ []) → x.shape ≡ w.shape → y ≡ given_once t q → HasQuota x y q → IsOfferIn x y q c l u → k ≡ slot_at x q u → e.queue ≡ q → numbered_in e ≡ u
-    → IsRunning v s l q c k x y (ds ++ d ∷ []) e
-running_on v s l q c slot k w x t y ds d e u sized h view shape given quota offer slot_is queue event =
-    record {
-      choices = running_given v s l q c slot w x t y ds d h view given;
-      choice = subst (λ n. IsChoice x y l n (numbered_in e)) (sym queue) (subst (IsChoice x y l q) (sym event) (choice_in_turn x y l q c u turn quota offer));
-      queue = queue;
-      level = sym offer.level ∙ ap (λ (z : Numbered). level_of z.event) (sym event);
-      slot = slot_is ∙ (ap (slot_at x q) (sym event) ∙ ap (λ n. slot_at x n (numbered_in e)) (sym queue));
-      shape = shape ∙ h.shape;
-    }
-  where
-    choice : IsChoice w t l q (numbered_in d)
-    choice = subst (λ n. IsChoice w t l n (numbered_in d)) h.queue h.choice
+-- what was proposed, as it is given
+pub choice_given : (l q : ℕ) (v : View) (s : Passed) (d : Delivery) (u : Numbered) → IsChoice v s l d.queue (numbered_in d) → q ≡ d.queue → u ≡ numbered_in d → IsChoice v s l q u
+choice_given l q v s d u choice queue event = subst (λ n. IsChoice v s l n u) (sym queue) (subst (IsChoice v s l d.queue) (sym event) choice)
 
-    view_is : x ≡ after_give w l q d.number
-    view_is = view ∙ ap (λ n. after_give w l n d.number) h.queue
+-- and the first gift
+pub run_first : (l q : ℕ) (v : View) (s : Passed) (ds es : List Delivery) (x : View) (y : Passed) (d : Delivery) (u : Numbered) → IsChoice v s l d.queue (numbered_in d) → q ≡ d.queue → u ≡ numbered_in d
+    → x ≡ after v (Give l q u.number ∷ []) → y ≡ given_once s q → ds ≡ [] → es ≡ ds ++ d ∷ [] → AreChoices l v s es x y
+run_first l q v s ds es x y d u choice queue event view given none more =
+    run_more l q v s [] es v x s y d u (refl, refl) (choice_given l q v s d u choice queue event) (sym queue) (sym event) view given (more ∙ ap (λ fs. fs ++ d ∷ []) none)
 
-    turn : IsTurn x y q c
-    turn =
-        subst (λ z. IsTurn z y q c) (sym view_is)
-        (subst (λ z. IsTurn (after_give w l q d.number) z q c) (sym given)
-        (turn_after w t l q c (numbered_in d) sized (choice_is_offer w t l q (numbered_in d) choice) (turn_of w t l q c (numbered_in d) choice h.level)))
+-- the turn and what the choice asks for after a gift
+pub turn_on : (l q c : ℕ) (w x : View) (t y : Passed) (u : Numbered) → IsSized w → IsOffer w l q u → HasTurn w t q c → x ≡ after w (Give l q u.number ∷ []) → y ≡ given_once t q → HasTurn x y q c
+turn_on l q c w x t y u sized offer turn view given =
+    subst (λ z. HasTurn z y q c) (sym view) (subst (λ z. HasTurn (after_give w l q u.number) z q c) (sym given) (turn_after w t l q c u sized offer turn))
+
+pub steady_on : (l q more : ℕ) (lanes : SmallSet) (w x : View) (t y : Passed) (u : Numbered) → IsSized w → IsOffer w l q u → q < length t.given → IsSteady w t l q (more + 1) lanes → x ≡ after w (Give l q u.number ∷ []) → y ≡ given_once t q
+    → IsSteady x y l q more lanes
+steady_on l q more lanes w x t y u sized offer within steady view given =
+    subst (λ z. IsSteady z y l q more lanes) (sym view) (subst (λ z. IsSteady (after_give w l q u.number) z l q more lanes) (sym given) (steady_after w t l q u sized offer more lanes within steady))

@@ -1,11 +1,14 @@
 -- A run: choices that follow each other, all for one lane (own; Software Eventdev, "Scheduling Quanta").
-use Rattle.std.specs.Prelude.{ℕ, ◌≡◌, ◌+◌, List, [], ◌∷◌, map, slice_index, slice_set}
+use Rattle.std.specs.Prelude.{ℕ, ◌≡◌, ◌+◌, ◌<◌, ◌≤◌, true, List, [], ◌∷◌, length, map, slice_index, slice_set}
 use Rattle.evt_types.specs.declared.event.Delivery.{Delivery}
 use Rattle.evt_types.specs.declared.step.Step.{Step}
 use Rattle.evt_types.specs.declared.step.Step.TheVariants.{Give}
-use Rattle.sched_core.specs.Offered.{numbered_in}
-use Rattle.transcripts.specs.Choice.{IsChoice, Passed}
-use Rattle.transcripts.specs.Standing.{View, after}
+use Rattle.evt_types.specs.Plan.{depth_of, is_ordered, level_of, queue_of}
+use Rattle.evt_types.specs.declared.event.Numbered.{Numbered}
+use Rattle.sched_core.specs.Offered.{AreOpenLanes, numbered_in}
+use Rattle.small_set.specs.declared.set.SmallSet.{SmallSet}
+use Rattle.transcripts.specs.Choice.{Fits, HasNone, HasQuota, IsChoice, IsServedBefore, Passed, WaitsIn}
+use Rattle.transcripts.specs.Standing.{View, after, places_at, unanswered_at}
 
 -- what a sweep passes over, once it gave an event more of the queue
 abbrev pub given_once : Passed → ℕ → Passed
@@ -22,3 +25,19 @@ gifts_of l ds = map (gift_of l) ds
 abbrev pub AreChoices : ℕ → View → Passed → List Delivery → View → Passed → Type 0
 AreChoices l v s [] w t = (w ≡ v) × (t ≡ s)
 AreChoices l v s (d ∷ ds) w t = IsChoice v s l d.queue (numbered_in d) × AreChoices l (after v (gift_of l d ∷ [])) (given_once s d.queue) ds w t
+
+-- ---- how a run goes on
+
+-- Nothing can be given of the queues that are served before this one, and of its own levels before this one.
+pub record HasTurn (v : View) (s : Passed) (q c : ℕ) : Type 0 where
+  pub there : q < length v.shape.queues
+  pub lower : (u : Numbered) (m : ℕ) → WaitsIn v q u → level_of u.event < c → ¬ Fits v s m q u
+  pub before : (r : ℕ) → r < length v.shape.queues → HasQuota v s r → IsServedBefore v.shape r q → HasNone v s r
+
+-- So many events more may be given of the queue to the lane before a count is full that the choice asks for; until then these are the
+-- lanes that are open to the queue.
+pub record IsSteady (v : View) (s : Passed) (l q more : ℕ) (lanes : SmallSet) : Type 0 where
+  pub quota : slice_index s.given q + more ≤ v.shape.sweep
+  pub opened : 0 < more → AreOpenLanes v s q lanes
+  pub room : length (unanswered_at v l) + more ≤ depth_of v.shape l
+  pub places : is_ordered (queue_of v.shape q).kind ≡ true → length (places_at v q) + more ≤ (queue_of v.shape q).order

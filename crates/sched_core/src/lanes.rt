@@ -35,10 +35,11 @@ impl Core {
 
     /// The slots of the queue whose events some lane may take, and perhaps others: where flow lanes serve the queue, all of its slots.
     #[inline(always)]
-    pub(crate) fn allowed(&self, queue: usize, lanes: SmallSet, skips: &Skips) -> SmallSet
-        requires queue { queue < length self.now.shape.queues }
-        requires lanes { AreOpenLanes self.now skips.now queue lanes }
-        ensures { HasAllowed self.now skips.now queue result }
+    pub(crate) fn allowed(&mut self, queue: usize, lanes: SmallSet, skips: &Skips) -> SmallSet
+        requires queue { queue < length self.old.shape.queues }
+        requires lanes { AreOpenLanes self.old skips.now queue lanes }
+        ensures same { self.new ≡ self.old }
+        ensures allowed { HasAllowed self.old skips.now queue result }
     {
         self.facts();
         if self.has_flow_lanes(queue) {

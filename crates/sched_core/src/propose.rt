@@ -84,10 +84,11 @@ impl Core {
 
     /// The slots of the queue whose events some lane may take, and perhaps others: all, as long as no event of the level is set aside.
     #[inline(always)]
-    fn allowed_at(&self, queue: usize, level: Level, lanes: SmallSet, skips: &Skips) -> SmallSet
-        requires queue { queue < length self.now.shape.queues }
-        requires lanes { AreOpenLanes self.now skips.now queue lanes }
-        ensures { HasAllowed self.now skips.now queue result }
+    fn allowed_at(&mut self, queue: usize, level: Level, lanes: SmallSet, skips: &Skips) -> SmallSet
+        requires queue { queue < length self.old.shape.queues }
+        requires lanes { AreOpenLanes self.old skips.now queue lanes }
+        ensures same { self.new ≡ self.old }
+        ensures allowed { HasAllowed self.old skips.now queue result }
     {
         if self.queues.parked_slots(queue, level).is_empty() {
             SmallSet::below(MAX_MEMBERS)
@@ -96,9 +97,46 @@ impl Core {
         }
     }
 
-    /// The queue's first event that some lane may take, by level and then number, for the best lane, as each level is searched.
+    /// The queue's first event that some lane may take, by level and then number, for the best lane, as each level is searched. Where
+    /// no event of the queue is set aside any more, it is forgotten which slots stand on which lane.
     #[cold]
     fn offer_by_level(&mut self, queue: usize, lanes: SmallSet, skips: &Skips) -> Option<Offer>
+        requires queue { queue < length self.old.shape.queues }
+        requires lanes { AreOpenLanes self.old skips.now queue lanes }
+        ensures same { self.new ≡ self.old }
+        ensures offer { IfSome result (λ o. (o.delivery.queue ≡ queue) × IsOfferOf self.old skips.now queue o.lane (numbered_in o.delivery)) }
+        ensures none { IfNone result (HasNone self.old skips.now queue) }
+    {
+        let offer = self.offer_of_levels(queue, lanes, skips);
+        self.forget_slots(queue);
+        offer
+    }
+
+    /// Whether an event of the queue may be set aside, as the hints say.
+    fn may_have_parked(&self, queue: usize) -> bool
+        requires { queue < length self.now.shape.queues }
+    {
+        let mut left = self.queues.levels(queue);
+        while let Some(level) = left.pop() {
+            if !self.queues.parked_slots(queue, level).is_empty() {
+                return true;
+            }
+        }
+        false
+    }
+
+    /// The slots of each lane are no longer kept up for the queue, where no event of it is set aside.
+    fn forget_slots(&mut self, queue: usize)
+        requires { queue < length self.old.shape.queues }
+        ensures { self.new ≡ self.old }
+    {
+        if !self.may_have_parked(queue) {
+            self.pins.forget(queue);
+        }
+    }
+
+    /// The queue's first event that some lane may take, by level and then number, for the best lane, as each level is searched.
+    fn offer_of_levels(&mut self, queue: usize, lanes: SmallSet, skips: &Skips) -> Option<Offer>
         requires queue { queue < length self.old.shape.queues }
         requires lanes { AreOpenLanes self.old skips.now queue lanes }
         ensures same { self.new ≡ self.old }

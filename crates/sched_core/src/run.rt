@@ -1,13 +1,14 @@
 //! Events are given in a run: one after another of one queue and level, to one lane.
 
-ghost use Rattle.std.specs.Prelude.{◌≡◌, ◌+◌, ◌<◌, ◌≤◌, false, List, ◌++◌, length, slice_index, IfSome};
-ghost use Rattle.evt_types.specs.Plan.{has_flow_lanes};
+ghost use Rattle.std.specs.Prelude.{◌≡◌, ℕ, ◌+◌, ◌<◌, ◌≤◌, false, List, ◌++◌, length, slice_index, IfSome};
+ghost use Rattle.evt_types.specs.Plan.{has_flow_lanes, lanes_of};
 ghost use Rattle.evt_types.specs.declared.shape.TheConstants.{MAX_QUEUES};
 ghost use Rattle.evt_types.specs.declared.step.Step.{Step as StepValue};
-ghost use Rattle.sched_core.specs.Offered.{IsOfferIn, numbered_in, slot_at};
-ghost use Rattle.sched_core.specs.Runs.{AreChoices, gifts_of};
-ghost use Rattle.transcripts.specs.Choice.{HasQuota, IsChoice};
-ghost use Rattle.transcripts.specs.Standing.{Stands};
+ghost use Rattle.sched_core.specs.Offered.{AreOpenLanes, IsOfferIn, numbered_in, slot_at};
+ghost use Rattle.sched_core.specs.Runs.{AreChoices, IsSteady, HasTurn, gifts_of};
+ghost use Rattle.small_set.specs.SmallSets.{Has};
+ghost use Rattle.transcripts.specs.Choice.{IsChoice, Passed};
+ghost use Rattle.transcripts.specs.Standing.{Stands, View};
 
 use crate::offer::{Offer, numbered};
 use crate::skips::Skips;
@@ -32,27 +33,76 @@ fn delivery_of(found: &Found) -> Delivery
 }
 
 impl Core {
-    /// The event of the queue and level that is given next, where that is quick to see and this lane is the best one for it.
+    /// How many events of the queue may be given to the lane before a count is full that the choice asks for: of those that were given in
+    /// the sweep, of the lane's unanswered ones, and of an ordered queue's places.
     #[inline(always)]
-    fn next_in_run(&self, queue: usize, level: Level, lane: usize, skips: &Skips) -> Option<Found>
+    fn steady_for(&self, queue: usize, lane: usize, skips: &Skips) -> usize
         requires there { queue < length self.now.shape.queues }
-        requires ports { has_flow_lanes self.now.shape queue ≡ false }
-        ensures quota { IfSome result (λ _. HasQuota self.now skips.now queue) }
-        ensures offer { IfSome result (λ f. IsOfferIn self.now skips.now queue level.number lane f.waiting) }
-        ensures slot { IfSome result (λ f. f.slot ≡ slot_at self.now queue f.waiting) }
-        ensures names { IfSome result (λ f. f.waiting.event.queue ≡ queue) }
-        ensures counts { IfSome result (λ _. length skips.now.given ≡ MAX_QUEUES) }
+        requires lane { lane < lanes_of self.now.shape }
+        requires quota { slice_index skips.now.given queue ≤ self.now.shape.sweep }
+        ensures steady { (lanes : SmallSet) → AreOpenLanes self.now skips.now queue lanes → IsSteady self.now skips.now lane queue result lanes }
+        ensures counts { length skips.now.given ≡ MAX_QUEUES }
     {
         self.facts();
+        let quota = skips.quota_left(queue, self.shape.sweep());
+        let room = self.lanes.room(lane);
+        self.orders.places_for(queue, room.min(quota))
+    }
+
+    /// The event of the queue and level that is given next, where that is quick to see and of these open lanes this one is the best one for
+    /// it.
+    #[inline(always)]
+    fn next_in_run(&self, queue: usize, level: Level, lane: usize, lanes: SmallSet) -> Option<Found>
+        requires there { queue < length self.now.shape.queues }
+        requires ports { has_flow_lanes self.now.shape queue ≡ false }
+        requires lanes { (l : ℕ) → Has lanes l → l < lanes_of self.now.shape }
+        ensures offer { IfSome result (λ f. (s : Passed) → AreOpenLanes self.now s queue lanes → IsOfferIn self.now s queue level.number lane f.waiting) }
+        ensures slot { IfSome result (λ f. f.slot ≡ slot_at self.now queue f.waiting) }
+        ensures names { IfSome result (λ f. f.waiting.event.queue ≡ queue) }
+    {
         let found = self
             .queues
             .head(queue, level, SmallSet::below(MAX_MEMBERS))?;
-        if !skips.has_quota(queue, self.shape.sweep()) {
-            return None;
-        }
-        let lanes = self.open_lanes(queue, skips);
         let best = self.port_for(queue, found.slot, lanes)?;
         if best == lane { Some(found) } else { None }
+    }
+
+    /// Goes on with a run: gives what is chosen next, one by one, as long as that is an event of this queue and level for this lane and is
+    /// quick to see. Which lanes are open doesn't change before a count is full, so it is asked once.
+    #[inline(always)]
+    fn give_more<L: StepLog>(
+        &mut self,
+        lane: usize,
+        queue: usize,
+        level: Level,
+        most: usize,
+        skips: &mut Skips,
+        run: &mut ArrayVec<Delivery, 32>,
+        log: &mut L,
+    )
+        requires turn { HasTurn self.old skips.old queue level.number }
+        requires ports { has_flow_lanes self.old.shape queue ≡ false }
+        requires lane { lane < lanes_of self.old.shape }
+        requires quota { slice_index skips.old.given queue ≤ self.old.shape.sweep }
+        requires room { self.old.shape.sweep ≤ L.room log.old + slice_index skips.old.given queue }
+        ensures choices { (v : View) (s : Passed) → AreChoices lane v s run.old.items self.old skips.old → AreChoices lane v s run.new.items self.new skips.new }
+        ensures logged { (before : List StepValue) → L.steps log.old ≡ before ++ gifts_of lane run.old.items → L.steps log.new ≡ before ++ gifts_of lane run.new.items }
+        ensures few { (length run.old.items ≤ length run.new.items) × (length run.new.items ≤ length run.old.items + most) }
+        ensures shape { self.new.shape ≡ self.old.shape }
+        ensures room { L.room log.old + length run.old.items ≤ L.room log.new + length run.new.items }
+    {
+        let lanes = self.open_lanes(queue, skips);
+        let steady = self.steady_for(queue, lane, skips);
+        let bound = steady.min(most).min(MAX_RUN - run.len());
+        for _ in 0..bound {
+            self.facts();
+            let Some(found) = self.next_in_run(queue, level, lane, lanes) else {
+                return;
+            };
+            run.push(delivery_of(&found));
+            self.give_at(lane, queue, &found.waiting, level, found.slot, log);
+            skips.given(queue);
+        }
     }
 
     /// Gives what was proposed, and then what is chosen after it, one by one, as long as that is an event of the same queue and level for
@@ -84,24 +134,19 @@ impl Core {
             flow,
         } = offer;
         let queue = delivery.queue();
-        let mut slot = self.queues.slot_of(queue, flow);
-        let mut next = delivery;
-        // With flow lanes the next event mostly goes to another lane.
-        let by_flows = self.has_flow_lanes(queue);
+        self.facts();
         run.clear();
-        for _ in 0..most.min(MAX_RUN) {
-            self.facts();
-            run.push(next);
-            self.give_at(lane, queue, &numbered(&next), level, slot, log);
-            skips.given(queue);
-            if by_flows {
-                return;
-            }
-            let Some(found) = self.next_in_run(queue, level, lane, skips) else {
-                return;
-            };
-            slot = found.slot;
-            next = delivery_of(&found);
+        if most == 0 {
+            return;
         }
+        let slot = self.queues.slot_of(queue, flow);
+        run.push(delivery);
+        self.give_at(lane, queue, &numbered(&delivery), level, slot, log);
+        skips.given(queue);
+        // With flow lanes the next event mostly goes to another lane.
+        if self.has_flow_lanes(queue) {
+            return;
+        }
+        self.give_more(lane, queue, level, most - 1, skips, run, log);
     }
 }

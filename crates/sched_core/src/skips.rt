@@ -1,6 +1,6 @@
 //! What a sweep passes over.
 
-ghost use Rattle.std.specs.Prelude.{◌≡◌, ℕ, ◌+◌, ◌<◌, ◌↔◌, true, slice_set, slice_index, nat_lt, length};
+ghost use Rattle.std.specs.Prelude.{◌≡◌, ℕ, ◌+◌, ◌-◌, ◌<◌, ◌↔◌, true, slice_set, slice_index, nat_lt, length};
 ghost use Rattle.transcripts.specs.Choice.{has_bounced};
 ghost use Rattle.small_set.specs.SmallSets.{Has};
 ghost use Rattle.sched_core.specs.Skipped.{nothing_passed};
@@ -58,7 +58,8 @@ impl Skips {
     pub fn given(&mut self, queue: usize)
         requires queue { queue < MAX_QUEUES }
         requires count { slice_index self.old.given queue < MAX_SWEEP }
-        ensures { self.new ≡ record self.old { given = slice_set self.old.given queue (slice_index self.old.given queue + 1) } }
+        ensures value { self.new ≡ record self.old { given = slice_set self.old.given queue (slice_index self.old.given queue + 1) } }
+        ensures counts { length self.old.given ≡ MAX_QUEUES }
     {
         self.given[queue] += 1;
     }
@@ -84,5 +85,14 @@ impl Skips {
         ensures counts { length self.now.given ≡ MAX_QUEUES }
     {
         u32::from(self.given[queue]) < sweep
+    }
+
+    /// How many events more of the queue the sweep quantum lets be given.
+    pub fn quota_left(&self, queue: usize, sweep: u32) -> usize
+        requires { queue < MAX_QUEUES }
+        ensures value { result ≡ sweep - slice_index self.now.given queue }
+        ensures counts { length self.now.given ≡ MAX_QUEUES }
+    {
+        (sweep as usize).saturating_sub(usize::from(self.given[queue]))
     }
 }

@@ -1,6 +1,7 @@
 //! Replies of the lanes are taken.
 
-ghost use Rattle.std.specs.Prelude.{◌≡◌, ◌+◌, ◌<◌, ◌≤◌, nat_lt, ◌&&◌, true, List, ◌++◌, length};
+ghost use Rattle.std.specs.Prelude.{◌≡◌, ◌+◌, ◌<◌, ◌≤◌, nat_lt, ◌&&◌, false, true, List, ◌++◌, length};
+ghost use Rattle.evt_types.specs.Operation.{is_new_op};
 ghost use Rattle.evt_types.specs.Plan.{is_ordered, lanes_of, queue_of};
 ghost use Rattle.transcripts.specs.Standing.{Stands, AreStepsOf, may_be_taken, may_take, may_enter, may_answer, may_forward, may_add, answer_steps, steps_by, steps_of, after, kept_in};
 ghost use Rattle.evt_types.specs.declared.step.Step.{Step as StepValue};
@@ -111,12 +112,34 @@ impl Core {
         ensures shape { self.new.shape ≡ self.old.shape }
         ensures room { L.room log.old ≤ L.room log.new + length (steps_of self.old lane reply.event) }
     {
-        self.take_from(lane, &reply, log)
+        if reply.event.is_new() {
+            self.take_new(lane, &reply, log)
+        } else {
+            self.take_answer(lane, &reply, log)
+        }
     }
 
-    /// The same of a reply where it lies, whose event is copied from there to where it is kept.
+    /// The same of a NEW where it lies, whose event is copied from there to where it is kept.
     #[inline(always)]
-    pub fn take_from<L: StepLog>(&mut self, lane: usize, reply: &Reply, log: &mut L) -> Took
+    pub fn take_new<L: StepLog>(&mut self, lane: usize, reply: &Reply, log: &mut L) -> Took
+        requires new { is_new_op reply.now.event.op ≡ true }
+        requires lane { lane < lanes_of self.old.shape }
+        requires takes { may_take self.old lane reply.now.event ≡ true }
+        requires room { length (steps_of self.old lane reply.now.event) ≤ L.room log.old }
+        ensures view { self.new ≡ after self.old (steps_of self.old lane reply.now.event) }
+        ensures logged { L.steps log.new ≡ L.steps log.old ++ steps_of self.old lane reply.now.event }
+        ensures stands { (T : List StepValue) → Stands T self.old → AreStepsOf self.old.shape T lane reply.now.event (steps_of self.old lane reply.now.event) × Stands (T ++ steps_of self.old lane reply.now.event) self.new }
+        ensures took { result ≡ took_of self.old lane reply.now.event }
+        ensures shape { self.new.shape ≡ self.old.shape }
+        ensures room { L.room log.old ≤ L.room log.new + length (steps_of self.old lane reply.now.event) }
+    {
+        self.enter(lane, &reply.event, log)
+    }
+
+    /// The same of a reply that is no NEW.
+    #[inline(always)]
+    pub fn take_answer<L: StepLog>(&mut self, lane: usize, reply: &Reply, log: &mut L) -> Took
+        requires answer { is_new_op reply.now.event.op ≡ false }
         requires lane { lane < lanes_of self.old.shape }
         requires takes { may_take self.old lane reply.now.event ≡ true }
         requires room { length (steps_of self.old lane reply.now.event) ≤ L.room log.old }
@@ -128,9 +151,6 @@ impl Core {
         ensures room { L.room log.old ≤ L.room log.new + length (steps_of self.old lane reply.now.event) }
     {
         let event = &reply.event;
-        if event.is_new() {
-            return self.take_new(lane, event, log);
-        }
         match event.op() {
             Op::Forward => self.take_forward(lane, event, log),
             Op::Release => self.take_release(lane, log),
@@ -140,7 +160,7 @@ impl Core {
 
     /// A new event waits in its queue; once the core is shut it is turned away.
     #[inline(always)]
-    fn take_new<L: StepLog>(&mut self, lane: usize, event: &PackedEvent, log: &mut L) -> Took
+    fn enter<L: StepLog>(&mut self, lane: usize, event: &PackedEvent, log: &mut L) -> Took
         requires takes { may_enter self.old event.now.queue ≡ true }
         requires room { length (steps_by Op.New self.old lane event.now) ≤ L.room log.old }
         ensures view { self.new ≡ after self.old (steps_by Op.New self.old lane event.now) }

@@ -1,7 +1,7 @@
-use Rattle.std.proofs.Common.{map, ap, ◌∙◌, replicate, subst, sym}
-use Rattle.order_parts.specs.Held.{AreHeld}
-use Rattle.order_parts.proofs.HeldSlots.{new_held}
-use Rattle.order_parts.specs.Pins.{pin_of}
+use Rattle.std.proofs.Common.{◌≡◌, true, map, ap, ◌∙◌, length, sym, arith}
+use Rattle.std.proofs.lemmas.Bool.{false≢true}
+use Rattle.std.proofs.lemmas.List.{length-replicate}
+use Rattle.order_parts.specs.Pins.{free, pin_of}
 use Rattle.order_parts.proofs.Holds.{map-replicate}
 use Rattle.order_parts.proofs.pins.Pins.new.Goals as goal
 
@@ -9,4 +9,4 @@ pub returns : goal.returns
 returns c = ap (map pin_of) (c.in_ok-holds.ensures.items_if_clones_equal (λ y e. e)) ∙ map-replicate _ c.args.slots
 
 pub invariant_of-result : goal.invariant_of-result
-invariant_of-result c = subst (λ ps. AreHeld ps (replicate 64 c.none.result)) (sym (returns c)) (new_held c.args.slots c.none.result c.requires c.none.ensures)
+invariant_of-result c = record { few = omega (arith, c.requires, ap length (returns c), length-replicate c.args.slots free); held = λ kept. absurd (false≢true kept) }

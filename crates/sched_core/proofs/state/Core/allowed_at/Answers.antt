@@ -5,8 +5,8 @@ use Rattle.sched_core.proofs.News.{slots_range}
 use Rattle.sched_core.proofs.Offers.{all_allowed}
 use Rattle.sched_core.proofs.state.Core.allowed_at.Goals as goal
 
-pub returns-then-is_empty : goal.returns-then-is_empty
-returns-then-is_empty c =
+pub returns-then-is_empty-clause-allowed : goal.returns-then-is_empty-clause-allowed
+returns-then-is_empty-clause-allowed c =
     let v : View = c.args.self.now in
     let limits : IsWithinLimits v.shape = subst (λ (u : View). IsWithinLimits u.shape) c.self.view_is c.self.invariant.limits in
     let few = (slots_range v.shape c.args.queue limits c.requires.queue).1 in

@@ -1,10 +1,11 @@
-use Rattle.std.proofs.Common.{subst}
+use Rattle.std.proofs.Common.{◌∙◌, subst}
+use Rattle.std.specs.Option.{IfSome}
 use Rattle.evt_types.specs.Fault.{IsWithinLimits}
 use Rattle.transcripts.specs.Choice.{HasNone}
 use Rattle.transcripts.specs.Standing.{View}
 use Rattle.parked_queue.specs.LevelSets.{members}
 use Rattle.sched_core.proofs.FirstOnes.{found_none, levels_here, slots_within}
-use Rattle.sched_core.proofs.Offers.{level_more, none_beside, none_either, none_in, offer_first}
+use Rattle.sched_core.proofs.Offers.{IsOfferAt, level_more, none_beside, none_either, none_in, offer_first}
 use Rattle.sched_core.proofs.state.Core.offer_from.Goals as goal
 
 pub returns-in_err-level-clause-none : goal.returns-in_err-level-clause-none
@@ -16,7 +17,8 @@ returns-in_err-level-clause-none c =
 pub returns-then-is_some-clause-offer : goal.returns-then-is_some-clause-offer
 returns-then-is_some-clause-offer c =
     offer_first c.args.self.now c.args.skips.now c.args.queue c.in_ok-level.level.number (members c.levels-others.result) c.offer_at_head-offer.result c.in_ok-level.ensures.first
-    (levels_here c.self.inside c.args.self.now c.args.skips.now c.args.queue c.levels-others.result c.self.view_is c.levels-others.ensures) c.offer_at_head-offer.ensures
+    (levels_here c.self.inside c.args.self.now c.args.skips.now c.args.queue c.levels-others.result c.self.view_is c.levels-others.ensures)
+    (subst (λ v. IfSome c.offer_at_head-offer.result (IsOfferAt v c.args.skips.now c.args.queue c.in_ok-level.level.number)) c.allowed_at-allowed.ensures.same c.offer_at_head-offer.ensures)
 
 pub returns-then-is_blocked-clause-none : goal.returns-then-is_blocked-clause-none
 returns-then-is_blocked-clause-none c =
@@ -28,6 +30,11 @@ returns-then-is_blocked-clause-none c =
     let limits : IsWithinLimits v.shape = subst (λ (u : View). IsWithinLimits u.shape) c.self.view_is c.self.invariant.limits in
     none_beside v s q (members c.pop.new.self) (c.is_empty.ensures.0 c.if-is_empty.true)
     (level_more v s q level (members c.levels-others.result) (members c.pop.new.self) c.in_ok-level.ensures.others
-    (none_in v s q level allowed c.allowed_at-allowed.ensures (slots_within v q limits c.requires)
-    (found_none c.self.inside v q c.self.invariant c.self.view_is c.requires level allowed (c.is_blocked.ensures c.if-is_blocked.true)))
+    (none_in v s q level allowed c.allowed_at-allowed.ensures.allowed (slots_within v q limits c.requires)
+    (found_none c.self-2.inside v q c.self-2.invariant (c.self-2.view_is ∙ c.allowed_at-allowed.ensures.same) c.requires level allowed (c.is_blocked.ensures c.if-is_blocked.true)))
     (levels_here c.self.inside v s q c.levels-others.result c.self.view_is c.levels-others.ensures))
+
+pub returns-in_err-offer-clause-none : goal.returns-in_err-offer-clause-none
+returns-in_err-offer-clause-none c =
+    none_either c.from_residual-in_err-offer.result (HasNone c.args.self.now c.args.skips.now c.args.queue)
+    (subst (λ v. HasNone v c.args.skips.now c.args.queue) c.allowed_at-allowed.ensures.same c.in_err-offer.ensures.none)

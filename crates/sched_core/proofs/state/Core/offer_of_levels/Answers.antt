@@ -6,7 +6,7 @@ use Rattle.parked_queue.specs.LevelSets.{members}
 use Rattle.sched_core.proofs.FirstOnes.{levels_here}
 use Rattle.sched_core.proofs.Offers.{IsOfferAt, level_more, none_beside, none_of, offer_first, some_here}
 use Rattle.sched_core.specs.Offered.{HasNoneIn}
-use Rattle.sched_core.proofs.state.Core.offer_by_level.Goals as goal
+use Rattle.sched_core.proofs.state.Core.offer_of_levels.Goals as goal
 
 pub loop-level-init : goal.loop-level-init
 loop-level-init c = ((λ i. c.args.self.now), levels_here c.self.inside c.args.self.now c.args.skips.now c.args.queue c.levels-left.result c.self.view_is c.levels-left.ensures)

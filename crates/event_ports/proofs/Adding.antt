@@ -11,13 +11,13 @@ use Rattle.lane_rings.specs.declared.far.Far.{Far}
 use Rattle.event_ports.specs.declared.lane.Holding.{Holding}
 use Rattle.event_ports.specs.declared.lane.Lane.{Lane}
 use Rattle.event_ports.specs.declared.lane.Lane.TheVariants.{Own, Flow}
-use Rattle.event_ports.specs.Holds.{AddedAll, GaveBack, Hands, HaveNoNew, Same, Says, answered_on, held_on, stint_in}
+use Rattle.event_ports.specs.Holds.{AreIdle, AddedAll, GaveBack, Hands, HaveNoNew, Same, Says, answered_on, held_on, stint_in}
 use Rattle.event_ports.specs.declared.flows.FlowLanes.{FlowLanes}
 use Rattle.event_ports.specs.declared.lanes.Lanes.{Lanes}
 use Rattle.event_ports.specs.Flows.{FlowSite, flow_site, hands_of}
 use Rattle.event_ports.specs.Handed.{CountsNone, CountsOne, flow_count, hand_of, lanes_site}
 use Rattle.event_ports.specs.Lanes.{AreOrdered, counted, held_of, open_on, pair_in}
-use Rattle.event_ports.proofs.Calls.{AreIdle, gave_back, held_added, more_needs, says_no_new, same_no_new}
+use Rattle.event_ports.proofs.Calls.{gave_back, held_added, more_needs, says_no_new, same_no_new}
 use Rattle.event_ports.proofs.Submitted.{IsThere, counts_none, counts_one}
 use Rattle.event_ports.proofs.Extras.{added_said, added_same}
 use Rattle.event_ports.proofs.Orders.{each_lane}

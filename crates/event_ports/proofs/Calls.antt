@@ -11,22 +11,9 @@ use Rattle.evt_types.specs.declared.event.Reply.{Reply}
 use Rattle.evt_types.specs.Operation.{is_answer_op, is_more_op, is_more_reply, is_new_op, is_new_reply, needs_held}
 use Rattle.lists.specs.Counts.{count}
 use Rattle.lane_rings.specs.Ends.{answers_among}
-use Rattle.event_ports.specs.Holds.{Hands, stint_in, received_on, answered_on, held_on, Same, SameBut, Gets, Brings, Says, HaveNoNew, GaveBack, NoneSurrendered}
+use Rattle.event_ports.specs.Holds.{AreIdle, Hands, stint_in, received_on, answered_on, held_on, Same, SameBut, Gets, Brings, Says, HaveNoNew, GaveBack, NoneSurrendered}
 use Rattle.event_ports.proofs.Submitted.{count_more}
 use Rattle.event_ports.proofs.Refusals.{no_answer}
-
--- no lane is held of which nothing is unanswered
-abbrev pub AreIdle : Hands → Type 0
-AreIdle h = (j : ℕ) → held_on h j ≡ [] → is_some (stint_in h j) ≡ false
-
--- an answer, and then the lane is left
-pub idle_answered : (h k m : Hands) (lane : ℕ) (r : Reply) → Says lane r h k → ((j : ℕ) → is_some (stint_in k j) ≡ is_some (stint_in h j)) → Same k m
-    → (held_on k lane ≡ [] → is_some (stint_in m lane) ≡ false) → ((j : ℕ) → j ≢ lane → is_some (stint_in m j) ≡ is_some (stint_in k j)) → AreIdle h → AreIdle m
-idle_answered h k m lane r says entries same left elsewhere idle j none =
-    let At : ℕ → Type 0 = λ i. is_some (stint_in m i) ≡ false in
-    dite (ℕ_discrete j lane)
-    (λ e. subst At (sym e) (left (sym (same.held lane) ∙ ap (held_on m) (sym e) ∙ none)))
-    (λ ne. elsewhere j ne ∙ entries j ∙ idle j (sym (says.others.held j ne) ∙ sym (same.held j) ∙ none))
 
 -- a lane is held, something is received from it, and it is left
 pub idle_received : (h j k m : Hands) (lane : ℕ) (ds : List Delivery) → Same h j → ((i : ℕ) → i ≢ lane → is_some (stint_in j i) ≡ is_some (stint_in h i)) → Gets lane ds j k
@@ -80,16 +67,6 @@ gets_after h k m lane ds same gets = record {
   held = gets.held ∙ ap (λ r. r ++ ds) (same.held lane);
   extras = gets.extras ∙ same.extras lane;
   given_back = λ j. gets.given_back j ∙ same.given_back j;
-}
-
-pub says_before : (h k m : Hands) (lane : ℕ) (r : Reply) → Says lane r h k → Same k m → Says lane r h m
-says_before h k m lane r says same = record {
-  others = but_before h k m lane says.others same;
-  received = same.received lane ∙ says.received;
-  answered_is = same.answered_is lane ∙ says.answered_is;
-  held = same.held lane ∙ says.held;
-  extras = same.extras lane ∙ says.extras;
-  given_back = λ j. same.given_back j ∙ says.given_back j;
 }
 
 pub gets_before : (h k m : Hands) (lane : ℕ) (ds : List Delivery) → Gets lane ds h k → Same k m → Gets lane ds h m

@@ -8,7 +8,6 @@ use Rattle.std.proofs.lemmas.Option.{none-some, same_Some}
 use mathlib.Core.Logic.{dite}
 use native.Mathlib.Decide.{ℕ_discrete}
 use Rattle.lists.proofs.Lists.{eqb_same, eqb_other, filter-push_true, filter-push_false}
-use Rattle.lists.proofs.Writes.{set-set}
 use Rattle.lane_rings.specs.Ends.{received_by, answered}
 use Rattle.flow_claims.specs.declared.claim.Stint.{Stint}
 use Rattle.flow_claims.specs.declared.seating.Past.{Past}
@@ -28,9 +27,6 @@ hands v ss = record { view = v; stints = ss }
 -- what is written at a entry that has it already changes nothing
 pub same_list : (ss : Stints) (lane : ℕ) (o : Option Stint) → entry_at ss lane ≡ o → set ss lane o ≡ ss
 same_list ss lane o e = ap (set ss lane) (sym e) ∙ set-get_or ss lane None
-
-pub put_back : (ss : Stints) (lane : ℕ) (o p : Option Stint) → entry_at ss lane ≡ o → set (set ss lane p) lane o ≡ ss
-put_back ss lane o p e = set-set ss lane p o ∙ same_list ss lane o e
 
 pub none_left : {A : Type 0} (xs : List A) → length xs ≡ 0 → xs ≡ []
 none_left [] e = refl

@@ -6,9 +6,8 @@ use Rattle.lane_rings.specs.declared.far.Far.{Far}
 use Rattle.flow_claims.specs.declared.seating.Seating.{Seating}
 use Rattle.event_ports.specs.declared.lane.Holding.{Holding}
 use Rattle.event_ports.specs.declared.lane.Lane.TheVariants.{Flow}
-use Rattle.event_ports.specs.Holds.{Hands, Ends, GaveBack, held_on, stint_in}
+use Rattle.event_ports.specs.Holds.{AreIdle, Hands, Ends, GaveBack, held_on, stint_in}
 use Rattle.event_ports.specs.Lanes.{AreOrdered, IsEndOf, got_on, said_on, pair_in}
-use Rattle.event_ports.proofs.Calls.{AreIdle}
 use Rattle.event_ports.proofs.Entries.{none_left, nothing_there}
 use Rattle.event_ports.proofs.Unanswered.{nothing_left}
 

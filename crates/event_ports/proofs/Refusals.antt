@@ -1,5 +1,6 @@
 -- Why the answer to the oldest that is held is refused, or what is added beside it.
-use Rattle.std.proofs.Common.{◌≡◌, ◌≢◌, ◌<◌, ◌≤◌, ℕ, true, cond, List, [], ◌∷◌, ◌++◌, length, Some, Result, Ok, Err, IfErr, MatchResult, refl, sym, ap, subst, arith}
+use Rattle.std.proofs.Common.{◌≡◌, ◌≢◌, ◌<◌, ◌≤◌, ℕ, true, cond, List, [], ◌∷◌, ◌++◌, length, drop, Some, Result, Ok, Err, IfErr, MatchResult, refl, sym, ap, ◌∙◌, subst, arith}
+use Rattle.std.proofs.lemmas.List.{drop_all}
 use Rattle.std.proofs.lemmas.List.Sums.{sum_by-cons}
 use Rattle.evt_types.specs.Additions.{extras_of}
 use Rattle.evt_types.specs.Operation.{is_answer, is_answer_op, is_more_op, is_more_reply}
@@ -23,6 +24,14 @@ use Rattle.event_ports.proofs.Orders.{some_first}
 -- an answer answers one
 pub one_answer : (r : Reply) → is_answer r ≡ true → answers_among (r ∷ []) ≡ 1
 one_answer r e = omega (arith, sum_by-cons (λ (x : Reply). cond (is_answer x) 1 0) r [], ap {B = ℕ} (λ b. cond b 1 0) e)
+
+-- the only one that is unanswered is answered
+pub last_answered : {E : Type 0} (far after : Far) (r : Reply) (result : Result (Unit {0}) E) → is_answer r ≡ true → length (unanswered far) ≡ 1
+    → MatchResult result (λ _. unanswered after ≡ []) (λ _. unanswered after ≡ unanswered far)
+    → MatchResult result (λ _. unanswered after ≡ drop (answers_among (r ∷ [])) (unanswered far)) (λ _. unanswered after ≡ unanswered far)
+last_answered far after r (Ok _) answers one none =
+    none ∙ sym (ap (λ n. drop n (unanswered far)) (one_answer r answers) ∙ drop_all 1 (unanswered far) (omega (arith, one)))
+last_answered far after r (Err _) answers one same = same
 
 -- what is added answers none
 no_answer_op : (o : Op) → is_more_op o ≡ true → count (is_answer_op o) ≡ 0

@@ -1,13 +1,12 @@
 -- What a call on one flow lane makes of what a port has of all of them.
 use Rattle.std.proofs.Common.{◌≡◌, ◌≢◌, ℕ, suc, ◌<◌, Bool, true, false, List, [], ◌∷◌, ◌++◌, length, drop, set, Option, Some, None, Result, Ok, Err, All, MatchResult, refl, sym, ap, ◌∙◌, subst, arith, append-nil, append_assoc}
 use Rattle.std.specs.Option.{is_some}
-use Rattle.std.proofs.lemmas.List.{length-set, get_or-set_same, get_or-set_other}
+use Rattle.std.proofs.lemmas.List.{length-set, get_or-set_other}
 use Rattle.std.proofs.lemmas.Option.{none-some}
 use Rattle.std.proofs.lemmas.List.Elements.{All-push}
 use mathlib.Core.Logic.{dite}
 use native.Mathlib.Decide.{ℕ_discrete, dec_le}
 use Rattle.lists.specs.Lists.{has}
-use Rattle.lists.proofs.Writes.{set-set}
 use Rattle.lane_rings.specs.Identity.{LaneId, far_id}
 use Rattle.evt_types.specs.declared.event.Delivery.{Delivery}
 use Rattle.evt_types.specs.declared.event.Reply.{Reply}
@@ -27,7 +26,6 @@ use Rattle.flow_claims.proofs.Held.{nothing_held}
 use Rattle.event_ports.specs.Holds.{entry_at, IsHeldAt, AreFlows, stints_at, received_past, answered_past, left_past, surrendered_past, left_on, LeavesFree, received_now, answered_now, extras_now, held_now, Hands, received_on, answered_on, extras_on, Flushed, IsFilledBy, Kept, Same, SameBut, Gets, Brings, Says}
 use Rattle.event_ports.proofs.Extras.{extras_push, none_extra}
 use Rattle.event_ports.proofs.Unanswered.{left_here, left_other, surrendered, none_surrendered, others_surrendered}
-use Rattle.event_ports.proofs.Calls.{same_more}
 use Rattle.event_ports.proofs.Entries.{Stints, at_each, hands, each_entry, moved, free_entry, held_at_entry, past_entries, past_more, other_stints, same_but, received_here, answered_here, extras_here, held_here, all_same}
 
 module _ (claims : Claims) (links : List ℕ) where
@@ -262,28 +260,6 @@ module _ (claims : Claims) (links : List ℕ) where
         → MatchResult result (λ _. Says lane reply (hands (seating seat) ss) (hands (seating seat) (set ss lane (Some new)))) (λ _. Same (hands (seating seat) ss) (hands (seating seat) (set ss lane (Some new))))
     answered_lists reply (Ok _) is held so_far received all = turn_says reply (received (seating seat)) (so_far (seating seat) is) held all
     answered_lists reply (Err _) is held so_far received all = turn_same (received (seating seat)) (so_far (seating seat) is) held all
-
-  -- a stint of which nothing is unanswered is flushed, and ends
-  module _ (seat after : ClaimSeat) (ss : Stints) (lane : ℕ) (stint new : Stint) (are : AreFlows claims seat ss links) (at : entry_at ss lane ≡ Some stint) (lt : lane < length (lanes_of claims))
-      (same : new.lane ≡ stint.lane) (open_is : IsOpen (seating seat) stint → IsOpen (seating seat) new) (ends : EndsStint claims false new seat after) where
-    flushed : AreFlows claims seat (set ss lane (Some new)) links
-    flushed = turned seat ss lane stint new are at lt same open_is
-
-    at_flushed : entry_at (set ss lane (Some new)) lane ≡ Some new
-    at_flushed = get_or-set_same ss lane (Some new) None (omega (arith, are.entries, lt))
-
-    pub left_are : AreFlows claims after (set ss lane None) links
-    left_are =
-        let At : Stints → Type 0 = λ xs. AreFlows claims after xs links in
-        subst At (set-set ss lane (Some new) None) (ended seat after (set ss lane (Some new)) lane new false flushed ends at_flushed lt)
-
-    pub left_lists : received_so_far (seating seat) new ≡ received_so_far (seating seat) stint → answered_so_far (seating seat) new ≡ answered_so_far (seating seat) stint
-        → unanswered new.far ≡ unanswered stint.far → answered new.far ≡ answered stint.far → unanswered new.far ≡ [] → Same (hands (seating seat) ss) (hands (seating after) (set ss lane None))
-    left_lists r a u all none =
-        let At : Stints → Type 0 = λ xs. Same (hands (seating seat) ss) (hands (seating after) xs) in
-        subst At (set-set ss lane (Some new) None)
-        (same_more (hands (seating seat) ss) (hands (seating seat) (set ss lane (Some new))) (hands (seating after) (set (set ss lane (Some new)) lane None))
-        (turn_same seat ss lane stint new are at lt r a u all) (left_same seat after (set ss lane (Some new)) lane new false flushed ends at_flushed lt refl none))
 
 pub all_kept : (lane : ℕ) (h k : Hands) → SameBut lane h k → received_on k lane ≡ received_on h lane → answered_on k lane ≡ answered_on h lane → ((j : ℕ) → left_on k j ≡ left_on h j) → LeavesFree h k → Kept h k
 all_kept lane h k others received answered left free =

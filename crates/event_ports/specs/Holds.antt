@@ -144,6 +144,15 @@ NoneSurrendered h k = (lane : ℕ) → surrendered_past lane k.view.finished ≡
 abbrev pub LeavesFree : Hands → Hands → Type 0
 LeavesFree h k = (lane : ℕ) → stint_in h lane ≡ None → (stint_in k lane ≡ None) × (surrendered_past lane k.view.finished ≡ surrendered_past lane h.view.finished)
 
+-- no lane is held of which nothing is unanswered
+abbrev pub AreIdle : Hands → Type 0
+AreIdle h = (lane : ℕ) → held_on h lane ≡ [] → is_some (stint_in h lane) ≡ false
+
+-- of the stint just one delivery is unanswered, and all that was answered went into the ring
+abbrev pub HoldsLast : Option Stint → Type 0
+HoldsLast None = ⊥
+HoldsLast (Some stint) = (length (unanswered stint.far) ≡ 1) × (hidden_answers stint.far ≡ [])
+
 -- no NEW was submitted to a flow lane
 abbrev pub HaveNoNew : Hands → Type 0
 HaveNoNew h = (lane : ℕ) → count_by is_new_reply (answered_on h lane) ≡ 0

@@ -29,15 +29,15 @@ pub(crate) struct FlowLanes {
 }
 
 impl FlowLanes {
-    ghost use Rattle.std.specs.Prelude.{◌≡◌, ◌≢◌, ℕ, ◌<◌, ◌≤◌, [], ◌++◌, true, false, length, slice_get, replicate, All, IfOk, IfErr, MatchOption, MatchResult};
+    ghost use Rattle.std.specs.Prelude.{◌≡◌, ◌≢◌, ℕ, ◌<◌, ◌≤◌, [], ◌++◌, true, false, length, slice_get, replicate, All, IsOk, IfOk, IfErr, MatchOption, MatchResult};
     ghost use Rattle.std.specs.Option.{is_some};
     ghost use Rattle.lists.specs.Lists.{has};
-    ghost use Rattle.evt_types.specs.Operation.{is_more_reply};
+    ghost use Rattle.evt_types.specs.Operation.{is_answer, is_more_reply};
     ghost use Rattle.evt_types.specs.declared.event.TheConstants.{MAX_EXTRAS};
     ghost use Rattle.lane_rings.specs.Refusal.{reply_of};
     ghost use Rattle.flow_claims.specs.Claims.{seating, port_of, lanes_of, IsSeatOf};
     ghost use Rattle.flow_claims.specs.Seats.{HoldsNone};
-    ghost use Rattle.event_ports.specs.Holds.{IsFilledBy, AreLinked, Brings, Flushed, NoneHidden, Same, Kept, Says, Ends, AreEmpty, extras_on, stint_in, held_on};
+    ghost use Rattle.event_ports.specs.Holds.{AreIdle, HoldsLast, IsFilledBy, hidden_in, AreLinked, Brings, Flushed, NoneHidden, Same, Kept, Says, Ends, AreEmpty, extras_on, stint_in, held_on};
     ghost use Rattle.event_ports.specs.Flows.{hands_of, flow_site, touched_of};
 
     /// The flow lanes of a port whose seat has no stint, with a position for each.
@@ -86,34 +86,48 @@ impl FlowLanes {
         self.links[position]
     }
 
-    /// The linked flow lanes that may have something: those with a hint, and those that the port holds.
+    /// Linked flow lanes that may have something, no more than so many: those with a hint, and those that the port holds. Their hints
+    /// are cleared, so that other ports look elsewhere.
     #[inline(always)]
-    pub(crate) fn worth_a_look(&self) -> LaneSet {
+    pub(crate) fn worth_a_look(&self, most: usize) -> LaneSet {
         // Without flow lanes the words aren't read.
-        if self.links.is_empty() {
+        if self.links.is_empty() || most == 0 {
             return LaneSet::none();
         }
-        self.hints.lanes().either(self.open).both(self.linked)
+        let worthy = self.hints.lanes().either(self.open).both(self.linked);
+        let lowest = worthy.lowest(most);
+        // What the scheduler gives from here on sets a hint again.
+        self.hints.clear_all(lowest);
+        lowest
     }
 
-    /// The next position of the links, from this one on, of a lane that is worth a look; past the last where there is none.
+    /// These lanes weren't looked at, and may have something still.
     #[inline(always)]
-    pub(crate) fn next_link(&self, position: usize, worthy: LaneSet) -> usize
+    pub(crate) fn look_later(&self, lanes: LaneSet) {
+        self.hints.set_all(lanes);
+    }
+
+    /// The position in the links, from this one on, of the lowest lane that is worth a look, which leaves the set; past the last where
+    /// there is none.
+    #[inline(always)]
+    pub(crate) fn next_link(&self, position: usize, worthy: &mut LaneSet) -> usize
         requires { position ≤ length (flow_site self.now).links }
         ensures { (position ≤ result) × (result ≤ length (flow_site self.now).links) }
     {
-        let Some(from) = self.links.get(position) else {
+        if position >= self.links.len() {
             return position;
-        };
+        }
         // The links rise, so before a lane's position come the lower ones.
-        let lane = worthy.first_from(*from);
-        self.linked
-            .count_below(lane)
-            .max(position)
-            .min(self.links.len())
+        let lower = match worthy.take_lowest() {
+            Some(lane) => self.linked.count_below(lane),
+            // Behind all lanes of which there are hints come those that are always worth a look.
+            None => self.linked.count(),
+        };
+        lower.max(position).min(self.links.len())
     }
 
     /// Holds the lane, where it isn't held already, by one try. False where it can't be had.
+    #[inline(always)]
     pub(crate) fn hold(&mut self, lane: usize) -> bool
         requires exists { lane < length (lanes_of (flow_site self.old).claims) }
         requires linked { has lane (flow_site self.old).links ≡ true }
@@ -127,6 +141,7 @@ impl FlowLanes {
             return true;
         }
         let Claim::Held(stint) = self.claims.claim(&mut self.seat, lane) else {
+            self.hints.set(lane);
             return false;
         };
         self.stints[lane] = Some(stint);
@@ -134,8 +149,9 @@ impl FlowLanes {
         true
     }
 
-    /// Receives from the lane until the array has `most` deliveries, none is seen, or as many are unanswered as the lane's depth
-    /// allows; nothing where the lane isn't held.
+    /// Receives from the lane, where the array has fewer than `most` deliveries, until it has as many, none is seen, or as many are
+    /// unanswered as the lane's depth allows; nothing where the lane isn't held.
+    #[inline(always)]
     pub(crate) fn receive_some(
         &mut self,
         lane: usize,
@@ -144,22 +160,18 @@ impl FlowLanes {
     )
         requires exists { lane < length (lanes_of (flow_site self.old).claims) }
         requires most { most ≤ 64 }
+        requires room { length into.old.items < most }
         ensures site { flow_site self.new ≡ flow_site self.old }
         ensures lists { Brings lane (hands_of self.old) into.old.items (hands_of self.new) into.new.items }
-        ensures few { length into.old.items ≤ most → length into.new.items ≤ most }
+        ensures few { length into.new.items ≤ most }
         ensures entries { (j : ℕ) → is_some (stint_in (hands_of self.new) j) ≡ is_some (stint_in (hands_of self.old) j) }
         ensures shown { NoneHidden (hands_of self.old) → NoneHidden (hands_of self.new) }
     {
         let Some(stint) = &mut self.stints[lane] else {
             return;
         };
-        // What the scheduler gives from here on sets the hint again.
-        self.hints.clear(lane);
-        let known = stint.far.seen();
-        let from = into.len();
-        stint.receive_some(most, into);
-        let came = into.len().saturating_sub(from);
-        hint_again(&self.hints, stint, known, came, into.len() < most);
+        let some_left = stint.receive_waiting(most, into);
+        hint_again(&self.hints, lane, some_left);
     }
 
     /// How many events were added beside the oldest delivery that is held of the lane; 0 where the lane isn't held.
@@ -188,6 +200,73 @@ impl FlowLanes {
             return Err(Refusal::NothingHeld);
         };
         stint.stage(event)
+    }
+
+    /// Answers the oldest delivery that is held of the lane by an answer, and gives the lane back where nothing more of it is
+    /// unanswered. An answer to its last delivery goes into the ring at once; any other the scheduler sees after the next `flush`.
+    #[inline(always)]
+    pub(crate) fn answer_oldest(&mut self, lane: usize, event: &PackedEvent) -> Result<(), Refusal>
+        requires exists { lane < length (lanes_of (flow_site self.old).claims) }
+        requires held { held_on (hands_of self.old) lane ≢ [] }
+        requires answer { is_answer (reply_of event.now) ≡ true }
+        ensures site { flow_site self.new ≡ flow_site self.old }
+        ensures lists { MatchResult result (λ _. Says lane (reply_of event.now) (hands_of self.old) (hands_of self.new)) (λ _. Same (hands_of self.old) (hands_of self.new)) }
+        ensures idle { AreIdle (hands_of self.old) → AreIdle (hands_of self.new) }
+        ensures refused { IfErr result (λ e. (e ≡ Refusal.Full) × IsFilledBy (stint_in (hands_of self.new) lane)) }
+    {
+        if !self.holds_last(lane) {
+            return self.answer_more(lane, event);
+        }
+        self.put_last(lane, event)?;
+        self.give_back(lane);
+        Ok(())
+    }
+
+    // Whether just one delivery is held of the lane, and nothing is gathered for it.
+    #[inline(always)]
+    fn holds_last(&self, lane: usize) -> bool
+        requires { lane < length (lanes_of (flow_site self.now).claims) }
+        ensures { result ≡ true → HoldsLast (stint_in (hands_of self.now) lane) }
+    {
+        match &self.stints[lane] {
+            Some(stint) => stint.far.holds_last(),
+            None => false,
+        }
+    }
+
+    // Answers the only delivery that is held of the lane into the ring.
+    #[inline(always)]
+    fn put_last(&mut self, lane: usize, event: &PackedEvent) -> Result<(), Refusal>
+        requires exists { lane < length (lanes_of (flow_site self.old).claims) }
+        requires last { HoldsLast (stint_in (hands_of self.old) lane) }
+        requires answer { is_answer (reply_of event.now) ≡ true }
+        ensures site { flow_site self.new ≡ flow_site self.old }
+        ensures lists { MatchResult result (λ _. Says lane (reply_of event.now) (hands_of self.old) (hands_of self.new)) (λ _. Same (hands_of self.old) (hands_of self.new)) }
+        ensures answered { IsOk result → held_on (hands_of self.new) lane ≡ [] }
+        ensures entries { (j : ℕ) → is_some (stint_in (hands_of self.new) j) ≡ is_some (stint_in (hands_of self.old) j) }
+        ensures shown { hidden_in (stint_in (hands_of self.new) lane) ≡ [] }
+        ensures refused { IfErr result (λ e. (e ≡ Refusal.Full) × IsFilledBy (stint_in (hands_of self.new) lane)) }
+    {
+        let Some(stint) = &mut self.stints[lane] else {
+            unreachable!()
+        };
+        stint.answer_last(event)
+    }
+
+    // Answers one of several deliveries that are held of the lane, or one beside what is gathered for it.
+    #[cold]
+    fn answer_more(&mut self, lane: usize, event: &PackedEvent) -> Result<(), Refusal>
+        requires exists { lane < length (lanes_of (flow_site self.old).claims) }
+        requires held { held_on (hands_of self.old) lane ≢ [] }
+        requires answer { is_answer (reply_of event.now) ≡ true }
+        ensures site { flow_site self.new ≡ flow_site self.old }
+        ensures lists { MatchResult result (λ _. Says lane (reply_of event.now) (hands_of self.old) (hands_of self.new)) (λ _. Same (hands_of self.old) (hands_of self.new)) }
+        ensures idle { AreIdle (hands_of self.old) → AreIdle (hands_of self.new) }
+        ensures refused { IfErr result (λ e. (e ≡ Refusal.Full) × IsFilledBy (stint_in (hands_of self.new) lane)) }
+    {
+        self.answer(lane, event)?;
+        self.leave(lane);
+        Ok(())
     }
 
     // What was answered to another lane is flushed, so that there is one at most to be flushed.
@@ -230,15 +309,48 @@ impl FlowLanes {
         ensures elsewhere { (j : ℕ) → j ≢ lane → is_some (stint_in (hands_of self.new) j) ≡ is_some (stint_in (hands_of self.old) j) }
         ensures shown { NoneHidden (hands_of self.old) → NoneHidden (hands_of self.new) }
     {
-        let Some(mut stint) = self.stints[lane].take() else {
+        let Some(stint) = &mut self.stints[lane] else {
             return;
         };
         if stint.far.held() > 0 {
-            self.stints[lane] = Some(stint);
             return;
         }
         // The next port to hold it may have nothing to flush.
         stint.flush();
+        self.give_back(lane);
+    }
+
+    /// As `leave`, but the lane isn't looked at where something of it is known to be unanswered.
+    #[inline(always)]
+    pub(crate) fn leave_unless(&mut self, lane: usize, some_held: bool)
+        requires exists { lane < length (lanes_of (flow_site self.old).claims) }
+        requires held { some_held ≡ true → held_on (hands_of self.old) lane ≢ [] }
+        ensures site { flow_site self.new ≡ flow_site self.old }
+        ensures same { Same (hands_of self.old) (hands_of self.new) }
+        ensures left { held_on (hands_of self.old) lane ≡ [] → is_some (stint_in (hands_of self.new) lane) ≡ false }
+        ensures elsewhere { (j : ℕ) → j ≢ lane → is_some (stint_in (hands_of self.new) j) ≡ is_some (stint_in (hands_of self.old) j) }
+        ensures shown { NoneHidden (hands_of self.old) → NoneHidden (hands_of self.new) }
+    {
+        if !some_held {
+            self.leave(lane);
+        }
+    }
+
+    // Gives back the lane, of which nothing is unanswered, and for which nothing is gathered.
+    #[inline(always)]
+    fn give_back(&mut self, lane: usize)
+        requires exists { lane < length (lanes_of (flow_site self.old).claims) }
+        requires answered { held_on (hands_of self.old) lane ≡ [] }
+        requires shown { hidden_in (stint_in (hands_of self.old) lane) ≡ [] }
+        ensures site { flow_site self.new ≡ flow_site self.old }
+        ensures same { Same (hands_of self.old) (hands_of self.new) }
+        ensures left { is_some (stint_in (hands_of self.new) lane) ≡ false }
+        ensures elsewhere { (j : ℕ) → j ≢ lane → is_some (stint_in (hands_of self.new) j) ≡ is_some (stint_in (hands_of self.old) j) }
+        ensures shown { NoneHidden (hands_of self.old) → NoneHidden (hands_of self.new) }
+    {
+        let Some(stint) = self.stints[lane].take() else {
+            return;
+        };
         self.claims.give_back(&mut self.seat, stint);
         self.open.remove(lane);
     }
@@ -298,15 +410,10 @@ fn lanes_of_links(links: &[usize]) -> LaneSet {
     lanes
 }
 
-// Sets the lane's hint where something may lie in its ring after a look by which so many came; so many were known before it. The
-// look was short where it could have brought more.
-fn hint_again(hints: &Hints, stint: &Stint, known: usize, came: usize, is_short: bool) {
-    // A look that was short found the ring empty.
-    if is_short && !stint.far.is_full() {
-        return;
-    }
-    // A look that ended within what was known didn't see what came since.
-    if came <= known || stint.far.seen() > 0 {
-        hints.set(stint.lane);
+// Sets the lane's hint where something was left in its ring.
+#[inline(always)]
+fn hint_again(hints: &Hints, lane: usize, some_left: bool) {
+    if some_left {
+        hints.set(lane);
     }
 }

@@ -1,6 +1,6 @@
 //! What a port holds, in a ring whose number of places is fixed, so that its mask is a constant.
 
-ghost use Rattle.std.specs.Prelude.{◌≡◌, ◌+◌, ◌<◌, ◌≤◌, [], ◌++◌, length, map, drop, slice_get, option_copied, IfOk};
+ghost use Rattle.std.specs.Prelude.{◌≡◌, ◌+◌, ◌<◌, ◌≤◌, [], ◌∷◌, ◌++◌, length, map, drop, slice_get, option_copied, IfOk};
 ghost use Rattle.event_ports.specs.HeldRings.{holds, window};
 ghost use Rattle.event_ports.specs.Lanes.{holding_of};
 
@@ -91,6 +91,10 @@ impl HeldRing {
         ensures noted { self.new.items ≡ self.old.items ++ map (holding_of lane) (drop from deliveries.now.items) }
         ensures room { self.new.capacity ≡ self.old.capacity }
     {
+        if deliveries.len().saturating_sub(from) == 1 {
+            self.note_one(lane, &deliveries[from]);
+            return;
+        }
         self.len = write(
             &mut self.places,
             self.first,
@@ -99,6 +103,21 @@ impl HeldRing {
             from,
             deliveries,
         );
+    }
+
+    // The same of one delivery, without the loop.
+    #[inline(always)]
+    fn note_one(&mut self, lane: Lane, delivery: &Delivery)
+        requires { length self.old.items + 1 ≤ self.old.capacity }
+        ensures noted { self.new.items ≡ self.old.items ++ holding_of lane delivery.now ∷ [] }
+        ensures room { self.new.capacity ≡ self.old.capacity }
+    {
+        self.places[(self.first + self.len) % PLACES] = Holding {
+            lane,
+            queue: delivery.queue(),
+            number: delivery.number(),
+        };
+        self.len += 1;
     }
 
     /// Takes the oldest one out.

@@ -1,9 +1,8 @@
 //! All lanes of a port, and the order in which it dequeued from them.
 
-ghost use Rattle.std.specs.Prelude.{◌≡◌, ◌≤◌, ℕ, [], false};
-ghost use Rattle.std.specs.Option.{is_some};
+ghost use Rattle.std.specs.Prelude.{◌≡◌, ◌≤◌};
 ghost use Rattle.lane_rings.specs.Identity.{far_id};
-ghost use Rattle.event_ports.specs.Holds.{AddedAll, HaveNoNew, GaveBack, held_on, stint_in};
+ghost use Rattle.event_ports.specs.Holds.{AddedAll, AreIdle, HaveNoNew, GaveBack};
 ghost use Rattle.event_ports.specs.Lanes.{AreOrdered};
 ghost use Rattle.event_ports.specs.Flows.{hands_of};
 
@@ -27,7 +26,7 @@ pub(crate) struct Lanes {
     ghost gave_back: { GaveBack (hands_of flows) },
     ghost no_new: { HaveNoNew (hands_of flows) },
     ghost added: { AddedAll (hands_of flows) },
-    ghost idle: { (j : ℕ) → held_on (hands_of flows) j ≡ [] → is_some (stint_in (hands_of flows) j) ≡ false },
+    ghost idle: { AreIdle (hands_of flows) },
 }
 
 impl Lanes {
@@ -141,10 +140,9 @@ impl Lanes {
                 }
                 Err(fault) => Err(fault),
             },
-            Lane::Flow(lane) => match self.flows.answer(lane, event) {
+            Lane::Flow(lane) => match self.flows.answer_oldest(lane, event) {
                 Ok(()) => {
                     self.order.drop_front();
-                    self.flows.leave(lane);
                     Ok(())
                 }
                 Err(fault) => Err(fault),
@@ -213,14 +211,15 @@ impl Lanes {
         ensures others { seen_own self.new ≡ seen_own self.old }
         ensures shown { AllShown self.old → AllShown self.new }
     {
-        let worthy = self.flows.worth_a_look();
+        let mut worthy = self.flows.worth_a_look(most.saturating_sub(into.len()));
         let count = self.flows.link_count();
-        let mut position = self.flows.next_link(0, worthy);
+        let mut position = self.flows.next_link(0, &mut worthy);
         while position < count && into.len() < most {
             let lane = self.flows.link(position);
             self.receive_flow(lane, most, into);
-            position = self.flows.next_link(position + 1, worthy);
+            position = self.flows.next_link(position + 1, &mut worthy);
         }
+        self.flows.look_later(worthy);
     }
 
     // Receives from a flow lane to which the port is linked, until `most` deliveries came in all, or none is seen. The lane is held by
@@ -245,6 +244,8 @@ impl Lanes {
         let from = into.len();
         self.flows.receive_some(lane, most, into);
         self.order.note(Lane::Flow(lane), from, into);
-        self.flows.leave(lane);
+        // What came is unanswered.
+        let some_came = into.len() > from;
+        self.flows.leave_unless(lane, some_came);
     }
 }

@@ -1,5 +1,5 @@
 -- What a call through a held lane's end does to the end, as `Far` says it.
-use Rattle.std.specs.Prelude.{◌≡◌, ◌≢◌, ◌≤◌, ◌↔◌, true, [], ◌∷◌, ◌++◌, drop, Option, Result, IfErr, IfNone, MatchOption, MatchResult}
+use Rattle.std.specs.Prelude.{◌≡◌, ◌≢◌, ◌≤◌, ◌↔◌, true, [], ◌∷◌, ◌++◌, length, drop, Option, Result, IfErr, IfNone, MatchOption, MatchResult}
 use Rattle.std.specs.Prelude.Option.{Some}
 use Rattle.std.specs.Prelude.Result.{Err}
 use Rattle.evt_types.specs.Additions.{extras_of}
@@ -44,3 +44,12 @@ pub record GathersWith (before : Far) (reply : Reply) (result : Result (Unit {0}
   pub nothing_held : (result ≡ Err refusals.NothingHeld) ↔ ((needs_held reply ≡ true) × (unanswered before ≡ []))
   pub too_many : (result ≡ Err refusals.TooMany) ↔ ((is_more_reply reply ≡ true) × (unanswered before ≢ []) × (MAX_EXTRAS ≤ extras_of (answered before)))
   pub refused : IfErr result (RefusesReply before reply)
+
+-- what `Far::answer_last` answered of the reply, and what it left
+pub record AnswersLast (before : Far) (reply : Reply) (result : Result (Unit {0}) Refusal) (after : Far) : Type 0 where
+  pub lane : far_id after ≡ far_id before
+  pub received : (received_by after ≡ received_by before) × (seen_deliveries after ≡ seen_deliveries before)
+  pub answered_is : MatchResult result (λ _. answered after ≡ answered before ++ reply ∷ []) (λ _. answered after ≡ answered before)
+  pub held : MatchResult result (λ _. unanswered after ≡ []) (λ _. unanswered after ≡ unanswered before)
+  pub refused : IfErr result (λ e. (e ≡ refusals.Full) × ((far_id before).room ≤ length (answered before)))
+  pub shown : hidden_answers after ≡ []

@@ -31,13 +31,14 @@ pub enum Claim {
 }
 
 impl Stint {
-    ghost use Rattle.std.specs.Prelude.{◌≡◌, ◌<◌, ◌≤◌, [], ◌∷◌, ◌++◌, length, MatchOption, MatchResult};
+    ghost use Rattle.std.specs.Prelude.{◌≡◌, ◌<◌, ◌≤◌, ◌↔◌, true, [], ◌∷◌, ◌++◌, length, IsFalse, MatchOption, MatchResult};
     ghost use Rattle.evt_types.specs.Additions.{AreBeside, extras_of};
+    ghost use Rattle.evt_types.specs.Operation.{is_answer};
     ghost use Rattle.lane_rings.specs.Ends.{received_by, answered, unanswered, hidden_answers, seen_deliveries, Comes};
     ghost use Rattle.lane_rings.specs.Identity.{far_id};
     ghost use Rattle.flow_claims.specs.declared.seating.Seating.{Seating};
     ghost use Rattle.lane_rings.specs.Refusal.{reply_of};
-    ghost use Rattle.flow_claims.specs.Holder.{Receives, AnswersWith, GathersWith};
+    ghost use Rattle.flow_claims.specs.Holder.{Receives, AnswersWith, GathersWith, AnswersLast};
     ghost use Rattle.flow_claims.specs.Open.{IsOpen, received_so_far, answered_so_far};
 
     /// `Far::receive` of the lane's end. The stint stays open in the seat that has it.
@@ -71,6 +72,25 @@ impl Stint {
         far.end.receive_some(most, into);
     }
 
+    /// `Far::receive_waiting` of the lane's end. The stint stays open in the seat that has it.
+    #[inline(always)]
+    pub fn receive_waiting(&mut self, most: usize, into: &mut ArrayVec<Delivery, 64>) -> bool
+        requires most { most ≤ 64 }
+        requires room { length into.old.items < most }
+        ensures far { (far_id self.new.far ≡ far_id self.old.far) × (answered self.new.far ≡ answered self.old.far) × (hidden_answers self.new.far ≡ hidden_answers self.old.far) }
+        ensures came { Comes self.old.far into.old.items self.new.far into.new.items }
+        ensures few { length into.new.items ≤ most }
+        ensures drained { length into.new.items < most → length (unanswered self.new.far) < (far_id self.new.far).depth → seen_deliveries self.new.far ≡ [] }
+        ensures left { IsFalse result ↔ (seen_deliveries self.new.far ≡ []) }
+        ensures lane { (self.new.lane ≡ self.old.lane) × (self.new.number ≡ self.old.number) }
+        ensures open { (v : Seating) → IsOpen v self.old → IsOpen v self.new }
+        ensures so_far { (v : Seating) → IsOpen v self.old → (c : Comes self.old.far into.old.items self.new.far into.new.items) → received_so_far v self.new ≡ received_so_far v self.old ++ c.came }
+        ensures answered { (v : Seating) → answered_so_far v self.new ≡ answered_so_far v self.old }
+    {
+        let far = &mut self.far;
+        far.end.receive_waiting(most, into)
+    }
+
     /// `Far::answer` of the lane's end. The stint stays open in the seat that has it.
     pub fn answer(&mut self, reply: Reply) -> Result<(), AnswerFault>
         ensures far { AnswersWith self.old.far reply result self.new.far }
@@ -98,6 +118,24 @@ impl Stint {
     {
         let far = &mut self.far;
         far.end.stage(event)
+    }
+
+    /// `Far::answer_last` of the lane's end. The stint stays open in the seat that has it.
+    #[inline(always)]
+    pub fn answer_last(&mut self, event: &PackedEvent) -> Result<(), Refusal>
+        requires answer { is_answer (reply_of event.now) ≡ true }
+        requires last { length (unanswered self.old.far) ≡ 1 }
+        requires flushed { hidden_answers self.old.far ≡ [] }
+        ensures far { AnswersLast self.old.far (reply_of event.now) result self.new.far }
+        ensures lane { (self.new.lane ≡ self.old.lane) × (self.new.number ≡ self.old.number) }
+        ensures open { (v : Seating) → IsOpen v self.old → IsOpen v self.new }
+        ensures so_far { (v : Seating) → IsOpen v self.old → MatchResult result
+            (λ _. answered_so_far v self.new ≡ answered_so_far v self.old ++ reply_of event.now ∷ [])
+            (λ _. answered_so_far v self.new ≡ answered_so_far v self.old) }
+        ensures received { (v : Seating) → received_so_far v self.new ≡ received_so_far v self.old }
+    {
+        let far = &mut self.far;
+        far.end.answer_last(event)
     }
 
     /// `Far::flush` of the lane's end. The stint stays open in the seat that has it.

@@ -158,6 +158,7 @@ impl Claims {
 
     /// Ends a stint of whose lane nothing is unanswered, and frees the lane. What was gathered at its end was flushed. It always
     /// succeeds.
+    #[inline(always)]
     pub fn give_back(&self, seat: &mut ClaimSeat, stint: Stint)
         requires seat { IsSeatOf self.now seat.old }
         requires open { IsOpen (seating seat.old) stint }
@@ -232,6 +233,7 @@ impl Claims {
     }
 
     // Puts the end into its slot, and the slot and the lane back. The word then ends in `tail`.
+    #[inline(always)]
     fn end(&self, seat: &mut ClaimSeat, stint: Stint, tail: u64)
         requires seat { IsSeatOf self.now seat.old }
         requires open { IsOpen (seating seat.old) stint }
@@ -242,7 +244,10 @@ impl Claims {
         let Stint { lane, number, far } = stint;
         let shared = &self.table.shared;
         shared.load::<Front>(&mut seat.seat, lane);
-        drop(shared.exchange(&mut seat.seat, lane, Some(far)));
+        // The slot is empty while the lane is held, so there is no end to be dropped.
+        let None = shared.exchange(&mut seat.seat, lane, Some(far)) else {
+            unreachable!()
+        };
         shared.store::<Return>(&mut seat.seat, lane, 256 * (number + 1) + tail);
     }
 

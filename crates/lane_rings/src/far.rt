@@ -1,6 +1,6 @@
 //! The holder's end of a lane.
 
-ghost use Rattle.std.specs.Prelude.{◌≡◌, ◌≤◌, ◌+◌, [], ◌++◌, length, count_by};
+ghost use Rattle.std.specs.Prelude.{◌≡◌, ◌<◌, ◌≤◌, ◌+◌, [], ◌++◌, length, count_by, drop, take};
 ghost use Rattle.evt_types.specs.Additions.{AreBeside, extras_of};
 ghost use Rattle.evt_types.specs.Operation.{is_answer};
 ghost use Rattle.evt_types.specs.declared.event.TheConstants.{MAX_EXTRAS};
@@ -71,8 +71,24 @@ fn hand_out(from: &mut Intake<Delivery>, into: &mut ArrayVec<Delivery, 64>)
     from.skip(count);
 }
 
+/// Hands out the first delivery that the ring showed, of which nothing was fetched. It is copied once, and by no loop.
+#[inline(always)]
+fn hand_first(from: &mut Intake<Delivery>, into: &mut ArrayVec<Delivery, 64>)
+    requires room { length into.old.items < 64 }
+    requires none { inside from.old ≡ [] }
+    requires some { 0 < length (known_items from.old.ring) }
+    ensures ring { SameConsumer from.old.ring from.new.ring }
+    ensures handed { handed from.new ≡ handed from.old ++ take 1 (known_items from.old.ring) }
+    ensures none { inside from.new ≡ [] }
+    ensures known { known_items from.new.ring ≡ drop 1 (known_items from.old.ring) }
+    ensures into { into.new.items ≡ into.old.items ++ take 1 (known_items from.old.ring) }
+{
+    into.push(*from.first_there());
+    from.pass_there();
+}
+
 impl Far {
-    ghost use Rattle.std.specs.Prelude.{◌≡◌, ◌≢◌, ◌<◌, ◌≤◌, ◌↔◌, ◌+◌, true, false, List, [], ◌∷◌, ◌++◌, length, drop, IsTrue, OnOk, IfOk, IfErr, IfNone, MatchOption, MatchResult};
+    ghost use Rattle.std.specs.Prelude.{◌≡◌, ◌≢◌, ◌<◌, ◌≤◌, ◌↔◌, ◌+◌, true, false, List, [], ◌∷◌, ◌++◌, length, drop, IsTrue, IsFalse, OnOk, IfOk, IfErr, IfNone, MatchOption, MatchResult};
     ghost use Rattle.evt_types.specs.Additions.{more_after};
     ghost use Rattle.evt_types.specs.Operation.{is_answer, is_more_reply, needs_held};
     ghost use mathlib.Core.List.{IsPrefix};
@@ -122,6 +138,48 @@ impl Far {
         self.deliveries.look(room.min(most.saturating_sub(before)));
         hand_out(&mut self.deliveries, into);
         self.held += into.len() - before;
+    }
+
+    /// As `receive_some`, where the array has fewer than `most`. Whether a delivery is seen then: all that lay in the ring as the call
+    /// began was looked at.
+    #[inline(always)]
+    pub fn receive_waiting(&mut self, most: usize, into: &mut ArrayVec<Delivery, 64>) -> bool
+        requires most { most ≤ 64 }
+        requires room { length into.old.items < most }
+        ensures lane { far_id self.new ≡ far_id self.old }
+        ensures answered { (answered self.new ≡ answered self.old) × (hidden_answers self.new ≡ hidden_answers self.old) }
+        ensures came { Comes self.old into.old.items self.new into.new.items }
+        ensures few { length into.new.items ≤ most }
+        ensures within { length (unanswered self.new) ≤ (far_id self.new).depth }
+        ensures drained { length into.new.items < most → length (unanswered self.new) < (far_id self.new).depth → seen_deliveries self.new ≡ [] }
+        ensures left { IsFalse result ↔ (seen_deliveries self.new ≡ []) }
+    {
+        let there = self.deliveries.there();
+        if there == 0 {
+            return false;
+        }
+        if there == 1 && !self.is_full() {
+            hand_first(&mut self.deliveries, into);
+            self.held += 1;
+            return false;
+        }
+        self.receive_row(most, into)
+    }
+
+    // The same of more than one delivery, or of none.
+    #[cold]
+    fn receive_row(&mut self, most: usize, into: &mut ArrayVec<Delivery, 64>) -> bool
+        requires most { most ≤ 64 }
+        ensures lane { far_id self.new ≡ far_id self.old }
+        ensures answered { (answered self.new ≡ answered self.old) × (hidden_answers self.new ≡ hidden_answers self.old) }
+        ensures came { Comes self.old into.old.items self.new into.new.items }
+        ensures few { length into.old.items ≤ most → length into.new.items ≤ most }
+        ensures within { length (unanswered self.new) ≤ (far_id self.new).depth }
+        ensures drained { length into.new.items < most → length (unanswered self.new) < (far_id self.new).depth → seen_deliveries self.new ≡ [] }
+        ensures left { IsFalse result ↔ (seen_deliveries self.new ≡ []) }
+    {
+        self.receive_some(most, into);
+        self.deliveries.sees()
     }
 
     /// Puts a reply into the ring, where the scheduler sees it. A FORWARD or RELEASE answers the oldest delivery that is held; a
@@ -174,6 +232,39 @@ impl Far {
         self.replies.gather(Reply { event: *event });
         self.held = held;
         self.extras = extras;
+        Ok(())
+    }
+
+    /// Whether just one delivery is held, and nothing is gathered: `answer_last` may answer it.
+    #[inline(always)]
+    pub fn holds_last(&self) -> bool
+        ensures { IsTrue result ↔ ((length (unanswered self.now) ≡ 1) × (hidden_answers self.now ≡ [])) }
+    {
+        self.held == 1 && self.replies.is_flushed()
+    }
+
+    /// As `stage`, of an answer to the only delivery that is held, where nothing is gathered: the reply goes into the ring at once. The
+    /// event is copied there, and nowhere before.
+    #[inline(always)]
+    pub fn answer_last(&mut self, event: &PackedEvent) -> Result<(), Refusal>
+        requires answer { is_answer (reply_of event.now) ≡ true }
+        requires last { length (unanswered self.old) ≡ 1 }
+        requires flushed { hidden_answers self.old ≡ [] }
+        ensures lane { far_id self.new ≡ far_id self.old }
+        ensures received { (received_by self.new ≡ received_by self.old) × (seen_deliveries self.new ≡ seen_deliveries self.old) }
+        ensures answered { MatchResult result
+            (λ _. answered self.new ≡ answered self.old ++ reply_of event.now ∷ [])
+            (λ _. answered self.new ≡ answered self.old) }
+        ensures held { MatchResult result (λ _. unanswered self.new ≡ []) (λ _. unanswered self.new ≡ unanswered self.old) }
+        ensures refused { IfErr result (λ e. (e ≡ Refusal.Full) × ((far_id self.old).room ≤ length (answered self.old))) }
+        ensures shown { hidden_answers self.new ≡ [] }
+    {
+        if !self.replies.has_room() {
+            return Err(Refusal::Full);
+        }
+        self.replies.put_one(Reply { event: *event });
+        self.held = 0;
+        self.extras = 0;
         Ok(())
     }
 

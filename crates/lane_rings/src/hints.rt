@@ -60,28 +60,38 @@ impl LaneSet {
         }
     }
 
-    /// The lowest lane of the set from this one on.
+    /// The lowest lane of which there may be a hint leaves the set; `None` where the set has none of these.
     #[inline(always)]
-    pub fn first_from(self, lane: usize) -> usize {
-        if lane >= HINTED {
-            return lane;
+    pub fn take_lowest(&mut self) -> Option<usize> {
+        let LaneSet { low, high } = *self;
+        if low != 0 {
+            self.low = low & (low - 1);
+            return Some(low.trailing_zeros() as usize);
         }
-        let mut from = lane;
-        if lane < WORD {
-            let left = self.low >> lane << lane;
-            if left != 0 {
-                return left.trailing_zeros() as usize;
-            }
-            from = WORD;
+        if high != 0 {
+            self.high = high & (high - 1);
+            return Some(WORD + high.trailing_zeros() as usize);
         }
-        let left = self.high >> (from - WORD) << (from - WORD);
-        if left != 0 {
-            return WORD + left.trailing_zeros() as usize;
+        None
+    }
+
+    /// Of the lanes of the set of which there is a hint the lowest ones, no more than so many.
+    pub fn lowest(self, most: usize) -> LaneSet {
+        if self.count() <= most {
+            return self;
         }
-        HINTED
+        let mut left = self;
+        for _ in 0..most {
+            let _ = left.take_lowest();
+        }
+        LaneSet {
+            low: self.low & !left.low,
+            high: self.high & !left.high,
+        }
     }
 
     /// How many lanes of the set there is a hint of below this one.
+    #[inline(always)]
     pub fn count_below(self, lane: usize) -> usize {
         if lane < WORD {
             let below = self.low & ((1 << lane) - 1);
@@ -94,12 +104,24 @@ impl LaneSet {
         }
         low + self.high.count_ones() as usize
     }
+
+    /// How many lanes of the set there is a hint of.
+    pub fn count(self) -> usize {
+        self.count_below(HINTED)
+    }
 }
 
 /// Clears the bits of the word that are set.
 fn take_out(word: &AtomicU64, bits: u64) {
     if word.load(Ordering::SeqCst) & bits != 0 {
         word.fetch_and(!bits, Ordering::SeqCst);
+    }
+}
+
+/// Sets the bits of the word, which is written only where there are any.
+fn put_in(word: &AtomicU64, bits: u64) {
+    if bits != 0 {
+        word.fetch_or(bits, Ordering::SeqCst);
     }
 }
 
@@ -124,12 +146,21 @@ impl Hints {
         }
     }
 
-    /// The scheduler put something into the ring of its lane of this number. Of a lane that isn't a flow lane there is no hint.
+    /// The scheduler put something into the ring of its lane of this number, which is noted among these lanes. Of a lane that isn't a
+    /// flow lane there is no hint.
     #[inline(always)]
-    pub fn gave(&self, lane: usize) {
+    pub fn gave(&self, gave: &mut LaneSet, lane: usize) {
         if lane >= self.before {
-            self.set(lane - self.before);
+            gave.add(lane - self.before);
         }
+    }
+
+    /// These flow lanes may have something.
+    #[inline(always)]
+    pub fn set_all(&self, lanes: LaneSet) {
+        let LaneSet { low, high } = lanes;
+        put_in(&self.low, low);
+        put_in(&self.high, high);
     }
 
     /// The flow lane may have something.
@@ -141,13 +172,12 @@ impl Hints {
         }
     }
 
-    /// The flow lane is about to be looked at. A word is written only where the lane's bit is set.
-    pub fn clear(&self, lane: usize) {
-        if lane < WORD {
-            take_out(&self.low, 1 << lane);
-        } else if lane < HINTED {
-            take_out(&self.high, 1 << (lane - WORD));
-        }
+    /// These flow lanes are about to be looked at. A word is written only where a bit of one is set.
+    #[inline(always)]
+    pub fn clear_all(&self, lanes: LaneSet) {
+        let LaneSet { low, high } = lanes;
+        take_out(&self.low, low);
+        take_out(&self.high, high);
     }
 
     /// The lanes that may have something, as the words are now.

@@ -77,6 +77,39 @@ impl<T: Copy> Intake<T> {
         self.end != 0
     }
 
+    /// Looks at the ring: how many items it shows.
+    #[inline(always)]
+    pub(crate) fn there(&mut self) -> usize
+        ensures ring { SameConsumer self.old.ring self.new.ring }
+        ensures handed { (handed self.new ≡ handed self.old) × (inside self.new ≡ inside self.old) }
+        ensures ahead { IsPrefix (ahead self.old) (ahead self.new) }
+        ensures value { result ≡ length (known_items self.new.ring) }
+    {
+        self.ring.slots()
+    }
+
+    /// The first item that the ring showed, where it lies.
+    #[inline(always)]
+    pub(crate) fn first_there(&self) -> &T
+        requires { 0 < length (known_items self.now.ring) }
+        ensures { known_items self.now.ring ≡ result.now ∷ drop 1 (known_items self.now.ring) }
+    {
+        self.ring.peek_known()
+    }
+
+    /// The first item that the ring showed leaves past the batch, in which nothing is.
+    #[inline(always)]
+    pub(crate) fn pass_there(&mut self)
+        requires some { 0 < length (known_items self.old.ring) }
+        requires none { inside self.old ≡ [] }
+        ensures ring { SameConsumer self.old.ring self.new.ring }
+        ensures handed { handed self.new ≡ handed self.old ++ take 1 (known_items self.old.ring) }
+        ensures batch { inside self.new ≡ [] }
+        ensures known { known_items self.new.ring ≡ drop 1 (known_items self.old.ring) }
+    {
+        let _ = self.ring.pop_known();
+    }
+
     /// Whether something is in the batch or was seen in the ring.
     #[inline(always)]
     pub(crate) fn sees(&self) -> bool

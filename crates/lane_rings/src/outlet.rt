@@ -19,7 +19,7 @@ pub(crate) struct Outlet<T> {
 }
 
 impl<T: Copy> Outlet<T> {
-    ghost use Rattle.std.specs.Prelude.{◌≡◌, ◌<◌, ◌≤◌, [], ◌∷◌, ◌++◌, length, IfOk, IsTrue, IsFalse};
+    ghost use Rattle.std.specs.Prelude.{◌≡◌, ◌<◌, ◌≤◌, ◌↔◌, [], ◌∷◌, ◌++◌, length, IfOk, IsTrue, IsFalse};
     ghost use Rattle.rtrb.specs.Ring.{sent, producer_capacity, SameProducer};
     ghost use Rattle.lane_rings.specs.Outlets.{put_in, kept_back, room_of};
 
@@ -59,6 +59,27 @@ impl<T: Copy> Outlet<T> {
         ensures put { put_in self.new ≡ put_in self.old ++ item ∷ [] }
     {
         self.batch.push_reserved(item);
+    }
+
+    /// Puts one item into the ring, where nothing is gathered and there is room: it is copied there, and nowhere before.
+    #[inline(always)]
+    pub(crate) fn put_one(&mut self, item: T)
+        requires room { length self.old.batch.items < self.old.free }
+        requires none { kept_back self.old ≡ [] }
+        ensures ring { SameProducer self.old.ring self.new.ring }
+        ensures put { put_in self.new ≡ put_in self.old ++ item ∷ [] }
+        ensures all { kept_back self.new ≡ [] }
+    {
+        self.ring.push_reserved(item);
+        self.free -= 1;
+    }
+
+    /// Whether nothing is gathered.
+    #[inline(always)]
+    pub(crate) fn is_flushed(&self) -> bool
+        ensures { IsTrue result ↔ (kept_back self.now ≡ []) }
+    {
+        self.batch.is_empty()
     }
 
     /// Whether there is a free slot for one item more. The other end's progress is looked at only where what was known to be free is

@@ -78,7 +78,7 @@ impl AllPins {
     }
 
     /// The slots that stand on none of these lanes: they are free, or stand on another one. Of a slot that stands on a lane beyond the
-    /// first 64 nothing is said. From here on the slots of each lane are kept up, until they are forgotten.
+    /// first 64 nothing is said. From here on the slots of each lane are kept up.
     #[inline(always)]
     pub fn slots_off(&mut self, queue: usize, lanes: SmallSet) -> SmallSet
         requires { queue < length self.old }
@@ -86,14 +86,6 @@ impl AllPins {
         ensures off { (s : ℕ) → s < 64 → (0 < (pin_in self.old queue s).count → (pin_in self.old queue s).lane < 64) → Has result s ↔ ((l : ℕ) → Has lanes l → ¬ IsOn (pin_in self.old queue s) l) }
     {
         self.queues[queue].slots_off(lanes)
-    }
-
-    /// The slots of each lane are no longer kept up for the queue, until they are asked for again.
-    pub fn forget(&mut self, queue: usize)
-        requires { queue < length self.old }
-        ensures { self.new ≡ self.old }
-    {
-        self.queues[queue].forget();
     }
 
     /// One event more of the slot goes to the lane.

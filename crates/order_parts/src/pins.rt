@@ -25,7 +25,7 @@ pub struct Pins {
     /// For each lane the slots that stand on it, while this is kept up. Only the first lanes, as many as there are sets, have one of
     /// their own.
     held: [SmallSet; MAX_MEMBERS],
-    /// Whether these sets are kept up: they are made when they are asked for.
+    /// Whether these sets are kept up: from when they are first asked for.
     is_kept: bool,
 }
 
@@ -51,7 +51,6 @@ fn note_hold(held: &mut [SmallSet; MAX_MEMBERS], slot: usize, hold: Hold)
 }
 
 /// The sets of the slots that stand on each lane.
-#[cold]
 fn held_slots(holds: &[Hold]) -> [SmallSet; MAX_MEMBERS]
     requires { length holds.now ≤ MAX_SLOTS }
     ensures { AreHeld (map pin_of holds.now) result }
@@ -64,13 +63,24 @@ fn held_slots(holds: &[Hold]) -> [SmallSet; MAX_MEMBERS]
     held
 }
 
+/// Makes the sets anew. Not inlined: memory for them is written only here.
+#[cold]
+#[inline(never)]
+fn make(held: &mut [SmallSet; MAX_MEMBERS], holds: &[Hold])
+    requires { length holds.now ≤ MAX_SLOTS }
+    ensures { AreHeld (map pin_of holds.now) held.new }
+{
+    *held = held_slots(holds);
+}
+
 /// Makes the sets, where they aren't kept up.
+#[inline(always)]
 fn keep(held: &mut [SmallSet; MAX_MEMBERS], is_kept: bool, holds: &[Hold])
     requires { AreNoted (map pin_of holds.now) is_kept held.old }
     ensures { AreHeld (map pin_of holds.now) held.new }
 {
     if !is_kept {
-        *held = held_slots(holds);
+        make(held, holds);
     }
 }
 
@@ -189,7 +199,7 @@ impl Pins {
     }
 
     /// The slots that stand on none of these lanes: they are free, or stand on another one. Of a slot that stands on a lane beyond the
-    /// first 64 nothing is said. From here on the slots of each lane are kept up, until they are forgotten.
+    /// first 64 nothing is said. From here on the slots of each lane are kept up.
     #[inline(always)]
     pub fn slots_off(&mut self, lanes: SmallSet) -> SmallSet
         ensures same { self.new ≡ self.old }
@@ -198,12 +208,5 @@ impl Pins {
         keep(&mut self.held, self.is_kept, &self.holds);
         self.is_kept = true;
         slots_off(&self.held, lanes)
-    }
-
-    /// The slots of each lane are no longer kept up.
-    pub fn forget(&mut self)
-        ensures { self.new ≡ self.old }
-    {
-        self.is_kept = false;
     }
 }

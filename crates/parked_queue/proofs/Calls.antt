@@ -4,7 +4,6 @@ use Rattle.std.specs.Option.{is_some}
 use Rattle.std.proofs.lemmas.Bool.{false≢true}
 use Rattle.std.proofs.lemmas.List.{length_push}
 use Rattle.std.proofs.lemmas.List.Kept.{AllPairs-filter}
-use Rattle.std.proofs.lemmas.List.Sums.{length-filter, count_by-le-length}
 use Rattle.evt_types.specs.Plan.{level_of}
 use Rattle.evt_types.specs.declared.event.Event.{Event}
 use Rattle.evt_types.specs.declared.event.Numbered.{Numbered}
@@ -225,9 +224,9 @@ module _ (l : Lists) (p : Parking) (is : IsParted l p) where
   pub number_list : (c slot i k : ℕ) → c < 4 → slot < p.slots → k ≡ list_of_number p.below c slot i → k < n
   number_list c slot i k level less list = subst (λ j. j < n) (sym list) (list_of_number_within p.below c slot i p.slots level less)
 
-  pub taken : (m : Lists) (c slot i k : ℕ) → c < 4 → slot < p.slots → IsOnlyOf v.waits c slot i → k ≡ list_of_number p.below c slot i → m ≡ with_list l (p.base + k) (filter (is_other i) (list_at l (p.base + k)))
-      → (total_of m ≤ total_of l) × (total_of l - total_of m ≤ p.count) × IsChanged l p m (record p { count = p.count - (total_of l - total_of m) }) (without_number v.waits i)
-  taken m c slot i k level less only list gone =
+  pub taken : (m : Lists) (c slot i k j count : ℕ) → c < 4 → slot < p.slots → IsOnlyOf v.waits c slot i → k ≡ list_of_number p.below c slot i → m ≡ with_list l (p.base + k) (filter (is_other i) (list_at l (p.base + k))) → total_of m + j ≡ total_of l
+      → (j ≤ p.count) × (count + j ≡ p.count → IsChanged l p m (record p { count = count }) (without_number v.waits i))
+  taken m c slot i k j count level less only list gone fewer =
       let within : k < n = number_list c slot i k level less list in
       let moved : segment m p.base n ≡ with_list (segment l p.base n) k (filter (is_other i) (list_at (segment l p.base n) k)) =
       ap (λ (x : Lists). segment x p.base n) gone ∙ (segment_with l p.base n k (filter (is_other i) (list_at l (p.base + k))) within is.within
@@ -236,11 +235,9 @@ module _ (l : Lists) (p : Parking) (is : IsParted l p) where
       let but : IsBut p.base n l m = subst (IsBut p.base n l) (sym gone) (but_one l p.base n k (filter (is_other i) (list_at l (p.base + k))) within is.within) in
       let before = total_held (kept l p) v holds in
       let after = total_held (record (kept l p) { lists = segment m p.base n }) (with_waits v (without_number v.waits i)) holds_now in
-      let fewer : length (filter (is_other i) v.waits.waiting) ≤ length v.waits.waiting = subst (λ j. j ≤ length v.waits.waiting) (sym (length-filter (is_other i) v.waits.waiting)) (count_by-le-length (is_other i) v.waits.waiting) in
       let both = but.total in
       let bound = is.room in
-      let count = is.count in (
+      let counted = is.count in (
         omega arith,
-        omega arith,
-        changed m (record p { count = p.count - (total_of l - total_of m) }) (with_waits v (without_number v.waits i)) refl refl but holds_now (omega arith) (omega arith),
+        λ left. changed m (record p { count = count }) (with_waits v (without_number v.waits i)) refl refl but holds_now (omega arith) (omega arith),
       )

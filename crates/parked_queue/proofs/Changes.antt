@@ -1,222 +1,271 @@
 -- The store and its view after an event has come or gone.
-use Rattle.std.proofs.Common.{◌≡◌, ◌≢◌, ℕ, ◌+◌, ◌<◌, ◌≤◌, List, [], ◌∷◌, ◌++◌, length, length-append, map, drop, Option, Some, Vec, refl, sym, ap, subst, ◌∙◌, arith, replicate, slice_get, slice_set, sum_by, vec_len, vec_capacity, ⊎_elim}
-use Rattle.std.proofs.lemmas.Bool.{cases_lt}
-use Rattle.std.proofs.lemmas.List.Sums.{sum_by-set}
-use Rattle.std.proofs.lemmas.Option.{slice_get_past}
-use Rattle.std.specs.declared.alloc.Global.{Global}
+use Rattle.std.proofs.Common.{◌≡◌, ◌≢◌, ℕ, suc, ◌+◌, ◌-◌, ◌<◌, ◌≤◌, List, [], ◌∷◌, ◌++◌, append_assoc, length, length-append, drop, filter, Option, Some, IsSome, refl, sym, ap, subst, ◌∙◌, arith, slice_get, slice_index_or, slice_set}
+use Rattle.std.proofs.lemmas.List.{set-get_or}
 use Rattle.evt_types.specs.declared.event.Numbered.{Numbered}
-use Rattle.parked_queue.specs.Chains.{IsLinked, IsTaken, alone, longer, shorter, events_of}
-use Rattle.parked_queue.specs.Lists.{Lists, all_empty, list_at, with_list, with_last, without_first}
-use Rattle.parked_queue.specs.Store.{AreChains, IsStore, chain_at, len_of, lists_in, no_chain}
+use Rattle.parked_queue.specs.Chains.{AreNodes, IsBehind, IsChain, IsFilled, IsLinked, chain_at, events_of, item_then, items, next_of, no_chain, path_of}
+use Rattle.parked_queue.specs.Lists.{Lists, list_at, total_of, with_list, with_last, without_first}
+use Rattle.parked_queue.specs.Store.{AreChains, IsStore, lists_in}
+use Rattle.parked_queue.specs.Waits.{IsRising, is_other}
 use Rattle.parked_queue.specs.declared.chain.Chain.{Chain}
 use Rattle.parked_queue.specs.declared.chain.Node.{Node}
-use Rattle.parked_queue.proofs.Views.{map_changed, list_seen, lens_none, lists_none}
-use Rattle.parked_queue.proofs.Stores.{HasNew, IsUnused, chains_none, has_new, events_new, unused_before, unused_new, chains_alone, events_alone, chains_longer, events_longer, events_other}
-use Rattle.parked_queue.proofs.ChainFirsts.{chains_shorter, events_shorter}
+use Rattle.parked_queue.proofs.Nodes.{node_found, some_found}
+use Rattle.parked_queue.proofs.Paths.{front_nodes, items_append, nodes_without, path_none}
+use Rattle.parked_queue.proofs.Stores.{HasLoose, chains_come, chains_freed, come_others, events_come, events_first, events_freed, events_past, loose_first, loose_past, loose_taken, past_others}
+use Rattle.parked_queue.proofs.Totals.{list_within_total, total_first, total_last, total_with}
+use Rattle.parked_queue.proofs.Views.{chain_read, list_seen, there_seen, view_changed, view_same}
+use Rattle.parked_queue.proofs.Walks.{first_next, item_next, length_events}
+use Rattle.parked_queue.proofs.Without.{one_out}
 
--- no event is there yet
-module _ (nodes : Vec Node Global) (free : Vec ℕ Global) (cs : List Chain) (n room : ℕ) (e : cs ≡ replicate n no_chain) where
-  pub store_none : vec_len nodes ≡ 0 → vec_len free ≡ 0 → free.items ≡ [] → room ≤ vec_capacity nodes → room ≤ vec_capacity free → IsStore nodes free cs room
-  store_none no_nodes none_free no_free nodes_fit free_fit =
-      record {
-        chains =
-            subst (λ (is : List ℕ). AreChains (slice_get nodes.items) is cs) (sym no_free)
-            (subst (AreChains (slice_get nodes.items) []) (sym e) (chains_none (slice_get nodes.items) n));
-        count = omega (arith, no_nodes, none_free, ap (sum_by len_of) e, lens_none n);
-        within = omega (arith, no_nodes);
-        nodes_fit = nodes_fit;
-        free_fit = free_fit;
-      }
-
-  pub view_none : lists_in nodes.items cs room ≡ all_empty n room
-  view_none =
-      ap (λ (xss : List (List Numbered)). let y : Lists = record { room = room; lists = xss } in y) (ap (map (events_of (slice_get nodes.items))) e ∙ lists_none (slice_get nodes.items) n)
-
--- a chain of the store has been changed; the events of the others stay
-pub record IsChanged (old new : ℕ → Option Node) (free : List ℕ) (cs : List Chain) (k : ℕ) (c : Chain) : Type 0 where
-  pub chains : AreChains new free (slice_set cs k c)
-  pub others : (m : ℕ) → m ≢ k → events_of new (chain_at cs m) ≡ events_of old (chain_at cs m)
-
-module _ (old new : Vec Node Global) (free : List ℕ) (cs : List Chain) (room k : ℕ) (c : Chain) (there : k < length cs) (changed : IsChanged (slice_get old.items) (slice_get new.items) free cs k c) where
-  pub view_changed : (v : Lists) (f : List Numbered → List Numbered) → lists_in old.items cs room ≡ v → events_of (slice_get new.items) c ≡ f (events_of (slice_get old.items) (chain_at cs k)) → lists_in new.items (slice_set cs k c) room ≡ with_list v k (f (list_at v k))
-  view_changed v f view here =
-      ap (λ (xss : List (List Numbered)). let y : Lists = record { room = room; lists = xss } in y) (map_changed (events_of (slice_get old.items)) (events_of (slice_get new.items)) cs k c there changed.others)
-      ∙ ap (with_list (lists_in old.items cs room) k) (here ∙ ap f (list_seen old cs room v view k))
-      ∙ ap (λ (u : Lists). with_list u k (f (list_at v k))) view
-
--- ---- an event has come
-
--- the node of the node has been appended to the chain
-pub record IsAppended (old new : Vec Node Global) (c : Chain) (j : ℕ) (result : Chain) : Type 0 where
-  pub alone : c.len ≡ 0 → result ≡ alone j
-  pub kept : c.len ≡ 0 → new ≡ old
-  pub longer : 0 < c.len → result ≡ longer c j
-  pub linked : 0 < c.len → IsLinked old.items new.items c.last j
-  pub capacity : vec_capacity new ≡ vec_capacity old
-
--- and its event to those of the chain
-pub record IsPushed (old new : Vec Node Global) (free rest : Vec ℕ Global) (cs : List Chain) (k : ℕ) (c : Chain) (w : Numbered) : Type 0 where
-  pub changed : IsChanged (slice_get old.items) (slice_get new.items) rest.items cs k c
-  pub here : events_of (slice_get new.items) c ≡ events_of (slice_get old.items) (chain_at cs k) ++ w ∷ []
-  pub len : c.len ≡ (chain_at cs k).len + 1
-  pub reused : 0 < vec_len free → (vec_len free ≡ vec_len rest + 1) × (vec_len new ≡ vec_len old)
-  pub grown : vec_len free ≡ 0 → (vec_len rest ≡ 0) × (vec_len new ≡ vec_len old + 1)
-  pub nodes_stay : vec_capacity new ≡ vec_capacity old
-  pub free_stays : vec_capacity rest ≡ vec_capacity free
-
-pub store_pushed : (old new : Vec Node Global) (free rest : Vec ℕ Global) (cs : List Chain) (room k : ℕ) (c : Chain) (w : Numbered) → k < length cs → IsStore old free cs room → sum_by len_of cs < room → IsPushed old new free rest cs k c w → IsStore new rest (slice_set cs k c) room
-store_pushed old new free rest cs room k c w there d below p =
-    let sum = sum_by-set len_of cs k c no_chain there in
-    let both : (vec_len new ≡ vec_len rest + sum_by len_of cs + 1) × (vec_len new ≤ room) =
-    ⊎_elim
-    (λ (some : 0 < vec_len free).
-    let r = p.reused some in
-    (omega (arith, r.0, r.1, d.count), omega (arith, r.1, d.within)))
-    (λ (none : vec_len free ≤ 0).
-    let g = p.grown (omega (arith, none)) in
-    (omega (arith, none, g.0, g.1, d.count), omega (arith, none, g.1, d.count, below)))
-    (cases_lt 0 (vec_len free)) in
+-- the chains of a store whose view has so many events
+pub store_seen : (at : ℕ → Option Node) (size free : ℕ) (cs : List Chain) (room n : ℕ) (v : Lists) → lists_in at size cs room ≡ v → total_of v ≤ room → n ≡ suc (room - total_of v) → room < size → AreChains at size n free cs → IsStore at size free cs room
+store_seen at size free cs room n v view within left spacious chains =
+    let same = ap total_of view in
     record {
-      chains = p.changed.chains;
-      count = omega (arith, both.0, p.len, sum);
-      within = both.1;
-      nodes_fit = omega (arith, p.nodes_stay, d.nodes_fit);
-      free_fit = omega (arith, p.free_stays, d.free_fit);
+      within = omega (arith, same, within);
+      chains = subst (λ (m : ℕ). AreChains at size m free cs) (left ∙ ap (λ (u : Lists). suc (room - total_of u)) (sym view)) chains;
+      spacious = spacious;
     }
 
-pub view_pushed : (old new : Vec Node Global) (free rest : Vec ℕ Global) (cs : List Chain) (room k : ℕ) (c : Chain) (w : Numbered) (v : Lists) → k < length cs → lists_in old.items cs room ≡ v → IsPushed old new free rest cs k c w → lists_in new.items (slice_set cs k c) room ≡ with_last v k w
-view_pushed old new free rest cs room k c w v there view p =
-    view_changed old new rest.items cs room k c there p.changed v (λ (ws : List Numbered). ws ++ w ∷ []) view p.here
+-- a store, and the chain of a list as the code reads it
+module _ (old : List Node) (size free : ℕ) (cs : List Chain) (room : ℕ) (v : Lists) (view : lists_in (slice_get old) size cs room ≡ v) (d : IsStore (slice_get old) size free cs room) (k : ℕ) (lt : k < length v.lists) (c : Chain) (read : c ≡ slice_index_or cs k c) where
+  abbrev at : ℕ → Option Node
+  at = slice_get old
 
-module _ (old with_node new : Vec Node Global) (free rest : Vec ℕ Global) (cs : List Chain) (k j : ℕ) (w : Numbered) (c : Chain) (there : k < length cs) (d : AreChains (slice_get old.items) free.items cs) (p : IsTaken old.items with_node.items free.items rest.items w j) (nodes_stay : vec_capacity with_node ≡ vec_capacity old) (free_stays : vec_capacity rest ≡ vec_capacity free) (a : IsAppended with_node new (chain_at cs k) j c) where
-  unused : IsUnused (slice_get old.items) d.owner rest.items cs j
-  unused =
-      ⊎_elim
-      (λ (some : 0 < length free.items). unused_before (slice_get old.items) free.items rest.items cs j d (p.reused some).0)
-      (λ (none : length free.items ≤ 0).
-      let g = p.grown (omega (arith, none)) in
-      unused_new (slice_get old.items) free.items rest.items cs j d (slice_get_past old.items j (omega (arith, g.1))) g.0)
-      (cases_lt 0 (length free.items))
+  there : k < length cs
+  there = there_seen at size cs room v view k lt
 
-  inserted : HasNew (slice_get with_node.items) rest.items cs k j w
-  inserted = has_new (slice_get old.items) (slice_get with_node.items) free.items rest.items cs k j w d p.come unused
+  is : c ≡ chain_at cs k
+  is = chain_read cs k c there read
 
-  same_events : (m : ℕ) → events_of (slice_get with_node.items) (chain_at cs m) ≡ events_of (slice_get old.items) (chain_at cs m)
-  same_events = events_new (slice_get old.items) (slice_get with_node.items) free.items rest.items cs k j w d p.come unused
+  left : suc (room - total_of (lists_in at size cs room)) ≡ suc (room - total_of v)
+  left = ap (λ (u : Lists). suc (room - total_of u)) view
 
-  reused : 0 < vec_len free → (vec_len free ≡ vec_len rest + 1) × (vec_len with_node ≡ vec_len old)
-  reused some =
-      let r = p.reused (omega (arith, some, free.ok.0)) in
-      (omega (arith, ap length r.0, length-append rest.items (j ∷ []), free.ok.0, rest.ok.0), omega (arith, r.1, old.ok.0, with_node.ok.0))
+  within : (total_of v ≤ room) × (room ≡ v.room)
+  within = (omega (arith, d.within, ap total_of view), ap (λ (u : Lists). u.room) view)
 
-  grown : vec_len free ≡ 0 → (vec_len rest ≡ 0) × (vec_len with_node ≡ vec_len old + 1)
-  grown none =
-      let g = p.grown (omega (arith, none, free.ok.0)) in
-      (omega (arith, ap length g.0, rest.ok.0), omega (arith, g.2, old.ok.0, with_node.ok.0))
+  chains : AreChains at size (suc (room - total_of v)) free cs
+  chains = subst (λ (m : ℕ). AreChains at size m free cs) left d.chains
 
-  pushed_alone : (chain_at cs k).len ≡ 0 → IsPushed old with_node free rest cs k (alone j) w
-  pushed_alone none =
-      record {
-        changed =
-            record {
-              chains = chains_alone (slice_get with_node.items) rest.items cs k j w there inserted;
-              others = λ (m : ℕ) (n : m ≢ k). same_events m;
-            };
-        here =
-            events_alone (slice_get with_node.items) rest.items cs k j w there inserted none
-            ∙ ap (λ (ws : List Numbered). ws ++ w ∷ []) (same_events k);
-        len = omega (arith, none);
-        reused = reused;
-        grown = grown;
-        nodes_stay = nodes_stay;
-        free_stays = free_stays;
-      }
+  pub chain_here : IsChain at d.chains.owner (suc k) size c
+  chain_here = subst (IsChain at d.chains.owner (suc k) size) (sym is) (d.chains.each k there)
 
-  pushed_longer : 0 < (chain_at cs k).len → IsPushed old new free rest cs k (longer (chain_at cs k) j) w
-  pushed_longer some =
-      let l = a.linked some in
-      let same : vec_len new ≡ vec_len with_node = new.ok.0 ∙ l.count ∙ sym with_node.ok.0 in
-      record {
-        changed =
-            record {
-              chains = chains_longer (slice_get with_node.items) (slice_get new.items) rest.items cs k j w there inserted some l.linked l.others;
-              others =
-                  λ (m : ℕ) (n : m ≢ k).
-                  events_other (slice_get with_node.items) (slice_get new.items) rest.items cs k j w there inserted some l.linked l.others m n
-                  ∙ same_events m;
-            };
-        here =
-            events_longer (slice_get with_node.items) (slice_get new.items) rest.items cs k j w there inserted some l.linked l.others
-            ∙ ap (λ (ws : List Numbered). ws ++ w ∷ []) (same_events k);
-        len = refl;
-        reused =
-            λ (s : 0 < vec_len free).
-            let r = reused s in
-            (r.0, same ∙ r.1);
-        grown =
-            λ (z : vec_len free ≡ 0).
-            let g = grown z in
-            (g.0, same ∙ g.1);
-        nodes_stay = a.capacity ∙ nodes_stay;
-        free_stays = free_stays;
-      }
+  pub events_here : events_of at size c ≡ list_at v k
+  events_here = ap (events_of at size) is ∙ list_seen at size cs room v view k there
 
-  pub pushed : IsPushed old new free rest cs k c w
-  pushed =
-      ⊎_elim
-      (λ (some : 0 < (chain_at cs k).len). subst (λ (x : Chain). IsPushed old new free rest cs k x w) (sym (a.longer some)) (pushed_longer some))
-      (λ (none : (chain_at cs k).len ≤ 0).
-      let no : (chain_at cs k).len ≡ 0 = omega (arith, none) in
-      subst (λ (s : Vec Node Global). IsPushed old s free rest cs k c w) (sym (a.kept no))
-      (subst (λ (x : Chain). IsPushed old with_node free rest cs k x w) (sym (a.alone no)) (pushed_alone no)))
-      (cases_lt 0 (chain_at cs k).len)
+  -- ---- its first event, where there is one
 
--- ---- the oldest event of a chain has gone
+  pub none_here : c.first ≡ c.spare → list_at v k ≡ []
+  none_here e = sym events_here ∙ ap (items at) (path_none at c.spare c.first size e)
 
--- the node is free again
-pub record IsFreed (old new : Vec ℕ Global) (j : ℕ) : Type 0 where
-  pub items : new.items ≡ old.items ++ j ∷ []
-  pub count : vec_len new ≡ vec_len old + 1
-  pub capacity : vec_capacity new ≡ vec_capacity old
+  pub first_here : (n : Node) → c.first ≢ c.spare → at c.first ≡ Some n → Some n.item ≡ slice_get (list_at v k) 0
+  first_here n some found =
+      let step = first_next at d.chains.owner (suc k) size c chain_here some in
+      sym
+      (ap (λ (ws : List Numbered). slice_get ws 0) (sym events_here)
+      ∙ ap (λ (js : List ℕ). slice_get (items at js) 0) step.whole
+      ∙ ap (λ (ws : List Numbered). slice_get ws 0) (item_next at c.first n step.rest found))
 
-module _ (nodes : Vec Node Global) (free after : Vec ℕ Global) (cs : List Chain) (k : ℕ) (n : Node) (c : Chain) (read : c ≡ chain_at cs k) (there : k < length cs) (d : AreChains (slice_get nodes.items) free.items cs) (some : 0 < c.len) (found : slice_get nodes.items c.first ≡ Some n) (freed : IsFreed free after c.first) (r : Chain) (cut : r ≡ shorter c n.next) where
-  some_at : 0 < (chain_at cs k).len
-  some_at = subst (λ (x : Chain). 0 < x.len) read some
+  pub some_here : c.first ≢ c.spare → 0 < length (list_at v k)
+  some_here some =
+      let step = first_next at d.chains.owner (suc k) size c chain_here some in
+      omega (arith, ap length (sym events_here), length_events at d.chains.owner (suc k) size c chain_here, ap length step.whole)
 
-  found_at : slice_get nodes.items (chain_at cs k).first ≡ Some n
-  found_at = subst (λ (x : Chain). slice_get nodes.items x.first ≡ Some n) read found
+  pub differs_here : 0 < length (list_at v k) → c.first ≢ c.spare
+  differs_here some e = absurd (omega (arith, some, ap length (none_here e)))
 
-  cut_at : r ≡ shorter (chain_at cs k) n.next
-  cut_at = cut ∙ ap (λ (x : Chain). shorter x n.next) read
+  -- ---- an event has come
 
-  freed_at : after.items ≡ free.items ++ (chain_at cs k).first ∷ []
-  freed_at = freed.items ∙ ap (λ (x : Chain). free.items ++ x.first ∷ []) read
+  module _ (new : List Node) (count j rest : ℕ) (w : Numbered) (r : Chain) (same : count ≡ size) (below : total_of v < v.room) (taken : j ≡ free) (next : rest ≡ next_of (at free)) (filled : IsFilled old new c.spare (record { item = w; next = j })) (made : r ≡ record { first = c.first; spare = j }) where
+    abbrev longer : Chain
+    longer = record { first = (chain_at cs k).first; spare = free }
 
-  popped : IsChanged (slice_get nodes.items) (slice_get nodes.items) after.items cs k (shorter (chain_at cs k) n.next)
-  popped =
-      record {
-        chains =
-            subst (λ (is : List ℕ). AreChains (slice_get nodes.items) is (slice_set cs k (shorter (chain_at cs k) n.next))) (sym freed_at)
-            (chains_shorter (slice_get nodes.items) free.items cs k n there d some_at found_at);
-        others = λ (m : ℕ) (differs : m ≢ k). refl;
-      }
+    filled_at : IsFilled old new (chain_at cs k).spare (record { item = w; next = free })
+    filled_at =
+        subst (λ (i : ℕ). IsFilled old new (chain_at cs k).spare (record { item = w; next = i })) taken
+        (subst (λ (x : Chain). IsFilled old new x.spare (record { item = w; next = j })) is filled)
 
-  store_less : (room : ℕ) → IsStore nodes free cs room → IsStore nodes after (slice_set cs k (shorter (chain_at cs k) n.next)) room
-  store_less room s =
-      record {
-        chains = popped.chains;
-        count = omega (arith, freed.count, some_at, s.count, sum_by-set len_of cs k (shorter (chain_at cs k) n.next) no_chain there);
-        within = s.within;
-        nodes_fit = s.nodes_fit;
-        free_fit = omega (arith, freed.capacity, s.free_fit);
-      }
+    made_at : longer ≡ r
+    made_at =
+        sym
+        (made
+        ∙ ap (λ (x : Chain). let y : Chain = record { first = x.first; spare = j } in y) is
+        ∙ ap (λ (i : ℕ). let y : Chain = record { first = (chain_at cs k).first; spare = i } in y) taken)
 
-  pub store_popped : (room : ℕ) → IsStore nodes free cs room → IsStore nodes after (slice_set cs k r) room
-  store_popped room s =
-      subst (λ (x : Chain). IsStore nodes after (slice_set cs k x) room) (sym cut_at) (store_less room s)
+    one_left : suc (room - total_of v) ≡ suc (suc (room - suc (total_of v)))
+    one_left = omega (arith, below, within.1)
 
-  pub view_popped : (room : ℕ) (v : Lists) → lists_in nodes.items cs room ≡ v → lists_in nodes.items (slice_set cs k r) room ≡ without_first v k
-  view_popped room v view =
-      ap (λ (x : Chain). lists_in nodes.items (slice_set cs k x) room) cut_at
-      ∙ view_changed nodes nodes after.items cs room k (shorter (chain_at cs k) n.next) there popped v (drop 1) view
-      (events_shorter (slice_get nodes.items) free.items cs k n there d some_at found_at)
+    loose : HasLoose at size (suc (room - suc (total_of v))) (next_of (at free)) cs free (suc k)
+    loose = loose_taken at size (suc (room - suc (total_of v))) free cs (suc k) (subst (λ (m : ℕ). AreChains at size m free cs) one_left chains)
+
+    short : length (path_of at size (chain_at cs k)) < size
+    short =
+        omega
+        (arith, length_events at d.chains.owner (suc k) size (chain_at cs k) (d.chains.each k there), ap length (list_seen at size cs room v view k there), list_within_total v k lt, below, within.1, d.spacious)
+
+    view_longer : lists_in (slice_get new) size (slice_set cs k longer) room ≡ with_last v k w
+    view_longer =
+        view_changed at (slice_get new) size cs room k longer there (come_others at (slice_get new) size (suc (room - suc (total_of v))) (next_of (at free)) cs k free w there loose filled_at.filled filled_at.others)
+        ∙ ap (with_list (lists_in at size cs room) k)
+        (events_come at (slice_get new) size (suc (room - suc (total_of v))) (next_of (at free)) cs k free w there loose filled_at.filled filled_at.others short
+        ∙ ap (λ (ws : List Numbered). ws ++ w ∷ []) (list_seen at size cs room v view k there))
+        ∙ ap (λ (u : Lists). with_list u k (list_at v k ++ w ∷ [])) view
+
+    pub view_come : lists_in (slice_get new) count (slice_set cs k r) room ≡ with_last v k w
+    view_come =
+        ap (λ (m : ℕ). lists_in (slice_get new) m (slice_set cs k r) room) same
+        ∙ ap (λ (x : Chain). lists_in (slice_get new) size (slice_set cs k x) room) (sym made_at)
+        ∙ view_longer
+
+    pub store_come : IsStore (slice_get new) count rest (slice_set cs k r) room
+    store_come =
+        subst (λ (m : ℕ). IsStore (slice_get new) m rest (slice_set cs k r) room) (sym same)
+        (subst (λ (x : Chain). IsStore (slice_get new) size rest (slice_set cs k x) room) made_at
+        (subst (λ (i : ℕ). IsStore (slice_get new) size i (slice_set cs k longer) room) (sym next)
+        (store_seen (slice_get new) size (next_of (at free)) (slice_set cs k longer) room (suc (room - suc (total_of v))) (with_last v k w) view_longer
+        (omega (arith, total_last v k w lt, below, within.1))
+        (omega (arith, total_last v k w lt))
+        d.spacious
+        (chains_come at (slice_get new) size (suc (room - suc (total_of v))) (next_of (at free)) cs k free w there loose filled_at.filled filled_at.others short))))
+
+  -- ---- the oldest event has gone
+
+  module _ (new : List Node) (count next rest : ℕ) (r : Chain) (same : count ≡ size) (some : 0 < length (list_at v k)) (behind : next ≡ next_of (at c.first)) (freed : rest ≡ c.first) (linked : IsLinked old new c.first free) (made : r ≡ record { first = next; spare = c.spare }) where
+    abbrev whole : Chain
+    whole = chain_at cs k
+
+    abbrev shorter : Chain
+    shorter = record { first = next_of (at whole.first); spare = whole.spare }
+
+    linked_at : IsLinked old new whole.first free
+    linked_at = subst (λ (x : Chain). IsLinked old new x.first free) is linked
+
+    made_first : shorter ≡ r
+    made_first =
+        sym
+        (made
+        ∙ ap (λ (i : ℕ). let y : Chain = record { first = i; spare = c.spare } in y) behind
+        ∙ ap (λ (x : Chain). let y : Chain = record { first = next_of (at x.first); spare = x.spare } in y) is)
+
+    differs : whole.first ≢ whole.spare
+    differs = subst (λ (x : Chain). x.first ≢ x.spare) is (differs_here some)
+
+    loose_gone : HasLoose at size (suc (room - total_of v)) free (slice_set cs k shorter) whole.first 0
+    loose_gone = loose_first at size (suc (room - total_of v)) free cs k there chains differs
+
+    one_more : suc (suc (room - total_of v)) ≡ suc (room - total_of (without_first v k))
+    one_more = omega (arith, total_first v k lt some, within.0)
+
+    rest_events : events_of at size shorter ≡ drop 1 (list_at v k)
+    rest_events =
+        let found = node_found (at whole.first) loose_gone.some in
+        ap (λ (o : Option Node). drop 1 (item_then o (events_of at size shorter))) (sym found.1)
+        ∙ ap (drop 1) (sym (events_first at size (suc (room - total_of v)) free cs k there chains differs) ∙ list_seen at size cs room v view k there)
+
+    view_shorter : lists_in (slice_get new) size (slice_set cs k shorter) room ≡ without_first v k
+    view_shorter =
+        view_same at (slice_get new) size (slice_set cs k shorter) room
+        (events_freed at (slice_get new) size (suc (room - total_of v)) free (slice_set cs k shorter) whole.first loose_gone linked_at.linked linked_at.others)
+        ∙ view_changed at at size cs room k shorter there (λ (m : ℕ) (ne : m ≢ k) (less : m < length cs). refl)
+        ∙ ap (with_list (lists_in at size cs room) k) rest_events
+        ∙ ap (λ (u : Lists). with_list u k (drop 1 (list_at v k))) view
+
+    pub view_gone : lists_in (slice_get new) count (slice_set cs k r) room ≡ without_first v k
+    view_gone =
+        ap (λ (m : ℕ). lists_in (slice_get new) m (slice_set cs k r) room) same
+        ∙ ap (λ (x : Chain). lists_in (slice_get new) size (slice_set cs k x) room) (sym made_first)
+        ∙ view_shorter
+
+    pub store_gone : IsStore (slice_get new) count rest (slice_set cs k r) room
+    store_gone =
+        subst (λ (m : ℕ). IsStore (slice_get new) m rest (slice_set cs k r) room) (sym same)
+        (subst (λ (x : Chain). IsStore (slice_get new) size rest (slice_set cs k x) room) made_first
+        (subst (λ (i : ℕ). IsStore (slice_get new) size i (slice_set cs k shorter) room) (sym (freed ∙ ap (λ (x : Chain). x.first) is))
+        (store_seen (slice_get new) size whole.first (slice_set cs k shorter) room (suc (suc (room - total_of v))) (without_first v k) view_shorter
+        (omega (arith, total_first v k lt some, within.0))
+        one_more d.spacious
+        (chains_freed at (slice_get new) size (suc (room - total_of v)) free (slice_set cs k shorter) whole.first loose_gone linked_at.linked linked_at.others))))
+
+  -- ---- a later event has gone
+
+  module _ (mid new : List Node) (count n i j rest : ℕ) (behind : IsBehind at size c n i) where
+    abbrev later : ℕ
+    later = next_of (at i)
+
+    pub before_there : IsSome (at i) × IsSome (at later)
+    before_there =
+        let nodes = front_nodes at d.chains.owner (suc k) (path_of at size c) (c.spare ∷ []) chain_here.nodes in
+        let both = nodes_without at d.chains.owner (suc k) i behind.front (later ∷ behind.rest) (subst (AreNodes at d.chains.owner (suc k)) behind.whole nodes) in
+        (both.0, some_found (at later) behind.node behind.found)
+
+    whole_at : path_of at size (chain_at cs k) ≡ behind.front ++ i ∷ later ∷ behind.rest
+    whole_at = ap (path_of at size) (sym is) ∙ behind.whole
+
+    abbrev before : List Numbered
+    before = items at (behind.front ++ i ∷ [])
+
+    abbrev after : List Numbered
+    after = items at behind.rest
+
+    list_was : list_at v k ≡ before ++ behind.node.item ∷ after
+    list_was =
+        sym events_here
+        ∙ ap (items at) (behind.whole ∙ sym (append_assoc behind.front (i ∷ []) (later ∷ behind.rest)))
+        ∙ items_append at (behind.front ++ i ∷ []) (later ∷ behind.rest)
+        ∙ ap (λ (ws : List Numbered). before ++ ws) (item_next at later behind.node behind.rest behind.found)
+
+    pub fewer_gone : length (list_at v k) ≡ length (before ++ after) + 1
+    fewer_gone =
+        omega (arith, ap length list_was, length-append before (behind.node.item ∷ after), length-append before after)
+
+    module _ (same : count ≡ size) (skipped : j ≡ later) (freed : rest ≡ j) (past : IsLinked old mid i (next_of (at j))) (linked : IsLinked mid new j free) (rises : IsRising (list_at v k)) where
+      past_at : IsLinked old mid i (next_of (at later))
+      past_at = subst (λ (m : ℕ). IsLinked old mid i (next_of (at m))) skipped past
+
+      linked_later : IsLinked mid new later free
+      linked_later = subst (λ (m : ℕ). IsLinked mid new m free) skipped linked
+
+      loose_later : HasLoose (slice_get mid) size (suc (room - total_of v)) free cs later 0
+      loose_later = loose_past at (slice_get mid) size (suc (room - total_of v)) free cs k i behind.front behind.rest there chains whole_at past_at.linked past_at.others
+
+      events_later : events_of (slice_get mid) size (chain_at cs k) ≡ before ++ after
+      events_later =
+          events_past at (slice_get mid) size (suc (room - total_of v)) free cs k i behind.front behind.rest there chains whole_at past_at.linked past_at.others
+          ∙ ap (items at) (sym (append_assoc behind.front (i ∷ []) behind.rest))
+          ∙ items_append at (behind.front ++ i ∷ []) behind.rest
+
+      out : before ++ after ≡ filter (is_other n) (list_at v k)
+      out =
+          sym
+          (ap (filter (is_other n)) list_was
+          ∙ ap (λ (m : ℕ). filter (is_other m) (before ++ behind.node.item ∷ after)) (sym behind.number)
+          ∙ one_out behind.node.item before after (subst IsRising list_was rises))
+
+      view_out : lists_in (slice_get new) size cs room ≡ with_list v k (filter (is_other n) (list_at v k))
+      view_out =
+          view_same (slice_get mid) (slice_get new) size cs room
+          (events_freed (slice_get mid) (slice_get new) size (suc (room - total_of v)) free cs later loose_later linked_later.linked linked_later.others)
+          ∙ ap (λ (xs : List Chain). lists_in (slice_get mid) size xs room) (sym (set-get_or cs k no_chain))
+          ∙ view_changed at (slice_get mid) size cs room k (chain_at cs k) there
+          (past_others at (slice_get mid) size (suc (room - total_of v)) free cs k i behind.front behind.rest there chains whole_at past_at.linked past_at.others)
+          ∙ ap (with_list (lists_in at size cs room) k) (events_later ∙ out)
+          ∙ ap (λ (u : Lists). with_list u k (filter (is_other n) (list_at v k))) view
+
+      pub view_later : lists_in (slice_get new) count cs room ≡ with_list v k (filter (is_other n) (list_at v k))
+      view_later =
+          ap (λ (m : ℕ). lists_in (slice_get new) m cs room) same ∙ view_out
+
+      pub total_later : total_of (lists_in (slice_get new) count cs room) + 1 ≡ total_of v
+      total_later =
+          omega (arith, ap total_of view_later, total_with v k (filter (is_other n) (list_at v k)) lt, ap length out, fewer_gone)
+
+      pub store_later : IsStore (slice_get new) count rest cs room
+      store_later =
+          let fewer = total_later in
+          let seen = ap total_of view_later in
+          subst (λ (m : ℕ). IsStore (slice_get new) m rest cs room) (sym same)
+          (subst (λ (m : ℕ). IsStore (slice_get new) size m cs room) (sym (freed ∙ skipped))
+          (store_seen (slice_get new) size later cs room (suc (suc (room - total_of v))) (with_list v k (filter (is_other n) (list_at v k))) view_out
+          (omega (arith, fewer, seen, within.0))
+          (omega (arith, fewer, seen, within.0))
+          d.spacious
+          (chains_freed (slice_get mid) (slice_get new) size (suc (room - total_of v)) free cs later loose_later linked_later.linked linked_later.others)))

@@ -6,7 +6,6 @@ pub mod Splits
 pub mod Totals
 pub mod Best
 pub mod Firsts
-pub mod Turns
 pub mod Taking
 pub mod Deliveries
 pub mod Masks
@@ -20,10 +19,11 @@ pub mod LevelSets
 pub mod Named
 pub mod News
 pub mod Busy
-pub mod ChainDeliveries
-pub mod ChainFirsts
-pub mod Changes
 pub mod Nodes
 pub mod Paths
 pub mod Stores
 pub mod Views
+pub mod Without
+pub mod Changes
+pub mod NewStores
+pub mod Walks

@@ -14,7 +14,7 @@ use Rattle.parked_queue.specs.Parted.{Parted, below_at, list_in, own_first, list
 use Rattle.parked_queue.specs.Waits.{Waits, AreWaits, IsOnlyOf, IsRising, is_other, slot_of, without_number}
 use Rattle.parked_queue.proofs.Holding.{Holds, count_held, list_held}
 use Rattle.parked_queue.proofs.Merges.{lists_without}
-use Rattle.parked_queue.proofs.Turns.{first_out}
+use Rattle.parked_queue.proofs.Without.{first_out}
 
 pub waits_without : (q : Waits) (n : ℕ) → AreWaits q → AreWaits (without_number q n)
 waits_without q n waits =

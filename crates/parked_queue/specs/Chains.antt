@@ -1,5 +1,5 @@
--- Chains of nodes. `at` is what the store has at each number of a node.
-use Rattle.std.specs.Prelude.{ℕ, ◌≡◌, ◌≢◌, ◌+◌, ◌-◌, ◌<◌, zero, suc, List, [], ◌∷◌, ◌++◌, length, slice_get, Option, Some, None, IsSome}
+-- Chains of nodes. `at` is what the store has at each number of a node, and `size` how many nodes it has.
+use Rattle.std.specs.Prelude.{ℕ, ◌≡◌, ◌≢◌, ◌+◌, ◌==◌, ◌<◌, zero, suc, List, [], ◌∷◌, ◌++◌, All, length, slice_get, slice_index_or, Option, Some, None, IsSome, if◌then◌else◌}
 use Rattle.evt_types.specs.declared.event.Numbered.{Numbered}
 use Rattle.parked_queue.specs.declared.chain.Chain.{Chain}
 use Rattle.parked_queue.specs.declared.chain.Node.{Node}
@@ -14,10 +14,15 @@ abbrev pub item_then : Option Node → List Numbered → List Numbered
 item_then None ws = ws
 item_then (Some n) ws = n.item ∷ ws
 
--- so many nodes, from the first one on
-abbrev pub path : (ℕ → Option Node) → ℕ → ℕ → List ℕ
-path at i zero = []
-path at i (suc n) = i ∷ path at (next_of (at i)) n
+-- the nodes from i on, up to the last one, which isn't among them; no more than so many
+abbrev pub path : (ℕ → Option Node) → ℕ → ℕ → ℕ → List ℕ
+path at last zero i = []
+path at last (suc n) i = if i == last then [] else i ∷ path at last n (next_of (at i))
+
+-- so many nodes, from i on
+abbrev pub row : (ℕ → Option Node) → ℕ → ℕ → List ℕ
+row at i zero = []
+row at i (suc n) = i ∷ row at (next_of (at i)) n
 
 -- the events at the nodes
 abbrev pub items : (ℕ → Option Node) → List ℕ → List Numbered
@@ -25,11 +30,6 @@ items at [] = []
 items at (i ∷ is) = item_then (at i) (items at is)
 
 -- ---- nodes
-
--- the last one
-abbrev pub final : ℕ → List ℕ → ℕ
-final d [] = d
-final d (i ∷ is) = final i is
 
 -- none of them is the node
 abbrev pub IsFresh : ℕ → List ℕ → Type 0
@@ -41,43 +41,72 @@ abbrev pub AreNodes : (ℕ → Option Node) → (ℕ → ℕ) → ℕ → List �
 AreNodes at owner k [] = Unit {0}
 AreNodes at owner k (i ∷ is) = IsSome (at i) × (owner i ≡ k) × IsFresh i is × AreNodes at owner k is
 
+-- they lead from i to the last one, which isn't among them
+abbrev pub IsPath : (ℕ → Option Node) → ℕ → ℕ → List ℕ → Type 0
+IsPath at last i [] = i ≡ last
+IsPath at last i (j ∷ is) = (j ≡ i) × (i ≢ last) × IsPath at last (next_of (at i)) is
+
 -- ---- chains
 
--- the chain of a single node
-abbrev pub alone : ℕ → Chain
-alone j = record { first = j; last = j; len = 1 }
+-- the nodes of what waits, and with the spare one
+abbrev pub path_of : (ℕ → Option Node) → ℕ → Chain → List ℕ
+path_of at size c = path at c.spare size c.first
 
--- the chain with one more node at its end
-abbrev pub longer : Chain → ℕ → Chain
-longer c j = record { first = c.first; last = j; len = c.len + 1 }
+abbrev pub nodes_of : (ℕ → Option Node) → ℕ → Chain → List ℕ
+nodes_of at size c = path_of at size c ++ c.spare ∷ []
 
--- the chain without its first node, which led to the next one
-abbrev pub shorter : Chain → ℕ → Chain
-shorter c next = record { first = next; last = c.last; len = c.len - 1 }
+abbrev pub events_of : (ℕ → Option Node) → ℕ → Chain → List Numbered
+events_of at size c = items at (path_of at size c)
 
-abbrev pub path_of : (ℕ → Option Node) → Chain → List ℕ
-path_of at c = path at c.first c.len
+-- the nodes of the owner k lead from the first one to the spare one
+pub record IsChain (at : ℕ → Option Node) (owner : ℕ → ℕ) (k size : ℕ) (c : Chain) : Type 0 where
+  pub leads : IsPath at c.spare c.first (path_of at size c)
+  pub nodes : AreNodes at owner k (nodes_of at size c)
 
-abbrev pub events_of : (ℕ → Option Node) → Chain → List Numbered
-events_of at c = items at (path_of at c)
+pub record HasChain (at : ℕ → Option Node) (size : ℕ) (c : Chain) : Type 0 where
+  pub owner : ℕ → ℕ
+  pub k : ℕ
+  pub is : IsChain at owner k size c
+
+-- the event of the number is at the node behind the node i
+pub record IsBehind (at : ℕ → Option Node) (size : ℕ) (c : Chain) (n i : ℕ) : Type 0 where
+  pub front : List ℕ
+  pub rest : List ℕ
+  pub whole : path_of at size c ≡ front ++ i ∷ next_of (at i) ∷ rest
+  pub node : Node
+  pub found : at (next_of (at i)) ≡ Some node
+  pub number : node.item.number ≡ n
+
+-- no event has the number
+abbrev pub HasNone : (ℕ → Option Node) → ℕ → Chain → ℕ → Type 0
+HasNone at size c n = All (λ (w : Numbered). w.number ≢ n) (events_of at size c)
+
+-- ---- new ones
+
+-- each node leads to the one behind it
+pub record AreInRow (ns : List Node) (n : ℕ) : Type 0 where
+  pub count : length ns ≡ n
+  pub each : (i : ℕ) → i < n → next_of (slice_get ns i) ≡ i + 1
+
+abbrev pub no_chain : Chain
+no_chain = record { first = 0; spare = 0 }
+
+abbrev pub chain_at : List Chain → ℕ → Chain
+chain_at cs k = slice_index_or cs k no_chain
+
+-- each chain has the node of its own number alone
+pub record AreNewChains (cs : List Chain) (n : ℕ) : Type 0 where
+  pub count : length cs ≡ n
+  pub each : (k : ℕ) → k < n → chain_at cs k ≡ record { first = k; spare = k }
 
 -- ---- changes of the nodes
 
+-- the node is another one, and nothing else has changed
+pub record IsFilled (old new : List Node) (i : ℕ) (n : Node) : Type 0 where
+  pub filled : slice_get new i ≡ Some n
+  pub others : (j : ℕ) → j ≢ i → slice_get new j ≡ slice_get old j
+
 -- the node leads to the next one, and nothing else has changed
-pub record IsLinked (old new : List Node) (node next : ℕ) : Type 0 where
-  pub count : length new ≡ length old
-  pub linked : (n : Node) → slice_get old node ≡ Some n → slice_get new node ≡ Some (record n { next = next })
-  pub others : (i : ℕ) → i ≢ node → slice_get new i ≡ slice_get old i
-
--- the event has come into the node; the others stay
-pub record HasCome (at new : ℕ → Option Node) (j : ℕ) (w : Numbered) : Type 0 where
-  pub node : Node
-  pub found : new j ≡ Some node
-  pub holds : node.item ≡ w
-  pub others : (i : ℕ) → i ≢ j → new i ≡ at i
-
--- and the node was the last of the free ones, or it is a new one
-pub record IsTaken (old new : List Node) (free rest : List ℕ) (w : Numbered) (node : ℕ) : Type 0 where
-  pub come : HasCome (slice_get old) (slice_get new) node w
-  pub reused : 0 < length free → (free ≡ rest ++ node ∷ []) × (length new ≡ length old)
-  pub grown : length free ≡ 0 → (rest ≡ []) × (node ≡ length old) × (length new ≡ length old + 1)
+pub record IsLinked (old new : List Node) (i next : ℕ) : Type 0 where
+  pub linked : (n : Node) → slice_get old i ≡ Some n → slice_get new i ≡ Some (record n { next = next })
+  pub others : (j : ℕ) → j ≢ i → slice_get new j ≡ slice_get old j

@@ -8,5 +8,4 @@ pub mod Parkings
 pub mod Parted
 pub mod Parts
 pub mod Store
-pub mod Turns
 pub mod Waits

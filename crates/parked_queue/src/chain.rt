@@ -1,98 +1,144 @@
-//! A list of events as a chain of nodes in a store that many chains share.
+//! A list of events as a chain of nodes in a store that many chains share. Each chain ends in a spare node, into which its next
+//! event is written. So a chain is never without a node, and it asks of no event whether it is the first one.
 
-ghost use Rattle.std.specs.Prelude.{◌≡◌, ◌==◌, ◌+◌, ◌<◌, ◌^◌, vec_len, vec_capacity};
-ghost use Rattle.parked_queue.specs.Chains.{IsLinked, IsTaken, alone, final, longer, shorter};
-ghost use Rattle.parked_queue.specs.Lists.{numbered};
+ghost use Rattle.std.specs.Prelude.{◌≡◌, ◌==◌, ◌+◌, ◌<◌, false, slice_get, vec_len, IfNone, IfOk, IfSome};
+ghost use Rattle.parked_queue.specs.Chains.{AreInRow, HasChain, HasNone, IsBehind, IsFilled, IsLinked, AreNewChains, events_of, next_of};
+ghost use Rattle.parked_queue.specs.Lists.{has_number, numbered};
 
 use evt_types::{Numbered, PackedEvent};
+use std::alloc::{AllocError, Global};
 
-/// An event, and the node behind it, which counts only where the chain goes on.
+/// An event, and the node behind it. The event counts only where it waits.
 #[derive(Clone, Copy, Debug)]
 pub(crate) struct Node {
     pub(crate) item: Numbered,
     pub(crate) next: usize,
 }
 
-/// How many nodes a chain has, and its first and its last one, which count only where it has any.
+/// The chain's first node, and its spare one, which is the last. Where they are the same, nothing waits.
 #[derive(Clone, Copy, Debug)]
 pub(crate) struct Chain {
     pub(crate) first: usize,
-    pub(crate) last: usize,
-    pub(crate) len: usize,
+    pub(crate) spare: usize,
 }
 
-/// Puts the event into a node that no chain has: the one that became free last, or else a new one. The event is copied
-/// there from where it lies.
+/// So many nodes, each of which leads to the one behind it.
+pub(crate) fn row_of_nodes(alloc: Global, count: usize) -> Result<Vec<Node>, AllocError>
+    ensures { IfOk result (λ v. AreInRow v.items count) }
+{
+    let mut nodes = Vec::with_capacity(alloc, count)?;
+    for node in 0..count {
+        nodes.push_reserved(Node {
+            item: Numbered {
+                number: 0,
+                event: PackedEvent::release(),
+            },
+            next: node + 1,
+        });
+    }
+    Ok(nodes)
+}
+
+/// So many chains in which nothing waits. Each has the node of its own number.
+pub(crate) fn empty_chains(alloc: Global, count: usize) -> Result<Vec<Chain>, AllocError>
+    ensures { IfOk result (λ v. AreNewChains v.items count) }
+{
+    let mut chains = Vec::with_capacity(alloc, count)?;
+    for node in 0..count {
+        chains.push_reserved(Chain {
+            first: node,
+            spare: node,
+        });
+    }
+    Ok(chains)
+}
+
+/// Takes the node that became free last. Of those that are left it is the one that it leads to.
 #[inline(always)]
-pub(crate) fn take_node(
+pub(crate) fn take_node(nodes: &Vec<Node>, free: &mut usize) -> usize
+    requires { free.old < vec_len nodes.now }
+    ensures node { result ≡ free.old }
+    ensures rest { free.new ≡ next_of (slice_get nodes.now.items free.old) }
+{
+    let node = *free;
+    *free = nodes[node].next;
+    node
+}
+
+/// Puts the event into the chain's spare node, which leads to the next spare one: whether it is the only event. It is copied there
+/// from where it lies.
+#[inline(always)]
+pub(crate) fn append(
     nodes: &mut Vec<Node>,
-    free: &mut Vec<usize>,
+    chain: &mut Chain,
+    spare: usize,
     number: u64,
     event: &PackedEvent,
-) -> usize
-    requires last { 0 < vec_len free.old → final 0 free.old.items < vec_len nodes.old }
-    requires room { vec_len free.old ≡ 0 → vec_len nodes.old < vec_capacity nodes.old }
-    ensures taken { IsTaken nodes.old.items nodes.new.items free.old.items free.new.items (numbered number event.now) result }
-    ensures nodes { vec_capacity nodes.new ≡ vec_capacity nodes.old }
-    ensures free { vec_capacity free.new ≡ vec_capacity free.old }
+) -> bool
+    requires { chain.old.spare < vec_len nodes.old }
+    ensures only { result ≡ (chain.old.first == chain.old.spare) }
+    ensures chain { chain.new ≡ record { first = chain.old.first; spare = spare } }
+    ensures filled { IsFilled nodes.old.items nodes.new.items chain.old.spare (record { item = numbered number event.now; next = spare }) }
+    ensures count { vec_len nodes.new ≡ vec_len nodes.old }
 {
-    match free.pop() {
-        Some(node) => {
-            let reused = &mut nodes[node];
-            reused.item.event = *event;
-            reused.item.number = number;
-            node
-        }
-        None => {
-            nodes.push_reserved(Node {
-                item: Numbered {
-                    number,
-                    event: *event,
-                },
-                next: 0,
-            });
-            nodes.len() - 1
-        }
-    }
-}
-
-/// Lets the node lead to the next one.
-fn link(nodes: &mut Vec<Node>, node: usize, next: usize)
-    requires { node < vec_len nodes.old }
-    ensures linked { IsLinked nodes.old.items nodes.new.items node next }
-    ensures capacity { vec_capacity nodes.new ≡ vec_capacity nodes.old }
-{
-    nodes[node].next = next;
-}
-
-/// Makes the node the chain's last one: whether it is the only one.
-#[inline(always)]
-pub(crate) fn append(nodes: &mut Vec<Node>, chain: &mut Chain, node: usize) -> bool
-    requires last { 0 < chain.old.len → chain.old.last < vec_len nodes.old }
-    requires fits { chain.old.len + 1 < 2 ^ 64 }
-    ensures only { result ≡ (chain.old.len == 0) }
-    ensures alone { chain.old.len ≡ 0 → chain.new ≡ alone node }
-    ensures kept { chain.old.len ≡ 0 → nodes.new ≡ nodes.old }
-    ensures longer { 0 < chain.old.len → chain.new ≡ longer chain.old node }
-    ensures linked { 0 < chain.old.len → IsLinked nodes.old.items nodes.new.items chain.old.last node }
-    ensures capacity { vec_capacity nodes.new ≡ vec_capacity nodes.old }
-{
-    let only = chain.len == 0;
-    if only {
-        chain.first = node;
-    } else {
-        link(nodes, chain.last, node);
-    }
-    chain.last = node;
-    chain.len += 1;
+    let node = chain.spare;
+    let only = chain.first == node;
+    chain.spare = spare;
+    let filled = &mut nodes[node];
+    filled.item.event = *event;
+    filled.item.number = number;
+    filled.next = spare;
     only
 }
 
-/// Takes the first node off the chain, which goes on at the next one.
-pub(crate) fn shorten(chain: &mut Chain, next: usize)
-    requires { 0 < chain.old.len }
-    ensures { chain.new ≡ shorter chain.old next }
+/// Makes the node the one that became free last: the node that it led to.
+#[inline(always)]
+pub(crate) fn release(nodes: &mut Vec<Node>, free: &mut usize, node: usize) -> usize
+    requires { node < vec_len nodes.old }
+    ensures next { result ≡ next_of (slice_get nodes.old.items node) }
+    ensures free { free.new ≡ node }
+    ensures linked { IsLinked nodes.old.items nodes.new.items node free.old }
+    ensures count { vec_len nodes.new ≡ vec_len nodes.old }
 {
-    chain.first = next;
-    chain.len -= 1;
+    let released = &mut nodes[node];
+    let next = released.next;
+    released.next = *free;
+    *free = node;
+    next
+}
+
+/// Lets the node lead past the one behind it: that one.
+pub(crate) fn skip(nodes: &mut Vec<Node>, node: usize) -> usize
+    requires node { node < vec_len nodes.old }
+    requires behind { next_of (slice_get nodes.old.items node) < vec_len nodes.old }
+    ensures skipped { result ≡ next_of (slice_get nodes.old.items node) }
+    ensures linked { IsLinked nodes.old.items nodes.new.items node (next_of (slice_get nodes.old.items result)) }
+    ensures count { vec_len nodes.new ≡ vec_len nodes.old }
+{
+    let behind = nodes[node].next;
+    nodes[node].next = nodes[behind].next;
+    behind
+}
+
+/// The node before the one whose event has the number, which isn't the first one.
+pub(crate) fn node_before(nodes: &Vec<Node>, chain: Chain, number: u64) -> Option<usize>
+    requires chain { HasChain (slice_get nodes.now.items) (vec_len nodes.now) chain }
+    requires other { has_number number (slice_get (events_of (slice_get nodes.now.items) (vec_len nodes.now) chain) 0) ≡ false }
+    ensures found { IfSome result (λ i. IsBehind (slice_get nodes.now.items) (vec_len nodes.now) chain number i) }
+    ensures none { IfNone result (HasNone (slice_get nodes.now.items) (vec_len nodes.now) chain number) }
+{
+    if chain.first == chain.spare {
+        return None;
+    }
+    let mut before = chain.first;
+    let mut node = nodes[before].next;
+    while node != chain.spare {
+        let Node { item, next } = nodes[node];
+        if item.number == number {
+            return Some(before);
+        }
+        before = node;
+        node = next;
+    }
+    None
 }

@@ -1,6 +1,6 @@
 //! What waits in queues, so that the oldest event of a level whose slot is allowed is found in constant time, whatever waits
 //! before it: an event whose slot isn't allowed is set aside once, into a list of its slot's own. All lists stand in one store of
-//! nodes: the memory in use is that of the events that wait, and an event comes or goes in constant time.
+//! nodes, which are all there from the start, and an event comes or goes in constant time.
 #![tactic(auto)]
 
 mod chain;
@@ -9,7 +9,6 @@ mod level;
 mod parking;
 mod queues;
 mod slot;
-mod turn;
 mod waiting;
 
 pub use first::Found;

@@ -7,7 +7,6 @@ ghost use Rattle.parked_queue.specs.Waits.{AreSlots, HasNoneOf, IsOnlyOf, slot_o
 
 use crate::level::{LEVELS, Level};
 use crate::slot::{mask_for, parked_list};
-use crate::turn::take_number;
 use crate::waiting::WaitingLists;
 use evt_types::Numbered;
 use small_set::SmallSet;
@@ -149,9 +148,9 @@ impl Parking {
         ensures { IsChanged lists.old self.old lists.new self.new (without_number (waits_by lists.old self.old) number) }
     {
         let list = self.base + list_for(&self.below, level, slot, number);
-        let before = lists.total();
-        take_number(lists, list, number);
-        self.count -= before - lists.total();
+        if lists.take_number(list, number) {
+            self.count -= 1;
+        }
     }
 }
 

@@ -192,7 +192,7 @@ impl ParkedQueues {
     }
 
     /// Takes the event of this number out of the queue, which is of the level and the slot. At the head of its list it goes at once;
-    /// else its list is turned once round.
+    /// else it is looked for from there on.
     #[inline(always)]
     pub fn remove(&mut self, queue: usize, level: Level, slot: usize, number: u64)
         requires there { queue < length self.old }

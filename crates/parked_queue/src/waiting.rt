@@ -1,9 +1,12 @@
 //! Many lists of waiting events.
 
-ghost use Rattle.std.specs.Prelude.{◌≡◌, ◌==◌, ◌+◌, ◌<◌, ◌≤◌, [], ◌++◌, length, map, slice_get, vec_len, vec_capacity, IfOk, IsFalse, IsTrue, option_copied};
-ghost use Rattle.parked_queue.specs.Lists.{list_at, total_of, all_empty, has_number, named_delivery, numbered, with_last, without_first};
+ghost use Rattle.std.specs.Prelude.{◌≡◌, ◌==◌, ◌+◌, ◌<◌, ◌≤◌, [], ◌++◌, false, filter, length, map, slice_get, vec_len, vec_capacity, IfOk, IsFalse, IsTrue, option_copied};
+ghost use Rattle.parked_queue.specs.Lists.{list_at, total_of, all_empty, has_number, named_delivery, numbered, with_last, with_list, without_first};
+ghost use Rattle.parked_queue.specs.Waits.{IsRising, is_other};
 
-use crate::chain::{Chain, Node, append, shorten, take_node};
+use crate::chain::{
+    Chain, Node, append, empty_chains, node_before, release, row_of_nodes, skip, take_node,
+};
 use evt_types::{Delivery, Numbered, PackedEvent};
 use std::alloc::{AllocError, Global};
 use std::marker::Model;
@@ -11,35 +14,34 @@ use std::marker::Model;
 /// Many lists of waiting events, with room for so many events in all.
 #[derive(Debug, Drop)]
 pub struct WaitingLists {
-    // The nodes of all chains, and the free ones. Memory for as many as there may be is reserved, so that a push asks for none.
+    // The nodes of all chains, and the free ones. All are there from the start, so that a push asks for none.
     nodes: Vec<Node>,
-    // The nodes that no chain has. The one that became free last is taken first, while its memory is in the cache.
-    free: Vec<usize>,
+    // The node that became free last, which leads to the one before it, and so on. One is left over when there is room for no event.
+    // What became free last is taken first, while its memory is in the cache.
+    free: usize,
     // One for each list.
     chains: Vec<Chain>,
-    // The memory that is reserved may be for more.
     room: usize,
 }
 
 impl Model for WaitingLists {
+    ghost use Rattle.std.specs.Prelude.{slice_get, vec_len};
     ghost use Rattle.parked_queue.specs.Lists.{Lists};
     ghost use Rattle.parked_queue.specs.Store.{lists_in, IsStore};
 
     ghost Value = { Lists };
 
-    ghost view = { λ a. lists_in a.nodes.items a.chains.items a.room };
+    ghost view = { λ a. lists_in (slice_get a.nodes.items) (vec_len a.nodes) a.chains.items a.room };
 
-    ghost invariant = { λ a. IsStore a.nodes a.free a.chains.items a.room };
+    ghost invariant = { λ a. IsStore (slice_get a.nodes.items) (vec_len a.nodes) a.free a.chains.items a.room };
 }
 
-/// Memory for so many nodes, none of which is there yet, and for as many free ones.
-fn no_nodes(alloc: Global, room: usize) -> Result<(Vec<Node>, Vec<usize>), AllocError>
-    ensures nodes { IfOk result (λ r. (vec_len r.0 ≡ 0) × (room ≤ vec_capacity r.0)) }
-    ensures free { IfOk result (λ r. (vec_len r.1 ≡ 0) × (room ≤ vec_capacity r.1) × (r.1.items ≡ [])) }
+/// A node for each event and for each list, and the one that is left over.
+fn node_count(lists: usize, room: usize) -> Result<usize, AllocError>
+    ensures { IfOk result (λ n. n ≡ lists + room + 1) }
 {
-    let nodes = Vec::with_capacity(alloc, room)?;
-    let free = Vec::with_capacity(alloc, room)?;
-    Ok((nodes, free))
+    let used = lists.checked_add(room).ok_or(AllocError)?;
+    used.checked_add(1).ok_or(AllocError)
 }
 
 impl WaitingLists {
@@ -47,36 +49,15 @@ impl WaitingLists {
     pub fn new(alloc: Global, lists: usize, room: usize) -> Result<WaitingLists, AllocError>
         ensures { IfOk result (λ s. s ≡ all_empty lists room) }
     {
-        let none = Chain {
-            first: 0,
-            last: 0,
-            len: 0,
-        };
-        let (nodes, free) = no_nodes(alloc, room)?;
-        let chains = vec![in alloc; none; lists]?;
+        let count = node_count(lists, room)?;
+        let nodes = row_of_nodes(alloc, count)?;
+        let chains = empty_chains(alloc, lists)?;
         Ok(WaitingLists {
             nodes,
-            free,
+            free: lists,
             chains,
             room,
         })
-    }
-
-    /// How many events are in all lists.
-    pub fn total(&self) -> usize
-        ensures value { result ≡ total_of self.now }
-        ensures within { total_of self.now ≤ self.now.room }
-    {
-        self.nodes.len() - self.free.len()
-    }
-
-    /// How many events are in the list.
-    pub fn len(&self, list: usize) -> usize
-        requires { list < length self.now.lists }
-        ensures value { result ≡ length (list_at self.now list) }
-        ensures within { total_of self.now ≤ self.now.room }
-    {
-        self.chains[list].len
     }
 
     /// The oldest event of the list, where it lies.
@@ -86,7 +67,7 @@ impl WaitingLists {
         ensures { option_copied result ≡ slice_get (list_at self.now list) 0 }
     {
         let chain = self.chains[list];
-        if chain.len == 0 {
+        if chain.first == chain.spare {
             return None;
         }
         Some(&self.nodes[chain.first].item)
@@ -109,8 +90,25 @@ impl WaitingLists {
         ensures only { result ≡ (length (list_at self.old list) == 0) }
         ensures value { self.new ≡ with_last self.old list (numbered number event.now) }
     {
-        let node = take_node(&mut self.nodes, &mut self.free, number, event);
-        append(&mut self.nodes, &mut self.chains[list], node)
+        let spare = take_node(&self.nodes, &mut self.free);
+        append(
+            &mut self.nodes,
+            &mut self.chains[list],
+            spare,
+            number,
+            event,
+        )
+    }
+
+    /// Takes the oldest event of the list out, which is there.
+    #[inline(always)]
+    fn drop_first(&mut self, list: usize)
+        requires list { list < length self.old.lists }
+        requires some { 0 < length (list_at self.old list) }
+        ensures { self.new ≡ without_first self.old list }
+    {
+        let chain = &mut self.chains[list];
+        chain.first = release(&mut self.nodes, &mut self.free, chain.first);
     }
 
     /// Takes the oldest event of the list out.
@@ -120,14 +118,11 @@ impl WaitingLists {
         ensures value { result ≡ slice_get (list_at self.old list) 0 }
         ensures rest { self.new ≡ without_first self.old list }
     {
-        let chain = self.chains[list];
-        if chain.len == 0 {
-            return None;
+        let first = self.head(list).copied();
+        if first.is_some() {
+            self.drop_first(list);
         }
-        let node = self.nodes[chain.first];
-        self.free.push_reserved(chain.first);
-        shorten(&mut self.chains[list], node.next);
-        Some(node.item)
+        first
     }
 
     /// Whether the oldest event of the list has the number.
@@ -152,9 +147,40 @@ impl WaitingLists {
     {
         let found = self.begins_with(list, number);
         if found {
-            let _ = self.pop(list);
+            self.drop_first(list);
         }
         found
+    }
+
+    /// Takes the event of the number out of the list, where one behind the oldest has it: whether one has.
+    fn take_later(&mut self, list: usize, number: u64) -> bool
+        requires list { list < length self.old.lists }
+        requires rising { IsRising (list_at self.old list) }
+        requires other { has_number number (slice_get (list_at self.old list) 0) ≡ false }
+        ensures value { self.new ≡ with_list self.old list (filter (is_other number) (list_at self.old list)) }
+        ensures fewer { IsTrue result → total_of self.new + 1 ≡ total_of self.old }
+        ensures kept { IsFalse result → total_of self.new ≡ total_of self.old }
+    {
+        match node_before(&self.nodes, self.chains[list], number) {
+            Some(before) => {
+                let node = skip(&mut self.nodes, before);
+                let _ = release(&mut self.nodes, &mut self.free, node);
+                true
+            }
+            None => false,
+        }
+    }
+
+    /// Takes the event of the number out of the list: whether it was there. The oldest one goes at once; the others are looked at from
+    /// there on.
+    pub fn take_number(&mut self, list: usize, number: u64) -> bool
+        requires list { list < length self.old.lists }
+        requires rising { IsRising (list_at self.old list) }
+        ensures value { self.new ≡ with_list self.old list (filter (is_other number) (list_at self.old list)) }
+        ensures fewer { IsTrue result → total_of self.new + 1 ≡ total_of self.old }
+        ensures kept { IsFalse result → total_of self.new ≡ total_of self.old }
+    {
+        self.pop_number(list, number) || self.take_later(list, number)
     }
 
     /// Appends each of the list's events, oldest first, as a delivery of the queue that it names.
@@ -166,11 +192,10 @@ impl WaitingLists {
     {
         let chain = self.chains[list];
         let mut cursor = chain.first;
-        for _ in 0..chain.len {
-            let node = self.nodes[cursor];
-            let Numbered { number, event } = node.item;
-            into.push_reserved(Delivery::new(event, number));
-            cursor = node.next;
+        while cursor != chain.spare {
+            let Node { item, next } = self.nodes[cursor];
+            into.push_reserved(Delivery::new(item.event, item.number));
+            cursor = next;
         }
     }
 }

@@ -11,9 +11,10 @@ use Rattle.evt_types.specs.declared.event.Delivery.{Delivery}
 use Rattle.evt_types.specs.declared.event.Numbered.{Numbered}
 use Rattle.evt_types.specs.declared.step.Step.{Step}
 use Rattle.evt_types.specs.declared.step.Step.TheVariants.{Give}
-use Rattle.sched_core.proofs.Offers.{choice_is_offer}
+use Rattle.sched_core.proofs.Offers.{IsOfferAt, choice_is_offer}
 use Rattle.sched_core.specs.Offered.{IsOfferIn, IsOpenLane, numbered_in}
 use Rattle.sched_core.specs.Sized.{IsSized}
+use Rattle.sched_core.specs.declared.offer.Offer.{Offer}
 use Rattle.sched_core.specs.Runs.{AreChoices, IsSteady, HasTurn, gift_of, gifts_of, given_once}
 use Rattle.small_set.specs.declared.set.SmallSet.{SmallSet}
 use Rattle.transcripts.proofs.WholeStands.{stands_give}
@@ -217,6 +218,10 @@ choice_in_turn v s l q c w turn quota offer =
         let le : w.number ≤ u.number = offer.first u m waits (eqb-true (level_of u.event) (level_of w.event) parts.0 ∙ offer.level) fits in
         omega arith)
         (or_cases (nat_lt (level_of u.event) (level_of w.event)) ((level_of u.event == level_of w.event) && nat_lt u.number w.number) earlier))
+
+-- so is its offer
+pub made_in_turn : (v : View) (s : Passed) (q c : ℕ) (y : Offer) → HasTurn v s q c → HasQuota v s q → IsOfferAt v s q c y → IsChoice v s y.lane y.delivery.queue (numbered_in y.delivery)
+made_in_turn v s q c y turn quota made = subst (λ n. IsChoice v s y.lane n (numbered_in y.delivery)) (sym made.0) (choice_in_turn v s y.lane q c (numbered_in y.delivery) turn quota made.1)
 
 -- ---- choices one after another
 

@@ -3,9 +3,10 @@ use Rattle.std.specs.Prelude.{ℕ, ◌≡◌, ◌+◌, ◌<◌, ◌≤◌, true,
 use Rattle.evt_types.specs.declared.event.Delivery.{Delivery}
 use Rattle.evt_types.specs.declared.step.Step.{Step}
 use Rattle.evt_types.specs.declared.step.Step.TheVariants.{Give}
-use Rattle.evt_types.specs.Plan.{depth_of, is_ordered, level_of, queue_of}
+use Rattle.evt_types.specs.Plan.{depth_of, has_flow_lanes, is_ordered, level_of, queue_of}
 use Rattle.evt_types.specs.declared.event.Numbered.{Numbered}
 use Rattle.sched_core.specs.Offered.{AreOpenLanes, numbered_in}
+use Rattle.sched_core.specs.declared.turn.Turn.{Turn}
 use Rattle.small_set.specs.declared.set.SmallSet.{SmallSet}
 use Rattle.transcripts.specs.Choice.{Fits, HasNone, HasQuota, IsChoice, IsServedBefore, Passed, WaitsIn}
 use Rattle.transcripts.specs.Standing.{View, after, places_at, unanswered_at}
@@ -33,6 +34,10 @@ pub record HasTurn (v : View) (s : Passed) (q c : ℕ) : Type 0 where
   pub there : q < length v.shape.queues
   pub lower : (u : Numbered) (m : ℕ) → WaitsIn v q u → level_of u.event < c → ¬ Fits v s m q u
   pub before : (r : ℕ) → r < length v.shape.queues → HasQuota v s r → IsServedBefore v.shape r q → HasNone v s r
+
+-- it is the turn of this queue and level, which flow lanes serve
+abbrev pub IsTurn : View → Passed → Turn → Type 0
+IsTurn v s t = (has_flow_lanes v.shape t.queue ≡ true) × HasTurn v s t.queue t.level.number
 
 -- So many events more may be given of the queue to the lane before a count is full that the choice asks for; until then these are the
 -- lanes that are open to the queue.

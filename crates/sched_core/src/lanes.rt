@@ -2,7 +2,7 @@
 
 ghost use Rattle.std.specs.Prelude.{◌≡◌, ℕ, ◌<◌, ◌↔◌, true, IsTrue, length, IfSome, IfNone};
 ghost use Rattle.transcripts.specs.Choice.{HasNoOther, IsBetterLane};
-ghost use Rattle.evt_types.specs.Plan.{has_flow_lanes, lanes_of, queue_of, is_atomic};
+ghost use Rattle.evt_types.specs.Plan.{has_flow_lanes, lanes_of, queue_of, is_atomic, serves};
 ghost use Rattle.small_set.specs.SmallSets.{Has};
 ghost use Rattle.sched_core.specs.Offered.{AreOpenLanes, FitsSlot, HasAllowed, HasPlace, MayHold, better_of};
 
@@ -116,8 +116,8 @@ impl Core {
     }
 
     /// The slot's flow lane, where it may take an event.
-    #[cold]
-    fn flow_for(&self, queue: usize, slot: usize, skips: &Skips) -> Option<usize>
+    #[inline(always)]
+    pub(crate) fn flow_for(&self, queue: usize, slot: usize, skips: &Skips) -> Option<usize>
         requires queue { queue < length self.now.shape.queues }
         requires slot { slot < SLOTS }
         requires flows { has_flow_lanes self.now.shape queue ≡ true }
@@ -133,17 +133,16 @@ impl Core {
         }
     }
 
-    /// Whether the lane may take an event of the slot.
+    /// Whether the slot's flow lane may take an event of it.
+    #[inline(always)]
     fn fits(&self, lane: usize, queue: usize, slot: usize, skips: &Skips) -> bool
         requires lane { lane < lanes_of self.now.shape }
         requires queue { queue < length self.now.shape.queues }
+        requires serves { serves self.now.shape lane queue slot ≡ true }
+        requires flows { has_flow_lanes self.now.shape queue ≡ true }
         ensures { IsTrue result ↔ FitsSlot self.now skips.now queue slot lane }
     {
-        !skips.has_bounced(lane)
-            && self.shape.serves(lane, queue, slot)
-            && self.lanes.len(lane) < self.shape.depth_of(lane)
-            && self.orders.has_place(queue)
-            && self.may_hold(lane, queue, slot)
+        !skips.has_bounced(lane) && self.lanes.room(lane) > 0 && self.may_hold(lane, queue, slot)
     }
 
     /// Whether the lane may hold events of the slot: those of an atomic queue stand on one lane at a time.

@@ -16,6 +16,7 @@ mod skips;
 mod slot_lanes;
 mod state;
 mod take;
+mod turn;
 
 pub use evt_types::Memory;
 pub use offer::Offer;
@@ -23,3 +24,4 @@ pub use run::MAX_RUN;
 pub use skips::Skips;
 pub use state::Core;
 pub use take::Took;
+pub use turn::Turn;

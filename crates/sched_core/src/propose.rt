@@ -9,26 +9,34 @@ ghost use Rattle.transcripts.specs.Transcript.{event_at};
 ghost use Rattle.evt_types.specs.declared.step.Step.{Step as StepValue};
 ghost use Rattle.evt_types.specs.declared.step.Step.TheVariants as steps;
 ghost use Rattle.sched_core.specs.Offered.{numbered_in, AreOpenLanes, HasAllowed, HasNoneIn, IsOfferIn, IsOfferOf};
+ghost use Rattle.sched_core.specs.Runs.{IsTurn};
 ghost use Rattle.sched_core.specs.Service.{IsServedFirst};
 
 use crate::offer::Offer;
 use crate::skips::Skips;
 use crate::state::Core;
+use crate::turn::Turn;
 use parked_queue::Level;
 use small_set::{MAX_MEMBERS, SmallSet};
 
 impl Core {
     /// What is given next: of the first queue, by priority and then number, that has an event which some lane may take,
     /// its first such event, by level and then number, to the lane with fewest unanswered events, of several the first.
-    /// Nothing that is seen of the core changes; a queue may set blocked events aside.
+    /// Nothing that is seen of the core changes; a queue may set blocked events aside. Whose turn it is, where that is known, is asked
+    /// first.
     #[inline(always)]
-    pub fn propose(&mut self, skips: &Skips) -> Option<Offer>
+    pub fn propose(&mut self, turn: Option<Turn>, skips: &Skips) -> Option<Offer>
+        requires { IfSome turn (IsTurn self.old skips.now) }
         ensures same { self.new ≡ self.old }
         ensures choice { IfSome result (λ o. IsChoice self.old skips.now o.lane o.delivery.queue (numbered_in o.delivery)) }
         ensures none { IfNone result (HasNoChoice self.old skips.now) }
         ensures offer { IfSome result (λ o. IsOffer self.old o.lane o.delivery.queue (numbered_in o.delivery)) }
         ensures keeps { (T : List StepValue) → Stands T self.old → IfSome result (λ o. Allowed self.old.shape T (steps.Give o.lane o.delivery.queue o.delivery.number) × (event_at T o.delivery.queue o.delivery.number ≡ Some o.delivery.event)) }
     {
+        let offer = self.offer_at(turn, skips);
+        if offer.is_some() {
+            return offer;
+        }
         let sweep = self.shape.sweep();
         let mut left = self.queues.busy();
         while let Some(queue) = self.first_served(left) {
@@ -41,6 +49,23 @@ impl Core {
             }
         }
         None
+    }
+
+    /// What is given next, where that is quick to see: the first event of the queue and level whose turn it is, for its flow lane.
+    #[inline(always)]
+    fn offer_at(&self, turn: Option<Turn>, skips: &Skips) -> Option<Offer>
+        requires { IfSome turn (IsTurn self.now skips.now) }
+        ensures { IfSome result (λ o. IsChoice self.now skips.now o.lane o.delivery.queue (numbered_in o.delivery)) }
+    {
+        let Turn { queue, level } = turn?;
+        if !skips.has_quota(queue, self.shape.sweep()) {
+            return None;
+        }
+        let found = self
+            .queues
+            .head(queue, level, SmallSet::below(MAX_MEMBERS))?;
+        let lane = self.flow_for(queue, found.slot, skips)?;
+        Some(Offer::of(level, lane, found))
     }
 
     /// Of these queues the one that is served first: the first one by number, as long as none has a priority that is served before.
@@ -97,46 +122,9 @@ impl Core {
         }
     }
 
-    /// The queue's first event that some lane may take, by level and then number, for the best lane, as each level is searched. Where
-    /// no event of the queue is set aside any more, it is forgotten which slots stand on which lane.
+    /// The queue's first event that some lane may take, by level and then number, for the best lane, as each level is searched.
     #[cold]
     fn offer_by_level(&mut self, queue: usize, lanes: SmallSet, skips: &Skips) -> Option<Offer>
-        requires queue { queue < length self.old.shape.queues }
-        requires lanes { AreOpenLanes self.old skips.now queue lanes }
-        ensures same { self.new ≡ self.old }
-        ensures offer { IfSome result (λ o. (o.delivery.queue ≡ queue) × IsOfferOf self.old skips.now queue o.lane (numbered_in o.delivery)) }
-        ensures none { IfNone result (HasNone self.old skips.now queue) }
-    {
-        let offer = self.offer_of_levels(queue, lanes, skips);
-        self.forget_slots(queue);
-        offer
-    }
-
-    /// Whether an event of the queue may be set aside, as the hints say.
-    fn may_have_parked(&self, queue: usize) -> bool
-        requires { queue < length self.now.shape.queues }
-    {
-        let mut left = self.queues.levels(queue);
-        while let Some(level) = left.pop() {
-            if !self.queues.parked_slots(queue, level).is_empty() {
-                return true;
-            }
-        }
-        false
-    }
-
-    /// The slots of each lane are no longer kept up for the queue, where no event of it is set aside.
-    fn forget_slots(&mut self, queue: usize)
-        requires { queue < length self.old.shape.queues }
-        ensures { self.new ≡ self.old }
-    {
-        if !self.may_have_parked(queue) {
-            self.pins.forget(queue);
-        }
-    }
-
-    /// The queue's first event that some lane may take, by level and then number, for the best lane, as each level is searched.
-    fn offer_of_levels(&mut self, queue: usize, lanes: SmallSet, skips: &Skips) -> Option<Offer>
         requires queue { queue < length self.old.shape.queues }
         requires lanes { AreOpenLanes self.old skips.now queue lanes }
         ensures same { self.new ≡ self.old }

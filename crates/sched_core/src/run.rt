@@ -1,11 +1,11 @@
 //! Events are given in a run: one after another of one queue and level, to one lane.
 
-ghost use Rattle.std.specs.Prelude.{◌≡◌, ℕ, ◌+◌, ◌<◌, ◌≤◌, false, List, ◌++◌, length, slice_index, IfSome};
+ghost use Rattle.std.specs.Prelude.{◌≡◌, ℕ, ◌+◌, ◌<◌, ◌≤◌, false, List, ◌∷◌, [], ◌++◌, length, slice_index, IfSome};
 ghost use Rattle.evt_types.specs.Plan.{has_flow_lanes, lanes_of};
 ghost use Rattle.evt_types.specs.declared.shape.TheConstants.{MAX_QUEUES};
 ghost use Rattle.evt_types.specs.declared.step.Step.{Step as StepValue};
 ghost use Rattle.sched_core.specs.Offered.{AreOpenLanes, IsOfferIn, numbered_in, slot_at};
-ghost use Rattle.sched_core.specs.Runs.{AreChoices, IsSteady, HasTurn, gifts_of};
+ghost use Rattle.sched_core.specs.Runs.{AreChoices, IsSteady, IsTurn, HasTurn, gifts_of};
 ghost use Rattle.small_set.specs.SmallSets.{Has};
 ghost use Rattle.transcripts.specs.Choice.{IsChoice, Passed};
 ghost use Rattle.transcripts.specs.Standing.{Stands, View};
@@ -13,6 +13,7 @@ ghost use Rattle.transcripts.specs.Standing.{Stands, View};
 use crate::offer::{Offer, numbered};
 use crate::skips::Skips;
 use crate::state::Core;
+use crate::turn::Turn;
 use arrayvec::ArrayVec;
 use evt_types::{Delivery, Numbered};
 use parked_queue::{Found, Level};
@@ -30,6 +31,19 @@ fn delivery_of(found: &Found) -> Delivery
 {
     let Numbered { number, event } = found.waiting;
     Delivery::new(event, number)
+}
+
+/// A run begins. One event is written over another at once, where to clear the run would write its place twice.
+#[inline(always)]
+fn begin(run: &mut ArrayVec<Delivery, 32>, delivery: Delivery)
+    ensures { run.new.items ≡ delivery ∷ [] }
+{
+    if run.len() == 1 {
+        run[0] = delivery;
+    } else {
+        run.clear();
+        run.push(delivery);
+    }
 }
 
 impl Core {
@@ -107,7 +121,7 @@ impl Core {
 
     /// Gives what was proposed, and then what is chosen after it, one by one, as long as that is an event of the same queue and level for
     /// the same lane and is quick to see: no more than `most`, and than `MAX_RUN`. `run` then has just these, in their order, and the
-    /// log their steps; they count as given in what the sweep passes over.
+    /// log their steps; they count as given in what the sweep passes over. Whose turn it is then, where that speeds the next choice.
     #[inline(always)]
     pub fn give_run<L: StepLog>(
         &mut self,
@@ -116,7 +130,7 @@ impl Core {
         skips: &mut Skips,
         run: &mut ArrayVec<Delivery, 32>,
         log: &mut L,
-    )
+    ) -> Option<Turn>
         requires choice { IsChoice self.old skips.old offer.lane offer.delivery.queue (numbered_in offer.delivery) }
         requires room { self.old.shape.sweep ≤ L.room log.old + slice_index skips.old.given offer.delivery.queue }
         ensures choices { AreChoices offer.lane self.old skips.old run.new.items self.new skips.new }
@@ -126,6 +140,7 @@ impl Core {
         ensures stands { (T : List StepValue) → Stands T self.old → Stands (T ++ gifts_of offer.lane run.new.items) self.new }
         ensures shape { self.new.shape ≡ self.old.shape }
         ensures room { L.room log.old ≤ L.room log.new + length run.new.items }
+        ensures turn { IfSome result (IsTurn self.new skips.new) }
     {
         let Offer {
             lane,
@@ -135,18 +150,19 @@ impl Core {
         } = offer;
         let queue = delivery.queue();
         self.facts();
-        run.clear();
         if most == 0 {
-            return;
+            run.clear();
+            return None;
         }
         let slot = self.queues.slot_of(queue, flow);
-        run.push(delivery);
+        begin(run, delivery);
         self.give_at(lane, queue, &numbered(&delivery), level, slot, log);
         skips.given(queue);
         // With flow lanes the next event mostly goes to another lane.
         if self.has_flow_lanes(queue) {
-            return;
+            return Some(Turn { queue, level });
         }
         self.give_more(lane, queue, level, most - 1, skips, run, log);
+        None
     }
 }

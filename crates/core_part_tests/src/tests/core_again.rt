@@ -145,7 +145,7 @@ fn take(
 /// Gives what is proposed, if anything: what is logged.
 fn give(alloc: Global, core: &mut Core) -> Result<Vec<Step>, AllocError> {
     let mut log = log_of(alloc, 1)?;
-    if let Some(offer) = core.propose(&Skips::none()) {
+    if let Some(offer) = core.propose(None, &Skips::none()) {
         core.give(offer, &mut log);
     }
     Ok(log)

@@ -130,12 +130,12 @@ fn two_listed(alloc: Global, first: Numbered, second: Numbered) -> Result<Waitin
 
 #[test]
 fn lists_share_their_room(rt: HostRuntime) -> Result<(), Fail> {
-    let lists = two_listed(rt.alloc(), head(), second())?;
-    let lengths = (lists.total(), lists.len(0), lists.len(1));
-    assert_eq!(rt; lengths, (2, 1, 1));
+    let mut lists = two_listed(rt.alloc(), head(), second())?;
     assert_eq!(rt;
         (lists.head(0).copied(), lists.head(1).copied()),
         (Some(second()), Some(head()))
     );
+    let oldest = lists.pop(1);
+    assert_eq!(rt; (oldest, lists.pop(1)), (Some(head()), None));
     Ok(())
 }

@@ -15,9 +15,9 @@ invariant_of-self-2 c =
     let within : c.args.lane < length c.args.self.now.stints.items = omega (arith, are.entries, c.requires.exists) in
     let at : entry_at c.args.self.now.stints.items c.args.lane ≡ Some c.in-Some.stint = place_read _ _ _ _ c.index_mut.ensures.value c.in-Some.is within in
     record {
-      are = turned _ _ c.args.self.now.seat _ _ c.in-Some.stint _ are at c.requires.exists c.receive_some.ensures.lane.0 (c.receive_some.ensures.open _);
-      shown = touched_set c.args.self.now.touched c.args.self.now.stints.items c.args.lane (Some c.receive_some.new.self) within
-          (same_hidden c.args.self.now.touched c.args.self.now.stints.items c.args.lane (Some c.in-Some.stint) (Some c.receive_some.new.self) at c.receive_some.ensures.far.2 c.args.self.now.shown)
+      are = turned _ _ c.args.self.now.seat _ _ c.in-Some.stint _ are at c.requires.exists c.receive_waiting-some_left.ensures.lane.0 (c.receive_waiting-some_left.ensures.open _);
+      shown = touched_set c.args.self.now.touched c.args.self.now.stints.items c.args.lane (Some c.receive_waiting-some_left.new.self) within
+          (same_hidden c.args.self.now.touched c.args.self.now.stints.items c.args.lane (Some c.in-Some.stint) (Some c.receive_waiting-some_left.new.self) at c.receive_waiting-some_left.ensures.far.2 c.args.self.now.shown)
           c.args.self.now.shown;
     }
 
@@ -26,15 +26,15 @@ returns-clause-lists c =
     let are = c.args.self.now.are in
     let within : c.args.lane < length c.args.self.now.stints.items = omega (arith, are.entries, c.requires.exists) in
     let at : entry_at c.args.self.now.stints.items c.args.lane ≡ Some c.in-Some.stint = place_read _ _ _ _ c.index_mut.ensures.value c.in-Some.is within in
-    brought _ _ c.args.self.now.seat _ _ c.in-Some.stint c.receive_some.new.self are at c.requires.exists c.args.into.now.items c.receive_some.new.into.items
-    ((are.each c.args.lane).held c.in-Some.stint at).open_is c.receive_some.ensures.came c.receive_some.ensures.so_far c.receive_some.ensures.answered c.receive_some.ensures.far.1
+    brought _ _ c.args.self.now.seat _ _ c.in-Some.stint c.receive_waiting-some_left.new.self are at c.requires.exists c.args.into.now.items c.receive_waiting-some_left.new.into.items
+    ((are.each c.args.lane).held c.in-Some.stint at).open_is c.receive_waiting-some_left.ensures.came c.receive_waiting-some_left.ensures.so_far c.receive_waiting-some_left.ensures.answered c.receive_waiting-some_left.ensures.far.1
 
 pub returns-clause-shown : goal.returns-clause-shown
 returns-clause-shown c none =
     let are = c.args.self.now.are in
     let within : c.args.lane < length c.args.self.now.stints.items = omega (arith, are.entries, c.requires.exists) in
     let at : entry_at c.args.self.now.stints.items c.args.lane ≡ Some c.in-Some.stint = place_read _ _ _ _ c.index_mut.ensures.value c.in-Some.is within in
-    none_set c.args.self.now.stints.items c.args.lane (Some c.receive_some.new.self) within (c.receive_some.ensures.far.2 ∙ ap hidden_in (sym at) ∙ none c.args.lane) none
+    none_set c.args.self.now.stints.items c.args.lane (Some c.receive_waiting-some_left.new.self) within (c.receive_waiting-some_left.ensures.far.2 ∙ ap hidden_in (sym at) ∙ none c.args.lane) none
 
 pub returns-in_default-clause-lists : goal.returns-in_default-clause-lists
 returns-in_default-clause-lists c =

@@ -1,15 +1,13 @@
 -- The oldest that is held is answered: the own lane's, or a flow lane's.
-use Rattle.std.proofs.Common.{◌≡◌, ◌≢◌, ◌<◌, ◌∙◌, ◌||◌, [], List, Some, length, drop, refl, sym, ap, subst, arith}
+use Rattle.std.proofs.Common.{◌≡◌, ◌≢◌, ◌∙◌, ◌||◌, [], List, Some, drop, refl, sym, ap, subst}
 use Rattle.evt_types.specs.Operation.{is_more_reply}
 use Rattle.evt_types.specs.declared.event.Delivery.{Delivery}
-use Rattle.flow_claims.specs.Claims.{lanes_of}
 use Rattle.lane_rings.specs.Ends.{unanswered}
-use Rattle.std.specs.Arc.{arc_value}
 use Rattle.event_ports.specs.declared.lane.Holding.{Holding}
 use Rattle.event_ports.specs.declared.lane.Lane.{Lane}
 use Rattle.event_ports.specs.declared.lane.Lane.TheVariants.{Own, Flow}
 use Rattle.event_ports.specs.Holds.{Says}
-use Rattle.event_ports.specs.Flows.{FlowSite, hands_of}
+use Rattle.event_ports.specs.Flows.{hands_of}
 use Rattle.event_ports.specs.Handed.{hand_of}
 use Rattle.event_ports.specs.Lanes.{Hand, SubmitsTo, got_on, open_on, said_on, reply_of}
 use Rattle.event_ports.proofs.Oldest.{oldest_held, oldest_there}
@@ -17,7 +15,7 @@ use Rattle.event_ports.proofs.Orders.{Notes, each_lane, answered_first, first_op
 use Rattle.event_ports.proofs.Adding.{counts_said}
 use Rattle.event_ports.proofs.Extras.{added_said}
 use Rattle.event_ports.proofs.Refusals.{one_answer, refused_own}
-use Rattle.event_ports.proofs.Calls.{idle_answered, says_before, says_no_new, says_received, gave_back}
+use Rattle.event_ports.proofs.Calls.{says_no_new, says_received, gave_back}
 use Rattle.event_ports.proofs.lanes.Lanes.answer.Goals as goal
 
 pub invariant_of-self-clause-ordered : goal.invariant_of-self-clause-ordered
@@ -35,71 +33,63 @@ returns-in-Err-clause-refused c =
     first_open c.args.self.now.order.items Own (open_on c.args.self.now.own (hands_of c.args.self.now.flows)) (sym c.in-Some.ensures ∙ ap Some c.in-Own.is) c.args.self.now.ordered in
     refused_own c.stage.new.self c.args.self.now.own (hands_of c.args.self.now.flows) c.args.self.now.order.items (reply_of c.args.event.now) c.in-Err.fault c.requires c.in-Err.ensures.refused some (sym c.in-Some.ensures ∙ ap Some c.in-Own.is) c.stage.ensures.lane c.in-Err.ensures.answered
 
-pub answer-requires-clause-held : goal.answer-requires-clause-held
-answer-requires-clause-held c =
+pub answer_oldest-requires-clause-held : goal.answer_oldest-requires-clause-held
+answer_oldest-requires-clause-held c =
     oldest_held c.args.self.now c.in-Flow.lane (sym c.in-Some.ensures ∙ ap Some c.in-Flow.is)
 
-pub answer-requires-clause-exists : goal.answer-requires-clause-exists
-answer-requires-clause-exists c =
+pub answer_oldest-requires-clause-exists : goal.answer_oldest-requires-clause-exists
+answer_oldest-requires-clause-exists c =
     oldest_there c.args.self.now c.in-Flow.lane (sym c.in-Some.ensures ∙ ap Some c.in-Flow.is)
 
-pub leave-requires : goal.leave-requires
-leave-requires c =
-    let there : c.in-Flow.lane < length (lanes_of (arc_value c.args.self.now.flows.claims)) =
-    oldest_there c.args.self.now c.in-Flow.lane (sym c.in-Some.ensures ∙ ap Some c.in-Flow.is) in
-    omega (arith, there, ap (λ (p : FlowSite). length (lanes_of p.claims)) c.answer.ensures.site)
-
-pub invariant_of-self-in-Ok-answer-clause-ordered : goal.invariant_of-self-in-Ok-answer-clause-ordered
-invariant_of-self-in-Ok-answer-clause-ordered c =
+pub invariant_of-self-in-Ok-answer_oldest-clause-ordered : goal.invariant_of-self-in-Ok-answer_oldest-clause-ordered
+invariant_of-self-in-Ok-answer_oldest-clause-ordered c =
     let before : Lane → List Delivery = open_on c.args.self.now.own (hands_of c.args.self.now.flows) in
-    let after : Lane → List Delivery = open_on c.args.self.now.own (hands_of c.leave.new.self) in
-    let says : Says c.in-Flow.lane (reply_of c.args.event.now) (hands_of c.args.self.now.flows) (hands_of c.leave.new.self) =
-    says_before _ (hands_of c.answer.new.self) _ c.in-Flow.lane (reply_of c.args.event.now) c.in-Ok-answer.ensures.lists c.leave.ensures.same in
+    let after : Lane → List Delivery = open_on c.args.self.now.own (hands_of c.answer_oldest.new.self) in
+    let says : Says c.in-Flow.lane (reply_of c.args.event.now) (hands_of c.args.self.now.flows) (hands_of c.answer_oldest.new.self) =
+    c.in-Ok-answer_oldest.ensures.lists in
     let here : after (Flow c.in-Flow.lane) ≡ drop 1 (before (Flow c.in-Flow.lane)) = says.held ∙ ap (λ n. drop n (before (Flow c.in-Flow.lane))) (one_answer (reply_of c.args.event.now) c.requires) in
     let others : (l : Lane) → l ≢ Flow c.in-Flow.lane → after l ≡ before l =
     each_lane (λ l. l ≢ Flow c.in-Flow.lane → after l ≡ before l) (λ ne. refl) (λ j ne. says.others.held j (λ e. ne (ap Flow e))) in
     let To : List Holding → Type 0 = λ xs. Notes xs after in
-    subst To (sym (ap (λ b. b.items) c.drop_front-in-Ok-answer.ensures.items)) (answered_first c.args.self.now.order.items (Flow c.in-Flow.lane) before after (sym c.in-Some.ensures ∙ ap Some c.in-Flow.is) here others c.args.self.now.ordered)
+    subst To (sym (ap (λ b. b.items) c.drop_front-in-Ok-answer_oldest.ensures.items)) (answered_first c.args.self.now.order.items (Flow c.in-Flow.lane) before after (sym c.in-Some.ensures ∙ ap Some c.in-Flow.is) here others c.args.self.now.ordered)
 
-pub invariant_of-self-in-Ok-answer-clause-gave_back : goal.invariant_of-self-in-Ok-answer-clause-gave_back
-invariant_of-self-in-Ok-answer-clause-gave_back c =
-    gave_back (hands_of c.args.self.now.flows) (hands_of c.leave.new.self) (says_before _ (hands_of c.answer.new.self) _ c.in-Flow.lane (reply_of c.args.event.now) c.in-Ok-answer.ensures.lists c.leave.ensures.same).given_back c.args.self.now.gave_back
+pub invariant_of-self-in-Ok-answer_oldest-clause-gave_back : goal.invariant_of-self-in-Ok-answer_oldest-clause-gave_back
+invariant_of-self-in-Ok-answer_oldest-clause-gave_back c =
+    gave_back (hands_of c.args.self.now.flows) (hands_of c.answer_oldest.new.self) c.in-Ok-answer_oldest.ensures.lists.given_back c.args.self.now.gave_back
 
-pub invariant_of-self-in-Ok-answer-clause-no_new : goal.invariant_of-self-in-Ok-answer-clause-no_new
-invariant_of-self-in-Ok-answer-clause-no_new c =
-    says_no_new (hands_of c.args.self.now.flows) (hands_of c.leave.new.self) c.in-Flow.lane (reply_of c.args.event.now) (ap (λ b. b || is_more_reply (reply_of c.args.event.now)) c.requires)
-    (says_before _ (hands_of c.answer.new.self) _ c.in-Flow.lane (reply_of c.args.event.now) c.in-Ok-answer.ensures.lists c.leave.ensures.same) c.args.self.now.no_new
+pub invariant_of-self-in-Ok-answer_oldest-clause-no_new : goal.invariant_of-self-in-Ok-answer_oldest-clause-no_new
+invariant_of-self-in-Ok-answer_oldest-clause-no_new c =
+    says_no_new (hands_of c.args.self.now.flows) (hands_of c.answer_oldest.new.self) c.in-Flow.lane (reply_of c.args.event.now) (ap (λ b. b || is_more_reply (reply_of c.args.event.now)) c.requires)
+    c.in-Ok-answer_oldest.ensures.lists c.args.self.now.no_new
 
-pub invariant_of-self-in-Ok-answer-clause-added : goal.invariant_of-self-in-Ok-answer-clause-added
-invariant_of-self-in-Ok-answer-clause-added c =
-    added_said (hands_of c.args.self.now.flows) (hands_of c.leave.new.self) c.in-Flow.lane (reply_of c.args.event.now)
-    (says_before _ (hands_of c.answer.new.self) _ c.in-Flow.lane (reply_of c.args.event.now) c.in-Ok-answer.ensures.lists c.leave.ensures.same) c.args.self.now.added
+pub invariant_of-self-in-Ok-answer_oldest-clause-added : goal.invariant_of-self-in-Ok-answer_oldest-clause-added
+invariant_of-self-in-Ok-answer_oldest-clause-added c =
+    added_said (hands_of c.args.self.now.flows) (hands_of c.answer_oldest.new.self) c.in-Flow.lane (reply_of c.args.event.now)
+    c.in-Ok-answer_oldest.ensures.lists c.args.self.now.added
 
-pub invariant_of-self-in-Ok-answer-clause-idle : goal.invariant_of-self-in-Ok-answer-clause-idle
-invariant_of-self-in-Ok-answer-clause-idle c =
-    idle_answered (hands_of c.args.self.now.flows) (hands_of c.answer.new.self) (hands_of c.leave.new.self) c.in-Flow.lane (reply_of c.args.event.now) c.in-Ok-answer.ensures.lists c.answer.ensures.entries
-    c.leave.ensures.same c.leave.ensures.left c.leave.ensures.elsewhere c.args.self.now.idle
+pub invariant_of-self-in-Ok-answer_oldest-clause-idle : goal.invariant_of-self-in-Ok-answer_oldest-clause-idle
+invariant_of-self-in-Ok-answer_oldest-clause-idle c = c.answer_oldest.ensures.idle c.args.self.now.idle
 
-pub returns-in-Ok-answer-clause-counts : goal.returns-in-Ok-answer-clause-counts
-returns-in-Ok-answer-clause-counts c =
-    let says : Says c.in-Flow.lane (reply_of c.args.event.now) (hands_of c.args.self.now.flows) (hands_of c.leave.new.self) =
-    says_before _ (hands_of c.answer.new.self) _ c.in-Flow.lane (reply_of c.args.event.now) c.in-Ok-answer.ensures.lists c.leave.ensures.same in
-    counts_said c.args.self.now _ (Flow c.in-Flow.lane) (reply_of c.args.event.now) (c.leave.ensures.site ∙ c.answer.ensures.site)
+pub returns-in-Ok-answer_oldest-clause-counts : goal.returns-in-Ok-answer_oldest-clause-counts
+returns-in-Ok-answer_oldest-clause-counts c =
+    let says : Says c.in-Flow.lane (reply_of c.args.event.now) (hands_of c.args.self.now.flows) (hands_of c.answer_oldest.new.self) =
+    c.in-Ok-answer_oldest.ensures.lists in
+    counts_said c.args.self.now _ (Flow c.in-Flow.lane) (reply_of c.args.event.now) c.answer_oldest.ensures.site
     (oldest_there c.args.self.now c.in-Flow.lane (sym c.in-Some.ensures ∙ ap Some c.in-Flow.is))
     says.answered_is
-    (each_lane (λ l. l ≢ Flow c.in-Flow.lane → said_on c.args.self.now.own (hands_of c.leave.new.self) l ≡ said_on c.args.self.now.own (hands_of c.args.self.now.flows) l) (λ ne. refl)
+    (each_lane (λ l. l ≢ Flow c.in-Flow.lane → said_on c.args.self.now.own (hands_of c.answer_oldest.new.self) l ≡ said_on c.args.self.now.own (hands_of c.args.self.now.flows) l) (λ ne. refl)
     (λ j ne. says.others.answered_is j (λ h. ne (ap Flow h))))
 
-pub returns-in-Ok-answer-clause-submitted : goal.returns-in-Ok-answer-clause-submitted
-returns-in-Ok-answer-clause-submitted c =
-    let says : Says c.in-Flow.lane (reply_of c.args.event.now) (hands_of c.args.self.now.flows) (hands_of c.leave.new.self) =
-    says_before _ (hands_of c.answer.new.self) _ c.in-Flow.lane (reply_of c.args.event.now) c.in-Ok-answer.ensures.lists c.leave.ensures.same in
+pub returns-in-Ok-answer_oldest-clause-submitted : goal.returns-in-Ok-answer_oldest-clause-submitted
+returns-in-Ok-answer_oldest-clause-submitted c =
+    let says : Says c.in-Flow.lane (reply_of c.args.event.now) (hands_of c.args.self.now.flows) (hands_of c.answer_oldest.new.self) =
+    c.in-Ok-answer_oldest.ensures.lists in
     let own = c.args.self.now.own in
-    let after : Hand = record { said = said_on own (hands_of c.leave.new.self); got = got_on own (hands_of c.leave.new.self); holding = c.drop_front-in-Ok-answer.new.self.items } in
+    let after : Hand = record { said = said_on own (hands_of c.answer_oldest.new.self); got = got_on own (hands_of c.answer_oldest.new.self); holding = c.drop_front-in-Ok-answer_oldest.new.self.items } in
     subst (λ o. SubmitsTo o (reply_of c.args.event.now) (hand_of c.args.self.now) after) (sym (sym c.in-Some.ensures ∙ ap Some c.in-Flow.is))
     (record {
       said_here = says.answered_is;
       said = each_lane (λ l. l ≢ Flow c.in-Flow.lane → after.said l ≡ said_on own (hands_of c.args.self.now.flows) l) (λ ne. refl) (λ j ne. says.others.answered_is j (λ h. ne (ap Flow h)));
       got = each_lane (λ l. after.got l ≡ got_on own (hands_of c.args.self.now.flows) l) refl (says_received _ _ c.in-Flow.lane (reply_of c.args.event.now) says);
-      holding = ap (λ b. b.items) c.drop_front-in-Ok-answer.ensures.items ∙ ap (λ n. drop n c.args.self.now.order.items) (sym (one_answer (reply_of c.args.event.now) c.requires));
+      holding = ap (λ b. b.items) c.drop_front-in-Ok-answer_oldest.ensures.items ∙ ap (λ n. drop n c.args.self.now.order.items) (sym (one_answer (reply_of c.args.event.now) c.requires));
     })

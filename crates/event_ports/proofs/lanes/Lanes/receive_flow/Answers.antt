@@ -17,16 +17,16 @@ use Rattle.event_ports.proofs.lanes.Lanes.receive_flow.Goals as goal
 pub note-requires : goal.note-requires
 note-requires c =
     let came = c.receive_some.ensures.lists in
-    note_fits c.args.most _ _ c.args.into.now.items c.receive_some.new.into.items came.came c.requires.room came.array (c.receive_some.ensures.few c.requires.room.few)
+    note_fits c.args.most _ _ c.args.into.now.items c.receive_some.new.into.items came.came c.requires.room came.array c.receive_some.ensures.few
     c.args.self.now.order.items c.args.self.now.order.capacity c.len-from.result (search rules) (search rules) (search rules)
 
 pub invariant_of-self-2-clause-ordered : goal.invariant_of-self-2-clause-ordered
 invariant_of-self-2-clause-ordered c =
     let came = c.receive_some.ensures.lists in
-    let gets : Gets c.args.lane came.came (hands_of c.args.self.now.flows) (hands_of c.leave.new.self) =
-    gets_between _ (hands_of c.hold.new.self) (hands_of c.receive_some.new.self) _ c.args.lane came.came c.hold.ensures.same came.gets c.leave.ensures.same in
+    let gets : Gets c.args.lane came.came (hands_of c.args.self.now.flows) (hands_of c.leave_unless.new.self) =
+    gets_between _ (hands_of c.hold.new.self) (hands_of c.receive_some.new.self) _ c.args.lane came.came c.hold.ensures.same came.gets c.leave_unless.ensures.same in
     let before : Lane → List Delivery = open_on c.args.self.now.own (hands_of c.args.self.now.flows) in
-    let after : Lane → List Delivery = open_on c.args.self.now.own (hands_of c.leave.new.self) in
+    let after : Lane → List Delivery = open_on c.args.self.now.own (hands_of c.leave_unless.new.self) in
     let others : (l : Lane) → l ≢ Flow c.args.lane → after l ≡ before l =
     each_lane (λ l. l ≢ Flow c.args.lane → after l ≡ before l) (λ ne. refl) (λ j ne. gets.others.held j (λ e. ne (ap Flow e))) in
     let To : List Holding → Type 0 = λ xs. Notes xs after in
@@ -36,47 +36,47 @@ invariant_of-self-2-clause-ordered c =
 pub invariant_of-self-2-clause-gave_back : goal.invariant_of-self-2-clause-gave_back
 invariant_of-self-2-clause-gave_back c =
     let came = c.receive_some.ensures.lists in
-    let gets : Gets c.args.lane came.came (hands_of c.args.self.now.flows) (hands_of c.leave.new.self) =
-    gets_between _ (hands_of c.hold.new.self) (hands_of c.receive_some.new.self) _ c.args.lane came.came c.hold.ensures.same came.gets c.leave.ensures.same in
-    gave_back (hands_of c.args.self.now.flows) (hands_of c.leave.new.self) gets.given_back c.args.self.now.gave_back
+    let gets : Gets c.args.lane came.came (hands_of c.args.self.now.flows) (hands_of c.leave_unless.new.self) =
+    gets_between _ (hands_of c.hold.new.self) (hands_of c.receive_some.new.self) _ c.args.lane came.came c.hold.ensures.same came.gets c.leave_unless.ensures.same in
+    gave_back (hands_of c.args.self.now.flows) (hands_of c.leave_unless.new.self) gets.given_back c.args.self.now.gave_back
 
 pub invariant_of-self-2-clause-no_new : goal.invariant_of-self-2-clause-no_new
 invariant_of-self-2-clause-no_new c =
     let came = c.receive_some.ensures.lists in
-    let gets : Gets c.args.lane came.came (hands_of c.args.self.now.flows) (hands_of c.leave.new.self) =
-    gets_between _ (hands_of c.hold.new.self) (hands_of c.receive_some.new.self) _ c.args.lane came.came c.hold.ensures.same came.gets c.leave.ensures.same in
-    same_no_new (hands_of c.args.self.now.flows) (hands_of c.leave.new.self) (gets_no_answer _ _ c.args.lane came.came gets) c.args.self.now.no_new
+    let gets : Gets c.args.lane came.came (hands_of c.args.self.now.flows) (hands_of c.leave_unless.new.self) =
+    gets_between _ (hands_of c.hold.new.self) (hands_of c.receive_some.new.self) _ c.args.lane came.came c.hold.ensures.same came.gets c.leave_unless.ensures.same in
+    same_no_new (hands_of c.args.self.now.flows) (hands_of c.leave_unless.new.self) (gets_no_answer _ _ c.args.lane came.came gets) c.args.self.now.no_new
 
 pub invariant_of-self-2-clause-idle : goal.invariant_of-self-2-clause-idle
 invariant_of-self-2-clause-idle c =
-    idle_received (hands_of c.args.self.now.flows) (hands_of c.hold.new.self) (hands_of c.receive_some.new.self) (hands_of c.leave.new.self) c.args.lane c.receive_some.ensures.lists.came
-    c.hold.ensures.same c.hold.ensures.elsewhere c.receive_some.ensures.lists.gets c.receive_some.ensures.entries c.leave.ensures.same c.leave.ensures.left c.leave.ensures.elsewhere c.args.self.now.idle
+    idle_received (hands_of c.args.self.now.flows) (hands_of c.hold.new.self) (hands_of c.receive_some.new.self) (hands_of c.leave_unless.new.self) c.args.lane c.receive_some.ensures.lists.came
+    c.hold.ensures.same c.hold.ensures.elsewhere c.receive_some.ensures.lists.gets c.receive_some.ensures.entries c.leave_unless.ensures.same c.leave_unless.ensures.left c.leave_unless.ensures.elsewhere c.args.self.now.idle
 
 pub returns-clause-counts : goal.returns-clause-counts
 returns-clause-counts c =
     let came = c.receive_some.ensures.lists in
-    let gets : Gets c.args.lane came.came (hands_of c.args.self.now.flows) (hands_of c.leave.new.self) =
-    gets_between _ (hands_of c.hold.new.self) (hands_of c.receive_some.new.self) _ c.args.lane came.came c.hold.ensures.same came.gets c.leave.ensures.same in
-    counts_same c.args.self.now _ (c.leave.ensures.site ∙ c.receive_some.ensures.site ∙ c.hold.ensures.site)
-    (each_lane (λ l. said_on c.args.self.now.own (hands_of c.leave.new.self) l ≡ said_on c.args.self.now.own (hands_of c.args.self.now.flows) l) refl (gets_no_answer _ _ c.args.lane came.came gets))
+    let gets : Gets c.args.lane came.came (hands_of c.args.self.now.flows) (hands_of c.leave_unless.new.self) =
+    gets_between _ (hands_of c.hold.new.self) (hands_of c.receive_some.new.self) _ c.args.lane came.came c.hold.ensures.same came.gets c.leave_unless.ensures.same in
+    counts_same c.args.self.now _ (c.leave_unless.ensures.site ∙ c.receive_some.ensures.site ∙ c.hold.ensures.site)
+    (each_lane (λ l. said_on c.args.self.now.own (hands_of c.leave_unless.new.self) l ≡ said_on c.args.self.now.own (hands_of c.args.self.now.flows) l) refl (gets_no_answer _ _ c.args.lane came.came gets))
 
 pub returns-clause-arrived : goal.returns-clause-arrived
 returns-clause-arrived c =
     let came = c.receive_some.ensures.lists in
-    let gets : Gets c.args.lane came.came (hands_of c.args.self.now.flows) (hands_of c.leave.new.self) =
-    gets_between _ (hands_of c.hold.new.self) (hands_of c.receive_some.new.self) _ c.args.lane came.came c.hold.ensures.same came.gets c.leave.ensures.same in
+    let gets : Gets c.args.lane came.came (hands_of c.args.self.now.flows) (hands_of c.leave_unless.new.self) =
+    gets_between _ (hands_of c.hold.new.self) (hands_of c.receive_some.new.self) _ c.args.lane came.came c.hold.ensures.same came.gets c.leave_unless.ensures.same in
     arrives_some (Flow c.args.lane) _ _ c.args.into.now.items c.receive_some.new.into.items came.came
     (record {
-      said = each_lane (λ l. said_on c.args.self.now.own (hands_of c.leave.new.self) l ≡ said_on c.args.self.now.own (hands_of c.args.self.now.flows) l) refl (λ j. gets_no_answer _ _ c.args.lane came.came gets j);
+      said = each_lane (λ l. said_on c.args.self.now.own (hands_of c.leave_unless.new.self) l ≡ said_on c.args.self.now.own (hands_of c.args.self.now.flows) l) refl (λ j. gets_no_answer _ _ c.args.lane came.came gets j);
       got_here = gets.received;
-      got = each_lane (λ l. l ≢ Flow c.args.lane → got_on c.args.self.now.own (hands_of c.leave.new.self) l ≡ got_on c.args.self.now.own (hands_of c.args.self.now.flows) l) (λ ne. refl) (λ j ne. gets.others.received j (λ e. ne (ap Flow e)));
+      got = each_lane (λ l. l ≢ Flow c.args.lane → got_on c.args.self.now.own (hands_of c.leave_unless.new.self) l ≡ got_on c.args.self.now.own (hands_of c.args.self.now.flows) l) (λ ne. refl) (λ j ne. gets.others.received j (λ e. ne (ap Flow e)));
       holding = noted_are (Flow c.args.lane) c.len-from.result c.args.into.now.items c.receive_some.new.into.items came.came c.args.self.now.order.items c.note.new.self.items came.array (search rules) c.note.ensures.noted;
     }) came.array
 
 pub returns-clause-room : goal.returns-clause-room
 returns-clause-room c =
     let came = c.receive_some.ensures.lists in
-    room_less c.args.most _ c.args.self.now.order.items c.note.new.self.items (Flow c.args.lane) c.args.into.now.items c.receive_some.new.into.items came.came (subst (λ n. HasRoomFor c.args.most n c.args.self.now.order.items c.args.into.now.items) (sym c.note.ensures.room) c.requires.room) (c.receive_some.ensures.few c.requires.room.few)
+    room_less c.args.most _ c.args.self.now.order.items c.note.new.self.items (Flow c.args.lane) c.args.into.now.items c.receive_some.new.into.items came.came (subst (λ n. HasRoomFor c.args.most n c.args.self.now.order.items c.args.into.now.items) (sym c.note.ensures.room) c.requires.room) c.receive_some.ensures.few
     (noted_are (Flow c.args.lane) c.len-from.result c.args.into.now.items c.receive_some.new.into.items came.came c.args.self.now.order.items c.note.new.self.items came.array (search rules) c.note.ensures.noted) came.array
 
 pub returns-then-len-most-clause-arrived : goal.returns-then-len-most-clause-arrived

@@ -43,8 +43,5 @@ loop-position-preserved c =
       shown = λ all. c.receive_flow.ensures.shown (was.shown all);
     }
 
-pub returns-else-len-most-clause-arrived : goal.returns-else-len-most-clause-arrived
-returns-else-len-most-clause-arrived c = arrives_all (links_of c.args.self.now) c.loop-position.position _ _ _ _ c.loop-position.invariant.within c.loop-position.invariant.arrived
-
-pub returns-after-loop-position-clause-arrived : goal.returns-after-loop-position-clause-arrived
-returns-after-loop-position-clause-arrived c = arrives_all (links_of c.args.self.now) c.loop-position.position _ _ _ _ c.loop-position.invariant.within c.loop-position.invariant.arrived
+pub returns-clause-arrived : goal.returns-clause-arrived
+returns-clause-arrived c = arrives_all (links_of c.args.self.now) c.loop-position.position _ _ _ _ c.loop-position.invariant.within c.loop-position.invariant.arrived

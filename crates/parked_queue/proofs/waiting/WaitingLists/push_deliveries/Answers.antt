@@ -1,67 +1,65 @@
-use Rattle.std.proofs.Common.{◌≡◌, ◌+◌, ◌-◌, ◌<◌, ◌∙◌, ◌++◌, [], ◌∷◌, ℕ, List, ap, arith, length, map, refl, slice_get, subst, suc, sym}
+use Rattle.std.proofs.Common.{◌∙◌, ◌++◌, ◌∷◌, [], ℕ, List, Option, ap, append-nil, arith, length, map, refl, slice_get, subst, sym, vec_len}
 use Rattle.evt_types.specs.declared.event.Delivery.{Delivery}
 use Rattle.evt_types.specs.declared.event.Numbered.{Numbered}
-use Rattle.parked_queue.specs.Chains.{AreNodes, events_of, items, path}
-use Rattle.parked_queue.specs.Lists.{named_delivery, list_at}
-use Rattle.parked_queue.specs.Store.{len_of}
-use Rattle.parked_queue.specs.declared.chain.Chain.{Chain}
-use Rattle.parked_queue.proofs.ChainFirsts.{first_node, rest_nodes}
+use Rattle.parked_queue.specs.Chains.{items, next_of, path_of}
+use Rattle.parked_queue.specs.declared.chain.Node.{Node}
+use Rattle.parked_queue.specs.Lists.{named_delivery}
+use Rattle.parked_queue.proofs.Changes.{chain_here, events_here}
 use Rattle.parked_queue.proofs.Nodes.{node_read, list_within}
-use Rattle.parked_queue.proofs.ChainDeliveries.{deliveries_more, deliveries_done}
-use Rattle.parked_queue.proofs.Views.{chain_read, length_seen, list_seen, there_seen}
+use Rattle.parked_queue.proofs.Walks.{IsLeft, deliveries_more, left_next, left_none, left_whole, length_events}
 use Rattle.parked_queue.proofs.waiting.WaitingLists.push_deliveries.Goals as goal
 
-pub loop-init : goal.loop-init
-loop-init c =
-    let there = there_seen c.self.inside.nodes c.self.inside.chains.items c.self.inside.room c.args.self.now c.self.view_is c.args.list c.requires.list in
-    let read = chain_read c.self.inside.chains.items c.args.list c.index-chain.result.now there c.index-chain.ensures in
-    let whole : c.index-chain.result.now.len ≡ c.index-chain.result.now.len - 0 = omega arith in
-    let count : c.index-chain.result.now.len ≡ length (list_at c.args.self.now c.args.list) =
-    ap len_of read
-    ∙ length_seen c.self.inside.nodes c.self.inside.chains.items c.self.inside.room c.args.self.now c.self.view_is c.self.inside.free c.self.invariant c.args.list in
-    let events : events_of (slice_get c.self.inside.nodes.items) c.index-chain.result.now ≡ list_at c.args.self.now c.args.list =
-    ap (events_of (slice_get c.self.inside.nodes.items)) read
-    ∙ list_seen c.self.inside.nodes c.self.inside.chains.items c.self.inside.room c.args.self.now c.self.view_is c.args.list in
+pub loop-cursor-init : goal.loop-cursor-init
+loop-cursor-init c =
+    let at = slice_get c.self.inside.nodes.items in
+    let here = chain_here c.self.inside.nodes.items (vec_len c.self.inside.nodes) c.self.inside.free c.self.inside.chains.items c.self.inside.room c.args.self.now c.self.view_is c.self.invariant c.args.list c.requires.list c.index-chain.result.now c.index-chain.ensures in
+    let events = events_here c.self.inside.nodes.items (vec_len c.self.inside.nodes) c.self.inside.free c.self.inside.chains.items c.self.inside.room c.args.self.now c.self.view_is c.self.invariant c.args.list c.requires.list c.index-chain.result.now c.index-chain.ensures in
+    let count = length_events at c.self.invariant.chains.owner _ (vec_len c.self.inside.nodes) c.index-chain.result.now here in
     record {
-      owner = c.self.invariant.chains.owner;
-      taken =
-          subst (λ (m : ℕ). AreNodes (slice_get c.self.inside.nodes.items) c.self.invariant.chains.owner (suc c.args.list) (path (slice_get c.self.inside.nodes.items) c.index-chain.result.now.first m)) whole
-          (subst (λ (x : Chain). AreNodes (slice_get c.self.inside.nodes.items) c.self.invariant.chains.owner (suc c.args.list) (path (slice_get c.self.inside.nodes.items) x.first x.len)) (sym read) (c.self.invariant.chains.taken c.args.list));
-      deliveries =
-          ap (λ (m : ℕ). c.args.into.now.items ++ map named_delivery (items (slice_get c.self.inside.nodes.items) (path (slice_get c.self.inside.nodes.items) c.index-chain.result.now.first m))) (sym whole)
-          ∙ ap (λ (ws : List Numbered). c.args.into.now.items ++ map named_delivery ws) events;
-      room = omega (arith, count, c.requires.room);
+      rest = path_of at (vec_len c.self.inside.nodes) c.index-chain.result.now;
+      left = left_whole at c.self.invariant.chains.owner _ (vec_len c.self.inside.nodes) c.index-chain.result.now here;
+      deliveries = ap (λ (ws : List Numbered). c.args.into.now.items ++ map named_delivery ws) events;
+      room = omega (arith, count, ap length events, c.requires.room);
       capacity = refl;
     }
 
-pub index-node-requires : goal.index-node-requires
-index-node-requires c =
-    list_within c.self.inside.nodes c.loop.cursor
-    (first_node (slice_get c.self.inside.nodes.items) c.loop.invariant.owner (suc c.args.list) c.loop.cursor (c.index-chain.result.now.len - c.loop.counter) (omega (arith, c.loop-test.true)) c.loop.invariant.taken)
+pub index-requires : goal.index-requires
+index-requires c =
+    let next = left_next (slice_get c.self.inside.nodes.items) c.index-chain.result.now.spare c.loop-cursor.cursor c.loop-cursor.invariant.rest c.loop-cursor.invariant.left c.loop-cursor-test.true in
+    list_within c.self.inside.nodes c.loop-cursor.cursor next.there
 
 pub push_reserved-requires : goal.push_reserved-requires
-push_reserved-requires c = omega (arith, c.loop-test.true, c.loop.invariant.room)
+push_reserved-requires c =
+    let next = left_next (slice_get c.self.inside.nodes.items) c.index-chain.result.now.spare c.loop-cursor.cursor c.loop-cursor.invariant.rest c.loop-cursor.invariant.left c.loop-cursor-test.true in
+    omega (arith, ap length next.whole, c.loop-cursor.invariant.room)
 
-pub loop-preserved : goal.loop-preserved
-loop-preserved c =
-    let some : 0 < c.index-chain.result.now.len - c.loop.counter = omega (arith, c.loop-test.true) in
-    let within = list_within c.self.inside.nodes c.loop.cursor
-    (first_node (slice_get c.self.inside.nodes.items) c.loop.invariant.owner (suc c.args.list) c.loop.cursor (c.index-chain.result.now.len - c.loop.counter) some c.loop.invariant.taken) in
-    let found = node_read c.self.inside.nodes c.loop.cursor c.index-node.result.now within c.index-node.ensures in
-    let less : c.index-chain.result.now.len - c.loop.counter - 1 ≡ c.index-chain.result.now.len - (c.loop.counter + 1) = omega arith in
+pub loop-cursor-smaller : goal.loop-cursor-smaller
+loop-cursor-smaller c =
+    let next = left_next (slice_get c.self.inside.nodes.items) c.index-chain.result.now.spare c.loop-cursor.cursor c.loop-cursor.invariant.rest c.loop-cursor.invariant.left c.loop-cursor-test.true in
+    omega (arith, ap length next.whole, c.loop-cursor.invariant.room, c.push_reserved.ensures.len, c.push_reserved.ensures.capacity)
+
+pub loop-cursor-preserved : goal.loop-cursor-preserved
+loop-cursor-preserved c =
+    let at = slice_get c.self.inside.nodes.items in
+    let next = left_next at c.index-chain.result.now.spare c.loop-cursor.cursor c.loop-cursor.invariant.rest c.loop-cursor.invariant.left c.loop-cursor-test.true in
+    let found = node_read c.self.inside.nodes c.loop-cursor.cursor c.index.result.now (list_within c.self.inside.nodes c.loop-cursor.cursor next.there) c.index.ensures in
     record {
-      owner = c.loop.invariant.owner;
-      taken =
-          subst (λ (m : ℕ). AreNodes (slice_get c.self.inside.nodes.items) c.loop.invariant.owner (suc c.args.list) (path (slice_get c.self.inside.nodes.items) c.index-node.result.now.next m)) less
-          (rest_nodes (slice_get c.self.inside.nodes.items) c.loop.invariant.owner (suc c.args.list) c.loop.cursor (c.index-chain.result.now.len - c.loop.counter) c.index-node.result.now some found c.loop.invariant.taken);
+      rest = next.rest;
+      left = subst (λ (o : Option Node). IsLeft at c.index-chain.result.now.spare (next_of o) next.rest) found next.left;
       deliveries =
-          ap (λ (m : ℕ). c.push_reserved.new.self.items ++ map named_delivery (items (slice_get c.self.inside.nodes.items) (path (slice_get c.self.inside.nodes.items) c.index-node.result.now.next m))) (sym less)
-          ∙ deliveries_more (slice_get c.self.inside.nodes.items) c.loop.cursor (c.index-chain.result.now.len - c.loop.counter) c.index-node.result.now c.loop.into.items c.push_reserved.new.self.items some found (c.push_reserved.ensures.items ∙ ap (λ (d : Delivery). c.loop.into.items ++ d ∷ []) c.new.ensures)
-          ∙ c.loop.invariant.deliveries;
-      room = omega (arith, c.loop-test.true, c.loop.invariant.room, c.push_reserved.ensures.len, c.push_reserved.ensures.capacity);
-      capacity = c.push_reserved.ensures.capacity ∙ c.loop.invariant.capacity;
+          deliveries_more at c.loop-cursor.cursor c.index.result.now c.loop-cursor.invariant.rest next.rest c.loop-cursor.into.items c.push_reserved.new.self.items next.whole found (c.push_reserved.ensures.items ∙ ap (λ (d : Delivery). c.loop-cursor.into.items ++ d ∷ []) c.new.ensures)
+          ∙ c.loop-cursor.invariant.deliveries;
+      room = omega (arith, ap length next.whole, c.loop-cursor.invariant.room, c.push_reserved.ensures.len, c.push_reserved.ensures.capacity);
+      capacity = c.push_reserved.ensures.capacity ∙ c.loop-cursor.invariant.capacity;
     }
 
 pub returns-clause-deliveries : goal.returns-clause-deliveries
 returns-clause-deliveries c =
-    deliveries_done (slice_get c.self.inside.nodes.items) c.loop.cursor (c.index-chain.result.now.len - c.loop.counter) c.loop.into.items _ (omega (arith, c.loop-test.false)) c.loop.invariant.deliveries
+    let none = left_none (slice_get c.self.inside.nodes.items) c.index-chain.result.now.spare c.loop-cursor.cursor c.loop-cursor.invariant.rest c.loop-cursor.invariant.left c.loop-cursor-test.false in
+    sym
+    (ap (λ (is : List ℕ). c.loop-cursor.into.items ++ map named_delivery (items (slice_get c.self.inside.nodes.items) is)) none
+    ∙ append-nil c.loop-cursor.into.items)
+    ∙ c.loop-cursor.invariant.deliveries
+
+pub returns-clause-room : goal.returns-clause-room
+returns-clause-room c = c.loop-cursor.invariant.capacity

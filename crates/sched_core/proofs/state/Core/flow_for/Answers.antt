@@ -19,6 +19,11 @@ slot_lane_read a v q slot read now core same flows h few is was =
     subst (λ (u : View). IsSlotLane u.shape q slot now) same
     (subst (IsSlotLane a.shape q slot) was (slot_lane_here a q slot read core (subst (λ (u : View). has_flow_lanes u.shape q ≡ true) (sym same) flows) (queue_there a v q same h) few is))
 
+pub fits-requires-clause-serves : goal.fits-requires-clause-serves
+fits-requires-clause-serves c =
+    let one : IsSlotLane c.args.self.now.shape c.args.queue c.args.slot (Some c.in_ok-lane.lane) = slot_lane_read c.self.inside c.args.self.now c.args.queue c.args.slot c.index.result.now _ c.self.invariant c.self.view_is c.requires.flows c.requires.queue c.requires.slot c.index.ensures c.in_ok-lane.was in
+    one.1
+
 pub returns-in_err-lane-clause-none : goal.returns-in_err-lane-clause-none
 returns-in_err-lane-clause-none c =
     subst (λ (o : Option ℕ). IfNone o ((l : ℕ) → ¬ FitsSlot c.args.self.now c.args.skips.now c.args.queue c.args.slot l)) (sym c.from_residual.ensures)

@@ -1,4 +1,4 @@
-use Rattle.std.proofs.Common.{◌+◌, ◌%◌, ◌<◌, get_or, length, sym, ap, ◌∙◌, arith}
+use Rattle.std.proofs.Common.{[], refl, ◌+◌, ◌%◌, ◌<◌, get_or, length, sym, ap, ◌∙◌, arith}
 use Rattle.std.proofs.lemmas.List.{get_or-set_same}
 use Rattle.evt_types.specs.Plan.{Plan, level_of}
 use Rattle.evt_types.specs.declared.event.Numbered.{Numbered}
@@ -23,8 +23,8 @@ give_at-requires-clause-slot g c =
     ∙ ap (λ n. slot_at c.args.self.now n (numbered_in c.args.offer.delivery)) (sym c.queue-queue.ensures) ∙ ap (slot_at c.args.self.now c.queue-queue.result) (sym c.numbered.ensures)
 
 pub returns-then-has_flow_lanes-clause-stands : goal.returns-then-has_flow_lanes-clause-stands
-returns-then-has_flow_lanes-clause-stands g c T stands = choices_stand c.args.offer.lane c.args.self.now c.args.skips.now c.push.new.self.items c.give_at.new.self c.given.new.self T
-    (run_first c.args.offer.lane c.queue-queue.result c.args.self.now c.args.skips.now c.clear.new.self.items c.push.new.self.items c.give_at.new.self c.given.new.self c.args.offer.delivery c.numbered.result c.requires.choice c.queue-queue.ensures c.numbered.ensures c.give_at.ensures.view c.given.ensures.value c.clear.ensures c.push.ensures.items)
+returns-then-has_flow_lanes-clause-stands g c T stands = choices_stand c.args.offer.lane c.args.self.now c.args.skips.now c.begin.new.run.items c.give_at.new.self c.given.new.self T
+    (run_first c.args.offer.lane c.queue-queue.result c.args.self.now c.args.skips.now [] c.begin.new.run.items c.give_at.new.self c.given.new.self c.args.offer.delivery c.numbered.result c.requires.choice c.queue-queue.ensures c.numbered.ensures c.give_at.ensures.view c.given.ensures.value refl c.begin.ensures)
     stands
 
 pub give_more-requires-clause-turn : goal.give_more-requires-clause-turn
@@ -35,6 +35,16 @@ give_more-requires-clause-turn g c =
     (turn_of c.args.self.now c.args.skips.now c.args.offer.lane c.queue-queue.result c.args.offer.level.number c.numbered.result choice (c.args.offer.level_is ∙ ap (λ (w : Numbered). level_of w.event) (sym c.numbered.ensures)))
     c.give_at.ensures.view c.given.ensures.value
 
+pub returns-then-has_flow_lanes-clause-turn : goal.returns-then-has_flow_lanes-clause-turn
+returns-then-has_flow_lanes-clause-turn g c =
+    let choice = choice_given c.args.offer.lane c.queue-queue.result c.args.self.now c.args.skips.now c.args.offer.delivery c.numbered.result c.requires.choice c.queue-queue.ensures c.numbered.ensures in (
+      sym c.has_flow_lanes.ensures ∙ c.if-has_flow_lanes.true,
+      turn_on c.args.offer.lane c.queue-queue.result c.args.offer.level.number c.args.self.now c.give_at.new.self c.args.skips.now c.given.new.self c.numbered.result c.facts.ensures.sized
+          (choice_is_offer c.args.self.now c.args.skips.now c.args.offer.lane c.queue-queue.result c.numbered.result choice)
+          (turn_of c.args.self.now c.args.skips.now c.args.offer.lane c.queue-queue.result c.args.offer.level.number c.numbered.result choice (c.args.offer.level_is ∙ ap (λ (w : Numbered). level_of w.event) (sym c.numbered.ensures)))
+          c.give_at.ensures.view c.given.ensures.value,
+    )
+
 pub give_more-requires-clause-room : goal.give_more-requires-clause-room
 give_more-requires-clause-room g c =
     let there : c.queue-queue.result < length c.args.skips.now.given = let room = c.requires.choice.there in omega (arith, c.queue-queue.ensures, c.facts.ensures.limits.queue_count.1, c.given.ensures.counts) in
@@ -43,5 +53,5 @@ give_more-requires-clause-room g c =
 
 pub returns-clause-stands : goal.returns-clause-stands
 returns-clause-stands g c T stands = choices_stand c.args.offer.lane c.args.self.now c.args.skips.now c.give_more.new.run.items c.give_more.new.self c.give_more.new.skips T
-    (c.give_more.ensures.choices c.args.self.now c.args.skips.now (run_first c.args.offer.lane c.queue-queue.result c.args.self.now c.args.skips.now c.clear.new.self.items c.push.new.self.items c.give_at.new.self c.given.new.self c.args.offer.delivery c.numbered.result c.requires.choice c.queue-queue.ensures c.numbered.ensures c.give_at.ensures.view c.given.ensures.value c.clear.ensures c.push.ensures.items))
+    (c.give_more.ensures.choices c.args.self.now c.args.skips.now (run_first c.args.offer.lane c.queue-queue.result c.args.self.now c.args.skips.now [] c.begin.new.run.items c.give_at.new.self c.given.new.self c.args.offer.delivery c.numbered.result c.requires.choice c.queue-queue.ensures c.numbered.ensures c.give_at.ensures.view c.given.ensures.value refl c.begin.ensures))
     stands

@@ -28,6 +28,15 @@ pub(crate) struct FlowLanes {
     ghost shown: { AreShown touched stints.items },
 }
 
+/// The lanes that a dequeue has still to look at. A hint, as the sets are.
+#[derive(Clone, Copy)]
+pub(crate) struct Worthy {
+    /// Those whose hints were cleared.
+    next: LaneSet,
+    /// All of them.
+    left: LaneSet,
+}
+
 impl FlowLanes {
     ghost use Rattle.std.specs.Prelude.{◌≡◌, ◌≢◌, ℕ, ◌<◌, ◌≤◌, [], ◌++◌, true, false, length, slice_get, replicate, All, IsOk, IfOk, IfErr, MatchOption, MatchResult};
     ghost use Rattle.std.specs.Option.{is_some};
@@ -86,31 +95,43 @@ impl FlowLanes {
         self.links[position]
     }
 
-    /// Linked flow lanes that may have something, no more than so many: those with a hint, and those that the port holds. Their hints
-    /// are cleared, so that other ports look elsewhere.
+    /// The linked flow lanes that may have something: those with a hint, and those that the port holds.
     #[inline(always)]
-    pub(crate) fn worth_a_look(&self, most: usize) -> LaneSet {
+    pub(crate) fn worth_a_look(&self) -> Worthy {
+        let mut left = LaneSet::none();
         // Without flow lanes the words aren't read.
-        if self.links.is_empty() || most == 0 {
-            return LaneSet::none();
+        if !self.links.is_empty() {
+            left = self.hints.lanes().either(self.open).both(self.linked);
         }
-        let worthy = self.hints.lanes().either(self.open).both(self.linked);
-        let lowest = worthy.lowest(most);
-        // What the scheduler gives from here on sets a hint again.
-        self.hints.clear_all(lowest);
+        Worthy {
+            next: LaneSet::none(),
+            left,
+        }
+    }
+
+    /// The lowest lane that is worth a look, which leaves both sets. Where no hint of those that are left was cleared, as many are as
+    /// events may come, so that other ports look elsewhere.
+    #[inline(always)]
+    fn next_worthy(&self, worthy: &mut Worthy, most: usize) -> Option<usize> {
+        let Worthy { mut next, mut left } = *worthy;
+        let mut lowest = next.take_lowest();
+        if lowest.is_none() {
+            next = left.lowest(most);
+            // What the scheduler gives from here on sets a hint again.
+            self.hints.clear_all(next);
+            lowest = next.take_lowest();
+        }
+        if let Some(lane) = lowest {
+            left.remove(lane);
+        }
+        *worthy = Worthy { next, left };
         lowest
     }
 
-    /// These lanes weren't looked at, and may have something still.
+    /// The position in the links, from this one on, of the lowest lane that is worth a look, which is one no more; past the last where
+    /// there is none. So many events may come.
     #[inline(always)]
-    pub(crate) fn look_later(&self, lanes: LaneSet) {
-        self.hints.set_all(lanes);
-    }
-
-    /// The position in the links, from this one on, of the lowest lane that is worth a look, which leaves the set; past the last where
-    /// there is none.
-    #[inline(always)]
-    pub(crate) fn next_link(&self, position: usize, worthy: &mut LaneSet) -> usize
+    pub(crate) fn next_link(&self, position: usize, worthy: &mut Worthy, most: usize) -> usize
         requires { position ≤ length (flow_site self.now).links }
         ensures { (position ≤ result) × (result ≤ length (flow_site self.now).links) }
     {
@@ -118,12 +139,18 @@ impl FlowLanes {
             return position;
         }
         // The links rise, so before a lane's position come the lower ones.
-        let lower = match worthy.take_lowest() {
+        let lower = match self.next_worthy(worthy, most) {
             Some(lane) => self.linked.count_below(lane),
             // Behind all lanes of which there are hints come those that are always worth a look.
             None => self.linked.count(),
         };
         lower.max(position).min(self.links.len())
+    }
+
+    /// The lanes whose hints were cleared, and that weren't looked at, may have something still.
+    #[inline(always)]
+    pub(crate) fn look_later(&self, worthy: Worthy) {
+        self.hints.set_all(worthy.next);
     }
 
     /// Holds the lane, where it isn't held already, by one try. False where it can't be had.

@@ -211,13 +211,15 @@ impl Lanes {
         ensures others { seen_own self.new ≡ seen_own self.old }
         ensures shown { AllShown self.old → AllShown self.new }
     {
-        let mut worthy = self.flows.worth_a_look(most.saturating_sub(into.len()));
+        let mut worthy = self.flows.worth_a_look();
         let count = self.flows.link_count();
-        let mut position = self.flows.next_link(0, &mut worthy);
+        let wanted = most.saturating_sub(into.len());
+        let mut position = self.flows.next_link(0, &mut worthy, wanted);
         while position < count && into.len() < most {
             let lane = self.flows.link(position);
             self.receive_flow(lane, most, into);
-            position = self.flows.next_link(position + 1, &mut worthy);
+            let wanted = most.saturating_sub(into.len());
+            position = self.flows.next_link(position + 1, &mut worthy, wanted);
         }
         self.flows.look_later(worthy);
     }

@@ -43,7 +43,7 @@ impl PlainRun {
 
     /// Gives what is proposed.
     fn give(&mut self) -> Result<Made, AllocError> {
-        let proposed = self.core.propose(None, &self.skips);
+        let proposed = self.core.propose(&self.skips);
         if let Some(offer) = proposed {
             self.core.give(offer)?;
             self.skips.given(offer.queue)?;
@@ -53,7 +53,7 @@ impl PlainRun {
 
     /// The lane of what is proposed has no room.
     fn bounce(&mut self) -> Result<Made, AllocError> {
-        let proposed = self.core.propose(None, &self.skips);
+        let proposed = self.core.propose(&self.skips);
         if let Some(offer) = proposed {
             self.core.bounce(offer.lane)?;
             self.skips.bounced(offer.lane)?;

@@ -110,9 +110,12 @@ impl FlowLanes {
     }
 
     /// The lowest lane that is worth a look, which leaves both sets. Where no hint of those that are left was cleared, as many are as
-    /// events may come, so that other ports look elsewhere.
+    /// events may come, so that other ports look elsewhere. Where none may come no lane leaves, since it wouldn't be looked at.
     #[inline(always)]
     fn next_worthy(&self, worthy: &mut Worthy, most: usize) -> Option<usize> {
+        if most == 0 {
+            return None;
+        }
         let Worthy { mut next, mut left } = *worthy;
         let mut lowest = next.take_lowest();
         if lowest.is_none() {

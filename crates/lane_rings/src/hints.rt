@@ -126,8 +126,8 @@ fn put_in(word: &AtomicU64, bits: u64) {
 }
 
 /// Which flow lanes may have something to be received: a bit for each. The scheduler sets a lane's bit once what it gave is in the
-/// lane's ring; who holds the lane clears the bit before it looks into the ring, and sets it again where it left something there. It
-/// is a hint, on which no promise rests: no clause says which bits are set.
+/// lane's ring. A port that is about to look for the lane clears the bit, and sets it again where it didn't get the lane or left
+/// something in its ring. It is a hint, on which no promise rests: no clause says which bits are set.
 #[derive(Drop)]
 pub struct Hints {
     /// How many of the scheduler's lanes come before the first flow lane.

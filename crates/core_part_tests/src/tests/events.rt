@@ -1,4 +1,4 @@
-//! Events: known values, and each call once.
+//! Events: known words, and the levels of priorities.
 
 use evt_types::{Event, EventFault, Kind, Op, WordFault};
 use std::test::Fail;
@@ -55,42 +55,6 @@ fn refused_words(rt: HostRuntime) {
     }
 }
 
-/// The first number that is too large.
-static WRONG_FIELDS: [(Fields, EventFault); 2] = [
-    (
-        (1_048_576, 255, 16, Op::Release, 255, 255, 9),
-        EventFault::FlowTooLarge,
-    ),
-    (
-        (1_048_575, 255, 16, Op::Release, 255, 255, 9),
-        EventFault::EventTypeTooLarge,
-    ),
-];
-
-#[test]
-fn refused_events(rt: HostRuntime) {
-    for (fields, fault) in &WRONG_FIELDS {
-        assert_eq!(rt; made(fields).err(), Some(*fault));
-    }
-}
-
-/// An event with all its numbers, and what it is forwarded as.
-const SENT: Fields = (7, 3, 2, Op::New, 0, 128, 5);
-
-const FORWARDED: Fields = (7, 3, 2, Op::Forward, 1, 128, 10);
-
-#[test]
-fn other_events(rt: HostRuntime) -> Result<(), Fail> {
-    let others = [
-        made(&SENT)?.forwarded(1, 10),
-        Event::default(),
-        Event::release(),
-    ];
-    let wanted = [made(&FORWARDED)?, made(&ZERO)?, made(&RELEASE)?];
-    assert_eq!(rt; others, wanted);
-    Ok(())
-}
-
 static LEVELS: [(u8, usize); 5] = [(0, 0), (63, 0), (64, 1), (128, 2), (255, 3)];
 
 #[test]
@@ -100,21 +64,4 @@ fn levels_of_priorities(rt: HostRuntime) -> Result<(), Fail> {
         assert_eq!(rt; event.level(), *level, "at {priority}");
     }
     Ok(())
-}
-
-/// Scheduling types, and whether each is atomic and ordered.
-static KINDS: [(Kind, bool, bool); 3] = [
-    (Kind::Atomic, true, false),
-    (Kind::Ordered, false, true),
-    (Kind::Parallel, false, false),
-];
-
-#[test]
-fn kinds(rt: HostRuntime) {
-    for (kind, is_atomic, is_ordered) in &KINDS {
-        assert_eq!(rt;
-            (kind.is_atomic(), kind.is_ordered()),
-            (*is_atomic, *is_ordered)
-        );
-    }
 }

@@ -17,7 +17,7 @@ pub const MAX_WORKERS: u64 = 30;
 pub const MAX_BURST: u64 = 32;
 
 /// What a run is asked for.
-#[derive(Clone, Copy, Debug, PartialEq, Eq)]
+#[derive(Clone, Copy)]
 pub struct Asked {
     /// How many unanswered events the workers hold.
     pub held: u64,

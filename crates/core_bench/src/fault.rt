@@ -3,7 +3,7 @@
 use std::alloc::AllocError;
 
 /// Why a run stops before its end.
-#[derive(Clone, Copy, Debug, PartialEq, Eq)]
+#[derive(Clone, Copy)]
 pub enum BenchFault {
     /// The command line has not nine words.
     WordCount,

@@ -3,7 +3,7 @@
 use std::alloc::{AllocError, Global};
 
 /// The lanes whose ring refused a delivery in this sweep, and the queue of each event that was given in it.
-#[derive(Debug, Drop)]
+#[derive(Drop)]
 pub struct PlainSkips {
     bounced: Vec<usize>,
     given: Vec<usize>,

@@ -14,7 +14,7 @@ pub const MAX_WORKERS: u64 = 8;
 pub const MAX_EVENTS: u64 = 1_000_000;
 
 /// What a run is asked for.
-#[derive(Clone, Copy, Debug, PartialEq, Eq)]
+#[derive(Clone, Copy)]
 pub struct Asked {
     /// Who hands the events of the atomic stage out.
     pub serving: Serving,

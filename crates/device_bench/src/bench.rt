@@ -13,7 +13,7 @@ use evt_types::{Delivery, PackedEvent};
 use std::alloc::Global;
 
 /// How many events went by.
-#[derive(Clone, Copy, Debug, PartialEq, Eq)]
+#[derive(Clone, Copy)]
 pub struct Counts {
     /// So many new events were enqueued.
     pub entered: u64,

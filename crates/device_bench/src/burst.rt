@@ -5,7 +5,7 @@ ghost use Rattle.std.specs.Prelude.{◌≡◌, ◌*◌, IfOk};
 use crate::fault::BenchFault;
 
 /// So many events, which the worker gets in portions of one length.
-#[derive(Clone, Copy, Debug, PartialEq, Eq)]
+#[derive(Clone, Copy)]
 pub struct Burst {
     pub length: u64,
     pub portions: u64,

@@ -12,7 +12,7 @@ pub const SECOND: u8 = 1;
 pub const BURSTS: [usize; 3] = [1, 8, 32];
 
 /// Which log a device has.
-#[derive(Clone, Copy, Debug, PartialEq, Eq)]
+#[derive(Clone, Copy)]
 pub enum LogKind {
     /// It counts the steps and keeps none, as a program of packets wants it.
     Counted,
@@ -21,7 +21,7 @@ pub enum LogKind {
 }
 
 /// A case: the queue that new events enter, and what the worker does with them.
-#[derive(Clone, Copy, Debug, PartialEq, Eq)]
+#[derive(Clone, Copy)]
 pub struct Case {
     pub name: &'static str,
     pub kind: Kind,

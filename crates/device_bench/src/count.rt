@@ -13,7 +13,7 @@ use std::alloc::Global;
 const ROUNDS: u64 = 20;
 
 /// How many events went by, and how many were inside at the end.
-#[derive(Clone, Copy, Debug, PartialEq, Eq)]
+#[derive(Clone, Copy)]
 pub struct Passed {
     /// So many new events were enqueued.
     pub entered: u64,

@@ -9,7 +9,7 @@ use std::alloc::{AllocError, AllocFailed};
 use std::io;
 
 /// Why the program stops before its end.
-#[derive(Clone, Copy, Debug, PartialEq, Eq)]
+#[derive(Clone, Copy)]
 pub enum BenchFault {
     /// The command line has words, and they are neither `measure` nor `run` and more.
     Words,

@@ -16,7 +16,7 @@ const ALL_EVENTS: u64 = 1_000_000;
 const END_EVENTS: u64 = 100_000;
 
 /// A time for each event.
-#[derive(Clone, Copy, Debug)]
+#[derive(Clone, Copy)]
 pub struct PerEvent {
     tenths_of_ns: u128,
 }
@@ -44,7 +44,7 @@ impl fmt::Display for PerEvent {
 }
 
 /// What an event took of all, of the first and of the last events.
-#[derive(Clone, Copy, Debug)]
+#[derive(Clone, Copy)]
 pub struct Times {
     pub all: PerEvent,
     pub first: PerEvent,

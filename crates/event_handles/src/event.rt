@@ -8,7 +8,7 @@ use evt_types::{Delivery, Event, Kind, MAX_QUEUES, PackedEvent};
 
 /// An event of C, with the layout of `struct rte_event`.
 #[repr(C)]
-#[derive(Clone, Copy, Debug, PartialEq, Eq, Default)]
+#[derive(Clone, Copy, Default)]
 pub struct CEvent {
     /// The event word, from the lowest bit up: flow (20 bits), sub type (8), event type (4), operation (2), reserved (4), scheduling
     /// type (2), queue (8), priority (8), impl_opaque (8).
@@ -19,7 +19,7 @@ pub struct CEvent {
 
 /// An event that a stop found in the device.
 #[repr(C)]
-#[derive(Clone, Copy, Debug, PartialEq, Eq, Default)]
+#[derive(Clone, Copy, Default)]
 pub struct CLeft {
     pub event: CEvent,
     /// The number that it was accepted under; 0 in the parts 3 and 4.

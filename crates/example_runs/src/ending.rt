@@ -9,7 +9,7 @@ use std::sync::Wait;
 use std::thread::Threads;
 
 /// How a run of the program ended.
-#[derive(Debug, Drop)]
+#[derive(Drop)]
 pub struct Ending {
     status: u8,
     /// What stands on standard output.

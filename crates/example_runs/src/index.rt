@@ -1,7 +1,7 @@
 //! The index of the runs. A line is `DOCUMENT PRINTED STATUS WORDS`; an empty one and one that begins with `#` name no run.
 
 /// A run that a line of the index names.
-#[derive(Clone, Copy, Debug)]
+#[derive(Clone, Copy)]
 pub struct Entry<'a> {
     /// The file of the document, which stands on standard input.
     pub document: &'a str,

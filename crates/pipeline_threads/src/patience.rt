@@ -9,7 +9,7 @@ use std::thread;
 const LOOKS: u8 = 2;
 
 /// How often a thread has looked in vain.
-#[derive(Clone, Copy, Debug, Drop)]
+#[derive(Clone, Copy, Drop)]
 pub(crate) struct Patience {
     looks: u8,
 }

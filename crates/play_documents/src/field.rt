@@ -12,7 +12,7 @@ use toml::value::Array;
 use toml::{Table, Value};
 
 /// What a table has at a key.
-#[derive(Debug, Drop)]
+#[derive(Drop)]
 pub enum Field<T> {
     /// Nothing.
     Absent,

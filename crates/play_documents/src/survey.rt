@@ -11,7 +11,7 @@ use std::alloc::{AllocError, Global};
 use toml::Table;
 
 /// What a document's table says of its device, whatever else it says.
-#[derive(Debug, Drop)]
+#[derive(Drop)]
 pub struct DeviceRow {
     pub limit: Field<u32>,
     pub quantum: Field<u32>,
@@ -20,7 +20,7 @@ pub struct DeviceRow {
 }
 
 /// A queue's table.
-#[derive(Debug, Drop)]
+#[derive(Drop)]
 pub struct QueueRow {
     /// Whether each key is one of a queue's.
     pub known: bool,
@@ -32,7 +32,7 @@ pub struct QueueRow {
 }
 
 /// A port's table.
-#[derive(Debug, Drop)]
+#[derive(Drop)]
 pub struct PortRow {
     /// Whether each key is one of a port's.
     pub known: bool,
@@ -44,7 +44,7 @@ pub struct PortRow {
 }
 
 /// A document's table.
-#[derive(Debug, Drop)]
+#[derive(Drop)]
 pub struct Survey<'a> {
     /// Whether each key is one of a document's.
     pub known: bool,

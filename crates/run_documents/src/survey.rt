@@ -13,7 +13,7 @@ use std::alloc::{AllocError, Global};
 use toml::Table;
 
 /// A stage's table.
-#[derive(Debug, Drop)]
+#[derive(Drop)]
 pub struct StageRow {
     /// Its queue; the keys that it knows are a stage's.
     pub queue: QueueRow,
@@ -21,7 +21,7 @@ pub struct StageRow {
 }
 
 /// A pipeline's table.
-#[derive(Debug, Drop)]
+#[derive(Drop)]
 pub struct Survey<'a> {
     /// Whether each key is one of a pipeline's.
     pub known: bool,

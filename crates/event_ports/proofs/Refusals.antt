@@ -1,5 +1,5 @@
 -- Why the answer to the oldest that is held is refused, or what is added beside it.
-use Rattle.std.proofs.Common.{◌≡◌, ◌≢◌, ◌<◌, ◌≤◌, ℕ, true, cond, List, [], ◌∷◌, ◌++◌, length, drop, Some, Result, Ok, Err, IfErr, MatchResult, refl, sym, ap, ◌∙◌, subst, arith}
+use Rattle.std.proofs.Common.{◌≡◌, ◌≢◌, ◌<◌, ◌≤◌, ℕ, true, cond, List, [], ◌∷◌, ◌++◌, length, drop, Some, Result, Ok, Err, IfErr, IsOk, MatchResult, refl, sym, ap, ◌∙◌, subst, arith}
 use Rattle.std.proofs.lemmas.List.{drop_all}
 use Rattle.std.proofs.lemmas.List.Sums.{sum_by-cons}
 use Rattle.evt_types.specs.Additions.{extras_of}
@@ -73,3 +73,14 @@ pub all_full : (far after : Far) (r : Reply) (result : Result (Unit {0}) Refusal
     → IfErr result (λ e. (e ≡ Full) × ((far_id after).room ≤ length (answered after)))
 all_full far after r (Ok _) refused some few lane same = refused
 all_full far after r (Err refusal) refused some few lane same = full_alone far after r refusal refused some few lane same
+
+-- the last that is held is answered, or the ring is full
+pub none_after : {A E : Type 0} (result : Result (Unit {0}) E) (xs ys : List A) → MatchResult result (λ _. xs ≡ []) (λ _. xs ≡ ys) → IsOk result → xs ≡ []
+none_after (Ok _) xs ys none ok = none
+none_after (Err _) xs ys same ok = absurd (cc)
+
+pub full_after : (far after : Far) (r : Reply) (result : Result (Unit {0}) Refusal) → IfErr result (λ e. (e ≡ Full) × ((far_id far).room ≤ length (answered far))) → far_id after ≡ far_id far
+    → MatchResult result (λ _. answered after ≡ answered far ++ r ∷ []) (λ _. answered after ≡ answered far)
+    → IfErr result (λ e. (e ≡ Full) × ((far_id after).room ≤ length (answered after)))
+full_after far after r (Ok _) refused lane same = refused
+full_after far after r (Err _) refused lane same = (refused.0, omega (arith, refused.1, ap (λ (i : LaneId). i.room) lane, ap length same))

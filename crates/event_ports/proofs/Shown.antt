@@ -1,12 +1,12 @@
 -- What is hidden of a port's flow lanes, where one entry changes.
-use Rattle.std.proofs.Common.{◌≡◌, ◌≢◌, ℕ, ◌<◌, [], length, set, Option, Some, None, sym, ap, ◌∙◌, subst}
+use Rattle.std.proofs.Common.{◌≡◌, ◌≢◌, ℕ, ◌<◌, ◌≤◌, [], length, set, Option, Some, None, sym, ap, ◌∙◌, subst}
 use Rattle.std.proofs.lemmas.List.{get_or-set_same, get_or-set_other}
 use Rattle.std.proofs.lemmas.Option.{same_Some}
 use mathlib.Core.Logic.{dite}
 use native.Mathlib.Decide.{ℕ_discrete}
 use Rattle.flow_claims.specs.declared.claim.Stint.{Stint}
 use Rattle.event_ports.specs.Holds.{AreShown, hidden_in, entry_at}
-use Rattle.event_ports.proofs.Entries.{Stints}
+use Rattle.event_ports.proofs.Entries.{Stints, past_entries}
 
 -- of the lanes that are meant nothing is hidden, where nothing is at the new entry
 pub shown_set : (P : ℕ → Type 0) (ss : Stints) (lane : ℕ) (o : Option Stint) → lane < length ss → (P lane → hidden_in o ≡ [])
@@ -34,3 +34,10 @@ all_shown ss lane o lt here shown j =
     dite (ℕ_discrete j lane)
     (λ e. subst At (sym e) (ap hidden_in (get_or-set_same ss lane o None lt) ∙ here))
     (λ ne. ap hidden_in (get_or-set_other ss lane j o None ne) ∙ shown j (λ e. ne (sym (same_Some lane j e))))
+
+-- and where there is no such entry, nothing is
+pub past_shown : (ss : Stints) (lane : ℕ) → length ss ≤ lane → AreShown (Some lane) ss → (j : ℕ) → hidden_in (entry_at ss j) ≡ []
+past_shown ss lane le shown j =
+    dite (ℕ_discrete j lane)
+    (λ e. ap hidden_in (ap (entry_at ss) e ∙ past_entries ss lane le))
+    (λ ne. shown j (λ e. ne (sym (same_Some lane j e))))

@@ -261,6 +261,19 @@ module _ (claims : Claims) (links : List ℕ) where
     answered_lists reply (Ok _) is held so_far received all = turn_says reply (received (seating seat)) (so_far (seating seat) is) held all
     answered_lists reply (Err _) is held so_far received all = turn_same (received (seating seat)) (so_far (seating seat) is) held all
 
+-- where the entry that was borrowed is written back as it was, nothing changes
+pub same_back : (v : Seating) (ss ts : Stints) → ts ≡ ss → Same (hands v ss) (hands v ts)
+same_back v ss ts back =
+    let same : Same (hands v ss) (hands v ss) = record { received = λ j. refl; answered_is = λ j. refl; held = λ j. refl; extras = λ j. refl; given_back = λ j. refl } in
+    subst (λ (xs : Stints). Same (hands v ss) (hands v xs)) (sym back) same
+
+pub flushed_back : (v : Seating) (ss ts : Stints) → ts ≡ ss → Flushed (hands v ss) (hands v ts)
+flushed_back v ss ts back = record {
+  same = same_back v ss ts back;
+  entries = λ j. ap (λ (xs : Stints). is_some (entry_at xs j)) back;
+  filled = λ j is. subst (λ (xs : Stints). IsFilledBy (entry_at xs j)) (sym back) is;
+}
+
 pub all_kept : (lane : ℕ) (h k : Hands) → SameBut lane h k → received_on k lane ≡ received_on h lane → answered_on k lane ≡ answered_on h lane → ((j : ℕ) → left_on k j ≡ left_on h j) → LeavesFree h k → Kept h k
 all_kept lane h k others received answered left free =
     let Received : ℕ → Type 0 = λ j. received_on k j ≡ received_on h j in

@@ -1,7 +1,7 @@
--- Reading the items of an array in turn.
-use Rattle.std.proofs.Common.{◌≡◌, ℕ, ◌+◌, ◌<◌, ◌≤◌, List, [], ◌∷◌, ◌++◌, length, get_or, drop, Option, Some, None, refl, sym, ap, ◌∙◌, append_assoc, append-nil}
+-- Reading the items of an array in turn, and the rows that a loop makes of the items of a list.
+use Rattle.std.proofs.Common.{◌≡◌, ℕ, ◌+◌, ◌<◌, ◌≤◌, List, [], ◌∷◌, ◌++◌, length, get_or, take, drop, map, Option, Some, None, refl, sym, ap, ◌∙◌, append_assoc, append-nil}
 use Rattle.std.specs.Prelude.{option_map}
-use Rattle.std.proofs.lemmas.List.{at_drop_all}
+use Rattle.std.proofs.lemmas.List.{at_drop_all, map_more, map_push}
 use Rattle.toml.proofs.Views.{items_view-drop}
 use Rattle.toml.specs.Data.{Data}
 use Rattle.toml.specs.View.{view, items_view}
@@ -37,3 +37,14 @@ module _ {A : Type 0} (read : Data → Option A) where
   items-all vs i front total le so_far =
       let here : items_by read (items_view (drop i vs)) ≡ Some [] = at_drop_all (λ ws. items_by read (items_view ws)) vs i le in
       sym so_far ∙ ap (with_front front) here ∙ ap Some (append-nil front)
+
+-- one row more
+pub mapped-more : {X Y : Type 0} (row : X → Y) (xs : List X) (i : ℕ) (d : X) (front : List Y) (y : Y) → i < length xs
+    → front ≡ map row (take i xs) → y ≡ row (get_or xs i d) → front ++ y ∷ [] ≡ map row (take (i + 1) xs)
+mapped-more row xs i d front y lt are is = (λ k. are k ++ is k ∷ []) ∙ sym (map_more row xs i d lt)
+
+-- one row more, where f shows the items
+pub shown-more : {X Y Z : Type 0} (row : Y → Z) (f : X → Y) (xs : List X) (i : ℕ) (d : X) (front : List Z) (z : Z) → i < length xs
+    → front ≡ map row (map f (take i xs)) → z ≡ row (f (get_or xs i d)) → front ++ z ∷ [] ≡ map row (map f (take (i + 1) xs))
+shown-more row f xs i d front z lt are is =
+    (λ k. are k ++ is k ∷ []) ∙ sym (map_push row (map f (take i xs)) (f (get_or xs i d))) ∙ ap (map row) (sym (map_more f xs i d lt))

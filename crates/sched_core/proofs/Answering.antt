@@ -302,3 +302,18 @@ module _ (a : Inside) (v : View) (i : ℕ) (y : Entry) (core : IsCore a) (same :
             ap (set (map places_in a.orders) y.queue) (shown ∙ sym here)
             ∙ (set-get_or (map places_in a.orders) y.queue []
             ∙ sym (cond-false (is_ordered (queue_of a.shape y.queue).kind) _ (map places_in a.orders) plain))
+
+    -- the same of the buffers and lanes that other calls left: so that no large goal has to be rewritten
+    module _ (rs : List Reordering) (ls : List Entries) (orders : rs ≡ resolved_orders a.orders y f) (lanes : ls ≡ set a.lanes i (histories.entries_of (drop 1 old.entries) old.capacity)) where
+      pub core_answered : (ps : List (List Pin)) (b : Bool) → entries_of v + length (events_of (outcome_of f)) ≤ 2 ^ 63 → ps ≡ with_pin a.pins y.queue y.slot (unpinned (pin_in a.pins y.queue y.slot))
+          → (is_restoring (order_at a.orders y.queue) && is_some f) ≡ b
+          → IsCore (record a { orders = rs; lanes = ls; extras = with_item a.extras i 0; pins = ps; inside = cond b a.inside (a.inside - 1); entries = cond b (a.entries + 1) a.entries })
+      core_answered ps b few unpins kept =
+          subst (λ os. IsCore (record a { orders = os; lanes = ls; extras = with_item a.extras i 0; pins = ps; inside = cond b a.inside (a.inside - 1); entries = cond b (a.entries + 1) a.entries })) (sym orders)
+          (subst (λ xs. IsCore (record a { orders = resolved_orders a.orders y f; lanes = xs; extras = with_item a.extras i 0; pins = ps; inside = cond b a.inside (a.inside - 1); entries = cond b (a.entries + 1) a.entries })) (sym lanes)
+          (core_answers ps b few unpins kept))
+
+      pub view_answered : (ps : List (List Pin)) (n m : ℕ) → view_in (record a { orders = rs; lanes = ls; extras = with_item a.extras i 0; pins = ps; inside = n; entries = m }) ≡ after_answer v i (outcome_of f)
+      view_answered ps n m =
+          ap (λ os. view_in (record a { orders = os; lanes = ls; extras = with_item a.extras i 0; pins = ps; inside = n; entries = m })) orders
+          ∙ (ap (λ xs. view_in (record a { orders = resolved_orders a.orders y f; lanes = xs; extras = with_item a.extras i 0; pins = ps; inside = n; entries = m })) lanes ∙ view_answers ps n m)

@@ -235,3 +235,19 @@ view_gives a i l old new holder held w y ps core offer h is k here waits value g
         ap (set (map places_in a.orders) i) (shown ∙ sym at)
         ∙ (set-get_or (map places_in a.orders) i []
         ∙ sym (cond-false (is_ordered (queue_of a.shape i).kind) _ (map places_in a.orders) plain))
+
+-- ---- a core by parts that are equal: so that no large goal has to be rewritten
+
+abbrev pub with_parts : Inside → List Waits → List Reordering → List Entries → List (List Pin) → Inside
+with_parts a qs rs ls ps = record a { queues = qs; orders = rs; lanes = ls; pins = ps }
+
+module _ (a : Inside) (qs ws : List Waits) (rs os : List Reordering) (ls hs : List Entries) (ps : List (List Pin)) (queues : qs ≡ ws) (orders : rs ≡ os) (lanes : ls ≡ hs) where
+  pub core_by_parts : IsCore (with_parts a ws os hs ps) → IsCore (with_parts a qs rs ls ps)
+  core_by_parts core =
+      subst (λ xs. IsCore (with_parts a xs rs ls ps)) (sym queues)
+      (subst (λ xs. IsCore (with_parts a ws xs ls ps)) (sym orders) (subst (λ xs. IsCore (with_parts a ws os xs ps)) (sym lanes) core))
+
+  pub view_by_parts : view_in (with_parts a qs rs ls ps) ≡ view_in (with_parts a ws os hs ps)
+  view_by_parts =
+      ap (λ xs. view_in (with_parts a xs rs ls ps)) queues
+      ∙ (ap (λ xs. view_in (with_parts a ws xs ls ps)) orders ∙ ap (λ xs. view_in (with_parts a ws os xs ps)) lanes)

@@ -95,6 +95,32 @@ module _ (a : Inside) (v : View) (q : ℕ) (x : Place) (k : ℕ) (core : IsCore 
       × (entries_of (view_in (with_orders a (left_orders a.orders q) (a.inside - k) (a.entries - k))) < 2 ^ 63)
   left_some some = (omega (arith, left_room.0, some), omega (arith, left_room.1, some))
 
+-- the same of the buffers that another call left: so that no large goal has to be rewritten
+module _ (a : Inside) (v : View) (q : ℕ) (x : Place) (k : ℕ) (core : IsCore a) (same : view_in a ≡ v) (there : q < length v.shape.queues) (oldest : oldest_answered (order_at a.orders q).places ≡ Some x) (count : k ≡ length x.forwards) (rs : List Reordering) (rest : rs ≡ left_orders a.orders q) where
+  pub core_left : IsCore (with_orders a rs (a.inside - k) (a.entries - k))
+  core_left = subst (λ os. IsCore (with_orders a os (a.inside - k) (a.entries - k))) (sym rest) (core_leaves a v q x k core same there oldest count)
+
+  pub view_with : view_in (with_orders a rs (a.inside - k) (a.entries - k)) ≡ view_leaves v q
+  view_with = ap (λ os. view_in (with_orders a os (a.inside - k) (a.entries - k))) rest ∙ view_left a v q x k core same there oldest count
+
+  pub room_with : (inside_of (view_in (with_orders a rs (a.inside - k) (a.entries - k))) + length x.forwards ≤ bound_of v.shape)
+      × (entries_of (view_in (with_orders a rs (a.inside - k) (a.entries - k))) + length x.forwards ≤ 2 ^ 63)
+  room_with =
+      subst
+      (λ os.
+      (inside_of (view_in (with_orders a os (a.inside - k) (a.entries - k))) + length x.forwards ≤ bound_of v.shape)
+      × (entries_of (view_in (with_orders a os (a.inside - k) (a.entries - k))) + length x.forwards ≤ 2 ^ 63))
+      (sym rest) (left_room a v q x k core same there oldest count)
+
+  pub some_with : 0 < length x.forwards → (inside_of (view_in (with_orders a rs (a.inside - k) (a.entries - k))) < bound_of v.shape)
+      × (entries_of (view_in (with_orders a rs (a.inside - k) (a.entries - k))) < 2 ^ 63)
+  some_with some =
+      subst
+      (λ os.
+      (inside_of (view_in (with_orders a os (a.inside - k) (a.entries - k))) < bound_of v.shape)
+      × (entries_of (view_in (with_orders a os (a.inside - k) (a.entries - k))) < 2 ^ 63))
+      (sym rest) (left_some a v q x k core same there oldest count some)
+
 -- ---- a place that keeps one event or none
 
 -- what it keeps

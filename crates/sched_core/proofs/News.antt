@@ -162,3 +162,13 @@ view_new p qs ls es ps ks hs os queues lanes none =
     none_held k h =
         All-map (λ us. us ≡ []) unanswered_in ls (All-weaker IsBare (λ (l : Entries). unanswered_in l ≡ []) (λ l e. ap (map unplaced) e) ls lanes.empty)
         k [] (subst (λ n. k < n) (sym (length-map ls unanswered_in ∙ lanes.count)) h)
+
+-- the core as its parts were made, each known by an equation: so that no large goal has to be rewritten
+pub core_made : (p : Plan) (ds : List QueueDraft) (rs : List Reordering) (b r : ℕ) (qs : List Waits) (ls : List Entries) (es : Vec ℕ Global) (ps : List (List Pin)) (ks hs : Vec SmallSet Global) (os : Vec (Option ℕ) Global) → ds ≡ p.queues → rs ≡ map (λ (q : QueueDraft). empty (kept_room q)) ds → b ≡ bound_of p → r ≡ sweep_room p → IsWithinLimits p → b < 18446744073709551616 → AreEmptyQueues p (length p.queues) qs → AreEmptyLanes p (lanes_of p) ls → es.items ≡ replicate (lanes_of p) 0 → AreFreePins p (length p.queues) ps → AreLinks p (length p.queues) ks.items → AreAhead p (length p.queues) hs.items → AreSlotLanes p (slot_lane_count p) os.items
+    → IsCore (record { shape = p; queues = qs; orders = rs; lanes = ls; extras = es; pins = ps; links = ks; ahead = hs; slot_lanes = os; bound = b; log_room = r; inside = 0; entries = 0; shut = false })
+core_made p ds rs b r qs ls es ps ks hs os drafts orders bound room limits small queues lanes none pins links ahead slot_lanes =
+    rw (orders, drafts, bound, room) (core_new p qs ls es ps ks hs os limits (subst (λ n. n < 18446744073709551616) bound small) queues lanes none pins links ahead slot_lanes)
+
+pub view_made : (p : Plan) (ds : List QueueDraft) (rs : List Reordering) (b r : ℕ) (qs : List Waits) (ls : List Entries) (es : Vec ℕ Global) (ps : List (List Pin)) (ks hs : Vec SmallSet Global) (os : Vec (Option ℕ) Global) → ds ≡ p.queues → rs ≡ map (λ (q : QueueDraft). empty (kept_room q)) ds → AreEmptyQueues p (length p.queues) qs → AreEmptyLanes p (lanes_of p) ls → es.items ≡ replicate (lanes_of p) 0 → view_in (record { shape = p; queues = qs; orders = rs; lanes = ls; extras = es; pins = ps; links = ks; ahead = hs; slot_lanes = os; bound = b; log_room = r; inside = 0; entries = 0; shut = false }) ≡ view_of p []
+view_made p ds rs b r qs ls es ps ks hs os drafts orders queues lanes none =
+    rw (orders, drafts) (view_new p qs ls es ps ks hs os queues lanes none)

@@ -2,7 +2,7 @@
 use Rattle.std.proofs.Common.{◌≡◌, ◌≢◌, ℕ, ◌<◌, ◌≤◌, ◌+◌, Bool, true, false, cond, not, nat_lt, ◌&&◌, ◌||◌, ◌==◌, List, [], ◌∷◌, ◌++◌, length, filter, set, get_or, All, Contains, inl, inr, ⊎_elim, refl, sym, ap, ◌∙◌, subst, append_assoc, append-nil, arith, eqb-true}
 use Rattle.std.proofs.lemmas.Bool.{and_parts, or_cases, cases_eq, false≢true, false_from_ne_true, ltb-true, lt-ltb}
 use Rattle.std.proofs.lemmas.Grind.{get_or-set_at}
-use Rattle.std.proofs.lemmas.List.{get_or-set_other, length-append, map_push}
+use Rattle.std.proofs.lemmas.List.{get_or-set_other, get_or-set_same, length-append, map_push}
 use Rattle.std.proofs.lemmas.List.Elements.{All-contains, All-contains_itself, All-filter}
 use Rattle.lists.proofs.Lists.{All-front}
 use Rattle.evt_types.specs.Place.{Place}
@@ -21,6 +21,13 @@ use Rattle.transcripts.proofs.WholeStands.{stands_give}
 use Rattle.transcripts.specs.Choice.{Passed, Fits, HasNoOther, HasNone, HasQuota, IsChoice, IsOffer, IsServedBefore, WaitsIn, is_earlier}
 use Rattle.transcripts.specs.Standing.{View, Stands, after, after_give, event_in, places_at, slot_in, unanswered_at, waiting_at}
 use Rattle.transcripts.specs.Transcript.{Held}
+
+-- a gift takes room for one step of the log, and counts one toward the quantum
+pub room_given : (gs hs : List ℕ) (i q n m s t room left : ℕ) → q < n → n ≤ m → length gs ≡ m → i ≡ q → s ≤ room + get_or gs q 0 → room ≤ left + 1 → hs ≡ set gs i (get_or gs i 0 + 1) → t ≡ s → t ≤ left + get_or hs i 0
+room_given gs hs i q n m s t room left there few long is enough less counted same =
+    let here : get_or gs i 0 ≡ get_or gs q 0 = ap (λ k. get_or gs k 0) is in
+    let now : get_or hs i 0 ≡ get_or gs i 0 + 1 = ap (λ xs. get_or xs i 0) counted ∙ get_or-set_same gs i (get_or gs i 0 + 1) 0 (omega (arith, there, few, long, is)) in
+    omega (arith, enough, less, same, here, now)
 
 -- ---- what waits, is out and has a place once an event is given
 

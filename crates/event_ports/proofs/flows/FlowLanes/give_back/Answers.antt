@@ -1,15 +1,17 @@
 -- What the end of a stint of which nothing is unanswered makes of the port's flow lanes.
 use Rattle.std.proofs.Common.{◌≡◌, ◌∙◌, refl, sym, ap, subst, false, [], Some, None, Option, length, ◌<◌, arith, set}
+use Rattle.std.proofs.lemmas.List.{get_or-set_same, get_or-set_other}
 use Rattle.std.specs.Arc.{arc_value}
+use Rattle.std.specs.Option.{is_some}
 use Rattle.lane_rings.specs.Ends.{unanswered}
 use Rattle.flow_claims.specs.declared.claims.Claims.{Claims}
 use Rattle.flow_claims.specs.declared.claim.Stint.{Stint}
 use Rattle.flow_claims.specs.Answers.{EndsStint}
-use Rattle.flow_claims.specs.Claims.{seating}
-use Rattle.event_ports.specs.Holds.{entry_at, held_now, AreFlows, AreShown, Same}
-use Rattle.event_ports.proofs.Entries.{hands, place_read}
-use Rattle.event_ports.proofs.Shown.{touched_set}
-use Rattle.event_ports.proofs.Turns.{ended, left_same}
+use Rattle.flow_claims.specs.Claims.{seating, claims_id, lanes_of}
+use Rattle.event_ports.specs.Holds.{entry_at, held_now, hidden_in, AreFlows, AreShown, Same}
+use Rattle.event_ports.proofs.Entries.{Stints, hands, place_read, same_list}
+use Rattle.event_ports.proofs.Shown.{none_set, touched_set}
+use Rattle.event_ports.proofs.Turns.{ended, left_same, same_back}
 use Rattle.event_ports.proofs.flows.FlowLanes.give_back.Goals as goal
 
 pub invariant_of-self-2 : goal.invariant_of-self-2
@@ -37,3 +39,78 @@ returns-clause-same c =
     let To : Option Stint → Type 0 = λ o. Same (hands (seating c.args.self.now.seat) c.args.self.now.stints.items) (hands (seating c.give_back.new.seat) (set c.args.self.now.stints.items c.args.lane o)) in
     subst To (sym c.take.ensures.after)
     (left_same _ _ c.args.self.now.seat c.give_back.new.seat _ _ c.in-Some.stint false are (subst Over c.deref.ensures c.give_back.ensures) at c.requires.exists refl none)
+
+pub invariant_of-self : goal.invariant_of-self
+invariant_of-self c =
+    let f = c.args.self.now in
+    let within : c.args.lane < length f.stints.items = omega (arith, f.are.entries, c.requires.exists) in
+    let back : set f.stints.items c.args.lane c.take.new.self ≡ f.stints.items =
+    ap (set f.stints.items c.args.lane) c.take.ensures.after ∙ same_list _ _ _ (place_read _ _ _ _ c.index_mut.ensures.value (sym c.take.ensures.value ∙ c.in_default.is) within) in
+    record {
+      are = subst (λ (ss : Stints). AreFlows (arc_value f.claims) f.seat ss f.links.items) (sym back) f.are;
+      shown = subst (AreShown f.touched) (sym back) f.shown;
+    }
+
+pub returns-in_default-clause-same : goal.returns-in_default-clause-same
+returns-in_default-clause-same c =
+    let f = c.args.self.now in
+    let within : c.args.lane < length f.stints.items = omega (arith, f.are.entries, c.requires.exists) in
+    let back : set f.stints.items c.args.lane c.take.new.self ≡ f.stints.items =
+    ap (set f.stints.items c.args.lane) c.take.ensures.after ∙ same_list _ _ _ (place_read _ _ _ _ c.index_mut.ensures.value (sym c.take.ensures.value ∙ c.in_default.is) within) in
+    same_back (seating f.seat) _ _ back
+
+pub returns-in_default-clause-left : goal.returns-in_default-clause-left
+returns-in_default-clause-left c =
+    let f = c.args.self.now in
+    let within : c.args.lane < length f.stints.items = omega (arith, f.are.entries, c.requires.exists) in
+    ap is_some (get_or-set_same f.stints.items c.args.lane c.take.new.self None within ∙ c.take.ensures.after)
+
+pub returns-in_default-clause-elsewhere : goal.returns-in_default-clause-elsewhere
+returns-in_default-clause-elsewhere c j ne = ap is_some (get_or-set_other c.args.self.now.stints.items c.args.lane j c.take.new.self None ne)
+
+pub returns-in_default-clause-shown : goal.returns-in_default-clause-shown
+returns-in_default-clause-shown c =
+    let f = c.args.self.now in
+    let within : c.args.lane < length f.stints.items = omega (arith, f.are.entries, c.requires.exists) in
+    none_set f.stints.items c.args.lane c.take.new.self within (ap hidden_in c.take.ensures.after)
+
+pub give_back-requires-clause-seat : goal.give_back-requires-clause-seat
+give_back-requires-clause-seat c =
+    let seat_of = c.args.self.now.are.seat_of in
+    (seat_of.0 ∙ sym (ap claims_id c.deref.ensures), seat_of.1 ∙ sym (ap lanes_of c.deref.ensures))
+
+pub give_back-requires-clause-open : goal.give_back-requires-clause-open
+give_back-requires-clause-open c =
+    let f = c.args.self.now in
+    let within : c.args.lane < length f.stints.items = omega (arith, f.are.entries, c.requires.exists) in
+    let at : entry_at f.stints.items c.args.lane ≡ Some c.in-Some.stint = place_read _ _ _ _ c.index_mut.ensures.value (sym c.take.ensures.value ∙ c.in-Some.is) within in
+    ((f.are.each c.args.lane).held c.in-Some.stint at).open_is
+
+pub give_back-requires-clause-answered : goal.give_back-requires-clause-answered
+give_back-requires-clause-answered c =
+    let f = c.args.self.now in
+    let within : c.args.lane < length f.stints.items = omega (arith, f.are.entries, c.requires.exists) in
+    let at : entry_at f.stints.items c.args.lane ≡ Some c.in-Some.stint = place_read _ _ _ _ c.index_mut.ensures.value (sym c.take.ensures.value ∙ c.in-Some.is) within in
+    sym (ap held_now at) ∙ c.requires.answered
+
+pub give_back-requires-clause-shown : goal.give_back-requires-clause-shown
+give_back-requires-clause-shown c =
+    let f = c.args.self.now in
+    let within : c.args.lane < length f.stints.items = omega (arith, f.are.entries, c.requires.exists) in
+    let at : entry_at f.stints.items c.args.lane ≡ Some c.in-Some.stint = place_read _ _ _ _ c.index_mut.ensures.value (sym c.take.ensures.value ∙ c.in-Some.is) within in
+    sym (ap hidden_in at) ∙ c.requires.shown
+
+pub returns-clause-left : goal.returns-clause-left
+returns-clause-left c =
+    let f = c.args.self.now in
+    let within : c.args.lane < length f.stints.items = omega (arith, f.are.entries, c.requires.exists) in
+    ap is_some (get_or-set_same f.stints.items c.args.lane c.take.new.self None within ∙ c.take.ensures.after)
+
+pub returns-clause-elsewhere : goal.returns-clause-elsewhere
+returns-clause-elsewhere c j ne = ap is_some (get_or-set_other c.args.self.now.stints.items c.args.lane j c.take.new.self None ne)
+
+pub returns-clause-shown : goal.returns-clause-shown
+returns-clause-shown c =
+    let f = c.args.self.now in
+    let within : c.args.lane < length f.stints.items = omega (arith, f.are.entries, c.requires.exists) in
+    none_set f.stints.items c.args.lane c.take.new.self within (ap hidden_in c.take.ensures.after)

@@ -1,18 +1,19 @@
 -- The oldest that is held is answered: the own lane's, or a flow lane's.
-use Rattle.std.proofs.Common.{◌≡◌, ◌≢◌, ◌∙◌, ◌||◌, [], List, Some, drop, refl, sym, ap, subst}
+use Rattle.std.proofs.Common.{◌≡◌, ◌≢◌, ◌∙◌, ◌||◌, [], List, Ok, Err, Some, drop, refl, sym, ap, subst}
 use Rattle.evt_types.specs.Operation.{is_more_reply}
 use Rattle.evt_types.specs.declared.event.Delivery.{Delivery}
 use Rattle.lane_rings.specs.Ends.{unanswered}
+use Rattle.lane_rings.specs.declared.far.Refusal.{Refusal}
 use Rattle.event_ports.specs.declared.lane.Holding.{Holding}
 use Rattle.event_ports.specs.declared.lane.Lane.{Lane}
 use Rattle.event_ports.specs.declared.lane.Lane.TheVariants.{Own, Flow}
 use Rattle.event_ports.specs.Holds.{Says}
 use Rattle.event_ports.specs.Flows.{hands_of}
 use Rattle.event_ports.specs.Handed.{hand_of}
-use Rattle.event_ports.specs.Lanes.{Hand, SubmitsTo, got_on, open_on, said_on, reply_of}
+use Rattle.event_ports.specs.Lanes.{Hand, IsFilledAt, RefusesFirst, SubmitsTo, first_lane, got_on, open_on, said_on, reply_of}
 use Rattle.event_ports.proofs.Oldest.{oldest_held, oldest_there}
-use Rattle.event_ports.proofs.Orders.{Notes, each_lane, answered_first, first_open}
-use Rattle.event_ports.proofs.Adding.{counts_said}
+use Rattle.event_ports.proofs.Orders.{Notes, each_lane, answered_first, first_open, some_first}
+use Rattle.event_ports.proofs.Adding.{counts_own, counts_said, counts_same}
 use Rattle.event_ports.proofs.Extras.{added_said}
 use Rattle.event_ports.proofs.Refusals.{one_answer, refused_own}
 use Rattle.event_ports.proofs.Calls.{says_no_new, says_received, gave_back}
@@ -93,3 +94,36 @@ returns-in-Ok-answer_oldest-clause-submitted c =
       got = each_lane (λ l. after.got l ≡ got_on own (hands_of c.args.self.now.flows) l) refl (says_received _ _ c.in-Flow.lane (reply_of c.args.event.now) says);
       holding = ap (λ b. b.items) c.drop_front-in-Ok-answer_oldest.ensures.items ∙ ap (λ n. drop n c.args.self.now.order.items) (sym (one_answer (reply_of c.args.event.now) c.requires));
     })
+
+pub returns-in-Ok-clause-counts : goal.returns-in-Ok-clause-counts
+returns-in-Ok-clause-counts c = counts_own {E = Refusal} c.args.self.now _ (reply_of c.args.event.now) (Ok tt) refl c.in-Ok.ensures.answered
+
+pub returns-in-Ok-clause-submitted : goal.returns-in-Ok-clause-submitted
+returns-in-Ok-clause-submitted c =
+    let own = c.args.self.now.own in
+    let flows = hands_of c.args.self.now.flows in
+    let after : Hand = record { said = said_on c.stage.new.self flows; got = got_on c.stage.new.self flows; holding = c.drop_front.new.self.items } in
+    subst (λ o. SubmitsTo o (reply_of c.args.event.now) (hand_of c.args.self.now) after) (sym (sym c.in-Some.ensures ∙ ap Some c.in-Own.is))
+    (record {
+      said_here = c.in-Ok.ensures.answered;
+      said = each_lane (λ l. l ≢ Own → after.said l ≡ said_on own flows l) (λ ne. absurd (ne refl)) (λ j ne. refl);
+      got = each_lane (λ l. after.got l ≡ got_on own flows l) c.stage.ensures.received.0 (λ j. refl);
+      holding = ap (λ b. b.items) c.drop_front.ensures.items ∙ ap (λ n. drop n c.args.self.now.order.items) (sym (one_answer (reply_of c.args.event.now) c.requires));
+    })
+
+pub returns-in-Err-clause-counts : goal.returns-in-Err-clause-counts
+returns-in-Err-clause-counts c = counts_own {E = Refusal} c.args.self.now _ (reply_of c.args.event.now) (Err c.in-Err.fault) refl c.in-Err.ensures.answered
+
+pub returns-in-Err-answer_oldest-clause-counts : goal.returns-in-Err-answer_oldest-clause-counts
+returns-in-Err-answer_oldest-clause-counts c =
+    counts_same c.args.self.now _ c.answer_oldest.ensures.site
+    (each_lane (λ l. said_on c.args.self.now.own (hands_of c.answer_oldest.new.self) l ≡ said_on c.args.self.now.own (hands_of c.args.self.now.flows) l) refl c.in-Err-answer_oldest.ensures.lists.answered_is)
+
+pub returns-in-Err-answer_oldest-clause-refused : goal.returns-in-Err-answer_oldest-clause-refused
+returns-in-Err-answer_oldest-clause-refused c =
+    let own = c.args.self.now.own in
+    let after = hands_of c.answer_oldest.new.self in
+    let xs = c.args.self.now.order.items in
+    let first : first_lane xs ≡ Some (Flow c.in-Flow.lane) = sym c.in-Some.ensures ∙ ap Some c.in-Flow.is in
+    let refused = c.in-Err-answer_oldest.ensures.refused in
+    subst (RefusesFirst own after xs) (sym refused.0) (some_first xs (Flow c.in-Flow.lane) first, subst (IsFilledAt own after) (sym first) refused.1)

@@ -1,11 +1,13 @@
 -- What receipts from a flow lane make of a port's lanes: they count no reply.
-use Rattle.std.proofs.Common.{rules, ◌≡◌, ◌≢◌, ◌∙◌, List, refl, sym, ap, subst}
+use Rattle.std.proofs.Common.{◌≡◌, ◌≢◌, ◌∙◌, List, length, refl, sym, ap, subst, arith}
+use Rattle.lane_rings.specs.Identity.{far_id}
+use Rattle.flow_claims.specs.Claims.{lanes_of}
 use Rattle.evt_types.specs.declared.event.Delivery.{Delivery}
 use Rattle.event_ports.specs.declared.lane.Holding.{Holding}
 use Rattle.event_ports.specs.declared.lane.Lane.{Lane}
 use Rattle.event_ports.specs.declared.lane.Lane.TheVariants.{Flow}
 use Rattle.event_ports.specs.Holds.{Gets}
-use Rattle.event_ports.specs.Flows.{hands_of}
+use Rattle.event_ports.specs.Flows.{FlowSite, hands_of}
 use Rattle.event_ports.specs.Lanes.{HasRoomFor, said_on, got_on, open_on}
 use Rattle.event_ports.proofs.Arrivals.{arrives_none, arrives_some, room_less}
 use Rattle.event_ports.proofs.Noting.{noted_are, note_fits}
@@ -18,7 +20,7 @@ pub note-requires : goal.note-requires
 note-requires c =
     let came = c.receive_some.ensures.lists in
     note_fits c.args.most _ _ c.args.into.now.items c.receive_some.new.into.items came.came c.requires.room came.array c.receive_some.ensures.few
-    c.args.self.now.order.items c.args.self.now.order.capacity c.len-from.result (search rules) (search rules) (search rules)
+    c.args.self.now.order.items c.args.self.now.order.capacity c.len-from.result refl refl c.len-from.ensures.value
 
 pub invariant_of-self-2-clause-ordered : goal.invariant_of-self-2-clause-ordered
 invariant_of-self-2-clause-ordered c =
@@ -30,7 +32,7 @@ invariant_of-self-2-clause-ordered c =
     let others : (l : Lane) → l ≢ Flow c.args.lane → after l ≡ before l =
     each_lane (λ l. l ≢ Flow c.args.lane → after l ≡ before l) (λ ne. refl) (λ j ne. gets.others.held j (λ e. ne (ap Flow e))) in
     let To : List Holding → Type 0 = λ xs. Notes xs after in
-    subst To (sym (noted_are (Flow c.args.lane) c.len-from.result c.args.into.now.items c.receive_some.new.into.items came.came c.args.self.now.order.items c.note.new.self.items came.array (search rules) c.note.ensures.noted))
+    subst To (sym (noted_are (Flow c.args.lane) c.len-from.result c.args.into.now.items c.receive_some.new.into.items came.came c.args.self.now.order.items c.note.new.self.items came.array c.len-from.ensures.value c.note.ensures.noted))
     (received_last c.args.self.now.order.items (Flow c.args.lane) came.came before after gets.held others c.args.self.now.ordered)
 
 pub invariant_of-self-2-clause-gave_back : goal.invariant_of-self-2-clause-gave_back
@@ -70,14 +72,14 @@ returns-clause-arrived c =
       said = each_lane (λ l. said_on c.args.self.now.own (hands_of c.leave_unless.new.self) l ≡ said_on c.args.self.now.own (hands_of c.args.self.now.flows) l) refl (λ j. gets_no_answer _ _ c.args.lane came.came gets j);
       got_here = gets.received;
       got = each_lane (λ l. l ≢ Flow c.args.lane → got_on c.args.self.now.own (hands_of c.leave_unless.new.self) l ≡ got_on c.args.self.now.own (hands_of c.args.self.now.flows) l) (λ ne. refl) (λ j ne. gets.others.received j (λ e. ne (ap Flow e)));
-      holding = noted_are (Flow c.args.lane) c.len-from.result c.args.into.now.items c.receive_some.new.into.items came.came c.args.self.now.order.items c.note.new.self.items came.array (search rules) c.note.ensures.noted;
+      holding = noted_are (Flow c.args.lane) c.len-from.result c.args.into.now.items c.receive_some.new.into.items came.came c.args.self.now.order.items c.note.new.self.items came.array c.len-from.ensures.value c.note.ensures.noted;
     }) came.array
 
 pub returns-clause-room : goal.returns-clause-room
 returns-clause-room c =
     let came = c.receive_some.ensures.lists in
     room_less c.args.most _ c.args.self.now.order.items c.note.new.self.items (Flow c.args.lane) c.args.into.now.items c.receive_some.new.into.items came.came (subst (λ n. HasRoomFor c.args.most n c.args.self.now.order.items c.args.into.now.items) (sym c.note.ensures.room) c.requires.room) c.receive_some.ensures.few
-    (noted_are (Flow c.args.lane) c.len-from.result c.args.into.now.items c.receive_some.new.into.items came.came c.args.self.now.order.items c.note.new.self.items came.array (search rules) c.note.ensures.noted) came.array
+    (noted_are (Flow c.args.lane) c.len-from.result c.args.into.now.items c.receive_some.new.into.items came.came c.args.self.now.order.items c.note.new.self.items came.array c.len-from.ensures.value c.note.ensures.noted) came.array
 
 pub returns-then-len-most-clause-arrived : goal.returns-then-len-most-clause-arrived
 returns-then-len-most-clause-arrived c = arrives_none (Flow c.args.lane) _ _ c.args.into.now.items (record { said = λ l. refl; got = λ l. refl; holding = refl })
@@ -96,3 +98,28 @@ pub returns-then-not-hold-clause-counts : goal.returns-then-not-hold-clause-coun
 returns-then-not-hold-clause-counts c =
     counts_same c.args.self.now _ c.hold.ensures.site
     (each_lane (λ l. said_on c.args.self.now.own (hands_of c.hold.new.self) l ≡ said_on c.args.self.now.own (hands_of c.args.self.now.flows) l) refl c.hold.ensures.same.answered_is)
+
+pub returns-then-not-hold-clause-site : goal.returns-then-not-hold-clause-site
+returns-then-not-hold-clause-site c i = record { own = far_id c.args.self.now.own; flows = c.hold.ensures.site i; depth = c.args.self.now.order.capacity }
+
+pub returns-then-not-hold-clause-shown : goal.returns-then-not-hold-clause-shown
+returns-then-not-hold-clause-shown c all = record { own = all.own; flows = c.hold.ensures.shown all.flows }
+
+pub receive_some-requires-clause-exists : goal.receive_some-requires-clause-exists
+receive_some-requires-clause-exists c = omega (arith, c.requires.readable.0, ap (λ (p : FlowSite). length (lanes_of p.claims)) c.hold.ensures.site)
+
+pub leave_unless-requires-clause-exists : goal.leave_unless-requires-clause-exists
+leave_unless-requires-clause-exists c = omega (arith, c.requires.readable.0, ap (λ (p : FlowSite). length (lanes_of p.claims)) (c.receive_some.ensures.site ∙ c.hold.ensures.site))
+
+pub returns-clause-site : goal.returns-clause-site
+returns-clause-site c i = record {
+  own = far_id c.args.self.now.own;
+  flows = (c.leave_unless.ensures.site ∙ c.receive_some.ensures.site ∙ c.hold.ensures.site) i;
+  depth = c.note.ensures.room i;
+}
+
+pub returns-clause-none : goal.returns-clause-none
+returns-clause-none c full = absurd (omega (arith, full, c.len.ensures.value, c.if-len-most.false))
+
+pub returns-clause-shown : goal.returns-clause-shown
+returns-clause-shown c all = record { own = all.own; flows = c.leave_unless.ensures.shown (c.receive_some.ensures.shown (c.hold.ensures.shown all.flows)) }

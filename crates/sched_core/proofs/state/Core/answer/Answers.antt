@@ -2,7 +2,7 @@ use Rattle.std.proofs.Common.{◌<◌, ◌+◌, ◌-◌, true, false, option_cop
 use Rattle.std.proofs.lemmas.Bool.{ltb-true}
 use Rattle.evt_types.specs.Plan.{bound_of}
 use Rattle.transcripts.specs.Standing.{View, inside_of, unanswered_at}
-use Rattle.sched_core.proofs.Answering.{answer_leaves_room, core_answers, oldest_has_pin, oldest_is_open, oldest_order, oldest_pins, oldest_places, oldest_queue, view_answers}
+use Rattle.sched_core.proofs.Answering.{answer_leaves_room, core_answered, oldest_has_pin, oldest_is_open, oldest_order, oldest_pins, oldest_places, oldest_queue, view_answered}
 use Rattle.sched_core.proofs.Cores.{lane_there}
 use Rattle.sched_core.proofs.OpenLanes.{held_here}
 use Rattle.sched_core.specs.Ordered.{outcome_of}
@@ -31,10 +31,10 @@ pub resolve-kept-requires-clause-open : goal.resolve-kept-requires-clause-open
 resolve-kept-requires-clause-open g c = oldest_is_open c.self.inside c.args.self.now c.args.lane c.pop-entry.result c.self.invariant c.self.view_is c.requires.lane c.pop-entry.ensures.oldest
 
 pub invariant_of-self : goal.invariant_of-self
-invariant_of-self g c = rw c.pop-entry.ensures.rest (rw c.resolve-kept.ensures.resolved (core_answers c.self.inside c.args.self.now c.args.lane c.pop-entry.result c.self.invariant c.self.view_is c.requires.lane c.pop-entry.ensures.oldest (option_copied c.args.forward) c.requires.outcome c.unpin.new.self true c.requires.entries c.unpin.ensures (sym c.resolve-kept.ensures.kept ∙ c.if-kept.true)))
+invariant_of-self g c = core_answered c.self.inside c.args.self.now c.args.lane c.pop-entry.result c.self.invariant c.self.view_is c.requires.lane c.pop-entry.ensures.oldest (option_copied c.args.forward) c.requires.outcome c.resolve-kept.new.self c.pop-entry.new.self c.resolve-kept.ensures.resolved c.pop-entry.ensures.rest c.unpin.new.self true c.requires.entries c.unpin.ensures (sym c.resolve-kept.ensures.kept ∙ c.if-kept.true)
 
 pub invariant_of-self-else-kept : goal.invariant_of-self-else-kept
-invariant_of-self-else-kept g c = rw c.pop-entry.ensures.rest (rw c.resolve-kept.ensures.resolved (core_answers c.self.inside c.args.self.now c.args.lane c.pop-entry.result c.self.invariant c.self.view_is c.requires.lane c.pop-entry.ensures.oldest (option_copied c.args.forward) c.requires.outcome c.unpin.new.self false c.requires.entries c.unpin.ensures (sym c.resolve-kept.ensures.kept ∙ c.if-kept.false)))
+invariant_of-self-else-kept g c = core_answered c.self.inside c.args.self.now c.args.lane c.pop-entry.result c.self.invariant c.self.view_is c.requires.lane c.pop-entry.ensures.oldest (option_copied c.args.forward) c.requires.outcome c.resolve-kept.new.self c.pop-entry.new.self c.resolve-kept.ensures.resolved c.pop-entry.ensures.rest c.unpin.new.self false c.requires.entries c.unpin.ensures (sym c.resolve-kept.ensures.kept ∙ c.if-kept.false)
 
 pub returns-clause-queue : goal.returns-clause-queue
 returns-clause-queue g c = oldest_queue c.self.inside c.args.self.now c.args.lane c.pop-entry.result c.self.invariant c.self.view_is c.requires.lane c.pop-entry.ensures.oldest
@@ -45,8 +45,8 @@ returns-clause-places g c = oldest_places c.self.inside c.args.self.now c.args.l
 pub returns-clause-view : goal.returns-clause-view
 returns-clause-view g c =
     elim c.if-kept.branch [
-      | then-kept w ↦ w.self-is ∙ rw c.pop-entry.ensures.rest (rw c.resolve-kept.ensures.resolved (view_answers c.self.inside c.args.self.now c.args.lane c.pop-entry.result c.self.invariant c.self.view_is c.requires.lane c.pop-entry.ensures.oldest (option_copied c.args.forward) c.requires.outcome c.unpin.new.self c.self.inside.inside (c.self.inside.entries + 1)))
-      | else-kept w ↦ w.self-is ∙ rw c.pop-entry.ensures.rest (rw c.resolve-kept.ensures.resolved (view_answers c.self.inside c.args.self.now c.args.lane c.pop-entry.result c.self.invariant c.self.view_is c.requires.lane c.pop-entry.ensures.oldest (option_copied c.args.forward) c.requires.outcome c.unpin.new.self (c.self.inside.inside - 1) c.self.inside.entries))
+      | then-kept w ↦ w.self-is ∙ view_answered c.self.inside c.args.self.now c.args.lane c.pop-entry.result c.self.invariant c.self.view_is c.requires.lane c.pop-entry.ensures.oldest (option_copied c.args.forward) c.requires.outcome c.resolve-kept.new.self c.pop-entry.new.self c.resolve-kept.ensures.resolved c.pop-entry.ensures.rest c.unpin.new.self c.self.inside.inside (c.self.inside.entries + 1)
+      | else-kept w ↦ w.self-is ∙ view_answered c.self.inside c.args.self.now c.args.lane c.pop-entry.result c.self.invariant c.self.view_is c.requires.lane c.pop-entry.ensures.oldest (option_copied c.args.forward) c.requires.outcome c.resolve-kept.new.self c.pop-entry.new.self c.resolve-kept.ensures.resolved c.pop-entry.ensures.rest c.unpin.new.self (c.self.inside.inside - 1) c.self.inside.entries
     ]
 
 pub returns-clause-fewer : goal.returns-clause-fewer

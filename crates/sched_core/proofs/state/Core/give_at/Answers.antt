@@ -1,4 +1,4 @@
-use Rattle.std.proofs.Common.{◌≡◌, ℕ, ◌<◌, ◌%◌, ◌++◌, ◌∷◌, [], length, refl, subst, sym, ap, ◌∙◌, arith}
+use Rattle.std.proofs.Common.{◌≡◌, ℕ, ◌<◌, ◌%◌, ◌++◌, ◌∷◌, [], length, set, refl, subst, sym, ap, ◌∙◌, arith}
 use Rattle.transcripts.specs.Choice.{IsOffer}
 use Rattle.transcripts.specs.Standing.{View, after_give}
 use Rattle.evt_types.specs.Plan.{level_of}
@@ -6,7 +6,7 @@ use Rattle.order_parts.specs.History.{entries_of}
 use Rattle.order_parts.proofs.Roomy.{lane_is}
 use Rattle.sched_core.proofs.OpenLanes.{room_here}
 use Rattle.order_parts.specs.Histories.{lane_in}
-use Rattle.sched_core.proofs.Giving.{core_gives, offer_may, offer_place, offer_room, view_gives}
+use Rattle.sched_core.proofs.Giving.{core_by_parts, core_gives, handed_orders, offer_may, offer_place, offer_room, view_by_parts, view_gives}
 use Rattle.sched_core.proofs.Cores.{waits_here, only_event}
 use Rattle.sched_core.proofs.FirstOnes.{slot_in_queue}
 use Rattle.evt_types.specs.declared.event.Event.{Event}
@@ -60,21 +60,25 @@ invariant_of-self g c =
     let offer : IsOffer (view_in c.self.inside) c.args.lane c.args.queue c.args.waiting.now = subst (λ v. IsOffer v c.args.lane c.args.queue c.args.waiting.now) (sym c.self.view_is) c.requires.offer in
     let h : c.args.queue < length c.self.inside.queues = omega (arith, offer.queue, c.self.invariant.queues) in
     let k : c.args.lane < length c.self.inside.lanes = omega (arith, offer.lane, c.self.invariant.lanes) in
-    rw c.push.ensures (rw (c.hand-place.ensures.handed, c.remove.ensures.value)
+    core_by_parts c.self.inside c.remove.new.self (set c.self.inside.queues c.args.queue (without_number (waits_at c.self.inside.queues c.args.queue) c.args.waiting.now.number)) c.hand-place.new.self (handed_orders c.self.inside.orders c.args.queue c.args.waiting.now.number) c.push.new.self
+    (set c.self.inside.lanes c.args.lane (entries_of ((lane_in c.self.inside.lanes c.args.lane).entries ++ record { queue = c.args.queue; number = c.args.waiting.now.number; slot = c.args.slot; place = c.hand-place.result } ∷ []) (lane_in c.self.inside.lanes c.args.lane).capacity))
+    c.pin.new.self c.remove.ensures.value c.hand-place.ensures.handed c.push.ensures
     (core_gives c.self.inside c.args.queue c.args.lane (waits_at c.self.inside.queues c.args.queue) (without_number (waits_at c.self.inside.queues c.args.queue) c.args.waiting.now.number) (lane_in c.self.inside.lanes c.args.lane) (entries_of ((lane_in c.self.inside.lanes c.args.lane).entries ++ record { queue = c.args.queue; number = c.args.waiting.now.number; slot = c.args.slot; place = c.hand-place.result } ∷ []) (lane_in c.self.inside.lanes c.args.lane).capacity) c.args.waiting.now (record { queue = c.args.queue; number = c.args.waiting.now.number; slot = c.args.slot; place = c.hand-place.result }) c.pin.new.self c.self.invariant offer
     h (waits_is c.self.inside.queues c.args.queue h) k (lane_is c.self.inside.lanes c.args.lane k) (waits_here c.self.inside c.args.queue (waits_at c.self.inside.queues c.args.queue) c.args.waiting.now h (waits_is c.self.inside.queues c.args.queue h) offer.waits)
-    refl c.remove.ensures.waits refl refl refl refl (slot_here c.self.inside c.args.self.now c.args.queue c.args.slot c.args.waiting.now c.self.view_is c.requires.slot) c.hand-place.ensures.place c.pin.ensures))
+    refl c.remove.ensures.waits refl refl refl refl (slot_here c.self.inside c.args.self.now c.args.queue c.args.slot c.args.waiting.now c.self.view_is c.requires.slot) c.hand-place.ensures.place c.pin.ensures)
 
 pub returns-clause-view : goal.returns-clause-view
 returns-clause-view g c =
     let offer : IsOffer (view_in c.self.inside) c.args.lane c.args.queue c.args.waiting.now = subst (λ v. IsOffer v c.args.lane c.args.queue c.args.waiting.now) (sym c.self.view_is) c.requires.offer in
     let h : c.args.queue < length c.self.inside.queues = omega (arith, offer.queue, c.self.invariant.queues) in
     let k : c.args.lane < length c.self.inside.lanes = omega (arith, offer.lane, c.self.invariant.lanes) in
-    rw c.push.ensures (rw (c.hand-place.ensures.handed, c.remove.ensures.value)
-    (view_gives c.self.inside c.args.queue c.args.lane (waits_at c.self.inside.queues c.args.queue) (without_number (waits_at c.self.inside.queues c.args.queue) c.args.waiting.now.number) (lane_in c.self.inside.lanes c.args.lane) (entries_of ((lane_in c.self.inside.lanes c.args.lane).entries ++ record { queue = c.args.queue; number = c.args.waiting.now.number; slot = c.args.slot; place = c.hand-place.result } ∷ []) (lane_in c.self.inside.lanes c.args.lane).capacity) c.args.waiting.now (record { queue = c.args.queue; number = c.args.waiting.now.number; slot = c.args.slot; place = c.hand-place.result }) c.pin.new.self c.self.invariant offer
+    view_by_parts c.self.inside c.remove.new.self (set c.self.inside.queues c.args.queue (without_number (waits_at c.self.inside.queues c.args.queue) c.args.waiting.now.number)) c.hand-place.new.self (handed_orders c.self.inside.orders c.args.queue c.args.waiting.now.number) c.push.new.self
+    (set c.self.inside.lanes c.args.lane (entries_of ((lane_in c.self.inside.lanes c.args.lane).entries ++ record { queue = c.args.queue; number = c.args.waiting.now.number; slot = c.args.slot; place = c.hand-place.result } ∷ []) (lane_in c.self.inside.lanes c.args.lane).capacity))
+    c.pin.new.self c.remove.ensures.value c.hand-place.ensures.handed c.push.ensures
+    ∙ (view_gives c.self.inside c.args.queue c.args.lane (waits_at c.self.inside.queues c.args.queue) (without_number (waits_at c.self.inside.queues c.args.queue) c.args.waiting.now.number) (lane_in c.self.inside.lanes c.args.lane) (entries_of ((lane_in c.self.inside.lanes c.args.lane).entries ++ record { queue = c.args.queue; number = c.args.waiting.now.number; slot = c.args.slot; place = c.hand-place.result } ∷ []) (lane_in c.self.inside.lanes c.args.lane).capacity) c.args.waiting.now (record { queue = c.args.queue; number = c.args.waiting.now.number; slot = c.args.slot; place = c.hand-place.result }) c.pin.new.self c.self.invariant offer
     h (waits_is c.self.inside.queues c.args.queue h) k (lane_is c.self.inside.lanes c.args.lane k) (waits_here c.self.inside c.args.queue (waits_at c.self.inside.queues c.args.queue) c.args.waiting.now h (waits_is c.self.inside.queues c.args.queue h) offer.waits)
-    refl refl (ap (λ s. record { queue = c.args.queue; number = c.args.waiting.now.number; slot = s }) (slot_here c.self.inside c.args.self.now c.args.queue c.args.slot c.args.waiting.now c.self.view_is c.requires.slot)) c.hand-place.ensures.place))
-    ∙ ap (λ v. after_give v c.args.lane c.args.queue c.args.waiting.now.number) c.self.view_is
+    refl refl (ap (λ s. record { queue = c.args.queue; number = c.args.waiting.now.number; slot = s }) (slot_here c.self.inside c.args.self.now c.args.queue c.args.slot c.args.waiting.now c.self.view_is c.requires.slot)) c.hand-place.ensures.place
+    ∙ ap (λ v. after_give v c.args.lane c.args.queue c.args.waiting.now.number) c.self.view_is)
 
 pub push-requires-clause-there : goal.push-requires-clause-there
 push-requires-clause-there g c =

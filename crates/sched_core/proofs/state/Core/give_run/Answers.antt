@@ -1,11 +1,10 @@
-use Rattle.std.proofs.Common.{[], refl, ◌+◌, ◌%◌, ◌<◌, get_or, length, sym, ap, ◌∙◌, arith}
-use Rattle.std.proofs.lemmas.List.{get_or-set_same}
+use Rattle.std.proofs.Common.{[], refl, ◌%◌, sym, ap, ◌∙◌}
 use Rattle.evt_types.specs.Plan.{Plan, level_of}
 use Rattle.evt_types.specs.declared.event.Numbered.{Numbered}
 use Rattle.parked_queue.specs.Waits.{waits_at}
 use Rattle.sched_core.proofs.FirstOnes.{found_slot}
 use Rattle.sched_core.proofs.Offers.{choice_is_offer}
-use Rattle.sched_core.proofs.Runs.{choice_given, choices_stand, run_first, turn_of, turn_on}
+use Rattle.sched_core.proofs.Runs.{choice_given, choices_stand, room_given, run_first, turn_of, turn_on}
 use Rattle.sched_core.specs.Offered.{numbered_in, slot_at}
 use Rattle.transcripts.specs.Choice.{Passed}
 use Rattle.sched_core.proofs.state.Core.give_run.Goals as goal
@@ -47,9 +46,8 @@ returns-then-has_flow_lanes-clause-turn g c =
 
 pub give_more-requires-clause-room : goal.give_more-requires-clause-room
 give_more-requires-clause-room g c =
-    let there : c.queue-queue.result < length c.args.skips.now.given = let room = c.requires.choice.there in omega (arith, c.queue-queue.ensures, c.facts.ensures.limits.queue_count.1, c.given.ensures.counts) in
-    let given = get_or-set_same c.args.skips.now.given c.queue-queue.result (get_or c.args.skips.now.given c.queue-queue.result 0 + 1) 0 there in
-    omega (arith, c.requires.room, c.give_at.ensures.room, ap (λ n. get_or c.args.skips.now.given n 0) c.queue-queue.ensures, ap (λ (t : Passed). get_or t.given c.queue-queue.result 0) c.given.ensures.value, given, ap (λ (p : Plan). p.sweep) c.give_at.ensures.shape)
+    room_given c.args.skips.now.given c.given.new.self.given c.queue-queue.result c.args.offer.delivery.queue _ _ c.args.self.now.shape.sweep c.give_at.new.self.shape.sweep (g.L.StepLog.room c.args.log.now) (g.L.StepLog.room c.give_at.new.log)
+    c.requires.choice.there c.facts.ensures.limits.queue_count.1 c.given.ensures.counts c.queue-queue.ensures c.requires.room c.give_at.ensures.room (ap (λ (t : Passed). t.given) c.given.ensures.value) (ap (λ (p : Plan). p.sweep) c.give_at.ensures.shape)
 
 pub returns-clause-stands : goal.returns-clause-stands
 returns-clause-stands g c T stands = choices_stand c.args.offer.lane c.args.self.now c.args.skips.now c.give_more.new.run.items c.give_more.new.self c.give_more.new.skips T

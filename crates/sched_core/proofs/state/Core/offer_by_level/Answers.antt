@@ -1,11 +1,11 @@
-use Rattle.std.proofs.Common.{◌∙◌, subst, sym}
+use Rattle.std.proofs.Common.{◌<◌, ◌∙◌, length, subst, sym}
 use Rattle.std.specs.Option.{IfSome, IfNone}
 use Rattle.transcripts.specs.Standing.{View}
 use Rattle.transcripts.specs.Choice.{HasNone}
 use Rattle.parked_queue.specs.LevelSets.{members}
 use Rattle.sched_core.proofs.FirstOnes.{levels_here}
 use Rattle.sched_core.proofs.Offers.{IsOfferAt, level_more, none_beside, none_of, offer_first, some_here}
-use Rattle.sched_core.specs.Offered.{HasNoneIn}
+use Rattle.sched_core.specs.Offered.{AreOpenLanes, HasNoneIn}
 use Rattle.sched_core.proofs.state.Core.offer_by_level.Goals as goal
 
 pub loop-level-init : goal.loop-level-init
@@ -33,3 +33,9 @@ returns-clause-none c = none_beside c.args.self.now c.args.skips.now c.args.queu
 
 pub returns-then-is_some-clause-none : goal.returns-then-is_some-clause-none
 returns-then-is_some-clause-none c = some_here c.offer_in-offer.result (HasNone c.args.self.now c.args.skips.now c.args.queue) (sym c.is_some.ensures ∙ c.if-is_some.true)
+
+pub offer_in-offer-requires-clause-queue : goal.offer_in-offer-requires-clause-queue
+offer_in-offer-requires-clause-queue c = subst (λ (v : View). c.args.queue < length v.shape.queues) (sym c.loop-level.invariant.0) c.requires.queue
+
+pub offer_in-offer-requires-clause-lanes : goal.offer_in-offer-requires-clause-lanes
+offer_in-offer-requires-clause-lanes c = subst (λ v. AreOpenLanes v c.args.skips.now c.args.queue c.args.lanes) (sym c.loop-level.invariant.0) c.requires.lanes

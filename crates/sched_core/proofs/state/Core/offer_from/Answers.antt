@@ -1,9 +1,10 @@
-use Rattle.std.proofs.Common.{◌∙◌, subst}
+use Rattle.std.proofs.Common.{◌≡◌, ◌∙◌, subst}
 use Rattle.std.specs.Option.{IfSome}
 use Rattle.evt_types.specs.Fault.{IsWithinLimits}
 use Rattle.transcripts.specs.Choice.{HasNone}
 use Rattle.transcripts.specs.Standing.{View}
 use Rattle.parked_queue.specs.LevelSets.{members}
+use Rattle.sched_core.specs.Offered.{IsOfferOf, numbered_in}
 use Rattle.sched_core.proofs.FirstOnes.{found_none, levels_here, slots_within}
 use Rattle.sched_core.proofs.Offers.{IsOfferAt, level_more, none_beside, none_either, none_in, offer_first}
 use Rattle.sched_core.proofs.state.Core.offer_from.Goals as goal
@@ -38,3 +39,12 @@ pub returns-in_err-offer-clause-none : goal.returns-in_err-offer-clause-none
 returns-in_err-offer-clause-none c =
     none_either c.from_residual-in_err-offer.result (HasNone c.args.self.now c.args.skips.now c.args.queue)
     (subst (λ v. HasNone v c.args.skips.now c.args.queue) c.allowed_at-allowed.ensures.same c.in_err-offer.ensures.none)
+
+pub returns-in_err-offer-clause-offer : goal.returns-in_err-offer-clause-offer
+returns-in_err-offer-clause-offer c = rw (c.from_residual-in_err-offer.ensures) tt
+
+pub returns-clause-offer : goal.returns-clause-offer
+returns-clause-offer c =
+    subst (λ v. (c.in_ok-offer.offer.delivery.queue ≡ c.args.queue)
+    × IsOfferOf v c.args.skips.now c.args.queue c.in_ok-offer.offer.lane (numbered_in c.in_ok-offer.offer.delivery))
+    c.allowed_at-allowed.ensures.same c.in_ok-offer.ensures.offer

@@ -1,9 +1,10 @@
-use Rattle.std.proofs.Common.{◌<◌, ◌∙◌, length, subst, sym}
+use Rattle.std.proofs.Common.{◌≡◌, ◌<◌, ◌∙◌, length, subst, sym}
+use Rattle.std.specs.Option.{IfNone, IfSome}
 use Rattle.evt_types.specs.Fault.{IsWithinLimits}
 use Rattle.transcripts.specs.Standing.{View}
 use Rattle.sched_core.proofs.FirstOnes.{found_none, slots_within}
 use Rattle.sched_core.proofs.Offers.{none_in, some_here}
-use Rattle.sched_core.specs.Offered.{HasAllowed, HasNoneIn}
+use Rattle.sched_core.specs.Offered.{AreOpenLanes, HasAllowed, HasNoneIn, IsOfferIn, numbered_in}
 use Rattle.sched_core.proofs.state.Core.offer_in.Goals as goal
 
 pub returns-then-is_blocked-clause-none : goal.returns-then-is_blocked-clause-none
@@ -18,3 +19,38 @@ returns-then-is_blocked-clause-none c =
 
 pub returns-then-is_some-clause-none : goal.returns-then-is_some-clause-none
 returns-then-is_some-clause-none c = some_here c.offer_at_head-offer.result (HasNoneIn c.args.self.now c.args.skips.now c.args.queue c.args.level.number) (sym c.is_some.ensures ∙ c.if-is_some.true)
+
+pub offer_at_head-offer-requires-clause-queue : goal.offer_at_head-offer-requires-clause-queue
+offer_at_head-offer-requires-clause-queue c = subst (λ (v : View). c.args.queue < length v.shape.queues) (sym c.allowed-allowed.ensures.same) c.requires.queue
+
+pub offer_at_head-offer-requires-clause-lanes : goal.offer_at_head-offer-requires-clause-lanes
+offer_at_head-offer-requires-clause-lanes c = subst (λ v. AreOpenLanes v c.args.skips.now c.args.queue c.args.lanes) (sym c.allowed-allowed.ensures.same) c.requires.lanes
+
+pub offer_at_head-offer-requires-clause-allowed : goal.offer_at_head-offer-requires-clause-allowed
+offer_at_head-offer-requires-clause-allowed c = subst (λ v. HasAllowed v c.args.skips.now c.args.queue c.allowed-allowed.result) (sym c.allowed-allowed.ensures.same) c.allowed-allowed.ensures.allowed
+
+pub offer_behind-requires-clause-queue : goal.offer_behind-requires-clause-queue
+offer_behind-requires-clause-queue c = subst (λ (v : View). c.args.queue < length v.shape.queues) (sym c.allowed-allowed.ensures.same) c.requires.queue
+
+pub offer_behind-requires-clause-lanes : goal.offer_behind-requires-clause-lanes
+offer_behind-requires-clause-lanes c = subst (λ v. AreOpenLanes v c.args.skips.now c.args.queue c.args.lanes) (sym c.allowed-allowed.ensures.same) c.requires.lanes
+
+pub offer_behind-requires-clause-allowed : goal.offer_behind-requires-clause-allowed
+offer_behind-requires-clause-allowed c = subst (λ v. HasAllowed v c.args.skips.now c.args.queue c.allowed-allowed.result) (sym c.allowed-allowed.ensures.same) c.allowed-allowed.ensures.allowed
+
+pub returns-then-is_some-clause-offer : goal.returns-then-is_some-clause-offer
+returns-then-is_some-clause-offer c =
+    subst (λ v. IfSome c.offer_at_head-offer.result (λ o. (o.delivery.queue ≡ c.args.queue)
+    × IsOfferIn v c.args.skips.now c.args.queue c.args.level.number o.lane (numbered_in o.delivery)))
+    c.allowed-allowed.ensures.same c.offer_at_head-offer.ensures
+
+pub returns-clause-offer : goal.returns-clause-offer
+returns-clause-offer c =
+    subst (λ v. IfSome c.offer_behind.result (λ o. (o.delivery.queue ≡ c.args.queue)
+    × IsOfferIn v c.args.skips.now c.args.queue c.args.level.number o.lane (numbered_in o.delivery)))
+    c.allowed-allowed.ensures.same c.offer_behind.ensures.offer
+
+pub returns-clause-none : goal.returns-clause-none
+returns-clause-none c =
+    subst (λ v. IfNone c.offer_behind.result (HasNoneIn v c.args.skips.now c.args.queue c.args.level.number)) c.allowed-allowed.ensures.same
+    c.offer_behind.ensures.none

@@ -16,6 +16,16 @@ pub(crate) struct Device {
     pub(crate) ports: &'static [(u32, &'static [u32])],
 }
 
+fn queue_draft(&(kind, priority, count): &(Kind, u8, u32)) -> QueueDraft {
+    QueueDraft {
+        kind,
+        priority,
+        slots: count,
+        order: count,
+        single: false,
+    }
+}
+
 impl Device {
     /// Its configuration, checked.
     pub(crate) fn shape(&self, alloc: Global) -> Result<Shape, RunFault> {
@@ -31,17 +41,7 @@ impl Device {
     }
 
     fn queue_drafts(&self, alloc: Global) -> Result<Vec<QueueDraft>, AllocError> {
-        let mut drafts = Vec::with_capacity(alloc, self.queues.len())?;
-        for (kind, priority, count) in self.queues {
-            drafts.push(QueueDraft {
-                kind: *kind,
-                priority: *priority,
-                slots: *count,
-                order: *count,
-                single: false,
-            })?;
-        }
-        Ok(drafts)
+        self.queues.iter().map(queue_draft).collect(alloc)
     }
 
     fn port_drafts(&self, alloc: Global) -> Result<Vec<PortDraft>, AllocError> {

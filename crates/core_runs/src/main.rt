@@ -11,7 +11,6 @@ mod known_runs;
 mod moves;
 mod ordered_runs;
 mod pair;
-mod passed_over;
 mod plain_run;
 mod rows;
 mod run;
@@ -19,7 +18,6 @@ mod turns;
 
 use comparison::{COMPARED, compare};
 use fault::RunFault;
-use passed_over::passes_over;
 use std::process::ExitCode;
 use turns::{KnownRun, play};
 
@@ -63,16 +61,10 @@ fn play_all<R: AllocGlobal + Print>(rt: &R, runs: &[KnownRun]) -> Result<bool, R
 
 /// Makes all the runs: whether all went as they must.
 fn run_all<R: AllocGlobal + Print>(rt: &R) -> Result<bool, RunFault> {
-    let passes = told(
-        rt,
-        "what a sweep passes over",
-        "as known",
-        passes_over(rt.alloc()),
-    )?;
     let known = play_all(rt, &known_runs::RUNS)?;
     let ordered = play_all(rt, &ordered_runs::RUNS)?;
     let alike = compare_all(rt)?;
-    Ok(passes && known && ordered && alike)
+    Ok(known && ordered && alike)
 }
 
 fn main(rt: HostRuntime) -> ExitCode {

@@ -115,88 +115,71 @@ pub(crate) static COMPARED: [Compared; 6] = [
     },
 ];
 
-// What may come of a turn, as places of its count in `Seen`.
-const ACCEPTED: usize = 0;
-
-const KEPT: usize = 1;
-
-const RELEASED: usize = 2;
-
-const TURNED: usize = 3;
-
-const REFUSED: usize = 4;
-
-const GIVEN: usize = 5;
-
-const BOUNCED: usize = 6;
-
-const NOTHING: usize = 7;
-/// What was added beside an unanswered event was accepted at once, was kept, or was refused; and an event had as many as there may be.
-const ADDED: usize = 8;
-
-const ADDED_KEPT: usize = 9;
-
-const NOT_ADDED: usize = 10;
-
-const FILLED: usize = 11;
-
-/// What may come of a turn on each device.
-const ANYWHERE: [usize; 9] = [
-    ACCEPTED, RELEASED, TURNED, REFUSED, GIVEN, BOUNCED, NOTHING, NOT_ADDED, FILLED,
-];
-
 /// How often each thing came of a turn in the runs of a device.
-#[derive(Clone, Copy)]
+#[derive(Clone, Copy, Debug, Default)]
 struct Seen {
-    counts: [u32; 12],
+    accepted: u32,
+    kept: u32,
+    released: u32,
+    turned: u32,
+    refused: u32,
+    given: u32,
+    bounced: u32,
+    nothing: u32,
+    /// What was added beside an unanswered event was accepted at once, was kept, or was refused; and an event had as many as there
+    /// may be.
+    added: u32,
+    added_kept: u32,
+    not_added: u32,
+    filled: u32,
 }
 
 impl Seen {
-    /// How often this thing came.
-    fn count(&self, place: usize) -> u32 {
-        self.counts.get(place).copied().unwrap_or(0)
-    }
-
-    /// It came once more.
-    fn add(&mut self, place: usize) {
-        if let Some(count) = self.counts.get_mut(place) {
-            *count = count.saturating_add(1);
-        }
-    }
-
     /// Notes what came of a turn.
     fn note(&mut self, step: Move, made: Made) {
         let adds = step.adds_on().is_some();
-        self.add(match made {
-            Made::Took(Some(PlainTook::Kept)) if adds => ADDED_KEPT,
-            Made::Took(Some(_)) if adds => ADDED,
-            Made::Took(None) if adds => NOT_ADDED,
-            Made::Took(Some(PlainTook::Accepted)) => ACCEPTED,
-            Made::Took(Some(PlainTook::Kept)) => KEPT,
-            Made::Took(Some(PlainTook::Released)) => RELEASED,
-            Made::Took(Some(PlainTook::Turned)) => TURNED,
-            Made::Took(None) => REFUSED,
-            Made::Proposed(Some(_)) if step == Move::Bounce => BOUNCED,
-            Made::Proposed(Some(_)) => GIVEN,
-            Made::Proposed(None) => NOTHING,
+        let count = match made {
+            Made::Took(Some(PlainTook::Kept)) if adds => &mut self.added_kept,
+            Made::Took(Some(_)) if adds => &mut self.added,
+            Made::Took(None) if adds => &mut self.not_added,
+            Made::Took(Some(PlainTook::Accepted)) => &mut self.accepted,
+            Made::Took(Some(PlainTook::Kept)) => &mut self.kept,
+            Made::Took(Some(PlainTook::Released)) => &mut self.released,
+            Made::Took(Some(PlainTook::Turned)) => &mut self.turned,
+            Made::Took(None) => &mut self.refused,
+            Made::Proposed(Some(_)) if step == Move::Bounce => &mut self.bounced,
+            Made::Proposed(Some(_)) => &mut self.given,
+            Made::Proposed(None) => &mut self.nothing,
             Made::Nothing => return,
-        });
+        };
+        *count = count.saturating_add(1);
     }
 
     /// Notes that an event was to be added on a lane on which as many are added now as there may be.
     fn note_extras(&mut self, extras: usize) {
         if extras == MAX_EXTRAS {
-            self.add(FILLED);
+            self.filled = self.filled.saturating_add(1);
         }
     }
 
     /// Whether each thing that may happen on the device has happened often: an ordered queue keeps events and what is added beside
     /// them, and no other does.
     fn is_varied(&self, device: &Device) -> bool {
-        ANYWHERE.iter().all(|place| self.count(*place) >= OFTEN)
-            && comes_where(device.has_ordered(), self.count(KEPT))
-            && comes_where(device.has_ordered(), self.count(ADDED_KEPT))
-            && comes_where(device.has_unordered(), self.count(ADDED))
+        let counts = [
+            self.accepted,
+            self.released,
+            self.turned,
+            self.refused,
+            self.given,
+            self.bounced,
+            self.nothing,
+            self.not_added,
+            self.filled,
+        ];
+        counts.iter().all(|count| *count >= OFTEN)
+            && comes_where(device.has_ordered(), self.kept)
+            && comes_where(device.has_ordered(), self.added_kept)
+            && comes_where(device.has_unordered(), self.added)
     }
 }
 
@@ -240,14 +223,13 @@ fn compare_run(
 
 /// The runs of all seeds. In each the cores must do alike, and all together must be varied.
 pub(crate) fn compare(alloc: Global, compared: &Compared) -> Result<(), RunFault> {
-    let mut seen = Seen { counts: [0; 12] };
+    let mut seen = Seen::default();
     for seed in 0..SEEDS {
         compare_run(alloc, compared, seed, &mut seen)?;
     }
     if seen.is_varied(&compared.device) {
         Ok(())
     } else {
-        let counts = &seen.counts;
-        Err(RunFault::Otherwise(format!(in alloc; "alike, but not varied: {counts:?}")?))
+        Err(RunFault::Otherwise(format!(in alloc; "alike, but not varied: {seen:?}")?))
     }
 }

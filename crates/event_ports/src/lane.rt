@@ -1,7 +1,7 @@
 //! What a port holds, and from where.
 
 /// A lane of a port.
-#[derive(Clone, Copy, Debug)]
+#[derive(Clone, Copy)]
 pub enum Lane {
     /// The port's own lane.
     Own,
@@ -10,7 +10,7 @@ pub enum Lane {
 }
 
 /// A delivery that a port received and has not answered: the lane from which it came, its queue and its number there.
-#[derive(Clone, Copy, Debug)]
+#[derive(Clone, Copy)]
 pub struct Holding {
     pub lane: Lane,
     pub queue: usize,

@@ -19,10 +19,9 @@ pub const MAX_FORWARDS: usize = MAX_EXTRAS + 1;
 pub(crate) const LEVEL_PRIORITIES: u8 = 64;
 
 /// What a port asks of the device with an event.
-#[derive(Clone, Copy, Debug, PartialEq, Eq, Default)]
+#[derive(Clone, Copy, Debug, PartialEq, Eq)]
 pub enum Op {
     /// Brings an event into the device.
-    #[default]
     New,
     /// Passes the oldest event that the port holds on to a queue.
     Forward,
@@ -272,7 +271,7 @@ pub struct Reply {
 }
 
 /// An event with its number in its queue.
-#[derive(Clone, Copy, Debug, PartialEq, Eq, Default)]
+#[derive(Clone, Copy, Debug, PartialEq, Eq)]
 pub struct Numbered {
     pub number: u64,
     pub event: PackedEvent,
@@ -280,7 +279,7 @@ pub struct Numbered {
 
 /// An event that an ordered queue keeps until all before it is answered, with the queue and the number of the event that was
 /// passed on as it.
-#[derive(Clone, Copy, Debug, PartialEq, Eq, Default)]
+#[derive(Clone, Copy, Debug, PartialEq, Eq)]
 pub struct KeptEvent {
     pub queue: usize,
     pub number: u64,

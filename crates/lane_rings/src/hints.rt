@@ -13,7 +13,7 @@ const WORD: usize = 64;
 const HINTED: usize = 2 * WORD;
 
 /// Some of the flow lanes. A set is no more than a hint: no clause says which lanes are in it.
-#[derive(Clone, Copy, Debug, PartialEq, Eq)]
+#[derive(Clone, Copy)]
 pub struct LaneSet {
     low: u64,
     high: u64,

@@ -12,7 +12,7 @@ use std::alloc::Global;
 use std::marker::Model;
 
 /// An ordered queue has a buffer with a place for each of its open events; any other queue restores no order and has none.
-#[derive(Debug, Drop)]
+#[derive(Drop)]
 pub struct AllOrders {
     queues: Vec<Option<Reorder>>,
 }

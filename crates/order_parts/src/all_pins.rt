@@ -14,7 +14,7 @@ use std::marker::Model;
 
 /// The pins of the slots of each queue. Only an atomic queue's slots have any: a slot without a pin counts as free, and
 /// pinning it does nothing, so that no caller asks for the queue's kind.
-#[derive(Debug, Drop)]
+#[derive(Drop)]
 pub struct AllPins {
     queues: Vec<Pins>,
 }

@@ -13,7 +13,7 @@ use std::alloc::Global;
 use std::marker::Model;
 
 /// The history of each lane, and a word of the lanes that have room, so that the lanes with room are asked for at once.
-#[derive(Debug, Drop)]
+#[derive(Drop)]
 pub struct Histories {
     lanes: Vec<History>,
     /// Of the first lanes those that have room. The ports' lanes are among them.

@@ -17,7 +17,7 @@ pub struct Entry {
 }
 
 /// The unanswered events of a lane, oldest first, in a ring.
-#[derive(Debug, Drop)]
+#[derive(Drop)]
 pub struct History {
     /// As many places as a power of two, so that a mask finds the place after the last one.
     ring: Vec<Entry>,

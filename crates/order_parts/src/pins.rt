@@ -12,14 +12,14 @@ use std::alloc::Global;
 use std::marker::Model;
 
 /// How many unanswered events of a slot stand on the lane that has them; where there are none, any lane may be next.
-#[derive(Clone, Copy, Debug)]
+#[derive(Clone, Copy)]
 pub(crate) struct Hold {
     pub(crate) count: u8,
     pub(crate) lane: usize,
 }
 
 /// The pins of an atomic queue: while events of a slot are unanswered, they all stand on one lane.
-#[derive(Debug, Drop)]
+#[derive(Drop)]
 pub struct Pins {
     pub(crate) holds: Vec<Hold>,
     /// For each lane the slots that stand on it, while this is kept up. Only the first lanes, as many as there are sets, have one of

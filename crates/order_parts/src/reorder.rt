@@ -10,7 +10,7 @@ use std::alloc::Global;
 use std::marker::Model;
 
 /// A place: the number of the event that was handed out, how many events the place keeps, and whether its event is answered.
-#[derive(Clone, Copy, Debug)]
+#[derive(Clone, Copy)]
 pub(crate) struct Handed {
     number: u64,
     kept: usize,
@@ -19,7 +19,7 @@ pub(crate) struct Handed {
 
 /// The reorder buffer of an ordered queue: a ring of places, in the order in which its events were handed out. They are
 /// resolved in any order, and leave in that one.
-#[derive(Debug, Drop)]
+#[derive(Drop)]
 pub struct Reorder {
     pub(crate) ring: HeapCircularBuffer<Handed>,
     first: u64,

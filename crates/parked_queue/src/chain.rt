@@ -9,14 +9,14 @@ use evt_types::{Numbered, PackedEvent};
 use std::alloc::{AllocError, Global};
 
 /// An event, and the node behind it. The event counts only where it waits.
-#[derive(Clone, Copy, Debug)]
+#[derive(Clone, Copy)]
 pub(crate) struct Node {
     pub(crate) item: Numbered,
     pub(crate) next: usize,
 }
 
 /// The chain's first node, and its spare one, which is the last. Where they are the same, nothing waits.
-#[derive(Clone, Copy, Debug)]
+#[derive(Clone, Copy)]
 pub(crate) struct Chain {
     pub(crate) first: usize,
     pub(crate) spare: usize,

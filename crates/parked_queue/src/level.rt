@@ -11,7 +11,7 @@ use small_set::SmallSet;
 pub(crate) const LEVELS: usize = 4;
 
 /// A level, by its number: 0 for the one that is served first.
-#[derive(Clone, Copy, Debug, PartialEq, Eq)]
+#[derive(Clone, Copy)]
 pub struct Level {
     pub number: usize,
     pub ghost few: { number < 4 },
@@ -30,7 +30,7 @@ impl Level {
 }
 
 /// A set of levels.
-#[derive(Clone, Copy, Debug, PartialEq, Eq)]
+#[derive(Clone, Copy)]
 pub struct Levels {
     set: SmallSet,
     pub ghost few: { (c : ℕ) → Has set c → c < 4 },

@@ -12,7 +12,7 @@ use std::alloc::{AllocError, Global};
 use std::marker::Model;
 
 /// Many lists of waiting events, with room for so many events in all.
-#[derive(Debug, Drop)]
+#[derive(Drop)]
 pub struct WaitingLists {
     // The nodes of all chains, and the free ones. All are there from the start, so that a push asks for none.
     nodes: Vec<Node>,

@@ -8,7 +8,7 @@ use evt_types::{Delivery, Numbered};
 use parked_queue::{Found, Level};
 
 /// An event that may be given to a lane.
-#[derive(Clone, Copy, Debug)]
+#[derive(Clone, Copy)]
 pub struct Offer {
     pub lane: usize,
     pub delivery: Delivery,

@@ -48,12 +48,15 @@ fn set_of(slots: &[usize]) -> SmallSet {
     set
 }
 
-/// How many events wait in the queue, the first level of which one may, and whether it is the only one; none where there is no such
-/// queue, as below.
-fn waiting_in(queues: &ParkedQueues, queue: usize) -> Option<(usize, Option<Level>, bool)> {
+/// How many events wait in the queue, the number of the first level of which one may, and whether it is the only one; none where
+/// there is no such queue, as below.
+fn waiting_in(queues: &ParkedQueues, queue: usize) -> Option<(usize, Option<usize>, bool)> {
     if queue < queues.len() {
         let mut levels = queues.levels(queue);
-        let first = levels.pop();
+        let first = match levels.pop() {
+            Some(level) => Some(level.number),
+            None => None,
+        };
         Some((queues.count(queue), first, levels.is_empty()))
     } else {
         None
@@ -94,7 +97,7 @@ fn queues_share_their_room(rt: HostRuntime) -> Result<(), Fail> {
         waiting_in(&queues, 2),
     ];
     let level = Level { number: 2 };
-    let each = Some((1, Some(level), true));
+    let each = Some((1, Some(level.number), true));
     assert_eq!(rt; waiting, [each, each, None]);
     let firsts = [
         first_of(&mut queues, 0, level, &[2]),

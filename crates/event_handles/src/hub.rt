@@ -156,7 +156,9 @@ impl Hub {
     }
 
     /// Lets go of all that it has.
-    pub fn close(self) {}
+    pub fn close(self) {
+        drop(self);
+    }
 }
 
 fn sent<T: Send>(value: T) -> T

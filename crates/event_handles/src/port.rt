@@ -162,5 +162,7 @@ impl PortHandle {
     }
 
     /// Lets go of the port, and of all that it has.
-    pub fn close(self) {}
+    pub fn close(self) {
+        drop(self);
+    }
 }

@@ -29,6 +29,7 @@ impl Hub {
         let Some(device) = self.device.take() else {
             return ENODEV;
         };
+        // `drop` ends what was there before, which is nothing: an assignment would do it here, part by part, for the proof to follow.
         match device.stop() {
             Ok(report) => {
                 let stopped = Stopped {
@@ -37,11 +38,11 @@ impl Hub {
                     part: 0,
                     handed: 0,
                 };
-                self.stopped = Some(stopped);
+                drop(self.stopped.replace(stopped));
                 0
             }
             Err((why, device)) => {
-                self.device = Some(device);
+                drop(self.device.replace(device));
                 number_of_why(why)
             }
         }

@@ -9,6 +9,7 @@ pub mod Parts
 pub mod Whole
 pub mod Starts
 pub mod Opened
+pub mod Grown
 pub mod Claiming
 pub mod ByLane
 pub mod Boards

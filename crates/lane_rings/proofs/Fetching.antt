@@ -16,4 +16,8 @@ module _ {T : Type 0} where
   pub prefix-joined : (xs ys zs : List T) → IsPrefix xs ys → IsPrefix ys zs → IsPrefix xs zs
   prefix-joined xs ys zs p q = (p.0 ++ q.0, sym (append_assoc xs p.0 q.0) ∙ (ap (λ (ws : List T). ws ++ q.0) p.1 ∙ q.1))
 
+  -- the same behind a row
+  pub prefix-behind : (ws xs ys : List T) → IsPrefix xs ys → IsPrefix (ws ++ xs) (ws ++ ys)
+  prefix-behind ws xs ys p = (p.0, append_assoc ws xs p.0 ∙ ap (λ zs. ws ++ zs) p.1)
+
 pub ruleset of_looks = (row-empty, row-filled, one-put, none-there, none-behind)

@@ -1,5 +1,5 @@
 -- What a batch is made of, and what is handed out as its first item leaves.
-use Rattle.std.proofs.Common.{◌≡◌, ℕ, ◌+◌, ◌-◌, ◌<◌, ◌≤◌, List, [], ◌∷◌, ◌++◌, length, take, drop, get_or, arith, ap, None, Some, refl, subst, sym, ◌∙◌, length-append}
+use Rattle.std.proofs.Common.{◌≡◌, ◌≢◌, ℕ, ◌+◌, ◌-◌, ◌<◌, ◌≤◌, List, [], ◌∷◌, ◌++◌, length, take, drop, get_or, arith, ap, Bor, IfNone, IfSome, MatchOption, None, Option, option_copied, Some, refl, subst, sym, ◌∙◌, append-nil, length-append}
 use Rattle.std.specs.Prelude.{slice_get}
 use Rattle.std.proofs.Math.Seq.{take-append_seam}
 use Rattle.std.proofs.lemmas.List.{drop-take}
@@ -44,10 +44,22 @@ module _ {T : Type 0} where
       one-handed rs _ vs w (e ∙ ap (λ (zs : List T). take (length rs - length (w ∷ ws)) rs ++ w ∷ zs) (sym rest))
 
   -- the last of a row leave from behind the rest
-  behind-rest : (rs hs vs : List T) → rs ≡ hs ++ vs → take (length rs - length vs) rs ≡ hs
+  pub behind-rest : (rs hs vs : List T) → rs ≡ hs ++ vs → take (length rs - length vs) rs ≡ hs
   behind-rest rs hs vs e =
       let long : length rs - length vs ≡ length hs = omega (arith, ap length e, length-append hs vs) in
       ap (λ (n : ℕ). take n rs) long ∙ (ap (take (length hs)) e ∙ take-append_seam hs vs)
+
+  -- and are the last that came out of the ring
+  pub row-last : (rs hs vs : List T) → rs ≡ hs ++ vs → rs ≡ take (length rs - length vs) rs ++ vs
+  row-last rs hs vs e = e ∙ ap (λ zs. zs ++ vs) (sym (behind-rest rs hs vs e))
+
+  -- nothing was handed out as they came, where nothing was left
+  pub row-kept : (rs hs vs os us ws : List T) → rs ≡ hs ++ vs → hs ≡ os → os ≡ us ++ ws → ws ≡ [] → take (length rs - length vs) rs ≡ us
+  row-kept rs hs vs os us ws e h o none = behind-rest rs hs vs e ∙ (h ∙ (o ∙ (ap (λ zs. us ++ zs) none ∙ append-nil us)))
+
+  -- the last of a ring stay the last where as much came out of it
+  pub last-kept : (rs qs ws : List T) → qs ≡ rs → rs ≡ take (length rs - length ws) rs ++ ws → qs ≡ take (length qs - length ws) qs ++ ws
+  last-kept rs qs ws e last = subst (λ zs. zs ≡ take (length zs - length ws) zs ++ ws) (sym e) last
 
   -- some of what is last leave: they are handed out
   in-parts : (n : ℕ) (rs ws : List T) → rs ≡ take (length rs - length ws) rs ++ ws → rs ≡ (take (length rs - length ws) rs ++ take n ws) ++ drop n ws
@@ -85,6 +97,11 @@ module _ {T : Type 0} where
   none-first [] ys e = refl
   none-first (x ∷ xs) ys e = grind (arith, common_steps, ap length e)
 
+  -- nor is there a last
+  pub none-last : (xs ys : List T) → xs ++ ys ≡ [] → ys ≡ []
+  none-last [] ys e = e
+  none-last (x ∷ xs) ys e = absurd (omega (arith, ap length e))
+
   -- as many of the first of two rows as of both
   pub take-first : (n : ℕ) (xs ys : List T) → n ≤ length xs → take n (xs ++ ys) ≡ take n xs
   take-first n xs ys within = grind (arith, common_steps)
@@ -101,6 +118,30 @@ module _ {T : Type 0} where
 
   pub prefix-next : (ws xs ks : List T) (x y : T) → IsPrefix ws xs → xs ≡ x ∷ ks → slice_get ws 0 ≡ Some y → x ≡ y
   prefix-next ws xs ks x y p e s = same_Some x y (ap (λ (zs : List T). slice_get zs 0) (sym e) ∙ prefix-first ws xs y p s)
+
+  -- the first of a row is handed out, or nothing where there is none
+  pub handed-next : (result : Option T) (hs ks ls ws vs : List T) → hs ≡ ks ++ take 1 ws → ks ≡ ls → MatchOption result (ws ≡ []) (λ x. ws ≡ x ∷ vs)
+      → MatchOption result (hs ≡ ls) (λ x. hs ≡ ls ++ x ∷ [])
+  handed-next None hs ks ls ws vs e k v = e ∙ (ap (λ zs. ks ++ take 1 zs) v ∙ (append-nil ks ∙ k))
+  handed-next (Some x) hs ks ls ws vs e k v = e ∙ (ap (λ zs. ks ++ take 1 zs) v ∙ ap (λ zs. zs ++ x ∷ []) k)
+
+  -- and it is the first that was seen before
+  pub first-comes : (result : Option T) (os ws ks vs : List T) (y : T) → IsPrefix os (ws ++ ks) → slice_get os 0 ≡ Some y
+      → MatchOption result (ws ≡ []) (λ x. ws ≡ x ∷ vs) → (ws ≡ [] → ws ++ ks ≡ []) → result ≡ Some y
+  first-comes None os ws ks vs y p s v none = absurd (none-some y (ap (λ zs. slice_get zs 0) (sym (none v)) ∙ prefix-first os (ws ++ ks) y p s))
+  first-comes (Some x) os ws ks vs y p s v none = ap (λ zs. slice_get (zs ++ ks) 0) (sym v) ∙ prefix-first os (ws ++ ks) y p s
+
+  pub first-copied : (result : Option (Bor T)) (os ws ks : List T) (y : T) → IsPrefix os (ws ++ ks) → slice_get os 0 ≡ Some y
+      → IfNone result (ws ≡ []) → IfSome result (λ x. ws ≡ x.now ∷ drop 1 ws) → (ws ≡ [] → ws ++ ks ≡ []) → option_copied result ≡ Some y
+  first-copied None os ws ks y p s none some all = first-comes None os ws ks [] y p s none all
+  first-copied (Some x) os ws ks y p s none some all = first-comes (Some x.now) os ws ks (drop 1 ws) y p s some all
+
+  -- where one row is empty at most one item comes into it, and none into another: then its first leaves
+  pub one-passed : (os ws vs : List T) → vs ≡ drop 1 ws → (os ≡ [] → length ws ≤ 1) → (os ≢ [] → ws ≡ os) → vs ≡ drop 1 os
+  one-passed [] [] vs e few stays = e
+  one-passed [] (w ∷ []) vs e few stays = e
+  one-passed [] (w ∷ u ∷ ws) vs e few stays = absurd (omega (arith, few refl))
+  one-passed (o ∷ os) ws vs e few stays = e ∙ ap (drop 1) (stays (λ none. absurd (omega (arith, ap length none))))
 
 pub ruleset of_rows = (row-empty, row-filled, row-first, row-rest, take-first)
 

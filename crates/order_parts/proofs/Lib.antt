@@ -2,6 +2,7 @@ pub mod Buffers
 pub mod Changes
 pub mod EmptyLanes
 pub mod Fields
+pub mod FreePins
 pub mod HeldSlots
 pub mod Holds
 pub mod Kept

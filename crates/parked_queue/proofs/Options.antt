@@ -18,3 +18,7 @@ not_there o e some = false≢true (subst (λ r. is_some r ≡ true) e some)
 pub if_more : {X : Type 0} (o : Option X) (P Q : X → Type 0) → ((x : X) → P x → Q x) → IfSome o P → IfSome o Q
 if_more None P Q more known = tt
 if_more (Some x) P Q more known = more x known
+
+pub if_there : {X : Type 0} (o : Option X) (P : Type 0) → is_some o ≡ true → IfNone o P
+if_there None P some = absurd (false≢true some)
+if_there (Some x) P some = tt

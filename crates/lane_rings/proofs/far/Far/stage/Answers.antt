@@ -1,5 +1,5 @@
 -- A reply goes behind the others: an answer ends the oldest and its additions, and another adds one or changes nothing.
-use Rattle.std.proofs.Common.{◌≡◌, ◌∙◌, ◌+◌, ℕ, List, [], ◌∷◌, ◌++◌, ap, arith, cond, length, subst, sym}
+use Rattle.std.proofs.Common.{◌≡◌, ◌∙◌, ◌+◌, ℕ, List, [], ◌∷◌, ◌++◌, ap, arith, cond, drop, length, length-drop, rules, subst, sym}
 use Rattle.std.proofs.lemmas.List.Sums.{sum_by-append}
 use Rattle.evt_types.proofs.Additions.{beside-append, extras-append}
 use Rattle.evt_types.specs.Additions.{AreBeside, extras_of, more_after}
@@ -28,3 +28,29 @@ invariant_of-self-2-clause-beside c =
     subst (AreBeside received) (sym (c.gather.ensures.put ∙ ap (λ (rs : List Reply). rs ++ reply_of c.args.event.now ∷ []) c.has_room.ensures.put))
     (beside-append received (answered c.args.self.now) (reply_of c.args.event.now) c.args.self.now.beside
     (λ adds. (omega (arith, (c.in_ok-held.ensures.may_add adds).0, c.args.self.now.held_is), omega (arith, (c.in_ok-held.ensures.may_add adds).1, c.args.self.now.extras_are))))
+
+pub returns-clause-nothing_held : goal.returns-clause-nothing_held
+returns-clause-nothing_held c =
+    let old = c.args.self.now in (
+      λ e. search rules,
+      λ p. absurd (omega (arith, c.in_ok-held.ensures.needs p.0, ap length p.1, length-drop (answers_among (answered old)) (received_by old), old.held_is)),
+    )
+
+pub returns-clause-too_many : goal.returns-clause-too_many
+returns-clause-too_many c = (λ e. search rules, λ p. absurd (omega (arith, (c.in_ok-held.ensures.may_add p.0).1, p.2, c.args.self.now.extras_are)))
+
+pub invariant_of-self : goal.invariant_of-self
+invariant_of-self c =
+    let old = c.args.self.now in
+    let put = c.has_room.ensures.put in
+    record {
+      held_is = ap (λ rs. answers_among rs + old.held) put ∙ old.held_is;
+      held_few = old.held_few;
+      all_received = old.all_received;
+      extras_are = old.extras_are ∙ sym (ap extras_of put);
+      extras_few = old.extras_few;
+      beside = subst (AreBeside (length (received_by old))) (sym put) old.beside;
+    }
+
+pub returns-then-not-has_room-clause-held : goal.returns-then-not-has_room-clause-held
+returns-then-not-has_room-clause-held c = ap (λ rs. drop (answers_among rs) (received_by c.args.self.now)) c.has_room.ensures.put

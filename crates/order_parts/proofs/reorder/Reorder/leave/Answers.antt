@@ -1,13 +1,13 @@
-use Rattle.std.proofs.Common.{◌≡◌, ◌+◌, ◌-◌, ◌*◌, true, List, slice_get, take, drop, None, Some, option_map, sym, ap, ◌∙◌}
-use Rattle.std.proofs.lemmas.Bool.{not-false}
+use Rattle.std.proofs.Common.{◌≡◌, ◌+◌, ◌-◌, ◌*◌, true, List, length, slice_get, take, drop, None, Some, option_map, sym, ap, ◌∙◌, arith}
+use Rattle.std.proofs.lemmas.Bool.{not-false, not-true}
 use Rattle.evt_types.specs.Place.{Place}
 use Rattle.evt_types.specs.declared.event.Event.{Event}
 use Rattle.evt_types.specs.declared.event.TheConstants.{MAX_FORWARDS}
 use Rattle.order_parts.specs.Reorder.{after_leaving, left, oldest_answered}
-use Rattle.order_parts.proofs.Fields.{oldest_kept, oldest_few}
-use Rattle.order_parts.proofs.Oldest.{none_oldest, resolved_oldest, some_place}
+use Rattle.order_parts.proofs.Fields.{first_within, keeps_few, oldest_kept, oldest_few}
+use Rattle.order_parts.proofs.Oldest.{none_oldest, resolved_oldest, some_place, unresolved_oldest}
 use Rattle.order_parts.proofs.reorder.Reorder.leave.Goals as goal
-use Rattle.order_parts.proofs.reorder.Reorder.leave.Goals.{In_err-oldest, In_ok-oldest}
+use Rattle.order_parts.proofs.reorder.Reorder.leave.Goals.{In_err-oldest, In_ok-oldest, Then-not-oldest}
 
 -- there is no place
 none : (c : In_err-oldest) → oldest_answered c.args.self.now.places ≡ None
@@ -21,6 +21,37 @@ returns-in_err-oldest-clause-rest c = sym (ap (after_leaving c.args.self.now) (n
 
 there : (c : In_ok-oldest) → slice_get c.self.inside.ring.items 0 ≡ Some c.in_ok-oldest.oldest
 there c = sym c.front.ensures ∙ (sym c.copied.ensures ∙ c.in_ok-oldest.was)
+
+-- it is unanswered
+still : (c : Then-not-oldest) → oldest_answered c.args.self.now.places ≡ None
+still c = unresolved_oldest c.self.inside c.args.self.now c.self.view_is c.in_ok-oldest.oldest (sym c.front.ensures ∙ (sym c.copied.ensures ∙ c.in_ok-oldest.was)) (not-true c.in_ok-oldest.oldest.answered c.if-not-oldest.true)
+
+pub returns-then-not-oldest-clause-value : goal.returns-then-not-oldest-clause-value
+returns-then-not-oldest-clause-value c = sym (still c)
+
+pub returns-then-not-oldest-clause-rest : goal.returns-then-not-oldest-clause-rest
+returns-then-not-oldest-clause-rest c = sym (ap (after_leaving c.args.self.now) (still c))
+
+pub overflow_mul-row : goal.overflow_mul-row
+overflow_mul-row c =
+    let within = first_within c.self.inside c.self.invariant 0 c.in_ok-oldest.oldest (there (goal.at.overflow_mul-row c).In_ok-oldest) in
+    omega (arith, within, c.self.invariant.size, c.self.inside.rows.ok.0)
+
+pub overflow_add-row : goal.overflow_add-row
+overflow_add-row c =
+    let here = there (goal.at.overflow_add-row c).In_ok-oldest in
+    omega (arith, first_within c.self.inside c.self.invariant 0 c.in_ok-oldest.oldest here, (keeps_few c.self.inside c.self.invariant 0 c.in_ok-oldest.oldest here).few, c.self.invariant.size, c.self.inside.rows.ok.0)
+
+pub slice_bounds-passed_on-count : goal.slice_bounds-passed_on-count
+slice_bounds-passed_on-count c = omega arith
+
+pub slice_bounds-passed_on-start : goal.slice_bounds-passed_on-start
+slice_bounds-passed_on-start c = slice_bounds-passed_on-count c
+
+pub slice_bounds-passed_on-end : goal.slice_bounds-passed_on-end
+slice_bounds-passed_on-end c =
+    let here = there (goal.at.slice_bounds-passed_on-end c).In_ok-oldest in
+    omega (arith, first_within c.self.inside c.self.invariant 0 c.in_ok-oldest.oldest here, (keeps_few c.self.inside c.self.invariant 0 c.in_ok-oldest.oldest here).few, c.self.invariant.size, ap length c.deref.ensures.value)
 
 pub passed_on-events-requires : goal.passed_on-events-requires
 passed_on-events-requires c = rw c.deref.ensures.value (oldest_few c.self.inside c.self.invariant c.in_ok-oldest.oldest (there (goal.at.passed_on-events-requires c).In_ok-oldest))

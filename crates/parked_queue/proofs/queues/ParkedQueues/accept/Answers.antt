@@ -8,6 +8,12 @@ use Rattle.parked_queue.proofs.Parkings.{asked, queues_come, some_before, sound_
 use Rattle.parked_queue.proofs.Seen.{noted_first, noted_more, noted_there}
 use Rattle.parked_queue.proofs.queues.ParkedQueues.accept.Goals as goal
 
+pub overflow_add-entered : goal.overflow_add-entered
+overflow_add-entered c =
+    let a = asked c.self.inside.lists c.self.inside.queues.items c.args.self.now c.from-queue.result c.self.invariant.parkings c.self.view_is (subst (λ q. q < length c.args.self.now) (sym (c.from-queue.ensures ∙ c.queue.ensures)) c.requires.there) c.index_mut-entered.result.now c.index_mut-entered.ensures.value in
+    let next : c.index_mut-entered.result.now.next ≡ (waits_at c.args.self.now c.from-queue.result).next = ap (λ (w : Waits). w.next) a.waits in
+    omega (arith, subst (λ q. (waits_at c.args.self.now q).next < 2 ^ 63) (sym (c.from-queue.ensures ∙ c.queue.ensures)) c.requires.numbers)
+
 pub overflow_add-entered-2 : goal.overflow_add-entered-2
 overflow_add-entered-2 c =
     let a = asked c.self.inside.lists c.self.inside.queues.items c.args.self.now c.from-queue.result c.self.invariant.parkings c.self.view_is (subst (λ q. q < length c.args.self.now) (sym (c.from-queue.ensures ∙ c.queue.ensures)) c.requires.there) c.index_mut-entered.result.now c.index_mut-entered.ensures.value in

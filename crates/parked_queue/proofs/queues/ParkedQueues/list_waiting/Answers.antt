@@ -73,3 +73,23 @@ returns-clause-listed c =
     start end c.sort_unstable_by_key.ensures.permutation (IsNonDecreasingBy-from_sort_by_key number_of c.sort_unstable_by_key.new.self c.sort_unstable_by_key.ensures.sorted (λ a r f k. search rules))
     ∙ ap (λ (q : Waits). c.args.into.now.items ++ map named_delivery q.waiting) a.waits
     ∙ ap (λ ds. c.args.into.now.items ++ ds) (named_as c.args.queue (waits_at c.args.self.now c.args.queue).waiting (names_here _ c.args.self.now c.self.inside.levels.items c.self.inside.busy c.args.queue c.self.invariant.noted c.self.view_is c.requires.there))
+
+pub loop-list-smaller : goal.loop-list-smaller
+loop-list-smaller c = omega (arith, c.loop-list-test.true)
+
+pub slice_bounds-sort_unstable_by_key-count : goal.slice_bounds-sort_unstable_by_key-count
+slice_bounds-sort_unstable_by_key-count c =
+    let long = deliveries_length c.args.into.now.items c.loop-list.into.items (parts_of (parted_by c.self.inside.lists c.index-asked.result.now) c.loop-list.list) c.loop-list.invariant.deliveries in
+    omega (arith, ap length c.deref_mut.ensures.value, c.len-start.ensures, c.args.into.now.ok.0)
+
+pub returns-clause-room : goal.returns-clause-room
+returns-clause-room c = c.loop-list.invariant.room
+
+pub slice_bounds-sort_unstable_by_key-start : goal.slice_bounds-sort_unstable_by_key-start
+slice_bounds-sort_unstable_by_key-start c = slice_bounds-sort_unstable_by_key-count c
+
+pub offset_bounds-deref_mut-start : goal.offset_bounds-deref_mut-start
+offset_bounds-deref_mut-start c = omega (arith, slice_bounds-sort_unstable_by_key-count c, c.deref_mut.type_inv.1)
+
+pub slice_bounds-sort_unstable_by_key-end : goal.slice_bounds-sort_unstable_by_key-end
+slice_bounds-sort_unstable_by_key-end c = omega arith

@@ -18,9 +18,13 @@ use Rattle.evt_types.specs.declared.step.Step.{Step}
 use Rattle.evt_types.specs.declared.step.Step.TheVariants.{Give}
 use Rattle.small_set.specs.SmallSets.{Has, IsEmpty, IsFirst, SameBut}
 use Rattle.small_set.specs.declared.set.SmallSet.{SmallSet}
+use Rattle.parked_queue.specs.Busy.{AreBusy}
+use Rattle.sched_core.proofs.Busy.{waiting_there}
 use Rattle.sched_core.specs.Inner.{slots_for}
 use Rattle.sched_core.specs.Offered.{numbered_in, FitsSlot, HasAllowed, HasNoneAllowedIn, HasNoneIn, IsFirstIn, IsOfferIn, IsOfferOf, slot_at}
 use Rattle.sched_core.specs.Service.{IsServedFirst}
+use Rattle.sched_core.specs.View.{view_in}
+use Rattle.sched_core.specs.declared.state.Core.TheInside.{Inside}
 use Rattle.sched_core.specs.declared.offer.Offer.{Offer}
 
 -- ---- the better one of two lanes
@@ -46,6 +50,10 @@ none_of (Some x) P h p = absurd (false≢true (sym h))
 pub some_here : {X : Type 0} (o : Option X) (P : Type 0) → is_some o ≡ true → IfNone o P
 some_here None P h = absurd (false≢true h)
 some_here (Some x) P h = tt
+
+pub none_here : {X : Type 0} (o : Option X) (P : Type 0) → is_some o ≡ false → IfNone o P → P
+none_here None P h p = p
+none_here (Some x) P h p = absurd (false≢true (sym h))
 
 pub none_either : {X : Type 0} (o : Option X) (P : Type 0) → P → IfNone o P
 none_either None P p = p
@@ -138,6 +146,15 @@ offer_first v s q c left (Some y) least none offer =
 abbrev pub NothingBeside : View → Passed → SmallSet → Type 0
 NothingBeside v s left = (q : ℕ) → (¬ Has left q) → HasQuota v s q → HasNone v s q
 
+-- a queue of which nothing can be given is passed over
+pub queue_passed : (v : View) (s : Passed) (n : ℕ) (left next : SmallSet) → SameBut n left next → (HasQuota v s n → HasNone v s n) → NothingBeside v s left → NothingBeside v s next
+queue_passed v s n left next others here none q gone quota =
+    ⊎_elim (λ e. subst (HasNone v s) (sym e) (here (subst (HasQuota v s) e quota))) (λ was. none q was quota) (beside n q left next others gone)
+
+-- what is in a set that one member left was in it before
+pub others_there : (P : ℕ → Type 0) (n : ℕ) (left next : SmallSet) → (¬ Has next n) → SameBut n left next → ((q : ℕ) → Has left q → P q) → (q : ℕ) → Has next q → P q
+others_there P n left next gone others all q has = all q ((others q (λ e. gone (subst (Has next) e has))).0 has)
+
 -- a queue's offer is the choice where the queues that are served before have none
 choice_is : (v : View) (s : Passed) (q l : ℕ) (w : Numbered) → q < length v.shape.queues → HasQuota v s q → IsOfferOf v s q l w → ((r : ℕ) → HasQuota v s r → IsServedBefore v.shape r q → HasNone v s r) → IsChoice v s l q w
 choice_is v s q l w there quota offer before = record { there = there; quota = quota; waits = offer.waits; fits = offer.fits; lane = offer.best; event = offer.first; queue = λ r _ quota first. before r quota first }
@@ -153,6 +170,13 @@ served_offer v s n left (Some y) first nothing there quota offer =
 -- where nothing waits nothing is offered
 pub none_waits : (v : View) (s : Passed) (q : ℕ) → waiting_at v q ≡ [] → HasNone v s q
 none_waits v s q nothing w waits m fits = let e = ap length nothing in let lt = waits.1 in omega arith
+
+-- so of the queues that aren't busy, and those that are are there
+pub idle_queues : (a : Inside) (v : View) (s : Passed) (busy : SmallSet) → view_in a ≡ v → AreBusy a.queues busy → NothingBeside v s busy
+idle_queues a v s busy is are q idle quota = subst (λ u. HasNone u s q) is (none_waits (view_in a) s q (waiting_there a q ∙ are.rest q idle))
+
+pub busy_queues : (a : Inside) (v : View) (busy : SmallSet) → view_in a ≡ v → length a.queues ≡ length a.shape.queues → AreBusy a.queues busy → (q : ℕ) → Has busy q → q < length v.shape.queues
+busy_queues a v busy is count are q has = subst (λ (u : View). q < length u.shape.queues) is (subst (λ n. q < n) count (are.there q has))
 
 -- ---- a choice is an offer: what waits before it of its flow and level would fit the same lane
 

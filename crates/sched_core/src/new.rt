@@ -1,17 +1,24 @@
 //! A core in which nothing has happened.
 
-ghost use Rattle.std.specs.Prelude.{◌≡◌, ◌<◌, [], length, replicate, IfOk, IfErr};
-ghost use Rattle.evt_types.specs.Plan.{lanes_of};
+ghost use Rattle.std.specs.Prelude.{◌≡◌, ◌<◌, [], length, map, replicate, IfOk, IfErr};
+ghost use Rattle.evt_types.specs.Plan.{kept_room, lanes_of};
+ghost use Rattle.evt_types.specs.declared.draft.QueueDraft.{QueueDraft};
 ghost use Rattle.transcripts.specs.Sweep.{sweep_room};
 ghost use Rattle.transcripts.specs.Standing.{Stands, view_of};
+ghost use Rattle.order_parts.specs.Histories.{AreEmptyLanes};
+ghost use Rattle.order_parts.specs.QueuePins.{AreFreePins};
+ghost use Rattle.order_parts.specs.Reorder.{empty};
+ghost use Rattle.sched_core.specs.Inner.{AreEmptyQueues};
 ghost use Rattle.sched_core.specs.Links.{AreLinks, AreLinksOf};
 ghost use Rattle.sched_core.specs.Service.{AreAhead, AreAheadOf};
+ghost use Rattle.sched_core.specs.SlotLanes.{AreSlotLanes, slot_lane_count};
 
 use crate::queues::empty_queues;
 use crate::slot_lanes::slot_lanes;
 use crate::state::Core;
 use evt_types::{MAX_FORWARDS, Memory, Shape};
 use order_parts::{AllOrders, AllPins, Histories, all_kept_room};
+use parked_queue::ParkedQueues;
 use small_set::SmallSet;
 use std::alloc::{AllocError, Global};
 
@@ -63,11 +70,31 @@ fn queue_sets(alloc: Global, shape: &Shape) -> Result<(Vec<SmallSet>, Vec<SmallS
     Ok((links, ahead))
 }
 
-/// For each lane how many events were added beside its oldest unanswered one: none.
-fn no_extras(alloc: Global, shape: &Shape) -> Result<Vec<usize>, AllocError>
-    ensures { IfOk result (λ es. es.items ≡ replicate (lanes_of shape.now) 0) }
+/// For each queue what waits in it, and what it keeps in order: nothing.
+fn queue_parts(alloc: Global, shape: &Shape) -> Result<(ParkedQueues, AllOrders), Memory>
+    ensures waits { IfOk result (λ q. AreEmptyQueues shape.now (length shape.now.queues) q.0) }
+    ensures orders { IfOk result (λ q. q.1 ≡ map (λ (d : QueueDraft). empty (kept_room d)) shape.now.queues) }
 {
-    vec![in alloc; 0; shape.lanes()]
+    let queues = empty_queues(alloc, shape)?;
+    Ok((queues, AllOrders::new(alloc, shape.queues())?))
+}
+
+/// For each lane what it was given and hasn't answered, and how many events were added beside the oldest of these: none.
+fn lane_parts(alloc: Global, shape: &Shape) -> Result<(Histories, Vec<usize>), Memory>
+    ensures lanes { IfOk result (λ l. AreEmptyLanes shape.now (lanes_of shape.now) l.0) }
+    ensures extras { IfOk result (λ l. l.1.items ≡ replicate (lanes_of shape.now) 0) }
+{
+    let lanes = Histories::new(alloc, shape)?;
+    Ok((lanes, vec![in alloc; 0; shape.lanes()]?))
+}
+
+/// For each slot the lane to which it is pinned, none, and the flow lane that serves it.
+fn slot_parts(alloc: Global, shape: &Shape) -> Result<(AllPins, Vec<Option<usize>>), Memory>
+    ensures pins { IfOk result (λ s. AreFreePins shape.now (length shape.now.queues) s.0) }
+    ensures lanes { IfOk result (λ s. AreSlotLanes shape.now (slot_lane_count shape.now) s.1.items) }
+{
+    let pins = AllPins::free(alloc, shape)?;
+    Ok((pins, slot_lanes(alloc, shape)?))
 }
 
 /// How many steps a sweep may log: the shut step, for each reply taken an answer or an added event and one event accepted, the
@@ -94,32 +121,20 @@ impl Core {
     {
         let bound = shape.bound();
         let log_room = log_room(&shape);
-        let queues = match empty_queues(alloc, &shape) {
-            Ok(queues) => queues,
+        let (queues, orders) = match queue_parts(alloc, &shape) {
+            Ok(parts) => parts,
             Err(memory) => return Err((memory, shape)),
         };
-        let lanes = match Histories::new(alloc, &shape) {
-            Ok(lanes) => lanes,
+        let (lanes, extras) = match lane_parts(alloc, &shape) {
+            Ok(parts) => parts,
             Err(memory) => return Err((memory, shape)),
         };
-        let extras = match no_extras(alloc, &shape) {
-            Ok(extras) => extras,
-            Err(memory) => return Err((memory, shape)),
-        };
-        let orders = match AllOrders::new(alloc, shape.queues()) {
-            Ok(orders) => orders,
-            Err(memory) => return Err((memory, shape)),
-        };
-        let pins = match AllPins::free(alloc, &shape) {
-            Ok(pins) => pins,
+        let (pins, slot_lanes) = match slot_parts(alloc, &shape) {
+            Ok(parts) => parts,
             Err(memory) => return Err((memory, shape)),
         };
         let (links, ahead) = match queue_sets(alloc, &shape) {
             Ok(sets) => sets,
-            Err(memory) => return Err((memory, shape)),
-        };
-        let slot_lanes = match slot_lanes(alloc, &shape) {
-            Ok(slot_lanes) => slot_lanes,
             Err(memory) => return Err((memory, shape)),
         };
         // To read a limit makes known that the limits hold.

@@ -1,5 +1,5 @@
-use Rattle.std.proofs.Common.{[], refl, ◌%◌, sym, ap, ◌∙◌}
-use Rattle.evt_types.specs.Plan.{Plan, level_of}
+use Rattle.std.proofs.Common.{[], ◌<◌, ◌%◌, ◌∙◌, ap, arith, length, refl, slice_index, subst, sym}
+use Rattle.evt_types.specs.Plan.{Plan, lanes_of, level_of}
 use Rattle.evt_types.specs.declared.event.Numbered.{Numbered}
 use Rattle.parked_queue.specs.Waits.{waits_at}
 use Rattle.sched_core.proofs.FirstOnes.{found_slot}
@@ -7,6 +7,7 @@ use Rattle.sched_core.proofs.Offers.{choice_is_offer}
 use Rattle.sched_core.proofs.Runs.{choice_given, choices_stand, room_given, run_first, turn_of, turn_on}
 use Rattle.sched_core.specs.Offered.{numbered_in, slot_at}
 use Rattle.transcripts.specs.Choice.{Passed}
+use Rattle.transcripts.specs.Standing.{View}
 use Rattle.sched_core.proofs.state.Core.give_run.Goals as goal
 
 pub give_at-requires-clause-offer : goal.give_at-requires-clause-offer
@@ -21,10 +22,13 @@ give_at-requires-clause-slot g c =
     ∙ ap (λ f. f % (waits_at c.self.inside.queues c.args.offer.delivery.queue).slots) c.args.offer.flow_is)
     ∙ ap (λ n. slot_at c.args.self.now n (numbered_in c.args.offer.delivery)) (sym c.queue-queue.ensures) ∙ ap (slot_at c.args.self.now c.queue-queue.result) (sym c.numbered.ensures)
 
+pub returns-then-has_flow_lanes-clause-choices : goal.returns-then-has_flow_lanes-clause-choices
+returns-then-has_flow_lanes-clause-choices g c =
+    run_first c.args.offer.lane c.queue-queue.result c.args.self.now c.args.skips.now [] c.begin.new.run.items c.give_at.new.self c.given.new.self c.args.offer.delivery c.numbered.result c.requires.choice c.queue-queue.ensures c.numbered.ensures c.give_at.ensures.view c.given.ensures.value refl c.begin.ensures
+
 pub returns-then-has_flow_lanes-clause-stands : goal.returns-then-has_flow_lanes-clause-stands
-returns-then-has_flow_lanes-clause-stands g c T stands = choices_stand c.args.offer.lane c.args.self.now c.args.skips.now c.begin.new.run.items c.give_at.new.self c.given.new.self T
-    (run_first c.args.offer.lane c.queue-queue.result c.args.self.now c.args.skips.now [] c.begin.new.run.items c.give_at.new.self c.given.new.self c.args.offer.delivery c.numbered.result c.requires.choice c.queue-queue.ensures c.numbered.ensures c.give_at.ensures.view c.given.ensures.value refl c.begin.ensures)
-    stands
+returns-then-has_flow_lanes-clause-stands g c T stands =
+    choices_stand c.args.offer.lane c.args.self.now c.args.skips.now c.begin.new.run.items c.give_at.new.self c.given.new.self T (returns-then-has_flow_lanes-clause-choices g c) stands
 
 pub give_more-requires-clause-turn : goal.give_more-requires-clause-turn
 give_more-requires-clause-turn g c =
@@ -49,7 +53,57 @@ give_more-requires-clause-room g c =
     room_given c.args.skips.now.given c.given.new.self.given c.queue-queue.result c.args.offer.delivery.queue _ _ c.args.self.now.shape.sweep c.give_at.new.self.shape.sweep (g.L.StepLog.room c.args.log.now) (g.L.StepLog.room c.give_at.new.log)
     c.requires.choice.there c.facts.ensures.limits.queue_count.1 c.given.ensures.counts c.queue-queue.ensures c.requires.room c.give_at.ensures.room (ap (λ (t : Passed). t.given) c.given.ensures.value) (ap (λ (p : Plan). p.sweep) c.give_at.ensures.shape)
 
+pub returns-clause-choices : goal.returns-clause-choices
+returns-clause-choices g c = c.give_more.ensures.choices c.args.self.now c.args.skips.now
+    (run_first c.args.offer.lane c.queue-queue.result c.args.self.now c.args.skips.now [] c.begin.new.run.items c.give_at.new.self c.given.new.self c.args.offer.delivery c.numbered.result c.requires.choice c.queue-queue.ensures c.numbered.ensures c.give_at.ensures.view c.given.ensures.value refl c.begin.ensures)
+
 pub returns-clause-stands : goal.returns-clause-stands
-returns-clause-stands g c T stands = choices_stand c.args.offer.lane c.args.self.now c.args.skips.now c.give_more.new.run.items c.give_more.new.self c.give_more.new.skips T
-    (c.give_more.ensures.choices c.args.self.now c.args.skips.now (run_first c.args.offer.lane c.queue-queue.result c.args.self.now c.args.skips.now [] c.begin.new.run.items c.give_at.new.self c.given.new.self c.args.offer.delivery c.numbered.result c.requires.choice c.queue-queue.ensures c.numbered.ensures c.give_at.ensures.view c.given.ensures.value refl c.begin.ensures))
-    stands
+returns-clause-stands g c T stands =
+    choices_stand c.args.offer.lane c.args.self.now c.args.skips.now c.give_more.new.run.items c.give_more.new.self c.give_more.new.skips T (returns-clause-choices g c) stands
+
+pub slot_of-slot-requires : goal.slot_of-slot-requires
+slot_of-slot-requires g c = omega (arith, c.requires.choice.there, c.queue-queue.ensures, c.self.invariant.queues, ap (λ (v : View). length v.shape.queues) c.self.view_is)
+
+pub give_at-requires-clause-level : goal.give_at-requires-clause-level
+give_at-requires-clause-level g c = c.args.offer.level_is ∙ ap (λ (w : Numbered). level_of w.event) (sym c.numbered.ensures)
+
+pub give_at-requires-clause-room : goal.give_at-requires-clause-room
+give_at-requires-clause-room g c = omega (arith, c.requires.choice.quota, c.requires.room)
+
+pub given-requires : goal.given-requires
+given-requires g c =
+    let limits = c.facts.ensures.limits in
+    record {
+      queue = omega (arith, c.requires.choice.there, c.queue-queue.ensures, limits.queue_count.1);
+      count = omega (arith, c.requires.choice.quota, ap (slice_index c.args.skips.now.given) c.queue-queue.ensures, limits.sweep.1);
+    }
+
+pub has_flow_lanes-requires : goal.has_flow_lanes-requires
+has_flow_lanes-requires g c = omega (arith, c.requires.choice.there, c.queue-queue.ensures, ap (λ (p : Plan). length p.queues) c.give_at.ensures.shape)
+
+pub returns-then-has_flow_lanes-clause-some : goal.returns-then-has_flow_lanes-clause-some
+returns-then-has_flow_lanes-clause-some g c most = omega (arith, ap length c.begin.ensures)
+
+pub returns-then-has_flow_lanes-clause-shape : goal.returns-then-has_flow_lanes-clause-shape
+returns-then-has_flow_lanes-clause-shape g c = c.give_at.ensures.shape
+
+pub returns-then-has_flow_lanes-clause-room : goal.returns-then-has_flow_lanes-clause-room
+returns-then-has_flow_lanes-clause-room g c = omega (arith, ap length c.begin.ensures, c.give_at.ensures.room)
+
+pub give_more-requires-clause-ports : goal.give_more-requires-clause-ports
+give_more-requires-clause-ports g c = sym c.has_flow_lanes.ensures ∙ c.if-has_flow_lanes.false
+
+pub give_more-requires-clause-lane : goal.give_more-requires-clause-lane
+give_more-requires-clause-lane g c = subst (λ p. c.args.offer.lane < lanes_of p) (sym c.give_at.ensures.shape) (choice_is_offer c.args.self.now c.args.skips.now c.args.offer.lane c.args.offer.delivery.queue (numbered_in c.args.offer.delivery) c.requires.choice).lane
+
+pub returns-clause-some : goal.returns-clause-some
+returns-clause-some g c most = omega (arith, ap length c.begin.ensures, c.give_more.ensures.few.0)
+
+pub returns-clause-few : goal.returns-clause-few
+returns-clause-few g c = omega (arith, ap length c.begin.ensures, c.give_more.ensures.few.1, c.if-most-eq0.false)
+
+pub returns-clause-shape : goal.returns-clause-shape
+returns-clause-shape g c = c.give_more.ensures.shape ∙ c.give_at.ensures.shape
+
+pub returns-clause-room : goal.returns-clause-room
+returns-clause-room g c = omega (arith, ap length c.begin.ensures, c.give_at.ensures.room, c.give_more.ensures.room)

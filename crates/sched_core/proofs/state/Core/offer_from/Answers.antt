@@ -1,12 +1,12 @@
-use Rattle.std.proofs.Common.{◌≡◌, ◌∙◌, subst}
+use Rattle.std.proofs.Common.{◌≡◌, ◌<◌, length, sym, ◌∙◌, subst}
 use Rattle.std.specs.Option.{IfSome}
 use Rattle.evt_types.specs.Fault.{IsWithinLimits}
 use Rattle.transcripts.specs.Choice.{HasNone}
 use Rattle.transcripts.specs.Standing.{View}
 use Rattle.parked_queue.specs.LevelSets.{members}
-use Rattle.sched_core.specs.Offered.{IsOfferOf, numbered_in}
+use Rattle.sched_core.specs.Offered.{AreOpenLanes, HasAllowed, IsOfferOf, numbered_in}
 use Rattle.sched_core.proofs.FirstOnes.{found_none, levels_here, slots_within}
-use Rattle.sched_core.proofs.Offers.{IsOfferAt, level_more, none_beside, none_either, none_in, offer_first}
+use Rattle.sched_core.proofs.Offers.{IsOfferAt, level_more, none_beside, none_either, none_in, offer_first, some_here}
 use Rattle.sched_core.proofs.state.Core.offer_from.Goals as goal
 
 pub returns-in_err-level-clause-none : goal.returns-in_err-level-clause-none
@@ -48,3 +48,25 @@ returns-clause-offer c =
     subst (λ v. (c.in_ok-offer.offer.delivery.queue ≡ c.args.queue)
     × IsOfferOf v c.args.skips.now c.args.queue c.in_ok-offer.offer.lane (numbered_in c.in_ok-offer.offer.delivery))
     c.allowed_at-allowed.ensures.same c.in_ok-offer.ensures.offer
+
+pub offer_at_head-offer-requires-clause-queue : goal.offer_at_head-offer-requires-clause-queue
+offer_at_head-offer-requires-clause-queue c = subst (λ (v : View). c.args.queue < length v.shape.queues) (sym c.allowed_at-allowed.ensures.same) c.requires
+
+pub offer_at_head-offer-requires-clause-lanes : goal.offer_at_head-offer-requires-clause-lanes
+offer_at_head-offer-requires-clause-lanes c =
+    subst (λ v. AreOpenLanes v c.args.skips.now c.args.queue c.open_lanes-lanes.result) (sym c.allowed_at-allowed.ensures.same) c.open_lanes-lanes.ensures
+
+pub offer_at_head-offer-requires-clause-allowed : goal.offer_at_head-offer-requires-clause-allowed
+offer_at_head-offer-requires-clause-allowed c =
+    subst (λ v. HasAllowed v c.args.skips.now c.args.queue c.allowed_at-allowed.result) (sym c.allowed_at-allowed.ensures.same) c.allowed_at-allowed.ensures.allowed
+
+pub returns-then-is_some-clause-none : goal.returns-then-is_some-clause-none
+returns-then-is_some-clause-none c =
+    some_here c.offer_at_head-offer.result (HasNone c.args.self.now c.args.skips.now c.args.queue) (sym c.is_some.ensures ∙ c.if-is_some.true)
+
+pub offer_by_level-requires-clause-queue : goal.offer_by_level-requires-clause-queue
+offer_by_level-requires-clause-queue c = subst (λ (v : View). c.args.queue < length v.shape.queues) (sym c.allowed_at-allowed.ensures.same) c.requires
+
+pub offer_by_level-requires-clause-lanes : goal.offer_by_level-requires-clause-lanes
+offer_by_level-requires-clause-lanes c =
+    subst (λ v. AreOpenLanes v c.args.skips.now c.args.queue c.open_lanes-lanes.result) (sym c.allowed_at-allowed.ensures.same) c.open_lanes-lanes.ensures

@@ -52,8 +52,7 @@ fn write_delivery(
 {
     let (queue, number) = (delivery.queue(), delivery.number());
     write!(out, "- q{queue} #{number} ")?;
-    write_event(queues, &delivery.event(), out)?;
-    out.push_str("\n")
+    write_event(queues, &delivery.event(), out)
 }
 
 fn write_deliveries(

@@ -29,8 +29,7 @@ fn write_accept(
     write!(out, "accept q{queue} #{number} ")?;
     write_source(source, out)?;
     out.push_str(" ")?;
-    write_event(queues, event, out)?;
-    out.push_str("\n")
+    write_event(queues, event, out)
 }
 
 fn write_done(queues: &[QueueDraft], outcome: &Outcome, out: &mut String) -> Result<(), AllocError>
@@ -40,8 +39,7 @@ fn write_done(queues: &[QueueDraft], outcome: &Outcome, out: &mut String) -> Res
         Outcome::Released => out.push_str("release\n"),
         Outcome::Forwarded(event) => {
             out.push_str("forward ")?;
-            write_event(queues, event, out)?;
-            out.push_str("\n")
+            write_event(queues, event, out)
         }
     }
 }
@@ -72,13 +70,11 @@ fn write_step(
         }
         Step::More { lane, event } => {
             write!(out, "more l{lane} ")?;
-            write_event(queues, event, out)?;
-            out.push_str("\n")
+            write_event(queues, event, out)
         }
         Step::Turned { lane, event } => {
             write!(out, "turned l{lane} ")?;
-            write_event(queues, event, out)?;
-            out.push_str("\n")
+            write_event(queues, event, out)
         }
         Step::Bounced { lane } => writeln!(out, "bounced l{lane}"),
         Step::Shut => out.push_str("shut\n"),

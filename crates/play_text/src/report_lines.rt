@@ -25,7 +25,6 @@ fn write_kept(queues: &[QueueDraft], all: &[KeptEvent], out: &mut String) -> Res
         let (queue, number) = (kept.queue, kept.number);
         write!(out, "kept q{queue} #{number} ")?;
         write_event(queues, &kept.event, out)?;
-        out.push_str("\n")?;
     }
     Ok(())
 }
@@ -73,7 +72,6 @@ fn write_untaken(queues: &[QueueDraft], all: &[Untaken], out: &mut String) -> Re
         let lane = untaken.lane;
         write!(out, "untaken l{lane} ")?;
         write_event(queues, &untaken.event, out)?;
-        out.push_str("\n")?;
     }
     Ok(())
 }

@@ -1,6 +1,6 @@
 //! An event as text.
 
-ghost use Rattle.std.specs.Prelude.{◌≡◌, ◌++◌, OnOk, string_bytes, length};
+ghost use Rattle.std.specs.Prelude.{◌≡◌, ◌++◌, OnOk, string_bytes, length, codes};
 ghost use Rattle.evt_types.specs.Plan.{queue_in};
 ghost use Rattle.play_text.specs.Text as texts;
 
@@ -26,11 +26,11 @@ fn write_word(word: u64, out: &mut String) -> Result<(), AllocError>
     write!(out, "{word:016x}")
 }
 
-/// An event's word and payload.
+/// An event's word and payload, with which a line ends.
 pub fn write_event(queues: &[QueueDraft], event: &Event, out: &mut String) -> Result<(), AllocError>
-    ensures { OnOk result (string_bytes out.new ≡ string_bytes out.old ++ texts.event_text queues.now event.now) }
+    ensures { OnOk result (string_bytes out.new ≡ string_bytes out.old ++ texts.event_text queues.now event.now ++ codes "\n") }
 {
     let payload = event.payload;
     write_word(event.word(kind_of(queues, event.queue)), out)?;
-    write!(out, " {payload}")
+    writeln!(out, " {payload}")
 }

@@ -71,6 +71,9 @@ pub fn run_pipeline<R: Threads + Wait + Sync, G: Gate, L: StepLog>(
     let device = run_threads(rt, gate, actions, trace, device, ports)?;
     match device.stop() {
         Ok(report) => Ok(report),
-        Err(_) => Err(RunFault::Memory),
+        Err((_, device)) => {
+            drop(device);
+            Err(RunFault::Memory)
+        }
     }
 }

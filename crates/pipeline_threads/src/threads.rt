@@ -87,13 +87,21 @@ fn run_ports<'s, E, R: Threads + Wait + Sync, G: Gate, L: StepLog>(
         requires { (All IsProper actions.now) × (length actions.now ≤ 255) × IsIdle port }
         ensures { Returns actions.entry.now trace.entry.now port result }
     { run_port(rt, gate, actions, trace, port) };
-    let Ok(thread) = scope.spawn_with(promise, job) else {
-        device.shut();
-        return Err(AllocError);
+    let thread = match scope.spawn_with(promise, job) {
+        Ok(thread) => thread,
+        // `drop` ends the job and its port in a call: else this body would, part by part, for the proof to follow.
+        Err(refused) => {
+            drop(refused.value);
+            device.shut();
+            return Err(AllocError);
+        }
     };
     let ran = run_ports(rt, scope, gate, actions, trace, device, count - 1);
     let port = thread.join(rt);
-    ran?;
+    let Ok(()) = ran else {
+        drop(port);
+        return Err(AllocError);
+    };
     put_home(device, port);
     Ok(())
 }
@@ -120,8 +128,13 @@ pub(crate) fn run_threads<R: Threads + Wait + Sync, G: Gate, L: StepLog>(
             ensures { IfOk result (HasRun actions.entry.now trace.entry.now count device) }
         {
             let mut device = device;
-            run_ports(rt, scope, gate, actions, trace, &mut device, count)?;
-            Ok(device)
+            match run_ports(rt, scope, gate, actions, trace, &mut device, count) {
+                Ok(()) => Ok(device),
+                Err(memory) => {
+                    drop(device);
+                    Err(memory)
+                }
+            }
         },
     )
 }

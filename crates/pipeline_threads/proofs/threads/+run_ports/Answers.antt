@@ -32,11 +32,11 @@ put_home-requires-clause-empty g t c =
     let back = c.join-port.result in
     let kept = subst (λ (p : Returned). Returns p.actions.now p.trace.now p.start.value back) c.in-Ok.ensures.ok c.join-port.ensures in
     let returns = subst (λ (p : Port). Returns c.args.actions.now c.args.trace.now p back) c.of.ensures kept in
-    still_empty (c.args.count - 1) c.args.device.now c.take_port.new.self c.in-Some.port c.in-Some.ensures.lent c.args.actions.now c.args.trace.now c.run_ports-ran.new.device c.in_ok-ran.ensures back returns
+    still_empty (c.args.count - 1) c.args.device.now c.take_port.new.self c.in-Some.port c.in-Some.ensures.lent c.args.actions.now c.args.trace.now c.run_ports-ran.new.device c.in-Ok-ran.ensures back returns
 
 pub returns : goal.returns
 returns g t c =
     let back = c.join-port.result in
     let kept = subst (λ (p : Returned). Returns p.actions.now p.trace.now p.start.value back) c.in-Ok.ensures.ok c.join-port.ensures in
     let returns = subst (λ (p : Port). Returns c.args.actions.now c.args.trace.now p back) c.of.ensures kept in
-    one_more (c.args.count - 1) c.args.device.now c.take_port.new.self c.in-Some.port c.in-Some.ensures.lent c.args.actions.now c.args.trace.now c.run_ports-ran.new.device c.in_ok-ran.ensures back returns c.args.count c.put_home.new.device (omega arith) c.put_home.ensures.back
+    one_more (c.args.count - 1) c.args.device.now c.take_port.new.self c.in-Some.port c.in-Some.ensures.lent c.args.actions.now c.args.trace.now c.run_ports-ran.new.device c.in-Ok-ran.ensures back returns c.args.count c.put_home.new.device (omega arith) c.put_home.ensures.back

@@ -84,6 +84,13 @@ same_lanes before lanes i near after same is id offers hides takings =
       takings = same_lists taken lanes i near after is takings ∙ same.takings;
     }
 
+-- lanes of which only what was seen is other
+pub length_sought : (before lanes : List Near) → SameLanes before lanes → length lanes ≡ length before
+length_sought before lanes same = sym (length-map lanes near_id) ∙ (ap length same.ids ∙ length-map before near_id)
+
+pub hidden_sought : (before lanes : List Near) → SameLanes before lanes → NoneHidden before → NoneHidden lanes
+hidden_sought before lanes same h l = ap (λ xs. get_or xs l []) same.hidden ∙ h l
+
 pub none_before : (lanes : List Near) (from i : ℕ) (after : Near) → ((k : ℕ) → from ≤ k → k < i → seen_in lanes k ≡ []) → (k : ℕ) → from ≤ k → k < i → seen_in (set lanes i after) k ≡ []
 none_before lanes from i after none k past lt = seen_elsewhere lanes i after k (λ e. omega (arith, lt, e)) ∙ none k past lt
 

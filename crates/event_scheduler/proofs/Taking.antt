@@ -21,6 +21,7 @@ use Rattle.evt_types.specs.declared.event.Delivery.{Delivery}
 use Rattle.evt_types.specs.declared.event.Reply.{Reply}
 use Rattle.event_scheduler.specs.Taking.{Takes, entered_as, entered_by, of_first, only, replies_from, reply_from, turned_by, with_core, with_taken}
 use Rattle.evt_types.specs.Event.{pair_of}
+use Rattle.evt_types.specs.Operation.{is_new_op}
 use Rattle.evt_types.specs.Plan.{bound_of, lanes_of}
 use Rattle.evt_types.specs.declared.event.Event.{Event}
 use Rattle.evt_types.specs.declared.event.Op.{Op}
@@ -30,6 +31,7 @@ use Rattle.lane_rings.specs.Ends.{offered, seen_replies, taken}
 use Rattle.lane_rings.specs.Identity.{LaneId, near_id}
 use Rattle.lane_rings.specs.declared.near.Near.{Near}
 use Rattle.sched_core.specs.Taken.{took_by, took_of}
+use Rattle.sched_core.specs.declared.take.Took.{Took}
 use Rattle.sched_core.specs.declared.take.Took.TheVariants as tooks
 use Rattle.transcripts.proofs.Replies.{steps_of-out}
 use Rattle.transcripts.specs.Replies.{new_count, said, turned_count}
@@ -404,3 +406,10 @@ lane_room q same i start free next before mid later is h k = omega (arith, is, h
 
 pub lane_count : (q same i n k : ℕ) → same ≡ q → n ≤ q * i → k ≤ same → n + k ≤ q * (i + 1)
 lane_count q same i n k is h m = omega (arith, is, h, m)
+
+-- of a NEW that was taken, what became of it says whether it was accepted
+pub entered_new : (op : Op) (t : Took) → is_new_op op ≡ true → entered_by op t ≡ entered_as t
+entered_new ops.New t new = refl
+entered_new ops.Forward t new = absurd (false≢true new)
+entered_new ops.Release t new = absurd (false≢true new)
+entered_new ops.ForwardMore t new = absurd (false≢true new)

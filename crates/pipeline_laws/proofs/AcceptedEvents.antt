@@ -108,3 +108,9 @@ kept_more T kept s x some is = ap (λ xs. xs ++ x ∷ []) is ∙ sym (more_some 
 pub kept_still : (T : List Step) (kept : List (ℕ × Event)) (s : Step) → accepted_by_step s ≡ None → kept ≡ filter_map accepted_by_step T
     → kept ≡ filter_map accepted_by_step (T ++ s ∷ [])
 kept_still T kept s none is = is ∙ sym (more_none accepted_by_step T s none)
+
+-- ---- the first steps of a log, and one more
+
+pub hold_step : (log : List Step) (k : ℕ) (s : Step) (lists : List (Vec Event Global)) → k < length log → s ≡ get_or log k s
+    → HoldAccepted (take k log ++ s ∷ []) lists → HoldAccepted (take (k + 1) log) lists
+hold_step log k s lists low is = subst (λ T. HoldAccepted T lists) (ap (λ x. take k log ++ x ∷ []) is ∙ sym (take_more log k s low))

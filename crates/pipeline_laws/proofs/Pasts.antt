@@ -1,7 +1,7 @@
 -- What is known of the steps read follows them: lists in a list, and one step more.
 use Rattle.std.proofs.Common.{◌≡◌, ◌≢◌, ℕ, zero, suc, ◌+◌, ◌<◌, ◌^◌, List, [], ◌∷◌, ◌++◌, length, set, get_or, replicate, None, ⊎_elim, refl, sym, ap, ◌∙◌, subst, arith, ◌↔◌, slice_index}
 use Rattle.std.proofs.lemmas.Bool.{cases_eq}
-use Rattle.std.proofs.lemmas.List.{length_push, length-map, map-set, get_or-set_same, get_or-set_other}
+use Rattle.std.proofs.lemmas.List.{length_push, length-map, map-append, map-set, replicate_more, get_or-set_same, get_or-set_other}
 use Rattle.evt_types.specs.declared.event.Event.{Event}
 use Rattle.evt_types.specs.declared.step.Outcome.{Outcome}
 use Rattle.evt_types.specs.declared.step.Outcome.TheVariants.{Forwarded}
@@ -23,6 +23,13 @@ rows_set {X} lists n list = map-set (λ (v : Vec X Global). v.items) lists n lis
 
 pub length-rows : {X : Type 0} (lists : List (Vec X Global)) → length (rows lists) ≡ length lists
 length-rows {X} lists = length-map lists (λ (v : Vec X Global). v.items)
+
+-- an empty list more
+pub rows_none_more : {X : Type 0} (old new : List (Vec X Global)) (list : Vec X Global) (n : ℕ) → new ≡ old ++ list ∷ [] → list.items ≡ [] → rows old ≡ replicate n []
+    → rows new ≡ replicate (n + 1) []
+rows_none_more {X} old new list n is none all =
+    ap rows is ∙ (map-append (λ (v : Vec X Global). v.items) old (list ∷ []) ∙ (ap (λ (ls : List (List X)). ls ++ list.items ∷ []) all
+    ∙ (ap (λ (xs : List X). replicate n [] ++ xs ∷ []) none ∙ replicate_more n [])))
 
 -- another list than the one that is written
 pub row-set_other : {X : Type 0} (lists : List (Vec X Global)) (n k : ℕ) (list : Vec X Global) → k ≢ n → row (rows (set lists n list)) k ≡ row (rows lists) k

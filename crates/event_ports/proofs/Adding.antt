@@ -1,8 +1,11 @@
 -- An event is added beside the oldest that is held, which came from a flow lane, or it is refused: nothing that is held changes.
-use Rattle.std.proofs.Common.{◌≡◌, ◌≢◌, ℕ, ◌+◌, ◌<◌, Bool, true, List, [], ◌∷◌, ◌++◌, length, map, Result, Ok, Err, MatchResult, refl, sym, ap, ◌∙◌}
+use Rattle.std.proofs.Common.{◌≡◌, ◌≢◌, ℕ, ◌+◌, ◌%◌, ◌^◌, ◌<◌, Bool, true, List, [], ◌∷◌, ◌++◌, length, map, Result, Ok, Err, MatchResult, refl, sym, ap, ◌∙◌, subst, arith}
 use Rattle.std.specs.Option.{is_some}
 use Rattle.evt_types.specs.Event.{pair_of}
-use Rattle.evt_types.specs.Operation.{is_more_reply, is_new_reply, is_release_reply}
+use Rattle.evt_types.specs.Operation.{is_more_op, is_more_reply, is_new_op, is_new_reply, is_release_op, is_release_reply}
+use Rattle.evt_types.specs.declared.event.Op.{Op}
+use Rattle.evt_types.specs.declared.event.Op.TheVariants as ops
+use Rattle.credit_pool.specs.Pockets.{IsPocket}
 use Rattle.evt_types.specs.declared.event.Reply.{Reply}
 use Rattle.lists.specs.Counts.{count}
 use Rattle.flow_claims.specs.Claims.{lanes_of}
@@ -15,7 +18,7 @@ use Rattle.event_ports.specs.Holds.{AreIdle, AddedAll, GaveBack, Hands, HaveNoNe
 use Rattle.event_ports.specs.declared.flows.FlowLanes.{FlowLanes}
 use Rattle.event_ports.specs.declared.lanes.Lanes.{Lanes}
 use Rattle.event_ports.specs.Flows.{FlowSite, flow_site, hands_of}
-use Rattle.event_ports.specs.Handed.{CountsNone, CountsOne, flow_count, hand_of, lanes_site}
+use Rattle.event_ports.specs.Handed.{CountsNone, CountsOne, flow_count, hand_of, lanes_site, mores_of, news_of, releases_of}
 use Rattle.event_ports.specs.Lanes.{AreOrdered, counted, held_of, open_on, pair_in}
 use Rattle.event_ports.proofs.Calls.{gave_back, held_added, more_needs, says_no_new, same_no_new}
 use Rattle.event_ports.proofs.Submitted.{IsThere, counts_none, counts_one}
@@ -82,3 +85,30 @@ counts_own a b r (Ok _) flows said =
     (each_lane (λ l. l ≢ Own → (hand_of b).said l ≡ (hand_of a).said l) (λ ne. absurd (ne refl)) (λ j ne. ap (λ (f : FlowLanes). answered_on (hands_of f) j) flows))
 counts_own a b r (Err _) flows said =
     counts_same a b (ap flow_site flows) (each_lane (λ l. (hand_of b).said l ≡ (hand_of a).said l) said (λ j. ap (λ (f : FlowLanes). answered_on (hands_of f) j) flows))
+
+-- a FORWARD counts in none of them
+pub counts_forward : {E : Type 0} (a b : Lanes) (r : Reply) (result : Result (Unit {0}) E) → r.event.op ≡ ops.Forward → MatchResult result (λ _. CountsOne r a b) (λ _. CountsNone a b) → CountsNone a b
+counts_forward a b r result forward counts =
+    by_answer result
+    (λ one. record {
+      news = omega (arith, one.news, ap (λ (o : Op). count (is_new_op o)) forward);
+      mores = omega (arith, one.mores, ap (λ (o : Op). count (is_more_op o)) forward);
+      releases = omega (arith, one.releases, ap (λ (o : Op). count (is_release_op o)) forward);
+    })
+    (λ none. none) counts
+
+pub paid_same : (a b : Lanes) (pocket drawn returned : ℕ) → CountsNone a b → IsPocket pocket (drawn + releases_of a) (returned + news_of a + mores_of a)
+    → IsPocket pocket (drawn + releases_of b) (returned + news_of b + mores_of b)
+paid_same a b pocket drawn returned same paid =
+    subst (λ (n : ℕ). IsPocket pocket (drawn + n) (returned + news_of b + mores_of b)) (sym same.releases)
+    (subst (λ (n : ℕ). IsPocket pocket (drawn + releases_of a) (returned + n + mores_of b)) (sym same.news)
+    (subst (λ (n : ℕ). IsPocket pocket (drawn + releases_of a) (returned + news_of a + n)) (sym same.mores) paid))
+
+-- a RELEASE brings a credit
+pub paid_release : (a b : Lanes) (r : Reply) (pocket drawn returned : ℕ) → r.event.op ≡ ops.Release → CountsOne r a b → IsPocket pocket (drawn + releases_of a) (returned + news_of a + mores_of a)
+    → IsPocket ((pocket + 1) % 2 ^ 64) (drawn + releases_of b) (returned + news_of b + mores_of b)
+paid_release a b r pocket drawn returned release one paid =
+    let new = ap (λ (o : Op). count (is_new_op o)) release in
+    let more = ap (λ (o : Op). count (is_more_op o)) release in
+    let released = ap (λ (o : Op). count (is_release_op o)) release in
+    (omega (arith, paid.0, one.news, one.mores, one.releases, new, more, released), omega (arith, paid.1, one.news, one.mores, one.releases, new, more, released))

@@ -1,9 +1,9 @@
 -- What several calls on flow lanes, one after the other, make of what a port has of them.
-use Rattle.std.proofs.Common.{◌≡◌, ◌≢◌, ℕ, ◌||◌, true, false, List, [], ◌∷◌, ◌++◌, drop, Result, Ok, Err, MatchResult, refl, sym, ap, ◌∙◌, subst, arith, append-nil, count_by}
+use Rattle.std.proofs.Common.{◌≡◌, ◌≢◌, ℕ, ◌+◌, ◌<◌, ◌||◌, true, false, None, List, [], ◌∷◌, ◌++◌, drop, Result, Ok, Err, MatchResult, refl, sym, ap, ◌∙◌, subst, arith, append-nil, count_by}
 use Rattle.std.specs.Option.{is_some}
 use mathlib.Core.Logic.{dite}
 use native.Mathlib.Decide.{ℕ_discrete}
-use Rattle.evt_types.specs.Additions.{more_after}
+use Rattle.evt_types.specs.Additions.{extras_of, more_after}
 use Rattle.evt_types.specs.declared.event.Delivery.{Delivery}
 use Rattle.evt_types.specs.declared.event.Op.{Op}
 use Rattle.evt_types.specs.declared.event.Op.TheVariants as ops
@@ -11,7 +11,7 @@ use Rattle.evt_types.specs.declared.event.Reply.{Reply}
 use Rattle.evt_types.specs.Operation.{is_answer_op, is_more_op, is_more_reply, is_new_op, is_new_reply, needs_held}
 use Rattle.lists.specs.Counts.{count}
 use Rattle.lane_rings.specs.Ends.{answers_among}
-use Rattle.event_ports.specs.Holds.{AreIdle, Hands, stint_in, received_on, answered_on, held_on, Same, SameBut, Gets, Brings, Says, HaveNoNew, GaveBack, NoneSurrendered}
+use Rattle.event_ports.specs.Holds.{AddedAll, AreIdle, Hands, stint_in, received_on, answered_on, extras_on, held_on, received_past, answered_past, left_past, received_now, answered_now, held_now, Same, SameBut, Gets, Brings, Says, Kept, Ends, HaveNoNew, GaveBack, NoneSurrendered}
 use Rattle.event_ports.proofs.Submitted.{count_more}
 use Rattle.event_ports.proofs.Refusals.{no_answer}
 
@@ -24,6 +24,14 @@ idle_received h j k m lane ds held elsewhere gets entries same left others idle 
     dite (ℕ_discrete i lane)
     (λ e. subst At (sym e) (left (sym (same.held lane) ∙ ap (held_on m) (sym e) ∙ none)))
     (λ ne. others i ne ∙ entries i ∙ elsewhere i ne ∙ idle i (sym (held.held i) ∙ sym (gets.others.held i ne) ∙ sym (same.held i) ∙ none))
+
+-- a lane couldn't be held
+pub idle_refused : (h k : Hands) (lane : ℕ) → Same h k → is_some (stint_in k lane) ≡ false → ((i : ℕ) → i ≢ lane → is_some (stint_in k i) ≡ is_some (stint_in h i)) → AreIdle h → AreIdle k
+idle_refused h k lane same refused elsewhere idle i none =
+    let At : ℕ → Type 0 = λ x. is_some (stint_in k x) ≡ false in
+    dite (ℕ_discrete i lane)
+    (λ e. subst At (sym e) refused)
+    (λ ne. elsewhere i ne ∙ idle i (sym (same.held i) ∙ none))
 
 -- an event is added beside a held one, and nothing that is held changes
 pub held_added : (h k : Hands) (lane : ℕ) (r : Reply) → is_more_reply r ≡ true → Says lane r h k → (j : ℕ) → held_on k j ≡ held_on h j
@@ -51,6 +59,54 @@ says_after h k m lane r same says = record {
   held = says.held ∙ ap (drop (answers_among (r ∷ []))) (same.held lane);
   extras = says.extras ∙ ap (λ n. more_after n r) (same.extras lane);
   given_back = λ j. says.given_back j ∙ same.given_back j;
+}
+
+pub says_before : (h k m : Hands) (lane : ℕ) (r : Reply) → Says lane r h k → Same k m → Says lane r h m
+says_before h k m lane r says same = record {
+  others = but_before h k m lane says.others same;
+  received = same.received lane ∙ says.received;
+  answered_is = same.answered_is lane ∙ says.answered_is;
+  held = same.held lane ∙ says.held;
+  extras = same.extras lane ∙ says.extras;
+  given_back = λ j. same.given_back j ∙ says.given_back j;
+}
+
+-- a lane is answered, and given back
+pub idle_answered : (h k m : Hands) (lane : ℕ) (r : Reply) → Says lane r h k → ((i : ℕ) → is_some (stint_in k i) ≡ is_some (stint_in h i)) → Same k m → is_some (stint_in m lane) ≡ false
+    → ((i : ℕ) → i ≢ lane → is_some (stint_in m i) ≡ is_some (stint_in k i)) → AreIdle h → AreIdle m
+idle_answered h k m lane r says entries same left others idle i none =
+    let At : ℕ → Type 0 = λ x. is_some (stint_in m x) ≡ false in
+    dite (ℕ_discrete i lane)
+    (λ e. subst At (sym e) left)
+    (λ ne. others i ne ∙ entries i ∙ idle i (sym (says.others.held i ne) ∙ sym (same.held i) ∙ none))
+
+-- ---- surrenders
+
+pub kept_none : (h : Hands) → Kept h h
+kept_none h = record { received = λ j. refl; answered_is = λ j. refl; left = λ j. refl; free = λ j none. (none, refl) }
+
+pub kept_more : (h k m : Hands) → Kept h k → Kept k m → Kept h m
+kept_more h k m a b = record {
+  received = λ j. b.received j ∙ a.received j;
+  answered_is = λ j. b.answered_is j ∙ a.answered_is j;
+  left = λ j. b.left j ∙ a.left j;
+  free = λ j none. let once = a.free j none in let twice = b.free j once.0 in (twice.0, twice.1 ∙ once.1);
+}
+
+-- the lanes below are free, and then this one
+pub free_below : (h k : Hands) (lane : ℕ) → ((j : ℕ) → j < lane → stint_in h j ≡ None) → stint_in k lane ≡ None → ((j : ℕ) → j ≢ lane → stint_in k j ≡ stint_in h j)
+    → (j : ℕ) → j < lane + 1 → stint_in k j ≡ None
+free_below h k lane below free elsewhere j lt =
+    let At : ℕ → Type 0 = λ i. stint_in k i ≡ None in
+    dite (ℕ_discrete j lane) (λ e. subst At (sym e) free) (λ ne. elsewhere j ne ∙ below j (omega (arith, lt, ne)))
+
+-- once all lanes are free
+pub ends_kept : (h k : Hands) → Kept h k → ((j : ℕ) → stint_in k j ≡ None) → Ends h k.view
+ends_kept h k kept none = record {
+  received = λ j. sym (ap (λ o. received_past j k.view.finished ++ received_now k.view o) (none j) ∙ append-nil (received_past j k.view.finished)) ∙ kept.received j;
+  answered_is = λ j. sym (ap (λ o. answered_past j k.view.finished ++ answered_now k.view o) (none j) ∙ append-nil (answered_past j k.view.finished)) ∙ kept.answered_is j;
+  left = λ j. sym (ap (λ o. left_past j k.view.finished ++ held_now o) (none j) ∙ append-nil (left_past j k.view.finished)) ∙ kept.left j;
+  free = λ j is. (kept.free j is).1;
 }
 
 -- an answer after a flush
@@ -103,6 +159,13 @@ pub gets_no_answer : (h k : Hands) (lane : ℕ) (ds : List Delivery) → Gets la
 gets_no_answer h k lane ds gets j =
     let At : ℕ → Type 0 = λ i. answered_on k i ≡ answered_on h i in
     dite (ℕ_discrete j lane) (λ e. subst At (sym e) gets.answered_is) (λ ne. gets.others.answered_is j ne)
+
+pub added_received : (h k : Hands) (lane : ℕ) (ds : List Delivery) → Gets lane ds h k → AddedAll h → AddedAll k
+added_received h k lane ds gets added = record {
+  each = λ j.
+      let At : ℕ → Type 0 = λ i. extras_on k i ≡ extras_on h i in
+      dite (ℕ_discrete j lane) (λ e. subst At (sym e) gets.extras) (λ ne. gets.others.extras j ne) ∙ added.each j ∙ sym (ap extras_of (gets_no_answer h k lane ds gets j));
+}
 
 -- and an answer receives nothing
 pub says_received : (h k : Hands) (lane : ℕ) (r : Reply) → Says lane r h k → (j : ℕ) → received_on k j ≡ received_on h j

@@ -1,23 +1,28 @@
 -- What a port refuses, and what it costs, where a call before it changed nothing of that.
-use Rattle.std.proofs.Common.{◌≡◌, ℕ, zero, suc, ◌+◌, ◌<◌, Bool, true, false, inl, inr, [], ◌∷◌, ◌++◌, drop, Option, Some, None, Result, Ok, Err, IfErr, OnOk, MatchResult, refl, sym, ap, ◌∙◌, subst, arith}
+use Rattle.std.proofs.Common.{◌≡◌, ◌≢◌, ℕ, zero, suc, ◌+◌, ◌<◌, Bool, true, false, inl, inr, List, [], ◌∷◌, ◌++◌, drop, Option, Some, None, Result, Ok, Err, IfErr, OnOk, MatchResult, refl, sym, ap, ◌∙◌, subst, arith}
 use Rattle.std.proofs.lemmas.Bool.{false≢true}
 use Rattle.evt_types.specs.declared.event.Event.{Event}
 use Rattle.evt_types.specs.declared.event.Op.{Op}
 use Rattle.evt_types.specs.declared.event.Op.TheVariants as ops
 use Rattle.evt_types.specs.declared.event.Reply.{Reply}
-use Rattle.evt_types.specs.Operation.{costs_credit, is_new_op}
+use Rattle.evt_types.specs.Operation.{costs_credit, is_answer_op, is_new_op}
 use Rattle.lane_rings.specs.Ends.{answers_among}
+use Rattle.lane_rings.specs.declared.far.Refusal.{Refusal}
+use Rattle.lane_rings.specs.declared.far.Refusal.TheVariants as refusals
+use Rattle.event_ports.specs.declared.lane.Holding.{Holding}
+use Rattle.event_ports.specs.Flows.{hands_of}
+use Rattle.event_ports.specs.Handed.{RefusesOldest}
 use Rattle.event_answers.specs.declared.answer.Refused.{Refused}
 use Rattle.event_answers.specs.declared.answer.Refused.TheVariants.{Stopped, BadQueue, NothingHeld, Backpressure, Raced, Full, TooMany}
 use Rattle.event_ports.specs.declared.lane.Lane.{Lane}
 use Rattle.event_ports.specs.declared.desk.Desk.{Desk}
-use Rattle.event_ports.specs.Lanes.{Hand, Rests, Submits, SubmitsTo, lane_for}
+use Rattle.event_ports.specs.Lanes.{Hand, IsFilledAt, Rests, Submits, SubmitsTo, first_lane, lane_for, refused_by}
 use Rattle.credit_pool.specs.declared.account.Account.{Account}
 use Rattle.credit_pool.specs.declared.answer.Draw.{Draw}
 use Rattle.credit_pool.specs.declared.answer.Draw.TheVariants as draws
-use Rattle.credit_pool.specs.Accounts.{IsOpen}
+use Rattle.credit_pool.specs.Accounts.{IsOpen, Stays}
 use Rattle.event_ports.specs.Draws.{FillsWithin, HasLooked, most_draws}
-use Rattle.event_ports.specs.Desks.{DeskSite, own_site, account_of, pocket_of, AsksPool, MaySpend, MaySpendMore, Pays, SameCredits, SpendsNone, Stocks, Refuses}
+use Rattle.event_ports.specs.Desks.{DeskSite, own_site, account_of, hand, pocket_of, AsksPool, MaySpend, MaySpendMore, Pays, SameCredits, SpendsNone, Stocks, Refuses}
 
 -- the operation of a NEW, told by a test
 pub new_told : (o : Op) → is_new_op o ≡ true → o ≡ ops.New
@@ -41,8 +46,18 @@ pub same_credits : (p k q : Desk) → SameCredits p k → SameCredits k q → Sa
 same_credits p k q a b = (b.0 ∙ a.0, (b.1.0 ∙ a.1.0, b.1.1 ∙ a.1.1))
 
 -- an operation is one alone
-not_more : (o : Op) → o ≡ ops.New → o ≡ ops.ForwardMore → ⊥
+pub not_more : (o : Op) → o ≡ ops.New → o ≡ ops.ForwardMore → ⊥
 not_more o new more = absurd (cc)
+
+pub not_release : (o : Op) → o ≡ ops.New → o ≡ ops.Release → ⊥
+not_release o new release = absurd (cc)
+
+pub forward_alone : (o p : Op) → p ≢ ops.Forward → o ≡ ops.Forward → o ≡ p → ⊥
+forward_alone o p other forward is = other (sym is ∙ forward)
+
+-- what stays over two calls
+pub stays_more : (v w u : Account) → Stays v w → Stays w u → Stays v u
+stays_more v w u a b = record { limit = b.limit ∙ a.limit; parts = b.parts ∙ a.parts; set_shut = b.set_shut ∙ a.set_shut; saw_shut = λ saw. b.saw_shut (a.saw_shut saw) }
 
 -- what costs a credit, and doesn't
 costs_none : (b : Bool) → b ≡ true → b ≡ false → ⊥
@@ -168,3 +183,33 @@ pub submitted_after : (result : Result (Unit {0}) Refused) (o : Op) (r : Reply) 
 submitted_after (Ok done) o r h k m a is =
     subst (λ (l : Option Lane). SubmitsTo l r h m) (ap (lane_for o) a.holding) (submits_after (lane_for o k.holding) r h k m a is)
 submitted_after (Err e) o r h k m a is = rests_more h k m a is
+
+-- an answer costs no credit, and goes to the oldest's lane
+answers_free : (o : Op) → is_answer_op o ≡ true → costs_credit o ≡ true → ⊥
+answers_free ops.New answers costs = absurd (false≢true answers)
+answers_free ops.Forward answers costs = absurd (false≢true costs)
+answers_free ops.Release answers costs = absurd (false≢true costs)
+answers_free ops.ForwardMore answers costs = absurd (false≢true answers)
+
+answers_first : (o : Op) (xs : List Holding) → is_answer_op o ≡ true → first_lane xs ≡ lane_for o xs
+answers_first ops.New xs answers = absurd (false≢true answers)
+answers_first ops.Forward xs answers = refl
+answers_first ops.Release xs answers = refl
+answers_first ops.ForwardMore xs answers = absurd (false≢true answers)
+
+pub refuses_answer : (p q : Desk) (e : Event) (refusal : Refusal) (x : Refused) → is_answer_op e.op ≡ true → x ≡ refused_by refusal → (e.op ≢ ops.Release → e.queue < (own_site p).queues)
+    → SameCredits p q → account_of q ≡ account_of p → (hand q).holding ≡ (hand p).holding → RefusesOldest q.lanes refusal → Refuses p e x q
+refuses_answer p q e refusals.NothingHeld x answers is within same account holding none =
+    subst (λ (y : Refused). Refuses p e y q) (sym is) ((λ new. answers_free e.op answers (ap costs_credit new)), within, sym holding ∙ none, same, account)
+refuses_answer p q e refusals.TooMany x answers is within same account holding none = absurd none
+refuses_answer p q e refusals.Full x answers is within same account holding full =
+    subst (λ (y : Refused). Refuses p e y q) (sym is) (
+      subst (IsFilledAt q.lanes.own (hands_of q.lanes.flows)) (answers_first e.op (hand q).holding answers) full.1,
+      (λ _ none. full.0 (holding ∙ none)),
+      within,
+      (λ more. absurd (answers_free e.op answers (ap costs_credit more))),
+      (λ costs. absurd (answers_free e.op answers costs)),
+      (λ _. (same, account)),
+      (λ new. absurd (answers_free e.op answers (ap costs_credit new))),
+      (λ more. absurd (answers_free e.op answers (ap costs_credit more))),
+    )

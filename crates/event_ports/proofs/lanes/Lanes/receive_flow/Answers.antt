@@ -1,19 +1,22 @@
 -- What receipts from a flow lane make of a port's lanes: they count no reply.
-use Rattle.std.proofs.Common.{◌≡◌, ◌≢◌, ◌∙◌, List, length, refl, sym, ap, subst, arith}
+use Rattle.std.proofs.Common.{◌≡◌, ◌≢◌, ◌∙◌, List, length, map, refl, sym, ap, subst, arith, ltb-true}
+use Rattle.std.proofs.lemmas.List.{length-append}
+use Rattle.evt_types.specs.Event.{pair_of}
 use Rattle.lane_rings.specs.Identity.{far_id}
 use Rattle.flow_claims.specs.Claims.{lanes_of}
 use Rattle.evt_types.specs.declared.event.Delivery.{Delivery}
 use Rattle.event_ports.specs.declared.lane.Holding.{Holding}
 use Rattle.event_ports.specs.declared.lane.Lane.{Lane}
-use Rattle.event_ports.specs.declared.lane.Lane.TheVariants.{Flow}
-use Rattle.event_ports.specs.Holds.{Gets}
+use Rattle.event_ports.specs.declared.lane.Lane.TheVariants.{Own, Flow}
+use Rattle.event_ports.specs.Holds.{Gets, held_on}
 use Rattle.event_ports.specs.Flows.{FlowSite, hands_of}
-use Rattle.event_ports.specs.Lanes.{HasRoomFor, said_on, got_on, open_on}
+use Rattle.event_ports.specs.Lanes.{HasRoomFor, held_of, pair_in, said_on, got_on, open_on}
 use Rattle.event_ports.proofs.Arrivals.{arrives_none, arrives_some, room_less}
 use Rattle.event_ports.proofs.Noting.{noted_are, note_fits}
 use Rattle.event_ports.proofs.Orders.{Notes, each_lane, received_last}
 use Rattle.event_ports.proofs.Adding.{counts_same}
-use Rattle.event_ports.proofs.Calls.{gave_back, same_no_new, idle_received, gets_between, gets_no_answer}
+use Rattle.event_ports.proofs.Calls.{added_received, gave_back, same_no_new, idle_received, idle_refused, gets_between, gets_no_answer}
+use Rattle.event_ports.proofs.Extras.{added_same}
 use Rattle.event_ports.proofs.lanes.Lanes.receive_flow.Goals as goal
 
 pub note-requires : goal.note-requires
@@ -123,3 +126,58 @@ returns-clause-none c full = absurd (omega (arith, full, c.len.ensures.value, c.
 
 pub returns-clause-shown : goal.returns-clause-shown
 returns-clause-shown c all = record { own = all.own; flows = c.leave_unless.ensures.shown (c.receive_some.ensures.shown (c.hold.ensures.shown all.flows)) }
+
+pub hold-requires-clause-exists : goal.hold-requires-clause-exists
+hold-requires-clause-exists c = c.requires.readable.0
+
+pub hold-requires-clause-linked : goal.hold-requires-clause-linked
+hold-requires-clause-linked c = c.requires.readable.1
+
+pub invariant_of-self : goal.invariant_of-self
+invariant_of-self c =
+    let was = c.args.self.now in
+    let before = hands_of was.flows in
+    let after = hands_of c.hold.new.self in
+    let same = c.hold.ensures.same in
+    record {
+      depth = was.depth;
+      ordered = each_lane (λ l. map pair_in (held_of l was.order.items) ≡ map pair_of (open_on was.own after l)) (was.ordered Own) (λ j. was.ordered (Flow j) ∙ sym (ap (map pair_of) (same.held j)));
+      gave_back = gave_back before after same.given_back was.gave_back;
+      no_new = same_no_new before after same.answered_is was.no_new;
+      added = added_same before after same was.added;
+      idle = idle_refused before after c.args.lane same (c.hold.ensures.held ∙ c.if-not-hold.true) c.hold.ensures.elsewhere was.idle;
+    }
+
+pub invariant_of-self-2-clause-depth : goal.invariant_of-self-2-clause-depth
+invariant_of-self-2-clause-depth c = (c.note.ensures.room ∙ c.args.self.now.depth.0, omega (arith, c.note.ensures.room, c.args.self.now.depth.1))
+
+pub invariant_of-self-2-clause-added : goal.invariant_of-self-2-clause-added
+invariant_of-self-2-clause-added c =
+    let came = c.receive_some.ensures.lists in
+    let gets : Gets c.args.lane came.came (hands_of c.args.self.now.flows) (hands_of c.leave_unless.new.self) =
+    gets_between _ (hands_of c.hold.new.self) (hands_of c.receive_some.new.self) _ c.args.lane came.came c.hold.ensures.same came.gets c.leave_unless.ensures.same in
+    added_received (hands_of c.args.self.now.flows) (hands_of c.leave_unless.new.self) c.args.lane came.came gets c.args.self.now.added
+
+pub returns-then-not-hold-clause-room : goal.returns-then-not-hold-clause-room
+returns-then-not-hold-clause-room c = c.requires.room
+
+pub returns-then-not-hold-clause-none : goal.returns-then-not-hold-clause-none
+returns-then-not-hold-clause-none c full = refl
+
+pub returns-then-not-hold-clause-others : goal.returns-then-not-hold-clause-others
+returns-then-not-hold-clause-others c = refl
+
+pub receive_some-requires-clause-most : goal.receive_some-requires-clause-most
+receive_some-requires-clause-most c = c.requires.room.small
+
+pub receive_some-requires-clause-room : goal.receive_some-requires-clause-room
+receive_some-requires-clause-room c = omega (arith, c.len.ensures.value, c.if-len-most.false)
+
+pub leave_unless-requires-clause-held : goal.leave_unless-requires-clause-held
+leave_unless-requires-clause-held c some none =
+    let came = c.receive_some.ensures.lists in
+    let held = held_on (hands_of c.hold.new.self) c.args.lane in
+    absurd (omega (arith, ltb-true c.len-from.result c.len-2.result some, c.len-2.ensures.value, c.len-from.ensures.value, ap length came.array, length-append c.args.into.now.items came.came, ap length (sym came.gets.held ∙ none), length-append held came.came))
+
+pub returns-clause-others : goal.returns-clause-others
+returns-clause-others c = refl

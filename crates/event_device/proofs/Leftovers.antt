@@ -1,7 +1,8 @@
 -- What is left in the lanes, lane by lane.
-use Rattle.std.proofs.Common.{◌≡◌, ℕ, ◌+◌, ◌<◌, ◌≤◌, not, cond, List, [], ◌∷◌, ◌++◌, length, map, flat_map, sum_by, count_by, Some, refl, sym, ap, subst, ◌∙◌, arith, ⊎_elim}
+use Rattle.std.proofs.Common.{◌≡◌, ℕ, ◌+◌, ◌<◌, ◌≤◌, not, cond, List, [], ◌∷◌, ◌++◌, length, drop, map, flat_map, sum_by, count_by, Some, refl, sym, ap, subst, ◌∙◌, arith, ⊎_elim}
 use Rattle.std.specs.Prelude.{filter_map, slice_get}
 use Rattle.std.specs.List.{cons_option, range_with_len}
+use Rattle.std.proofs.Math.Seq.{drop-append_seam}
 use Rattle.std.proofs.lemmas.Bool.{cases_eq, cases_lt}
 use Rattle.std.proofs.lemmas.List.{length-map}
 use Rattle.std.proofs.lemmas.List.Concat.{length-flat_map}
@@ -24,6 +25,10 @@ use Rattle.event_device.specs.Between.{IsAtRest, no_rest, rest_at, rest_between,
 use Rattle.event_device.specs.Listed.{undelivered_of, untaken_by, untaken_of}
 use Rattle.world_laws.specs.Account.{has_event}
 use Rattle.world_laws.specs.Rest.{Rest}
+
+-- what stands behind a part
+pub left_behind : {X : Type 0} (all first rest : List X) → all ≡ first ++ rest → rest ≡ drop (length first) all
+left_behind all first rest is = sym (ap (drop (length first)) is ∙ drop-append_seam first rest)
 
 -- ---- how many are listed of a lane
 

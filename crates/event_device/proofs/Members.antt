@@ -11,7 +11,7 @@ use Rattle.lists.proofs.Ranges.{mapped_at}
 use Rattle.lists.specs.Lists.{has}
 use Rattle.evt_types.proofs.FlowLanes.{depth_within, lanes_are, replies_within}
 use Rattle.evt_types.specs.Fault.{IsWithinLimits}
-use Rattle.evt_types.specs.Plan.{PortPlan, depth_of, flow_lanes, flow_links, lanes, lanes_of, replies_of}
+use Rattle.evt_types.specs.Plan.{Plan, PortPlan, depth_of, flow_lanes, flow_links, lanes, lanes_of, replies_of}
 use Rattle.credit_pool.specs.declared.pool.Credits.{Credits}
 use Rattle.flow_claims.specs.Claims as claims
 use Rattle.flow_claims.specs.declared.claims.Claims.{Claims}
@@ -33,6 +33,10 @@ lane_count d h =
 pub flow_lane_count : (d : Device) → IsDevice d → length (claims.lanes_of d.claims) ≡ length (flow_lanes d.plan)
 flow_lane_count d h =
     omega (arith, length-map (claims.lanes_of d.claims) far_id, ap length h.flows, length-drop (length d.plan.ports) d.lanes, lane_count d h, lanes_are d.plan)
+
+-- there are as many lanes as the configuration has
+pub nears_counted : (d : Device) (nears : List Near) (p : Plan) → IsDevice d → d.plan ≡ p → map near_id nears ≡ d.lanes → length nears ≡ lanes_of p
+nears_counted d nears p h is same = subst (λ q. length nears ≡ lanes_of q) is (omega (arith, ap length same, length-map nears near_id, lane_count d h))
 
 -- no lane is deeper than 64
 pub lanes_are_small : (d : Device) (nears : List Near) → IsDevice d → IsWithinLimits d.plan → map near_id nears ≡ d.lanes → All (λ near. ((near_id near).depth ≤ 64) × ((near_id near).room ≤ 64)) nears

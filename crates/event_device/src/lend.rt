@@ -34,7 +34,8 @@ impl<L: StepLog> Device<L> {
         if self.ports[number].is_some() {
             return Err(port);
         }
-        self.ports[number] = Some(port);
+        // Nothing is there, which `drop` ends: an assignment would end it part by part.
+        drop(self.ports[number].replace(port));
         Ok(())
     }
 

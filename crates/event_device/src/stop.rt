@@ -83,6 +83,7 @@ impl<L: StepLog> Recorder<L> {
         } = apart.join_seats(&mut rests, &mut ends);
         list_waiting(&core, &mut waiting);
         list_kept(&core, &mut kept);
+        drop(core);
         list_ports(rests, &mut held, &mut pockets, &mut fars);
         add_ends(ends, &mut fars);
         list_lanes(nears, fars, &mut undelivered, &mut untaken);

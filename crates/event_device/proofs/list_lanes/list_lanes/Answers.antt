@@ -1,17 +1,19 @@
-use Rattle.std.proofs.Common.{◌≡◌, ap, subst, sym, ◌∙◌, arith, length, flat_map}
+use Rattle.std.proofs.Common.{◌≡◌, ◌≤◌, ap, subst, sym, ◌∙◌, arith, length, flat_map}
 use Rattle.std.specs.List.{range_with_len}
 use Rattle.std.proofs.lemmas.Iterator.{YieldsList-from_zip}
 use Rattle.std.proofs.lemmas.Iterator.Adapters.{YieldsList-from_vec}
 use Rattle.std.proofs.lemmas.Iterator.Consumers.{YieldsList-end, YieldsList-from_enumerate, YieldsList-turn}
 use Rattle.std.proofs.lemmas.List.{length_push}
+use Rattle.std.proofs.lemmas.Option.{get_or_from_slice_get}
+use Rattle.lane_rings.specs.Identity.{near_id}
 use Rattle.evt_types.specs.Plan.{lanes_of}
 use Rattle.event_device.proofs.LaneEnds.{pair_count, turn_is}
 use Rattle.event_device.proofs.Leftovers.{AreListed, all_rest, listed_more, undelivered_in, undelivered_length, untaken_in, untaken_length}
 use Rattle.event_device.specs.Between.{rest_at}
 use Rattle.event_device.proofs.list_lanes.list_lanes.Goals as goal
 
-pub list_lane-requires-clause-lane : goal.list_lane-requires-clause-lane
-list_lane-requires-clause-lane c =
+pub list_lane-requires : goal.list_lane-requires
+list_lane-requires c =
     let nears = c.args.nears.items in
     let fars = c.args.fars.items in
     let turn =
@@ -20,7 +22,14 @@ list_lane-requires-clause-lane c =
     (YieldsList-from_enumerate {s = c.into_iter-lane-iterator.result}
     (YieldsList-from_zip (YieldsList-from_vec nears (cc) (cc)) (YieldsList-from_vec fars (cc) (cc (c.args.fars.ok.0)))) (cc))
     c.loop-lane.yielded c.loop-lane.lane-iterator c.loop-lane.yielded_by c.next.result c.next.new.self (c.in-Some.lane, (c.in-Some.near, c.in-Some.far)) c.in-Some.is c.next.ensures.steps) in
-    turn.same
+    record {
+      lane = turn.same;
+      small =
+          subst (λ x. ((near_id x).depth ≤ 64) × ((near_id x).room ≤ 64)) (get_or_from_slice_get nears (length c.loop-lane.yielded) c.in-Some.near c.in-Some.near turn.near)
+          (c.requires.small (length c.loop-lane.yielded) c.in-Some.near turn.within);
+      undelivered_room = omega (arith, turn.within, c.loop-lane.invariant.few.0, c.loop-lane.invariant.room.0, c.requires.undelivered_room.1);
+      untaken_room = omega (arith, turn.within, c.loop-lane.invariant.few.1, c.loop-lane.invariant.room.1, c.requires.untaken_room.1);
+    }
 
 pub loop-lane-preserved : goal.loop-lane-preserved
 loop-lane-preserved c =

@@ -35,7 +35,7 @@ use Rattle.event_device.proofs.FlowEnds.{no_new_past, stints_are}
 use Rattle.event_device.proofs.Found.{all_held, own_all}
 use Rattle.event_device.proofs.LaneEnds.{as_many_ends}
 use Rattle.event_device.proofs.Logs as logs
-use Rattle.event_device.proofs.Members.{lanes_are_small, sorted_count}
+use Rattle.event_device.proofs.Members.{lanes_are_small, nears_counted, sorted_count}
 use Rattle.event_device.proofs.Settings.{few_held, left_count}
 use Rattle.event_device.proofs.Worlds.{world_of}
 use Rattle.event_device.proofs.recorder.Recorder.close.Goals as goal
@@ -105,6 +105,22 @@ list_lanes-requires-clause-small g c =
     let apart = c.take_apart-log.ensures.apart in
     let nears = c.join_seats-free.ensures.nears in
     lanes_are_small apart.device c.join_seats-free.result.nears.items apart.fits apart.within (ap (λ (v : Vec Near Global). map near_id v.items) nears ∙ apart.lanes)
+
+pub list_lanes-requires-clause-undelivered_room : goal.list_lanes-requires-clause-undelivered_room
+list_lanes-requires-clause-undelivered_room g c =
+    let apart = c.take_apart-log.ensures.apart in
+    let room = c.requires.room.to_list.undelivered in
+    let plan = sym apart.plan ∙ ap (λ (s : Sight). s.core.shape) c.take_apart-log.ensures.scheduler in
+    let ids = ap (λ (v : Vec Near Global). map near_id v.items) c.join_seats-free.ensures.nears ∙ apart.lanes in
+    (room.0, omega (arith, nears_counted apart.device c.join_seats-free.result.nears.items c.args.self.sight.core.shape apart.fits plan ids, room.1))
+
+pub list_lanes-requires-clause-untaken_room : goal.list_lanes-requires-clause-untaken_room
+list_lanes-requires-clause-untaken_room g c =
+    let apart = c.take_apart-log.ensures.apart in
+    let room = c.requires.room.to_list.untaken in
+    let plan = sym apart.plan ∙ ap (λ (s : Sight). s.core.shape) c.take_apart-log.ensures.scheduler in
+    let ids = ap (λ (v : Vec Near Global). map near_id v.items) c.join_seats-free.ensures.nears ∙ apart.lanes in
+    (room.0, omega (arith, nears_counted apart.device c.join_seats-free.result.nears.items c.args.self.sight.core.shape apart.fits plan ids, room.1))
 
 pub returns : goal.returns
 returns g c =

@@ -1,7 +1,8 @@
-use Rattle.std.proofs.Common.{◌≡◌, ℕ, ◌<◌, ◌∙◌, Some, None, map, length, refl, sym, ap, subst}
+use Rattle.std.proofs.Common.{◌≡◌, ℕ, ◌<◌, ◌∙◌, Some, None, map, length, refl, sym, ap, subst, arith}
 use Rattle.std.specs.Prelude.{slice_get}
+use Rattle.std.proofs.lemmas.List.{length-map}
 use Rattle.event_device.specs.Home.{AreHome, IsFilled, IsWhy, Stops}
-use Rattle.event_device.specs.Parts.{Parts}
+use Rattle.event_device.specs.Parts.{IsOne, Parts}
 use Rattle.event_device.specs.Ports.{Refuses}
 use Rattle.event_device.specs.declared.fault.NotStopped.TheVariants.{ControlLent, Memory, PortLent}
 use Rattle.event_device.proofs.Ones.{one_are_of}
@@ -65,4 +66,36 @@ returns-in-Err-Memory-default-default-default-clause-refused g c =
     let home : AreHome r c.in-Some-control.control c.gather-ports.result.items = record { control_is = c.in-Some-control.is; ports_are = c.gather-ports.ensures.gathered } in (
       subst (IsWhy Memory) c.self.view_is (c.in-Some-control.control, c.gather-ports.result.items, home),
       same_parts r _ _ _ back.0 (ap Some back.1 ∙ sym c.in-Some-control.is) (c.put_all.ensures ∙ (ap (λ ps. map Some ps.items) back.2 ∙ sym c.gather-ports.ensures.gathered)) ∙ c.self.view_is,
+    )
+
+pub gather-ports-requires-clause-empty : goal.gather-ports-requires-clause-empty
+gather-ports-requires-clause-empty g c = c.in-Ok.ensures.items
+
+pub gather-ports-requires-clause-room : goal.gather-ports-requires-clause-room
+gather-ports-requires-clause-room g c = omega (arith, c.in-Ok.ensures.capacity, c.len.ensures)
+
+pub put_all-requires-clause-empty : goal.put_all-requires-clause-empty
+put_all-requires-clause-empty g c = c.gather-ports.ensures.empty
+
+pub invariant_of-device : goal.invariant_of-device
+invariant_of-device g c =
+    let r : Parts = record { recorded = c.self.inside.recorder; control = c.self.inside.control; claims = c.self.inside.claims.value; ports = c.self.inside.ports.items } in
+    let back = c.in-Err-Memory-default-default-default.ensures.back in
+    let same =
+    same_parts r _ _ _ back.0 (ap Some back.1 ∙ sym c.in-Some-control.is) (c.put_all.ensures ∙ (ap (λ ps. map Some ps.items) back.2 ∙ sym c.gather-ports.ensures.gathered)) in
+    subst IsOne (sym same) c.self.invariant
+
+pub put_all-requires-clause-room : goal.put_all-requires-clause-room
+put_all-requires-clause-room g c =
+    let arm = c.in-Err-Memory-default-default-default in
+    let gathered = c.gather-ports.ensures in
+    omega (
+      arith,
+      ap (λ ps. length ps.items) arm.ensures.back.2,
+      ap length gathered.gathered,
+      length-map c.gather-ports.result.items Some,
+      gathered.capacity,
+      arm.ports.ok.0,
+      c.self.inside.ports.ok.0,
+      c.self.inside.ports.ok.1,
     )

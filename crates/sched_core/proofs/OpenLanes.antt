@@ -16,7 +16,7 @@ use Rattle.std.proofs.lemmas.Option.{get_or_from_slice_get, slice_get_within}
 use Rattle.lists.specs.Lists.{has}
 use Rattle.small_set.specs.SmallSets.{Has, IsEmpty, IsFirst, SameBut}
 use Rattle.small_set.specs.declared.set.SmallSet.{SmallSet}
-use Rattle.sched_core.proofs.Offers.{not_itself, not_better, not_better_too}
+use Rattle.sched_core.proofs.Offers.{fits_slot, not_itself, not_better, not_better_too}
 use Rattle.sched_core.proofs.News.{slots_range}
 use Rattle.sched_core.proofs.Pinned.{alone_may, free_may, may_is_alone, may_is_holder, stands_on}
 use Rattle.order_parts.specs.History.{entries_of}
@@ -26,13 +26,13 @@ use Rattle.order_parts.proofs.Roomy.{lane_is}
 use Rattle.order_parts.specs.Histories.{AreRoomy, HasRoom, lane_in}
 use Rattle.sched_core.specs.Inner.{unplaced}
 use Rattle.sched_core.specs.Links.{AreLinksOf}
-use Rattle.sched_core.specs.Offered.{AreOpenLanes, FitsSlot, HasAllowed, HasPlace, IsOpenLane, MayHold, better_of}
+use Rattle.sched_core.specs.Offered.{AreOpenLanes, FitsSlot, HasAllowed, HasPlace, IsOpenLane, MayHold, better_of, slot_at}
 use Rattle.order_parts.specs.QueuePins.{pin_in}
 use Rattle.sched_core.specs.View.{view_in, unanswered_in, IsCore}
 use Rattle.sched_core.specs.declared.state.Core.TheInside.{Inside}
 use Rattle.sched_core.specs.SlotLanes.{IsSlotLane, slot_lane_count}
 use Rattle.transcripts.proofs.FlowAlone.{one_lane}
-use Rattle.transcripts.specs.Choice.{Passed, HasNoOther, IsBetterLane, has_bounced}
+use Rattle.transcripts.specs.Choice.{Passed, HasNone, HasNoOther, IsBetterLane, has_bounced}
 use Rattle.transcripts.specs.Standing.{View, unanswered_at}
 
 -- ---- a walk over lanes
@@ -228,6 +228,10 @@ words_open a s q links roomy both closed lanes core place are_links are_roomy ar
 
     within : l < length a.shape.ports → l < length a.lanes
     within h = omega (arith, port_is_lane a.shape l h, core.lanes)
+
+-- where ports serve a queue and none of its lanes is open, nothing of it may go
+pub none_open : (v : View) (s : Passed) (q : ℕ) (lanes : SmallSet) → has_flow_lanes v.shape q ≡ false → AreOpenLanes v s q lanes → IsEmpty lanes → HasNone v s q
+none_open v s q lanes ports are none w waits m fits = none m ((are m).1 (fits_open v s q (slot_at v q w) m ports (fits_slot v s m q w fits)))
 
 -- ---- the slots of ports
 

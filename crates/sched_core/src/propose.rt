@@ -92,6 +92,10 @@ impl Core {
         ensures none { IfNone result (HasNone self.old skips.now queue) }
     {
         let lanes = self.open_lanes(queue, skips);
+        // Where every lane is full there is no choice: what waits isn't looked at, so that none of it is set aside.
+        if lanes.is_empty() && !self.has_flow_lanes(queue) {
+            return None;
+        }
         let mut others = self.queues.levels(queue);
         let level = others.pop()?;
         let allowed = self.allowed_at(queue, level, lanes, skips);

@@ -7,7 +7,12 @@ use Rattle.parked_queue.specs.LevelSets.{members}
 use Rattle.sched_core.specs.Offered.{AreOpenLanes, HasAllowed, IsOfferOf, numbered_in}
 use Rattle.sched_core.proofs.FirstOnes.{found_none, levels_here, slots_within}
 use Rattle.sched_core.proofs.Offers.{IsOfferAt, level_more, none_beside, none_either, none_in, offer_first, some_here}
+use Rattle.sched_core.proofs.OpenLanes.{none_open}
 use Rattle.sched_core.proofs.state.Core.offer_from.Goals as goal
+
+pub returns-then-not-has_flow_lanes-clause-none : goal.returns-then-not-has_flow_lanes-clause-none
+returns-then-not-has_flow_lanes-clause-none c =
+    none_open c.args.self.now c.args.skips.now c.args.queue c.open_lanes-lanes.result (sym c.has_flow_lanes.ensures ∙ c.if-not-has_flow_lanes.true) c.open_lanes-lanes.ensures (c.is_empty.ensures.0 c.if-is_empty.true)
 
 pub returns-in_err-level-clause-none : goal.returns-in_err-level-clause-none
 returns-in_err-level-clause-none c =
@@ -29,7 +34,7 @@ returns-then-is_blocked-clause-none c =
     let level = c.in_ok-level.level.number in
     let allowed = c.allowed_at-allowed.result in
     let limits : IsWithinLimits v.shape = subst (λ (u : View). IsWithinLimits u.shape) c.self.view_is c.self.invariant.limits in
-    none_beside v s q (members c.pop.new.self) (c.is_empty.ensures.0 c.if-is_empty.true)
+    none_beside v s q (members c.pop.new.self) (c.is_empty-2.ensures.0 c.if-is_empty-2.true)
     (level_more v s q level (members c.levels-others.result) (members c.pop.new.self) c.in_ok-level.ensures.others
     (none_in v s q level allowed c.allowed_at-allowed.ensures.allowed (slots_within v q limits c.requires)
     (found_none c.self-2.inside v q c.self-2.invariant (c.self-2.view_is ∙ c.allowed_at-allowed.ensures.same) c.requires level allowed (c.is_blocked.ensures c.if-is_blocked.true)))

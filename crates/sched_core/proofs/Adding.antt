@@ -152,10 +152,10 @@ module _ (a : Inside) (v : View) (i : ℕ) (y : Entry) (core : IsCore a) (same :
       let kept = done.kept in
       let room = may.room in
       let fewer = may.entries in
-      core_with a a.queues (added_orders a.orders y e) a.lanes (with_item a.extras i (x + 1)) a.pins (cond b (a.inside + 1) a.inside) (cond b (a.entries + 1) a.entries) core (queues_here a core) core.lanes core.room
+      core_with a a.queues (added_orders a.orders y e) a.lanes (with_item a.extras i (x + 1)) a.pins (cond b (a.inside + 1) a.inside) (cond b (a.entries + 1) a.entries) a.open_slots core (queues_here a core) core.lanes core.room
       (length-set a.extras.items i (x + 1) ∙ core.extras) core.pins
       (subst (ArePlaces a.shape a.queues (added_orders a.orders y e) (map entries_in a.lanes)) (sym (written x read)) done.places)
-      (record { inside = omega arith; within = omega arith; entries = omega arith; few = omega arith })
+      core.open_slots (record { inside = omega arith; within = omega arith; entries = omega arith; few = omega arith })
 
   -- ---- its view
 

@@ -1,5 +1,5 @@
 -- A core after an answer: its view, and that what holds of each core holds of it.
-use Rattle.std.proofs.Common.{◌≡◌, ℕ, ◌+◌, ◌-◌, ◌<◌, ◌≤◌, ◌^◌, Bool, true, false, cond, ◌&&◌, List, [], ◌∷◌, length, map, drop, set, get_or, All, Option, Some, None, is_some, option_to_list, IsTrue, sum_by, slice_get, ◌⊎◌, inl, inr, refl, sym, ap, ◌∙◌, subst, arith}
+use Rattle.std.proofs.Common.{◌≡◌, ℕ, ◌+◌, ◌-◌, ◌<◌, ◌≤◌, ◌^◌, Bool, true, false, cond, ◌&&◌, List, [], ◌∷◌, length, map, drop, set, get_or, All, Option, Some, None, is_some, option_to_list, IsTrue, sum_by, slice_get, ◌⊎◌, inl, inr, refl, sym, ap, ◌∙◌, subst, arith, Vec, Global}
 use Rattle.std.proofs.lemmas.Bool.{cases_Bool, cond-true, cond-false, lt-ltb}
 use Rattle.std.proofs.lemmas.List.{length-set, length-drop, length-map, map-set, drop-map, get_or-map, set-get_or}
 use Rattle.std.proofs.lemmas.List.Elements.{All-head}
@@ -30,6 +30,9 @@ use Rattle.sched_core.specs.Ordered.{ArePlaces, IsOrder, StandsIn, added_beside,
 use Rattle.order_parts.specs.Orders.{order_at, is_restoring, resolved_in}
 use Rattle.sched_core.specs.Pinned.{ArePins}
 use Rattle.order_parts.specs.QueuePins.{pins_at, pin_in, with_pin}
+use Rattle.sched_core.proofs.OpenSlots.{opened}
+use Rattle.sched_core.specs.OpenSlots.{IsOpened}
+use Rattle.small_set.specs.declared.set.SmallSet.{SmallSet}
 use Rattle.sched_core.specs.View.{waiting_in, next_in, unanswered_in, entries_in, view_in, IsCore}
 use Rattle.sched_core.specs.declared.state.Core.TheInside.{Inside}
 
@@ -241,10 +244,10 @@ module _ (a : Inside) (v : View) (i : ℕ) (y : Entry) (core : IsCore a) (same :
 
     -- ---- it is answered
 
-    pub core_answers : (ps : List (List Pin)) (b : Bool) → entries_of v + length (events_of (outcome_of f)) ≤ 2 ^ 63 → ps ≡ with_pin a.pins y.queue y.slot (unpinned (pin_in a.pins y.queue y.slot))
+    pub core_answers : (os : Vec SmallSet Global) (ps : List (List Pin)) (b : Bool) → IsOpened a.shape i a.open_slots.items os.items → entries_of v + length (events_of (outcome_of f)) ≤ 2 ^ 63 → ps ≡ with_pin a.pins y.queue y.slot (unpinned (pin_in a.pins y.queue y.slot))
         → (is_restoring (order_at a.orders y.queue) && is_some f) ≡ b
-        → IsCore (record a { orders = resolved_orders a.orders y f; lanes = set a.lanes i (histories.entries_of (drop 1 old.entries) old.capacity); extras = with_item a.extras i 0; pins = ps; inside = cond b a.inside (a.inside - 1); entries = cond b (a.entries + 1) a.entries })
-    core_answers ps b few unpins kept =
+        → IsCore (record a { orders = resolved_orders a.orders y f; lanes = set a.lanes i (histories.entries_of (drop 1 old.entries) old.capacity); extras = with_item a.extras i 0; pins = ps; open_slots = os; inside = cond b a.inside (a.inside - 1); entries = cond b (a.entries + 1) a.entries })
+    core_answers os ps b opening few unpins kept =
         let new : Entries = histories.entries_of (drop 1 old.entries) old.capacity in
         let counts = counted b kept in
         let counted_in = counts.0 in
@@ -257,12 +260,13 @@ module _ (a : Inside) (v : View) (i : ℕ) (y : Entry) (core : IsCore a) (same :
         let held = held_sum a.lanes i old new h is in
         let keeps = kept_after a (record a { orders = resolved_orders a.orders y f; lanes = set a.lanes i new; extras = with_item a.extras i 0; pins = ps; inside = cond b a.inside (a.inside - 1); entries = cond b (a.entries + 1) a.entries }) y.queue (resolved_in r y.place f) refl oldest_order in
         let more = done.kept in
-        core_with a a.queues (resolved_orders a.orders y f) (set a.lanes i new) (with_item a.extras i 0) ps (cond b a.inside (a.inside - 1)) (cond b (a.entries + 1) a.entries) core (queues_here a core)
+        core_with a a.queues (resolved_orders a.orders y f) (set a.lanes i new) (with_item a.extras i 0) ps (cond b a.inside (a.inside - 1)) (cond b (a.entries + 1) a.entries) os core (queues_here a core)
         (length-set a.lanes i new ∙ core.lanes) (room_set a.shape a.lanes i old new h is refl core.room) (length-set a.extras.items i 0 ∙ core.extras)
         (subst (λ us. ArePins a.shape us ps) (sym (lanes_answered a i old new h is refl))
         (subst (ArePins a.shape (set (map unanswered_in a.lanes) i (drop 1 (unanswered_at (view_in a) i)))) (sym unpins)
         (pins_answered a.shape (map unanswered_in a.lanes) a.pins i (unplaced y) core.pins (in_view a i h) first)))
         (subst (λ us. ArePlaces a.shape a.queues (resolved_orders a.orders y f) us (set a.extras.items i 0)) (sym (popped_here a.lanes i old new h is refl)) done.places)
+        (opened a.shape a.lanes i new a.open_slots.items os.items opening core.open_slots)
         (record { inside = omega arith; within = omega arith; entries = omega arith; few = omega arith })
       where
         r : Reordering
@@ -305,13 +309,13 @@ module _ (a : Inside) (v : View) (i : ℕ) (y : Entry) (core : IsCore a) (same :
 
     -- the same of the buffers and lanes that other calls left: so that no large goal has to be rewritten
     module _ (rs : List Reordering) (ls : List Entries) (orders : rs ≡ resolved_orders a.orders y f) (lanes : ls ≡ set a.lanes i (histories.entries_of (drop 1 old.entries) old.capacity)) where
-      pub core_answered : (ps : List (List Pin)) (b : Bool) → entries_of v + length (events_of (outcome_of f)) ≤ 2 ^ 63 → ps ≡ with_pin a.pins y.queue y.slot (unpinned (pin_in a.pins y.queue y.slot))
+      pub core_answered : (ss : Vec SmallSet Global) (ps : List (List Pin)) (b : Bool) → IsOpened a.shape i a.open_slots.items ss.items → entries_of v + length (events_of (outcome_of f)) ≤ 2 ^ 63 → ps ≡ with_pin a.pins y.queue y.slot (unpinned (pin_in a.pins y.queue y.slot))
           → (is_restoring (order_at a.orders y.queue) && is_some f) ≡ b
-          → IsCore (record a { orders = rs; lanes = ls; extras = with_item a.extras i 0; pins = ps; inside = cond b a.inside (a.inside - 1); entries = cond b (a.entries + 1) a.entries })
-      core_answered ps b few unpins kept =
-          subst (λ os. IsCore (record a { orders = os; lanes = ls; extras = with_item a.extras i 0; pins = ps; inside = cond b a.inside (a.inside - 1); entries = cond b (a.entries + 1) a.entries })) (sym orders)
-          (subst (λ xs. IsCore (record a { orders = resolved_orders a.orders y f; lanes = xs; extras = with_item a.extras i 0; pins = ps; inside = cond b a.inside (a.inside - 1); entries = cond b (a.entries + 1) a.entries })) (sym lanes)
-          (core_answers ps b few unpins kept))
+          → IsCore (record a { orders = rs; lanes = ls; extras = with_item a.extras i 0; pins = ps; open_slots = ss; inside = cond b a.inside (a.inside - 1); entries = cond b (a.entries + 1) a.entries })
+      core_answered ss ps b opening few unpins kept =
+          subst (λ os. IsCore (record a { orders = os; lanes = ls; extras = with_item a.extras i 0; pins = ps; open_slots = ss; inside = cond b a.inside (a.inside - 1); entries = cond b (a.entries + 1) a.entries })) (sym orders)
+          (subst (λ xs. IsCore (record a { orders = resolved_orders a.orders y f; lanes = xs; extras = with_item a.extras i 0; pins = ps; open_slots = ss; inside = cond b a.inside (a.inside - 1); entries = cond b (a.entries + 1) a.entries })) (sym lanes)
+          (core_answers ss ps b opening few unpins kept))
 
       pub view_answered : (ps : List (List Pin)) (n m : ℕ) → view_in (record a { orders = rs; lanes = ls; extras = with_item a.extras i 0; pins = ps; inside = n; entries = m }) ≡ after_answer v i (outcome_of f)
       view_answered ps n m =

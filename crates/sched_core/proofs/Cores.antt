@@ -24,6 +24,8 @@ use Rattle.sched_core.specs.Ordered.{ArePlaces, kept_of, places_in}
 use Rattle.order_parts.specs.Orders.{order_at}
 use Rattle.order_parts.specs.Pins.{Pin}
 use Rattle.sched_core.specs.Pinned.{ArePins}
+use Rattle.sched_core.specs.OpenSlots.{AreOpenSlots}
+use Rattle.small_set.specs.declared.set.SmallSet.{SmallSet}
 use Rattle.sched_core.specs.View.{waiting_in, next_in, unanswered_in, entries_in, view_in, IsCore}
 use Rattle.order_parts.specs.declared.history.Entry.{Entry}
 use Rattle.order_parts.specs.History.{Entries}
@@ -146,11 +148,11 @@ pub record AreCounts (a : Inside) : Type 0 where
   pub few : entries_of (view_in a) ≤ 2 ^ 63
 
 -- with other parts that are right it is a core still
-pub core_with : (a : Inside) (qs : List Waits) (rs : List Reordering) (ls : List Entries) (es : Vec ℕ Global) (ps : List (List Pin)) (n m : ℕ) → IsCore a → AreQueues a.shape qs
+pub core_with : (a : Inside) (qs : List Waits) (rs : List Reordering) (ls : List Entries) (es : Vec ℕ Global) (ps : List (List Pin)) (n m : ℕ) (os : Vec SmallSet Global) → IsCore a → AreQueues a.shape qs
     → length ls ≡ lanes_of a.shape → HaveRoom a.shape ls → length es.items ≡ lanes_of a.shape → ArePins a.shape (map unanswered_in ls) ps → ArePlaces a.shape qs rs (map entries_in ls) es.items
-    → AreCounts (record a { queues = qs; orders = rs; lanes = ls; extras = es; pins = ps; inside = n; entries = m })
-    → IsCore (record a { queues = qs; orders = rs; lanes = ls; extras = es; pins = ps; inside = n; entries = m })
-core_with a qs rs ls es ps n m core queues lanes room extras pins places counts =
+    → AreOpenSlots a.shape ls os.items → AreCounts (record a { queues = qs; orders = rs; lanes = ls; extras = es; pins = ps; inside = n; entries = m })
+    → IsCore (record a { queues = qs; orders = rs; lanes = ls; extras = es; pins = ps; open_slots = os; inside = n; entries = m })
+core_with a qs rs ls es ps n m os core queues lanes room extras pins places open_slots counts =
     record {
       limits = core.limits;
       queues = queues.count;
@@ -170,8 +172,15 @@ core_with a qs rs ls es ps n m core queues lanes room extras pins places counts 
       links = core.links;
       ahead = core.ahead;
       slot_lanes = core.slot_lanes;
+      open_slots = open_slots;
       places = places;
     }
+
+-- so it is with other open slots that are right
+pub core_open : (a : Inside) (os : Vec SmallSet Global) → IsCore a → AreOpenSlots a.shape a.lanes os.items → IsCore (record a { open_slots = os })
+core_open a os core open_slots =
+    core_with a a.queues a.orders a.lanes a.extras a.pins a.inside a.entries os core (queues_here a core) core.lanes core.room core.extras core.pins core.places open_slots
+    (record { inside = core.inside; within = core.within; entries = core.entries; few = core.few })
 
 -- ---- an event is accepted
 
@@ -199,7 +208,7 @@ core_accepts a i old new e core fits fewer h is value waits =
     let next : new.next ≡ old.next + 1 = ap (λ (q : Waits). q.next) value in
     let more_wait = waiting_sum a.queues i old new h is in
     let numbers = next_sum a.queues i old new h is in
-    core_with a (set a.queues i new) a.orders a.lanes a.extras a.pins (a.inside + 1) (a.entries + 1) core
+    core_with a (set a.queues i new) a.orders a.lanes a.extras a.pins (a.inside + 1) (a.entries + 1) a.open_slots core
     (record {
       count = length-set a.queues i new ∙ core.queues;
       sound = All-set (IsQueueOf (bound_of a.shape)) a.queues i new (record { room = ap (λ (q : Waits). q.room) value ∙ (queue_here a i old core h is).room; waits = waits }) core.sound;
@@ -207,7 +216,7 @@ core_accepts a i old new e core fits fewer h is value waits =
     }) core.lanes core.room core.extras core.pins
     (subst (λ q. ArePlaces a.shape (set a.queues i q) a.orders (map entries_in a.lanes) a.extras.items) (ap (λ q. with_event q e) (waits_here_is a.queues i old h is) ∙ sym value)
     (accepted_places a.shape a.queues a.orders (map entries_in a.lanes) a.extras.items i e core.places (omega arith)))
-    (record { inside = omega arith; within = omega arith; entries = omega arith; few = omega arith })
+    core.open_slots (record { inside = omega arith; within = omega arith; entries = omega arith; few = omega arith })
 
 -- two views of one shape with the same parts
 pub same_parts : (p : Plan) (w w' : List (List Numbered)) (n n' : List ℕ) (r r' : List (List Place)) (u u' : List (List Held)) (x x' : List ℕ) (b : Bool) → w ≡ w' → n ≡ n' → r ≡ r' → u ≡ u' → x ≡ x'

@@ -1,7 +1,9 @@
 -- A core after an event is given: its view, and that what holds of each core holds of it.
-use Rattle.std.proofs.Common.{◌≡◌, ℕ, ◌+◌, ◌<◌, Bool, true, false, cond, not, ◌==◌, ◌||◌, nat_lt, List, [], ◌∷◌, ◌++◌, length, map, set, get_or, filter, Contains, IsTrue, Some, ◌⊎◌, inl, inr, refl, sym, ap, ◌∙◌, subst, arith}
+use Rattle.std.proofs.Common.{◌≡◌, ℕ, ◌+◌, ◌<◌, Bool, true, false, cond, not, ◌==◌, ◌||◌, nat_lt, List, [], ◌∷◌, ◌++◌, length, map, set, get_or, filter, Contains, IsTrue, Some, ◌⊎◌, inl, inr, refl, sym, ap, ◌∙◌, subst, arith, ◌≤◌}
 use Rattle.std.proofs.lemmas.Bool.{cases_Bool, cond-true, cond-false, lt-ltb, or_right}
-use Rattle.std.proofs.lemmas.List.{length-set, length-map, length_push, map-set, map_push, set-get_or}
+use Rattle.std.proofs.lemmas.List.{get_or_default, length-set, length-map, length_push, map-set, map_push, set-get_or}
+use Rattle.order_parts.specs.Histories.{lane_in}
+use Rattle.order_parts.specs.History.{entries_of}
 use Rattle.std.proofs.lemmas.List.Elements.{All-set}
 use Rattle.std.proofs.lemmas.List.Sums.{sum_by-append}
 use Rattle.transcripts.proofs.ViewLists.{one_less, event_in_some}
@@ -24,6 +26,7 @@ use Rattle.sched_core.specs.Ordered.{ArePlaces, entries_at, kept_of, places_in}
 use Rattle.order_parts.specs.Orders.{order_at, has_place, handed, is_restoring}
 use Rattle.sched_core.specs.Pinned.{ArePins}
 use Rattle.order_parts.specs.QueuePins.{slots_of, pin_in, with_pin}
+use Rattle.sched_core.proofs.OpenSlots.{fuller, still_open}
 use Rattle.sched_core.specs.View.{waiting_in, next_in, unanswered_in, entries_in, view_in, IsCore}
 use Rattle.parked_queue.specs.Waits.{Waits, AreWaits, without_number, waits_at}
 use Rattle.sched_core.specs.declared.state.Core.TheInside.{Inside}
@@ -132,7 +135,7 @@ pub core_gives : (a : Inside) (i l : ℕ) (old new : Waits) (holder held : Entri
     → new ≡ without_number old w.number → AreWaits new → held.entries ≡ holder.entries ++ y ∷ [] → held.capacity ≡ holder.capacity
     → y.queue ≡ i → y.number ≡ w.number → y.slot ≡ slot_of a.shape i w.event.flow → (is_restoring (order_at a.orders i) ≡ true → y.place ≡ next_number (order_at a.orders i))
     → ps ≡ with_pin a.pins i y.slot (pinned (pin_in a.pins i y.slot) l)
-    → IsCore (record { shape = a.shape; queues = set a.queues i new; orders = handed_orders a.orders i w.number; lanes = set a.lanes l held; extras = a.extras; pins = ps; links = a.links; ahead = a.ahead; slot_lanes = a.slot_lanes; bound = a.bound; log_room = a.log_room; inside = a.inside; entries = a.entries; shut = a.shut })
+    → IsCore (record { shape = a.shape; queues = set a.queues i new; orders = handed_orders a.orders i w.number; lanes = set a.lanes l held; extras = a.extras; pins = ps; links = a.links; ahead = a.ahead; slot_lanes = a.slot_lanes; open_slots = a.open_slots; bound = a.bound; log_room = a.log_room; inside = a.inside; entries = a.entries; shut = a.shut })
 core_gives a i l old new holder held w y ps core offer h is k here waits value sound_new given room queue number slot place pins =
     let sound = queue_here a i old core h is in
     let same : waits_at a.queues i ≡ old = waits_here_is a.queues i old h is in
@@ -143,7 +146,9 @@ core_gives a i l old new holder held w y ps core offer h is k here waits value s
     let done = handed_by a l i w y core offer (subst (λ (q : Waits). Contains q.waiting w) (sym same) waits) (subst (λ (q : Waits). w.number < q.next) (sym same) below) k queue number place in
     let count = core.places.count in
     let there = offer.queue in
-    let keeps = kept_after a (record { shape = a.shape; queues = set a.queues i new; orders = handed_orders a.orders i w.number; lanes = set a.lanes l held; extras = a.extras; pins = ps; links = a.links; ahead = a.ahead; slot_lanes = a.slot_lanes; bound = a.bound; log_room = a.log_room; inside = a.inside; entries = a.entries; shut = a.shut }) i (handed (order_at a.orders i) w.number) refl (omega arith) in
+    let here_is : holder ≡ lane_in a.lanes l = here ∙ sym (get_or_default a.lanes l (entries_of [] 0) holder k) in
+    let longer : length (lane_in a.lanes l).entries ≤ length held.entries = omega (arith, ap (λ (x : Entries). length x.entries) here_is, ap length given, length_push holder.entries y) in
+    let keeps = kept_after a (record { shape = a.shape; queues = set a.queues i new; orders = handed_orders a.orders i w.number; lanes = set a.lanes l held; extras = a.extras; pins = ps; links = a.links; ahead = a.ahead; slot_lanes = a.slot_lanes; open_slots = a.open_slots; bound = a.bound; log_room = a.log_room; inside = a.inside; entries = a.entries; shut = a.shut }) i (handed (order_at a.orders i) w.number) refl (omega arith) in
     let still = done.kept in
     let in_queues = waiting_sum a.queues i old new h is in
     let numbers = next_sum a.queues i old new h is in
@@ -174,6 +179,7 @@ core_gives a i l old new holder held w y ps core offer h is k here waits value s
       links = core.links;
       ahead = core.ahead;
       slot_lanes = core.slot_lanes;
+      open_slots = still_open a.shape a.lanes (set a.lanes l held) a.open_slots.items (fuller a.lanes l held k longer (room ∙ ap (λ (x : Entries). x.capacity) here_is)) core.open_slots;
       places =
           subst (λ q. ArePlaces a.shape (set a.queues i q) (handed_orders a.orders i w.number) (map entries_in (set a.lanes l held)) a.extras.items) (ap (λ q. without_number q w.number) same ∙ sym value)
           (subst (λ us. ArePlaces a.shape (set a.queues i (without_number (waits_at a.queues i) w.number)) (handed_orders a.orders i w.number) us a.extras.items)
@@ -195,7 +201,7 @@ pub view_gives : (a : Inside) (i l : ℕ) (old new : Waits) (holder held : Entri
     → i < length a.queues → old ≡ get_or a.queues i old → l < length a.lanes → holder ≡ get_or a.lanes l holder → Contains old.waiting w
     → new ≡ without_number old w.number → held.entries ≡ holder.entries ++ y ∷ [] → unplaced y ≡ record { queue = i; number = w.number; slot = slot_of a.shape i w.event.flow }
     → (is_restoring (order_at a.orders i) ≡ true → y.place ≡ next_number (order_at a.orders i))
-    → view_in (record { shape = a.shape; queues = set a.queues i new; orders = handed_orders a.orders i w.number; lanes = set a.lanes l held; extras = a.extras; pins = ps; links = a.links; ahead = a.ahead; slot_lanes = a.slot_lanes; bound = a.bound; log_room = a.log_room; inside = a.inside; entries = a.entries; shut = a.shut }) ≡ after_give (view_in a) l i w.number
+    → view_in (record { shape = a.shape; queues = set a.queues i new; orders = handed_orders a.orders i w.number; lanes = set a.lanes l held; extras = a.extras; pins = ps; links = a.links; ahead = a.ahead; slot_lanes = a.slot_lanes; open_slots = a.open_slots; bound = a.bound; log_room = a.log_room; inside = a.inside; entries = a.entries; shut = a.shut }) ≡ after_give (view_in a) l i w.number
 view_gives a i l old new holder held w y ps core offer h is k here waits value given entry place =
     let n : ℕ = w.number in
     let v : View = view_in a in

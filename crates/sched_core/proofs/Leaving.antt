@@ -54,9 +54,9 @@ module _ (a : Inside) (v : View) (q : ℕ) (x : Place) (k : ℕ) (core : IsCore 
       let fewer = kept_left (order_at a.orders q) x oldest in
       let counted = left_counts.0 in
       let entered = left_counts.1 in
-      core_with a a.queues (left_orders a.orders q) a.lanes a.extras a.pins (a.inside - k) (a.entries - k) core (queues_here a core) core.lanes core.room core.extras core.pins
+      core_with a a.queues (left_orders a.orders q) a.lanes a.extras a.pins (a.inside - k) (a.entries - k) a.open_slots core (queues_here a core) core.lanes core.room core.extras core.pins
       (left_places a.shape a.queues a.orders (map entries_in a.lanes) a.extras.items q core.places h)
-      (record { inside = omega arith; within = omega arith; entries = omega arith; few = omega arith })
+      core.open_slots (record { inside = omega arith; within = omega arith; entries = omega arith; few = omega arith })
 
   pub view_left : view_in (with_orders a (left_orders a.orders q) (a.inside - k) (a.entries - k)) ≡ view_leaves v q
   view_left =

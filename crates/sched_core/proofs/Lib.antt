@@ -11,6 +11,7 @@ pub mod OpenLanes
 pub mod Leaving
 pub mod News
 pub mod Offers
+pub mod OpenSlots
 pub mod OrderFacts
 pub mod PlaceNumbers
 pub mod OrderMoves

@@ -28,6 +28,8 @@ use Rattle.sched_core.specs.Service.{AreAhead}
 use Rattle.order_parts.specs.QueuePins.{AreFreePins}
 use Rattle.sched_core.specs.SlotLanes.{AreSlotLanes, slot_lane_count}
 use Rattle.small_set.specs.declared.set.SmallSet.{SmallSet}
+use Rattle.sched_core.proofs.OpenSlots.{all_open}
+use Rattle.sched_core.specs.OpenSlots.{HaveAllSlots}
 use Rattle.sched_core.specs.View.{waiting_in, next_in, unanswered_in, entries_in, view_in, IsCore}
 use Rattle.order_parts.specs.declared.history.Entry.{Entry}
 use Rattle.order_parts.specs.History.{Entries}
@@ -104,9 +106,9 @@ fresh_order p q h = get_or-map (λ (d : QueueDraft). empty (kept_room d)) p.queu
 nothing_held : (ls : List Entries) (p : Plan) (n : ℕ) → AreEmptyLanes p n ls → sum_by (λ (xs : List Held). length xs) (map unanswered_in ls) ≡ 0
 nothing_held ls p n empty = sum_of_map (λ (xs : List Held). length xs) unanswered_in ls ∙ sum_of_none (λ x. length (unanswered_in x)) ls (All-weaker IsBare (λ (l : Entries). length (unanswered_in l) ≡ 0) (λ l e. ap (λ (ys : List Entry). length (map unplaced ys)) e) ls empty.empty)
 
-pub core_new : (p : Plan) (qs : List Waits) (ls : List Entries) (es : Vec ℕ Global) (ps : List (List Pin)) (ks hs : Vec SmallSet Global) (os : Vec (Option ℕ) Global) → IsWithinLimits p → bound_of p < 2 ^ 64 → AreEmptyQueues p (length p.queues) qs → AreEmptyLanes p (lanes_of p) ls → es.items ≡ replicate (lanes_of p) 0 → AreFreePins p (length p.queues) ps → AreLinks p (length p.queues) ks.items → AreAhead p (length p.queues) hs.items → AreSlotLanes p (slot_lane_count p) os.items
-    → IsCore (record { shape = p; queues = qs; orders = new_orders p; lanes = ls; extras = es; pins = ps; links = ks; ahead = hs; slot_lanes = os; bound = bound_of p; log_room = sweep_room p; inside = 0; entries = 0; shut = false })
-core_new p qs ls es ps ks hs os limits small queues lanes none pins links ahead slot_lanes =
+pub core_new : (p : Plan) (qs : List Waits) (ls : List Entries) (es : Vec ℕ Global) (ps : List (List Pin)) (ks hs : Vec SmallSet Global) (os : Vec (Option ℕ) Global) (ss : Vec SmallSet Global) → IsWithinLimits p → bound_of p < 2 ^ 64 → AreEmptyQueues p (length p.queues) qs → AreEmptyLanes p (lanes_of p) ls → es.items ≡ replicate (lanes_of p) 0 → AreFreePins p (length p.queues) ps → AreLinks p (length p.queues) ks.items → AreAhead p (length p.queues) hs.items → AreSlotLanes p (slot_lane_count p) os.items → HaveAllSlots p ss.items
+    → IsCore (record { shape = p; queues = qs; orders = new_orders p; lanes = ls; extras = es; pins = ps; links = ks; ahead = hs; slot_lanes = os; open_slots = ss; bound = bound_of p; log_room = sweep_room p; inside = 0; entries = 0; shut = false })
+core_new p qs ls es ps ks hs os ss limits small queues lanes none pins links ahead slot_lanes open_slots =
     let waits = nothing_waits p qs (length p.queues) queues in
     let numbers = nothing_numbered p qs (length p.queues) queues in
     let kept = nothing_kept p in
@@ -130,14 +132,15 @@ core_new p qs ls es ps ks hs os limits small queues lanes none pins links ahead 
       links = links;
       ahead = ahead;
       slot_lanes = slot_lanes;
+      open_slots = all_open p ls ss.items open_slots;
       places =
           new_places p qs (new_orders p) (map entries_in ls) es.items queues.count (length-map p.queues (λ (q : QueueDraft). empty (kept_room q))) (fresh_order p) (λ q h. order_small p q limits.orders h)
           (All-map (λ (ys : List Entry). ys ≡ []) entries_in ls lanes.empty);
     }
 
-pub view_new : (p : Plan) (qs : List Waits) (ls : List Entries) (es : Vec ℕ Global) (ps : List (List Pin)) (ks hs : Vec SmallSet Global) (os : Vec (Option ℕ) Global) → AreEmptyQueues p (length p.queues) qs → AreEmptyLanes p (lanes_of p) ls → es.items ≡ replicate (lanes_of p) 0 → view_in (record { shape = p; queues = qs; orders = new_orders p; lanes = ls; extras = es; pins = ps; links = ks; ahead = hs; slot_lanes = os; bound = bound_of p; log_room = sweep_room p; inside = 0; entries = 0; shut = false }) ≡ view_of p []
+pub view_new : (p : Plan) (qs : List Waits) (ls : List Entries) (es : Vec ℕ Global) (ps : List (List Pin)) (ks hs : Vec SmallSet Global) (os : Vec (Option ℕ) Global) (ss : Vec SmallSet Global) → AreEmptyQueues p (length p.queues) qs → AreEmptyLanes p (lanes_of p) ls → es.items ≡ replicate (lanes_of p) 0 → view_in (record { shape = p; queues = qs; orders = new_orders p; lanes = ls; extras = es; pins = ps; links = ks; ahead = hs; slot_lanes = os; open_slots = ss; bound = bound_of p; log_room = sweep_room p; inside = 0; entries = 0; shut = false }) ≡ view_of p []
 unfolding view_of extras
-view_new p qs ls es ps ks hs os queues lanes none =
+view_new p qs ls es ps ks hs os ss queues lanes none =
     same_parts p _ _ _ _ _ _ _ _ _ _ false
     (fill_by_all (waiting []) (map waiting_in qs) (length p.queues) [] (length-map qs waiting_in ∙ queues.count) (λ k h. get_or_empty k h ∙ sym (waiting_at_none k)))
     (fill_by_all (λ q. length (accepted [] q)) (map next_in qs) (length p.queues) 0 (length-map qs next_in ∙ queues.count) (λ k h. get_or_zero k h ∙ sym (ap length (accepted_at_none k))))
@@ -164,11 +167,11 @@ view_new p qs ls es ps ks hs os queues lanes none =
         k [] (subst (λ n. k < n) (sym (length-map ls unanswered_in ∙ lanes.count)) h)
 
 -- the core as its parts were made, each known by an equation: so that no large goal has to be rewritten
-pub core_made : (p : Plan) (ds : List QueueDraft) (rs : List Reordering) (b r : ℕ) (qs : List Waits) (ls : List Entries) (es : Vec ℕ Global) (ps : List (List Pin)) (ks hs : Vec SmallSet Global) (os : Vec (Option ℕ) Global) → ds ≡ p.queues → rs ≡ map (λ (q : QueueDraft). empty (kept_room q)) ds → b ≡ bound_of p → r ≡ sweep_room p → IsWithinLimits p → b < 18446744073709551616 → AreEmptyQueues p (length p.queues) qs → AreEmptyLanes p (lanes_of p) ls → es.items ≡ replicate (lanes_of p) 0 → AreFreePins p (length p.queues) ps → AreLinks p (length p.queues) ks.items → AreAhead p (length p.queues) hs.items → AreSlotLanes p (slot_lane_count p) os.items
-    → IsCore (record { shape = p; queues = qs; orders = rs; lanes = ls; extras = es; pins = ps; links = ks; ahead = hs; slot_lanes = os; bound = b; log_room = r; inside = 0; entries = 0; shut = false })
-core_made p ds rs b r qs ls es ps ks hs os drafts orders bound room limits small queues lanes none pins links ahead slot_lanes =
-    rw (orders, drafts, bound, room) (core_new p qs ls es ps ks hs os limits (subst (λ n. n < 18446744073709551616) bound small) queues lanes none pins links ahead slot_lanes)
+pub core_made : (p : Plan) (ds : List QueueDraft) (rs : List Reordering) (b r : ℕ) (qs : List Waits) (ls : List Entries) (es : Vec ℕ Global) (ps : List (List Pin)) (ks hs : Vec SmallSet Global) (os : Vec (Option ℕ) Global) (ss : Vec SmallSet Global) → ds ≡ p.queues → rs ≡ map (λ (q : QueueDraft). empty (kept_room q)) ds → b ≡ bound_of p → r ≡ sweep_room p → IsWithinLimits p → b < 18446744073709551616 → AreEmptyQueues p (length p.queues) qs → AreEmptyLanes p (lanes_of p) ls → es.items ≡ replicate (lanes_of p) 0 → AreFreePins p (length p.queues) ps → AreLinks p (length p.queues) ks.items → AreAhead p (length p.queues) hs.items → AreSlotLanes p (slot_lane_count p) os.items → HaveAllSlots p ss.items
+    → IsCore (record { shape = p; queues = qs; orders = rs; lanes = ls; extras = es; pins = ps; links = ks; ahead = hs; slot_lanes = os; open_slots = ss; bound = b; log_room = r; inside = 0; entries = 0; shut = false })
+core_made p ds rs b r qs ls es ps ks hs os ss drafts orders bound room limits small queues lanes none pins links ahead slot_lanes open_slots =
+    rw (orders, drafts, bound, room) (core_new p qs ls es ps ks hs os ss limits (subst (λ n. n < 18446744073709551616) bound small) queues lanes none pins links ahead slot_lanes open_slots)
 
-pub view_made : (p : Plan) (ds : List QueueDraft) (rs : List Reordering) (b r : ℕ) (qs : List Waits) (ls : List Entries) (es : Vec ℕ Global) (ps : List (List Pin)) (ks hs : Vec SmallSet Global) (os : Vec (Option ℕ) Global) → ds ≡ p.queues → rs ≡ map (λ (q : QueueDraft). empty (kept_room q)) ds → AreEmptyQueues p (length p.queues) qs → AreEmptyLanes p (lanes_of p) ls → es.items ≡ replicate (lanes_of p) 0 → view_in (record { shape = p; queues = qs; orders = rs; lanes = ls; extras = es; pins = ps; links = ks; ahead = hs; slot_lanes = os; bound = b; log_room = r; inside = 0; entries = 0; shut = false }) ≡ view_of p []
-view_made p ds rs b r qs ls es ps ks hs os drafts orders queues lanes none =
-    rw (orders, drafts) (view_new p qs ls es ps ks hs os queues lanes none)
+pub view_made : (p : Plan) (ds : List QueueDraft) (rs : List Reordering) (b r : ℕ) (qs : List Waits) (ls : List Entries) (es : Vec ℕ Global) (ps : List (List Pin)) (ks hs : Vec SmallSet Global) (os : Vec (Option ℕ) Global) (ss : Vec SmallSet Global) → ds ≡ p.queues → rs ≡ map (λ (q : QueueDraft). empty (kept_room q)) ds → AreEmptyQueues p (length p.queues) qs → AreEmptyLanes p (lanes_of p) ls → es.items ≡ replicate (lanes_of p) 0 → view_in (record { shape = p; queues = qs; orders = rs; lanes = ls; extras = es; pins = ps; links = ks; ahead = hs; slot_lanes = os; open_slots = ss; bound = b; log_room = r; inside = 0; entries = 0; shut = false }) ≡ view_of p []
+view_made p ds rs b r qs ls es ps ks hs os ss drafts orders queues lanes none =
+    rw (orders, drafts) (view_new p qs ls es ps ks hs os ss queues lanes none)

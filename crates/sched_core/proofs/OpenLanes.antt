@@ -1,23 +1,19 @@
 -- Which lanes are open to a queue, and the best of them: a walk over a set of lanes, the lane of a pinned slot, and what flow lanes serve.
-use Rattle.std.proofs.Common.{◌≡◌, ◌≢◌, ℕ, ◌+◌, ◌*◌, ◌-◌, ◌/◌, ◌%◌, ◌^◌, ◌<◌, ◌≤◌, Bool, true, false, not, cond, nat_le, ◌==◌, List, [], ◌∷◌, length, map, get_or, All, Option, Some, None, inl, inr, ◌⊎◌, ⊎_elim, refl, sym, ap, ◌∙◌, subst, arith, eqb-true, if◌then◌else◌}
+use Rattle.std.proofs.Common.{◌≡◌, ◌≢◌, ℕ, ◌+◌, ◌*◌, ◌/◌, ◌%◌, ◌^◌, ◌<◌, ◌≤◌, Bool, true, false, cond, nat_le, [], length, map, get_or, Option, Some, None, inl, inr, ◌⊎◌, ⊎_elim, refl, sym, ap, ◌∙◌, subst, arith}
 use Rattle.std.specs.Prelude.{◌↔◌}
 use Rattle.std.specs.Option.{IfSome, IfNone}
-use Rattle.std.proofs.lemmas.Bool.{and_from, and_parts, and_right, cond-true, cases_eq, cases_lt, false≢true, false_from_ne_true, leb-true, leb-false}
-use Rattle.evt_types.proofs.FlowLanes.{serves_port, serves_flow, port_is_lane}
-use Rattle.evt_types.specs.Plan.{Plan, depth_of, lanes_at, lanes_by_slot, flow_lanes, flow_at, slot_lanes, is_flows, is_lane_of, has_flow_lanes, serves, queue_of, is_atomic, port_of}
-use Rattle.evt_types.specs.declared.flows.FlowLane.{FlowLane}
-use Rattle.std.specs.List.{flat_map, range_with_len}
-use Rattle.std.proofs.lemmas.List.Elements.{All-nil, All-map, All-append, All-head, All-tail}
-use Rattle.std.proofs.lemmas.List.Concat.{flat_map-cons}
+use Rattle.std.proofs.lemmas.Bool.{and_parts, cond-true, cases_eq, cases_lt, false≢true, false_from_ne_true, leb-true, leb-false}
+use Rattle.evt_types.proofs.FlowLanes.{serves_port, port_is_lane}
+use Rattle.evt_types.specs.Plan.{Plan, depth_of, is_flows, has_flow_lanes, serves, queue_of, is_atomic}
 use Rattle.std.proofs.lemmas.List.{length-map}
 use Rattle.std.proofs.lemmas.Nat.{div-mul-add, mod-mul-add}
 use Rattle.std.proofs.lemmas.Nat.Bits.{bit_at_above}
-use Rattle.std.proofs.lemmas.Option.{get_or_from_slice_get, slice_get_within}
 use Rattle.lists.specs.Lists.{has}
 use Rattle.small_set.specs.SmallSets.{Has, IsEmpty, IsFirst, SameBut}
 use Rattle.small_set.specs.declared.set.SmallSet.{SmallSet}
 use Rattle.sched_core.proofs.Offers.{fits_slot, not_itself, not_better, not_better_too}
 use Rattle.sched_core.proofs.News.{slots_range}
+use Rattle.sched_core.proofs.OpenSlots.{by_flow, by_port}
 use Rattle.sched_core.proofs.Pinned.{alone_may, free_may, may_is_alone, may_is_holder, stands_on}
 use Rattle.order_parts.specs.History.{entries_of}
 use Rattle.order_parts.specs.Pins.{IsOn, holder_of, may_pin}
@@ -116,43 +112,6 @@ has_low lanes l fits has = ⊎_elim (λ lt. lt) (λ ge. let zero = bit_at_above 
 pub port_serves : (p : Plan) (l q slot : ℕ) → l < length p.ports → serves p l q 0 ≡ serves p l q slot
 port_serves p l q slot own = serves_port p l q 0 own ∙ sym (serves_port p l q slot own)
 
--- what holds of each list holds of all of them in a row
-every_flat : {X Y : Type 0} (P : Y → Type 0) (f : X → List Y) (xs : List X) → All (λ x. All P (f x)) xs → All P (flat_map f xs)
-every_flat P f [] all = All-nil P
-every_flat P f (x ∷ xs) all = subst (All P) (sym (flat_map-cons f x xs)) (All-append P (f x) (flat_map f xs) (All-head (λ y. All P (f y)) x xs all) (every_flat P f xs (All-tail (λ y. All P (f y)) x xs all)))
-
--- what flow lanes serve is an atomic queue's
-are_flows : (p : Plan) → All (λ (f : FlowLane). has_flow_lanes p f.queue ≡ true) (flow_lanes p)
-unfolding flow_lanes lanes_by_slot
-are_flows p = by_serving (is_flows p.serving) refl
-  where
-    by_kind : (q : ℕ) (b : Bool) → is_atomic (queue_of p q).kind ≡ b → is_flows p.serving ≡ true → All (λ (f : FlowLane). has_flow_lanes p f.queue ≡ true) (slot_lanes q (cond b (queue_of p q).slots 0))
-    by_kind q true atomic flows = All-map (λ (f : FlowLane). has_flow_lanes p f.queue ≡ true) (λ slot. record { queue = q; slot = slot }) _ (λ k d lt. and_from (is_flows p.serving) (is_atomic (queue_of p q).kind) flows atomic)
-    by_kind q false plain flows = All-nil (λ (f : FlowLane). has_flow_lanes p f.queue ≡ true)
-
-    by_serving : (b : Bool) → is_flows p.serving ≡ b → All (λ (f : FlowLane). has_flow_lanes p f.queue ≡ true) (if b then flat_map (lanes_at p.queues) (range_with_len 0 (length p.queues)) else [])
-    by_serving true flows = every_flat (λ (f : FlowLane). has_flow_lanes p f.queue ≡ true) (lanes_at p.queues) (range_with_len 0 (length p.queues)) (λ k d lt. by_kind (get_or (range_with_len 0 (length p.queues)) k d) (is_atomic (queue_of p (get_or (range_with_len 0 (length p.queues)) k d)).kind) refl flows)
-    by_serving false ports = All-nil (λ (f : FlowLane). has_flow_lanes p f.queue ≡ true)
-
--- a flow lane that serves a queue is one of an atomic queue's
-flow_serves : (p : Plan) (l q slot : ℕ) → length p.ports ≤ l → serves p l q slot ≡ true → has_flow_lanes p q ≡ true
-flow_serves p l q slot past linked = by_flow (flow_at p l) refl (sym (serves_flow p l q slot past) ∙ linked)
-  where
-    by_flow : (o : Option FlowLane) → flow_at p l ≡ o → is_lane_of q slot o ≡ true → has_flow_lanes p q ≡ true
-    by_flow None is h = absurd (false≢true h)
-    by_flow (Some f) is h =
-        let parts = and_parts (f.queue == q) (f.slot == slot) h in
-        subst (λ r. has_flow_lanes p r ≡ true) (ap (λ (g : FlowLane). g.queue) (get_or_from_slice_get (flow_lanes p) (l - length p.ports) f f is) ∙ eqb-true f.queue q parts.0) (are_flows p (l - length p.ports) f (slice_get_within (flow_lanes p) (l - length p.ports) f is))
-
--- where ports serve the queue, what serves it is a port's lane
-pub by_port : (p : Plan) (l q slot : ℕ) → has_flow_lanes p q ≡ false → serves p l q slot ≡ true → l < length p.ports
-by_port p l q slot ports linked = ⊎_elim (λ own. own) (λ past. absurd (false≢true (sym ports ∙ flow_serves p l q slot past linked))) (cases_lt l (length p.ports))
-
--- where flow lanes serve it, it isn't
-pub by_flow : (p : Plan) (l q slot : ℕ) → has_flow_lanes p q ≡ true → serves p l q slot ≡ true → length p.ports ≤ l
-by_flow p l q slot flows linked =
-    ⊎_elim (λ own. absurd (false≢true (sym (serves_port p l q slot own ∙ and_right (has q (port_of p l).links) (not (has_flow_lanes p q)) (ap not flows)) ∙ linked))) (λ past. past) (cases_lt l (length p.ports))
-
 -- ---- open lanes
 
 pub open_fits : (v : View) (s : Passed) (q slot l : ℕ) → IsOpenLane v s q l → (is_atomic (queue_of v.shape q).kind ≡ true → HasNoOther v l q slot) → FitsSlot v s q slot l
@@ -249,6 +208,14 @@ ports_allowed a s q lanes links closed slots core h ports are is off t within so
     let few = (slots_range a.shape q core.limits h).1 in
     (off t (omega (arith, within, few)) (λ stands. let lane = stands_on some.0 (pin_in a.pins q t) may stands in let own = opened.lane in let count = core.limits.port_count.1 in omega (arith, lane, own, count))).1
     (λ l shut on. ((is l).0 shut).1 (subst (Has lanes) (sym (stands_on some.0 (pin_in a.pins q t) may on.0) ∙ on.1) ((are some.0).1 opened)))
+
+-- a slot whose flow lane may take an event is an open one
+pub flows_allowed : (a : Inside) (s : Passed) (q : ℕ) (slots : SmallSet) → IsCore a → q < length a.shape.queues → has_flow_lanes a.shape q ≡ true → slots ≡ get_or a.open_slots.items q slots → HasAllowed (view_in a) s q slots
+flows_allowed a s q slots core h flows is t within some =
+    let few = (slots_range a.shape q core.limits h).1 in
+    let there = core.open_slots.count in
+    subst (λ (set : SmallSet). Has set t) (sym is)
+    (core.open_slots.each q t some.0 slots (omega (arith, h, there)) (omega (arith, within, few)) flows some.1.linked ((room_here a some.0 core (omega (arith, some.1.lane, core.lanes))).1 some.1.room))
 
 -- ---- the slot's flow lane
 

@@ -2,6 +2,7 @@ pub mod Answered
 pub mod Inner
 pub mod Links
 pub mod Offered
+pub mod OpenSlots
 pub mod Ordered
 pub mod Pinned
 pub mod Members

@@ -11,6 +11,7 @@ use Rattle.sched_core.specs.Inner.{IsQueueOf, HaveSlots, unplaced}
 use Rattle.order_parts.specs.Histories.{HaveRoom}
 use Rattle.order_parts.specs.History.{Entries}
 use Rattle.sched_core.specs.Links.{AreLinks}
+use Rattle.sched_core.specs.OpenSlots.{AreOpenSlots}
 use Rattle.sched_core.specs.Ordered.{ArePlaces, places_in}
 use Rattle.sched_core.specs.Pinned.{ArePins}
 use Rattle.sched_core.specs.Service.{AreAhead}
@@ -64,4 +65,5 @@ pub record IsCore (a : Inside) : Type 0 where
   pub links : AreLinks a.shape (length a.shape.queues) a.links.items
   pub ahead : AreAhead a.shape (length a.shape.queues) a.ahead.items
   pub slot_lanes : AreSlotLanes a.shape (slot_lane_count a.shape) a.slot_lanes.items
+  pub open_slots : AreOpenSlots a.shape a.lanes a.open_slots.items
   pub places : ArePlaces a.shape a.queues a.orders (map entries_in a.lanes) a.extras.items

@@ -8,6 +8,7 @@ ghost use Rattle.sched_core.specs.Inner.{unplaced};
 ghost use Rattle.sched_core.specs.Ordered.{outcome_of};
 ghost use Rattle.sched_core.specs.Answered.{after_answer};
 
+use crate::open_slots::open_slot;
 use crate::state::Core;
 use evt_types::{Outcome, PackedEvent, Source, Step};
 use order_parts::Entry;
@@ -118,6 +119,7 @@ impl Core {
         ensures room { L.room log.old ≤ L.room log.new + 1 }
     {
         let entry = self.lanes.pop(lane);
+        open_slot(&mut self.open_slots, &self.shape, lane);
         self.extras[lane] = 0;
         self.pins.unpin(entry.queue, entry.slot);
         let kept = self.orders.resolve(entry.queue, entry.place, forward);

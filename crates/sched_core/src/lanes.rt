@@ -33,7 +33,8 @@ impl Core {
         self.orders.has_place(queue)
     }
 
-    /// The slots of the queue whose events some lane may take, and perhaps others: where flow lanes serve the queue, all of its slots.
+    /// The slots of the queue whose events some lane may take, and perhaps others: where flow lanes serve the queue, those whose lane may
+    /// have room.
     #[inline(always)]
     pub(crate) fn allowed(&mut self, queue: usize, lanes: SmallSet, skips: &Skips) -> SmallSet
         requires queue { queue < length self.old.shape.queues }
@@ -43,7 +44,7 @@ impl Core {
     {
         self.facts();
         if self.has_flow_lanes(queue) {
-            return SmallSet::below(MAX_MEMBERS);
+            return self.open_slots[queue];
         }
         if lanes.is_empty() {
             return lanes;

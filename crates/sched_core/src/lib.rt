@@ -7,6 +7,7 @@ mod give;
 mod lanes;
 mod new;
 mod offer;
+mod open_slots;
 mod propose;
 mod queues;
 mod run;

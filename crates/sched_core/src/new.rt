@@ -13,6 +13,7 @@ ghost use Rattle.sched_core.specs.Links.{AreLinks, AreLinksOf};
 ghost use Rattle.sched_core.specs.Service.{AreAhead, AreAheadOf};
 ghost use Rattle.sched_core.specs.SlotLanes.{AreSlotLanes, slot_lane_count};
 
+use crate::open_slots::all_open;
 use crate::queues::empty_queues;
 use crate::slot_lanes::slot_lanes;
 use crate::state::Core;
@@ -137,6 +138,10 @@ impl Core {
             Ok(sets) => sets,
             Err(memory) => return Err((memory, shape)),
         };
+        let open_slots = match all_open(alloc, &shape) {
+            Ok(sets) => sets,
+            Err(memory) => return Err((memory, shape)),
+        };
         // To read a limit makes known that the limits hold.
         let _ = shape.limit();
         Ok(Core {
@@ -149,6 +154,7 @@ impl Core {
             links,
             ahead,
             slot_lanes,
+            open_slots,
             bound,
             log_room,
             inside: 0,

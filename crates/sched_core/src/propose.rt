@@ -160,7 +160,12 @@ impl Core {
         ensures offer { IfSome result (λ o. (o.delivery.queue ≡ queue) × IsOfferIn self.old skips.now queue level.number o.lane (numbered_in o.delivery)) }
         ensures none { IfNone result (HasNoneIn self.old skips.now queue level.number) }
     {
+        self.facts();
         let allowed = self.allowed(queue, lanes, skips);
+        // Where no slot is allowed, what waits isn't looked at, so that none of it is set aside.
+        if allowed.is_empty() {
+            return None;
+        }
         if self.queues.is_blocked(queue, level, allowed) {
             return None;
         }

@@ -160,6 +160,7 @@ impl Core {
         skips.given(queue);
         // With flow lanes the next event mostly goes to another lane.
         if self.has_flow_lanes(queue) {
+            self.close_slot(lane);
             return Some(Turn { queue, level });
         }
         self.give_more(lane, queue, level, most - 1, skips, run, log);

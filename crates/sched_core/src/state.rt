@@ -36,6 +36,8 @@ pub struct Core {
     pub(crate) ahead: Vec<SmallSet>,
     /// The flow lane of each slot, by queue and slot.
     pub(crate) slot_lanes: Vec<Option<usize>>,
+    /// For each queue the slots whose flow lanes may have room: one that isn't there has a flow lane that is full.
+    pub(crate) open_slots: Vec<SmallSet>,
     /// How many events may be inside for a NEW to be taken.
     pub(crate) bound: usize,
     /// How many steps a sweep may log.

@@ -1,13 +1,17 @@
-use Rattle.std.proofs.Common.{◌≡◌, ◌<◌, ◌∙◌, false, length, sym, subst, arith}
+use Rattle.std.proofs.Common.{◌≡◌, ◌<◌, ◌∙◌, true, false, length, sym, subst}
 use Rattle.evt_types.specs.Plan.{has_flow_lanes}
 use Rattle.transcripts.specs.Standing.{View}
-use Rattle.sched_core.proofs.News.{slots_range}
-use Rattle.sched_core.proofs.OpenLanes.{none_allowed, ports_allowed}
+use Rattle.sched_core.proofs.OpenLanes.{flows_allowed, none_allowed, ports_allowed}
 use Rattle.sched_core.specs.Offered.{AreOpenLanes, HasAllowed}
 use Rattle.sched_core.proofs.state.Core.allowed.Goals as goal
 
 pub returns-then-has_flow_lanes-clause-allowed : goal.returns-then-has_flow_lanes-clause-allowed
-returns-then-has_flow_lanes-clause-allowed c slot within fits = (c.below.ensures slot).1 (omega (arith, within, (slots_range c.args.self.now.shape c.args.queue c.facts.ensures.limits c.requires.queue).1))
+returns-then-has_flow_lanes-clause-allowed c =
+    let a = c.self.inside in
+    let h : c.args.queue < length a.shape.queues = subst (λ (v : View). c.args.queue < length v.shape.queues) (sym c.self.view_is) c.requires.queue in
+    let flows : has_flow_lanes a.shape c.args.queue ≡ true = subst (λ (v : View). has_flow_lanes v.shape c.args.queue ≡ true) (sym c.self.view_is) (sym c.has_flow_lanes.ensures ∙ c.if-has_flow_lanes.true) in
+    subst (λ v. HasAllowed v c.args.skips.now c.args.queue c.index.result.now) c.self.view_is
+    (flows_allowed a c.args.skips.now c.args.queue c.index.result.now c.self.invariant h flows c.index.ensures)
 
 pub returns-then-is_empty-clause-allowed : goal.returns-then-is_empty-clause-allowed
 returns-then-is_empty-clause-allowed c =
@@ -19,4 +23,4 @@ returns-clause-allowed c =
     let h : c.args.queue < length a.shape.queues = subst (λ (v : View). c.args.queue < length v.shape.queues) (sym c.self.view_is) c.requires.queue in
     let ports : has_flow_lanes a.shape c.args.queue ≡ false = subst (λ (v : View). has_flow_lanes v.shape c.args.queue ≡ false) (sym c.self.view_is) (sym c.has_flow_lanes.ensures ∙ c.if-has_flow_lanes.false) in
     subst (λ v. HasAllowed v c.args.skips.now c.args.queue c.slots_off.result) c.self.view_is
-    (ports_allowed a c.args.skips.now c.args.queue c.args.lanes c.index.result.now c.except-closed.result c.slots_off.result c.self.invariant h ports (subst (λ v. AreOpenLanes v c.args.skips.now c.args.queue c.args.lanes) (sym c.self.view_is) c.requires.lanes) c.except-closed.ensures c.slots_off.ensures.off)
+    (ports_allowed a c.args.skips.now c.args.queue c.args.lanes c.index-2.result.now c.except-closed.result c.slots_off.result c.self.invariant h ports (subst (λ v. AreOpenLanes v c.args.skips.now c.args.queue c.args.lanes) (sym c.self.view_is) c.requires.lanes) c.except-closed.ensures c.slots_off.ensures.off)

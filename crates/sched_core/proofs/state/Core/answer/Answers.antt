@@ -1,14 +1,23 @@
-use Rattle.std.proofs.Common.{◌<◌, ◌+◌, ◌-◌, true, false, option_copied, subst, sym, ◌∙◌, length, arith}
+use Rattle.std.proofs.Common.{◌<◌, ◌+◌, ◌-◌, true, false, option_copied, subst, sym, ◌∙◌, length, arith, ◌≡◌, ℕ, List, Vec, Global}
 use Rattle.std.proofs.lemmas.Bool.{ltb-true}
-use Rattle.evt_types.specs.Plan.{bound_of}
+use Rattle.evt_types.specs.Plan.{Plan, bound_of}
 use Rattle.transcripts.specs.Standing.{View, inside_of, unanswered_at}
 use Rattle.sched_core.proofs.Answering.{answer_leaves_room, core_answered, oldest_has_pin, oldest_is_open, oldest_order, oldest_pins, oldest_places, oldest_queue, view_answered}
 use Rattle.sched_core.proofs.Cores.{lane_there}
 use Rattle.sched_core.proofs.OpenLanes.{held_here}
+use Rattle.sched_core.specs.OpenSlots.{IsOpened}
 use Rattle.sched_core.specs.Ordered.{outcome_of}
+use Rattle.std.specs.Vec.{with_items}
+use Rattle.std.proofs.lemmas.List.{with_items_is}
+use Rattle.small_set.specs.declared.set.SmallSet.{SmallSet}
 use Rattle.sched_core.specs.View.{view_in}
 use Rattle.sched_core.proofs.state.Core.answer.Goals as goal
 use Rattle.sched_core.proofs.state.Core.answer.Goals.{then-kept, else-kept}
+
+-- the slots are opened in the vector as they are in what it holds
+opening : (p : Plan) (l : ℕ) (sets : Vec SmallSet Global) (was now : List SmallSet) → was ≡ sets.items → length was ≡ sets.len → IsOpened p l was now → IsOpened p l sets.items (with_items sets now).items
+opening p l sets was now value len opens =
+    subst (IsOpened p l sets.items) (sym (with_items_is sets now (opens.count ∙ len))) (subst (λ xs. IsOpened p l xs now) value opens)
 
 pub pop-entry-requires-clause-there : goal.pop-entry-requires-clause-there
 pop-entry-requires-clause-there g c = lane_there c.self.inside c.args.self.now c.args.lane c.self.invariant c.self.view_is c.requires.lane
@@ -31,10 +40,10 @@ pub resolve-kept-requires-clause-open : goal.resolve-kept-requires-clause-open
 resolve-kept-requires-clause-open g c = oldest_is_open c.self.inside c.args.self.now c.args.lane c.pop-entry.result c.self.invariant c.self.view_is c.requires.lane c.pop-entry.ensures.oldest
 
 pub invariant_of-self : goal.invariant_of-self
-invariant_of-self g c = core_answered c.self.inside c.args.self.now c.args.lane c.pop-entry.result c.self.invariant c.self.view_is c.requires.lane c.pop-entry.ensures.oldest (option_copied c.args.forward) c.requires.outcome c.resolve-kept.new.self c.pop-entry.new.self c.resolve-kept.ensures.resolved c.pop-entry.ensures.rest c.unpin.new.self true c.requires.entries c.unpin.ensures (sym c.resolve-kept.ensures.kept ∙ c.if-kept.true)
+invariant_of-self g c = core_answered c.self.inside c.args.self.now c.args.lane c.pop-entry.result c.self.invariant c.self.view_is c.requires.lane c.pop-entry.ensures.oldest (option_copied c.args.forward) c.requires.outcome c.resolve-kept.new.self c.pop-entry.new.self c.resolve-kept.ensures.resolved c.pop-entry.ensures.rest (with_items c.self.inside.open_slots c.open_slot.new.open_slots) c.unpin.new.self true (opening c.self.inside.shape c.args.lane c.self.inside.open_slots c.deref_mut.result.now c.open_slot.new.open_slots c.deref_mut.ensures.value c.deref_mut.ensures.len c.open_slot.ensures) c.requires.entries c.unpin.ensures (sym c.resolve-kept.ensures.kept ∙ c.if-kept.true)
 
 pub invariant_of-self-else-kept : goal.invariant_of-self-else-kept
-invariant_of-self-else-kept g c = core_answered c.self.inside c.args.self.now c.args.lane c.pop-entry.result c.self.invariant c.self.view_is c.requires.lane c.pop-entry.ensures.oldest (option_copied c.args.forward) c.requires.outcome c.resolve-kept.new.self c.pop-entry.new.self c.resolve-kept.ensures.resolved c.pop-entry.ensures.rest c.unpin.new.self false c.requires.entries c.unpin.ensures (sym c.resolve-kept.ensures.kept ∙ c.if-kept.false)
+invariant_of-self-else-kept g c = core_answered c.self.inside c.args.self.now c.args.lane c.pop-entry.result c.self.invariant c.self.view_is c.requires.lane c.pop-entry.ensures.oldest (option_copied c.args.forward) c.requires.outcome c.resolve-kept.new.self c.pop-entry.new.self c.resolve-kept.ensures.resolved c.pop-entry.ensures.rest (with_items c.self.inside.open_slots c.open_slot.new.open_slots) c.unpin.new.self false (opening c.self.inside.shape c.args.lane c.self.inside.open_slots c.deref_mut.result.now c.open_slot.new.open_slots c.deref_mut.ensures.value c.deref_mut.ensures.len c.open_slot.ensures) c.requires.entries c.unpin.ensures (sym c.resolve-kept.ensures.kept ∙ c.if-kept.false)
 
 pub returns-clause-queue : goal.returns-clause-queue
 returns-clause-queue g c = oldest_queue c.self.inside c.args.self.now c.args.lane c.pop-entry.result c.self.invariant c.self.view_is c.requires.lane c.pop-entry.ensures.oldest

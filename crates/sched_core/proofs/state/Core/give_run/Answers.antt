@@ -1,11 +1,12 @@
 use Rattle.std.proofs.Common.{[], ◌<◌, ◌%◌, ◌∙◌, ap, arith, length, refl, slice_index, subst, sym}
-use Rattle.evt_types.specs.Plan.{Plan, lanes_of, level_of}
+use Rattle.evt_types.specs.Plan.{Plan, has_flow_lanes, lanes_of, level_of}
 use Rattle.evt_types.specs.declared.event.Numbered.{Numbered}
 use Rattle.parked_queue.specs.Waits.{waits_at}
 use Rattle.sched_core.proofs.FirstOnes.{found_slot}
 use Rattle.sched_core.proofs.Offers.{choice_is_offer}
 use Rattle.sched_core.proofs.Runs.{choice_given, choices_stand, room_given, run_first, turn_of, turn_on}
 use Rattle.sched_core.specs.Offered.{numbered_in, slot_at}
+use Rattle.sched_core.specs.Runs.{AreChoices, HasTurn}
 use Rattle.transcripts.specs.Choice.{Passed}
 use Rattle.transcripts.specs.Standing.{View}
 use Rattle.sched_core.proofs.state.Core.give_run.Goals as goal
@@ -24,11 +25,12 @@ give_at-requires-clause-slot g c =
 
 pub returns-then-has_flow_lanes-clause-choices : goal.returns-then-has_flow_lanes-clause-choices
 returns-then-has_flow_lanes-clause-choices g c =
-    run_first c.args.offer.lane c.queue-queue.result c.args.self.now c.args.skips.now [] c.begin.new.run.items c.give_at.new.self c.given.new.self c.args.offer.delivery c.numbered.result c.requires.choice c.queue-queue.ensures c.numbered.ensures c.give_at.ensures.view c.given.ensures.value refl c.begin.ensures
+    subst (λ w. AreChoices c.args.offer.lane c.args.self.now c.args.skips.now c.begin.new.run.items w c.given.new.self) (sym c.close_slot.ensures)
+    (run_first c.args.offer.lane c.queue-queue.result c.args.self.now c.args.skips.now [] c.begin.new.run.items c.give_at.new.self c.given.new.self c.args.offer.delivery c.numbered.result c.requires.choice c.queue-queue.ensures c.numbered.ensures c.give_at.ensures.view c.given.ensures.value refl c.begin.ensures)
 
 pub returns-then-has_flow_lanes-clause-stands : goal.returns-then-has_flow_lanes-clause-stands
 returns-then-has_flow_lanes-clause-stands g c T stands =
-    choices_stand c.args.offer.lane c.args.self.now c.args.skips.now c.begin.new.run.items c.give_at.new.self c.given.new.self T (returns-then-has_flow_lanes-clause-choices g c) stands
+    choices_stand c.args.offer.lane c.args.self.now c.args.skips.now c.begin.new.run.items c.close_slot.new.self c.given.new.self T (returns-then-has_flow_lanes-clause-choices g c) stands
 
 pub give_more-requires-clause-turn : goal.give_more-requires-clause-turn
 give_more-requires-clause-turn g c =
@@ -41,11 +43,12 @@ give_more-requires-clause-turn g c =
 pub returns-then-has_flow_lanes-clause-turn : goal.returns-then-has_flow_lanes-clause-turn
 returns-then-has_flow_lanes-clause-turn g c =
     let choice = choice_given c.args.offer.lane c.queue-queue.result c.args.self.now c.args.skips.now c.args.offer.delivery c.numbered.result c.requires.choice c.queue-queue.ensures c.numbered.ensures in (
-      sym c.has_flow_lanes.ensures ∙ c.if-has_flow_lanes.true,
-      turn_on c.args.offer.lane c.queue-queue.result c.args.offer.level.number c.args.self.now c.give_at.new.self c.args.skips.now c.given.new.self c.numbered.result c.facts.ensures.sized
+      ap (λ (v : View). has_flow_lanes v.shape c.queue-queue.result) c.close_slot.ensures ∙ (sym c.has_flow_lanes.ensures ∙ c.if-has_flow_lanes.true),
+      subst (λ v. HasTurn v c.given.new.self c.queue-queue.result c.args.offer.level.number) (sym c.close_slot.ensures)
+          (turn_on c.args.offer.lane c.queue-queue.result c.args.offer.level.number c.args.self.now c.give_at.new.self c.args.skips.now c.given.new.self c.numbered.result c.facts.ensures.sized
           (choice_is_offer c.args.self.now c.args.skips.now c.args.offer.lane c.queue-queue.result c.numbered.result choice)
           (turn_of c.args.self.now c.args.skips.now c.args.offer.lane c.queue-queue.result c.args.offer.level.number c.numbered.result choice (c.args.offer.level_is ∙ ap (λ (w : Numbered). level_of w.event) (sym c.numbered.ensures)))
-          c.give_at.ensures.view c.given.ensures.value,
+          c.give_at.ensures.view c.given.ensures.value),
     )
 
 pub give_more-requires-clause-room : goal.give_more-requires-clause-room
@@ -85,7 +88,7 @@ pub returns-then-has_flow_lanes-clause-some : goal.returns-then-has_flow_lanes-c
 returns-then-has_flow_lanes-clause-some g c most = omega (arith, ap length c.begin.ensures)
 
 pub returns-then-has_flow_lanes-clause-shape : goal.returns-then-has_flow_lanes-clause-shape
-returns-then-has_flow_lanes-clause-shape g c = c.give_at.ensures.shape
+returns-then-has_flow_lanes-clause-shape g c = ap (λ (v : View). v.shape) c.close_slot.ensures ∙ c.give_at.ensures.shape
 
 pub returns-then-has_flow_lanes-clause-room : goal.returns-then-has_flow_lanes-clause-room
 returns-then-has_flow_lanes-clause-room g c = omega (arith, ap length c.begin.ensures, c.give_at.ensures.room)
@@ -107,3 +110,6 @@ returns-clause-shape g c = c.give_more.ensures.shape ∙ c.give_at.ensures.shape
 
 pub returns-clause-room : goal.returns-clause-room
 returns-clause-room g c = omega (arith, ap length c.begin.ensures, c.give_at.ensures.room, c.give_more.ensures.room)
+
+pub close_slot-requires : goal.close_slot-requires
+close_slot-requires g c = subst (λ p. c.args.offer.lane < lanes_of p) (sym c.give_at.ensures.shape) (choice_is_offer c.args.self.now c.args.skips.now c.args.offer.lane c.args.offer.delivery.queue (numbered_in c.args.offer.delivery) c.requires.choice).lane

@@ -4,8 +4,13 @@ use Rattle.evt_types.specs.Fault.{IsWithinLimits}
 use Rattle.transcripts.specs.Standing.{View}
 use Rattle.sched_core.proofs.FirstOnes.{found_none, slots_within}
 use Rattle.sched_core.proofs.Offers.{none_in, some_here}
-use Rattle.sched_core.specs.Offered.{AreOpenLanes, HasAllowed, HasNoneIn, IsOfferIn, numbered_in}
+use Rattle.sched_core.specs.Offered.{AreOpenLanes, HasAllowed, HasNoneIn, IsOfferIn, numbered_in, slot_at}
 use Rattle.sched_core.proofs.state.Core.offer_in.Goals as goal
+
+pub returns-then-is_empty-clause-none : goal.returns-then-is_empty-clause-none
+returns-then-is_empty-clause-none c =
+    none_in c.args.self.now c.args.skips.now c.args.queue c.args.level.number c.allowed-allowed.result c.allowed-allowed.ensures.allowed (slots_within c.args.self.now c.args.queue c.facts.ensures.limits c.requires.queue)
+    (λ w waits level has. absurd (c.is_empty.ensures.0 c.if-is_empty.true (slot_at c.args.self.now c.args.queue w) has))
 
 pub returns-then-is_blocked-clause-none : goal.returns-then-is_blocked-clause-none
 returns-then-is_blocked-clause-none c =

@@ -3,7 +3,7 @@ use Rattle.std.proofs.lemmas.Bool.{false≢true, lt-ltb, ltb-true}
 use Rattle.std.specs.Option.{IfSome}
 use Rattle.evt_types.specs.Fault.{IsWithinLimits}
 use Rattle.transcripts.specs.Standing.{View}
-use Rattle.transcripts.specs.Choice.{HasNoChoice, HasNone, HasQuota}
+use Rattle.transcripts.specs.Choice.{HasNoChoice, HasNone}
 use Rattle.sched_core.proofs.Offers.{IsOfferFrom, busy_queues, idle_queues, none_here, offer_keeps, offers, others_there, queue_passed, served_offer, some_here}
 use Rattle.sched_core.specs.Service.{IsServedFirst}
 use Rattle.sched_core.proofs.state.Core.propose.Goals as goal

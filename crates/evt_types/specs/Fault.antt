@@ -4,7 +4,7 @@ use Rattle.std.specs.Prelude.{length, count_by, sum_by, All, AllPairs, Option, S
 use Rattle.std.specs.List.{list_any}
 use Rattle.evt_types.specs.Plan.{Plan, PortPlan, atomic_slots, is_atomic, is_ordered, queue_of, queues}
 use Rattle.lists.specs.Lists.{has}
-use Rattle.evt_types.specs.declared.shape.TheConstants.{MAX_ALL_SLOTS, MAX_DEPTH, MAX_LIMIT, MAX_ORDER, MAX_PORTS, MAX_QUEUES, MAX_SLOTS, MAX_SWEEP}
+use Rattle.evt_types.specs.Limits.{most_depth, most_events, most_order, most_ports, most_queues, most_slots, most_slots_in_all, most_sweep}
 use Rattle.evt_types.specs.declared.draft.QueueDraft.{QueueDraft}
 use Rattle.evt_types.specs.declared.shape.ShapeFault.{ShapeFault}
 use Rattle.evt_types.specs.declared.shape.ShapeFault.TheVariants as faults
@@ -23,7 +23,7 @@ thresholds_bad p = list_any (bad_threshold p) p.ports
 
 -- a port that may hold, or answer, nothing or too much
 abbrev pub bad_depth : PortPlan → Bool
-bad_depth port = outside 1 MAX_DEPTH port.depth || outside 1 MAX_DEPTH port.replies
+bad_depth port = outside 1 most_depth port.depth || outside 1 most_depth port.replies
 
 -- some port has a bad depth
 unfoldable pub depths_bad : Plan → Bool
@@ -31,15 +31,15 @@ depths_bad p = list_any bad_depth p.ports
 
 -- an atomic queue with no slot or too many
 abbrev pub bad_slots : QueueDraft → Bool
-bad_slots q = is_atomic q.kind && outside 1 MAX_SLOTS q.slots
+bad_slots q = is_atomic q.kind && outside 1 most_slots q.slots
 
 -- some atomic queue has bad slots, or all together have too many
 unfoldable pub slots_bad : Plan → Bool
-slots_bad p = list_any bad_slots p.queues || nat_lt MAX_ALL_SLOTS (sum_by atomic_slots p.queues)
+slots_bad p = list_any bad_slots p.queues || nat_lt most_slots_in_all (sum_by atomic_slots p.queues)
 
 -- an ordered queue that may hand out nothing, or too much
 abbrev pub bad_order : QueueDraft → Bool
-bad_order q = is_ordered q.kind && outside 1 MAX_ORDER q.order
+bad_order q = is_ordered q.kind && outside 1 most_order q.order
 
 -- some queue has a bad order
 unfoldable pub orders_bad : Plan → Bool
@@ -81,15 +81,15 @@ single_bad p = list_any (is_shared_single p) (queues p)
 -- the first refusal
 abbrev pub fault_of : Plan → Option ShapeFault
 fault_of p =
-    if outside 1 MAX_QUEUES (length p.queues) then Some faults.QueueCount
-    else (if outside 1 MAX_PORTS (length p.ports) then Some faults.PortCount
-    else (if outside 1 MAX_LIMIT p.limit then Some faults.LimitRange
+    if outside 1 most_queues (length p.queues) then Some faults.QueueCount
+    else (if outside 1 most_ports (length p.ports) then Some faults.PortCount
+    else (if outside 1 most_events p.limit then Some faults.LimitRange
     else (if p.quantum == 0 || nat_lt p.limit p.quantum then Some faults.QuantumRange
     else (if thresholds_bad p then Some faults.ThresholdRange
     else (if depths_bad p then Some faults.DepthRange
     else (if slots_bad p then Some faults.FlowSlots
     else (if orders_bad p then Some faults.OrderDepth
-    else (if outside 1 MAX_SWEEP p.sweep then Some faults.SweepRange
+    else (if outside 1 most_sweep p.sweep then Some faults.SweepRange
     else (if link_unknown p then Some faults.LinkUnknown
     else (if link_twice p then Some faults.LinkTwice
     else (if queue_unlinked p then Some faults.QueueUnlinked
@@ -102,17 +102,17 @@ IsBetween low high n = (low ≤ n) × (n ≤ high)
 
 -- what holds where nothing is refused
 pub record IsWithinLimits (p : Plan) : Type 0 where
-  pub queue_count : IsBetween 1 MAX_QUEUES (length p.queues)
-  pub port_count : IsBetween 1 MAX_PORTS (length p.ports)
-  pub limit : IsBetween 1 MAX_LIMIT p.limit
+  pub queue_count : IsBetween 1 most_queues (length p.queues)
+  pub port_count : IsBetween 1 most_ports (length p.ports)
+  pub limit : IsBetween 1 most_events p.limit
   pub quantum : IsBetween 1 p.limit p.quantum
   pub thresholds : All (λ (port : PortPlan). IsBetween p.quantum p.limit port.threshold) p.ports
-  pub depths : All (λ (port : PortPlan). IsBetween 1 MAX_DEPTH port.depth) p.ports
-  pub replies : All (λ (port : PortPlan). IsBetween 1 MAX_DEPTH port.replies) p.ports
-  pub slots : All (λ (q : QueueDraft). is_atomic q.kind ≡ true → IsBetween 1 MAX_SLOTS q.slots) p.queues
-  pub all_slots : sum_by atomic_slots p.queues ≤ MAX_ALL_SLOTS
-  pub orders : All (λ (q : QueueDraft). is_ordered q.kind ≡ true → IsBetween 1 MAX_ORDER q.order) p.queues
-  pub sweep : IsBetween 1 MAX_SWEEP p.sweep
+  pub depths : All (λ (port : PortPlan). IsBetween 1 most_depth port.depth) p.ports
+  pub replies : All (λ (port : PortPlan). IsBetween 1 most_depth port.replies) p.ports
+  pub slots : All (λ (q : QueueDraft). is_atomic q.kind ≡ true → IsBetween 1 most_slots q.slots) p.queues
+  pub all_slots : sum_by atomic_slots p.queues ≤ most_slots_in_all
+  pub orders : All (λ (q : QueueDraft). is_ordered q.kind ≡ true → IsBetween 1 most_order q.order) p.queues
+  pub sweep : IsBetween 1 most_sweep p.sweep
   pub links_known : All (λ (port : PortPlan). All (λ q. q < length p.queues) port.links) p.ports
   pub links_once : All (λ (port : PortPlan). AllPairs (λ m n. m ≢ n) port.links) p.ports
   pub linked : (q : ℕ) → q < length p.queues → 1 ≤ links_to p q

@@ -3,6 +3,7 @@ pub mod Delivered
 pub mod Deliveries
 pub mod Event
 pub mod Fault
+pub mod Limits
 pub mod Operation
 pub mod Packed
 pub mod Place

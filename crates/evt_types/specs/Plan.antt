@@ -11,7 +11,7 @@ use Rattle.evt_types.specs.declared.event.Event.{Event}
 use Rattle.evt_types.specs.declared.event.Kind.{Kind}
 use Rattle.evt_types.specs.declared.event.Kind.TheVariants.{Ordered, Atomic, Parallel}
 use Rattle.evt_types.specs.declared.flows.FlowLane.{FlowLane}
-use Rattle.evt_types.specs.declared.flows.TheConstants.{FLOW_DEPTH}
+use Rattle.evt_types.specs.Limits.{flow_lane_depth}
 
 -- a port: what it may draw and hold, and the queues that it is linked to
 pub record PortPlan : Type 0 where
@@ -93,7 +93,7 @@ flow_at p l = slice_get (flow_lanes p) (l - length p.ports)
 
 abbrev pub flow_depth : Option FlowLane → ℕ
 flow_depth None = 0
-flow_depth (Some flow) = FLOW_DEPTH
+flow_depth (Some flow) = flow_lane_depth
 
 -- how many events the lane's holder may hold, and the room of its reply ring
 unfoldable pub depth_of : Plan → ℕ → ℕ
@@ -127,7 +127,7 @@ kept_room q = if is_ordered q.kind then q.order else 0
 
 -- how many events may be inside for a NEW to be taken: the limit, and the replies of all lanes (own)
 unfoldable pub bound_of : Plan → ℕ
-bound_of p = p.limit + sum_by (λ (port : PortPlan). port.replies) p.ports + FLOW_DEPTH * length (flow_lanes p)
+bound_of p = p.limit + sum_by (λ (port : PortPlan). port.replies) p.ports + flow_lane_depth * length (flow_lanes p)
 
 -- an event's level: 0 is served first (own; Software Eventdev, "Event Priorities")
 abbrev pub level_of : Event → ℕ

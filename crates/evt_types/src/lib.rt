@@ -7,6 +7,7 @@ mod code;
 mod draft;
 mod event;
 mod flows;
+mod numbers;
 mod packed;
 mod shape;
 mod step;
@@ -18,6 +19,7 @@ pub use event::{
     MAX_FORWARDS, Numbered, Op, Reply,
 };
 pub use flows::{FLOW_DEPTH, FlowLane};
+pub use numbers::limits_are_numbers;
 pub use packed::PackedEvent;
 pub use shape::{
     MAX_ALL_REPLIES, MAX_ALL_SLOTS, MAX_BOUND, MAX_DEPTH, MAX_LANES, MAX_LIMIT, MAX_ORDER,

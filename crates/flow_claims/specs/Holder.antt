@@ -6,7 +6,7 @@ use Rattle.evt_types.specs.Additions.{extras_of}
 use Rattle.evt_types.specs.Operation.{is_more_reply, needs_held}
 use Rattle.evt_types.specs.declared.event.Delivery.{Delivery}
 use Rattle.evt_types.specs.declared.event.Reply.{Reply}
-use Rattle.evt_types.specs.declared.event.TheConstants.{MAX_EXTRAS}
+use Rattle.evt_types.specs.Limits.{most_extras}
 use Rattle.lane_rings.specs.Ends.{received_by, seen_deliveries, next_delivery, answered, hidden_answers, answers_among, unanswered}
 use Rattle.lane_rings.specs.Identity.{far_id}
 use Rattle.lane_rings.specs.Refusal.{RefusesAnswer, RefusesReply}
@@ -32,7 +32,7 @@ pub record AnswersWith (before : Far) (reply : Reply) (result : Result (Unit {0}
   pub answered_is : MatchResult result (λ _. answered after ≡ answered before ++ reply ∷ []) (λ _. answered after ≡ answered before)
   pub held : MatchResult result (λ _. unanswered after ≡ drop (answers_among (reply ∷ [])) (unanswered before)) (λ _. unanswered after ≡ unanswered before)
   pub nothing_held : (result ≡ Err NothingHeld) ↔ ((needs_held reply ≡ true) × (unanswered before ≡ []))
-  pub too_many : (result ≡ Err TooMany) ↔ ((is_more_reply reply ≡ true) × (unanswered before ≢ []) × (MAX_EXTRAS ≤ extras_of (answered before)))
+  pub too_many : (result ≡ Err TooMany) ↔ ((is_more_reply reply ≡ true) × (unanswered before ≢ []) × (most_extras ≤ extras_of (answered before)))
   pub refused : IfErr result (RefusesAnswer before reply)
 
 -- what `Far::stage` answered of the reply that it gathers, and what it left
@@ -42,7 +42,7 @@ pub record GathersWith (before : Far) (reply : Reply) (result : Result (Unit {0}
   pub answered_is : MatchResult result (λ _. answered after ≡ answered before ++ reply ∷ []) (λ _. answered after ≡ answered before)
   pub held : MatchResult result (λ _. unanswered after ≡ drop (answers_among (reply ∷ [])) (unanswered before)) (λ _. unanswered after ≡ unanswered before)
   pub nothing_held : (result ≡ Err refusals.NothingHeld) ↔ ((needs_held reply ≡ true) × (unanswered before ≡ []))
-  pub too_many : (result ≡ Err refusals.TooMany) ↔ ((is_more_reply reply ≡ true) × (unanswered before ≢ []) × (MAX_EXTRAS ≤ extras_of (answered before)))
+  pub too_many : (result ≡ Err refusals.TooMany) ↔ ((is_more_reply reply ≡ true) × (unanswered before ≢ []) × (most_extras ≤ extras_of (answered before)))
   pub refused : IfErr result (RefusesReply before reply)
 
 -- what `Far::answer_last` answered of the reply, and what it left

@@ -4,7 +4,7 @@ use Rattle.evt_types.specs.Additions.{extras_of}
 use Rattle.evt_types.specs.Operation.{is_more_reply, needs_held}
 use Rattle.evt_types.specs.declared.event.Event.{Event}
 use Rattle.evt_types.specs.declared.event.Reply.{Reply}
-use Rattle.evt_types.specs.declared.event.TheConstants.{MAX_EXTRAS}
+use Rattle.evt_types.specs.Limits.{most_extras}
 use Rattle.lane_rings.specs.Ends.{answered, unanswered}
 use Rattle.lane_rings.specs.Identity.{far_id}
 use Rattle.lane_rings.specs.declared.far.AnswerFault.{AnswerFault}
@@ -21,10 +21,10 @@ reply_of e = record { event = e }
 -- replies as the ring has room for.
 abbrev pub RefusesAnswer : Far → Reply → AnswerFault → Type 0
 RefusesAnswer far reply NothingHeld = (needs_held reply ≡ true) × (unanswered far ≡ [])
-RefusesAnswer far reply TooMany = (is_more_reply reply ≡ true) × (unanswered far ≢ []) × (MAX_EXTRAS ≤ extras_of (answered far))
+RefusesAnswer far reply TooMany = (is_more_reply reply ≡ true) × (unanswered far ≢ []) × (most_extras ≤ extras_of (answered far))
 RefusesAnswer far reply (Full back) =
     (back ≡ reply) × ((far_id far).room ≤ length (answered far)) × (needs_held reply ≡ true → unanswered far ≢ [])
-    × (is_more_reply reply ≡ true → extras_of (answered far) < MAX_EXTRAS)
+    × (is_more_reply reply ≡ true → extras_of (answered far) < most_extras)
 
 -- the same of a reply that is gathered, where no word comes back
 abbrev pub RefusesReply : Far → Reply → Refusal → Type 0

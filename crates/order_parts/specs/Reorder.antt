@@ -4,7 +4,7 @@ use Rattle.arrayvec.specs.ArrayVec.{ArrayVec}
 use Rattle.evt_types.specs.Place.{Place}
 use Rattle.evt_types.specs.declared.event.Event.{Event}
 use Rattle.evt_types.specs.declared.event.Numbered.{Numbered}
-use Rattle.evt_types.specs.declared.event.TheConstants.{MAX_EXTRAS, MAX_FORWARDS}
+use Rattle.evt_types.specs.Limits.{most_extras, most_forwards}
 use Rattle.order_parts.specs.declared.reorder.Handed.{Handed}
 
 -- the places, oldest first; the number of the first one, of which the next ones count on modulo 2 ^ 64; how many there may be
@@ -15,8 +15,8 @@ pub record Reordering : Type 0 where
 
 -- a place has no more events than an event may be passed on as; while it is unanswered, no more than may be added
 pub record HasFew (x : Place) : Type 0 where
-  pub few : length x.forwards ≤ MAX_FORWARDS
-  pub fewer : x.answered ≡ false → length x.forwards ≤ MAX_EXTRAS
+  pub few : length x.forwards ≤ most_forwards
+  pub fewer : x.answered ≡ false → length x.forwards ≤ most_extras
 
 -- ---- how the fields hold a place
 
@@ -35,7 +35,7 @@ wrapped n row = if nat_lt row n then row else (row - n)
 
 -- the first m events of a row
 unfoldable pub in_row : List Event → ℕ → ℕ → List Event
-in_row all row m = take m (drop (MAX_FORWARDS * row) all)
+in_row all row m = take m (drop (most_forwards * row) all)
 
 -- the rows of the places, of which the oldest has the row `first`
 abbrev pub rows_from : List Event → ℕ → ℕ → ℕ → ℕ → List Event

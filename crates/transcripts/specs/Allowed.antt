@@ -7,7 +7,7 @@ use Rattle.transcripts.specs.Transcript.{unanswered, unanswered_slots, Held, han
 use Rattle.lists.specs.Lists.{upto}
 use Rattle.transcripts.specs.Lawful.{IsFormed, IsSettled, keeps_order, keeps_with}
 use Rattle.evt_types.specs.declared.event.Event.{Event}
-use Rattle.evt_types.specs.declared.event.TheConstants.{MAX_EXTRAS}
+use Rattle.evt_types.specs.Limits.{most_extras}
 use Rattle.evt_types.specs.declared.event.Numbered.{Numbered}
 use Rattle.evt_types.specs.declared.step.Source.TheVariants.{New, Of}
 use Rattle.evt_types.specs.declared.step.Step.{Step}
@@ -39,7 +39,7 @@ MayGiveNumber p P l q n = (w : Numbered) × (w.number ≡ n) × MayGive p P l q 
 -- an event may be added beside the lane's oldest unanswered one
 pub record MayAdd (p : Plan) (P : List Step) (l : ℕ) : Type 0 where
   pub beside : 0 < length (unanswered P l)
-  pub few : length (extras P l) < MAX_EXTRAS
+  pub few : length (extras P l) < most_extras
   pub room : inside p P < bound_of p
 
 -- what each kind of step needs

@@ -9,7 +9,7 @@ use Rattle.evt_types.specs.Operation.{passes_on}
 use Rattle.evt_types.specs.declared.event.Event.{Event}
 use Rattle.evt_types.specs.declared.event.Numbered.{Numbered}
 use Rattle.evt_types.specs.declared.event.Op.TheVariants as ops
-use Rattle.evt_types.specs.declared.event.TheConstants.{MAX_EXTRAS}
+use Rattle.evt_types.specs.Limits.{most_extras}
 use Rattle.evt_types.specs.declared.step.Outcome.{Outcome}
 use Rattle.evt_types.specs.declared.step.Outcome.TheVariants.{Forwarded, Released}
 use Rattle.evt_types.specs.declared.step.Source.TheVariants.{New, Of}
@@ -74,9 +74,9 @@ IsFormed p Shut = Unit {0}
 abbrev pub AnswersWhatItHas : List Step → Type 0
 AnswersWhatItHas T = (l : ℕ) → length (answers T l) ≤ length (out T l)
 
--- ---- (extras) events are added beside an unanswered event alone, and no more than MAX_EXTRAS (own)
+-- ---- (extras) events are added beside an unanswered event alone, and no more than a few (own)
 pub record AddsFew (T : List Step) : Type 0 where
-  pub few : (l : ℕ) → length (extras T l) ≤ MAX_EXTRAS
+  pub few : (l : ℕ) → length (extras T l) ≤ most_extras
   pub beside : (l : ℕ) → unanswered T l ≡ [] → extras T l ≡ []
 
 -- ---- (once) what is given was accepted before, and is given once

@@ -9,7 +9,7 @@ use Rattle.evt_types.specs.declared.event.KeptEvent.{KeptEvent}
 use Rattle.evt_types.specs.declared.event.Numbered.{Numbered}
 use Rattle.evt_types.specs.declared.event.Op.{Op}
 use Rattle.evt_types.specs.declared.event.Op.TheVariants as ops
-use Rattle.evt_types.specs.declared.event.TheConstants.{MAX_EXTRAS}
+use Rattle.evt_types.specs.Limits.{most_extras}
 use Rattle.evt_types.specs.declared.step.Outcome.{Outcome}
 use Rattle.evt_types.specs.declared.step.Outcome.TheVariants.{Forwarded, Released}
 use Rattle.evt_types.specs.declared.step.Source.TheVariants as sources
@@ -96,7 +96,7 @@ may_forward v l q = may_answer v l && (nat_lt q (length v.shape.queues) && nat_l
 
 -- an event may be added where an event may be forwarded, as long as few were added and there is room for one more inside
 abbrev pub may_add : View → ℕ → ℕ → Bool
-may_add v l q = may_forward v l q && (nat_lt (extras_at v l) MAX_EXTRAS && nat_lt (inside_of v) (bound_of v.shape))
+may_add v l q = may_forward v l q && (nat_lt (extras_at v l) most_extras && nat_lt (inside_of v) (bound_of v.shape))
 
 -- a NEW comes on a port's own lane
 abbrev pub may_take_by : Op → View → ℕ → Event → Bool
@@ -122,7 +122,7 @@ abbrev pub may_forward_at : Plan → List Step → ℕ → ℕ → Bool
 may_forward_at p T l q = may_answer_at T l && (nat_lt q (length p.queues) && nat_lt (entries p T) (2 ^ 63))
 
 abbrev pub may_add_at : Plan → List Step → ℕ → ℕ → Bool
-may_add_at p T l q = may_forward_at p T l q && (nat_lt (length (extras T l)) MAX_EXTRAS && nat_lt (inside p T) (bound_of p))
+may_add_at p T l q = may_forward_at p T l q && (nat_lt (length (extras T l)) most_extras && nat_lt (inside p T) (bound_of p))
 
 abbrev pub may_be_taken_by : Op → Plan → List Step → ℕ → Event → Bool
 may_be_taken_by ops.New p T l e = nat_lt l (length p.ports) && may_enter_at p T e.queue

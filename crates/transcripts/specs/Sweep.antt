@@ -3,7 +3,7 @@
 use Rattle.std.specs.Prelude.{ℕ, ◌≡◌, ◌≤◌, ◌<◌, ◌+◌, ◌*◌, true, false, List, [], ◌∷◌, ◌++◌, ◌==◌, length, sum_by, count_by, filter_map, All, Option, Some, None, ◌⊎◌}
 use Rattle.evt_types.specs.Plan.{Plan, kept_room, lanes_of}
 use Rattle.evt_types.specs.declared.event.Event.{Event}
-use Rattle.evt_types.specs.declared.event.TheConstants.{MAX_FORWARDS}
+use Rattle.evt_types.specs.Limits.{most_forwards}
 use Rattle.evt_types.specs.declared.step.Step.{Step}
 use Rattle.evt_types.specs.declared.step.Step.TheVariants.{Accept, Give, Done, More, Turned, Bounced, Shut}
 use Rattle.transcripts.specs.Standing.{View, may_take, steps_of, after}
@@ -62,4 +62,4 @@ sweep_steps v s = s.shut ++ replies_steps (after v s.shut) s.taken ++ s.offered
 -- room for the steps of a sweep: the shut step, an answer or an added event and an event accepted for each reply, the events that
 -- were kept, the events given, the lanes whose ring was full
 abbrev pub sweep_room : Plan → ℕ
-sweep_room p = 1 + 2 * p.sweep * lanes_of p + MAX_FORWARDS * sum_by kept_room p.queues + p.sweep * length p.queues + lanes_of p
+sweep_room p = 1 + 2 * p.sweep * lanes_of p + most_forwards * sum_by kept_room p.queues + p.sweep * length p.queues + lanes_of p

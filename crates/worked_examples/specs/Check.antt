@@ -12,7 +12,7 @@ use Rattle.evt_types.specs.declared.event.Event.{Event}
 use Rattle.evt_types.specs.declared.event.Numbered.{Numbered}
 use Rattle.evt_types.specs.declared.event.Op.{Op}
 use Rattle.evt_types.specs.declared.event.Op.TheVariants as ops
-use Rattle.evt_types.specs.declared.event.TheConstants.{MAX_EXTRAS}
+use Rattle.evt_types.specs.Limits.{most_extras}
 use Rattle.evt_types.specs.declared.step.Outcome.{Outcome}
 use Rattle.evt_types.specs.declared.step.Outcome.TheVariants.{Forwarded, Released}
 use Rattle.evt_types.specs.declared.step.Source.TheVariants.{New, Of}
@@ -98,7 +98,7 @@ need_tests p P (Accept q e (Of r n)) = of_tests p P e r n
 need_tests p P (Give l q n) = list_any (λ (w : Numbered). pass (give_tests p P l q n w)) (waiting P q) ∷ []
 need_tests p P (Done l o) = nat_lt 0 (length (unanswered P l)) ∷ []
 need_tests p P (More l e) =
-    nat_lt 0 (length (unanswered P l)) ∷ nat_lt (length (extras P l)) MAX_EXTRAS ∷ nat_lt (inside p P) (bound_of p) ∷ []
+    nat_lt 0 (length (unanswered P l)) ∷ nat_lt (length (extras P l)) most_extras ∷ nat_lt (inside p P) (bound_of p) ∷ []
 need_tests p P (Turned l e) = has_shut P ∷ []
 need_tests p P (Bounced l) = []
 need_tests p P Shut = not (has_shut P) ∷ []

@@ -8,7 +8,7 @@ use Rattle.evt_types.specs.Additions.{AreBeside, extras_of}
 use Rattle.evt_types.specs.Operation.{is_answer, is_more_reply, is_new_reply}
 use Rattle.evt_types.specs.Plan.{Plan, lanes_of}
 use Rattle.evt_types.specs.declared.event.Reply.{Reply}
-use Rattle.evt_types.specs.declared.event.TheConstants.{MAX_EXTRAS}
+use Rattle.evt_types.specs.Limits.{most_extras}
 use Rattle.evt_types.specs.declared.step.Step.{Step}
 use Rattle.evt_types.specs.declared.step.Step.TheVariants as steps
 use Rattle.transcripts.specs.Lawful.{Lawful, IsPrefix}
@@ -56,7 +56,7 @@ pub data Move : Type 0 where
 pub record MaySubmit (p : Plan) (w : World) (l : ℕ) (r : Reply) : Type 0 where
   pub own : is_new_reply r ≡ true → l < length p.ports
   pub held : is_answer r ≡ true → 0 < length (in_hand w l)
-  pub beside : is_more_reply r ≡ true → (0 < length (in_hand w l)) × (extras_of (w.submitted l) < MAX_EXTRAS)
+  pub beside : is_more_reply r ≡ true → (0 < length (in_hand w l)) × (extras_of (w.submitted l) < most_extras)
 
 -- the lane's next reply may be taken, and these are its steps
 pub record MayTake (p : Plan) (w : World) (l : ℕ) (taken : List Step) : Type 0 where

@@ -24,7 +24,7 @@ impl Run {
             self.hand(&mut skips)?;
         }
         // Where events wait it proposes one, which isn't given.
-        let _ = self.core.propose(None, &skips);
+        let _ = self.core.propose(&skips);
         Ok(())
     }
 

@@ -129,7 +129,7 @@ impl Run {
     {
         // To read a limit makes known that the limits hold.
         let _ = self.core.shape().limit();
-        let Some(offer) = self.core.propose(None, skips) else {
+        let Some(offer) = self.core.propose(skips) else {
             return Err(BenchFault::Stuck);
         };
         self.log.clear();

@@ -89,7 +89,7 @@ impl Run {
 
     /// Gives what is proposed.
     fn give(&mut self) -> Result<Made, RunFault> {
-        let Some(offer) = self.core.propose(None, &self.skips) else {
+        let Some(offer) = self.core.propose(&self.skips) else {
             return Ok(Made::Proposed(None));
         };
         self.log.reserve(1)?;
@@ -103,7 +103,7 @@ impl Run {
 
     /// The lane of what is proposed has no room.
     fn bounce(&mut self) -> Result<Made, RunFault> {
-        let Some(offer) = self.core.propose(None, &self.skips) else {
+        let Some(offer) = self.core.propose(&self.skips) else {
             return Ok(Made::Proposed(None));
         };
         self.log.reserve(1)?;

@@ -80,7 +80,7 @@ fn give_each<L: StepLog>(
     let mut bounced = 0;
     let mut turn = None;
     let mut gave = LaneSet::none();
-    while let Some(offer) = core.propose(turn, &skips) {
+    while let Some(offer) = core.propose_next(turn, &skips) {
         let lane = offer.lane;
         let near = &mut lanes[lane];
         let room = near.room();

@@ -22,21 +22,15 @@ use small_set::{MAX_MEMBERS, SmallSet};
 impl Core {
     /// What is given next: of the first queue, by priority and then number, that has an event which some lane may take,
     /// its first such event, by level and then number, to the lane with fewest unanswered events, of several the first.
-    /// Nothing that is seen of the core changes; a queue may set blocked events aside. Whose turn it is, where that is known, is asked
-    /// first.
+    /// Nothing that is seen of the core changes; a queue may set blocked events aside.
     #[inline(always)]
-    pub fn propose(&mut self, turn: Option<Turn>, skips: &Skips) -> Option<Offer>
-        requires { IfSome turn (IsTurn self.old skips.now) }
+    pub fn propose(&mut self, skips: &Skips) -> Option<Offer>
         ensures same { self.new ≡ self.old }
         ensures choice { IfSome result (λ o. IsChoice self.old skips.now o.lane o.delivery.queue (numbered_in o.delivery)) }
         ensures none { IfNone result (HasNoChoice self.old skips.now) }
         ensures offer { IfSome result (λ o. IsOffer self.old o.lane o.delivery.queue (numbered_in o.delivery)) }
         ensures keeps { (T : List StepValue) → Stands T self.old → IfSome result (λ o. Allowed self.old.shape T (steps.Give o.lane o.delivery.queue o.delivery.number) × (event_at T o.delivery.queue o.delivery.number ≡ Some o.delivery.event)) }
     {
-        let offer = self.offer_at(turn, skips);
-        if offer.is_some() {
-            return offer;
-        }
         let sweep = self.shape.sweep();
         let mut left = self.queues.busy();
         while let Some(queue) = self.first_served(left) {
@@ -49,6 +43,23 @@ impl Core {
             }
         }
         None
+    }
+
+    /// As `propose`; whose turn it is, where that is known, is asked first.
+    #[inline(always)]
+    pub fn propose_next(&mut self, turn: Option<Turn>, skips: &Skips) -> Option<Offer>
+        requires { IfSome turn (IsTurn self.old skips.now) }
+        ensures same { self.new ≡ self.old }
+        ensures choice { IfSome result (λ o. IsChoice self.old skips.now o.lane o.delivery.queue (numbered_in o.delivery)) }
+        ensures none { IfNone result (HasNoChoice self.old skips.now) }
+        ensures offer { IfSome result (λ o. IsOffer self.old o.lane o.delivery.queue (numbered_in o.delivery)) }
+        ensures keeps { (T : List StepValue) → Stands T self.old → IfSome result (λ o. Allowed self.old.shape T (steps.Give o.lane o.delivery.queue o.delivery.number) × (event_at T o.delivery.queue o.delivery.number ≡ Some o.delivery.event)) }
+    {
+        let offer = self.offer_at(turn, skips);
+        if offer.is_some() {
+            return offer;
+        }
+        self.propose(skips)
     }
 
     /// What is given next, where that is quick to see: the first event of the queue and level whose turn it is, for its flow lane.

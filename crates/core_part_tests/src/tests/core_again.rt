@@ -47,7 +47,7 @@ fn lane_of_seven(alloc: Global, serving: Serving) -> Result<Option<usize>, Fail>
     if 0 < core.shape().lanes() && core.takes(0, &reply) {
         let _ = core.take(0, reply, &mut log);
     }
-    Ok(match core.propose(None, &Skips::none()) {
+    Ok(match core.propose(&Skips::none()) {
         Some(offer) => Some(offer.lane),
         None => None,
     })

@@ -26,8 +26,8 @@ loop-offer-init g c = (
   tt,
 )
 
-pub propose-requires : goal.propose-requires
-propose-requires g c = c.loop-offer.invariant.7
+pub propose_next-requires : goal.propose_next-requires
+propose_next-requires g c = c.loop-offer.invariant.7
 
 pub bounce-requires-clause-room : goal.bounce-requires-clause-room
 bounce-requires-clause-room g c =
@@ -63,10 +63,10 @@ loop-offer-preserved-then-room-eq0 g c =
     let looked = c.room-room.ensures in
     let there = c.index_mut-near.ensures.value in (
       λ pool v p n.
-          gives_bounced _ _ _ _ _ _ _ _ _ _ _ _ _ (gives_core pool c.loop-offer.core c.propose.new.self c.loop-offer.lanes.items v p n c.loop-offer.skips _ _ _ _ _ same (was.0 pool v p n))
+          gives_bounced _ _ _ _ _ _ _ _ _ _ _ _ _ (gives_core pool c.loop-offer.core c.propose_next.new.self c.loop-offer.lanes.items v p n c.loop-offer.skips _ _ _ _ _ same (was.0 pool v p n))
           (subst (λ (core : View). IsChoice core c.loop-offer.skips c.in-Some.offer.lane c.in-Some.offer.delivery.queue (numbered_in c.in-Some.offer.delivery)) (sym same) choice)
-          (filled pool c.propose.new.self c.loop-offer.lanes.items v p n c.in-Some.offer.lane _ within there (looked.full c.if-room-eq0.true))
-          (refused pool c.propose.new.self c.loop-offer.lanes.items v p n c.in-Some.offer.lane _ c.room-room.new.self _ _ there looked.lane looked.lists.0 looked.lists.2 looked.lists.3
+          (filled pool c.propose_next.new.self c.loop-offer.lanes.items v p n c.in-Some.offer.lane _ within there (looked.full c.if-room-eq0.true))
+          (refused pool c.propose_next.new.self c.loop-offer.lanes.items v p n c.in-Some.offer.lane _ c.room-room.new.self _ _ there looked.lane looked.lists.0 looked.lists.2 looked.lists.3
           c.bounce.ensures.logged c.bounce.ensures.stands)
           c.bounced.ensures,
       omega (arith, fewer, was.1, c.bounce.ensures.room),
@@ -112,8 +112,8 @@ loop-offer-preserved g c =
     let put = c.offer_all.ensures in
     let there = c.index_mut-near.ensures.value in (
       λ pool v p n.
-          gives_given _ _ _ _ _ _ _ _ _ _ _ _ _ c.len-given.ensures.value (gives_core pool c.loop-offer.core c.propose.new.self c.loop-offer.lanes.items v p n c.loop-offer.skips _ _ _ _ _ same (was.0 pool v p n)) c.give_run-next.ensures.choices
-          (gave pool c.propose.new.self c.give_run-next.new.self c.loop-offer.lanes.items v p n c.in-Some.offer.lane c.give_run-next.new.run.items c.loop-offer.skips c.give_run-next.new.skips _ c.offer_all.new.self _ _ within there
+          gives_given _ _ _ _ _ _ _ _ _ _ _ _ _ c.len-given.ensures.value (gives_core pool c.loop-offer.core c.propose_next.new.self c.loop-offer.lanes.items v p n c.loop-offer.skips _ _ _ _ _ same (was.0 pool v p n)) c.give_run-next.ensures.choices
+          (gave pool c.propose_next.new.self c.give_run-next.new.self c.loop-offer.lanes.items v p n c.in-Some.offer.lane c.give_run-next.new.run.items c.loop-offer.skips c.give_run-next.new.skips _ c.offer_all.new.self _ _ within there
           (put.lane ∙ looked.lane) (put.offered ∙ (ap (λ xs. xs ++ c.as_slice.result.now) looked.lists.0 ∙ ap (λ xs. offered c.index_mut-near.result.now ++ xs) c.as_slice.ensures.value))
           (put.replies.0 ∙ looked.lists.2) (put.replies.1 ∙ looked.lists.3) c.give_run-next.ensures.choices c.give_run-next.ensures.shape c.give_run-next.ensures.logged c.give_run-next.ensures.stands),
       omega (arith, run.0, was.1, c.give_run-next.ensures.room),
@@ -130,6 +130,6 @@ returns-clause-gives g c pool v p n =
     let same = c.in_default.ensures.same in
     record {
       skips = c.loop-offer.skips;
-      gives = gives_core pool c.loop-offer.core c.propose.new.self c.loop-offer.lanes.items v p n c.loop-offer.skips _ _ _ _ _ same (c.loop-offer.invariant.0 pool v p n);
+      gives = gives_core pool c.loop-offer.core c.propose_next.new.self c.loop-offer.lanes.items v p n c.loop-offer.skips _ _ _ _ _ same (c.loop-offer.invariant.0 pool v p n);
       done = subst (λ core. HasNoChoice core c.loop-offer.skips) (sym same) c.in_default.ensures.none;
     }

@@ -8,17 +8,8 @@ use Rattle.sched_core.proofs.Offers.{IsOfferFrom, busy_queues, idle_queues, none
 use Rattle.sched_core.specs.Service.{IsServedFirst}
 use Rattle.sched_core.proofs.state.Core.propose.Goals as goal
 
-pub returns-then-is_some-clause-none : goal.returns-then-is_some-clause-none
-returns-then-is_some-clause-none c = some_here c.offer_at-offer.result (HasNoChoice c.args.self.now c.args.skips.now) (sym c.is_some.ensures ∙ c.if-is_some.true)
-
-pub returns-then-is_some-clause-offer : goal.returns-then-is_some-clause-offer
-returns-then-is_some-clause-offer c = offers c.args.self.now c.args.skips.now c.offer_at-offer.result c.offer_at-offer.ensures
-
-pub returns-then-is_some-clause-keeps : goal.returns-then-is_some-clause-keeps
-returns-then-is_some-clause-keeps c T stands = offer_keeps c.args.self.now c.offer_at-offer.result T stands (returns-then-is_some-clause-offer c)
-
-pub returns-then-is_some-2-clause-choice : goal.returns-then-is_some-2-clause-choice
-returns-then-is_some-2-clause-choice c =
+pub returns-then-is_some-clause-choice : goal.returns-then-is_some-clause-choice
+returns-then-is_some-clause-choice c =
     let v : View = c.args.self.now in
     let s = c.args.skips.now in
     let n = c.in-Some.queue in
@@ -29,14 +20,14 @@ returns-then-is_some-2-clause-choice c =
     served_offer v s n c.loop-queue.left c.offer_from-offer.result first c.loop-queue.invariant.2 (c.loop-queue.invariant.1 n first.there) (omega arith)
     (subst (λ u. IfSome c.offer_from-offer.result (IsOfferFrom u s n)) same c.offer_from-offer.ensures.offer)
 
-pub returns-then-is_some-2-clause-none : goal.returns-then-is_some-2-clause-none
-returns-then-is_some-2-clause-none c = some_here c.offer_from-offer.result (HasNoChoice c.args.self.now c.args.skips.now) (sym c.is_some-then-has_quota.ensures ∙ c.if-is_some-2.true)
+pub returns-then-is_some-clause-none : goal.returns-then-is_some-clause-none
+returns-then-is_some-clause-none c = some_here c.offer_from-offer.result (HasNoChoice c.args.self.now c.args.skips.now) (sym c.is_some.ensures ∙ c.if-is_some.true)
 
-pub returns-then-is_some-2-clause-offer : goal.returns-then-is_some-2-clause-offer
-returns-then-is_some-2-clause-offer c = offers c.args.self.now c.args.skips.now c.offer_from-offer.result (returns-then-is_some-2-clause-choice c)
+pub returns-then-is_some-clause-offer : goal.returns-then-is_some-clause-offer
+returns-then-is_some-clause-offer c = offers c.args.self.now c.args.skips.now c.offer_from-offer.result (returns-then-is_some-clause-choice c)
 
-pub returns-then-is_some-2-clause-keeps : goal.returns-then-is_some-2-clause-keeps
-returns-then-is_some-2-clause-keeps c T stands = offer_keeps c.args.self.now c.offer_from-offer.result T stands (returns-then-is_some-2-clause-offer c)
+pub returns-then-is_some-clause-keeps : goal.returns-then-is_some-clause-keeps
+returns-then-is_some-clause-keeps c T stands = offer_keeps c.args.self.now c.offer_from-offer.result T stands (returns-then-is_some-clause-offer c)
 
 pub loop-queue-init : goal.loop-queue-init
 loop-queue-init c =
@@ -58,8 +49,8 @@ loop-queue-preserved c =
           c.loop-queue.invariant.2,
     )
 
-pub loop-queue-preserved-else-is_some-2 : goal.loop-queue-preserved-else-is_some-2
-loop-queue-preserved-else-is_some-2 c =
+pub loop-queue-preserved-else-is_some : goal.loop-queue-preserved-else-is_some
+loop-queue-preserved-else-is_some c =
     let v : View = c.args.self.now in
     let s = c.args.skips.now in
     let n = c.in-Some.queue in
@@ -67,7 +58,7 @@ loop-queue-preserved-else-is_some-2 c =
       c.offer_from-offer.ensures.same ∙ same,
       others_there (λ q. q < length v.shape.queues) n c.loop-queue.left c.remove.new.self c.remove.ensures.gone c.remove.ensures.others c.loop-queue.invariant.1,
       queue_passed v s n c.loop-queue.left c.remove.new.self c.remove.ensures.others
-          (λ quota. subst (λ u. HasNone u s n) same (none_here c.offer_from-offer.result (HasNone c.loop-queue.self s n) (sym c.is_some-then-has_quota.ensures ∙ c.if-is_some-2.false) c.offer_from-offer.ensures.none))
+          (λ quota. subst (λ u. HasNone u s n) same (none_here c.offer_from-offer.result (HasNone c.loop-queue.self s n) (sym c.is_some.ensures ∙ c.if-is_some.false) c.offer_from-offer.ensures.none))
           c.loop-queue.invariant.2,
     )
 

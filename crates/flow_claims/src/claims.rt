@@ -124,7 +124,8 @@ impl Claims {
         a
     }
 
-    /// Tries once to hold the lane for the seat's port. One load, at most one exchange and the taking out of the end.
+    /// Tries once to hold the lane for the seat's port. One load, at most one exchange and the taking out of the end: a claim that
+    /// answers `WornOut` or `Busy` read one word, by the load, and one that answers `Raced` or `Held` two, the second by the exchange.
     pub fn claim(&self, seat: &mut ClaimSeat, lane: usize) -> Claim
         requires seat { IsSeatOf self.now seat.old }
         requires port { port_of seat.old < 254 }

@@ -50,6 +50,8 @@ pub struct Seating {
     pub last: Reading,
     /// The word that it read before that one.
     pub before: Reading,
+    /// How many words it read: one by a load, one by an exchange.
+    pub reads: u64,
     /// Its open stints; the slot of the first was taken last.
     pub held: LinkedList<Begun>,
     /// Its finished stints, and those of the seats that were joined into it.

@@ -1,11 +1,12 @@
 -- What the rule says of a board: holders, numbers and lists of stints.
-use Rattle.std.proofs.Common.{◌≡◌, ◌≢◌, ℕ, suc, ◌+◌, ◌/◌, ◌%◌, ◌<◌, ◌≤◌, ◌⊎◌, inl, inr, ⊎_elim, List, [], length, get_or, slice_get, Option, Some, None, All, Contains, refl, sym, ◌∙◌, subst, arith, sum_by}
+use Rattle.std.proofs.Common.{◌≡◌, ◌≢◌, ℕ, suc, ◌+◌, ◌/◌, ◌%◌, ◌<◌, ◌≤◌, ◌⊎◌, eqb, inl, inr, ⊎_elim, List, [], length, get_or, slice_get, Option, Some, None, All, Contains, refl, sym, ◌∙◌, subst, arith, sum_by}
 use Rattle.std.specs.List.{range_with_len}
 use Rattle.std.proofs.lemmas.List.Elements.{All-contains, All-weaker}
 use native.Mathlib.Decide.{dec_le}
 use lib.ListN.{get_elem?}
 use Rattle.lane_rings.specs.Ends.{unanswered, hidden_answers}
 use Rattle.lane_rings.specs.declared.far.Far.{Far}
+use Rattle.lists.specs.Counts.{count}
 use Rattle.lists.proofs.SeatSums.{All-at, term_le, terms_le}
 use Rattle.lists.proofs.Counts.{of_count}
 use Rattle.flow_claims.specs.declared.seating.Begun.{Begun}
@@ -13,13 +14,13 @@ use Rattle.flow_claims.specs.declared.seating.Past.{Past}
 use Rattle.flow_claims.specs.declared.seating.Seating.{Seating}
 use Rattle.flow_claims.specs.Lists.{no_lists, GoesOn}
 use Rattle.flow_claims.specs.Stints.{IsDone, IsRecordFrom, at_lane, times, gives_up, stints_of, below}
-use Rattle.flow_claims.specs.Seats.{find_lane, stint_at, first_seating}
-use Rattle.flow_claims.specs.Rule.{Board, word_at, home_at, busy, opens, closed_by, IsHeld, IsSeat, Claimed}
+use Rattle.flow_claims.specs.Seats.{find_lane, stint_at, HasAll, first_seating}
+use Rattle.flow_claims.specs.Rule.{Board, word_at, home_at, busy, opens, closed_by, IsHeld, IsSeat, IsSpent, Claimed}
 use Rattle.flow_claims.specs.Laws.{Sits, IsAtHome, IsHeldByOne, IsInOneList, WasClosed, WasSurrendered}
 use Rattle.flow_claims.proofs.Choices.{some_term, All-place}
 use Rattle.flow_claims.proofs.Held.{found_lane, found_has, none_found, none_open}
 use Rattle.flow_claims.proofs.Records.{some_stint, record_start, record_next, record_grows, last_is}
-use Rattle.flow_claims.proofs.WordReads.{busy_free, busy_over, busy_held, sum_of_ones, reads}
+use Rattle.flow_claims.proofs.WordReads.{busy_free, busy_over, busy_held, sum_of_ones, all_finished, reads}
 use Rattle.flow_claims.proofs.Keeps.{at_most_one}
 use Rattle.flow_claims.proofs.ByLane.{sum_by_key}
 
@@ -176,3 +177,14 @@ module _ (lanes : List Far) (s : Board) (c : Claimed lanes s) where
       sym (sum_of_ones v.held)
       ∙ sum_by_key (λ (b : Begun). b.lane) (λ b. 1) (length lanes) v.held
       (All-weaker (λ x. (x.lane < length lanes) × IsHeld (get_or s.words x.lane 0) (get_elem? s.homes x.lane) (c.past x.lane) x) (λ x. x.lane < length lanes) (λ x k. k.0) v.held (seat_at i v here).held)
+
+  -- a seat without parts has no stint, and where one seat has all parts, each other one is such a seat
+  pub nothing_without_parts : (i : ℕ) (v : Seating) → Sits s i v → v.parts ≡ 0 → IsSpent v
+  nothing_without_parts i v here none = (seat_at i v here).idle none
+
+  pub others_spent : (i j : ℕ) (v w : Seating) → Sits s i v → HasAll v → j ≢ i → Sits s j w → IsSpent w
+  others_spent i j v w here whole ne there = nothing_without_parts j w there (omega (arith, whole, c.parts, terms_le (λ u. u.parts) s.views i j v w ne here there))
+
+  -- and that one has each number of a lane's stints once
+  pub all_numbered : (lane number i : ℕ) (v : Seating) → lane < length lanes → Sits s i v → HasAll v → times lane number v.finished ≡ below number (word_at s lane / 256)
+  all_numbered lane number i v lt here whole = sym (all_finished lanes s i v c here whole (at_lane lane (λ p. count (eqb p.number number)))) ∙ c.once lane number lt

@@ -27,6 +27,10 @@ IsUnused far = (received_by far ≡ []) × (answered far ≡ []) × (hidden_answ
 abbrev pub Sits : Board → ℕ → Seating → Type 0
 Sits s seat v = get_elem? s.views seat ≡ O.some v
 
+-- the parts of all seats
+abbrev pub parts_in : Board → ℕ
+parts_in s = sum_by (λ v. v.parts) s.views
+
 -- the lane's end is at home
 abbrev pub IsAtHome : List Far → Board → ℕ → Far → Type 0
 IsAtHome lanes s lane far = (home_at s lane ≡ O.some (O.some (Some far))) × IsOf lanes lane far

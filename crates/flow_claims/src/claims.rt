@@ -91,6 +91,16 @@ impl Claims {
         }
     }
 
+    /// The table of the lanes' words and ends, with what all seats know. Its rule is `ClaimRule`, whose fact holds between any two steps
+    /// of any seats and is `Claimed` of these lanes. So the laws, `a_lane_has_one_holder` and the others, are of these claims at every
+    /// moment.
+    pub fn table(&self) -> &Table<Option<BoxedFar>, Seating, Snapshot<Vec<Far>>, ClaimRule, Global>
+        ensures table { result.now.shared.table_id ≡ claims_id self.now }
+        ensures lanes { result.now.shared.key.value.items ≡ lanes_of self.now }
+    {
+        &self.table
+    }
+
     /// Gives one of the seat's parts, of which it has two or more, to a new seat for the port. It never refuses.
     pub fn split(
         &self,

@@ -8,9 +8,9 @@ ghost use Rattle.flow_claims.specs.declared.seating.Begun.{Begun};
 ghost use Rattle.flow_claims.specs.declared.seating.Past.{Past};
 ghost use Rattle.flow_claims.specs.declared.seating.Seating.{Seating};
 ghost use Rattle.flow_claims.specs.Lists.{no_lists, GoesOn};
-ghost use Rattle.flow_claims.specs.Stints.{IsDone, at_lane, times};
-ghost use Rattle.flow_claims.specs.Seats.{stint_at, first_seating, rest_of, part_of, after_join, spent_seating};
-ghost use Rattle.flow_claims.specs.Rule.{Board, Claimed, opens, word_at};
+ghost use Rattle.flow_claims.specs.Stints.{IsDone, at_lane, below, stints_of, times};
+ghost use Rattle.flow_claims.specs.Seats.{stint_at, HasAll, first_seating, rest_of, part_of, after_join, spent_seating};
+ghost use Rattle.flow_claims.specs.Rule.{Board, Claimed, IsSpent, busy, opens, word_at};
 ghost use Rattle.flow_claims.specs.declared.claim.Claim.{Claim};
 ghost use Rattle.flow_claims.specs.declared.claim.Stint.{Stint};
 ghost use Rattle.flow_claims.specs.declared.claims.ClaimSeat.{ClaimSeat};
@@ -21,7 +21,7 @@ ghost use Rattle.flow_claims.specs.Claims.{seating};
 ghost use Rattle.flow_claims.specs.Open.{IsOpen, open_count};
 ghost use Rattle.flow_claims.specs.Answers.{AnswersClaim, EndsStint};
 ghost use Rattle.flow_claims.specs.Weights.{received_weight, answered_weight};
-ghost use Rattle.flow_claims.specs.Laws.{first_board, IsUnused, Sits, IsAtHome, IsAway, IsHeldByOne, IsInOneList, WasClosed, WasSurrendered, IsStep, MayChange, SameInAll};
+ghost use Rattle.flow_claims.specs.Laws.{first_board, IsUnused, Sits, IsAtHome, IsAway, IsHeldByOne, IsInOneList, WasClosed, WasSurrendered, parts_in, IsStep, MayChange, SameInAll};
 
 /// A lane has one holder at a time, whose port its word names: where the word says neither free nor over, one seat has one open stint
 /// of the lane and no other seat has one; where it says free or over, no seat has one.
@@ -63,6 +63,18 @@ pub fn stints_go_on()
         → b.number ≡ p.number + 1 → b.start ≡ p.end }
     ensures grows { (lanes : List Far) (s : Board) (i : ℕ) (v : Seating) → Claimed lanes s → Sits s i v → All (λ p. GoesOn p.start p.end) v.finished }
     ensures done { (lanes : List Far) (s : Board) (i : ℕ) (v : Seating) → Claimed lanes s → Sits s i v → All IsDone v.finished }
+{}
+
+/// All seats together have 64 parts. A seat without parts has no stint, open or finished. So a seat with all parts has all stints, and no
+/// other seat has any: of each lane it has as many finished ones as the lane's word counts, each number once, and an open one exactly
+/// where the word says that a port holds the lane.
+pub fn parts_add_up()
+    ensures sum { (lanes : List Far) (s : Board) → Claimed lanes s → parts_in s ≡ 64 }
+    ensures none { (lanes : List Far) (s : Board) (i : ℕ) (v : Seating) → Claimed lanes s → Sits s i v → v.parts ≡ 0 → IsSpent v }
+    ensures alone { (lanes : List Far) (s : Board) (i j : ℕ) (v w : Seating) → Claimed lanes s → Sits s i v → HasAll v → j ≢ i → Sits s j w → IsSpent w }
+    ensures counted { (lanes : List Far) (s : Board) (lane i : ℕ) (v : Seating) → Claimed lanes s → lane < length lanes → Sits s i v → HasAll v → stints_of lane v.finished ≡ word_at s lane / 256 }
+    ensures numbered { (lanes : List Far) (s : Board) (lane number i : ℕ) (v : Seating) → Claimed lanes s → lane < length lanes → Sits s i v → HasAll v → times lane number v.finished ≡ below number (word_at s lane / 256) }
+    ensures open { (lanes : List Far) (s : Board) (lane i : ℕ) (v : Seating) → Claimed lanes s → lane < length lanes → Sits s i v → HasAll v → opens lane v.held ≡ busy (word_at s lane) }
 {}
 
 /// What any step of a seat on a lane's word may change. A split and a join change no word, and all seats together keep their stints.

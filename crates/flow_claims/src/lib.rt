@@ -19,6 +19,8 @@ pub use claims::{ClaimSeat, Claims, MAX_STINTS, NO_PORT};
 pub use evt_types::Memory;
 pub use laws::{
     a_lane_at_home_is_settled, a_lane_has_one_holder, a_step_changes_one_seat, new_claims_are_free,
-    open_stints_keep_their_weight, stints_add_up_by_lane, stints_are_numbered, stints_go_on,
+    open_stints_keep_their_weight, parts_add_up, stints_add_up_by_lane, stints_are_numbered,
+    stints_go_on,
 };
+pub use rule::ClaimRule;
 pub use seating::{Begun, LaneLists, Past, Reading, Seating};

@@ -9,6 +9,7 @@ use atomic_table::{Join, Play, Split, TableRule};
 use lane_rings::Far;
 use std::snapshot::Snapshot;
 
+/// The rule of the claims' table: `Claimed` of the lanes' ends as they were handed over, between any two steps of any seats.
 pub struct ClaimRule;
 
 impl TableRule<Option<BoxedFar>, Seating, Snapshot<Vec<Far>>> for ClaimRule {

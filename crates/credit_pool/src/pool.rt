@@ -156,14 +156,18 @@ impl Credits {
         (word / 2, word % 2 == 1)
     }
 
-    /// The free credits, once all seats were joined into this one, which has all 64 parts. One load.
-    pub fn close(&self, mut seat: CreditSeat) -> u64
-        requires seat { IsSeatOf self.now seat }
-        requires whole { (account seat).parts ≡ 64 }
-        ensures free { result + (account seat).drawn ≡ limit_of self.now + (account seat).returned }
-        ensures shut { IsTrue (account seat).saw_shut → IsTrue (account seat).set_shut }
+    /// The free credits, once all seats were joined into this one, which has all 64 parts. One load, and no other step: the pool is
+    /// left as it was found, open or shut.
+    pub fn close(&self, seat: &mut CreditSeat) -> u64
+        requires seat { IsSeatOf self.now seat.old }
+        requires whole { (account seat.old).parts ≡ 64 }
+        ensures seat { IsSeatOf self.now seat.new }
+        ensures account { account seat.new ≡ after_look (account seat.new).last (account seat.old) }
+        ensures word { result ≡ free_of (account seat.new).last }
+        ensures free { result + (account seat.old).drawn ≡ limit_of self.now + (account seat.old).returned }
+        ensures shut { IsTrue (account seat.old).saw_shut → IsTrue (account seat.old).set_shut }
     {
-        self.load(&mut seat) / 2
+        self.load(seat) / 2
     }
 
     // The kinds of step, a function for each.

@@ -57,7 +57,8 @@ impl Apart {
         } = control;
         let (credit, claim) = join_ports(&pool, &claims, credit, claim, ports, rests);
         claims.close(claim, ends);
-        let free = pool.close(pool.join(credit, seat));
+        let mut seat = pool.join(credit, seat);
+        let free = pool.close(&mut seat);
         Still {
             free,
             own,

@@ -108,8 +108,8 @@ fn credit_calls(rt: HostRuntime) -> Result<(), Fail> {
     let (pool, seat) = pool_again(rt.alloc(), LIMIT)?;
     let (mut first, mut second) = pool.split(seat).unwrap();
     let other = play(&pool, &mut first, &mut second);
-    let seat = pool.join(first, second);
-    assert_eq!(rt; (other, pool.close(seat)), (None, 3));
+    let mut seat = pool.join(first, second);
+    assert_eq!(rt; (other, pool.close(&mut seat)), (None, 3));
     Ok(())
 }
 
@@ -197,6 +197,7 @@ fn four_threads_return_all(rt: HostRuntime) -> Result<(), Fail> {
         || trade_two(&rt, pool, third, fourth),
     );
     assert_eq!(rt; here + there, 4 * ROUNDS);
-    assert_eq!(rt; pool.close(pool.join(a, b)), LIMIT);
+    let mut seat = pool.join(a, b);
+    assert_eq!(rt; pool.close(&mut seat), LIMIT);
     Ok(())
 }

@@ -54,7 +54,7 @@ close-free-requires-clause-whole c =
     let is = c.requires.apart in
     omega (
       arith,
-      ap (λ (v : Account). v.parts) c.join.ensures.account,
+      ap (λ (v : Account). v.parts) c.join-seat.ensures.account,
       is.one_part,
       c.join_ports-credit.ensures.joined.parts,
       credit_parts is.device c.args.self.ports.items is.ports_are,
@@ -97,8 +97,8 @@ returns c =
     let count = left_count sorted rests left ∙ sorted_count (length d.plan.ports) sorted is.numbers in
     let far : Far = (slice_get-some rests 0 (omega (arith, count, is.within.port_count.0))).0.own in
     let Linked : Plan → Type 0 = λ x. All (LinksAgree (λ port lane. has lane (flow_links x port))) sorted in
-    let limit_is : limit_of c.deref-4.result.now ≡ d.plan.limit = ap limit_of (c.deref-4.ensures ∙ is.pool) ∙ is.fits.limit in
-    let joined_account = c.join.ensures.account in
+    let limit_is : limit_of c.deref-5.result.now ≡ d.plan.limit = ap limit_of (c.deref-5.ensures ∙ is.pool) ∙ is.fits.limit in
+    let joined_account = c.join-seat.ensures.account in
     let fresh = control.no_stint.1 in
     record {
       core = refl;
@@ -134,6 +134,6 @@ returns c =
         control.unused.1,
       );
       shut = λ (seen : (account seat).saw_shut ≡ true).
-          let saw : (account c.join.result).saw_shut ≡ true = ap (λ (v : Account). v.saw_shut) joined_account ∙ or_second (account after.0).saw_shut (account seat).saw_shut seen in
+          let saw : (account c.join-seat.result).saw_shut ≡ true = ap (λ (v : Account). v.saw_shut) joined_account ∙ or_second (account after.0).saw_shut (account seat).saw_shut seen in
           sym joined.bit ∙ or_first (account after.0).set_shut (account seat).set_shut is.unset (sym (ap (λ (v : Account). v.set_shut) joined_account) ∙ c.close-free.ensures.shut saw);
     }

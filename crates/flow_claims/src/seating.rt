@@ -50,7 +50,8 @@ pub struct Seating {
     pub last: Reading,
     /// The word that it read before that one.
     pub before: Reading,
-    /// How many words it read: one by a load, one by an exchange.
+    /// How many words it read: one by a load, one by an exchange. The end of a stint uses no word that it finds, and leaves this and
+    /// both words as they were.
     pub reads: u64,
     /// Its open stints; the slot of the first was taken last.
     pub held: LinkedList<Begun>,

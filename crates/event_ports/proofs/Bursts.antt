@@ -1,13 +1,14 @@
 -- Several events are submitted, one after the other.
-use Rattle.std.proofs.Common.{◌≡◌, ℕ, zero, suc, ◌+◌, ◌<◌, length, get_or, List, [], ◌∷◌, ◌++◌, take, drop, slice_get, Option, Some, refl, sym, ap, ◌∙◌, subst, arith}
-use Rattle.lists.proofs.Lists.{drop-slice_get}
+use Rattle.std.proofs.Common.{◌≡◌, ℕ, zero, suc, ◌+◌, ◌<◌, length, get_or, List, [], ◌∷◌, ◌++◌, take, slice_get, Option, Some, refl, sym, ap, subst, arith}
+use Rattle.std.proofs.lemmas.List.Elements.{All-push}
+use Rattle.lists.proofs.Parts.{take_next}
 use Rattle.evt_types.specs.declared.event.Event.{Event}
 use Rattle.event_ports.specs.declared.lane.Lane.{Lane}
 use Rattle.event_ports.specs.Lanes.{Hand, Rests, SubmitsTo, SubmitsAll, lane_for, reply_of}
 use Rattle.event_ports.specs.declared.desk.Desk.{Desk}
 use Rattle.event_ports.specs.Desks.{Enqueues, EnqueuesAll}
+use Rattle.event_ports.specs.Queues.{AllNameQueues, NamesQueue}
 use Rattle.event_ports.proofs.Refusing.{submits_after}
-use Rattle.event_ports.proofs.Released.{take_next}
 
 pub rests_same : (h : Hand) → Rests h h
 rests_same h = record { said = λ l. refl; got = λ l. refl; holding = refl }
@@ -22,9 +23,7 @@ all_more (x ∷ es) e h k m a b = (a.0, a.1, all_more es e a.0 k m a.2 b)
 pub taken_more : (es : List Event) (n : ℕ) (e : Event) (h k m : Hand) → slice_get es n ≡ Some e → SubmitsAll (take n es) h k → SubmitsTo (lane_for e.op k.holding) (reply_of e) k m
     → SubmitsAll (take (n + 1) es) h m
 taken_more es n e h k m at a b =
-    let one : n + 1 ≡ suc n = omega arith in
-    let All_of : List Event → Type 0 = λ xs. SubmitsAll xs h m in
-    subst All_of (sym (ap (λ i. take i es) one ∙ take_next n es e (drop (n + 1) es) (drop-slice_get es n e at))) (all_more (take n es) e h k m a b)
+    subst (λ (xs : List Event). SubmitsAll xs h m) (sym (take_next es n e at)) (all_more (take n es) e h k m a b)
 
 pub read_next : (es : List Event) (n : ℕ) (e : Event) → n < length es → e ≡ get_or es n e → slice_get es n ≡ Some e
 read_next [] n e lt same = absurd (omega (arith, lt))
@@ -38,5 +37,8 @@ chain_more (x ∷ es) e p q r a one = (a.0, a.1, chain_more es e a.0 q r a.2 one
 
 pub chain_taken : (es : List Event) (n : ℕ) (e : Event) (p q r : Desk) → slice_get es n ≡ Some e → EnqueuesAll (take n es) p q → Enqueues e q r → EnqueuesAll (take (n + 1) es) p r
 chain_taken es n e p q r at a one =
-    let suc_is : n + 1 ≡ suc n = omega arith in
-    subst (λ (xs : List Event). EnqueuesAll xs p r) (sym (ap (λ i. take i es) suc_is ∙ take_next n es e (drop (n + 1) es) (drop-slice_get es n e at))) (chain_more (take n es) e p q r a one)
+    subst (λ (xs : List Event). EnqueuesAll xs p r) (sym (take_next es n e at)) (chain_more (take n es) e p q r a one)
+
+-- and names a queue
+pub names_more : (queues : ℕ) (es : List Event) (n : ℕ) (e : Event) → slice_get es n ≡ Some e → AllNameQueues queues (take n es) → NamesQueue queues e → AllNameQueues queues (take (n + 1) es)
+names_more queues es n e at names one = subst (AllNameQueues queues) (sym (take_next es n e at)) (All-push (NamesQueue queues) (take n es) e names one)

@@ -149,6 +149,7 @@ module _ (q r : Desk) (f : IsFlushed q r) where
     site = stops.site;
     credit = stops.credit;
     submitted = stops.submitted;
+    there = stops.there;
     refused = still_refuses stops.between stops.event x stops.refused;
   }
 

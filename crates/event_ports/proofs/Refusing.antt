@@ -22,6 +22,7 @@ use Rattle.credit_pool.specs.declared.answer.Draw.{Draw}
 use Rattle.credit_pool.specs.declared.answer.Draw.TheVariants as draws
 use Rattle.credit_pool.specs.Accounts.{IsOpen, Stays}
 use Rattle.event_ports.specs.Draws.{FillsWithin, HasLooked, most_draws}
+use Rattle.event_ports.specs.Queues.{NamesQueue}
 use Rattle.event_ports.specs.Desks.{DeskSite, own_site, account_of, hand, pocket_of, AsksPool, MaySpend, MaySpendMore, Pays, SameCredits, SpendsNone, Stocks, Refuses}
 
 -- the operation of a NEW, told by a test
@@ -163,6 +164,11 @@ module _ (p k : Desk) (site : own_site k ≡ own_site p) (same : SameCredits p k
         → IfErr result (λ f. SpendsNone k e.op f q) → IfErr result (λ f. Refuses p e f q)
     refuses_new q e (Ok _) new within limit r = r
     refuses_new q e (Err f) new within limit r = refuses q e f new within limit r
+
+-- an event whose queue was tested names that where it is taken
+pub names_taken : (queues : ℕ) (e : Event) (result : Result (Unit {0}) Refused) → e.queue < queues → OnOk result (NamesQueue queues e)
+names_taken queues e (Ok _) within = λ _. within
+names_taken queues e (Err x) within = tt
 
 -- two refusals that are one answer
 refusal_in : Result (Unit {0}) Refused → Refused → Refused

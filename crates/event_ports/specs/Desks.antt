@@ -23,6 +23,7 @@ use Rattle.event_ports.specs.Flows.{hands_of}
 use Rattle.event_ports.specs.Lanes.{Hand, Rests, SubmitsAll, SubmitsTo, TakesMore, extras_in, lane_for, reply_of}
 use Rattle.event_ports.specs.Handed.{LanesSite, lanes_site, seen_own, hand_of, mores_of, news_of, releases_of, IsFilled}
 use Rattle.event_ports.specs.Draws.{FillsWithin, HasAsked, HasCredits, HasDrawn, HasLooked, ReturnsSpare, SameSums, most_draws}
+use Rattle.event_ports.specs.Queues.{AllNameQueues, NamesQueue}
 
 -- what never changes of it
 pub record DeskSite : Type 0 where
@@ -175,6 +176,7 @@ pub record Enqueues (e : Event) (p q : Desk) : Type 0 where
   pub credit : Stays (account_of p) (account_of q)
   pub submitted : SubmitsTo (lane_for e.op (hand p).holding) (reply_of e) (hand p) (hand q)
   pub pays : Pays e.op p q
+  pub there : NamesQueue (own_site p).queues e
   pub unshut : e.op ≡ ops.New → IsTrue (account_of p).saw_shut → ⊥
 
 -- these were taken, one after the other
@@ -227,4 +229,5 @@ pub record StopsAt (p : Desk) (events : List Event) (n : ℕ) (refusal : Refused
   pub site : own_site between ≡ own_site p
   pub credit : Stays (account_of p) (account_of between)
   pub submitted : SubmitsAll (take n events) (hand p) (hand between)
+  pub there : AllNameQueues (own_site p).queues (take n events)
   pub refused : Refuses between event refusal q

@@ -5,6 +5,7 @@ pub mod Flows
 pub mod Lanes
 pub mod Handed
 pub mod Draws
+pub mod Queues
 pub mod Desks
 pub mod Counts
 pub mod Ports

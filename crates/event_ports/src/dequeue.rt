@@ -6,6 +6,7 @@ ghost use Rattle.credit_pool.specs.Accounts.{Stays};
 ghost use Rattle.event_ports.specs.Lanes.{Releases, Dequeues, SubmitsAll};
 ghost use Rattle.event_ports.specs.Desks.{own_site, account_of, pocket_of, hand, seen_by, links, was_filled, released_first, Gathers, StopsAt};
 ghost use Rattle.event_ports.specs.Handed.{AllShown, OwnFirst};
+ghost use Rattle.event_ports.specs.Queues.{AllNameQueues};
 
 use crate::desk::Desk;
 use arrayvec::ArrayVec;
@@ -20,6 +21,7 @@ impl Desk {
         ensures count { result.0 ≤ length events.now }
         ensures all { IsNone result.1 ↔ (result.0 ≡ length events.now) }
         ensures submitted { SubmitsAll (take result.0 events.now) (hand self.old) (hand self.new) }
+        ensures there { AllNameQueues (own_site self.old).queues (take result.0 events.now) }
         ensures refused { IfSome result.1 (λ e. StopsAt self.old events.now result.0 e self.new) }
         ensures chain { Gathers self.old events.now result.0 result.1 self.new }
     {
@@ -38,6 +40,7 @@ impl Desk {
         ensures count { result.0 ≤ length events.now }
         ensures all { IsNone result.1 ↔ (result.0 ≡ length events.now) }
         ensures submitted { SubmitsAll (take result.0 events.now) (hand self.old) (hand self.new) }
+        ensures there { AllNameQueues (own_site self.old).queues (take result.0 events.now) }
         ensures refused { IfSome result.1 (λ e. StopsAt self.old events.now result.0 e self.new) }
         ensures chain { Gathers self.old events.now result.0 result.1 self.new }
     {

@@ -45,6 +45,7 @@ impl Desk {
     ghost use Rattle.event_answers.specs.declared.answer.Refused.TheVariants as refusals;
     ghost use Rattle.event_ports.specs.Lanes.{Rests, SubmitsTo, TakesMore, lane_for, reply_of};
     ghost use Rattle.event_ports.specs.Draws.{HasLooked, ReturnsSpare};
+    ghost use Rattle.event_ports.specs.Queues.{NamesQueue};
     ghost use Rattle.event_ports.specs.Handed.{AllShown};
     ghost use Rattle.event_ports.specs.Desks.{own_site, account_of, pocket_of, hand, was_filled, SameCredits, IsFlushed, MaySpendMore, Pays, Refuses, SpendsNone};
 
@@ -69,6 +70,7 @@ impl Desk {
         ensures credit { Stays (account_of self.old) (account_of self.new) }
         ensures submitted { MatchResult result (λ _. SubmitsTo (lane_for event.now.op (hand self.old).holding) (reply_of event.now) (hand self.old) (hand self.new)) (λ _. Rests (hand self.old) (hand self.new)) }
         ensures pays { OnOk result (Pays event.now.op self.old self.new) }
+        ensures there { OnOk result (NamesQueue (own_site self.old).queues event.now) }
         ensures refused { IfErr result (λ e. Refuses self.old event.now e self.new) }
         ensures stopped { IsTrue (account_of self.old).saw_shut → event.now.op ≡ ops.New → result ≡ Err refusals.Stopped }
     {
@@ -167,6 +169,7 @@ impl Desk {
         ensures credit { Stays (account_of self.old) (account_of self.new) }
         ensures submitted { MatchResult result (λ _. SubmitsTo (lane_for event.now.op (hand self.old).holding) (reply_of event.now) (hand self.old) (hand self.new)) (λ _. Rests (hand self.old) (hand self.new)) }
         ensures pays { OnOk result (Pays event.now.op self.old self.new) }
+        ensures there { OnOk result (NamesQueue (own_site self.old).queues event.now) }
         ensures refused { IfErr result (λ e. Refuses self.old event.now e self.new) }
     {
         if usize::from(event.queue()) >= self.queues {

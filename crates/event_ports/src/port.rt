@@ -30,6 +30,7 @@ impl Port {
     ghost use Rattle.event_ports.specs.Lanes.{Rests, Releases, Dequeues, SubmitsTo, SubmitsAll, lane_for, reply_of};
     ghost use Rattle.event_ports.specs.declared.lane.Lane.TheVariants as lanes;
     ghost use Rattle.event_ports.specs.Draws.{HasLooked, ReturnsSpare};
+    ghost use Rattle.event_ports.specs.Queues.{AllNameQueues, NamesQueue};
     ghost use Rattle.event_ports.specs.Counts.{after_behind, after_burst, after_dequeue, after_enqueue, plus};
     ghost use Rattle.event_ports.specs.Ports.{own_site, account_of, counts_of, pocket_of, hand, seen_by, links, was_filled, SameCredits, Pays, Refuses, released_first, Bursts, StopsAt};
 
@@ -70,16 +71,18 @@ impl Port {
 
     /// Enqueues an event: a NEW to the port's own lane, for one credit; a FORWARD or RELEASE as the answer to the oldest delivery
     /// that is held, to the lane from which that came; a FORWARD_MORE to the same lane, for one credit, and that delivery stays held.
-    /// A refused event changes nothing that was submitted or is held.
+    /// What is taken names a queue of the device, where it is no RELEASE. A refused event changes nothing that was submitted or is held.
     ///
     /// The causes of a refusal in their order: of a NEW `Stopped`, `BadQueue`, `Backpressure` or `Raced`, `Full`; of an answer
     /// `BadQueue`, `NothingHeld`, `Full`; of a FORWARD_MORE `BadQueue`, `NothingHeld`, `TooMany`, then with an empty pocket `Stopped`,
     /// `Backpressure` or `Raced`, and `Full`. What was drawn before a `Full` stays in the pocket.
+    #[tactic(auto, using(crate::proofs::IdleLanes::idle_lanes))]
     pub fn enqueue(&mut self, event: Event) -> Result<(), Refused>
         ensures site { own_site self.new ≡ own_site self.old }
         ensures credit { Stays (account_of self.old) (account_of self.new) }
         ensures submitted { MatchResult result (λ _. SubmitsTo (lane_for event.op (hand self.old).holding) (reply_of event) (hand self.old) (hand self.new)) (λ _. Rests (hand self.old) (hand self.new)) }
         ensures pays { OnOk result (Pays event.op self.old self.new) }
+        ensures there { OnOk result (NamesQueue (own_site self.old).queues event) }
         ensures refused { IfErr result (λ e. Refuses self.old event e self.new) }
         ensures stopped { IsTrue (account_of self.old).saw_shut → event.op ≡ ops.New → result ≡ Err refusals.Stopped }
         ensures counted { counts_of self.new ≡ after_enqueue result (counts_of self.old) }
@@ -164,6 +167,7 @@ impl Port {
         ensures count { result.0 ≤ length events.now }
         ensures all { IsNone result.1 ↔ (result.0 ≡ length events.now) }
         ensures submitted { SubmitsAll (take result.0 events.now) (hand self.old) (hand self.new) }
+        ensures there { AllNameQueues (own_site self.old).queues (take result.0 events.now) }
         ensures refused { IfSome result.1 (λ e. StopsAt self.old events.now result.0 e self.new) }
         ensures singly { Bursts self.old events.now result.0 result.1 self.new }
         ensures counted { counts_of self.new ≡ after_burst result.0 result.1 (counts_of self.old) }
@@ -182,6 +186,7 @@ impl Port {
         ensures count { result.0 ≤ length events.now }
         ensures all { IsNone result.1 ↔ (result.0 ≡ length events.now) }
         ensures submitted { SubmitsAll (take result.0 events.now) (hand self.old) (hand self.new) }
+        ensures there { AllNameQueues (own_site self.old).queues (take result.0 events.now) }
         ensures refused { IfSome result.1 (λ e. StopsAt self.old events.now result.0 e self.new) }
         ensures singly { Bursts self.old events.now result.0 result.1 self.new }
         ensures counted { counts_of self.new ≡ after_burst result.0 result.1 (counts_of self.old) }

@@ -11,7 +11,7 @@ use Rattle.event_ports.specs.Lanes.{SubmitsTo, first_lane, lane_for, reply_of}
 use Rattle.event_ports.specs.declared.lanes.Lanes.{Lanes}
 use Rattle.event_ports.proofs.Adding.{counts_forward, paid_release, paid_same}
 use Rattle.event_ports.proofs.Released.{at_lanes}
-use Rattle.event_ports.proofs.Refusing.{forward_alone, new_told, not_more, not_release, pays_new, refuses_answer, refuses_new, stays_more, submitted_after}
+use Rattle.event_ports.proofs.Refusing.{forward_alone, names_taken, new_told, not_more, not_release, pays_new, refuses_answer, refuses_new, stays_more, submitted_after}
 use Rattle.event_ports.proofs.desk.Desk.submit.Goals as goal
 
 pub returns-then-is_new-clause-pays : goal.returns-then-is_new-clause-pays
@@ -26,6 +26,17 @@ returns-then-is_new-clause-refused c =
     let within : c.args.event.now.queue < (own_site c.args.self.now).queues = omega (arith, c.if-from-self.false, c.from.ensures, c.queue.ensures, ap (λ (p : DeskSite). p.queues) c.shut_seen.ensures.site) in
     refuses_new c.args.self.now c.shut_seen.new.self c.shut_seen.ensures.site c.shut_seen.ensures.same.1 c.shut_seen.ensures.looked.0 was_open c.spend.new.self c.args.event.now c.spend.result
     (new_told _ (sym c.is_new.ensures ∙ c.if-is_new.true)) within c.shut_seen.ensures.credit.limit c.spend.ensures.refused
+
+pub returns-then-is_new-clause-there : goal.returns-then-is_new-clause-there
+returns-then-is_new-clause-there c =
+    let within : c.args.event.now.queue < (own_site c.args.self.now).queues = omega (arith, c.if-from-self.false, c.from.ensures, c.queue.ensures, ap (λ (p : DeskSite). p.queues) c.shut_seen.ensures.site) in
+    names_taken (own_site c.args.self.now).queues c.args.event.now c.spend.result within
+
+pub returns-in-Ok-clause-there : goal.returns-in-Ok-clause-there
+returns-in-Ok-clause-there c _ = omega (arith, c.if-from-self-2.false, c.from-in-Forward.ensures, c.queue-in-Forward.ensures)
+
+pub returns-in-Ok-answer-clause-there : goal.returns-in-Ok-answer-clause-there
+returns-in-Ok-answer-clause-there c other = absurd (other (sym c.op.ensures ∙ c.in-Release.is))
 
 pub returns-then-shut_seen-clause-refused : goal.returns-then-shut_seen-clause-refused
 returns-then-shut_seen-clause-refused c =

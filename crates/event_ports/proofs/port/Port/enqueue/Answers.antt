@@ -5,11 +5,7 @@ use Rattle.event_ports.specs.Desks.{hand, Pays, Refuses}
 use Rattle.event_ports.specs.Lanes.{Rests, SubmitsTo, lane_for, reply_of}
 use Rattle.evt_types.specs.declared.event.Event.{Event}
 use Rattle.event_ports.proofs.Flushes.{all_pay, all_refuse, still_enqueues}
-use Rattle.event_ports.proofs.IdleLanes.{idle_lanes}
 use Rattle.event_ports.proofs.port.Port.enqueue.Goals as goal
-
-pub invariant_of-self-clause-idle : goal.invariant_of-self-clause-idle
-invariant_of-self-clause-idle c = idle_lanes c.flush.new.self.lanes
 
 pub returns-clause-submitted : goal.returns-clause-submitted
 returns-clause-submitted c =

@@ -9,6 +9,7 @@ use Rattle.event_ports.specs.Draws.{ReturnsSpare}
 use Rattle.event_ports.specs.Lanes as lanes
 use Rattle.event_ports.specs.Lanes.{Releases, SubmitsAll}
 use Rattle.event_ports.specs.Ports.{Bursts, StopsAt, account_of, counts_of, hand, links, own_site, pocket_of, released_first, seen_by, was_filled}
+use Rattle.event_ports.specs.Queues.{AllNameQueues}
 use Rattle.event_ports.specs.declared.counts.PortCounts.{PortCounts}
 use Rattle.event_ports.specs.declared.lane.Lane.TheVariants.{Own}
 use Rattle.event_ports.specs.declared.port.Port.{Port}
@@ -33,6 +34,7 @@ pub record Submits (p : Port) (events : List Event) (n : ℕ) (end : Option Refu
   pub count : n ≤ length events
   pub all : IsNone end ↔ (n ≡ length events)
   pub submitted : SubmitsAll (take n events) (hand p) (hand q)
+  pub there : AllNameQueues (own_site p).queues (take n events)
   pub refused : IfSome end (λ refusal. StopsAt p events n refusal q)
   pub singly : Bursts p events n end q
   pub counted : counts_of q ≡ after_burst n end (counts_of p)

@@ -29,6 +29,7 @@ returns c =
         count = burst.count;
         all = burst.all;
         submitted = burst.submitted;
+        there = burst.there;
         refused = burst.refused;
         singly = burst.singly;
         counted = burst.counted;

@@ -7,7 +7,7 @@ use Rattle.evt_types.specs.declared.event.Delivery.{Delivery}
 use Rattle.evt_types.specs.declared.event.Event.{Event}
 use Rattle.evt_types.specs.declared.event.Op.{Op}
 use Rattle.evt_types.specs.declared.event.Op.TheVariants as ops
-use Rattle.evt_types.specs.declared.event.TheConstants.{MAX_EXTRAS}
+use Rattle.evt_types.specs.Limits.{most_extras}
 use Rattle.evt_types.specs.Operation.{costs_credit}
 use Rattle.credit_pool.specs.declared.account.Account.{Account}
 use Rattle.credit_pool.specs.declared.pool.Credits.{Credits}
@@ -129,7 +129,7 @@ Refuses p e BadQueue q =
 Refuses p e NothingHeld q =
     (e.op ≢ ops.New) × (e.op ≢ ops.Release → e.queue < (own_site p).queues) × ((hand p).holding ≡ []) × SameCredits p q × (account_of q ≡ account_of p)
 Refuses p e TooMany q =
-    (e.op ≡ ops.ForwardMore) × (e.queue < (own_site p).queues) × ((hand p).holding ≢ []) × (MAX_EXTRAS ≤ extras_in (hand p)) × SameCredits p q × (account_of q ≡ account_of p)
+    (e.op ≡ ops.ForwardMore) × (e.queue < (own_site p).queues) × ((hand p).holding ≢ []) × (most_extras ≤ extras_in (hand p)) × SameCredits p q × (account_of q ≡ account_of p)
 Refuses p e (Backpressure free) q =
     IsTrue (costs_credit e.op) × (e.queue < (own_site p).queues) × (pocket_of p ≡ 0) × IsOpen (account_of q).last × (free ≡ free_of (account_of q).last)
     × ((own_site p).threshold < in_use (account_of p).limit (account_of q).last + (own_site p).quantum) × SameCredits p q

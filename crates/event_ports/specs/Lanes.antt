@@ -10,7 +10,7 @@ use Rattle.evt_types.specs.declared.event.Event.{Event}
 use Rattle.evt_types.specs.declared.event.Op.{Op}
 use Rattle.evt_types.specs.declared.event.Op.TheVariants as ops
 use Rattle.evt_types.specs.declared.event.Reply.{Reply}
-use Rattle.evt_types.specs.declared.event.TheConstants.{MAX_EXTRAS}
+use Rattle.evt_types.specs.Limits.{most_extras}
 use Rattle.event_answers.specs.declared.answer.Refused.{Refused}
 use Rattle.event_answers.specs.declared.answer.Refused.TheVariants as answers
 use Rattle.lane_rings.specs.Ends.{received_by, answered, answers_among, unanswered}
@@ -90,7 +90,7 @@ extras_in h = extras_to (first_lane h.holding) h
 
 -- something is held, and beside the oldest one event more may be added
 abbrev pub TakesMore : Hand → Type 0
-TakesMore h = (h.holding ≢ []) × (extras_in h < MAX_EXTRAS)
+TakesMore h = (h.holding ≢ []) × (extras_in h < most_extras)
 
 -- nothing was submitted or received
 pub record Rests (h k : Hand) : Type 0 where

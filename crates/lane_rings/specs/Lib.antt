@@ -5,3 +5,4 @@ pub mod Outlets
 pub mod Batches
 pub mod Refusal
 pub mod Rest
+pub mod LaneSets

@@ -4,109 +4,144 @@ ghost use Rattle.std.specs.Prelude.{◌≡◌, length};
 ghost use Rattle.lane_rings.specs.Ends.{seen_deliveries};
 
 use crate::far::Far;
+use small_set::SmallSet;
 use std::sync::atomic::{AtomicU64, Ordering};
 
 /// How many lanes a word has a bit for.
 const WORD: usize = 64;
 
-/// How many lanes there is a hint of: the first ones. Those past them are in each set.
+/// How many lanes there is a hint of: the first ones. Of those past them there is none, and no set has them.
 const HINTED: usize = 2 * WORD;
 
-/// Some of the flow lanes. A set is no more than a hint: no clause says which lanes are in it.
+/// Some of the first flow lanes, those from 0 to 127. As a set of those that may have something it is no more than a hint.
 #[derive(Clone, Copy)]
 pub struct LaneSet {
-    low: u64,
-    high: u64,
+    low: SmallSet,
+    high: SmallSet,
 }
 
 impl LaneSet {
-    /// No lane of which there is a hint.
-    pub fn none() -> LaneSet {
-        LaneSet { low: 0, high: 0 }
+    ghost use Rattle.std.specs.Prelude.{◌≡◌, ◌+◌, ℕ, ◌<◌, ◌≤◌, ◌↔◌, ◌⊎◌, IfSome, IfNone};
+    ghost use Rattle.lane_rings.specs.LaneSets.{AreLowest, Has, IsEmpty, IsFirst, SameBut, lanes_below, lanes_in};
+
+    /// No lane.
+    pub fn none() -> LaneSet
+        ensures { IsEmpty result }
+    {
+        LaneSet {
+            low: SmallSet::none(),
+            high: SmallSet::none(),
+        }
     }
 
-    /// Puts the lane into the set.
-    pub fn add(&mut self, lane: usize) {
+    /// Puts the lane into the set, where there may be a hint of it.
+    pub fn add(&mut self, lane: usize)
+        ensures there { lane < 128 → Has self.new lane }
+        ensures others { SameBut lane self.old self.new }
+        ensures beyond { 128 ≤ lane → self.new ≡ self.old }
+    {
         if lane < WORD {
-            self.low |= 1 << lane;
+            self.low.add(lane);
         } else if lane < HINTED {
-            self.high |= 1 << (lane - WORD);
+            self.high.add(lane - WORD);
         }
     }
 
     /// Takes the lane out of the set.
-    pub fn remove(&mut self, lane: usize) {
-        let LaneSet { low, high } = *self;
+    pub fn remove(&mut self, lane: usize)
+        ensures gone { lane < 128 → ¬ Has self.new lane }
+        ensures others { SameBut lane self.old self.new }
+        ensures beyond { 128 ≤ lane → self.new ≡ self.old }
+        ensures fewer { lanes_in self.new ≤ lanes_in self.old }
+    {
         if lane < WORD {
-            self.low = low & !(1 << lane);
+            self.low.remove(lane);
         } else if lane < HINTED {
-            self.high = high & !(1 << (lane - WORD));
+            self.high.remove(lane - WORD);
         }
     }
 
     /// The lanes that are in one of the sets, or in both.
-    pub fn either(self, other: LaneSet) -> LaneSet {
+    pub fn either(self, other: LaneSet) -> LaneSet
+        ensures { (i : ℕ) → Has result i ↔ (Has self i ⊎ Has other i) }
+    {
         LaneSet {
-            low: self.low | other.low,
-            high: self.high | other.high,
+            low: self.low.either(other.low),
+            high: self.high.either(other.high),
         }
     }
 
     /// The lanes that are in both sets.
-    pub fn both(self, other: LaneSet) -> LaneSet {
+    pub fn both(self, other: LaneSet) -> LaneSet
+        ensures { (i : ℕ) → Has result i ↔ (Has self i × Has other i) }
+    {
         LaneSet {
-            low: self.low & other.low,
-            high: self.high & other.high,
+            low: self.low.both(other.low),
+            high: self.high.both(other.high),
         }
     }
 
-    /// The lowest lane of which there may be a hint leaves the set; `None` where the set has none of these.
+    // The lanes of this set that are not in the other one.
+    fn except(self, other: LaneSet) -> LaneSet
+        ensures { (i : ℕ) → Has result i ↔ (Has self i × ¬ Has other i) }
+    {
+        LaneSet {
+            low: self.low.except(other.low),
+            high: self.high.except(other.high),
+        }
+    }
+
+    /// The lowest lane leaves the set; `None` where the set has none.
     #[inline(always)]
-    pub fn take_lowest(&mut self) -> Option<usize> {
-        let LaneSet { low, high } = *self;
-        if low != 0 {
-            self.low = low & (low - 1);
-            return Some(low.trailing_zeros() as usize);
+    pub fn take_lowest(&mut self) -> Option<usize>
+        ensures first { IfSome result (IsFirst self.old) }
+        ensures gone { IfSome result (λ lane. ¬ Has self.new lane) }
+        ensures others { IfSome result (λ lane. SameBut lane self.old self.new) }
+        ensures fewer { IfSome result (λ _. lanes_in self.new + 1 ≡ lanes_in self.old) }
+        ensures none { IfNone result (IsEmpty self.old) }
+        ensures same { IfNone result (self.new ≡ self.old) }
+    {
+        if let Some(lane) = self.low.pop() {
+            return Some(lane);
         }
-        if high != 0 {
-            self.high = high & (high - 1);
-            return Some(WORD + high.trailing_zeros() as usize);
-        }
-        None
+        let lane = self.high.pop()?;
+        Some(WORD + lane)
     }
 
-    /// Of the lanes of the set of which there is a hint the lowest ones, no more than so many.
-    pub fn lowest(self, most: usize) -> LaneSet {
+    /// The lowest lanes of the set, no more than so many. The whole set, where it has no more.
+    pub fn lowest(self, most: usize) -> LaneSet
+        ensures lowest { AreLowest self most result }
+        ensures all { lanes_in self ≤ most → result ≡ self }
+    {
         if self.count() <= most {
             return self;
         }
         let mut left = self;
-        for _ in 0..most {
+        for _taken in 0..most {
             let _ = left.take_lowest();
         }
-        LaneSet {
-            low: self.low & !left.low,
-            high: self.high & !left.high,
-        }
+        self.except(left)
     }
 
-    /// How many lanes of the set there is a hint of below this one.
+    /// How many lanes of the set are below this one.
     #[inline(always)]
-    pub fn count_below(self, lane: usize) -> usize {
+    pub fn count_below(self, lane: usize) -> usize
+        ensures { result ≡ lanes_below self lane }
+    {
         if lane < WORD {
-            let below = self.low & ((1 << lane) - 1);
-            return below.count_ones() as usize;
+            return self.low.count_below(lane);
         }
-        let low = self.low.count_ones() as usize;
+        let low = self.low.count();
         if lane < HINTED {
-            let below = self.high & ((1 << (lane - WORD)) - 1);
-            return low + below.count_ones() as usize;
+            return low + self.high.count_below(lane - WORD);
         }
-        low + self.high.count_ones() as usize
+        low + self.high.count()
     }
 
-    /// How many lanes of the set there is a hint of.
-    pub fn count(self) -> usize {
+    /// How many lanes are in the set.
+    pub fn count(self) -> usize
+        ensures { result ≡ lanes_in self }
+    {
         self.count_below(HINTED)
     }
 }
@@ -137,8 +172,13 @@ pub struct Hints {
 }
 
 impl Hints {
+    ghost use Rattle.std.specs.Prelude.{◌≡◌, ◌-◌, ◌<◌, ◌≤◌};
+    ghost use Rattle.lane_rings.specs.LaneSets.{Has, SameBut, lanes_before};
+
     /// Nothing in any lane. The scheduler has so many lanes before the first flow lane.
-    pub fn new(before: usize) -> Hints {
+    pub fn new(before: usize) -> Hints
+        ensures { lanes_before result ≡ before }
+    {
         Hints {
             before,
             low: AtomicU64::new(0),
@@ -149,7 +189,12 @@ impl Hints {
     /// The scheduler put something into the ring of its lane of this number, which is noted among these lanes. Of a lane that isn't a
     /// flow lane there is no hint.
     #[inline(always)]
-    pub fn gave(&self, gave: &mut LaneSet, lane: usize) {
+    pub fn gave(&self, gave: &mut LaneSet, lane: usize)
+        ensures before { lane < lanes_before self.now → gave.new ≡ gave.old }
+        ensures there { lanes_before self.now ≤ lane → lane - lanes_before self.now < 128 → Has gave.new (lane - lanes_before self.now) }
+        ensures others { lanes_before self.now ≤ lane → SameBut (lane - lanes_before self.now) gave.old gave.new }
+        ensures beyond { 128 ≤ lane - lanes_before self.now → gave.new ≡ gave.old }
+    {
         if lane >= self.before {
             gave.add(lane - self.before);
         }
@@ -159,8 +204,8 @@ impl Hints {
     #[inline(always)]
     pub fn set_all(&self, lanes: LaneSet) {
         let LaneSet { low, high } = lanes;
-        put_in(&self.low, low);
-        put_in(&self.high, high);
+        put_in(&self.low, low.word());
+        put_in(&self.high, high.word());
     }
 
     /// The flow lane may have something.
@@ -176,16 +221,16 @@ impl Hints {
     #[inline(always)]
     pub fn clear_all(&self, lanes: LaneSet) {
         let LaneSet { low, high } = lanes;
-        take_out(&self.low, low);
-        take_out(&self.high, high);
+        take_out(&self.low, low.word());
+        take_out(&self.high, high.word());
     }
 
     /// The lanes that may have something, as the words are now.
     #[inline(always)]
     pub fn lanes(&self) -> LaneSet {
         LaneSet {
-            low: self.low.load(Ordering::SeqCst),
-            high: self.high.load(Ordering::SeqCst),
+            low: SmallSet::of_word(self.low.load(Ordering::SeqCst)),
+            high: SmallSet::of_word(self.high.load(Ordering::SeqCst)),
         }
     }
 }

@@ -1,6 +1,7 @@
 -- A set of set.
-use Rattle.std.specs.Prelude.{ℕ, ◌≡◌, ◌≢◌, ◌<◌, ◌≤◌, ◌↔◌, List, slice_index_or}
+use Rattle.std.specs.Prelude.{ℕ, ◌≡◌, ◌≢◌, ◌<◌, ◌≤◌, ◌==◌, ◌↔◌, Bool, List, count_by, slice_index_or}
 use Rattle.std.specs.Int.{bit_at}
+use Rattle.std.specs.List.{range_with_len}
 use Rattle.small_set.specs.declared.set.SmallSet.{SmallSet}
 
 -- the member is in the set
@@ -19,6 +20,14 @@ pub record IsFirst (s : SmallSet) (k : ℕ) : Type 0 where
   pub within : k < 64
   pub there : Has s k
   pub first : (i : ℕ) → Has s i → k ≤ i
+
+-- whether the member is in the set, as a test
+abbrev pub is_member : SmallSet → ℕ → Bool
+is_member s k = bit_at s.bits k == 1
+
+-- how many members of the set are below this number
+unfoldable pub members_below : SmallSet → ℕ → ℕ
+members_below s k = count_by (is_member s) (range_with_len 0 k)
 
 -- a number that falls with each member that is taken out, for walks over a set
 abbrev pub weight : SmallSet → ℕ

@@ -11,7 +11,8 @@ pub struct SmallSet {
 
 impl SmallSet {
     ghost use Rattle.std.specs.Prelude.{◌≡◌, ℕ, ◌<◌, ◌≤◌, ◌↔◌, ◌⊎◌, IsTrue, IfSome, IfNone};
-    ghost use Rattle.small_set.specs.SmallSets.{Has, IsEmpty, IsFirst, SameBut, weight};
+    ghost use Rattle.small_set.specs.SmallSets.{Has, IsEmpty, IsFirst, SameBut, members_below, weight};
+    ghost use Rattle.std.specs.Int.{bit_at};
 
     /// No member.
     pub fn none() -> SmallSet
@@ -31,6 +32,22 @@ impl SmallSet {
         SmallSet {
             bits: (1 << count) - 1,
         }
+    }
+
+    /// The members whose bits are set in the word.
+    #[inline(always)]
+    pub fn of_word(word: u64) -> SmallSet
+        ensures { (i : ℕ) → Has result i ↔ (bit_at word i ≡ 1) }
+    {
+        SmallSet { bits: word }
+    }
+
+    /// A word in which the bits of the members are set.
+    #[inline(always)]
+    pub fn word(self) -> u64
+        ensures { (i : ℕ) → (bit_at result i ≡ 1) ↔ Has self i }
+    {
+        self.bits
     }
 
     /// Whether the member is in the set.
@@ -96,7 +113,26 @@ impl SmallSet {
         }
     }
 
+    /// How many members the set has. None is past the last number, so they are as many below each number from there on.
+    #[inline(always)]
+    pub fn count(self) -> usize
+        ensures { (end : ℕ) → MAX_MEMBERS ≤ end → result ≡ members_below self end }
+    {
+        self.bits.count_ones() as usize
+    }
+
+    /// How many members of the set are below this number.
+    #[inline(always)]
+    pub fn count_below(self, end: usize) -> usize
+        requires { end < MAX_MEMBERS }
+        ensures { result ≡ members_below self end }
+    {
+        let below = self.bits & ((1 << end) - 1);
+        below.count_ones() as usize
+    }
+
     /// The lowest member of the set.
+    #[inline(always)]
     pub fn first(self) -> Option<usize>
         ensures first { IfSome result (IsFirst self) }
         ensures none { IfNone result (IsEmpty self) }
@@ -108,6 +144,7 @@ impl SmallSet {
     }
 
     /// Takes the lowest member out of the set.
+    #[inline(always)]
     pub fn pop(&mut self) -> Option<usize>
         ensures first { IfSome result (IsFirst self.old) }
         ensures gone { IfSome result (λ k. ¬ Has self.new k) }

@@ -122,6 +122,7 @@ impl Port {
 
     /// Dequeues into an array of the caller's, which is emptied first, and so spares the copies of a whole array: how many came.
     /// After `Behind` the array is empty.
+    #[tactic(auto, using(crate::proofs::IdleLanes::idle_lanes))]
     pub fn dequeue_burst(
         &mut self,
         max: usize,

@@ -1,168 +1,158 @@
 /*
- * DPDK's loop over event_sw and over evsched, by turns in one process and one thread: a burst of NEWs, a schedule call, a dequeue and a
- * burst of RELEASEs; in the last case the worker forwards the events to a second queue first. A schedule call after that takes the
+ * DPDK's loop over event_sw and over evsched, by turns in one process and one thread: a burst of NEWs, a schedule call, dequeues and
+ * bursts of RELEASEs; in the last case the workers forward the events to a second queue first. A schedule call after that takes the
  * RELEASEs, or the next round's does. Prints nanoseconds per event, of each the least of all turns. `bench/against_event_sw` builds it.
  *
- *     both [TURNS]
+ *     both [TURNS [GROUP]]
+ *
+ *     one         one worker, and nothing waits between two rounds
+ *     backlog     the same, and beside it with so many events waiting that all lanes are full whenever a schedule call ends
+ *     workers     several workers, which share a round's burst, without and with a backlog
+ *     implicit    a worker's next dequeue releases what it holds, so it enqueues no RELEASEs
+ *     lanes       flow lanes serve evsched's atomic queue, without and with a backlog; event_sw has none, and serves as ever
+ *     all         all of these
+ *
+ * A turn is so many events that were released, however many a round brings. With a backlog a round brings in what was released before.
  */
-#include <evsched.h>
-#include <rte_eal.h>
-#include <rte_eventdev.h>
-#include <rte_service.h>
-#include <stdio.h>
-#include <stdlib.h>
-#include <string.h>
+#include "two_devices.h"
 #include <time.h>
 
-enum { SOURCE, WORKER, PORTS, LIMIT = 4096, FLOWS = 64, EVENTS = 4096, MOST = 32, CASES = 4 };
+enum { FLOWS = 64, FLOW_LANE = 16, EVENTS = 4096, MOST_ROUNDS = 16 * EVENTS, MOST = 32, BACKLOG = 2000, CASES = 4, KINDS = 9 };
 
-/* A case: the type of the queue that NEWs enter, and whether each event is then forwarded to a parallel queue. */
+/* A case: the types of both queues, and whether each event is forwarded from the first, which NEWs enter, to the second. */
 static const struct {
 	const char *name;
-	uint8_t type;
+	uint8_t types[2];
 	int forwards;
 } cases[CASES] = {
-	{"atomic", RTE_SCHED_TYPE_ATOMIC, 0},
-	{"parallel", RTE_SCHED_TYPE_PARALLEL, 0},
-	{"ordered", RTE_SCHED_TYPE_ORDERED, 0},
-	{"ordered, then parallel", RTE_SCHED_TYPE_ORDERED, 1},
+	{"atomic", {RTE_SCHED_TYPE_ATOMIC, RTE_SCHED_TYPE_PARALLEL}, 0},
+	{"parallel", {RTE_SCHED_TYPE_PARALLEL, RTE_SCHED_TYPE_PARALLEL}, 0},
+	{"ordered", {RTE_SCHED_TYPE_ORDERED, RTE_SCHED_TYPE_PARALLEL}, 0},
+	{"ordered, then parallel", {RTE_SCHED_TYPE_ORDERED, RTE_SCHED_TYPE_PARALLEL}, 1},
 };
 
-static uint8_t theirs;
-static uint32_t service;
-static struct evsched *ours;
-static struct evsched_port *our_source, *our_worker;
+/* A kind of rows: the groups that have it, and how many of the cases. */
+static const struct {
+	const char *groups[2], *name;
+	uint32_t workers, waiting;
+	int is_implicit, is_flow_lanes, cases;
+} kinds[KINDS] = {
+	{{"one", "backlog"}, "plain", 1, 0, 0, 0, CASES},
+	{{"backlog", ""}, "plain", 1, BACKLOG, 0, 0, CASES},
+	{{"workers", ""}, "plain", 2, 0, 0, 0, CASES},
+	{{"workers", ""}, "plain", 2, BACKLOG, 0, 0, CASES},
+	{{"workers", ""}, "plain", 4, 0, 0, 0, CASES},
+	{{"workers", ""}, "plain", 4, BACKLOG, 0, 0, CASES},
+	{{"implicit", ""}, "implicit", 1, 0, 1, 0, CASES},
+	{{"lanes", ""}, "lanes", 1, 0, 0, 1, 1},
+	{{"lanes", ""}, "lanes", 1, BACKLOG, 0, 1, 1},
+};
 
-static void fail(const char *what)
+/* What the program knows of a device and of its turn. */
+struct account {
+	uint64_t new_word;
+	uint32_t standing; /* so many events stay inside beside a round's burst */
+	uint32_t inside;   /* NEWs that weren't released yet */
+	uint32_t flow;     /* of the next NEW */
+	uint32_t chance;
+	uint32_t left;     /* so many events are to be released in this turn */
+};
+
+/* What a loop goes by. */
+struct plan {
+	uint32_t workers;
+	uint32_t burst, share; /* and what of it each worker dequeues */
+	int forwards, is_implicit, is_taken;
+};
+
+static inline uint32_t least(uint32_t a, uint32_t b)
 {
-	fprintf(stderr, "both: %s\n", what);
-	exit(1);
+	return a < b ? a : b;
 }
 
-static void make_their_queues(uint8_t type)
+/* As many NEWs as are missing to this number, at most a burst. */
+ALWAYS void bring(int is_ours, struct account *account, uint32_t number, uint32_t burst, union event *ev)
 {
-	struct rte_event_queue_conf queue;
-	memset(&queue, 0, sizeof(queue));
-	queue.nb_atomic_flows = queue.nb_atomic_order_sequences = 1024;
-	queue.schedule_type = type;
-	if (rte_event_queue_setup(theirs, 0, &queue))
-		fail("event_sw has no first queue");
-	queue.schedule_type = RTE_SCHED_TYPE_PARALLEL;
-	if (rte_event_queue_setup(theirs, 1, &queue))
-		fail("event_sw has no second queue");
-}
-
-static void make_theirs(int number)
-{
-	char name[] = "event_sw0";
-	struct rte_event_dev_config config;
-	struct rte_event_port_conf port;
-	const uint8_t queues[] = {0, 1};
-	int id;
-	name[8] = (char)('0' + number);
-	if ((id = rte_event_dev_get_dev_id(name)) < 0)
-		fail("there is no event_sw");
-	theirs = (uint8_t)id;
-	memset(&config, 0, sizeof(config));
-	memset(&port, 0, sizeof(port));
-	config.nb_events_limit = LIMIT;
-	config.nb_event_queues = 2;
-	config.nb_event_ports = PORTS;
-	config.nb_event_queue_flows = 1024;
-	config.nb_event_port_dequeue_depth = config.nb_event_port_enqueue_depth = 128;
-	port.new_event_threshold = LIMIT;
-	port.dequeue_depth = port.enqueue_depth = 128;
-	port.event_port_cfg = RTE_EVENT_PORT_CFG_DISABLE_IMPL_REL;
-	if (rte_event_dev_configure(theirs, &config))
-		fail("event_sw isn't configured");
-	make_their_queues(cases[number].type);
-	if (rte_event_port_setup(theirs, SOURCE, &port) || rte_event_port_setup(theirs, WORKER, &port)
-		|| rte_event_port_link(theirs, WORKER, queues, NULL, 2) != 2 || rte_event_dev_service_id_get(theirs, &service)
-		|| rte_service_set_runstate_mapped_check(service, 0) || rte_service_runstate_set(service, 1) || rte_event_dev_start(theirs))
-		fail("event_sw isn't started");
-}
-
-static void make_ours(int number)
-{
-	struct evsched_dev_config config = evsched_dev_default_config(2, PORTS);
-	config.nb_events_limit = LIMIT;
-	config.queue[0].schedule_type = cases[number].type;
-	config.queue[1].schedule_type = EVSCHED_TYPE_PARALLEL;
-	config.port[WORKER].links = 3;
-	config.port[WORKER].dequeue_depth = EVSCHED_MAX_DEPTH;
-	config.port[WORKER].event_port_cfg = EVSCHED_PORT_CFG_DISABLE_IMPL_REL;
-	evsched_free(ours);
-	if (evsched_create(&config, &ours) < 0)
-		fail("evsched isn't made");
-	our_source = evsched_port(ours, SOURCE);
-	our_worker = evsched_port(ours, WORKER);
-}
-
-static void schedule_theirs(void)
-{
-	rte_service_run_iter_on_app_lcore(service, 0);
-}
-
-static void answer_theirs(uint8_t op, uint16_t burst, struct rte_event *ev)
-{
-	uint16_t i;
-	schedule_theirs();
-	if (rte_event_dequeue_burst(theirs, WORKER, ev, burst, 0) != burst)
-		fail("event_sw doesn't deliver");
-	for (i = 0; i < burst; i++) {
-		ev[i].op = op & 3;
-		ev[i].queue_id = 1;
-		ev[i].sched_type = RTE_SCHED_TYPE_PARALLEL;
+	uint32_t n, i;
+	if (account->inside >= number)
+		return;
+	n = least(number - account->inside, burst);
+	for (i = 0; i < n; i++) {
+		ev[i].theirs.event = account->new_word | account->flow;
+		account->flow = (account->flow + 1) % FLOWS;
 	}
-	if (rte_event_enqueue_burst(theirs, WORKER, ev, burst) != burst)
-		fail("event_sw refuses an answer");
+	if (enqueue(is_ours, SOURCE, ev, (uint16_t)n) != (int)n)
+		fail("NEWs are refused");
+	account->inside += n;
 }
 
-static void their_round(int number, int is_taken, uint16_t burst, struct rte_event *ev)
+/* A worker dequeues at most so many events and answers them; with implicit release it leaves those after the last FORWARD to its next
+ * dequeue. How many came. */
+ALWAYS uint32_t work(int is_ours, const struct plan *plan, struct account *account, uint32_t worker, uint32_t most, union event *ev)
 {
-	uint16_t i;
-	for (i = 0; i < burst; i++) {
-		ev[i].op = RTE_EVENT_OP_NEW;
-		ev[i].queue_id = 0;
-		ev[i].sched_type = cases[number].type & 3;
+	int n = dequeue(is_ours, worker, ev, (uint16_t)most), answered = 0, forwarded = 0, i;
+	for (i = 0; i < n; i++) {
+		ev[i].theirs.op = RTE_EVENT_OP_RELEASE;
+		if (plan->forwards && ev[i].theirs.queue_id == 0) {
+			ev[i].theirs.op = RTE_EVENT_OP_FORWARD;
+			ev[i].theirs.queue_id = 1;
+			ev[i].theirs.sched_type = RTE_SCHED_TYPE_PARALLEL;
+			answered = i + 1;
+			forwarded++;
+		}
 	}
-	if (rte_event_enqueue_burst(theirs, SOURCE, ev, burst) != burst)
-		fail("event_sw refuses");
-	if (cases[number].forwards)
-		answer_theirs(RTE_EVENT_OP_FORWARD, burst, ev);
-	answer_theirs(RTE_EVENT_OP_RELEASE, burst, ev);
-	if (is_taken)
-		schedule_theirs();
+	if (!plan->is_implicit)
+		answered = n;
+	if (answered > 0 && enqueue(is_ours, worker, ev, (uint16_t)answered) != answered)
+		fail("answers are refused");
+	if (n < 0)
+		fail("a dequeue is refused");
+	account->inside -= (uint32_t)(n - forwarded);
+	account->left -= (uint32_t)(n - forwarded);
+	return (uint32_t)n;
 }
 
-static void answer_ours(uint8_t op, uint16_t burst, struct evsched_event *ev)
+/* A schedule call, and the workers share a burst. Which of them is asked first goes by chance, in step with neither device. */
+ALWAYS void answer(int is_ours, uint32_t workers, const struct plan *plan, struct account *account, union event *ev)
 {
-	uint16_t i;
-	evsched_sweep(ours);
-	if (evsched_dequeue_burst(our_worker, ev, burst) != burst)
-		fail("evsched doesn't deliver");
-	for (i = 0; i < burst; i++) {
-		ev[i].op = op & 3;
-		ev[i].queue_id = 1;
+	uint32_t most = least(plan->burst, account->left), came = 0, asked, worker;
+	account->chance = account->chance * 69069 + 1;
+	worker = (account->chance >> 16) % workers;
+	schedule(is_ours);
+	for (asked = 0; asked < workers && came < most; asked++) {
+		came += work(is_ours, plan, account, WORKER + worker, least(plan->share, most - came), ev);
+		worker = worker + 1 < workers ? worker + 1 : 0;
 	}
-	if (evsched_enqueue_burst(our_worker, ev, burst) != burst)
-		fail("evsched refuses an answer");
 }
 
-static void our_round(int number, int is_taken, uint16_t burst, struct evsched_event *ev)
+/* Rounds until so many events came as a turn has. */
+ALWAYS void rounds(int is_ours, uint32_t workers, const struct plan *plan, struct account *account)
 {
-	uint16_t i;
-	for (i = 0; i < burst; i++) {
-		ev[i].op = EVSCHED_OP_NEW;
-		ev[i].queue_id = 0;
+	union event ev[MOST];
+	int round;
+	memset(ev, 0, sizeof(ev));
+	for (round = 0; account->left > 0; round++) {
+		if (round == MOST_ROUNDS)
+			fail("too few events come");
+		bring(is_ours, account, account->standing + plan->burst, plan->burst, ev);
+		if (plan->forwards)
+			answer(is_ours, workers, plan, account, ev);
+		answer(is_ours, workers, plan, account, ev);
+		if (plan->is_taken)
+			schedule(is_ours);
 	}
-	if (evsched_enqueue_burst(our_source, ev, burst) != burst)
-		fail("evsched refuses");
-	if (cases[number].forwards)
-		answer_ours(EVSCHED_OP_FORWARD, burst, ev);
-	answer_ours(EVSCHED_OP_RELEASE, burst, ev);
-	if (is_taken)
-		evsched_sweep(ours);
+}
+
+/* So many events wait, and as many more fill the lanes. */
+ALWAYS void fill(int is_ours, struct account *account, uint32_t waiting, uint32_t lanes)
+{
+	union event ev[MOST];
+	memset(ev, 0, sizeof(ev));
+	account->standing = waiting ? waiting + lanes : 0;
+	while (account->inside < account->standing) {
+		bring(is_ours, account, account->standing, MOST, ev);
+		schedule(is_ours);
+	}
 }
 
 static double now(void)
@@ -173,60 +163,70 @@ static double now(void)
 }
 
 /* One turn of either: nanoseconds per event. A function of its own, so that callgrind can count what it takes. */
-__attribute__((noinline)) static double turn(int is_ours, int number, int is_taken, uint16_t burst)
+__attribute__((noinline, noclone)) static double turn(int is_ours, const struct plan *plan, struct account *account)
 {
-	struct rte_event ev[MOST];
-	struct evsched_event own[MOST];
 	double start;
-	int round, i;
-	memset(ev, 0, sizeof(ev));
-	for (i = 0; i < burst; i++)
-		ev[i].flow_id = (uint32_t)i % FLOWS;
-	memcpy(own, ev, sizeof(own));
+	account->left = EVENTS;
 	start = now();
-	for (round = 0; round < EVENTS / burst; round++) {
-		if (is_ours)
-			our_round(number, is_taken, burst, own);
-		else
-			their_round(number, is_taken, burst, ev);
-	}
+	if (plan->workers > 1)
+		is_ours ? rounds(1, plan->workers, plan, account) : rounds(0, plan->workers, plan, account);
+	else
+		is_ours ? rounds(1, 1, plan, account) : rounds(0, 1, plan, account);
 	return (now() - start) / EVENTS;
 }
 
-static void measure(int number, int turns)
+/* The rows of a kind and a case. */
+static void measure(int kind, int number, struct account accounts[2], int turns)
 {
-	static const uint16_t bursts[] = {1, 8, 32};
-	for (int is_taken = 1; is_taken >= 0; is_taken--)
+	static const uint32_t bursts[] = {1, 8, 32};
+	struct plan plan = {.workers = kinds[kind].workers, .forwards = cases[number].forwards, .is_implicit = kinds[kind].is_implicit};
+	for (plan.is_taken = 1; plan.is_taken >= 0; plan.is_taken--)
 		for (int b = 0; b < 3; b++) {
-			double least[2] = {1e30, 1e30};
+			double least_time[2] = {1e30, 1e30};
+			plan.burst = bursts[b];
+			plan.share = plan.burst < plan.workers ? 1 : plan.burst / plan.workers;
 			for (int i = 0; i < 2 * turns; i++) {
-				double ns = turn(i % 2, number, is_taken, bursts[b]);
-				if (ns < least[i % 2])
-					least[i % 2] = ns;
+				double ns = turn(i % 2, &plan, &accounts[i % 2]);
+				if (ns < least_time[i % 2])
+					least_time[i % 2] = ns;
 			}
-			printf("%-24s %-8s %5d %10.1f %10.1f %6.2f\n", cases[number].name, is_taken ? "with" : "without", bursts[b], least[0], least[1],
-				least[1] / least[0]);
+			printf("%-24s %-8s %7u %7u %-8s %5u %10.1f %10.1f %6.2f\n", cases[number].name, kinds[kind].name, plan.workers,
+				kinds[kind].waiting, plan.is_taken ? "with" : "without", plan.burst, least_time[0], least_time[1],
+				least_time[1] / least_time[0]);
 		}
+}
+
+/* The second queue is served first, so that events which were forwarded don't wait behind a backlog of the first. */
+static void measure_case(int kind, int number, int turns)
+{
+	struct shape shape = {.queues = 2, .workers = kinds[kind].workers, .types = {cases[number].types[0], cases[number].types[1]},
+		.is_last_first = 1, .is_implicit = kinds[kind].is_implicit, .is_flow_lanes = kinds[kind].is_flow_lanes};
+	struct account accounts[2];
+	memset(accounts, 0, sizeof(accounts));
+	accounts[0].new_word = accounts[1].new_word = new_word(&shape);
+	make_theirs(&shape);
+	make_ours(&shape);
+	fill(0, &accounts[0], kinds[kind].waiting, shape.workers * THEIR_DEPTH);
+	fill(1, &accounts[1], kinds[kind].waiting, shape.is_flow_lanes ? FLOWS * FLOW_LANE : shape.workers * OUR_DEPTH);
+	measure(kind, number, accounts, turns);
+	free_both();
 }
 
 int main(int argc, char **argv)
 {
-	static char arguments[][32] = {"both", "--no-huge", "-m", "256", "--no-pci", "--no-telemetry", "--log-level=4", "--vdev=event_sw0",
-		"--vdev=event_sw1", "--vdev=event_sw2", "--vdev=event_sw3"};
-	enum { COUNT = sizeof(arguments) / sizeof(arguments[0]) };
-	char *eal[COUNT];
-	int turns = argc > 1 ? atoi(argv[1]) : 201, i;
-	for (i = 0; i < COUNT; i++)
-		eal[i] = arguments[i];
-	if (rte_eal_init(COUNT, eal) < 0)
-		fail("EAL doesn't start");
-	printf("%-24s %-8s %5s %10s %10s %6s\n", "queue", "last", "burst", "event_sw", "evsched", "ratio");
-	for (i = 0; i < CASES; i++) { /* each has an event_sw of its own */
-		make_theirs(i);
-		make_ours(i);
-		measure(i, turns);
-		rte_event_dev_stop(theirs);
+	int turns = argc > 1 ? atoi(argv[1]) : 201, kind, number, found = 0;
+	const char *group = argc > 2 ? argv[2] : "all";
+	start_eal(argv[0]);
+	printf("%-24s %-8s %7s %7s %-8s %5s %10s %10s %6s\n", "queue", "kind", "workers", "waiting", "last", "burst", "event_sw", "evsched",
+		"ratio");
+	for (kind = 0; kind < KINDS; kind++) {
+		if (strcmp(group, "all") && strcmp(group, kinds[kind].groups[0]) && strcmp(group, kinds[kind].groups[1]))
+			continue;
+		for (number = 0; number < kinds[kind].cases; number++)
+			measure_case(kind, number, turns);
+		found = 1;
 	}
-	evsched_free(ours);
+	if (!found)
+		fail("there is no such group");
 	return 0;
 }

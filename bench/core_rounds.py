@@ -11,8 +11,8 @@ import sys
 
 TURNS, SECONDS, COUNTED = 40, 0.1, 1_000
 VALGRIND = ("valgrind", "--tool=callgrind", "--callgrind-out-file=/dev/null")
-# So many events the busy port of each run holds.
-BUSY = 64
+# So many events a port may hold, and the busy port of each run holds them.
+DEPTH = 64
 CRATE = pathlib.Path(__file__).resolve().parent.parent / "crates" / "core_bench"
 
 
@@ -48,7 +48,7 @@ def ran(words, case, rounds):
     """What a run writes to standard error, once its line is checked. The words are the program, and before it what runs it."""
     numbers = {**dataclasses.asdict(case), "rounds": rounds}
     run = subprocess.run([*words, *map(str, numbers.values())], capture_output=True, check=False)
-    numbers["inside"] = case.held + case.waiting + BUSY + case.blocked
+    numbers["inside"] = case.held + case.waiting + DEPTH + case.blocked
     line = " ".join(f"{name}={number}" for name, number in numbers.items()) + "\n"
     if run.returncode != 0 or run.stdout.decode() != line:
         sys.exit(f"{words[-1]} ended with {run.returncode}: {run.stdout.decode()}{run.stderr.decode()}")

@@ -6,8 +6,8 @@ pass all the same. Their names are read from the sources, and nothing is run whe
 
     refused_memory.py [PROGRAM]
 
-The program is `evsched`; where none is named it is that of the build. The tests are those that `rt test` builds in their crates. A C
-compiler makes the library that refuses, which stands before the C library's allocator (LD_PRELOAD).
+The program is `evsched`; where none is named it is that of the build. The tests are those that the gate builds, and `rt test` in their
+crates. A C compiler makes the library that refuses, which stands before the C library's allocator (LD_PRELOAD).
 """
 import os
 import pathlib

@@ -26,3 +26,4 @@ mod rows;
 mod runs;
 mod steps;
 mod threads;
+mod unknown_queue;

@@ -2,7 +2,7 @@
 
 use super::fault::RigFault;
 use arrayvec::ArrayVec;
-use event_device::{Device, Memory, Refused, Report, StepLog, Swept};
+use event_device::{Device, Memory, Port, PortCounts, Refused, Report, StepLog, Swept};
 use evt_types::{Delivery, Event, Op, Step};
 
 /// An event of a middle priority that a port enqueues: operation, queue, flow and payload.
@@ -30,6 +30,8 @@ impl Sent {
 pub(crate) enum Call {
     /// The port enqueues the event, and it is taken.
     Enqueue(usize, Sent),
+    /// The port enqueues the event and is refused so: what it holds stays, and of what it counts the refusals alone go up by one.
+    Refuse(usize, Sent, Refused),
     /// The port dequeues at most so many events; those that come are queue 0's, by their numbers.
     Dequeue(usize, usize, &'static [(u64, Sent)]),
     /// One sweep takes so many replies, gives so many events, and finds no ring full.
@@ -52,6 +54,7 @@ pub(crate) fn play(device: &mut Device<Vec<Step>>, calls: &[Call]) -> Result<(),
 fn make(device: &mut Device<Vec<Step>>, call: Call) -> Result<bool, Memory> {
     match call {
         Call::Enqueue(port, sent) => Ok(enqueue(device, port, sent.event()) == Some(Ok(()))),
+        Call::Refuse(port, sent, refused) => Ok(is_refused(device, port, sent.event(), refused)),
         Call::Dequeue(port, most, wanted) => Ok(is_dequeued(device, port, most, wanted)),
         Call::Sweep(taken, given) => {
             let wanted = Swept {
@@ -75,6 +78,43 @@ fn enqueue(
     let answer = port.enqueue(event);
     device.put_back(port).ok()?;
     Some(answer)
+}
+
+/// The counts after one refusal more, of a NEW that came late or of an event for a queue that isn't there.
+fn counted(counts: PortCounts, refused: Refused) -> PortCounts {
+    match refused {
+        Refused::Stopped => PortCounts {
+            stopped: counts.stopped.saturating_add(1),
+            ..counts
+        },
+        Refused::BadQueue => PortCounts {
+            bad_queue: counts.bad_queue.saturating_add(1),
+            ..counts
+        },
+        _ => counts,
+    }
+}
+
+/// Whether the port refuses the event so, and changes nothing beside.
+fn refuses(port: &mut Port, event: Event, refused: Refused) -> bool {
+    let (held, counts) = (port.held(), port.counts());
+    let answer = port.enqueue(event);
+    answer == Err(refused) && port.held() == held && port.counts() == counted(counts, refused)
+}
+
+/// Whether the port of this number refuses the event so.
+fn is_refused(
+    device: &mut Device<Vec<Step>>,
+    number: usize,
+    event: Event,
+    refused: Refused,
+) -> bool {
+    let Some(mut port) = device.take_port(number) else {
+        return false;
+    };
+    let is_so = refuses(&mut port, event, refused);
+    let is_back = device.put_back(port).is_ok();
+    is_back && is_so
 }
 
 /// Whether the port of this number dequeues these events of queue 0.

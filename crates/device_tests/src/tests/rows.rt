@@ -13,8 +13,8 @@ pub(crate) struct Row {
     pub(crate) name: &'static str,
     pub(crate) plan: Plan,
     pub(crate) calls: &'static [Call],
-    log: &'static [Logged],
-    left: Left,
+    pub(crate) log: &'static [Logged],
+    pub(crate) left: Left,
 }
 
 /// A port that brings events in, one for the first queue, and one for both.

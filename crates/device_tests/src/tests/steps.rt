@@ -50,6 +50,8 @@ pub(crate) enum Logged {
     Given(usize, usize, u64),
     /// The lane's oldest event is forwarded as this one.
     Forwarded(usize, Sent),
+    /// The lane's oldest event is released.
+    Released(usize),
     /// A new event of lane 0 is turned away.
     Turned(Sent),
     Shut,
@@ -77,6 +79,10 @@ impl Logged {
             Logged::Forwarded(lane, sent) => Step::Done {
                 lane,
                 outcome: Outcome::Forwarded(sent.event()),
+            },
+            Logged::Released(lane) => Step::Done {
+                lane,
+                outcome: Outcome::Released,
             },
             Logged::Turned(sent) => Step::Turned {
                 lane: 0,

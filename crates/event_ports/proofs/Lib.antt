@@ -26,3 +26,4 @@ pub mod IdleLanes
 pub mod Noting
 pub mod Shown
 pub mod Rings
+pub mod LastStints

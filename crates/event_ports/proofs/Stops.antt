@@ -10,7 +10,7 @@ use Rattle.lane_rings.specs.declared.far.Far.{Far}
 use Rattle.flow_claims.specs.declared.seating.Past.{Past}
 use Rattle.flow_claims.specs.Ends.{IsEnd}
 use Rattle.flow_claims.specs.Lists.{no_lists}
-use Rattle.flow_claims.specs.Stints.{at_lane, answered_in, answered_in_all}
+use Rattle.flow_claims.specs.Stints.{at_lane, answered_in, answered_in_all, left_in}
 use Rattle.flow_claims.proofs.Records.{record_lanes}
 use Rattle.event_ports.proofs.Endings.{left_is}
 use Rattle.event_ports.proofs.Totals.{sum_split, sum_within}
@@ -59,4 +59,7 @@ shared linked lanes finished lane far all is = record {
   among = is.among;
   once = is.once;
   left = left_is lanes finished lane far is;
+  done = is.done;
+  final = is.final;
+  last = ap left_in is.lists;
 }

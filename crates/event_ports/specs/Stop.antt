@@ -8,7 +8,7 @@ use Rattle.lane_rings.specs.declared.far.Far.{Far}
 use Rattle.flow_claims.specs.declared.seating.Past.{Past}
 use Rattle.flow_claims.specs.Ends.{IsEnd}
 use Rattle.flow_claims.specs.Lists.{no_lists}
-use Rattle.flow_claims.specs.Stints.{IsRecordFrom, below, received_in_all, answered_in_all, times}
+use Rattle.flow_claims.specs.Stints.{IsDone, IsFinal, IsRecordFrom, answered_in_all, below, last_end, left_in, received_in_all, times}
 use Rattle.flow_claims.specs.declared.seating.Seating.{Seating}
 use Rattle.flow_claims.specs.Seats.{HoldsNone}
 use Rattle.event_ports.specs.declared.port.Port.{Port}
@@ -45,7 +45,8 @@ abbrev pub AreEnds : List Far → List Past → ℕ → (ℕ → Far) → Type 0
 AreEnds lanes finished n ends = (j : ℕ) → j < n → IsEnd lanes finished j (ends j)
 
 -- What a flow lane's end has was received and answered by ports that are linked to the lane, stint by stint: its record is all of these
--- stints that are the lane's, each once and at its number. What they left unanswered is what is unanswered at the end.
+-- stints that are the lane's, each once and at its number. What they left unanswered is what is unanswered at the end. One that gave the
+-- lane back left nothing, and after one that surrendered it none came, so that what is unanswered is what the last one left.
 pub record IsShared (linked : ℕ → ℕ → Bool) (finished : List Past) (lane : ℕ) (far : Far) : Type 0 where
   pub past : List Past
   pub recorded : IsRecordFrom lane 0 no_lists past
@@ -56,6 +57,9 @@ pub record IsShared (linked : ℕ → ℕ → Bool) (finished : List Past) (lane
   pub among : All (Contains finished) past
   pub once : (number : ℕ) → times lane number finished ≡ below number (length past)
   pub left : left_past lane finished ≡ unanswered far
+  pub done : All IsDone past
+  pub final : IsFinal past
+  pub last : unanswered far ≡ left_in (last_end no_lists past)
 
 -- The finished stints of a port came to those that a seat had: they are what it received from flow lanes and answered to them, and of
 -- lanes to which it is linked.

@@ -1,8 +1,9 @@
 //! The port.
 
-ghost use Rattle.std.specs.Prelude.{◌≡◌, ℕ, [], false};
+ghost use Rattle.std.specs.Prelude.{◌≡◌, ◌≢◌, ℕ, ◌+◌, [], true, false};
+ghost use Rattle.credit_pool.specs.Pockets.{IsPocket};
 ghost use Rattle.event_ports.specs.declared.lane.Lane.TheVariants.{Flow};
-ghost use Rattle.event_ports.specs.Desks.{hand as hand_at, holds_flow};
+ghost use Rattle.event_ports.specs.Desks.{account_of as account_at, hand as hand_at, holds_flow, mores_by, news_by, pocket_of as pocket_at, releases_by};
 ghost use Rattle.event_ports.specs.Handed.{AllShown};
 ghost use Rattle.event_ports.specs.Lanes.{held_of};
 
@@ -13,13 +14,16 @@ use event_answers::{Behind, Refused};
 use evt_types::{Delivery, Event, PackedEvent};
 
 /// A port of a device: the way of one thread into it and out of it. Between two of its calls all that it enqueued is in the reply
-/// rings, where the scheduler sees it, and it holds just those flow lanes of which it holds something.
+/// rings, where the scheduler sees it, and it holds just those flow lanes of which it holds something: each under its open stint.
+/// In its pocket is what it drew and what it released, less what it returned, its NEWs and its FORWARD_MOREs.
 #[derive(Drop)]
 pub struct Port {
     pub(crate) desk: Desk,
     pub(crate) counts: PortCounts,
     pub ghost shown: { AllShown desk.lanes },
     pub ghost idle: { (j : ℕ) → held_of (Flow j) (hand_at desk).holding ≡ [] → holds_flow desk j ≡ false },
+    pub ghost staffed: { (j : ℕ) → held_of (Flow j) (hand_at desk).holding ≢ [] → holds_flow desk j ≡ true },
+    pub ghost paid: { IsPocket (pocket_at desk) ((account_at desk).drawn + releases_by desk) ((account_at desk).returned + news_by desk + mores_by desk) },
 }
 
 impl Port {
@@ -76,7 +80,7 @@ impl Port {
     /// The causes of a refusal in their order: of a NEW `Stopped`, `BadQueue`, `Backpressure` or `Raced`, `Full`; of an answer
     /// `BadQueue`, `NothingHeld`, `Full`; of a FORWARD_MORE `BadQueue`, `NothingHeld`, `TooMany`, then with an empty pocket `Stopped`,
     /// `Backpressure` or `Raced`, and `Full`. What was drawn before a `Full` stays in the pocket.
-    #[tactic(auto, using(crate::proofs::IdleLanes::idle_lanes))]
+    #[tactic(auto, using(crate::proofs::IdleLanes::idle_lanes, crate::proofs::IdleLanes::staffed_lanes))]
     pub fn enqueue(&mut self, event: Event) -> Result<(), Refused>
         ensures site { own_site self.new ≡ own_site self.old }
         ensures credit { Stays (account_of self.old) (account_of self.new) }
@@ -122,7 +126,7 @@ impl Port {
 
     /// Dequeues into an array of the caller's, which is emptied first, and so spares the copies of a whole array: how many came.
     /// After `Behind` the array is empty.
-    #[tactic(auto, using(crate::proofs::IdleLanes::idle_lanes))]
+    #[tactic(auto, using(crate::proofs::IdleLanes::idle_lanes, crate::proofs::IdleLanes::staffed_lanes))]
     pub fn dequeue_burst(
         &mut self,
         max: usize,

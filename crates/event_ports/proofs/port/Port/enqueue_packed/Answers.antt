@@ -3,11 +3,14 @@ use Rattle.std.proofs.Common.{take, sym, subst}
 use Rattle.event_ports.specs.Lanes.{Hand, SubmitsAll}
 use Rattle.event_ports.specs.Ports.{hand}
 use Rattle.event_ports.proofs.Flushes.{still_stops, bursts_then}
-use Rattle.event_ports.proofs.IdleLanes.{idle_lanes}
+use Rattle.event_ports.proofs.IdleLanes.{idle_lanes, staffed_lanes}
 use Rattle.event_ports.proofs.port.Port.enqueue_packed.Goals as goal
 
 pub invariant_of-self-clause-idle : goal.invariant_of-self-clause-idle
 invariant_of-self-clause-idle c = idle_lanes c.flush.new.self.lanes
+
+pub invariant_of-self-clause-staffed : goal.invariant_of-self-clause-staffed
+invariant_of-self-clause-staffed c = staffed_lanes c.flush.new.self.lanes
 
 pub returns-clause-submitted : goal.returns-clause-submitted
 returns-clause-submitted c =

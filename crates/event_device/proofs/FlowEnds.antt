@@ -109,4 +109,7 @@ module _ (fars ends : List Far) (rests : List left.Rest) (n : â„•) (are : fars â
         among = has_shared.among;
         once = has_shared.once;
         held = ap (map pair_of) (sym has_shared.left);
+        done = has_shared.done;
+        final = has_shared.final;
+        last = ap (map pair_of) has_shared.last;
       })

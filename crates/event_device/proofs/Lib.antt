@@ -5,6 +5,7 @@ pub mod Ends
 pub mod FlowEnds
 pub mod Found
 pub mod Fresh
+pub mod Holders
 pub mod Homes
 pub mod InOrder
 pub mod Keeping

@@ -29,10 +29,11 @@ use Rattle.event_device.specs.Between.{rest_at}
 use Rattle.event_device.specs.Control.{was_shut}
 use Rattle.event_device.specs.Device.{number_of}
 use Rattle.event_device.specs.Listed.{kept_all, turned_all, waiting_all}
-use Rattle.event_device.specs.Stop.{entries_of}
+use Rattle.event_device.specs.Stop.{AreStints, entries_of}
 use Rattle.event_device.proofs.Accounts.{credits_come_out}
 use Rattle.event_device.proofs.FlowEnds.{no_new_past, stints_are}
 use Rattle.event_device.proofs.Found.{all_held, own_all}
+use Rattle.event_device.proofs.Holders.{held_by_last}
 use Rattle.event_device.proofs.LaneEnds.{as_many_ends}
 use Rattle.event_device.proofs.Logs as logs
 use Rattle.event_device.proofs.Members.{lanes_are_small, nears_counted, sorted_count}
@@ -165,6 +166,9 @@ returns g c =
     own_all answered (λ x. (hand x).said Own) (λ (x : Rest). x.answered) (λ near far. refl) nears fars ends rests sorted (length p.ports) as_many are still.left.answered_is known.ports.numbers in
     let held : All Held sorted =
     own_all held_list (λ x. map pair_in (held_of Own (hand x).holding)) still_held (λ near far. refl) nears fars ends rests sorted (length p.ports) as_many are still.left.ordered known.ports.numbers in
+    let flow_stints : (j : ℕ) → j < length (flow_lanes p) → AreStints p j still.finished (rest (length p.ports + j)) =
+    λ j low.
+    stints_are fars ends rests (length p.ports) are n_is linked still.finished still.shared p nears j as_many (λ port lane. ap (λ (x : Sight). has lane (flow_links x.core.shape port)) seen) (omega (arith, low, flows)) in
     let same_ports = IsPermutation-sym unsorted sorted known.ports.same in
     let back = s.account.returned in
     let report : Report _ =
@@ -222,9 +226,9 @@ returns g c =
         received = All-permutation Received sorted unsorted same_ports received;
         answered_is = All-permutation Answered sorted unsorted same_ports answered_is;
         held = All-permutation Held sorted unsorted same_ports held;
-        flows = λ j low.
-            stints_are fars ends rests (length p.ports) are n_is linked still.finished still.shared p nears j as_many (λ port lane. ap (λ (x : Sight). has lane (flow_links x.core.shape port)) seen) (omega (arith, low, flows));
+        flows = flow_stints;
       };
+      holders = λ j low some. held_by_last p j still.finished sorted (rest (length p.ports + j)) still.stints (flow_stints j low) some;
       world = world_of p T rest rests_are;
       waiting = waiting_is;
       kept = kept_is;
@@ -233,6 +237,7 @@ returns g c =
       untaken = c.list_lanes.ensures.untaken p lanes_count;
       turned = c.take_apart-log.result.0.turned_are ∙ ap turned_all known.books;
       pockets = pockets_are;
+      paid = still.paid;
       own = own_is;
       free = omega (arith, still.free, limit_is, returned_is, drawn_is, known.apart.undrawn);
       sum_is = ap (λ m. report.free + m + report.own + entries_of report) (ap sum pockets_are) ∙ comes_out;

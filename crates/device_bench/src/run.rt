@@ -11,6 +11,9 @@ use std::alloc::Global;
 use std::sync::Wait;
 use std::thread::Threads;
 
+/// How many events a worker dequeues at once, at most.
+const BURST: usize = 32;
+
 /// Runs a trace of so many events through the document's pipeline with so many workers, and gives the length of the text of what the
 /// stages accepted, which is that of the plain pipeline's.
 pub fn text_length<R: Threads + Wait + Sync, G: Gate>(
@@ -30,6 +33,6 @@ pub fn text_length<R: Threads + Wait + Sync, G: Gate>(
         actions,
         trace: entries(alloc, events)?,
     };
-    let text = pipeline_text(rt, alloc, pipeline, gate)?;
+    let text = pipeline_text(rt, alloc, pipeline, BURST, gate)?;
     Ok(text.as_bytes().len())
 }

@@ -1,6 +1,7 @@
--- A finished log's text is that of the plain pipeline.
-use Rattle.std.proofs.Common.{◌≡◌, ℕ, List, length, map, ap, subst, ◌∙◌}
+-- A finished log's text is that of the plain pipeline, where it didn't stray.
+use Rattle.std.proofs.Common.{◌≡◌, ℕ, List, length, map, ap, subst, ◌∙◌, sym}
 use Rattle.evt_types.specs.Plan.{Plan}
+use Rattle.evt_types.specs.declared.draft.Serving.TheVariants.{Flows}
 use Rattle.evt_types.specs.declared.step.Step.{Step}
 use Rattle.pipeline_laws.proofs.RunTexts.{text_is_plain}
 use Rattle.pipeline_laws.specs.RunText.{plain_text, run_text}
@@ -9,6 +10,7 @@ use Rattle.pipeline_laws.specs.declared.stage.Action.{Action}
 use Rattle.pipeline_laws.specs.declared.stage.Entry.{Entry}
 use Rattle.transcripts.specs.Lawful.{IsPrefix, Lawful}
 use Rattle.transcripts.specs.Laws.{AddsNone}
+use Rattle.pipeline_app.specs.Runs.{Strays}
 
 -- the same actions and the same log
 due_same : (actions others : List Action) (T U : List Step) → actions ≡ others → T ≡ U → AddsNone T × AnswersAreDue actions T → AddsNone U × AnswersAreDue others U
@@ -23,3 +25,16 @@ finished_text p actions others trace entries T U V n count a e u v lawful staged
     ∙ text_is_plain p actions trace T lawful staged
     (record { answers = same.1; adds_none = same.0; newcomers = subst (λ ts. IsPrefix (newcomers T) (map new_event ts)) e news })
     (subst (λ ts. IsFinished p ts T) e finished))
+
+-- the answers of a finished log aren't due
+pub finished_stray : (p : Plan) (actions others : List Action) (trace entries : List Entry) (T V : List Step) → p.serving ≡ Flows → others ≡ actions → entries ≡ trace → V ≡ T
+    → Lawful p T → IsPrefix (newcomers T) (map new_event entries) → IsFinished p entries T → (AddsNone V × AnswersAreDue others V → ⊥) → Strays (record { plan = p; actions = actions; trace = trace })
+finished_stray p actions others trace entries T V flows a e v lawful news finished strayed =
+    record {
+      flows = flows;
+      log = T;
+      lawful = lawful;
+      newcomers = subst (λ ts. IsPrefix (newcomers T) (map new_event ts)) e news;
+      finished = subst (λ ts. IsFinished p ts T) e finished;
+      strayed = λ due. strayed (due_same actions others T V (sym a) (sym v) due);
+    }

@@ -27,10 +27,10 @@ early_input workers known Memory h = tt
 early_input workers known NoSeat h = absurd h
 early_input workers known Strayed h = absurd h
 
-pub early_run : (workers : ℕ) (bytes : List ℕ) (said : Planned) (e : AppFault) → pipeline_of workers bytes ≡ Ok said → IsRunFault said.plan e → IsEarlyFault workers (Some bytes) e
+pub early_run : (workers : ℕ) (bytes : List ℕ) (said : Planned) (e : AppFault) → pipeline_of workers bytes ≡ Ok said → IsRunFault said e → IsEarlyFault workers (Some bytes) e
 early_run workers bytes said Read is h = tt
 early_run workers bytes said Write is h = absurd h
 early_run workers bytes said (Document f) is h = absurd h
 early_run workers bytes said Memory is h = tt
 early_run workers bytes said NoSeat is h = tt
-early_run workers bytes said Strayed is h = record { said = said; flows = h; document = is }
+early_run workers bytes said Strayed is h = record { said = said; strays = h; document = is }

@@ -1,11 +1,12 @@
 -- What the program writes of a pipeline: the text of the plain pipeline, which one thread would compute from the trace.
-use Rattle.std.specs.Prelude.{ℕ, ◌≡◌, ◌≤◌, ◌<◌, List, [], Option, Ok, Err, IfSome, All, length}
+use Rattle.std.specs.Prelude.{ℕ, ◌≡◌, ◌≤◌, ◌<◌, List, [], Option, Ok, Err, IfSome, All, length, map}
 use Rattle.std.specs.Io.KnownBytes.{Appends, Keeps}
-use Rattle.evt_types.specs.Plan.{Plan, port_of}
+use Rattle.evt_types.specs.Plan.{port_of}
 use Rattle.evt_types.specs.declared.draft.Serving.TheVariants.{Flows}
+use Rattle.evt_types.specs.declared.step.Step.{Step}
 use Rattle.pipeline_laws.specs.Pipeline.{IsProper}
 use Rattle.pipeline_laws.specs.RunText.{plain_text}
-use Rattle.pipeline_laws.specs.Worked.{IsStaged}
+use Rattle.pipeline_laws.specs.Worked.{AnswersAreDue, IsFinished, IsStaged, new_event, newcomers}
 use Rattle.pipeline_threads.specs.declared.fault.RunFault.{RunFault}
 use Rattle.pipeline_threads.specs.declared.fault.RunFault.TheVariants as runs
 use Rattle.command_line.specs.Output.{AppendsPrefix}
@@ -13,6 +14,8 @@ use Rattle.command_line.specs.declared.fault.AppFault.{AppFault}
 use Rattle.command_line.specs.declared.fault.AppFault.TheVariants as app
 use Rattle.play_documents.specs.Document.{IsNamedDoc}
 use Rattle.run_documents.specs.Pipelines.{Planned, pipeline_of}
+use Rattle.transcripts.specs.Lawful.{IsPrefix, Lawful}
+use Rattle.transcripts.specs.Laws.{AddsNone}
 
 -- The text of the plain pipeline of a document for so many workers, of that one which the reader tells, where it tells its bytes.
 pub record HasText (workers : ℕ) (known : Option (List ℕ)) (text : List ℕ) : Type 0 where
@@ -37,20 +40,30 @@ AfterFault workers known old new app.Memory = Keeps old new
 AfterFault workers known old new app.NoSeat = Keeps old new
 AfterFault workers known old new app.Strayed = Keeps old new
 
--- the document is served by flow lanes
-pub record IsByFlows (workers : ℕ) (known : Option (List ℕ)) : Type 0 where
+-- A run of the pipeline, which flow lanes serve, strayed: its log, to whose end the whole trace went in and came out, has an answer that
+-- isn't its stage's action of the event that it answers, or an event that was added beside another.
+pub record Strays (p : Planned) : Type 0 where
+  pub flows : p.plan.serving ≡ Flows
+  pub log : List Step
+  pub lawful : Lawful p.plan log
+  pub newcomers : IsPrefix (newcomers log) (map new_event p.trace)
+  pub finished : IsFinished p.plan p.trace log
+  pub strayed : AddsNone log × AnswersAreDue p.actions log → ⊥
+
+-- a run of the document did
+pub record HasStrayed (workers : ℕ) (known : Option (List ℕ)) : Type 0 where
   pub said : Planned
-  pub flows : said.plan.serving ≡ Flows
+  pub strays : Strays said
   pub document : IfSome known (λ input. pipeline_of workers input ≡ Ok said)
 
--- Which faults come before the first byte is written: a document's where it is its first, and a stray only where flow lanes serve.
+-- Which faults come before the first byte is written: a document's where it is its first, and a stray only after a run that strayed.
 abbrev pub IsEarlyFault : ℕ → Option (List ℕ) → AppFault → Type 0
 IsEarlyFault workers known app.Write = ⊥
 IsEarlyFault workers known app.Read = Unit {0}
 IsEarlyFault workers known (app.Document f) = IsNamedDoc f × IfSome known (λ input. pipeline_of workers input ≡ Err f)
 IsEarlyFault workers known app.Memory = Unit {0}
 IsEarlyFault workers known app.NoSeat = Unit {0}
-IsEarlyFault workers known app.Strayed = IsByFlows workers known
+IsEarlyFault workers known app.Strayed = HasStrayed workers known
 
 -- which faults a run ends with
 abbrev pub IsFaultOf : ℕ → Option (List ℕ) → AppFault → Type 0
@@ -59,7 +72,7 @@ IsFaultOf workers known app.Read = Unit {0}
 IsFaultOf workers known (app.Document f) = IsNamedDoc f × IfSome known (λ input. pipeline_of workers input ≡ Err f)
 IsFaultOf workers known app.Memory = Unit {0}
 IsFaultOf workers known app.NoSeat = Unit {0}
-IsFaultOf workers known app.Strayed = IsByFlows workers known
+IsFaultOf workers known app.Strayed = HasStrayed workers known
 
 -- ---- a pipeline that was read
 
@@ -72,13 +85,13 @@ pub record IsRunnable (p : Planned) : Type 0 where
   pub producer : (port_of p.plan 0).links ≡ []
 
 -- which faults its run ends with
-abbrev pub IsRunFault : Plan → AppFault → Type 0
+abbrev pub IsRunFault : Planned → AppFault → Type 0
 IsRunFault p app.Write = ⊥
 IsRunFault p app.Read = ⊥
 IsRunFault p (app.Document f) = ⊥
 IsRunFault p app.Memory = Unit {0}
 IsRunFault p app.NoSeat = Unit {0}
-IsRunFault p app.Strayed = p.serving ≡ Flows
+IsRunFault p app.Strayed = Strays p
 
 abbrev pub run_fault : RunFault → AppFault
 run_fault runs.Memory = app.Memory

@@ -19,6 +19,10 @@ use std::io::{Read, Write};
 use std::sync::Wait;
 use std::thread::Threads;
 
+/// How many events a worker of a document's run dequeues at once. With more, one that waits at the gate for another worker could have
+/// claimed what that one is to work on.
+const ONE: usize = 1;
+
 /// The text of a finished log of so many stages, which keeps every step.
 fn log_text(alloc: Global, stages: usize, log: &[Step]) -> Result<String, AllocError>
     ensures { IfOk result (λ text. string_bytes text ≡ run_text stages (logged log.now)) }
@@ -53,12 +57,13 @@ fn ports_text<R: Threads + Wait + Sync, G: Gate>(
     rt: &R,
     alloc: Global,
     pipeline: Pipeline,
+    most: usize,
     gate: &G,
 ) -> Result<String, AppFault>
     requires runnable { IsRunnable (planned_of pipeline) }
     requires serving { pipeline.shape.serving ≡ Ports }
     ensures text { IfOk result (λ text. string_bytes text ≡ plain_text pipeline.actions.items pipeline.trace.items) }
-    ensures fault { IfErr result (IsRunFault pipeline.shape) }
+    ensures fault { IfErr result (IsRunFault (planned_of pipeline)) }
 {
     let Pipeline {
         shape,
@@ -66,7 +71,7 @@ fn ports_text<R: Threads + Wait + Sync, G: Gate>(
         trace,
     } = pipeline;
     let log = AcceptedLog::new(alloc);
-    let report = match run_pipeline(rt, alloc, log, shape, &actions, &trace, gate) {
+    let report = match run_pipeline(rt, alloc, log, shape, &actions, &trace, most, gate) {
         Ok(report) => report,
         Err(fault) => return Err(run_fault(fault)),
     };
@@ -79,12 +84,13 @@ fn flows_text<R: Threads + Wait + Sync, G: Gate>(
     rt: &R,
     alloc: Global,
     pipeline: Pipeline,
+    most: usize,
     gate: &G,
 ) -> Result<String, AppFault>
     requires runnable { IsRunnable (planned_of pipeline) }
     requires serving { pipeline.shape.serving ≡ Flows }
     ensures text { IfOk result (λ text. string_bytes text ≡ plain_text pipeline.actions.items pipeline.trace.items) }
-    ensures fault { IfErr result (IsRunFault pipeline.shape) }
+    ensures fault { IfErr result (IsRunFault (planned_of pipeline)) }
 {
     let Pipeline {
         shape,
@@ -94,7 +100,7 @@ fn flows_text<R: Threads + Wait + Sync, G: Gate>(
     let queues = shape.queues().len();
     let lanes = shape.lanes();
     let log: Vec<Step> = Vec::new(alloc);
-    let report = match run_pipeline(rt, alloc, log, shape, &actions, &trace, gate) {
+    let report = match run_pipeline(rt, alloc, log, shape, &actions, &trace, most, gate) {
         Ok(report) => report,
         Err(fault) => return Err(run_fault(fault)),
     };
@@ -106,20 +112,22 @@ fn flows_text<R: Threads + Wait + Sync, G: Gate>(
 }
 
 /// Runs the pipeline's trace through its stages, each port in a thread of its own, and gives the text of what each stage accepted, by
-/// flow and level. Whatever the schedule, it is that of the plain pipeline.
+/// flow and level. Whatever the schedule, it is that of the plain pipeline. A worker dequeues at most `most` events at once, as
+/// `run_pipeline` says.
 pub fn pipeline_text<R: Threads + Wait + Sync, G: Gate>(
     rt: &R,
     alloc: Global,
     pipeline: Pipeline,
+    most: usize,
     gate: &G,
 ) -> Result<String, AppFault>
     requires { IsRunnable (planned_of pipeline) }
     ensures text { IfOk result (λ text. string_bytes text ≡ plain_text pipeline.actions.items pipeline.trace.items) }
-    ensures fault { IfErr result (IsRunFault pipeline.shape) }
+    ensures fault { IfErr result (IsRunFault (planned_of pipeline)) }
 {
     match pipeline.shape.serving() {
-        Serving::Ports => ports_text(rt, alloc, pipeline, gate),
-        Serving::Flows => flows_text(rt, alloc, pipeline, gate),
+        Serving::Ports => ports_text(rt, alloc, pipeline, most, gate),
+        Serving::Flows => flows_text(rt, alloc, pipeline, most, gate),
     }
 }
 
@@ -136,7 +144,7 @@ fn document_text<R: Threads + Wait + Sync, G: Gate>(
     ensures fault { IfErr result (IsEarlyFault workers (Some bytes.now)) }
 {
     let pipeline = read_pipeline(alloc, bytes, workers as usize)?;
-    pipeline_text(rt, alloc, pipeline, gate)
+    pipeline_text(rt, alloc, pipeline, ONE, gate)
 }
 
 /// The text of the run of the document that the reader gives.
@@ -158,7 +166,9 @@ fn ran_text<R: Threads + Wait + Sync, I: Read, G: Gate>(
 
 /// Reads a pipeline's document, runs its trace through the stages with so many workers, each in a thread of its own, and writes what
 /// each stage accepted, by flow and level. Whatever the schedule, the text is that of the plain pipeline; it is built whole and then
-/// written. Each worker passes the gate before each event's action.
+/// written. Each worker dequeues one event at a time: it passes the gate before the event's action, and dequeues the next one once this
+/// one is answered. `Strayed` comes only where the log of the run, which flow lanes served, has an answer that isn't its stage's action
+/// of the event that it answers, or an event that was added beside another.
 pub fn run_trace<R: Threads + Wait + Sync, I: Read, W: Write, G: Gate>(
     rt: &R,
     alloc: Global,

@@ -43,6 +43,9 @@ fn make_device<L: StepLog>(
 /// yet: port 0 brings the events in, each other port carries out the stages' actions, each in a thread of its own, and the scheduler
 /// runs in this one. The report is that of the stop; whatever the schedule was, its log is that of a finished run. Where the device
 /// serves by ports, each answer in it is its stage's action of the event that it answers, and no event was added beside another.
+///
+/// A worker dequeues at most `most` events at once, of 1 to 64: it passes the gate before each one's action, in order, and answers them
+/// all before it dequeues again. A number below counts as 1, and one above as 64.
 pub fn run_pipeline<R: Threads + Wait + Sync, G: Gate, L: StepLog>(
     rt: &R,
     alloc: Global,
@@ -50,6 +53,7 @@ pub fn run_pipeline<R: Threads + Wait + Sync, G: Gate, L: StepLog>(
     shape: Shape,
     actions: &[Action],
     trace: &[Entry],
+    most: usize,
     gate: &G,
 ) -> Result<Report<L>, RunFault>
     requires empty { L.steps log ≡ [] }
@@ -68,7 +72,7 @@ pub fn run_pipeline<R: Threads + Wait + Sync, G: Gate, L: StepLog>(
         .saturating_mul(trace.len());
     let ports = shape.ports().len();
     let device = make_device(alloc, log, shape, steps)?;
-    let device = run_threads(rt, gate, actions, trace, device, ports)?;
+    let device = run_threads(rt, gate, actions, trace, most, device, ports)?;
     match device.stop() {
         Ok(report) => Ok(report),
         Err((_, device)) => {

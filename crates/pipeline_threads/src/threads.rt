@@ -21,12 +21,13 @@ use std::sync::Wait;
 use std::thread;
 use std::thread::{Scope, Threads};
 
-/// What a port's thread does: port 0's is the producer, each other's a worker.
+/// What a port's thread does: port 0's is the producer, each other's a worker, which dequeues at most so many events at once.
 fn run_port<R: Wait, G: Gate>(
     rt: &R,
     gate: &G,
     actions: &[Action],
     trace: &[Entry],
+    most: usize,
     port: Port,
 ) -> Port
     requires actions { All IsProper actions.now }
@@ -37,7 +38,7 @@ fn run_port<R: Wait, G: Gate>(
     if port.number() == 0 {
         produce(rt, trace, port)
     } else {
-        work(rt, gate, actions, port)
+        work(rt, gate, actions, most, port)
     }
 }
 
@@ -62,6 +63,7 @@ fn run_ports<'s, E, R: Threads + Wait + Sync, G: Gate, L: StepLog>(
     gate: &'s G,
     actions: &'s [Action],
     trace: &'s [Entry],
+    most: usize,
     device: &mut Device<L>,
     count: usize,
 ) -> Result<(), Memory>
@@ -86,7 +88,7 @@ fn run_ports<'s, E, R: Threads + Wait + Sync, G: Gate, L: StepLog>(
     let job = move || -> Port
         requires { (All IsProper actions.now) × (length actions.now ≤ 255) × IsIdle port }
         ensures { Returns actions.entry.now trace.entry.now port result }
-    { run_port(rt, gate, actions, trace, port) };
+    { run_port(rt, gate, actions, trace, most, port) };
     let thread = match scope.spawn_with(promise, job) {
         Ok(thread) => thread,
         // `drop` ends the job and its port in a call: else this body would, part by part, for the proof to follow.
@@ -96,7 +98,7 @@ fn run_ports<'s, E, R: Threads + Wait + Sync, G: Gate, L: StepLog>(
             return Err(AllocError);
         }
     };
-    let ran = run_ports(rt, scope, gate, actions, trace, device, count - 1);
+    let ran = run_ports(rt, scope, gate, actions, trace, most, device, count - 1);
     let port = thread.join(rt);
     let Ok(()) = ran else {
         drop(port);
@@ -106,12 +108,14 @@ fn run_ports<'s, E, R: Threads + Wait + Sync, G: Gate, L: StepLog>(
     Ok(())
 }
 
-/// Runs the trace through the pipeline: each of so many ports in a thread of its own, the scheduler in this one.
+/// Runs the trace through the pipeline: each of so many ports in a thread of its own, the scheduler in this one. A worker dequeues at
+/// most `most` events at once.
 pub(crate) fn run_threads<R: Threads + Wait + Sync, G: Gate, L: StepLog>(
     rt: &R,
     gate: &G,
     actions: &[Action],
     trace: &[Entry],
+    most: usize,
     device: Device<L>,
     count: usize,
 ) -> Result<Device<L>, Memory>
@@ -128,7 +132,7 @@ pub(crate) fn run_threads<R: Threads + Wait + Sync, G: Gate, L: StepLog>(
             ensures { IfOk result (HasRun actions.entry.now trace.entry.now count device) }
         {
             let mut device = device;
-            match run_ports(rt, scope, gate, actions, trace, &mut device, count) {
+            match run_ports(rt, scope, gate, actions, trace, most, &mut device, count) {
                 Ok(()) => Ok(device),
                 Err(memory) => {
                     drop(device);

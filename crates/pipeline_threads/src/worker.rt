@@ -18,14 +18,14 @@ use evt_types::{Delivery, Event, Outcome};
 use pipeline_laws::{Action, answer};
 use std::sync::Wait;
 
-/// How many events a worker dequeues at once, at most.
-const BURST: usize = 32;
+/// How many events a worker may dequeue at once.
+const MAX_BURST: usize = 64;
 
 /// What a worker dequeued at once, and the events by which it answers that. Its arrays are made once for all of a worker's bursts.
 #[derive(Drop)]
 struct Burst {
-    deliveries: ArrayVec<Delivery, 64>,
-    answers: ArrayVec<Event, BURST>,
+    deliveries: ArrayVec<Delivery, MAX_BURST>,
+    answers: ArrayVec<Event, MAX_BURST>,
 }
 
 impl Burst {
@@ -34,6 +34,19 @@ impl Burst {
             deliveries: ArrayVec::new(),
             answers: ArrayVec::new(),
         }
+    }
+}
+
+/// The number nearest to this one that a worker may dequeue at once. One that took none would never come to its end.
+fn nearest(most: usize) -> usize
+    ensures { result ≤ MAX_BURST }
+{
+    if most > MAX_BURST {
+        MAX_BURST
+    } else if most == 0 {
+        1
+    } else {
+        most
     }
 }
 
@@ -56,11 +69,11 @@ fn answer_each<G: Gate>(
     worker: usize,
     actions: &[Action],
     deliveries: &[Delivery],
-    answers: &mut ArrayVec<Event, BURST>,
+    answers: &mut ArrayVec<Event, MAX_BURST>,
 )
     requires actions { All IsProper actions.now }
     requires few { length actions.now ≤ 255 }
-    requires fits { length deliveries.now ≤ BURST }
+    requires fits { length deliveries.now ≤ MAX_BURST }
     ensures { AreDue actions.now deliveries.now answers.new.items }
 {
     answers.clear();
@@ -70,23 +83,25 @@ fn answer_each<G: Gate>(
     }
 }
 
-/// Dequeues a burst, of what has come, and answers it: whether the worker is to go on.
+/// Dequeues a burst of at most so many events, of what has come, and answers all of it: whether the worker is to go on.
 fn turn<R: Wait, G: Gate>(
     rt: &R,
     gate: &G,
     actions: &[Action],
+    most: usize,
     port: &mut Port,
     burst: &mut Burst,
     patience: &mut Patience,
 ) -> bool
     requires actions { All IsProper actions.now }
     requires few { length actions.now ≤ 255 }
+    requires fits { most ≤ MAX_BURST }
     requires even { IsEven actions.now port.old }
     ensures site { site_of port.new ≡ site_of port.old }
     ensures even { IsTrue result → IsEven actions.now port.new }
     ensures worked { HasWorked actions.now port.new }
 {
-    let Ok(came) = port.dequeue_burst(BURST, &mut burst.deliveries) else {
+    let Ok(came) = port.dequeue_burst(most, &mut burst.deliveries) else {
         unreachable!()
     };
     if came == 0 {
@@ -104,8 +119,14 @@ fn turn<R: Wait, G: Gate>(
     submit_all(rt, port, &burst.answers)
 }
 
-/// Receives and answers events, burst by burst, until the device is shut.
-pub(crate) fn work<R: Wait, G: Gate>(rt: &R, gate: &G, actions: &[Action], port: Port) -> Port
+/// Receives and answers events, in bursts of at most so many, until the device is shut.
+pub(crate) fn work<R: Wait, G: Gate>(
+    rt: &R,
+    gate: &G,
+    actions: &[Action],
+    most: usize,
+    port: Port,
+) -> Port
     requires actions { All IsProper actions.now }
     requires few { length actions.now ≤ 255 }
     requires idle { IsIdle port }
@@ -113,10 +134,19 @@ pub(crate) fn work<R: Wait, G: Gate>(rt: &R, gate: &G, actions: &[Action], port:
     ensures worked { HasWorked actions.now result }
 {
     let mut port = port;
+    let most = nearest(most);
     let mut burst = Burst::new();
     let mut patience = Patience::new();
     for _ in rt.forever() {
-        if !turn(rt, gate, actions, &mut port, &mut burst, &mut patience) {
+        if !turn(
+            rt,
+            gate,
+            actions,
+            most,
+            &mut port,
+            &mut burst,
+            &mut patience,
+        ) {
             return port;
         }
     }

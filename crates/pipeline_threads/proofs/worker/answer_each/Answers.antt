@@ -11,8 +11,8 @@ push-requires g c =
     let i = c.loop-delivery.delivery-index in
     let count = due_count c.args.actions.now (take i ds) c.loop-delivery.answers.items c.loop-delivery.invariant in
     let front : length (take i ds) ≡ i = length-take-le i ds (omega (arith, c.loop-delivery-test.true)) in
-    let fits : length ds ≤ 32 = c.requires.fits in
-    let room : length c.loop-delivery.answers.items < 32 = omega (arith, count, front, fits, c.loop-delivery-test.true) in
+    let fits : length ds ≤ 64 = c.requires.fits in
+    let room : length c.loop-delivery.answers.items < 64 = omega (arith, count, front, fits, c.loop-delivery-test.true) in
     (omega arith, room)
 
 pub loop-delivery-preserved : goal.loop-delivery-preserved

@@ -12,7 +12,7 @@ use std::alloc::Global;
 /// How many seeds a device is run with.
 const SEEDS: u64 = 20;
 /// How many turns a run has.
-const TURNS: usize = 600;
+const TURNS: usize = 800;
 /// How often a thing happens at least in the runs of a device, if they are worth the comparison.
 const OFTEN: u32 = 100;
 
@@ -126,6 +126,9 @@ struct Seen {
     given: u32,
     bounced: u32,
     nothing: u32,
+    /// A run gave more than one event, and it was known whose turn it was.
+    long: u32,
+    by_turn: u32,
     /// What was added beside an unanswered event was accepted at once, was kept, or was refused; and an event had as many as there
     /// may be.
     added: u32,
@@ -147,12 +150,25 @@ impl Seen {
             Made::Took(Some(PlainTook::Released)) => &mut self.released,
             Made::Took(Some(PlainTook::Turned)) => &mut self.turned,
             Made::Took(None) => &mut self.refused,
-            Made::Proposed(Some(_)) if step == Move::Bounce => &mut self.bounced,
-            Made::Proposed(Some(_)) => &mut self.given,
-            Made::Proposed(None) => &mut self.nothing,
+            Made::Gave(Some(_)) => &mut self.given,
+            Made::Bounced(Some(_)) => &mut self.bounced,
+            Made::Gave(None) | Made::Bounced(None) => &mut self.nothing,
             Made::Nothing => return,
         };
         *count = count.saturating_add(1);
+    }
+
+    /// Notes of how many events the last run was, and whether it was known whose turn it was, where events were given.
+    fn note_run(&mut self, made: Made, length: usize, knew_turn: bool) {
+        if !matches!(made, Made::Gave(Some(_))) {
+            return;
+        }
+        if length > 1 {
+            self.long = self.long.saturating_add(1);
+        }
+        if knew_turn {
+            self.by_turn = self.by_turn.saturating_add(1);
+        }
     }
 
     /// Notes that an event was to be added on a lane on which as many are added now as there may be.
@@ -163,7 +179,7 @@ impl Seen {
     }
 
     /// Whether each thing that may happen on the device has happened often: an ordered queue keeps events and what is added beside
-    /// them, and no other does.
+    /// them, and no other does; whose turn it is, is known where flow lanes serve.
     fn is_varied(&self, device: &Device) -> bool {
         let counts = [
             self.accepted,
@@ -171,6 +187,7 @@ impl Seen {
             self.turned,
             self.refused,
             self.given,
+            self.long,
             self.bounced,
             self.nothing,
             self.not_added,
@@ -178,6 +195,7 @@ impl Seen {
         ];
         counts.iter().all(|count| *count >= OFTEN)
             && comes_where(device.has_ordered(), self.kept)
+            && comes_where(device.serving == Serving::Flows, self.by_turn)
             && comes_where(device.has_ordered(), self.added_kept)
             && comes_where(device.has_unordered(), self.added)
     }
@@ -195,7 +213,10 @@ fn make_drawn(pair: &mut Pair, drawing: &mut Drawing, seen: &mut Seen) -> Result
             let _ = pair.make(Move::NextSweep)?;
         }
         let step = drawing.next(turn > TURNS / 2);
-        seen.note(step, pair.make(step)?);
+        let knew_turn = pair.knows_turn();
+        let made = pair.make(step)?;
+        seen.note(step, made);
+        seen.note_run(made, pair.run_len(), knew_turn);
         if let Some(lane) = step.adds_on() {
             seen.note_extras(pair.extras_len(lane));
         }

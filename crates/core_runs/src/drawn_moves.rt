@@ -4,6 +4,7 @@ use crate::moves::{Move, Packet};
 use evt_types::Op;
 use rand_core::utils::NextWord;
 use rand_pcg::Pcg32;
+use sched_core::MAX_RUN;
 
 /// What is drawn from for a device with so many ports, lanes and queues, and events of so many flows.
 #[derive(Clone, Copy)]
@@ -21,6 +22,8 @@ pub(crate) struct Drawing {
     counts: Counts,
     /// The lane of the last reply, where that was a FORWARD_MORE.
     adding: Option<usize>,
+    /// Whether events were given last.
+    gave: bool,
 }
 
 impl Drawing {
@@ -30,6 +33,7 @@ impl Drawing {
             random: Pcg32::new(seed, 54),
             counts,
             adding: None,
+            gave: false,
         }
     }
 
@@ -109,13 +113,28 @@ impl Drawing {
         Move::Reply { lane, packet }
     }
 
-    /// A move: mostly a reply, or an event to be given; late in the run a shut now and then.
+    /// Events to be given, to a lane that has room for so many: mostly for few.
+    fn give(&mut self) -> Move {
+        let most = match self.below(4) {
+            0 => 1,
+            1..3 => 2,
+            _ => MAX_RUN,
+        };
+        Move::Give { most }
+    }
+
+    /// A move: mostly a reply, or events to be given; late in the run a shut now and then. Where events were given more are given
+    /// often, so that a run follows another as in a sweep.
     pub(crate) fn next(&mut self, is_late: bool) -> Move {
-        match self.below(1000) {
+        let gives_again = self.gave && self.below(3) == 0;
+        let step = match self.below(1000) {
             0..10 if is_late => Move::Shut,
             0..50 => Move::Bounce,
-            50..400 => Move::Give,
+            _ if gives_again => self.give(),
+            50..230 => self.give(),
             _ => self.reply(),
-        }
+        };
+        self.gave = matches!(step, Move::Give { .. });
+        step
     }
 }

@@ -34,8 +34,8 @@ impl Packet {
 pub(crate) enum Move {
     /// A reply of the lane comes.
     Reply { lane: usize, packet: Packet },
-    /// What is proposed is given.
-    Give,
+    /// What is proposed is given, and in a run what is chosen after it: so many events at most.
+    Give { most: usize },
     /// What is proposed finds no room in the lane's ring.
     Bounce,
     /// New events are turned away from now on.
@@ -59,8 +59,10 @@ impl Move {
 pub(crate) enum Made {
     /// What became of a reply, where it may be taken.
     Took(Option<PlainTook>),
-    /// What was proposed.
-    Proposed(Option<PlainOffer>),
+    /// What was given first.
+    Gave(Option<PlainOffer>),
+    /// What found no room in the lane's ring.
+    Bounced(Option<PlainOffer>),
     /// Nothing that is told.
     Nothing,
 }

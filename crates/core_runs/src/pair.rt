@@ -4,7 +4,7 @@ use crate::device::Device;
 use crate::fault::RunFault;
 use crate::moves::{Made, Move};
 use crate::plain_run::PlainRun;
-use crate::run::Run;
+use crate::run::{Calls, Run};
 use std::alloc::Global;
 
 /// Both cores, in which the same has happened.
@@ -18,7 +18,7 @@ impl Pair {
     /// Two cores for a device, in which nothing has happened.
     pub(crate) fn new(alloc: Global, device: &Device) -> Result<Pair, RunFault> {
         Ok(Pair {
-            run: Run::new(alloc, device)?,
+            run: Run::new(alloc, device, Calls::OfDevice)?,
             plain: PlainRun::new(alloc, device)?,
         })
     }
@@ -33,18 +33,42 @@ impl Pair {
         self.plain.core.extras_len(lane)
     }
 
-    /// Both cores make one move. What comes of it must be the same, and what they log, and how many events are inside.
+    /// Of how many events the last run was.
+    pub(crate) fn run_len(&self) -> usize {
+        self.run.run_len()
+    }
+
+    /// Whether the core knows whose turn it is.
+    pub(crate) fn knows_turn(&self) -> bool {
+        self.run.knows_turn()
+    }
+
+    /// Both cores make one move. What comes of it must be the same, and what they log, and how many events are inside. What the core
+    /// gives in a run the plain core gives one by one.
     pub(crate) fn make(&mut self, step: Move) -> Result<Made, RunFault> {
         let steps = self.run.log.len();
         let made = self.run.make(step)?;
         let plainly = self.plain.make(step)?;
-        if made == plainly && self.logs_alike(steps) {
+        if made == plainly && self.goes_on_alike(made)? && self.logs_alike(steps) {
             return Ok(made);
         }
         let (logged, logged_plainly) = (self.run.log.last(), self.plain.core.log().last());
         Err(RunFault::Otherwise(format!(in self.run.alloc;
             "after {steps} steps {step:?} made {made:?} and plainly {plainly:?}; the last step logged is {logged:?} and plainly {logged_plainly:?}"
         )?))
+    }
+
+    /// Whether the plain core gives next what a run went on with.
+    fn goes_on_alike(&mut self, made: Made) -> Result<bool, RunFault> {
+        if !matches!(made, Made::Gave(Some(_))) {
+            return Ok(true);
+        }
+        for place in 1..self.run.run_len() {
+            if self.plain.give()? != self.run.given(place) {
+                return Ok(false);
+            }
+        }
+        Ok(true)
     }
 
     /// Whether the logs are the same from this step on, and as many events are inside.

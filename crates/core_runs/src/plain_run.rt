@@ -28,7 +28,8 @@ impl PlainRun {
     pub(crate) fn make(&mut self, step: Move) -> Result<Made, RunFault> {
         match step {
             Move::Reply { lane, packet } => Ok(Made::Took(self.core.take(lane, packet.event())?)),
-            Move::Give => Ok(self.give()?),
+            // The plain core gives one event at a time: what a run goes on with is asked of it one by one.
+            Move::Give { .. } => Ok(self.give()?),
             Move::Bounce => Ok(self.bounce()?),
             Move::Shut => {
                 self.core.shut()?;
@@ -42,13 +43,13 @@ impl PlainRun {
     }
 
     /// Gives what is proposed.
-    fn give(&mut self) -> Result<Made, AllocError> {
+    pub(crate) fn give(&mut self) -> Result<Made, AllocError> {
         let proposed = self.core.propose(&self.skips);
         if let Some(offer) = proposed {
             self.core.give(offer)?;
             self.skips.given(offer.queue)?;
         }
-        Ok(Made::Proposed(proposed))
+        Ok(Made::Gave(proposed))
     }
 
     /// The lane of what is proposed has no room.
@@ -58,6 +59,6 @@ impl PlainRun {
             self.core.bounce(offer.lane)?;
             self.skips.bounced(offer.lane)?;
         }
-        Ok(Made::Proposed(proposed))
+        Ok(Made::Bounced(proposed))
     }
 }

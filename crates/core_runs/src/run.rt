@@ -3,13 +3,15 @@
 use crate::device::Device;
 use crate::fault::RunFault;
 use crate::moves::{Made, Move};
+use arrayvec::ArrayVec;
 use core_oracle::{PlainOffer, PlainTook};
 use evt_types::{
     Delivery, Event, KeptEvent, MAX_FORWARDS, MAX_LANES, MAX_QUEUES, MAX_SWEEP, PackedEvent, Reply,
     Step,
 };
-use sched_core::{Core, Offer, Skips, Took};
+use sched_core::{Core, Skips, Took, Turn};
 use std::alloc::{AllocError, Global};
+use std::marker::Model;
 
 /// What became of a reply, in the plain core's words.
 fn plain_took(took: Took) -> PlainTook {
@@ -21,34 +23,64 @@ fn plain_took(took: Took) -> PlainTook {
     }
 }
 
-/// What was proposed, in the plain core's words.
-fn plain_offer(offer: Offer) -> PlainOffer {
-    let delivery = offer.delivery;
+/// What the lane is proposed or given, in the plain core's words.
+fn plain_offer(lane: usize, delivery: &Delivery) -> PlainOffer {
     PlainOffer {
-        lane: offer.lane,
+        lane,
         queue: delivery.queue(),
         number: delivery.number(),
         event: delivery.event(),
     }
 }
 
+/// By which calls a core takes replies and gives events.
+#[derive(Clone, Copy)]
+pub(crate) enum Calls {
+    /// By those of a device: a NEW and an answer are taken by a call of their own each, and events are given in runs.
+    OfDevice,
+    /// By those of one reply and of one event.
+    Single,
+}
+
 /// A core, what its sweep passes over, and the log of all steps that it has made.
 #[derive(Drop)]
 pub(crate) struct Run {
     pub(crate) alloc: Global,
+    calls: Calls,
     pub(crate) core: Core,
     skips: Skips,
+    /// Whose turn it is, where the last run said so and nothing else has happened since.
+    turn: Option<Turn>,
+    /// The lane of the last run, and what it was given.
+    lane: usize,
+    run: ArrayVec<Delivery, 32>,
     pub(crate) log: Vec<Step>,
+}
+
+impl Model for Run {
+    ghost use Rattle.std.specs.Prelude.{IfSome};
+    ghost use Rattle.sched_core.specs.Runs.{IsTurn};
+    ghost use Rattle.transcripts.specs.Standing.{View};
+
+    ghost Value = { View };
+
+    ghost view = { λ a. a.core };
+
+    ghost invariant = { λ a. IfSome a.turn (IsTurn a.core a.skips) };
 }
 
 impl Run {
     /// A core in which nothing has happened.
-    pub(crate) fn new(alloc: Global, device: &Device) -> Result<Run, RunFault> {
+    pub(crate) fn new(alloc: Global, device: &Device, calls: Calls) -> Result<Run, RunFault> {
         match Core::new(alloc, device.shape(alloc)?) {
             Ok(core) => Ok(Run {
                 alloc,
+                calls,
                 core,
                 skips: Skips::none(),
+                turn: None,
+                lane: 0,
+                run: ArrayVec::new(),
                 log: Vec::new(alloc),
             }),
             Err((memory, _)) => Err(RunFault::from(memory)),
@@ -59,14 +91,19 @@ impl Run {
     pub(crate) fn make(&mut self, step: Move) -> Result<Made, RunFault> {
         match step {
             Move::Reply { lane, packet } => self.take(lane, packet.event()),
-            Move::Give => self.give(),
+            Move::Give { most } => match self.calls {
+                Calls::OfDevice => self.give_run(most),
+                Calls::Single => self.give(),
+            },
             Move::Bounce => self.bounce(),
             Move::Shut => {
+                self.turn = None;
                 self.log.reserve(1)?;
                 self.core.shut(&mut self.log);
                 Ok(Made::Nothing)
             }
             Move::NextSweep => {
+                self.turn = None;
                 self.skips = Skips::none();
                 Ok(Made::Nothing)
             }
@@ -81,16 +118,64 @@ impl Run {
         if lane >= self.core.shape().lanes() || !self.core.takes(lane, &reply) {
             return Ok(Made::Took(None));
         }
+        self.turn = None;
         // What is enough for a sweep is enough for a reply.
         self.log.reserve(self.core.log_room())?;
-        let took = self.core.take(lane, reply, &mut self.log);
+        let took = match self.calls {
+            Calls::Single => self.core.take(lane, reply, &mut self.log),
+            Calls::OfDevice => {
+                if reply.event.is_new() {
+                    self.core.take_new(lane, &reply, &mut self.log)
+                } else {
+                    self.core.take_answer(lane, &reply, &mut self.log)
+                }
+            }
+        };
         Ok(Made::Took(Some(plain_took(took))))
     }
 
-    /// Gives what is proposed.
+    /// Gives what is proposed, and in a run what is chosen after it: so many events at most.
+    fn give_run(&mut self, most: usize) -> Result<Made, RunFault> {
+        self.log.reserve(self.core.shape().sweep() as usize)?;
+        let turn = self.turn;
+        self.turn = None;
+        let Some(offer) = self.core.propose_next(turn, &self.skips) else {
+            return Ok(Made::Gave(None));
+        };
+        self.lane = offer.lane;
+        self.turn = self.core.give_run(
+            offer,
+            most,
+            &mut self.skips,
+            &mut self.run,
+            &mut self.log,
+        );
+        Ok(self.given(0))
+    }
+
+    /// What the last run gave at this place, counted from 0.
+    pub(crate) fn given(&self, place: usize) -> Made {
+        match self.run.as_slice().get(place) {
+            Some(delivery) => Made::Gave(Some(plain_offer(self.lane, delivery))),
+            None => Made::Gave(None),
+        }
+    }
+
+    /// How many events the last run gave.
+    pub(crate) fn run_len(&self) -> usize {
+        self.run.len()
+    }
+
+    /// Whether it is known whose turn it is.
+    pub(crate) fn knows_turn(&self) -> bool {
+        self.turn.is_some()
+    }
+
+    /// Gives what is proposed, and nothing after it.
     fn give(&mut self) -> Result<Made, RunFault> {
+        self.turn = None;
         let Some(offer) = self.core.propose(&self.skips) else {
-            return Ok(Made::Proposed(None));
+            return Ok(Made::Gave(None));
         };
         self.log.reserve(1)?;
         self.core.give(offer, &mut self.log);
@@ -98,20 +183,22 @@ impl Run {
         if queue < MAX_QUEUES && self.skips.has_quota(queue, MAX_SWEEP) {
             self.skips.given(queue);
         }
-        Ok(Made::Proposed(Some(plain_offer(offer))))
+        Ok(Made::Gave(Some(plain_offer(offer.lane, &offer.delivery))))
     }
 
     /// The lane of what is proposed has no room.
     fn bounce(&mut self) -> Result<Made, RunFault> {
-        let Some(offer) = self.core.propose(&self.skips) else {
-            return Ok(Made::Proposed(None));
+        let turn = self.turn;
+        self.turn = None;
+        let Some(offer) = self.core.propose_next(turn, &self.skips) else {
+            return Ok(Made::Bounced(None));
         };
         self.log.reserve(1)?;
         self.core.bounce(offer.lane, &mut self.log);
         if offer.lane < MAX_LANES {
             self.skips.bounced(offer.lane);
         }
-        Ok(Made::Proposed(Some(plain_offer(offer))))
+        Ok(Made::Bounced(Some(plain_offer(offer.lane, &offer.delivery))))
     }
 
     /// The events that wait in the queue.

@@ -3,7 +3,7 @@
 use crate::device::Device;
 use crate::fault::RunFault;
 use crate::moves::{Made, Move, Packet};
-use crate::run::Run;
+use crate::run::{Calls, Run};
 use core_oracle::{PlainOffer, PlainTook};
 use evt_types::{Outcome, Source, Step};
 use std::alloc::Global;
@@ -16,6 +16,9 @@ pub(crate) struct KnownRun {
     pub(crate) opening: &'static [Turn],
     pub(crate) turns: &'static [Turn],
 }
+
+/// One event is given.
+const GIVE: Move = Move::Give { most: 1 };
 
 /// A turn, and what must come of it.
 #[derive(Clone, Copy, Debug)]
@@ -102,13 +105,13 @@ fn done(lane: usize, outcome: Outcome) -> Step {
 }
 
 /// The event of this number of its queue is proposed for the lane.
-fn proposed(lane: usize, number: u64, packet: Packet) -> Made {
-    Made::Proposed(Some(PlainOffer {
+fn proposed(lane: usize, number: u64, packet: Packet) -> Option<PlainOffer> {
+    Some(PlainOffer {
         lane,
         queue: usize::from(packet.queue),
         number,
         event: packet.event(),
-    }))
+    })
 }
 
 impl Run {
@@ -124,9 +127,13 @@ impl Run {
     fn turn(&mut self, turn: &Turn) -> Result<(), RunFault> {
         let (step, wanted) = match *turn {
             Turn::Reply(lane, packet, took) => (Move::Reply { lane, packet }, Made::Took(took)),
-            Turn::Give(lane, number, packet) => (Move::Give, proposed(lane, number, packet)),
-            Turn::Bounce(lane, number, packet) => (Move::Bounce, proposed(lane, number, packet)),
-            Turn::GiveNone => (Move::Give, Made::Proposed(None)),
+            Turn::Give(lane, number, packet) => {
+                (GIVE, Made::Gave(proposed(lane, number, packet)))
+            }
+            Turn::Bounce(lane, number, packet) => {
+                (Move::Bounce, Made::Bounced(proposed(lane, number, packet)))
+            }
+            Turn::GiveNone => (GIVE, Made::Gave(None)),
             Turn::Shut => (Move::Shut, Made::Nothing),
             Turn::NextSweep => (Move::NextSweep, Made::Nothing),
             _ => return self.must_be_read(turn),
@@ -194,9 +201,15 @@ impl Run {
     }
 }
 
-/// Plays a known run. What comes of each turn must be as known.
-pub(crate) fn play(alloc: Global, known: &KnownRun) -> Result<(), RunFault> {
-    let mut run = Run::new(alloc, &known.device)?;
+/// Plays a known run by these calls.
+fn play_by(alloc: Global, known: &KnownRun, calls: Calls) -> Result<(), RunFault> {
+    let mut run = Run::new(alloc, &known.device, calls)?;
     run.play(known.opening)?;
     run.play(known.turns)
+}
+
+/// Plays a known run, by the calls of a device and by the single ones. What comes of each turn must be as known.
+pub(crate) fn play(alloc: Global, known: &KnownRun) -> Result<(), RunFault> {
+    play_by(alloc, known, Calls::OfDevice)?;
+    play_by(alloc, known, Calls::Single)
 }

@@ -17,11 +17,14 @@ macro_rules! assert_each_row {
 }
 
 mod again;
+mod answers;
+mod asks;
 mod calls;
 mod fault;
 mod left;
 mod plans;
 mod refused_stop;
+mod rigs;
 mod rows;
 mod runs;
 mod steps;

@@ -21,7 +21,7 @@ import tempfile
 from core_rounds import COUNTED, CRATE, TURNS, Case, built, can_count, counted, enough_rounds, ran, seconds
 
 HELD, BURSTS = 32, (1, 32)
-CALLS = ("propose", "give", "take", "takes")
+CALLS = ("propose_next", "give_run", "take_new", "take_answer", "takes")
 TOP = CRATE.parent.parent
 
 
@@ -40,7 +40,7 @@ def copy_apart(room):
     shutil.copytree(TOP / "crates", room / "crates", ignore=shutil.ignore_patterns("out"))
     for name in ("crates.txt", "HANDLES"):
         shutil.copy(TOP / name, room / name)
-    for name in ("propose", "give", "take"):
+    for name in ("propose", "run", "take"):
         file = room / f"crates/sched_core/src/{name}.rt"
         calls = rf"(?: *#\[inline\(always\)\]\n)?( *)pub fn ({'|'.join(CALLS)})(?=[<(])"
         file.write_text(re.sub(calls, r"\1#[inline(never)]\n\1pub fn \2", file.read_text()))

@@ -24,7 +24,7 @@ module _ (v : View) (held : List ℕ) (capacity : ℕ) (ready : IsReady v held c
     oldest_lane = All-head (λ m. m < lanes_of v.shape) l rest lanes_split
 
     pub ready_without : IsReady v rest capacity
-    ready_without = record { lanes = All-tail (λ m. m < lanes_of v.shape) l rest lanes_split; room = ready.room; stands = ready.stands }
+    ready_without = record { lanes = All-tail (λ m. m < lanes_of v.shape) l rest lanes_split; room = ready.room; gifts = ready.gifts; stands = ready.stands }
 
   -- the core stands at another transcript
   pub ready_after : (w : View) (after : ℕ) → w.shape ≡ v.shape → capacity ≤ after → ((T : List Step) × Stands T w) → IsReady w held after
@@ -32,5 +32,6 @@ module _ (v : View) (held : List ℕ) (capacity : ℕ) (ready : IsReady v held c
       record {
         lanes = subst (λ (p : Plan). AreLanes p held) (sym shape) ready.lanes;
         room = omega (arith, ready.room, room, ap sweep_room shape);
+        gifts = omega (arith, ready.gifts, room, ap (λ (p : Plan). p.sweep) shape);
         stands = stands;
       }

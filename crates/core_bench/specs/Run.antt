@@ -13,4 +13,5 @@ AreLanes p lanes = All (λ l. l < lanes_of p) lanes
 pub record IsReady (v : View) (held : List ℕ) (capacity : ℕ) : Type 0 where
   pub lanes : AreLanes v.shape held
   pub room : sweep_room v.shape ≤ capacity
+  pub gifts : v.shape.sweep ≤ capacity
   pub stands : (T : List Step) × Stands T v

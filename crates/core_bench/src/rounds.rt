@@ -5,7 +5,6 @@ ghost use Rattle.std.specs.Prelude.{◌≤◌};
 use crate::asked::Asked;
 use crate::fault::BenchFault;
 use crate::run::Run;
-use sched_core::Skips;
 use std::alloc::Global;
 
 impl Run {
@@ -14,17 +13,6 @@ impl Run {
         for _ in 0..waiting {
             self.enter()?;
         }
-        Ok(())
-    }
-
-    /// So many events are handed to the workers, as by a sweep: at its end the core is asked for one more.
-    fn hand_out(&mut self, count: u64) -> Result<(), BenchFault> {
-        let mut skips = Skips::none();
-        for _ in 0..count {
-            self.hand(&mut skips)?;
-        }
-        // Where events wait it proposes one, which isn't given.
-        let _ = self.core.propose(&skips);
         Ok(())
     }
 

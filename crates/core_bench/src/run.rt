@@ -6,7 +6,8 @@ ghost use Rattle.evt_types.specs.Plan.{lanes_of};
 use crate::asked::{Asked, MAX_HELD};
 use crate::device::{SOURCE, bench_shape};
 use crate::fault::BenchFault;
-use evt_types::{Event, Op, PackedEvent, Reply, Step};
+use arrayvec::ArrayVec;
+use evt_types::{Delivery, Event, Op, PackedEvent, Reply, Step};
 use sched_core::{Core, Skips, Took};
 use std::alloc::Global;
 use std::collections::VecDeque;
@@ -17,6 +18,8 @@ use std::marker::Model;
 pub struct Run {
     pub core: Core,
     log: Vec<Step>,
+    /// What was given last.
+    run: ArrayVec<Delivery, 32>,
     /// The lane of each event that the workers hold, in the order in which they were given.
     lanes: VecDeque<usize>,
     /// The last one of the flows of the workers' events, which are counted from 0.
@@ -68,11 +71,14 @@ impl Run {
         let shape = bench_shape(alloc, asked.queues, asked.ports)?;
         match Core::new(alloc, shape) {
             Ok(core) => {
-                let log = Vec::with_capacity(alloc, core.log_room())?;
+                // Room for the steps of any one call.
+                let gifts = core.shape().sweep() as usize;
+                let log = Vec::with_capacity(alloc, core.log_room().max(gifts))?;
                 let lanes = VecDeque::with_capacity(alloc, MAX_HELD as usize)?;
                 Ok(Run {
                     core,
                     log,
+                    run: ArrayVec::new(),
                     lanes,
                     last_flow: asked.flows - 1,
                     next_flow: 0,
@@ -93,10 +99,14 @@ impl Run {
             return Err(BenchFault::Stuck);
         }
         self.log.clear();
-        match self.core.take(SOURCE, reply, &mut self.log) {
-            Took::Accepted => Ok(()),
-            _ => Err(BenchFault::Stuck),
+        // As a device does, it is asked which call takes the reply.
+        if reply.event.is_new() {
+            return match self.core.take_new(SOURCE, &reply, &mut self.log) {
+                Took::Accepted => Ok(()),
+                _ => Err(BenchFault::Stuck),
+            };
         }
+        Err(BenchFault::Stuck)
     }
 
     /// A new event of the next flow is taken, for the next queue.
@@ -119,31 +129,62 @@ impl Run {
             return Err(BenchFault::Stuck);
         }
         self.log.clear();
-        let _ = self.core.take(lane, reply, &mut self.log);
+        let _ = self.core.take_answer(lane, &reply, &mut self.log);
         Ok(())
     }
 
-    /// What the core proposes is given: the lane that it goes to.
-    pub fn give(&mut self, skips: &mut Skips) -> Result<usize, BenchFault>
+    /// What the core proposes is given, and what it chooses after it in a run, so many events at most: the lane that they go to. Ports
+    /// serve the device, so that a sweep doesn't ask whose turn it is.
+    pub fn give(&mut self, most: usize, skips: &mut Skips) -> Result<usize, BenchFault>
         ensures { IfOk result (λ l. l < lanes_of self.new.shape) }
     {
-        // To read a limit makes known that the limits hold.
-        let _ = self.core.shape().limit();
-        let Some(offer) = self.core.propose(skips) else {
+        let Some(offer) = self.core.propose_next(None, skips) else {
             return Err(BenchFault::Stuck);
         };
         self.log.clear();
-        self.core.give(offer, &mut self.log);
-        skips.given(offer.delivery.queue());
-        Ok(offer.lane)
+        let lane = offer.lane;
+        let _ = self
+            .core
+            .give_run(offer, most, skips, &mut self.run, &mut self.log);
+        Ok(lane)
     }
 
-    /// What the core proposes is given to a worker.
-    pub fn hand(&mut self, skips: &mut Skips) -> Result<(), BenchFault> {
-        let lane = self.give(skips)?;
+    /// The worker's lane holds one event more.
+    fn hold(&mut self, lane: usize) -> Result<(), BenchFault>
+        requires { lane < lanes_of self.old.shape }
+    {
         match self.lanes.push_back(lane) {
             Ok(()) => Ok(()),
             Err(_) => Err(BenchFault::Memory),
         }
+    }
+
+    /// The worker's lane holds what was given last: how many events that were.
+    fn note(&mut self, lane: usize) -> Result<usize, BenchFault> {
+        let count = self.run.len();
+        for _ in 0..count {
+            if lane >= self.core.shape().lanes() {
+                return Err(BenchFault::Stuck);
+            }
+            self.hold(lane)?;
+        }
+        Ok(count)
+    }
+
+    /// So many events are given to the workers, as by a sweep: at its end the core is asked for one more.
+    pub fn hand_out(&mut self, count: u64) -> Result<(), BenchFault> {
+        let mut skips = Skips::none();
+        let mut left = count as usize;
+        // A run gives one event at least.
+        for _ in 0..count {
+            if left == 0 {
+                break;
+            }
+            let lane = self.give(left, &mut skips)?;
+            left = left.saturating_sub(self.note(lane)?);
+        }
+        // Where events wait it proposes one, which isn't given.
+        let _ = self.core.propose_next(None, &skips);
+        Ok(())
     }
 }

@@ -7,12 +7,14 @@ of a run of 200,000 events is more than 2.3 times that of a run of 100,000.
 
 Where DPDK's `dpdk-test-eventdev` is installed, its `perf_queue` over `event_sw` runs with the same stages (atomic, ordered, parallel) and
 as many workers, by turns with these, each of its threads on all processors: the events per second that it says itself, on the average
-of some seconds. A worker of it dequeues up to 16 events at once, one of these up to 32.
+of some seconds. A worker of it dequeues up to 16 events at once; one of these one event, as a worker of `evsched run` does, and then up
+to 32.
 
 The program is `device_bench` with its word `run`; where none is named it is built. Each time is the best of three runs, and that of the
 check and the text less what a run with no event takes besides its threads. How much faster more workers are is no fault: how many
 processors there are decides that.
 """
+import itertools
 import os
 import pathlib
 import re
@@ -21,7 +23,7 @@ import subprocess
 import sys
 import time
 
-SERVINGS, WORKERS, EVENTS, RUNS = ("ports", "flows"), (1, 2, 4, 8), 200_000, 3
+SERVINGS, WORKERS, BURSTS, EVENTS, RUNS = ("ports", "flows"), (1, 2, 4, 8), (1, 32), 200_000, 3
 COUNTS, MOST = (100_000, 200_000), 2.3
 THEIR_SECONDS = 5
 CRATE = pathlib.Path(__file__).resolve().parent.parent / "crates" / "device_bench"
@@ -29,7 +31,7 @@ CRATE = pathlib.Path(__file__).resolve().parent.parent / "crates" / "device_benc
 
 def built():
     """The program, which `rt run` proves and builds where it is older than its sources."""
-    run = subprocess.run(["rt", "run", "--", "run", "ports", "2", "1000"], cwd=CRATE, stdout=subprocess.PIPE, stderr=subprocess.STDOUT, check=False)
+    run = subprocess.run(["rt", "run", "--", "run", "ports", "2", "1000", "1"], cwd=CRATE, stdout=subprocess.PIPE, stderr=subprocess.STDOUT, check=False)
     if run.returncode != 0:
         sys.exit(f"device_bench isn't built: {run.stdout.decode()[-2000:]}")
     return CRATE / "out" / "device_bench"
@@ -40,12 +42,12 @@ def named():
     return pathlib.Path(sys.argv[1]).resolve() if len(sys.argv) == 2 else built()
 
 
-def run(program, serving, workers, events):
+def run(program, serving, workers, events, burst):
     """The seconds that the threads of a run take and that the rest takes, and the kilobytes that it holds at most, once its line is
     checked.
     """
     start = time.perf_counter()
-    child = subprocess.Popen([program, "run", serving, str(workers), str(events)], stdout=subprocess.PIPE, stderr=subprocess.PIPE)
+    child = subprocess.Popen([program, "run", serving, str(workers), str(events), str(burst)], stdout=subprocess.PIPE, stderr=subprocess.PIPE)
     line, said = child.stdout.read().decode(), child.stderr.read().decode()
     _, status, used = os.wait4(child.pid, 0)
     elapsed = time.perf_counter() - start
@@ -61,9 +63,9 @@ def run(program, serving, workers, events):
     return threads, elapsed - threads, used.ru_maxrss
 
 
-def seconds(program, serving, workers):
+def seconds(program, serving, workers, burst):
     """What the threads take and what comes after them: the least of some runs each, that of the rest less the least without events."""
-    runs = {events: [run(program, serving, workers, events) for _ in range(RUNS)] for events in (0, EVENTS)}
+    runs = {events: [run(program, serving, workers, events, burst) for _ in range(RUNS)] for events in (0, EVENTS)}
     rest = {events: min(each[1] for each in runs[events]) for events in runs}
     return min(each[0] for each in runs[EVENTS]), rest[EVENTS] - rest[0]
 
@@ -91,22 +93,22 @@ def compare_speeds(program):
     of one worker.
     """
     print(f"{os.cpu_count()} processors, {EVENTS:,} events")
-    print(f"{'serving':7} {'workers':7} {'per second':>12} {'by threads':>12} {'ratio':>5} {'by the rest':>12} {'event_sw':>12}")
-    for serving in SERVINGS:
+    print(f"{'serving':7} {'burst':5} {'workers':7} {'per second':>12} {'by threads':>12} {'ratio':>5} {'by the rest':>12} {'event_sw':>12}")
+    for serving, burst in itertools.product(SERVINGS, BURSTS):
         first = None
         for workers in WORKERS:
-            threads, rest = seconds(program, serving, workers)
+            threads, rest = seconds(program, serving, workers, burst)
             first = first or threads
             speeds = [f"{EVENTS / each:12,.0f}" for each in (threads + rest, threads, rest)]
-            other = theirs(workers) if serving == "ports" else ""
-            print(f"{serving:7} {workers:7} {speeds[0]} {speeds[1]} {first / threads:5.2f} {speeds[2]} {other:>12}")
+            other = theirs(workers) if (serving, burst) == (SERVINGS[0], BURSTS[0]) else ""
+            print(f"{serving:7} {burst:5} {workers:7} {speeds[0]} {speeds[1]} {first / threads:5.2f} {speeds[2]} {other:>12}")
 
 
 def compare_memory(program):
     """Prints the memory of a run and of one with twice the events, and whether neither serving takes more than `MOST` times as much."""
     ratios = []
     for serving in SERVINGS:
-        short, long = (run(program, serving, 2, events)[2] for events in COUNTS)
+        short, long = (run(program, serving, 2, events, BURSTS[0])[2] for events in COUNTS)
         print(f"{serving}: {short / 1024:.1f} MiB at {COUNTS[0]:,} events, {long / 1024:.1f} at {COUNTS[1]:,}, ratio {long / short:.2f}")
         ratios.append(long / short)
     return max(ratios) <= MOST

@@ -1,8 +1,9 @@
 #!/usr/bin/env python3
-"""Measures what the scheduling core's take, give and release of an event cost in bursts of 1 and of 32: beside no blocked events and
-4,000, beside no waiting events and 2,000 while every lane is full when a round has given its burst, with 1 queue and with 16, of which 15
+"""Measures what the scheduling core's take, give and release of an event cost, by the calls that a sweep makes, in bursts of 1 and of
+32, which are given in runs: beside no blocked events and 4,000, beside no waiting events and 2,000 while every lane is full when a round has given its burst, with 1 queue and with 16, of which 15
 are empty, with events waiting in 1 of 3 queues and in all 3, and with 2 worker ports and 15. It fails where the larger number costs more
-than 1.3 times as much as the smaller one, of the busy queues more than 1.2 times, of the worker ports more than 1.5 times as much.
+than 1.3 times as much as the smaller one, of the busy queues more than 1.2 times, of the worker ports more than 1.5 times, and of blocked
+events in bursts of 32 more than 1.7 times as much: while events are set aside each one is chosen by itself, and given in a run of one.
 
     scaling.py [PROGRAM]
 
@@ -15,14 +16,14 @@ import sys
 from core_rounds import DEPTH, Case, can_count, counted, named, times
 
 BURSTS, HELD = (1, 32), 32
-# What is scaled, both its numbers, the most that the larger one may cost, and what else the runs are asked for.
+# What is scaled, both its numbers, the most that the larger one may cost at each burst, and what else the runs are asked for.
 SCALES = (
-    ("blocked", (0, 4_000), 1.3, {}),
+    ("blocked", (0, 4_000), (1.3, 1.7), {}),
     # The only worker holds as many as it may, so that the proposal which ends a round finds no open lane.
-    ("waiting", (0, 2_000), 1.3, {"held": DEPTH}),
-    ("queues", (1, 16), 1.3, {}),
-    ("busy", (1, 3), 1.2, {"queues": 3, "waiting": 60}),
-    ("ports", (2, 15), 1.5, {}),
+    ("waiting", (0, 2_000), (1.3, 1.3), {"held": DEPTH}),
+    ("queues", (1, 16), (1.3, 1.3), {}),
+    ("busy", (1, 3), (1.2, 1.2), {"queues": 3, "waiting": 60}),
+    ("ports", (2, 15), (1.5, 1.5), {}),
 )
 
 
@@ -35,7 +36,8 @@ def counts(program, cases):
 
 def is_flat(program, measure, burst, scale):
     """Prints what an event costs at both numbers of the scale, and whether the larger one costs no more than it may."""
-    word, numbers, most, beside = scale
+    word, numbers, limits, beside = scale
+    most = limits[BURSTS.index(burst)]
     plain = Case(**{"held": HELD, "burst": burst, **beside})
     (few, _), (many, ratio) = measure(program, {number: dataclasses.replace(plain, **{word: number}) for number in numbers}).values()
     print(f"{'{:,} / {:,} {}'.format(*numbers, word):24} {burst:5} {few:8.1f} {many:8.1f} {ratio:6.2f} {most:8.2f}", flush=True)

@@ -12,6 +12,8 @@ use std::rt::Env;
 pub const MAX_WORKERS: u64 = 8;
 /// The most events.
 pub const MAX_EVENTS: u64 = 1_000_000;
+/// The most events that a worker dequeues at once.
+const MAX_BURST: u64 = 64;
 
 /// What a run is asked for.
 #[derive(Clone, Copy)]
@@ -22,6 +24,8 @@ pub struct Asked {
     pub workers: u64,
     /// How many events the trace has.
     pub events: u64,
+    /// How many events a worker dequeues at once, at most.
+    pub burst: u64,
 }
 
 /// The word of a serving.
@@ -57,18 +61,21 @@ fn within(least: u64, most: u64, word: &str) -> Option<u64>
 pub fn read_run(words: &[String]) -> Result<Asked, BenchFault>
     ensures workers { IfOk result (λ a. (1 ≤ a.workers) × (a.workers ≤ MAX_WORKERS)) }
     ensures events { IfOk result (λ a. a.events ≤ MAX_EVENTS) }
+    ensures burst { IfOk result (λ a. (1 ≤ a.burst) × (a.burst ≤ MAX_BURST)) }
     ensures fault { IfErr result (λ e. is_of_words e ≡ true) }
 {
-    let [serving, workers, events] = words else {
+    let [serving, workers, events, burst] = words else {
         return Err(BenchFault::WordCount);
     };
     let serving = serving_of(serving).ok_or(BenchFault::Serving)?;
     let workers = within(1, MAX_WORKERS, workers).ok_or(BenchFault::Workers)?;
     let events = within(0, MAX_EVENTS, events).ok_or(BenchFault::Events)?;
+    let burst = within(1, MAX_BURST, burst).ok_or(BenchFault::Burst)?;
     Ok(Asked {
         serving,
         workers,
         events,
+        burst,
     })
 }
 

@@ -13,7 +13,7 @@ use std::io;
 pub enum BenchFault {
     /// The command line has words, and they are neither `measure` nor `run` and more.
     Words,
-    /// There aren't three words after `run`.
+    /// There aren't four words after `run`.
     WordCount,
     /// The first of them is neither `ports` nor `flows`.
     Serving,
@@ -21,6 +21,8 @@ pub enum BenchFault {
     Workers,
     /// The third is no number of up to 1,000,000.
     Events,
+    /// The fourth is no number of 1 to 64.
+    Burst,
     /// A line couldn't be written.
     Write,
     /// Memory ran out, or a thread couldn't be started.
@@ -43,14 +45,14 @@ impl BenchFault {
     /// What is said of it.
     pub fn text(self) -> &'static str {
         match self {
-            BenchFault::Words =>
-                "the words that are known are `measure`, and `run` with three more",
+            BenchFault::Words => "the words that are known are `measure`, and `run` with four more",
             BenchFault::WordCount => {
-                "three words are wanted: `ports` or `flows`, the workers and the events"
+                "four words are wanted: `ports` or `flows`, the workers, the events and the burst"
             },
             BenchFault::Serving => "the serving must be `ports` or `flows`",
             BenchFault::Workers => "the workers must be a number of 1 to 8",
             BenchFault::Events => "the events must be a number of up to 1,000,000",
+            BenchFault::Burst => "the burst must be a number of 1 to 64",
             BenchFault::Write => "a line can't be written",
             BenchFault::Memory => "memory is lacking",
             BenchFault::Device => "the device is refused",
@@ -71,7 +73,8 @@ impl BenchFault {
             | BenchFault::WordCount
             | BenchFault::Serving
             | BenchFault::Workers
-            | BenchFault::Events => 2,
+            | BenchFault::Events
+            | BenchFault::Burst => 2,
             BenchFault::Write
             | BenchFault::Memory
             | BenchFault::Device

@@ -1,7 +1,7 @@
 //! The program `device_bench`: events go through a device in one thread, in bursts, and it prints how many went by; or with the word
 //! `measure` how long an event takes.
 //!
-//! With the word `run` and three more the trace of so many events is run by threads through a pipeline of three stages. It prints how
+//! With the word `run` and four more the trace of so many events is run by threads through a pipeline of three stages. It prints how
 //! long the text is of what the stages accepted, and on standard error how many nanoseconds the threads took; the rest of its time
 //! goes into the check and the text of the log. Without words it makes two small runs, too.
 #![tactic(auto)]
@@ -78,10 +78,19 @@ fn print_run<R: AllocGlobal + Clock + Print + Eprint + Threads + Wait + Sync>(
         serving,
         workers,
         events,
+        burst,
     } = asked;
     let document = document(rt.alloc(), serving)?;
     let timer = Timer::new(rt, events);
-    let bytes = text_length(rt, &timer, rt.alloc(), document.as_bytes(), workers, events)?;
+    let bytes = text_length(
+        rt,
+        &timer,
+        rt.alloc(),
+        document.as_bytes(),
+        workers,
+        events,
+        burst,
+    )?;
     let nanoseconds = timer.nanoseconds();
     let _ = eprintln!(rt; "threads={nanoseconds}");
     let serving = serving_word(serving);
@@ -99,6 +108,7 @@ fn print_all<R: AllocGlobal + Clock + Print + Eprint + Threads + Wait + Sync>(
             serving,
             workers: 2,
             events: 1000,
+            burst: 32,
         };
         print_run(rt, asked)?;
     }

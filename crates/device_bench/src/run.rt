@@ -11,11 +11,8 @@ use std::alloc::Global;
 use std::sync::Wait;
 use std::thread::Threads;
 
-/// How many events a worker dequeues at once, at most.
-const BURST: usize = 32;
-
-/// Runs a trace of so many events through the document's pipeline with so many workers, and gives the length of the text of what the
-/// stages accepted, which is that of the plain pipeline's.
+/// Runs a trace of so many events through the document's pipeline with so many workers, each of which dequeues at most `burst` events at
+/// once, and gives the length of the text of what the stages accepted, which is that of the plain pipeline's.
 pub fn text_length<R: Threads + Wait + Sync, G: Gate>(
     rt: &R,
     gate: &G,
@@ -23,6 +20,7 @@ pub fn text_length<R: Threads + Wait + Sync, G: Gate>(
     document: &[u8],
     workers: u64,
     events: u64,
+    burst: u64,
 ) -> Result<usize, BenchFault>
     requires { 1 ≤ workers }
     ensures { IfOk result (HasLength document.now workers events) }
@@ -33,6 +31,6 @@ pub fn text_length<R: Threads + Wait + Sync, G: Gate>(
         actions,
         trace: entries(alloc, events)?,
     };
-    let text = pipeline_text(rt, alloc, pipeline, BURST, gate)?;
+    let text = pipeline_text(rt, alloc, pipeline, burst as usize, gate)?;
     Ok(text.as_bytes().len())
 }

@@ -143,13 +143,9 @@ impl Run {
             return Ok(Made::Gave(None));
         };
         self.lane = offer.lane;
-        self.turn = self.core.give_run(
-            offer,
-            most,
-            &mut self.skips,
-            &mut self.run,
-            &mut self.log,
-        );
+        self.turn = self
+            .core
+            .give_run(offer, most, &mut self.skips, &mut self.run, &mut self.log);
         Ok(self.given(0))
     }
 

@@ -1,5 +1,5 @@
 -- What the calls of a device that runs do: it sweeps, and ports and the control leave it and come back.
-use Rattle.std.specs.Prelude.{ℕ, zero, suc, ◌≡◌, ◌≢◌, ◌⊎◌, slice_get, slice_set, Bool, true, false, Option}
+use Rattle.std.specs.Prelude.{ℕ, zero, suc, ◌≡◌, ◌≢◌, ◌<◌, ◌≤◌, ◌⊎◌, slice_get, slice_set, Bool, true, false, Option}
 use Rattle.std.specs.Prelude.Option.{Some, None}
 use Rattle.event_answers.specs.declared.answer.Swept.{Swept}
 use Rattle.event_ports.specs.declared.port.Port.{Port}
@@ -21,17 +21,34 @@ pub record SweepsOnce (swept : Swept) (r q : Parts) : Type 0 where
   pub sweeps : Sweeps swept r.recorded.sight r.recorded.log q.recorded.sight q.recorded.log
   pub others : Keeps r q
 
--- so many sweeps, one after the other
-abbrev pub SweepsTimes : ℕ → Parts → Parts → Type 0
-SweepsTimes zero r q = q ≡ r
-SweepsTimes (suc k) r q = (m : Parts) × (swept : Swept) × SweepsTimes k r m × SweepsOnce swept m q
+-- how many events are inside
+abbrev pub inside_of : Parts → ℕ
+inside_of r = inside r.recorded.sight.core.shape r.recorded.log
 
--- Sweeps until nothing is inside, and at most so many.
+-- after so many sweeps something is inside, if there was one
+abbrev pub IsBusy : ℕ → Parts → Type 0
+IsBusy zero r = Unit {0}
+IsBusy (suc k) r = inside_of r ≢ 0
+
+-- so many sweeps, one after the other, and after each but the last something is inside
+abbrev pub SweepsOn : ℕ → Parts → Parts → Type 0
+SweepsOn zero r q = q ≡ r
+SweepsOn (suc k) r q = (m : Parts) × (swept : Swept) × SweepsOn k r m × IsBusy k m × SweepsOnce swept m q
+
+-- Sweeps at most so many times, and ends at the first sweep after which nothing is inside.
 pub record SweepsAll (most left : ℕ) (r q : Parts) : Type 0 where
   pub count : ℕ
-  pub sweeps : SweepsTimes count r q
-  pub left_is : left ≡ inside q.recorded.sight.core.shape q.recorded.log
+  pub few : count ≤ most
+  pub sweeps : SweepsOn count r q
+  pub left_is : left ≡ inside_of q
   pub ends : (left ≡ 0) ⊎ (count ≡ most)
+
+-- Fewer sweeps than so many, after each of which something is inside.
+pub record SweepsSome (most : ℕ) (r q : Parts) : Type 0 where
+  pub count : ℕ
+  pub few : count < most
+  pub sweeps : SweepsOn count r q
+  pub busy : IsBusy count q
 
 -- ---- ports
 

@@ -69,10 +69,10 @@ impl Device<Tally<Counted>> {
 }
 
 impl<L: StepLog> Device<L> {
-    ghost use Rattle.std.specs.Prelude.{◌≡◌, ℕ, ◌<◌, ◌^◌, [], IfOk, IfErr, IsErr};
+    ghost use Rattle.std.specs.Prelude.{◌≡◌, ◌<◌, ◌^◌, [], IfOk, IfErr, IsErr};
     ghost use Rattle.event_scheduler.specs.Swept.{Sweeps};
     ghost use Rattle.event_device.specs.Fault.{shape_in};
-    ghost use Rattle.event_device.specs.Lent.{Keeps, SweepsAll, SweepsTimes};
+    ghost use Rattle.event_device.specs.Lent.{Keeps, SweepsAll, SweepsSome};
     ghost use Rattle.event_device.specs.Listed.{turned_all};
     ghost use Rattle.event_device.specs.Parts.{device_of};
     ghost use Rattle.event_device.specs.Start.{IsFresh};
@@ -123,10 +123,11 @@ impl<L: StepLog> Device<L> {
         self.recorder.sweep()
     }
 
-    /// Sweeps until nothing is inside, at most so many times, and lets other threads run after each: how many events are inside then.
+    /// Sweeps at most so many times, until nothing is inside after a sweep, and lets other threads run after each: how many events are
+    /// inside then.
     pub fn sweep_all(&mut self, most: u64) -> Result<usize, Memory>
         ensures sweeps { IfOk result (λ left. SweepsAll most left self.old self.new) }
-        ensures memory { IsErr result → (count : ℕ) × SweepsTimes count self.old self.new }
+        ensures memory { IsErr result → SweepsSome most self.old self.new }
         ensures device { device_of self.new ≡ device_of self.old }
     {
         for _swept in 0..most {

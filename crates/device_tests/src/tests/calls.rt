@@ -1,5 +1,8 @@
 //! The calls that one thread makes on a device.
 
+ghost use Rattle.std.specs.Prelude.{◌≡◌};
+ghost use Rattle.event_device.specs.Device.{site_of};
+
 use super::fault::RigFault;
 use arrayvec::ArrayVec;
 use event_device::{Device, Memory, Port, PortCounts, Refused, Report, StepLog, Swept};
@@ -96,7 +99,9 @@ fn counted(counts: PortCounts, refused: Refused) -> PortCounts {
 }
 
 /// Whether the port refuses the event so, and changes nothing beside.
-fn refuses(port: &mut Port, event: Event, refused: Refused) -> bool {
+fn refuses(port: &mut Port, event: Event, refused: Refused) -> bool
+    ensures { site_of port.new ≡ site_of port.old }
+{
     let (held, counts) = (port.held(), port.counts());
     let answer = port.enqueue(event);
     answer == Err(refused) && port.held() == held && port.counts() == counted(counts, refused)

@@ -105,8 +105,6 @@ ALWAYS uint32_t work(int is_ours, const struct plan *plan, struct account *accou
 		answered = n;
 	if (answered > 0 && enqueue(is_ours, worker, ev, (uint16_t)answered) != answered)
 		fail("answers are refused");
-	if (n < 0)
-		fail("a dequeue is refused");
 	account->inside -= (uint32_t)(n - forwarded);
 	account->left -= (uint32_t)(n - forwarded);
 	return (uint32_t)n;

@@ -82,7 +82,7 @@ static void *work(void *arg)
 				sched_yield();
 		}
 		worker->handled += (uint64_t)n;
-		if (n <= 0)
+		if (n == 0)
 			sched_yield();
 	}
 	return NULL;
@@ -99,8 +99,10 @@ static double turn(const struct plan *plan)
 	double start, took;
 	uint64_t handled = 0;
 	uint32_t w;
+	config.nb_events_limit = LIMIT;
 	config.event_dev_cfg = plan->is_flow_lanes ? EVSCHED_DEV_CFG_FLOW_LANES : 0;
 	config.queue[0].nb_atomic_flows = plan->flows;
+	config.port[0].new_event_threshold = LIMIT; /* workers add no events */
 	for (w = 0; w < plan->workers; w++) {
 		config.port[1 + w].links = 1;
 		config.port[1 + w].dequeue_depth = (uint16_t)plan->depth;

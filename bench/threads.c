@@ -108,7 +108,7 @@ ALWAYS double work(int is_ours, uint32_t number, struct worker *worker)
 		}
 		if (worker->answered == worker->came) {
 			int n = dequeue(is_ours, WORKER + number, worker->ev, row.worked);
-			worker->came = n > 0 ? n : 0;
+			worker->came = n;
 			worker->answered = 0;
 			released += decide(worker->ev, worker->came);
 		}

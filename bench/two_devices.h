@@ -130,7 +130,7 @@ static void make_ours(const struct shape *shape)
 {
 	struct evsched_dev_config config = evsched_dev_default_config(shape->queues, WORKER + shape->workers);
 	uint32_t q, p;
-	config.nb_events_limit = LIMIT;
+	config.nb_events_limit = config.port[SOURCE].new_event_threshold = LIMIT;
 	config.event_dev_cfg = shape->is_flow_lanes ? EVSCHED_DEV_CFG_FLOW_LANES : 0;
 	for (q = 0; q < shape->queues; q++) {
 		config.queue[q].schedule_type = shape->types[q];

@@ -42,6 +42,12 @@ static void draw_queue(uint64_t *random, struct evsched_queue_conf *queue)
 	queue->priority = (uint8_t)any(random, 256);
 }
 
+/* A single-link queue is a parallel one, whatever its type is. */
+static int type_in(const struct evsched_dev_config *config, uint32_t q)
+{
+	return config->queue[q].event_queue_cfg ? EVSCHED_TYPE_PARALLEL : config->queue[q].schedule_type;
+}
+
 static void draw_port(uint64_t *random, struct evsched_port_conf *port)
 {
 	port->dequeue_depth = (uint16_t)(1 + any(random, EVSCHED_MAX_DEPTH));
@@ -72,13 +78,13 @@ static uint64_t in_all(const uint64_t counts[QUEUES])
 static void count_refusal(struct evsched_port_counters *c, int why)
 {
 	switch (why) {
-	case -ESHUTDOWN: c->stopped++; break;
-	case -EINVAL: c->bad_queue++; break;
-	case -ENOENT: c->nothing_held++; break;
-	case -ENOSPC: c->backpressure++; break;
-	case -EAGAIN: c->raced++; break;
-	case -ENOBUFS: c->full++; break;
-	case -E2BIG: c->too_many++; break;
+	case ESHUTDOWN: c->stopped++; break;
+	case EINVAL: c->bad_queue++; break;
+	case ENOENT: c->nothing_held++; break;
+	case ENOSPC: c->backpressure++; break;
+	case EAGAIN: c->raced++; break;
+	case ENOBUFS: c->full++; break;
+	case E2BIG: c->too_many++; break;
 	default: CHECK(!"a cause that is known");
 	}
 }

@@ -1,6 +1,7 @@
 /* What a program may do wrong and can be seen: each refusal, by its number; a device that is stopped while events are in every place;
  * and a drain. Ends with status 1 where something isn't as it should be. */
 #include <evsched.h>
+#include <limits.h>
 #include <stdio.h>
 #include <string.h>
 
@@ -58,39 +59,40 @@ static void limit(struct evsched_dev_config *config, int32_t credits, uint32_t q
 static int spoil(struct evsched_dev_config *config, int k)
 {
 	switch (k) {
-	case 0: config->nb_event_queues = 0; return -1000;
-	case 1: config->nb_event_queues = 33; return -1000;
-	case 2: config->nb_event_ports = 0; return -1001;
-	case 3: config->nb_event_ports = 33; return -1001;
-	case 4: config->nb_event_ports = UINT32_MAX; return -1001;
-	case 5: config->nb_events_limit = 0; return -1002;
-	case 6: config->nb_events_limit = -1; return -1002;
-	case 7: config->nb_events_limit = 16385; return -1002;
-	case 8: config->credit_quanta = 0; return -1003;
-	case 9: config->credit_quanta = 4097; return -1003;
-	case 10: config->port[2].new_event_threshold = 31; return -1004;
-	case 11: config->port[0].new_event_threshold = 4097; return -1004;
-	case 12: config->port[0].new_event_threshold = -1; return -1004;
-	case 13: config->port[1].dequeue_depth = 0; return -1005;
-	case 14: config->port[1].dequeue_depth = 65; return -1005;
-	case 15: config->port[0].enqueue_depth = 0; return -1005;
-	case 16: config->port[0].enqueue_depth = 65; return -1005;
-	case 17: config->queue[0].nb_atomic_flows = 0; return -1006;
-	case 18: config->queue[0].nb_atomic_flows = 65; return -1006;
-	case 19: config->queue[1] = config->queue[2] = config->queue[0]; return -1006; /* 192 in all */
-	case 20: config->queue[1].nb_atomic_order_sequences = 0; return -1007;
-	case 21: config->queue[1].nb_atomic_order_sequences = 257; return -1007;
-	case 22: config->sched_quanta = 0; return -1008;
-	case 23: config->sched_quanta = 65; return -1008;
-	case 24: config->port[2].links = 1u << 3; return -1009;
-	case 25: config->port[2].links = 1u << 31; return -1009;
-	case 26: config->port[1].links = config->port[2].links = 3; return -1011;
-	case 27: config->queue[2].event_queue_cfg = EVSCHED_QUEUE_CFG_SINGLE_LINK; return -1012;
-	case 28: config->queue[2].schedule_type = 3; return -1013;
-	case 29: config->queue[2].event_queue_cfg = 1; return -1014;
-	case 30: config->port[2].event_port_cfg = 2; return -1014;
-	case 31: config->event_dev_cfg = 2; return -1014;
-	case 32: memset(config, 0, sizeof(*config)); return -1000;
+	case 0: config->nb_event_queues = 0; return -EVSCHED_E_QUEUE_COUNT;
+	case 1: config->nb_event_queues = 33; return -EVSCHED_E_QUEUE_COUNT;
+	case 2: config->nb_event_ports = 0; return -EVSCHED_E_PORT_COUNT;
+	case 3: config->nb_event_ports = 33; return -EVSCHED_E_PORT_COUNT;
+	case 4: config->nb_event_ports = UINT32_MAX; return -EVSCHED_E_PORT_COUNT;
+	case 5: config->nb_events_limit = 0; return -EVSCHED_E_LIMIT_RANGE;
+	case 6: config->nb_events_limit = -1; return -EVSCHED_E_LIMIT_RANGE;
+	case 7: config->nb_events_limit = 16385; return -EVSCHED_E_LIMIT_RANGE;
+	case 8: config->credit_quanta = 0; return -EVSCHED_E_QUANTUM_RANGE;
+	case 9: config->credit_quanta = 4097; return -EVSCHED_E_QUANTUM_RANGE;
+	case 10: config->port[2].new_event_threshold = 31; return -EVSCHED_E_THRESHOLD_RANGE;
+	case 11: config->port[0].new_event_threshold = 4097; return -EVSCHED_E_THRESHOLD_RANGE;
+	case 12: config->port[0].new_event_threshold = -1; return -EVSCHED_E_THRESHOLD_RANGE;
+	case 13: config->port[1].dequeue_depth = 0; return -EVSCHED_E_DEPTH_RANGE;
+	case 14: config->port[1].dequeue_depth = 65; return -EVSCHED_E_DEPTH_RANGE;
+	case 15: config->port[0].enqueue_depth = 0; return -EVSCHED_E_DEPTH_RANGE;
+	case 16: config->port[0].enqueue_depth = 65; return -EVSCHED_E_DEPTH_RANGE;
+	case 17: config->queue[0].nb_atomic_flows = 0; return -EVSCHED_E_FLOW_SLOTS;
+	case 18: config->queue[0].nb_atomic_flows = 65; return -EVSCHED_E_FLOW_SLOTS;
+	case 19: config->queue[1] = config->queue[2] = config->queue[0]; return -EVSCHED_E_FLOW_SLOTS; /* 192 in all */
+	case 20: config->queue[1].nb_atomic_order_sequences = 0; return -EVSCHED_E_ORDER_DEPTH;
+	case 21: config->queue[1].nb_atomic_order_sequences = 257; return -EVSCHED_E_ORDER_DEPTH;
+	case 22: config->sched_quanta = 0; return -EVSCHED_E_SWEEP_RANGE;
+	case 23: config->sched_quanta = 65; return -EVSCHED_E_SWEEP_RANGE;
+	case 24: config->port[2].links = 1u << 3; return -EVSCHED_E_LINK_UNKNOWN;
+	case 25: config->port[2].links = 1u << 31; return -EVSCHED_E_LINK_UNKNOWN;
+	case 26: config->port[1].links = config->port[2].links = 3; return -EVSCHED_E_QUEUE_UNLINKED;
+	case 27: config->queue[2].event_queue_cfg = EVSCHED_QUEUE_CFG_SINGLE_LINK; return -EVSCHED_E_SINGLE_LINK_COUNT;
+	case 28: config->queue[2].schedule_type = 3; return -EVSCHED_E_UNKNOWN_TYPE;
+	case 29: config->queue[2].event_queue_cfg = 1; return -EVSCHED_E_UNKNOWN_FLAG;
+	case 30: config->port[2].event_port_cfg = 2; return -EVSCHED_E_UNKNOWN_FLAG;
+	case 31: config->event_dev_cfg = 2; return -EVSCHED_E_UNKNOWN_FLAG;
+	case 32: config->queue[1].rsvd = 1; return -EVSCHED_E_RESERVED;
+	case 33: memset(config, 0, sizeof(*config)); return -EVSCHED_E_QUEUE_COUNT;
 	default: return 0;
 	}
 }
@@ -122,6 +124,86 @@ static void configurations(void)
 	}
 }
 
+/* What a configuration that is good comes to. */
+static void resolved(void)
+{
+	struct evsched_dev_config config = three_ports(2);
+	const struct evsched_dev_config *info;
+	struct evsched *dev;
+	static const int32_t limits[][3] = {{4096, 32, 3687}, {1024, 32, 768}, {100, 32, 50}, {16384, 32, 14746}, {40, 32, 32}, {1, 1, 1}};
+	int i;
+	for (i = 0; i < 6; i++) { /* a limit that is set after the defaults, a quantum, and what the producer's threshold comes to */
+		config.nb_events_limit = limits[i][0];
+		config.credit_quanta = (uint32_t)limits[i][1];
+		CHECK(evsched_create(&config, &dev) == 0);
+		info = evsched_info(dev);
+		CHECK(info->port[0].new_event_threshold == limits[i][2] && info->port[1].new_event_threshold == limits[i][0]);
+		evsched_free(dev);
+	}
+	config = three_ports(2);
+	config.port[1].links = 1;
+	config.port[0].event_port_cfg = EVSCHED_PORT_CFG_HINT_PRODUCER;
+	config.port[1].event_port_cfg |= EVSCHED_PORT_CFG_HINT_WORKER | EVSCHED_PORT_CFG_HINT_CONSUMER;
+	config.queue[1].event_queue_cfg = EVSCHED_QUEUE_CFG_SINGLE_LINK;
+	config.queue[1].schedule_type = 77;
+	config.queue[1].nb_atomic_flows = config.queue[1].nb_atomic_order_sequences = 0;
+	CHECK(evsched_create(&config, &dev) == 0);
+	info = evsched_info(dev);
+	CHECK(info->port[0].event_port_cfg == 0 && info->port[1].event_port_cfg == EVSCHED_PORT_CFG_DISABLE_IMPL_REL);
+	CHECK(info->queue[1].schedule_type == EVSCHED_TYPE_PARALLEL && info->queue[0].schedule_type == EVSCHED_TYPE_ATOMIC);
+	evsched_free(dev);
+}
+
+/* A producer goes beyond 4096 where the limit is set so after the defaults. */
+static void great_limit(void)
+{
+	static struct evsched_event many[64];
+	struct evsched_dev_config config = three_ports(1);
+	struct evsched *dev;
+	int in = 0, taken;
+	config.nb_events_limit = EVSCHED_MAX_EVENTS_LIMIT;
+	CHECK(evsched_create(&config, &dev) == 0);
+	do {
+		in += taken = evsched_enqueue_burst(evsched_port(dev, 0), many, 64);
+		CHECK(evsched_sweep(dev) >= 0);
+	} while (taken > 0);
+	CHECK(in > 14000 && in <= evsched_info(dev)->port[0].new_event_threshold && evsched_errno(evsched_port(dev, 0)) == ENOSPC);
+	evsched_free(dev);
+}
+
+/* Memory of the program's, aligned and not. */
+static void own_memory(void)
+{
+	struct evsched_dev_config config = three_ports(1);
+	struct evsched *dev = NULL;
+	unsigned char *base = (unsigned char *)malloc(evsched_size(3) + 128), *memory = base;
+	if (!base)
+		return;
+	while ((uintptr_t)memory % 64)
+		memory++;
+	for (int off = 1; off < 64; off++)
+		CHECK(evsched_create_in(memory + off, &config, &dev) == -EVSCHED_E_UNALIGNED && !dev);
+	CHECK(evsched_create_in(NULL, &config, &dev) == -EVSCHED_E_UNALIGNED && !dev);
+	CHECK(evsched_create_in(memory, &config, &dev) == 0 && dev);
+	CHECK(enqueue(dev, 0, EVSCHED_OP_NEW, 0, 1) == 0 && evsched_sweep(dev) == 2);
+	evsched_free(dev);
+	free(base);
+}
+
+static void causes(void)
+{
+	static const int passing[] = {ENOSPC, EAGAIN, ENOBUFS}, staying[] = {0, ESHUTDOWN, EINVAL, ENOENT, E2BIG, ENODEV, ENOMEM, EBUSY};
+	size_t i;
+	for (i = 0; i < 3; i++)
+		CHECK(evsched_may_retry(passing[i]) && evsched_may_retry(-passing[i]));
+	for (i = 0; i < 8; i++) {
+		CHECK(!evsched_may_retry(staying[i]) && !evsched_may_retry(-staying[i]));
+		CHECK(evsched_strerror(staying[i]) == evsched_strerror(-staying[i]) && strcmp(evsched_strerror(staying[i]), "unknown"));
+	}
+	CHECK(evsched_strerror(EVSCHED_E_UNALIGNED) == evsched_strerror(-EVSCHED_E_UNALIGNED));
+	CHECK(!strcmp(evsched_strerror(INT_MIN), "unknown") && !strcmp(evsched_strerror(INT_MAX), "unknown") && !evsched_may_retry(INT_MIN));
+}
+
 static void enqueues(void)
 {
 	static struct evsched_event many[200];
@@ -137,41 +219,41 @@ static void enqueues(void)
 	worker = evsched_port(dev, 1);
 	CHECK(!evsched_port(dev, 3) && !evsched_port(dev, UINT32_MAX));
 	CHECK(source != worker && source == evsched_port(dev, 0));
-	CHECK(enqueue(dev, 0, EVSCHED_OP_NEW, 2, 0) == -EINVAL);
-	CHECK(enqueue(dev, 0, EVSCHED_OP_NEW, 255, 0) == -EINVAL);
-	CHECK(enqueue(dev, 1, EVSCHED_OP_FORWARD, 0, 0) == -ENOENT);
-	CHECK(enqueue(dev, 1, EVSCHED_OP_FORWARD, 2, 0) == -EINVAL);
-	CHECK(enqueue(dev, 1, EVSCHED_OP_FORWARD_MORE, 0, 0) == -ENOENT);
-	CHECK(enqueue(dev, 1, EVSCHED_OP_RELEASE, 9, 0) == -ENOENT);
+	CHECK(enqueue(dev, 0, EVSCHED_OP_NEW, 2, 0) == EINVAL);
+	CHECK(enqueue(dev, 0, EVSCHED_OP_NEW, 255, 0) == EINVAL);
+	CHECK(enqueue(dev, 1, EVSCHED_OP_FORWARD, 0, 0) == ENOENT);
+	CHECK(enqueue(dev, 1, EVSCHED_OP_FORWARD, 2, 0) == EINVAL);
+	CHECK(enqueue(dev, 1, EVSCHED_OP_FORWARD_MORE, 0, 0) == ENOENT);
+	CHECK(enqueue(dev, 1, EVSCHED_OP_RELEASE, 9, 0) == ENOENT);
 	CHECK(evsched_enqueue_burst(source, NULL, 0) == 0 && evsched_dequeue_burst(source, NULL, 0) == 0);
 	CHECK(evsched_sweep(dev) == 0 && evsched_inside(dev) == 0);
 	for (i = 0; i < 200; i++)
 		many[i] = event(EVSCHED_OP_NEW, 0, (unsigned)i, (uint64_t)i);
-	CHECK(evsched_enqueue_new_burst(source, many, 200) == 64 && evsched_errno(source) == -ENOBUFS);
+	CHECK(evsched_enqueue_new_burst(source, many, 200) == 64 && evsched_errno(source) == ENOBUFS);
 	CHECK(evsched_enqueue_burst(source, NULL, 0) == 0 && evsched_errno(source) == 0);
 	while (evsched_sweep(dev) > 0)
 		;
 	CHECK(evsched_inside(dev) == 64);
-	CHECK(evsched_enqueue_new_burst(source, many, 200) == 64 && evsched_errno(source) == -ENOSPC); /* all 128 credits are taken */
+	CHECK(evsched_enqueue_new_burst(source, many, 200) == 64 && evsched_errno(source) == ENOSPC); /* all 128 credits are taken */
 	while (evsched_sweep(dev) > 0)
 		;
-	CHECK(evsched_enqueue_new_burst(source, many, 200) == 0 && evsched_errno(source) == -ENOSPC);
+	CHECK(evsched_enqueue_new_burst(source, many, 200) == 0 && evsched_errno(source) == ENOSPC);
 	CHECK(evsched_dequeue_burst(worker, many, 200) == 32 && evsched_held(worker) == 32);          /* its depth */
 	CHECK(evsched_dequeue_burst(worker, many, 200) == 0);
 	many[0].op = EVSCHED_OP_RELEASE; /* its credit stays with this port */
 	CHECK(evsched_enqueue_burst(worker, many, 1) == 1 && evsched_held(worker) == 31);
 	for (i = 0; i < 4; i++) /* three more than there is a credit for */
-		CHECK(enqueue(dev, 1, EVSCHED_OP_FORWARD_MORE, 1, 1000 + (uint64_t)i) == (i ? -ENOSPC : 0));
+		CHECK(enqueue(dev, 1, EVSCHED_OP_FORWARD_MORE, 1, 1000 + (uint64_t)i) == (i ? ENOSPC : 0));
 	for (i = 0; i < 8; i++) {
 		many[i].op = i % 2 ? EVSCHED_OP_RELEASE : EVSCHED_OP_FORWARD;
 		many[i].queue_id = 1;
 	}
 	CHECK(evsched_enqueue_forward_burst(worker, many, 8) == 8 && evsched_held(worker) == 23);
 	for (i = 0; i < 5; i++) /* its four credits, and then it isn't the credits that are lacking */
-		CHECK(enqueue(dev, 1, EVSCHED_OP_FORWARD_MORE, 1, 1000 + (uint64_t)i) == (i < 4 ? 0 : -E2BIG));
+		CHECK(enqueue(dev, 1, EVSCHED_OP_FORWARD_MORE, 1, 1000 + (uint64_t)i) == (i < 4 ? 0 : E2BIG));
 	many[1].queue_id = 77;
 	many[0].op = many[1].op = many[2].op = EVSCHED_OP_FORWARD;
-	CHECK(evsched_enqueue_burst(worker, many, 3) == 1 && evsched_errno(worker) == -EINVAL && evsched_held(worker) == 22); /* ends there */
+	CHECK(evsched_enqueue_burst(worker, many, 3) == 1 && evsched_errno(worker) == EINVAL && evsched_held(worker) == 22); /* ends there */
 	CHECK(evsched_port_counters(source, &counters) == 0);
 	CHECK(counters.enqueued == 128 && counters.bad_queue == 2 && counters.full == 1 && counters.backpressure == 2);
 	CHECK(evsched_port_counters(worker, &counters) == 0);
@@ -198,9 +280,9 @@ static void behind(void)
 	while (evsched_sweep(dev) > 0)
 		;
 	CHECK(evsched_dequeue_burst(worker, ev, 8) == 8);
-	CHECK(evsched_dequeue_burst(worker, ev, 8) == -ENOBUFS && evsched_errno(worker) == -ENOBUFS);
+	CHECK(evsched_dequeue_burst(worker, ev, 8) == 0 && evsched_errno(worker) == ENOBUFS);
 	CHECK(evsched_held(worker) == 4);
-	CHECK(enqueue(dev, 1, EVSCHED_OP_RELEASE, 0, 0) == -ENOBUFS);
+	CHECK(enqueue(dev, 1, EVSCHED_OP_RELEASE, 0, 0) == ENOBUFS);
 	CHECK(evsched_sweep(dev) == 4);
 	CHECK(evsched_dequeue_burst(worker, NULL, 0) == 0 && evsched_errno(worker) == 0 && evsched_held(worker) == 0);
 	CHECK(evsched_sweep(dev) == 4 && evsched_inside(dev) == 0);
@@ -224,14 +306,15 @@ static void after_the_stop(void)
 	CHECK(evsched_port_stats(dev, 2, &port) == 0 && evsched_port_stats(dev, 3, &port) == -EINVAL);
 	CHECK(enqueue(dev, 0, EVSCHED_OP_NEW, 0, 5) == 0);
 	CHECK(evsched_shut(dev) == 0 && evsched_shut(dev) == 0);
-	CHECK(enqueue(dev, 0, EVSCHED_OP_NEW, 0, 6) == -ESHUTDOWN);
+	CHECK(enqueue(dev, 0, EVSCHED_OP_NEW, 0, 6) == ESHUTDOWN);
 	CHECK(evsched_sweep(dev) == 1 && evsched_inside(dev) == 0);
 	CHECK(evsched_stop(dev) == 0);
 	for (i = 0; i < 2; i++) {
 		CHECK(evsched_stop(dev) == -ENODEV && evsched_sweep(dev) == -ENODEV && evsched_inside(dev) == -ENODEV);
 		CHECK(evsched_shut(dev) == -ENODEV && evsched_drain(dev, NULL, NULL) == -ENODEV);
-		CHECK(evsched_port(dev, 0) && enqueue(dev, 0, EVSCHED_OP_NEW, 0, 6) == -ENODEV);
-		CHECK(evsched_dequeue_burst(evsched_port(dev, 1), ev, 4) == -ENODEV && evsched_held(evsched_port(dev, 1)) == -ENODEV);
+		CHECK(evsched_port(dev, 0) && enqueue(dev, 0, EVSCHED_OP_NEW, 0, 6) == ENODEV);
+		CHECK(evsched_dequeue_burst(evsched_port(dev, 1), ev, 4) == 0 && evsched_errno(evsched_port(dev, 1)) == ENODEV);
+		CHECK(evsched_held(evsched_port(dev, 1)) == -ENODEV);
 	}
 	CHECK(evsched_queue_stats(dev, 0, &queue) == 0 && queue.rx_new == 0 && evsched_port_stats(dev, 0, &port) == 0 && port.turned == 1);
 	CHECK(evsched_dev_stats(dev, &all) == -ENODEV);
@@ -245,7 +328,7 @@ static void after_the_stop(void)
 }
 
 /* The library's own functions: a port or a control that isn't at home. */
-static void rooms(void)
+static void places_of_the_library(void)
 {
 	struct evsched_dev_config config = three_ports(1);
 	struct evsched_event ev = event(EVSCHED_OP_NEW, 0, 0, 0);
@@ -253,8 +336,8 @@ static void rooms(void)
 	struct evsched *dev;
 	unsigned char *room, *other;
 	CHECK(evsched_create(&config, &dev) == 0);
-	room = (unsigned char *)aligned_alloc(64, (evsched_port_size() + 63) / 64 * 64);
-	other = (unsigned char *)aligned_alloc(64, (evsched_control_size() + 63) / 64 * 64);
+	room = (unsigned char *)malloc(evsched_port_size()); /* malloc aligns to 16 */
+	other = (unsigned char *)malloc(evsched_control_size());
 	if (!room || !other)
 		return;
 	for (size_t number = 1; number < 50; number += 40) { /* port 1 is away already, and there is no port 41 */
@@ -266,9 +349,9 @@ static void rooms(void)
 	evsched_hub_control(dev->hub, other);
 	CHECK(evsched_control_shut(other) == -ENODEV && evsched_hub_join_control(dev->hub, other) == -ENODEV);
 	CHECK(evsched_hub_stop(dev->hub) == -EBUSY && enqueue(dev, 0, EVSCHED_OP_NEW, 0, 1) == 0);
-	CHECK(evsched_hub_join(dev->hub, (unsigned char *)evsched_port(dev, 2)) == 0);
+	CHECK(evsched_hub_join(dev->hub, evsched_priv_at(evsched_port(dev, 2))) == 0);
 	CHECK(evsched_hub_stop(dev->hub) == -EBUSY); /* ports 0 and 1 are away */
-	evsched_hub_port(dev->hub, 2, (unsigned char *)evsched_port(dev, 2));
+	evsched_hub_port(dev->hub, 2, evsched_priv_at(evsched_port(dev, 2)));
 	CHECK(evsched_sweep(dev) == 2); /* the event was taken and given to one of two ports, one of which was back meanwhile */
 	CHECK(evsched_dequeue_burst(evsched_port(dev, 1), &ev, 1) + evsched_dequeue_burst(evsched_port(dev, 2), &ev, 1) == 1);
 	CHECK(evsched_stop(dev) == 0);
@@ -427,10 +510,14 @@ static void drain(uint32_t flags, int is_shut)
 int main(void)
 {
 	configurations();
+	resolved();
+	great_limit();
+	own_memory();
+	causes();
 	enqueues();
 	behind();
 	after_the_stop();
-	rooms();
+	places_of_the_library();
 	for (uint32_t flags = 0; flags < 2; flags++)
 		for (int is_shut = 0; is_shut < 2; is_shut++) {
 			places(flags, is_shut);

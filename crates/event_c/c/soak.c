@@ -85,7 +85,7 @@ static void check_order(const struct evsched_event *ev)
 	uint32_t birth = now.birth[ev->u64];
 	struct order *order = &now.order[birth % QUEUES][ev->queue_id];
 	uint32_t *last_of_flow = &order->last_of_flow[ev->flow_id][ev->priority / 64], *last_of_all = &order->last_of_all[ev->priority / 64];
-	CHECK(ev->sched_type == config.queue[ev->queue_id].schedule_type);
+	CHECK(ev->sched_type == type_in(&config, ev->queue_id));
 	if (order->is_of_flows) {
 		CHECK(birth >= *last_of_flow);
 		*last_of_flow = birth;
@@ -98,7 +98,7 @@ static void check_order(const struct evsched_event *ev)
 
 static int is_atomic(uint32_t q)
 {
-	return config.queue[q].schedule_type == EVSCHED_TYPE_ATOMIC;
+	return type_in(&config, q) == EVSCHED_TYPE_ATOMIC;
 }
 
 /* The port holds one event more or fewer of an atomic queue's slot, of which no other port holds one. */
@@ -121,8 +121,8 @@ static void shut(void)
 static int enqueue(struct player *me, const struct evsched_event *ev, int n)
 {
 	int was_shut = atomic_load(&now.is_shut) == 2, taken = enqueue_counted(&me->ledger, me->port, ev, n), why = evsched_errno(me->port);
-	CHECK(why != -ESHUTDOWN || atomic_load(&now.is_shut));
-	CHECK(!was_shut || ev->op != EVSCHED_OP_NEW || (taken == 0 && why == -ESHUTDOWN));
+	CHECK(why != ESHUTDOWN || atomic_load(&now.is_shut));
+	CHECK(!was_shut || ev->op != EVSCHED_OP_NEW || (taken == 0 && why == ESHUTDOWN));
 	return taken;
 }
 
@@ -130,7 +130,7 @@ static int enqueue(struct player *me, const struct evsched_event *ev, int n)
 static int bring_in(struct player *me, const struct evsched_event *ev, int n)
 {
 	int done = enqueue(me, ev, n), i;
-	while (done < n && evsched_errno(me->port) != -ESHUTDOWN && !atomic_load(&now.is_over)) {
+	while (done < n && evsched_errno(me->port) != ESHUTDOWN && !atomic_load(&now.is_over)) {
 		sched_yield();
 		done += enqueue(me, ev + done, n - done);
 	}
@@ -205,10 +205,10 @@ static int push(struct player *me, const struct evsched_event *ev, int n)
 	for (;;) {
 		done += enqueue(me, ev + done, n - done);
 		why = evsched_errno(me->port);
-		if (why == 0 || (why == -ENOBUFS && atomic_load(&now.is_over)))
+		if (why == 0 || (why == ENOBUFS && atomic_load(&now.is_over)))
 			return done;
-		CHECK(why == -ENOBUFS || ev[done].op == EVSCHED_OP_FORWARD_MORE);
-		if (why == -ENOBUFS)
+		CHECK(why == ENOBUFS || ev[done].op == EVSCHED_OP_FORWARD_MORE);
+		if (why == ENOBUFS)
 			sched_yield();
 		else
 			comes_out(&ev[done++], REFUSED);
@@ -252,20 +252,22 @@ static void dequeue(struct player *me)
 {
 	struct evsched_event ev[EVSCHED_MAX_BURST];
 	const struct evsched_port_conf *conf = &config.port[me->number];
-	int is_implicit = conf->event_port_cfg == 0, most = (int)any(&me->random, EVSCHED_MAX_BURST + 1), before = me->n_held, released, n, i;
+	int is_implicit = conf->event_port_cfg == 0, most = (int)any(&me->random, EVSCHED_MAX_BURST + 1), before = me->n_held, released, why, n, i;
 	for (i = 0; i < before && is_implicit; i++)
 		hold(me, &me->held[i], -1);
 	n = evsched_dequeue_burst(me->port, ev, (uint16_t)most);
-	released = before + (n > 0 ? n : 0) - evsched_held(me->port);
+	why = evsched_errno(me->port);
+	released = before + n - evsched_held(me->port);
 	CHECK(n <= most && before - released + n <= conf->dequeue_depth);
-	CHECK(!is_implicit ? n >= 0 && released == 0 : n >= 0 ? released == before : n == -ENOBUFS && released < before);
+	CHECK(why == 0 || (why == ENOBUFS && n == 0));
+	CHECK(!is_implicit ? why == 0 && released == 0 : why == 0 ? released == before : released < before);
 	for (i = 0; i < released; i++)
 		move(me->held[i].u64, HELD, RELEASED);
 	forget(me, released);
 	for (i = 0; i < me->n_held && is_implicit; i++)
 		hold(me, &me->held[i], 1);
 	me->ledger.counted.released += (uint64_t)released;
-	me->ledger.counted.behind += n < 0;
+	me->ledger.counted.behind += why != 0;
 	for (i = 0; i < n; i++) {
 		comes_out(&ev[i], HELD);
 		CHECK(conf->links >> ev[i].queue_id & 1);
@@ -337,7 +339,7 @@ static void find_order(void)
 	for (uint32_t o = 0, q; o < config.nb_event_queues; o++) {
 		int flows = 1, all = 1;
 		for (q = o; q < config.nb_event_queues; q++) {
-			int type = config.queue[q].schedule_type, one = has_one_lane(q);
+			int type = type_in(&config, q), one = has_one_lane(q);
 			now.order[o][q].is_of_flows = flows && (type == EVSCHED_TYPE_ATOMIC || one);
 			now.order[o][q].is_of_all = all && one;
 			flows = flows && (type != EVSCHED_TYPE_PARALLEL || one);

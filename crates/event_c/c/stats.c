@@ -32,7 +32,7 @@ static uint32_t draw(uint32_t below)
 
 static int is_atomic(uint32_t q)
 {
-	return config.queue[q].schedule_type == EVSCHED_TYPE_ATOMIC;
+	return type_in(&config, q) == EVSCHED_TYPE_ATOMIC;
 }
 
 /* The lane by which an event comes to a port. */
@@ -56,7 +56,7 @@ static void comes_out(const struct evsched_event *ev)
 static void is_dequeued(const struct evsched_event *ev)
 {
 	comes_out(ev);
-	CHECK(ev->sched_type == config.queue[ev->queue_id].schedule_type);
+	CHECK(ev->sched_type == type_in(&config, ev->queue_id));
 }
 
 static void draw_config(void)
@@ -133,12 +133,13 @@ static void dequeue(uint32_t p)
 	struct evsched_port *port = evsched_port(dev, p);
 	const struct evsched_port_conf *conf = &config.port[p];
 	int most = (int)draw(80), n = evsched_dequeue_burst(port, ev, (uint16_t)most), after = evsched_held(port), i;
-	int released = n_held[p] - after + (n > 0 ? n : 0);
-	CHECK(conf->event_port_cfg ? n >= 0 && released == 0 : n >= 0 ? after == n : n == -ENOBUFS && after > 0 && released >= 0);
+	int released = n_held[p] - after + n, why = evsched_errno(port);
+	CHECK(why == 0 || (why == ENOBUFS && n == 0));
+	CHECK(conf->event_port_cfg ? why == 0 && released == 0 : why == 0 ? after == n : after > 0 && released >= 0);
 	CHECK(n <= most && n <= 64 && after <= conf->dequeue_depth);
 	release(p, released);
 	ledger[p].counted.released += (uint64_t)released;
-	ledger[p].counted.behind += n < 0;
+	ledger[p].counted.behind += why != 0;
 	for (i = 0; i < n; i++) {
 		is_dequeued(&ev[i]);
 		CHECK(conf->links >> ev[i].queue_id & 1);

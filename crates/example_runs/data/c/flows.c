@@ -32,7 +32,7 @@ static void enqueue_all(struct evsched_port *port, const struct evsched_event *e
 		int why = evsched_errno(port);
 		if (taken == n)
 			return;
-		if (why != -ENOSPC && why != -EAGAIN && why != -ENOBUFS) {
+		if (!evsched_may_retry(why)) {
 			fprintf(stderr, "enqueue: %s\n", evsched_strerror(why));
 			exit(1);
 		}

@@ -5,6 +5,9 @@ pub const ORDERED: u8 = 0;
 pub const ATOMIC: u8 = 1;
 pub const PARALLEL: u8 = 2;
 
+/// `event_queue_cfg` of a queue to which one port is linked: a parallel one.
+pub const SINGLE_LINK: u32 = 1 << 1;
+
 #[repr(C)]
 #[derive(Clone, Copy, Debug)]
 pub struct QueueConf {
@@ -19,6 +22,7 @@ pub struct QueueConf {
 #[repr(C)]
 #[derive(Clone, Copy, Debug)]
 pub struct PortConf {
+    /// 0: by the limit, as `evsched.h` says.
     pub new_event_threshold: u32,
     pub dequeue_depth: u16,
     pub enqueue_depth: u16,
@@ -52,7 +56,7 @@ impl Config {
             rsvd: 0,
         };
         let port = PortConf {
-            new_event_threshold: 4096,
+            new_event_threshold: 0,
             dequeue_depth: 32,
             enqueue_depth: 64,
             event_port_cfg: 0,
@@ -68,5 +72,35 @@ impl Config {
             queue: [queue; 32],
             port: [port; 32],
         }
+    }
+
+    /// What the threshold of a port without links leaves to those that add events.
+    fn reserve(&self) -> u32 {
+        let ports = self.port.iter().take(self.nb_event_ports as usize);
+        let held: u32 = ports
+            .filter(|port| port.links != 0)
+            .map(|port| u32::from(port.dequeue_depth))
+            .sum();
+        (self.nb_events_limit / 10)
+            .max(4 * held)
+            .min(self.nb_events_limit / 2)
+    }
+
+    /// The configuration as the library takes it: with the thresholds that are 0 by the limit, and single-link queues parallel.
+    pub(crate) fn resolved(&self) -> Config {
+        let mut config = *self;
+        let (limit, quanta) = (self.nb_events_limit, self.credit_quanta);
+        let producers = (limit - self.reserve()).max(quanta).min(limit);
+        for port in &mut config.port {
+            if port.new_event_threshold == 0 {
+                port.new_event_threshold = if port.links == 0 { producers } else { limit };
+            }
+        }
+        for queue in &mut config.queue {
+            if queue.event_queue_cfg == SINGLE_LINK {
+                queue.schedule_type = PARALLEL;
+            }
+        }
+        config
     }
 }

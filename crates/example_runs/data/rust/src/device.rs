@@ -66,7 +66,7 @@ impl Device {
                 number: DEVICES.fetch_add(1, Ordering::Relaxed),
                 ports: config.nb_event_ports as usize,
             };
-            evsched_hub_init(device.hub.at(), config);
+            evsched_hub_init(device.hub.at(), &config.resolved());
             Error::check(evsched_hub_why(device.hub.at()))?;
             // Of nothing yet: it takes the memory that all sweeps up to the shut need.
             Error::check(evsched_hub_sweep(device.hub.at()))?;

@@ -1,4 +1,4 @@
-//! The functions of `evsched.h` that are in the library.
+//! The functions of the library, as `evsched_lib.h` declares them.
 
 use crate::{Config, Event, Left};
 

@@ -8,13 +8,13 @@ mod event;
 mod ffi;
 mod room;
 
-pub use config::{Config, PortConf, QueueConf, ATOMIC, ORDERED, PARALLEL};
+pub use config::{Config, PortConf, QueueConf, ATOMIC, ORDERED, PARALLEL, SINGLE_LINK};
 pub use device::{Control, Device, Port, PortCounts, QueueCounts, Report};
 pub use event::{Event, Left, Op};
 
 use std::fmt;
 
-/// A refusal: a negative number of `evsched.h`, as `evsched_strerror` reads it.
+/// A refusal: a negative number, an errno value or one of `EVSCHED_E_` of `evsched.h`, as `evsched_strerror` reads it.
 #[derive(Clone, Copy, Debug, PartialEq, Eq)]
 pub struct Error(pub i64);
 

@@ -1,0 +1,172 @@
+/*
+ * What stands behind evsched.h, which includes it: the library's functions, and the block of memory in which a device lies. A program has
+ * no need of either: it calls what evsched.h declares.
+ */
+#ifndef EVSCHED_LIB_H
+#define EVSCHED_LIB_H
+
+#ifndef EVSCHED_H
+#error "include evsched.h"
+#endif
+
+/*
+ * The library's functions. `at` is a place: so many bytes, aligned to 16. It is empty; then _init, _port or _control fills it, and
+ * _clear or a join empties it. In between it is lent to one call at a time. What joins a hub came from that hub. An array has as
+ * many elements as is said, and is no NULL where that is 0. Refusals are negative.
+ */
+size_t evsched_hub_size(void);
+size_t evsched_port_size(void);
+size_t evsched_control_size(void);
+void evsched_hub_init(unsigned char *at, const struct evsched_dev_config *config);
+void evsched_hub_port(unsigned char *at, size_t number, unsigned char *port);
+void evsched_hub_control(unsigned char *at, unsigned char *control);
+int64_t evsched_hub_join(unsigned char *at, unsigned char *port);
+int64_t evsched_hub_join_control(unsigned char *at, unsigned char *control);
+int64_t evsched_hub_sweep(unsigned char *at);
+int64_t evsched_hub_inside(unsigned char *at);
+int64_t evsched_hub_why(unsigned char *at);
+int64_t evsched_hub_stop(unsigned char *at);
+int64_t evsched_hub_report(unsigned char *at, uint64_t *counts, size_t n);
+int64_t evsched_hub_left(unsigned char *at, struct evsched_left *left, size_t n);
+int64_t evsched_hub_counts(unsigned char *at, size_t what, uint64_t *counts, size_t n);
+int64_t evsched_control_shut(unsigned char *at);
+int64_t evsched_port_counts(unsigned char *at, uint64_t *counts, size_t n);
+int64_t evsched_port_enqueue(unsigned char *at, const struct evsched_event *events, size_t n);
+int64_t evsched_port_dequeue(unsigned char *at, struct evsched_event *events, size_t n);
+int64_t evsched_port_why(unsigned char *at);
+int64_t evsched_port_held(unsigned char *at);
+void evsched_hub_clear(unsigned char *at);
+void evsched_port_clear(unsigned char *at);
+void evsched_control_clear(unsigned char *at);
+
+enum { EVSCHED_PRIV_LINE = 64 }; /* bytes: a cache line */
+
+/* A port's handle: a cache line of its own, behind which the library's port lies. */
+struct evsched_port {
+	struct evsched *dev;
+	uint32_t number;
+	unsigned char rest[EVSCHED_PRIV_LINE - sizeof(struct evsched *) - sizeof(uint32_t)];
+};
+
+/* A device: this, hub, control and ports in one block of memory, each in cache lines of its own. */
+struct evsched {
+	unsigned char *hub, *control, *port;
+	size_t stride; /* from one port to the next */
+	void *base;    /* what evsched_create allocated; NULL where the block is the program's */
+	uint32_t lanes;
+	struct evsched_dev_config config; /* as it was resolved */
+};
+
+typedef char evsched_layout_is_right[sizeof(struct evsched_event) == 16 && sizeof(struct evsched_left) == 40
+	&& sizeof(struct evsched_dev_config) == 1048 && sizeof(struct evsched_port) == EVSCHED_PRIV_LINE ? 1 : -1];
+
+static inline size_t evsched_priv_up(size_t bytes)
+{
+	return (bytes + EVSCHED_PRIV_LINE - 1) / EVSCHED_PRIV_LINE * EVSCHED_PRIV_LINE;
+}
+
+static inline struct evsched_port *evsched_priv_port(struct evsched *dev, uint32_t port)
+{
+	return (struct evsched_port *)(void *)(dev->port + port * dev->stride);
+}
+
+/* The library's port behind a handle. */
+static inline unsigned char *evsched_priv_at(struct evsched_port *port)
+{
+	return (unsigned char *)port + EVSCHED_PRIV_LINE;
+}
+
+/* What a call that answers an int answers: a count or 0, or the refusal. */
+static inline int evsched_priv_done(int64_t r)
+{
+	return r < 0 ? (int)r : 0;
+}
+
+/* Hands control and ports out of the hub. Where they aren't there, since it stopped, each is a handle whose calls answer -ENODEV. */
+static inline void evsched_priv_hand_out(struct evsched *dev)
+{
+	uint32_t p;
+	for (p = 0; p < dev->config.nb_event_ports; p++)
+		evsched_hub_port(dev->hub, p, evsched_priv_at(evsched_priv_port(dev, p)));
+	evsched_hub_control(dev->hub, dev->control);
+}
+
+/* Where in a device's block each of its parts lies. */
+static inline struct evsched *evsched_priv_lay_out(void *memory)
+{
+	struct evsched *dev = (struct evsched *)memory;
+	dev->hub = (unsigned char *)memory + evsched_priv_up(sizeof(*dev));
+	dev->control = dev->hub + evsched_priv_up(evsched_hub_size());
+	dev->port = dev->control + evsched_priv_up(evsched_control_size());
+	dev->stride = EVSCHED_PRIV_LINE + evsched_priv_up(evsched_port_size());
+	dev->base = NULL;
+	return dev;
+}
+
+/* Whether a queue's slots have lanes of their own. */
+static inline int evsched_priv_has_flow_lanes(const struct evsched_dev_config *config, uint32_t queue)
+{
+	return config->event_dev_cfg == EVSCHED_DEV_CFG_FLOW_LANES && config->queue[queue].schedule_type == EVSCHED_TYPE_ATOMIC;
+}
+
+/* Tells ports what they are, and counts the lanes. */
+static inline void evsched_priv_number(struct evsched *dev)
+{
+	uint32_t p, q;
+	for (p = 0; p < dev->config.nb_event_ports; p++) {
+		evsched_priv_port(dev, p)->dev = dev;
+		evsched_priv_port(dev, p)->number = p;
+	}
+	dev->lanes = dev->config.nb_event_ports;
+	for (q = 0; q < dev->config.nb_event_queues; q++)
+		dev->lanes += evsched_priv_has_flow_lanes(&dev->config, q) ? dev->config.queue[q].nb_atomic_flows : 0;
+}
+
+/* Where a configuration has something in a reserved field: the queue, or EVSCHED_MAX_QUEUES where it hasn't. */
+static inline uint32_t evsched_priv_reserved(const struct evsched_dev_config *config)
+{
+	uint32_t q;
+	for (q = 0; q < config->nb_event_queues && q < EVSCHED_MAX_QUEUES; q++)
+		if (config->queue[q].rsvd != 0)
+			return q;
+	return EVSCHED_MAX_QUEUES;
+}
+
+/* How many credits the threshold of a port without links leaves to those that have links, where it isn't said. */
+static inline int32_t evsched_priv_kept_free(const struct evsched_dev_config *config)
+{
+	int32_t tenth = config->nb_events_limit / 10, added = 0, most = config->nb_events_limit / 2;
+	uint32_t p;
+	for (p = 0; p < config->nb_event_ports && p < EVSCHED_MAX_PORTS; p++)
+		added += config->port[p].links ? EVSCHED_MAX_FORWARD_MORE * config->port[p].dequeue_depth : 0;
+	added = added > tenth ? added : tenth;
+	return added < most ? added : most;
+}
+
+/* The threshold of a port that doesn't say one. */
+static inline int32_t evsched_priv_threshold(const struct evsched_dev_config *config, const struct evsched_port_conf *port)
+{
+	int32_t limit = config->nb_events_limit, threshold = limit - evsched_priv_kept_free(config);
+	if (port->links)
+		return limit;
+	if (config->credit_quanta > (uint32_t)threshold)
+		return config->credit_quanta < (uint32_t)limit ? (int32_t)config->credit_quanta : limit;
+	return threshold;
+}
+
+/* A configuration as the library is to have it: what evsched.h says of thresholds of 0, of single-link queues and of hints. */
+static inline void evsched_priv_resolve(struct evsched_dev_config *to, const struct evsched_dev_config *config)
+{
+	uint32_t i;
+	*to = *config;
+	for (i = 0; i < EVSCHED_MAX_QUEUES; i++)
+		if (config->queue[i].event_queue_cfg == EVSCHED_QUEUE_CFG_SINGLE_LINK)
+			to->queue[i].schedule_type = EVSCHED_TYPE_PARALLEL;
+	for (i = 0; i < EVSCHED_MAX_PORTS; i++) {
+		to->port[i].event_port_cfg &= ~(EVSCHED_PORT_CFG_HINT_PRODUCER | EVSCHED_PORT_CFG_HINT_CONSUMER | EVSCHED_PORT_CFG_HINT_WORKER);
+		if (config->port[i].new_event_threshold == 0 && config->nb_events_limit > 0)
+			to->port[i].new_event_threshold = evsched_priv_threshold(config, &config->port[i]);
+	}
+}
+
+#endif

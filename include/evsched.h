@@ -36,17 +36,23 @@
  * call after the stop. As in DPDK a burst returns how many, and the cause, a positive errno value, is what evsched_errno says; a call
  * that returns an int returns a refusal as a negative number: an errno value, or one of EVSCHED_E_ where a device is made.
  *
- * Each call below says what it does, what it returns, which thread may call it, and its errors.
+ * Each call below says what it does, what it returns, which thread may call it, and its errors. With EVSCHED_DEBUG defined the rules are
+ * watched: evsched_debug.h says how.
  */
 #ifndef EVSCHED_H
 #define EVSCHED_H
 
 #include <errno.h>
+#include <sched.h>
 #include <stdarg.h>
 #include <stddef.h>
 #include <stdint.h>
 #include <stdio.h>
 #include <stdlib.h>
+#include <time.h>
+#ifdef EVSCHED_DEBUG
+#include <pthread.h>
+#endif
 
 #ifdef __cplusplus
 extern "C" {
@@ -58,6 +64,8 @@ extern "C" {
 
 #include "evsched_lib.h"
 #include "evsched_check.h"
+#include "evsched_debug.h"
+#include "evsched_wait.h"
 
 #if defined(__cplusplus) && defined(__GNUC__)
 #pragma GCC diagnostic push
@@ -81,7 +89,7 @@ static inline struct evsched_queue_conf evsched_queue_default_conf(const struct 
 }
 
 /*
- * The defaults of a port: a threshold by the limit, 32 events held, a ring for 64 replies, implicit release, and no links, so set these.
+ * The defaults of a port: a threshold by the limit, 32 events held, a ring that takes 64 NEWs and answers, implicit release, and no links, so set these.
  * As rte_event_port_default_conf_get.
  *   Returns  the port's configuration
  *   Thread   any
@@ -201,7 +209,7 @@ static inline int evsched_create(const struct evsched_dev_config *config, struct
 }
 
 /*
- * Lets go of a device, stopped or not, and of its ports. NULL is let be.
+ * Lets go of a device, stopped or not, and of its ports. NULL is let be. It isn't called from a flush.
  *   Thread   one, while no other uses the device, its shut or a port
  */
 static inline void evsched_free(struct evsched *dev)
@@ -209,11 +217,13 @@ static inline void evsched_free(struct evsched *dev)
 	uint32_t p;
 	if (!dev)
 		return;
+	evsched_priv_watch_free(dev, __func__);
+	evsched_priv_enter_all(dev, __func__);
 	for (p = 0; p < dev->config.nb_event_ports; p++)
 		evsched_port_clear(evsched_priv_at(evsched_priv_port(dev, p)));
 	evsched_control_clear(dev->control);
 	evsched_hub_clear(dev->hub);
-	free(dev->base);
+	evsched_priv_let_go(dev);
 }
 
 /*
@@ -223,6 +233,7 @@ static inline void evsched_free(struct evsched *dev)
  */
 static inline struct evsched_port *evsched_port(struct evsched *dev, uint32_t port)
 {
+	evsched_priv_watch_device(dev, __func__);
 	return port < dev->config.nb_event_ports ? evsched_priv_port(dev, port) : NULL;
 }
 
@@ -242,21 +253,19 @@ static inline struct evsched_port *evsched_port(struct evsched *dev, uint32_t po
  */
 static inline uint16_t evsched_enqueue_burst(struct evsched_port *port, const struct evsched_event ev[], uint16_t nb_events)
 {
-	static const struct evsched_event none = {{0}, {0}};
-	const struct evsched_event *from = nb_events ? ev : &none;
-	uint16_t done = 0;
-	for (;;) {
-		uint16_t left = (uint16_t)(nb_events - done);
-		uint16_t part = left < EVSCHED_MAX_BURST ? left : EVSCHED_MAX_BURST;
-		int64_t taken = evsched_port_enqueue(evsched_priv_at(port), from + done, part);
-		if (taken > 0)
-			done = (uint16_t)(done + taken);
-		if (taken < part || done == nb_events)
-			return done;
-	}
+	uintptr_t before = evsched_priv_enter_port(port, __func__);
+	uint16_t done;
+	evsched_priv_comes_before(port->dev);
+	done = evsched_priv_enqueue(port, ev, nb_events);
+	evsched_priv_comes_behind(port->dev->control);
+	evsched_priv_leave_port(port, before);
+	return done;
 }
 
-/* The same, for bursts of NEWs and of FORWARDs alone, as in DPDK. They don't set op. */
+/*
+ * The same, for bursts of NEWs and of FORWARDs alone. They don't set op. As rte_event_enqueue_new_burst and _forward_burst.
+ *   Returns, Thread, Errors   as evsched_enqueue_burst
+ */
 static inline uint16_t evsched_enqueue_new_burst(struct evsched_port *port, const struct evsched_event ev[], uint16_t nb_events)
 {
 	return evsched_enqueue_burst(port, ev, nb_events);
@@ -274,7 +283,10 @@ static inline uint16_t evsched_enqueue_forward_burst(struct evsched_port *port, 
  */
 static inline int evsched_errno(struct evsched_port *port)
 {
-	return (int)-evsched_port_why(evsched_priv_at(port));
+	uintptr_t before = evsched_priv_enter_port(port, __func__);
+	int why = (int)-evsched_port_why(evsched_priv_at(port));
+	evsched_priv_leave_port(port, before);
+	return why;
 }
 
 /*
@@ -309,9 +321,35 @@ static inline const char *evsched_strerror(int code)
  */
 static inline uint16_t evsched_dequeue_burst(struct evsched_port *port, struct evsched_event ev[], uint16_t nb_events)
 {
+	uintptr_t before = evsched_priv_enter_port(port, __func__);
 	struct evsched_event none;
-	int64_t n = evsched_port_dequeue(evsched_priv_at(port), nb_events ? ev : &none, nb_events);
+	int64_t n;
+	evsched_priv_comes_before_release(port);
+	n = evsched_port_dequeue(evsched_priv_at(port), nb_events ? ev : &none, nb_events);
+	evsched_priv_comes_behind(port->dev);
+	evsched_priv_leave_port(port, before);
 	return n < 0 ? 0 : (uint16_t)n;
+}
+
+/*
+ * The same, but where nothing is there it tries again until the time is over: at first at once, then it yields the processor, then it
+ * sleeps some 10 microseconds between two tries, so it may return that much late. As rte_event_dequeue_burst with timeout_ticks, in
+ * nanoseconds.
+ *   Returns  how many; 0 where nothing came in that time, nb_events is 0, or it was refused: then evsched_errno isn't 0
+ *   Thread   the port's
+ *   Errors   in evsched_errno: ENOBUFS, ENODEV, as above; it doesn't wait then
+ */
+static inline uint16_t evsched_dequeue_wait(struct evsched_port *port, struct evsched_event ev[], uint16_t nb_events, uint64_t timeout_ns)
+{
+	uintptr_t before = evsched_priv_enter_port(port, __func__);
+	uint64_t start = 0;
+	uint32_t turn = 0;
+	uint16_t n;
+	while ((n = evsched_dequeue_burst(port, ev, nb_events)) == 0 && nb_events > 0 && evsched_errno(port) == 0
+		&& !evsched_priv_is_over(&start, timeout_ns))
+		evsched_priv_pause(turn++);
+	evsched_priv_leave_port(port, before);
+	return n;
 }
 
 /*
@@ -322,45 +360,10 @@ static inline uint16_t evsched_dequeue_burst(struct evsched_port *port, struct e
  */
 static inline int evsched_held(struct evsched_port *port)
 {
-	return (int)evsched_port_held(evsched_priv_at(port));
-}
-
-/* ---- sweep ---- */
-
-/*
- * One sweep: it takes what ports enqueued, and gives events to ports.
- *   Returns  how many it took and gave, so 0 where nothing was to do
- *   Thread   the device's
- *   Errors   -ENOMEM, and nothing has changed; -ENODEV
- */
-static inline int evsched_sweep(struct evsched *dev)
-{
-	return (int)evsched_hub_sweep(dev->hub);
-}
-
-/*
- * How many events wait, are unanswered or are kept, as far as sweeps know: replies that they have not taken don't count.
- *   Returns  how many
- *   Thread   the device's
- *   Errors   -ENODEV
- */
-static inline int evsched_inside(struct evsched *dev)
-{
-	return (int)evsched_hub_inside(dev->hub);
-}
-
-/* ---- stop ---- */
-
-/*
- * From now on a port refuses a NEW as soon as it sees the shut, and sweeps turn away those that are in rings, which evsched_left gives
- * back. What is inside may be processed to its end.
- *   Returns  0
- *   Thread   one at a time, whichever
- *   Errors   -ENODEV
- */
-static inline int evsched_shut(struct evsched *dev)
-{
-	return (int)evsched_control_shut(dev->control);
+	uintptr_t before = evsched_priv_enter_port(port, __func__);
+	int held = (int)evsched_port_held(evsched_priv_at(port));
+	evsched_priv_leave_port(port, before);
+	return held;
 }
 
 /* Releases all that a port holds, which the program has: 0, or why not. */
@@ -384,9 +387,98 @@ static inline int evsched_priv_flush(struct evsched_port *port, evsched_flush_t 
 {
 	struct evsched_event ev[32];
 	int n = evsched_dequeue_burst(port, ev, 32), i;
+	evsched_priv_flushes(port->dev, 1);
 	for (i = 0; i < n && flush; i++)
 		flush(port->dev, ev[i], arg);
+	evsched_priv_flushes(port->dev, -1);
 	return n;
+}
+
+/*
+ * Empties a port: releases what it holds, which the program has, and dequeues until nothing comes; `flush` gets each event that it
+ * dequeues, once, and all of them are released. As rte_event_port_quiesce. It waits for no sweep: where none runs it ends at the latest
+ * when the port's ring is full of releases. As long as sweeps give the port more it goes on.
+ *   Returns  0: the port holds nothing, and nothing was in its ring
+ *   Thread   the port's
+ *   Errors   -ENOBUFS: the ring is full, and the port still holds events, which the program has or `flush` was given: it may be called
+ *            again after a sweep, and releases them first; -ENODEV
+ */
+static inline int evsched_quiesce(struct evsched_port *port, evsched_flush_t flush, void *arg)
+{
+	uintptr_t before = evsched_priv_enter_port(port, __func__);
+	int r;
+	do
+		r = evsched_priv_release(port);
+	while (r == 0 && evsched_priv_flush(port, flush, arg) > 0);
+	evsched_priv_leave_port(port, before);
+	return r;
+}
+
+/* ---- sweep ---- */
+
+/*
+ * One sweep: it takes what ports enqueued, and gives events to ports.
+ *   Returns  how many it took and gave, so 0 where nothing was to do
+ *   Thread   the device's
+ *   Errors   -ENOMEM, and nothing has changed; -ENODEV
+ */
+static inline int evsched_sweep(struct evsched *dev)
+{
+	uintptr_t before = evsched_priv_enter(dev, __func__);
+	int did;
+	evsched_priv_comes_before(dev);
+	did = (int)evsched_hub_sweep(dev->hub);
+	evsched_priv_comes_behind(dev);
+	evsched_priv_comes_behind(dev->control);
+	evsched_priv_leave(dev, before);
+	return did;
+}
+
+/*
+ * How many events wait, are unanswered or are kept, as far as sweeps know: what ports enqueued since the last one doesn't count.
+ *   Returns  how many
+ *   Thread   the device's
+ *   Errors   -ENODEV
+ */
+static inline int evsched_inside(struct evsched *dev)
+{
+	uintptr_t before = evsched_priv_enter(dev, __func__);
+	int inside = (int)evsched_hub_inside(dev->hub);
+	evsched_priv_leave(dev, before);
+	return inside;
+}
+
+/* ---- stop ---- */
+
+/*
+ * From now on a port refuses a NEW as soon as it sees the shut, and sweeps turn away those that are in rings, which evsched_left gives
+ * back. What is inside may be processed to its end.
+ *   Returns  0
+ *   Thread   one at a time, whichever
+ *   Errors   -ENODEV
+ */
+static inline int evsched_shut(struct evsched *dev)
+{
+	uintptr_t before = evsched_priv_enter_shut(dev, __func__);
+	int r;
+	evsched_priv_comes_before(dev->control);
+	r = (int)evsched_control_shut(dev->control);
+	evsched_priv_leave_shut(dev, before);
+	return r;
+}
+
+/* A sweep, and all that comes of it, is released and flushed: whether there was something to do. */
+static inline int evsched_priv_drain_once(struct evsched *dev, evsched_flush_t flush, void *arg)
+{
+	int did = evsched_sweep(dev);
+	uint32_t p;
+	for (p = 0; did >= 0 && p < dev->config.nb_event_ports; p++) {
+		struct evsched_port *port = evsched_priv_port(dev, p);
+		did |= evsched_held(port);
+		evsched_priv_release(port);
+		did |= evsched_priv_flush(port, flush, arg);
+	}
+	return did;
 }
 
 /*
@@ -399,20 +491,13 @@ static inline int evsched_priv_flush(struct evsched_port *port, evsched_flush_t 
  */
 static inline int evsched_drain(struct evsched *dev, evsched_flush_t flush, void *arg)
 {
-	uint32_t p;
 	int did;
-	do {
-		did = evsched_sweep(dev);
-		if (did < 0)
-			return did;
-		for (p = 0; p < dev->config.nb_event_ports; p++) {
-			struct evsched_port *port = evsched_priv_port(dev, p);
-			did |= evsched_held(port);
-			evsched_priv_release(port);
-			did |= evsched_priv_flush(port, flush, arg);
-		}
-	} while (did || evsched_inside(dev) > 0);
-	return 0;
+	evsched_priv_enter_all(dev, __func__);
+	do
+		did = evsched_priv_drain_once(dev, flush, arg);
+	while (did > 0 || (did == 0 && evsched_inside(dev) > 0));
+	evsched_priv_leave_all(dev);
+	return did;
 }
 
 /*
@@ -426,11 +511,13 @@ static inline int evsched_stop(struct evsched *dev)
 {
 	uint32_t p;
 	int r;
+	evsched_priv_enter_all(dev, __func__);
 	for (p = 0; p < dev->config.nb_event_ports; p++)
 		evsched_hub_join(dev->hub, evsched_priv_at(evsched_priv_port(dev, p)));
 	evsched_hub_join_control(dev->hub, dev->control);
 	r = (int)evsched_hub_stop(dev->hub);
 	evsched_priv_hand_out(dev);
+	evsched_priv_leave_all(dev);
 	return r;
 }
 
@@ -442,7 +529,10 @@ static inline int evsched_stop(struct evsched *dev)
  */
 static inline int evsched_report(struct evsched *dev, struct evsched_report *report)
 {
-	return evsched_priv_done(evsched_hub_report(dev->hub, (uint64_t *)report, sizeof(*report) / sizeof(uint64_t)));
+	uintptr_t before = evsched_priv_enter(dev, __func__);
+	int64_t r = evsched_hub_report(dev->hub, (uint64_t *)report, sizeof(*report) / sizeof(uint64_t));
+	evsched_priv_leave(dev, before);
+	return evsched_priv_done(r);
 }
 
 /*
@@ -453,60 +543,16 @@ static inline int evsched_report(struct evsched *dev, struct evsched_report *rep
  */
 static inline int evsched_left(struct evsched *dev, struct evsched_left *left, uint32_t n)
 {
+	uintptr_t before = evsched_priv_enter(dev, __func__);
 	struct evsched_left none;
-	return (int)evsched_hub_left(dev->hub, n ? left : &none, n);
+	int got = (int)evsched_hub_left(dev->hub, n ? left : &none, n);
+	evsched_priv_leave(dev, before);
+	return got;
 }
 
-/* ---- statistics ---- */
+/* ---- statistics: what was counted, and the configuration ---- */
 
-/*
- * What was counted of a queue, of a lane (a port's has the port's number) and of the device; but for the last one after the stop too.
- *   Returns  0
- *   Thread   the device's
- *   Errors   -EINVAL: there is no such queue or lane; -ENODEV
- */
-static inline int evsched_queue_stats(struct evsched *dev, uint32_t queue, struct evsched_queue_stats *stats)
-{
-	if (queue >= dev->config.nb_event_queues)
-		return -EINVAL;
-	return evsched_priv_done(evsched_hub_counts(dev->hub, queue, (uint64_t *)stats, sizeof(*stats) / sizeof(uint64_t)));
-}
-
-static inline int evsched_port_stats(struct evsched *dev, uint32_t lane, struct evsched_port_stats *stats)
-{
-	if (lane >= dev->lanes)
-		return -EINVAL;
-	return evsched_priv_done(evsched_hub_counts(dev->hub, EVSCHED_MAX_QUEUES + lane, (uint64_t *)stats,
-		sizeof(*stats) / sizeof(uint64_t)));
-}
-
-static inline int evsched_dev_stats(struct evsched *dev, struct evsched_dev_stats *stats)
-{
-	return evsched_priv_done(evsched_hub_counts(dev->hub, EVSCHED_MAX_QUEUES + EVSCHED_MAX_LANES, (uint64_t *)stats,
-		sizeof(*stats) / sizeof(uint64_t)));
-}
-
-/*
- * The configuration of a device as it was resolved: each threshold is what its 0 came to, a single-link queue is parallel, and hints are
- * gone. As rte_event_dev_attr_get, _queue_attr_get, _port_attr_get and _port_links_get.
- *   Returns  the configuration, which stays until evsched_free
- *   Thread   any
- */
-static inline const struct evsched_dev_config *evsched_info(const struct evsched *dev)
-{
-	return &dev->config;
-}
-
-/*
- * What the port counted of its calls.
- *   Returns  0
- *   Thread   the port's
- *   Errors   -ENODEV
- */
-static inline int evsched_port_counters(struct evsched_port *port, struct evsched_port_counters *counters)
-{
-	return evsched_priv_done(evsched_port_counts(evsched_priv_at(port), (uint64_t *)counters, sizeof(*counters) / sizeof(uint64_t)));
-}
+#include "evsched_stats.h"
 
 #if defined(__cplusplus) && defined(__GNUC__)
 #pragma GCC diagnostic pop

@@ -41,19 +41,28 @@ void evsched_control_clear(unsigned char *at);
 
 enum { EVSCHED_PRIV_LINE = 64 }; /* bytes: a cache line */
 
+/* By these handles are known, and what was one. */
+enum { EVSCHED_PRIV_DEVICE = 0x45764465, EVSCHED_PRIV_PORT = 0x4576506f, EVSCHED_PRIV_FREED = 0x45764672 };
+
 /* A port's handle: a cache line of its own, behind which the library's port lies. */
 struct evsched_port {
-	struct evsched *dev;
+	uint32_t magic;
 	uint32_t number;
-	unsigned char rest[EVSCHED_PRIV_LINE - sizeof(struct evsched *) - sizeof(uint32_t)];
+	struct evsched *dev;
+	uintptr_t thread; /* with EVSCHED_DEBUG: that is in a call of it, or 0 */
+	unsigned char rest[EVSCHED_PRIV_LINE - 2 * sizeof(uint32_t) - sizeof(struct evsched *) - sizeof(uintptr_t)];
 };
 
 /* A device: this, hub, control and ports in one block of memory, each in cache lines of its own. */
 struct evsched {
-	unsigned char *hub, *control, *port;
-	size_t stride; /* from one port to the next */
-	void *base;    /* what evsched_create allocated; NULL where the block is the program's */
+	uint32_t magic;
 	uint32_t lanes;
+	unsigned char *hub, *control, *port;
+	size_t stride;                 /* from one port to the next */
+	void *base;                    /* what evsched_create allocated; NULL where the block is the program's */
+	uintptr_t thread, shut_thread; /* with EVSCHED_DEBUG: that is in a call of the device, or of its shut, or 0; */
+	int flushes;                   /* how many flushes run; */
+	struct evsched *next;          /* and which device was freed before it */
 	struct evsched_dev_config config; /* as it was resolved */
 };
 
@@ -74,6 +83,23 @@ static inline struct evsched_port *evsched_priv_port(struct evsched *dev, uint32
 static inline unsigned char *evsched_priv_at(struct evsched_port *port)
 {
 	return (unsigned char *)port + EVSCHED_PRIV_LINE;
+}
+
+/* The library takes 64 events at a time. */
+static inline uint16_t evsched_priv_enqueue(struct evsched_port *port, const struct evsched_event ev[], uint16_t nb_events)
+{
+	static const struct evsched_event none = {{0}, {0}};
+	const struct evsched_event *from = nb_events ? ev : &none;
+	uint16_t done = 0;
+	for (;;) {
+		uint16_t left = (uint16_t)(nb_events - done);
+		uint16_t part = left < EVSCHED_MAX_BURST ? left : EVSCHED_MAX_BURST;
+		int64_t taken = evsched_port_enqueue(evsched_priv_at(port), from + done, part);
+		if (taken > 0)
+			done = (uint16_t)(done + taken);
+		if (taken < part || done == nb_events)
+			return done;
+	}
 }
 
 /* What a call that answers an int answers: a count or 0, or the refusal. */
@@ -100,6 +126,8 @@ static inline struct evsched *evsched_priv_lay_out(void *memory)
 	dev->port = dev->control + evsched_priv_up(evsched_control_size());
 	dev->stride = EVSCHED_PRIV_LINE + evsched_priv_up(evsched_port_size());
 	dev->base = NULL;
+	dev->thread = dev->shut_thread = 0;
+	dev->flushes = 0;
 	return dev;
 }
 
@@ -109,14 +137,18 @@ static inline int evsched_priv_has_flow_lanes(const struct evsched_dev_config *c
 	return config->event_dev_cfg == EVSCHED_DEV_CFG_FLOW_LANES && config->queue[queue].schedule_type == EVSCHED_TYPE_ATOMIC;
 }
 
-/* Tells ports what they are, and counts the lanes. */
+/* Tells device and ports what they are, and counts the lanes. */
 static inline void evsched_priv_number(struct evsched *dev)
 {
 	uint32_t p, q;
 	for (p = 0; p < dev->config.nb_event_ports; p++) {
-		evsched_priv_port(dev, p)->dev = dev;
-		evsched_priv_port(dev, p)->number = p;
+		struct evsched_port *port = evsched_priv_port(dev, p);
+		port->magic = EVSCHED_PRIV_PORT;
+		port->number = p;
+		port->dev = dev;
+		port->thread = 0;
 	}
+	dev->magic = EVSCHED_PRIV_DEVICE;
 	dev->lanes = dev->config.nb_event_ports;
 	for (q = 0; q < dev->config.nb_event_queues; q++)
 		dev->lanes += evsched_priv_has_flow_lanes(&dev->config, q) ? dev->config.queue[q].nb_atomic_flows : 0;

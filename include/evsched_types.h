@@ -35,8 +35,8 @@ extern "C" {
 #define EVSCHED_PORT_CFG_HINT_CONSUMER (1u << 3)
 #define EVSCHED_PORT_CFG_HINT_WORKER (1u << 4)
 
-/* A lane is a pair of rings between the scheduler and a port, one each way: each port has one. With this flag each flow slot of an atomic
- * queue has a lane too, 16 events deep, which linked ports claim, one at a time. */
+/* A lane is a pair of rings between the scheduler and a port, one each way: each port has one. With this flag each slot of an atomic queue
+ * (its flows fall into nb_atomic_flows of them) has a lane too, 16 events deep, which linked ports claim, one at a time. */
 #define EVSCHED_DEV_CFG_FLOW_LANES (1u << 0)
 
 /* The limits of every device. */
@@ -44,7 +44,7 @@ extern "C" {
 #define EVSCHED_MAX_PORTS 32
 #define EVSCHED_MAX_LANES 160           /* a port's lane has the port's number; after these come the flow lanes, by queue and slot */
 #define EVSCHED_MAX_EVENTS_LIMIT 16384
-#define EVSCHED_MAX_DEPTH 64            /* of a port: events held, and replies in its ring */
+#define EVSCHED_MAX_DEPTH 64            /* of a port: events held, and NEWs and answers in its ring */
 #define EVSCHED_MAX_ATOMIC_FLOWS 64     /* of one atomic queue */
 #define EVSCHED_MAX_ALL_ATOMIC_FLOWS 128
 #define EVSCHED_MAX_ORDER_SEQUENCES 256

@@ -89,8 +89,8 @@ static inline struct evsched_queue_conf evsched_queue_default_conf(const struct 
 }
 
 /*
- * The defaults of a port: a threshold by the limit, 32 events held, a ring that takes 64 NEWs and answers, implicit release, and no links, so set these.
- * As rte_event_port_default_conf_get.
+ * The defaults of a port: a threshold by the limit, 32 events held, a ring that takes 64 NEWs and answers, implicit release, and no links,
+ * so set these. As rte_event_port_default_conf_get.
  *   Returns  the port's configuration
  *   Thread   any
  */

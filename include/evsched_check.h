@@ -200,6 +200,7 @@ static inline const char *evsched_priv_words(int code)
 	case -EBUSY: return "a port or the control is away";
 	case -ENODEV: return "the device doesn't run";
 	case -EINVAL: return "there is no such queue or lane";
+	case -EIO: return "a write failed";
 	case -ENOSPC: return "too few credits are free";
 	case -ENOBUFS: return "the port's ring is full";
 	case -ESHUTDOWN: return "the device is shut";

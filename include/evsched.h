@@ -333,8 +333,8 @@ static inline uint16_t evsched_dequeue_burst(struct evsched_port *port, struct e
 
 /*
  * The same, but where nothing is there it tries again until the time is over: at first at once, then it yields the processor, then it
- * sleeps some 10 microseconds between two tries, so it may return that much late. As rte_event_dequeue_burst with timeout_ticks, in
- * nanoseconds.
+ * sleeps some 10 microseconds between two tries, so it may return that much late. A port that holds as many as it may receives nothing.
+ * As rte_event_dequeue_burst with timeout_ticks, in nanoseconds.
  *   Returns  how many; 0 where nothing came in that time, nb_events is 0, or it was refused: then evsched_errno isn't 0
  *   Thread   the port's
  *   Errors   in evsched_errno: ENOBUFS, ENODEV, as above; it doesn't wait then

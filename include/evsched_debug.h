@@ -99,12 +99,13 @@ static inline void evsched_priv_watch_device(const struct evsched *dev, const ch
 	evsched_priv_watch(dev, EVSCHED_PRIV_DEVICE, "device", call);
 }
 
-/* This thread enters: the thread that was there, this one or none. What it is told by orders nothing, so that no race is hidden. */
+/* This thread enters: the thread that was there, this one or none. Where another one is, that goes on as if nobody had come, so that one
+ * line is written. These steps order nothing, so that no race is hidden. */
 static inline uintptr_t evsched_priv_take(uintptr_t *thread, const char *what, int number, const char *call)
 {
-	uintptr_t self = evsched_priv_self(), before = __atomic_exchange_n(thread, self, __ATOMIC_RELAXED);
+	uintptr_t self = evsched_priv_self(), before = 0;
 	char port[16] = "";
-	if (before == 0 || before == self)
+	if (__atomic_compare_exchange_n(thread, &before, self, 0, __ATOMIC_RELAXED, __ATOMIC_RELAXED) || before == self)
 		return before;
 	if (number >= 0)
 		snprintf(port, sizeof(port), " %d", number);

@@ -38,7 +38,6 @@ static void stay(struct evsched *of, struct evsched_event event, void *arg)
 
 static void *wait_in_port(void *arg)
 {
-	atomic_store(&is_inside, 1);
 	evsched_dequeue_wait(evsched_port(dev, 0), ev, 4, UINT64_MAX);
 	return arg;
 }
@@ -60,9 +59,8 @@ static void begin(void *(*body)(void *))
 	pthread_t thread;
 	if (pthread_create(&thread, NULL, body, NULL))
 		_exit(2);
-	while (!atomic_load(&is_inside))
-		;
-	usleep(20000); /* until it waits */
+	while (body == wait_in_port ? __atomic_load_n(&evsched_port(dev, 0)->thread, __ATOMIC_RELAXED) == 0 : !atomic_load(&is_inside))
+		usleep(1000); /* until it waits, or is in a flush */
 }
 
 static void two_in_port(void) { begin(wait_in_port); evsched_enqueue_burst(evsched_port(dev, 0), ev, 1); }

@@ -84,7 +84,7 @@ sums_agree : (f g h k : ℕ → ℕ) (ls : List ℕ) → ((l : ℕ) → f l + g 
 sums_agree f g h k ls same =
     sym (sum_plus f g ls) ∙ (sum_agree (λ l. f l + g l) (λ l. h l + k l) ls (λ i d lt. same (get_or ls i d)) ∙ sum_plus h k ls)
 
-sums_split : (f g h : ℕ → ℕ) (ls : List ℕ) → ((l : ℕ) → f l ≡ g l + h l) → sum_by f ls ≡ sum_by g ls + sum_by h ls
+pub sums_split : (f g h : ℕ → ℕ) (ls : List ℕ) → ((l : ℕ) → f l ≡ g l + h l) → sum_by f ls ≡ sum_by g ls + sum_by h ls
 sums_split f g h ls same = sum_agree f (λ l. g l + h l) ls (λ i d lt. same (get_or ls i d)) ∙ sum_plus g h ls
 
 -- what all lanes said by some operations

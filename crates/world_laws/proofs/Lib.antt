@@ -7,6 +7,7 @@ pub mod Hands
 pub mod LogMoves
 pub mod NextReplies
 pub mod Orders
+pub mod Places
 pub mod Receipts
 pub mod Rests
 pub mod Said

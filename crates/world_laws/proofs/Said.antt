@@ -11,9 +11,9 @@ use Rattle.evt_types.specs.declared.event.Op.{Op}
 use Rattle.evt_types.specs.declared.event.Op.TheVariants as ops
 use Rattle.evt_types.specs.declared.event.Reply.{Reply}
 use Rattle.evt_types.specs.declared.step.Outcome.TheVariants.{Forwarded, Released}
-use Rattle.evt_types.specs.declared.step.Source.TheVariants.{New, Of}
+use Rattle.evt_types.specs.declared.step.Source.TheVariants.{New}
 use Rattle.evt_types.specs.declared.step.Step.{Step}
-use Rattle.evt_types.specs.declared.step.Step.TheVariants.{Accept, Give, Done, More, Turned, Bounced, Shut}
+use Rattle.evt_types.specs.declared.step.Step.TheVariants.{Accept, Done, More, Turned}
 use Rattle.lists.proofs.Lists.{drop-slice_get, slice_get-at}
 use Rattle.lists.proofs.Parts.{count_by-cons, count_by-front}
 use Rattle.lists.proofs.Sums.{sum_of_map, sum_agree}

@@ -4,10 +4,11 @@ ghost use Rattle.std.specs.Prelude.{◌≡◌, ℕ, ◌+◌, ◌<◌, ◌^◌, L
 ghost use Rattle.evt_types.specs.Plan.{Plan};
 ghost use Rattle.evt_types.specs.declared.step.Step.{Step};
 ghost use Rattle.transcripts.specs.Replies.{turned_count};
-ghost use Rattle.transcripts.specs.Transcript.{out};
+ghost use Rattle.transcripts.specs.Transcript.{accepted, out};
 ghost use Rattle.world_laws.specs.Account.{events_left, mores_submitted, news_submitted, releases_submitted};
 ghost use Rattle.world_laws.specs.Logged.{as_logged};
 ghost use Rattle.world_laws.specs.Order.{AreReceivedAsAccepted, AreReceivedAsGiven, IsHeldAlone};
+ghost use Rattle.world_laws.specs.Places.{times_answered, times_held, times_taken, times_undelivered, times_untaken, times_waiting};
 ghost use Rattle.world_laws.specs.Rest.{AreRests, Rest, found_in, still_held};
 ghost use Rattle.world_laws.specs.World.{IsConsistent, LeadsTo, Move, World, after_moves, empty, in_hand, received_by, received_by_all};
 
@@ -42,4 +43,13 @@ pub fn every_run_keeps()
 pub fn account_at_stop()
     ensures { (p : Plan) (T : List Step) (rest : ℕ → Rest) (free limit : ℕ) → AreRests p T rest
         → free + news_submitted p rest + mores_submitted p rest ≡ limit + releases_submitted p rest + turned_count T → free + events_left p T rest ≡ limit }
+{}
+
+/// At stop each accepted event, by its queue and number, is in one place, and there once: it waits, or it was given to a lane and not
+/// received, or it was received and not answered, or it was answered. The answer of one that was answered was taken by the
+/// scheduler, or it wasn't.
+pub fn each_event_is_in_one_place()
+    ensures one { (p : Plan) (T : List Step) (rest : ℕ → Rest) (q n : ℕ) → AreRests p T rest → n < length (accepted T q)
+        → times_waiting T q n + times_undelivered p rest q n + times_held p rest q n + times_answered p rest q n ≡ 1 }
+    ensures answered { (p : Plan) (rest : ℕ → Rest) (q n : ℕ) → times_answered p rest q n ≡ times_taken p rest q n + times_untaken p rest q n }
 {}

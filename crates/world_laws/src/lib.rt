@@ -4,4 +4,6 @@
 
 mod laws;
 
-pub use laws::{account_at_stop, every_run_keeps, hands_at_stop, stop_is_a_run};
+pub use laws::{
+    account_at_stop, each_event_is_in_one_place, every_run_keeps, hands_at_stop, stop_is_a_run,
+};

@@ -4,11 +4,12 @@ use Rattle.std.specs.Prelude.Option.{Some, None}
 use Rattle.std.specs.List.{AllZip}
 use Rattle.credit_pool.specs.Accounts.{Stays}
 use Rattle.event_answers.specs.declared.answer.Refused.{Refused}
+use Rattle.event_ports.specs.Claiming.{ClaimsEach}
 use Rattle.event_ports.specs.Counts.{after_behind, after_burst, after_dequeue, plus}
 use Rattle.event_ports.specs.Draws.{ReturnsSpare}
 use Rattle.event_ports.specs.Lanes as lanes
 use Rattle.event_ports.specs.Lanes.{Releases, SubmitsAll}
-use Rattle.event_ports.specs.Ports.{Bursts, StopsAt, account_of, counts_of, hand, links, own_site, pocket_of, released_first, seen_by, was_filled}
+use Rattle.event_ports.specs.Ports.{Bursts, StopsAt, account_of, claim_seating, counts_of, hand, links, own_site, pocket_of, released_first, seen_by, was_filled}
 use Rattle.event_ports.specs.Queues.{AllNameQueues}
 use Rattle.event_ports.specs.declared.counts.PortCounts.{PortCounts}
 use Rattle.event_ports.specs.declared.lane.Lane.TheVariants.{Own}
@@ -65,6 +66,7 @@ pub record Receives (p : Port) (max : ℕ) (deliveries : List Delivery) (q : Por
   pub own : own_site q ≡ own_site p
   pub credit : Stays (account_of p) (account_of q)
   pub site : site_of q ≡ site_of p
+  pub claims : ClaimsEach (links p) (claim_seating p) (claim_seating q)
   pub received : lanes.Dequeues (links p) (released_first p) (hand p) (hand q) deliveries
   pub few : (length deliveries ≤ max) × (length (hand q).holding ≤ (own_site p).lanes.depth)
   pub drained : length deliveries < max → length (hand q).holding < (own_site p).lanes.depth → seen_by q ≡ []
@@ -78,6 +80,7 @@ pub record FallsBehind (p : Port) (released : ℕ) (q : Port) : Type 0 where
   pub own : own_site q ≡ own_site p
   pub credit : Stays (account_of p) (account_of q)
   pub site : site_of q ≡ site_of p
+  pub claims : ClaimsEach (links p) (claim_seating p) (claim_seating q)
   pub implicit : IsTrue (own_site p).implicit
   pub some_held : released < length (hand p).holding
   pub releases : Releases released (hand p) (hand q)

@@ -11,6 +11,7 @@ pub mod Adding
 pub mod Refusals
 pub mod ReadOrder
 pub mod Arrivals
+pub mod Claiming
 pub mod Refusing
 pub mod Released
 pub mod Bursts

@@ -17,11 +17,12 @@ use Rattle.event_answers.specs.declared.answer.Refused.{Refused}
 use Rattle.event_answers.specs.declared.answer.Refused.TheVariants.{Stopped, BadQueue, NothingHeld, Backpressure, Raced, Full, TooMany}
 use Rattle.credit_pool.specs.declared.answer.Draw.{Draw}
 use Rattle.credit_pool.specs.declared.answer.Draw.TheVariants as draws
+use Rattle.flow_claims.specs.declared.seating.Seating.{Seating}
 use Rattle.flow_claims.specs.Seats.{stint_at}
 use Rattle.event_ports.specs.declared.desk.Desk.{Desk}
 use Rattle.event_ports.specs.Flows.{hands_of}
 use Rattle.event_ports.specs.Lanes.{Hand, Rests, SubmitsAll, SubmitsTo, TakesMore, extras_in, lane_for, reply_of}
-use Rattle.event_ports.specs.Handed.{LanesSite, lanes_site, seen_own, hand_of, mores_of, news_of, releases_of, IsFilled}
+use Rattle.event_ports.specs.Handed.{LanesSite, lanes_site, seating_of, seen_own, hand_of, mores_of, news_of, releases_of, IsFilled}
 use Rattle.event_ports.specs.Draws.{FillsWithin, HasAsked, HasCredits, HasDrawn, HasLooked, ReturnsSpare, SameSums, most_draws}
 use Rattle.event_ports.specs.Queues.{AllNameQueues, NamesQueue}
 
@@ -60,6 +61,10 @@ hand p = hand_of p.lanes
 -- the deliveries that it saw in the ring of its own lane and didn't receive
 abbrev pub seen_by : Desk → List Delivery
 seen_by p = seen_own p.lanes
+
+-- what its claim seat knows
+abbrev pub claim_seating : Desk → Seating
+claim_seating p = seating_of p.lanes
 
 -- the flow lanes to which it is linked
 abbrev pub links : Desk → List ℕ

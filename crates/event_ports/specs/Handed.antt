@@ -8,6 +8,7 @@ use Rattle.lists.specs.Counts.{count}
 use Rattle.lane_rings.specs.Ends.{hidden_answers, seen_deliveries}
 use Rattle.lane_rings.specs.Identity.{far_id, LaneId}
 use Rattle.lane_rings.specs.declared.far.Refusal.{Refusal}
+use Rattle.flow_claims.specs.declared.seating.Seating.{Seating}
 use Rattle.flow_claims.specs.Claims.{lanes_of}
 use Rattle.event_ports.specs.declared.lane.Lane.{Lane}
 use Rattle.event_ports.specs.declared.lane.Lane.TheVariants.{Own, Flow}
@@ -35,6 +36,10 @@ flow_count p = length (lanes_of p.flows.claims)
 
 abbrev pub hand_of : Lanes → Hand
 hand_of a = record { said = said_on a.own (hands_of a.flows); got = got_on a.own (hands_of a.flows); holding = a.order.items }
+
+-- what the port's claim seat knows
+abbrev pub seating_of : Lanes → Seating
+seating_of a = (hands_of a.flows).view
 
 -- the deliveries that the port saw in the ring of its own lane and didn't receive
 abbrev pub seen_own : Lanes → List Delivery

@@ -2,6 +2,7 @@ pub mod HeldRings
 pub mod Ring
 pub mod Holds
 pub mod Flows
+pub mod Claiming
 pub mod Lanes
 pub mod Handed
 pub mod Draws

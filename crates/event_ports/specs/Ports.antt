@@ -4,6 +4,7 @@ use Rattle.evt_types.specs.declared.event.Delivery.{Delivery}
 use Rattle.evt_types.specs.declared.event.Event.{Event}
 use Rattle.evt_types.specs.declared.event.Op.{Op}
 use Rattle.credit_pool.specs.declared.account.Account.{Account}
+use Rattle.flow_claims.specs.declared.seating.Seating.{Seating}
 use Rattle.event_answers.specs.declared.answer.Refused.{Refused}
 use Rattle.event_ports.specs.declared.counts.PortCounts.{PortCounts}
 use Rattle.event_ports.specs.declared.port.Port.{Port}
@@ -31,6 +32,10 @@ hand p = desks.hand p.desk
 -- the deliveries that it saw in the ring of its own lane and didn't receive
 abbrev pub seen_by : Port → List Delivery
 seen_by p = desks.seen_by p.desk
+
+-- what its claim seat knows: the flow lanes that it claimed, and how many words it read
+abbrev pub claim_seating : Port → Seating
+claim_seating p = desks.claim_seating p.desk
 
 -- the flow lanes to which it is linked
 abbrev pub links : Port → List ℕ

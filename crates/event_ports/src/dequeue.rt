@@ -3,8 +3,10 @@
 ghost use Rattle.std.specs.Prelude.{◌≡◌, ◌+◌, ◌%◌, ◌^◌, ◌<◌, ◌≤◌, [], length, IsTrue, ◌↔◌, take, IsErr, IsNone, IfSome, IfOk, IfErr, OnOk, MatchResult};
 ghost use Rattle.evt_types.specs.declared.event.Op.TheVariants as ops;
 ghost use Rattle.credit_pool.specs.Accounts.{Stays};
+ghost use Rattle.flow_claims.specs.Answers.{AsksNone};
+ghost use Rattle.event_ports.specs.Claiming.{ClaimsEach};
 ghost use Rattle.event_ports.specs.Lanes.{Releases, Dequeues, SubmitsAll};
-ghost use Rattle.event_ports.specs.Desks.{own_site, account_of, pocket_of, hand, seen_by, links, was_filled, released_first, Gathers, StopsAt};
+ghost use Rattle.event_ports.specs.Desks.{own_site, account_of, claim_seating, pocket_of, hand, seen_by, links, was_filled, released_first, Gathers, StopsAt};
 ghost use Rattle.event_ports.specs.Handed.{AllShown, OwnFirst};
 ghost use Rattle.event_ports.specs.Queues.{AllNameQueues};
 
@@ -60,6 +62,7 @@ impl Desk {
     ) -> Result<usize, Behind>
         requires { into.old.items ≡ [] }
         ensures site { own_site self.new ≡ own_site self.old }
+        ensures claims { ClaimsEach (links self.old) (claim_seating self.old) (claim_seating self.new) }
         ensures credit { account_of self.new ≡ account_of self.old }
         ensures ok { OnOk result (Dequeues (links self.old) (released_first self.old) (hand self.old) (hand self.new) into.new.items) }
         ensures few { OnOk result ((length into.new.items ≤ max) × (length (hand self.new).holding ≤ (own_site self.old).lanes.depth)) }
@@ -86,6 +89,7 @@ impl Desk {
     // Releases all that is held, oldest first, or as much as the reply rings take: how many. The scheduler sees it.
     fn release_all(&mut self) -> Result<usize, Behind>
         ensures site { own_site self.new ≡ own_site self.old }
+        ensures asks { AsksNone (claim_seating self.old) (claim_seating self.new) }
         ensures credit { account_of self.new ≡ account_of self.old }
         ensures shown { AllShown self.new.lanes }
         ensures all { IfOk result (λ n. n ≡ length (hand self.old).holding) }

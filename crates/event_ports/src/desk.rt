@@ -47,7 +47,7 @@ impl Desk {
     ghost use Rattle.event_ports.specs.Draws.{HasLooked, ReturnsSpare};
     ghost use Rattle.event_ports.specs.Queues.{NamesQueue};
     ghost use Rattle.event_ports.specs.Handed.{AllShown};
-    ghost use Rattle.event_ports.specs.Desks.{own_site, account_of, pocket_of, hand, was_filled, SameCredits, IsFlushed, MaySpendMore, Pays, Refuses, SpendsNone};
+    ghost use Rattle.event_ports.specs.Desks.{own_site, account_of, claim_seating, pocket_of, hand, was_filled, SameCredits, IsFlushed, MaySpendMore, Pays, Refuses, SpendsNone};
 
     // Whether the device is shut, by one look at the credits.
     pub(crate) fn shut_seen(&mut self) -> bool
@@ -108,6 +108,7 @@ impl Desk {
     // Makes all that was enqueued visible to the scheduler.
     pub(crate) fn flush(&mut self)
         ensures flushed { IsFlushed self.old self.new }
+        ensures seat { claim_seating self.new ≡ claim_seating self.old }
         ensures shown { AllShown self.new.lanes }
     {
         self.lanes.flush();

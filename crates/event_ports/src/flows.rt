@@ -38,7 +38,7 @@ pub(crate) struct Worthy {
 }
 
 impl FlowLanes {
-    ghost use Rattle.std.specs.Prelude.{◌≡◌, ◌≢◌, ℕ, ◌<◌, ◌≤◌, [], ◌++◌, true, false, length, slice_get, replicate, All, IsOk, IfOk, IfErr, MatchOption, MatchResult};
+    ghost use Rattle.std.specs.Prelude.{◌≡◌, ◌≢◌, ℕ, ◌<◌, ◌≤◌, [], ◌∷◌, ◌++◌, true, false, length, slice_get, replicate, All, IsOk, IfOk, IfErr, MatchOption, MatchResult};
     ghost use Rattle.std.specs.Option.{is_some};
     ghost use Rattle.lists.specs.Lists.{has};
     ghost use Rattle.evt_types.specs.Operation.{is_answer, is_more_reply};
@@ -46,6 +46,8 @@ impl FlowLanes {
     ghost use Rattle.lane_rings.specs.Refusal.{reply_of};
     ghost use Rattle.flow_claims.specs.Claims.{seating, port_of, lanes_of, IsSeatOf};
     ghost use Rattle.flow_claims.specs.Seats.{HoldsNone};
+    ghost use Rattle.flow_claims.specs.Answers.{AsksNone};
+    ghost use Rattle.event_ports.specs.Claiming.{ClaimsEach};
     ghost use Rattle.event_ports.specs.Holds.{AreIdle, HoldsLast, IsFilledBy, hidden_in, AreLinked, Brings, Flushed, NoneHidden, Same, Kept, Says, Ends, AreEmpty, extras_on, stint_in, held_on};
     ghost use Rattle.event_ports.specs.Flows.{hands_of, flow_site, touched_of};
 
@@ -162,6 +164,7 @@ impl FlowLanes {
         requires exists { lane < length (lanes_of (flow_site self.old).claims) }
         requires linked { has lane (flow_site self.old).links ≡ true }
         ensures site { flow_site self.new ≡ flow_site self.old }
+        ensures claims { ClaimsEach (lane ∷ []) (hands_of self.old).view (hands_of self.new).view }
         ensures same { Same (hands_of self.old) (hands_of self.new) }
         ensures held { is_some (stint_in (hands_of self.new) lane) ≡ result }
         ensures elsewhere { (j : ℕ) → j ≢ lane → is_some (stint_in (hands_of self.new) j) ≡ is_some (stint_in (hands_of self.old) j) }
@@ -192,6 +195,7 @@ impl FlowLanes {
         requires most { most ≤ 64 }
         requires room { length into.old.items < most }
         ensures site { flow_site self.new ≡ flow_site self.old }
+        ensures seat { (hands_of self.new).view ≡ (hands_of self.old).view }
         ensures lists { Brings lane (hands_of self.old) into.old.items (hands_of self.new) into.new.items }
         ensures few { length into.new.items ≤ most }
         ensures entries { (j : ℕ) → is_some (stint_in (hands_of self.new) j) ≡ is_some (stint_in (hands_of self.old) j) }
@@ -221,6 +225,7 @@ impl FlowLanes {
         requires held { held_on (hands_of self.old) lane ≢ [] }
         requires few { is_more_reply (reply_of event.now) ≡ true → extras_on (hands_of self.old) lane < MAX_EXTRAS }
         ensures site { flow_site self.new ≡ flow_site self.old }
+        ensures seat { (hands_of self.new).view ≡ (hands_of self.old).view }
         ensures lists { MatchResult result (λ _. Says lane (reply_of event.now) (hands_of self.old) (hands_of self.new)) (λ _. Same (hands_of self.old) (hands_of self.new)) }
         ensures entries { (j : ℕ) → is_some (stint_in (hands_of self.new) j) ≡ is_some (stint_in (hands_of self.old) j) }
         ensures refused { IfErr result (λ e. (e ≡ Refusal.Full) × IsFilledBy (stint_in (hands_of self.new) lane)) }
@@ -240,6 +245,7 @@ impl FlowLanes {
         requires held { held_on (hands_of self.old) lane ≢ [] }
         requires answer { is_answer (reply_of event.now) ≡ true }
         ensures site { flow_site self.new ≡ flow_site self.old }
+        ensures asks { AsksNone (hands_of self.old).view (hands_of self.new).view }
         ensures lists { MatchResult result (λ _. Says lane (reply_of event.now) (hands_of self.old) (hands_of self.new)) (λ _. Same (hands_of self.old) (hands_of self.new)) }
         ensures idle { AreIdle (hands_of self.old) → AreIdle (hands_of self.new) }
         ensures refused { IfErr result (λ e. (e ≡ Refusal.Full) × IsFilledBy (stint_in (hands_of self.new) lane)) }
@@ -271,6 +277,7 @@ impl FlowLanes {
         requires last { HoldsLast (stint_in (hands_of self.old) lane) }
         requires answer { is_answer (reply_of event.now) ≡ true }
         ensures site { flow_site self.new ≡ flow_site self.old }
+        ensures seat { (hands_of self.new).view ≡ (hands_of self.old).view }
         ensures lists { MatchResult result (λ _. Says lane (reply_of event.now) (hands_of self.old) (hands_of self.new)) (λ _. Same (hands_of self.old) (hands_of self.new)) }
         ensures answered { IsOk result → held_on (hands_of self.new) lane ≡ [] }
         ensures entries { (j : ℕ) → is_some (stint_in (hands_of self.new) j) ≡ is_some (stint_in (hands_of self.old) j) }
@@ -290,6 +297,7 @@ impl FlowLanes {
         requires held { held_on (hands_of self.old) lane ≢ [] }
         requires answer { is_answer (reply_of event.now) ≡ true }
         ensures site { flow_site self.new ≡ flow_site self.old }
+        ensures asks { AsksNone (hands_of self.old).view (hands_of self.new).view }
         ensures lists { MatchResult result (λ _. Says lane (reply_of event.now) (hands_of self.old) (hands_of self.new)) (λ _. Same (hands_of self.old) (hands_of self.new)) }
         ensures idle { AreIdle (hands_of self.old) → AreIdle (hands_of self.new) }
         ensures refused { IfErr result (λ e. (e ≡ Refusal.Full) × IsFilledBy (stint_in (hands_of self.new) lane)) }
@@ -302,6 +310,7 @@ impl FlowLanes {
     // What was answered to another lane is flushed, so that there is one at most to be flushed.
     fn turn_to(&mut self, lane: usize)
         ensures site { flow_site self.new ≡ flow_site self.old }
+        ensures seat { (hands_of self.new).view ≡ (hands_of self.old).view }
         ensures flushed { Flushed (hands_of self.old) (hands_of self.new) }
         ensures touched { touched_of self.new ≡ Some lane }
     {
@@ -314,6 +323,7 @@ impl FlowLanes {
     /// Makes all that was answered visible to the scheduler.
     pub(crate) fn flush(&mut self)
         ensures site { flow_site self.new ≡ flow_site self.old }
+        ensures seat { (hands_of self.new).view ≡ (hands_of self.old).view }
         ensures flushed { Flushed (hands_of self.old) (hands_of self.new) }
         ensures shown { NoneHidden (hands_of self.new) }
     {
@@ -334,6 +344,7 @@ impl FlowLanes {
     pub(crate) fn leave(&mut self, lane: usize)
         requires { lane < length (lanes_of (flow_site self.old).claims) }
         ensures site { flow_site self.new ≡ flow_site self.old }
+        ensures asks { AsksNone (hands_of self.old).view (hands_of self.new).view }
         ensures same { Same (hands_of self.old) (hands_of self.new) }
         ensures left { held_on (hands_of self.old) lane ≡ [] → is_some (stint_in (hands_of self.new) lane) ≡ false }
         ensures elsewhere { (j : ℕ) → j ≢ lane → is_some (stint_in (hands_of self.new) j) ≡ is_some (stint_in (hands_of self.old) j) }
@@ -356,6 +367,7 @@ impl FlowLanes {
         requires exists { lane < length (lanes_of (flow_site self.old).claims) }
         requires held { some_held ≡ true → held_on (hands_of self.old) lane ≢ [] }
         ensures site { flow_site self.new ≡ flow_site self.old }
+        ensures asks { AsksNone (hands_of self.old).view (hands_of self.new).view }
         ensures same { Same (hands_of self.old) (hands_of self.new) }
         ensures left { held_on (hands_of self.old) lane ≡ [] → is_some (stint_in (hands_of self.new) lane) ≡ false }
         ensures elsewhere { (j : ℕ) → j ≢ lane → is_some (stint_in (hands_of self.new) j) ≡ is_some (stint_in (hands_of self.old) j) }
@@ -373,6 +385,7 @@ impl FlowLanes {
         requires answered { held_on (hands_of self.old) lane ≡ [] }
         requires shown { hidden_in (stint_in (hands_of self.old) lane) ≡ [] }
         ensures site { flow_site self.new ≡ flow_site self.old }
+        ensures asks { AsksNone (hands_of self.old).view (hands_of self.new).view }
         ensures same { Same (hands_of self.old) (hands_of self.new) }
         ensures left { is_some (stint_in (hands_of self.new) lane) ≡ false }
         ensures elsewhere { (j : ℕ) → j ≢ lane → is_some (stint_in (hands_of self.new) j) ≡ is_some (stint_in (hands_of self.old) j) }

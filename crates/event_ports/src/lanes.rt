@@ -36,12 +36,14 @@ impl Lanes {
     ghost use Rattle.evt_types.specs.declared.event.Op.TheVariants as ops;
     ghost use Rattle.evt_types.specs.declared.event.TheConstants.{MAX_EXTRAS};
     ghost use Rattle.event_ports.specs.Lanes.{Rests, Submits, SubmitsTo, Arrives, ArrivesFrom, HasRoomFor, IsEmptyHand, IsEndOf, AreOf, TakesMore, extras_in, first_lane, lane_for, held_of, pair_in, reply_of};
-    ghost use Rattle.event_ports.specs.Handed.{IsReadable, lanes_site, flow_count, links_of, seen_own, hand_of, mores_of, news_of, releases_of, CountsOne, CountsNone, IsFilled, RefusesOldest, AllShown, OwnFirst};
+    ghost use Rattle.event_ports.specs.Handed.{IsReadable, lanes_site, flow_count, links_of, seating_of, seen_own, hand_of, mores_of, news_of, releases_of, CountsOne, CountsNone, IsFilled, RefusesOldest, AllShown, OwnFirst};
     ghost use Rattle.lane_rings.specs.Ends.{received_by, answered, hidden_answers, held_list};
     ghost use Rattle.evt_types.specs.declared.event.Op.{Op};
     ghost use Rattle.flow_claims.specs.Claims.{seating, port_of, IsSeatOf};
     ghost use Rattle.flow_claims.specs.Laws.{IsUnused};
     ghost use Rattle.flow_claims.specs.Seats.{HoldsNone};
+    ghost use Rattle.flow_claims.specs.Answers.{AsksNone};
+    ghost use Rattle.event_ports.specs.Claiming.{ClaimsEach};
     ghost use Rattle.event_ports.specs.Holds.{AreEmpty, AreLinked, NoneHidden};
     ghost use Rattle.event_ports.specs.Flows.{flow_site};
     ghost use Rattle.event_ports.specs.declared.lane.Lane.TheVariants as lanes;
@@ -125,6 +127,7 @@ impl Lanes {
     pub(crate) fn answer(&mut self, event: &PackedEvent) -> Result<(), Refusal>
         requires { is_answer (reply_of event.now) ≡ true }
         ensures site { lanes_site self.new ≡ lanes_site self.old }
+        ensures asks { AsksNone (seating_of self.old) (seating_of self.new) }
         ensures submitted { MatchResult result (λ _. SubmitsTo (first_lane (hand_of self.old).holding) (reply_of event.now) (hand_of self.old) (hand_of self.new)) (λ _. Rests (hand_of self.old) (hand_of self.new)) }
         ensures counts { MatchResult result (λ _. CountsOne (reply_of event.now) self.old self.new) (λ _. CountsNone self.old self.new) }
         ensures refused { IfErr result (RefusesOldest self.new) }
@@ -156,6 +159,7 @@ impl Lanes {
     pub(crate) fn receive_all(&mut self, max: usize, into: &mut ArrayVec<Delivery, 64>)
         requires { into.old.items ≡ [] }
         ensures site { lanes_site self.new ≡ lanes_site self.old }
+        ensures claims { ClaimsEach (links_of self.old) (seating_of self.old) (seating_of self.new) }
         ensures counts { CountsNone self.old self.new }
         ensures arrived { Arrives (links_of self.old) (hand_of self.old) (hand_of self.new) [] into.new.items }
         ensures few { (length into.new.items ≤ max) × (length (hand_of self.new).holding ≤ (lanes_site self.new).depth) }
@@ -172,6 +176,7 @@ impl Lanes {
     /// Makes all that was submitted and answered visible to the scheduler.
     pub(crate) fn flush(&mut self)
         ensures site { lanes_site self.new ≡ lanes_site self.old }
+        ensures seat { seating_of self.new ≡ seating_of self.old }
         ensures hand { hand_of self.new ≡ hand_of self.old }
         ensures filled { (o : Op) → IsFilled self.old (lane_for o (hand_of self.old).holding) → IsFilled self.new (lane_for o (hand_of self.new).holding) }
         ensures shown { AllShown self.new }
@@ -204,6 +209,7 @@ impl Lanes {
     fn receive_flows(&mut self, most: usize, into: &mut ArrayVec<Delivery, 64>)
         requires { HasRoomFor most (lanes_site self.old).depth (hand_of self.old).holding into.old.items }
         ensures site { lanes_site self.new ≡ lanes_site self.old }
+        ensures claims { ClaimsEach (links_of self.old) (seating_of self.old) (seating_of self.new) }
         ensures counts { CountsNone self.old self.new }
         ensures arrived { ArrivesFrom (map lanes.Flow (links_of self.old)) (hand_of self.old) (hand_of self.new) into.old.items into.new.items }
         ensures room { HasRoomFor most (lanes_site self.new).depth (hand_of self.new).holding into.new.items }
@@ -230,6 +236,7 @@ impl Lanes {
         requires readable { IsReadable (lanes_site self.old) (lanes.Flow lane) }
         requires room { HasRoomFor most (lanes_site self.old).depth (hand_of self.old).holding into.old.items }
         ensures site { lanes_site self.new ≡ lanes_site self.old }
+        ensures claims { ClaimsEach (lane ∷ []) (seating_of self.old) (seating_of self.new) }
         ensures counts { CountsNone self.old self.new }
         ensures arrived { ArrivesFrom (lanes.Flow lane ∷ []) (hand_of self.old) (hand_of self.new) into.old.items into.new.items }
         ensures room { HasRoomFor most (lanes_site self.new).depth (hand_of self.new).holding into.new.items }

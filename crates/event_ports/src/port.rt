@@ -33,10 +33,11 @@ impl Port {
     ghost use Rattle.event_answers.specs.declared.answer.Refused.TheVariants as refusals;
     ghost use Rattle.event_ports.specs.Lanes.{Rests, Releases, Dequeues, SubmitsTo, SubmitsAll, lane_for, reply_of};
     ghost use Rattle.event_ports.specs.declared.lane.Lane.TheVariants as lanes;
+    ghost use Rattle.event_ports.specs.Claiming.{ClaimsEach};
     ghost use Rattle.event_ports.specs.Draws.{HasLooked, ReturnsSpare};
     ghost use Rattle.event_ports.specs.Queues.{AllNameQueues, NamesQueue};
     ghost use Rattle.event_ports.specs.Counts.{after_behind, after_burst, after_dequeue, after_enqueue, plus};
-    ghost use Rattle.event_ports.specs.Ports.{own_site, account_of, counts_of, pocket_of, hand, seen_by, links, was_filled, SameCredits, Pays, Refuses, released_first, Bursts, StopsAt};
+    ghost use Rattle.event_ports.specs.Ports.{own_site, account_of, claim_seating, counts_of, pocket_of, hand, seen_by, links, was_filled, SameCredits, Pays, Refuses, released_first, Bursts, StopsAt};
 
     /// The port's number in the device, from 0.
     pub fn number(&self) -> usize
@@ -105,6 +106,7 @@ impl Port {
     pub fn dequeue(&mut self, max: usize) -> Result<ArrayVec<Delivery, 64>, Behind>
         ensures site { own_site self.new ≡ own_site self.old }
         ensures credit { Stays (account_of self.old) (account_of self.new) }
+        ensures claims { ClaimsEach (links self.old) (claim_seating self.old) (claim_seating self.new) }
         ensures ok { IfOk result (λ v. Dequeues (links self.old) (released_first self.old) (hand self.old) (hand self.new) v.items) }
         ensures few { IfOk result (λ v. (length v.items ≤ max) × (length (hand self.new).holding ≤ (own_site self.old).lanes.depth)) }
         ensures drained { IfOk result (λ v. length v.items < max → length (hand self.new).holding < (own_site self.old).lanes.depth → seen_by self.new ≡ []) }
@@ -134,6 +136,7 @@ impl Port {
     ) -> Result<usize, Behind>
         ensures site { own_site self.new ≡ own_site self.old }
         ensures credit { Stays (account_of self.old) (account_of self.new) }
+        ensures claims { ClaimsEach (links self.old) (claim_seating self.old) (claim_seating self.new) }
         ensures ok { OnOk result (Dequeues (links self.old) (released_first self.old) (hand self.old) (hand self.new) into.new.items) }
         ensures few { OnOk result ((length into.new.items ≤ max) × (length (hand self.new).holding ≤ (own_site self.old).lanes.depth)) }
         ensures drained { OnOk result (length into.new.items < max → length (hand self.new).holding < (own_site self.old).lanes.depth → seen_by self.new ≡ []) }

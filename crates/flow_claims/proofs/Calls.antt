@@ -13,7 +13,7 @@ use Rattle.flow_claims.specs.declared.seating.Past.{Past}
 use Rattle.flow_claims.specs.declared.seating.Seating.{Seating}
 use Rattle.flow_claims.specs.declared.claim.Stint.{Stint}
 use Rattle.flow_claims.specs.Lists.{lists_of, GoesOn, IsOf}
-use Rattle.flow_claims.specs.Seats.{find_lane, without, fronted, stint_at, slot_of, begun_by, past_of, after_look, after_begin, after_front, finished_by, after_end, after_join}
+use Rattle.flow_claims.specs.Seats.{find_lane, without, fronted, stint_at, slot_of, begun_by, past_of, after_look, after_load, after_begin, after_front, finished_by, after_end, after_join}
 use Rattle.flow_claims.specs.Steps.{Sitting, Begins, Fronts, Finishes, in_hand, ends_first}
 use Rattle.flow_claims.specs.Open.{IsOpen}
 use Rattle.flow_claims.specs.Answers.{Taken}
@@ -70,12 +70,12 @@ taken_open port stint v after t =
     }) (subst Of (sym (ap (λ (x : Seating). x.lanes) t.0)) t.1)
 
 -- the load of a claim, and the taking
-pub taken_after : (port lane word : ℕ) (far : Far) (v looked after : Seating) → looked ≡ after_look lane word v → word % 256 ≡ 0
-    → Taken port lane (word / 256) far looked after → Taken port lane (word / 256) far (after_look lane (256 * (word / 256)) v) after
+pub taken_after : (port lane word : ℕ) (far : Far) (v looked after : Seating) → looked ≡ after_load lane word v → word % 256 ≡ 0
+    → Taken port lane (word / 256) far looked after → Taken port lane (word / 256) far (after_load lane (256 * (word / 256)) v) after
 taken_after port lane word far v looked after is free t =
     let w : word ≡ 256 * (word / 256) = omega (arith, free) in
     let P : Seating → Type 0 = λ x. Taken port lane (word / 256) far x after in
-    subst P (is ∙ ap (λ k. after_look lane k v) w) t
+    subst P (is ∙ ap (λ k. after_load lane k v) w) t
 
 -- the slot of a lane is in front
 pub in_front : (lane : ℕ) (bs : List Begun) (b : Begun) (c : Slots) → find_lane lane bs ≡ Some b → c ≡ map slot_of (fronted lane bs) → c ≡ (lane, None) ∷ map slot_of (without lane bs)

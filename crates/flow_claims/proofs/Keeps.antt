@@ -18,7 +18,7 @@ use Rattle.flow_claims.specs.declared.seating.Past.{Past}
 use Rattle.flow_claims.specs.declared.seating.Seating.{Seating}
 use Rattle.flow_claims.specs.Lists.{lists_of, no_lists, GoesOn, IsOf}
 use Rattle.flow_claims.specs.Stints.{IsDone, gives_up}
-use Rattle.flow_claims.specs.Seats.{find_lane, without, fronted, slot_of, begun_by, past_of, after_look, after_begin, after_front}
+use Rattle.flow_claims.specs.Seats.{find_lane, without, fronted, slot_of, begun_by, past_of, after_look, after_load, after_begin, after_front}
 use Rattle.flow_claims.specs.Rule.{Board, word_at, home_at, busy, opens, closed_by, IsHome, IsLane, IsHeld, IsSeat, Claimed}
 use Rattle.flow_claims.specs.Steps.{Sitting, Probes, Begins, Fronts, Finishes, in_hand, ends_first}
 use Rattle.flow_claims.proofs.Choices.{get_last}
@@ -50,7 +50,7 @@ same_stints v w a b c d e = record {
 pub probes : (lanes : List Far) (slots id lane : ℕ) (me : Sitting) → 0 < me.0.parts → lane < length lanes
     → Allows (Claimed lanes) slots id me lane (λ n. n) (Probes (step slots lane 0 0 O.none) me)
 probes lanes slots id lane me part lt s c count_is here small =
-    let w : Seating = after_look lane (word_at s lane) me.0 in (
+    let w : Seating = after_load lane (word_at s lane) me.0 in (
       w,
       keeps,
       tt,

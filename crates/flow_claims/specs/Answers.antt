@@ -1,6 +1,6 @@
 -- What an answer of a claim says of the seat before and after, and what the end of a stint does. A refusal carries what the seat
 -- read, and leaves all stints.
-use Rattle.std.specs.Prelude.{◌≡◌, ◌≢◌, ℕ, ◌*◌, ◌/◌, ◌%◌, Bool, List, [], ◌∷◌, ◌++◌, All}
+use Rattle.std.specs.Prelude.{◌≡◌, ◌≢◌, ℕ, ◌+◌, ◌*◌, ◌/◌, ◌%◌, ◌≤◌, Bool, List, [], ◌∷◌, ◌++◌, All}
 use Rattle.std.specs.Prelude.Option.{None}
 use Rattle.lane_rings.specs.Ends.{unanswered, hidden_answers}
 use Rattle.lane_rings.specs.declared.far.Far.{Far}
@@ -14,13 +14,23 @@ use Rattle.flow_claims.specs.declared.seating.Past.{Past}
 use Rattle.flow_claims.specs.declared.seating.Seating.{Seating}
 use Rattle.flow_claims.specs.Lists.{lists_of, IsOf}
 use Rattle.flow_claims.specs.Stints.{received_in, answered_in, stints_of}
-use Rattle.flow_claims.specs.Seats.{begun_by, stint_at, after_look, after_begin, after_end, IsShared, IsLeft, IsPorts}
+use Rattle.flow_claims.specs.Seats.{begun_by, stint_at, after_look, after_load, after_begin, after_end, IsShared, IsLeft, IsPorts}
 use Rattle.flow_claims.specs.Open.{IsOpen, received_so_far, answered_so_far}
 use Rattle.flow_claims.specs.Claims.{seating, port_of, IsSeatOf}
 
 -- as many stints as a lane's word can count: 2^56 - 1
 abbrev pub most_stints : ℕ
 most_stints = 72057594037927935
+
+-- no word was read to claim a lane
+pub record AsksNone (v after : Seating) : Type 0 where
+  pub loads : after.loads ≡ v.loads
+  pub reads : after.reads ≡ v.reads
+
+-- the lane was claimed once: by one load of its word, and one exchange at most
+pub record AsksOnce (lane : ℕ) (v after : Seating) : Type 0 where
+  pub loads : after.loads ≡ v.loads ++ lane ∷ []
+  pub reads : after.reads ≤ v.reads + 2
 
 -- the port holds the lane, with the lane's end, of which nothing is unanswered or gathered
 abbrev pub Taken : ℕ → ℕ → ℕ → Far → Seating → Seating → Type 0
@@ -29,12 +39,12 @@ Taken port lane number far v after =
 
 -- The port asked for the lane.
 abbrev pub AnswersClaim : ℕ → ℕ → Seating → Claim → Seating → Type 0
-AnswersClaim port lane v WornOut after = (after.last.word / 256 ≡ most_stints) × (after ≡ after_look lane after.last.word v)
-AnswersClaim port lane v (Busy seen) after = (seen % 256 ≢ 0) × (seen / 256 ≢ most_stints) × (after ≡ after_look lane seen v)
+AnswersClaim port lane v WornOut after = (after.last.word / 256 ≡ most_stints) × (after ≡ after_load lane after.last.word v)
+AnswersClaim port lane v (Busy seen) after = (seen % 256 ≢ 0) × (seen / 256 ≢ most_stints) × (after ≡ after_load lane seen v)
 AnswersClaim port lane v (Raced first second) after =
-    IsShared v × (first ≢ second) × (first % 256 ≡ 0) × (first / 256 ≢ most_stints) × (after ≡ after_look lane second (after_look lane first v))
+    IsShared v × (first ≢ second) × (first % 256 ≡ 0) × (first / 256 ≢ most_stints) × (after ≡ after_look lane second (after_load lane first v))
 AnswersClaim port lane v (Held stint) after =
-    (stint.lane ≡ lane) × (stint_at v lane ≡ None) × Taken port lane stint.number stint.far (after_look lane (256 * stint.number) v) after
+    (stint.lane ≡ lane) × (stint_at v lane ≡ None) × Taken port lane stint.number stint.far (after_load lane (256 * stint.number) v) after
     × IsOpen after stint × (received_so_far after stint ≡ []) × (answered_so_far after stint ≡ [])
 
 -- A seat with all parts knows what the lane's word counts, and that the lane is free where the seat left it free.
@@ -70,3 +80,4 @@ pub record EndsStint (claims : Claims) (surrendered : Bool) (stint : Stint) (bef
   pub stay : (other : Stint) → other.lane ≢ stint.lane → IsOpen (seating before) other → IsOpen (seating after) other
   pub last : (b : Begun) (bs : List Begun) → (seating before).held ≡ b ∷ bs → b.lane ≡ stint.lane → (seating after).held ≡ bs
   pub parts : (seating after).parts ≡ (seating before).parts
+  pub reads : AsksNone (seating before) (seating after)

@@ -65,15 +65,19 @@ no_reading = record { lane = 0; word = 0 }
 
 -- the first seat: all parts and no stint
 abbrev pub first_seating : List Far → Seating
-first_seating lanes = record { lanes = lanes; parts = 64; last = no_reading; before = no_reading; reads = 0; held = []; finished = []; closed = 0 }
+first_seating lanes = record { lanes = lanes; parts = 64; last = no_reading; before = no_reading; reads = 0; loads = []; held = []; finished = []; closed = 0 }
 
 -- a seat that was joined to another
 abbrev pub spent_seating : Seating
-spent_seating = record { lanes = []; parts = 0; last = no_reading; before = no_reading; reads = 0; held = []; finished = []; closed = 0 }
+spent_seating = record { lanes = []; parts = 0; last = no_reading; before = no_reading; reads = 0; loads = []; held = []; finished = []; closed = 0 }
 
--- a load, or the read of an exchange: the lane's word, beside the one read before it, and one read more
+-- the read of a load or of an exchange: the lane's word, beside the one read before it, and one read more
 abbrev pub after_look : ℕ → ℕ → Seating → Seating
 after_look lane word v = record v { last = record { lane = lane; word = word }; before = v.last; reads = v.reads + 1 }
+
+-- a load: a look, which is noted with its lane
+abbrev pub after_load : ℕ → ℕ → Seating → Seating
+after_load lane word v = record (after_look lane word v) { loads = v.loads ++ lane ∷ [] }
 
 -- a claim that succeeded
 abbrev pub after_begin : Begun → Seating → Seating
@@ -102,7 +106,7 @@ rest_of v = record v { parts = v.parts - 1 }
 
 -- and the second has that part, the same lanes and no stint
 abbrev pub part_of : Seating → Seating
-part_of v = record v { parts = 1; last = no_reading; before = no_reading; reads = 0; held = []; finished = []; closed = 0 }
+part_of v = record v { parts = 1; last = no_reading; before = no_reading; reads = 0; loads = []; held = []; finished = []; closed = 0 }
 
 -- a join: the stints and the parts of both; the words and reads are the first seat's
 abbrev pub after_join : Seating → Seating → Seating

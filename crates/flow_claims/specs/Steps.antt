@@ -8,7 +8,7 @@ use Rattle.flow_claims.specs.declared.seating.Begun.{Begun}
 use Rattle.flow_claims.specs.declared.seating.Seating.{Seating}
 use Rattle.flow_claims.specs.Lists.{IsOf}
 use Rattle.flow_claims.specs.Stints.{stints_of, surrenders}
-use Rattle.flow_claims.specs.Seats.{begun_by, past_of, slot_of, fronted, find_lane, stint_at, after_look, after_begin, after_front, after_close, HasAll, IsLeft}
+use Rattle.flow_claims.specs.Seats.{begun_by, past_of, slot_of, fronted, find_lane, stint_at, after_look, after_load, after_begin, after_front, after_close, HasAll, IsLeft}
 use Rattle.flow_claims.specs.Ends.{IsEnd}
 
 -- a seat with the slots that it has
@@ -28,7 +28,7 @@ pub record Reads (lane word : ℕ) (v : Seating) : Type 0 where
 
 -- the load of a claim, and that before a closing swap
 abbrev pub Probes : WordStep → Sitting → ℕ → Sitting → Type 0
-Probes st m word n = (n.0 ≡ after_look st.word word m.0) × (n.1 ≡ m.1) × Reads st.word word m.0
+Probes st m word n = (n.0 ≡ after_load st.word word m.0) × (n.1 ≡ m.1) × Reads st.word word m.0
 
 -- the exchange of a claim: where it succeeds, the seat takes the slot, with the lane's end
 abbrev pub Begins : WordStep → Sitting → ℕ → Sitting → Type 0

@@ -49,9 +49,9 @@ impl Claims {
     ghost use Rattle.evt_types.specs.declared.event.Delivery.{Delivery};
     ghost use Rattle.evt_types.specs.declared.event.Reply.{Reply};
     ghost use Rattle.flow_claims.specs.declared.claim.Stint.{Stint};
-    ghost use Rattle.flow_claims.specs.Seats.{stint_at, HoldsNone, HasAll, first_seating, after_look, after_join, part_of, rest_of};
+    ghost use Rattle.flow_claims.specs.Seats.{stint_at, HoldsNone, HasAll, first_seating, after_look, after_load, after_join, part_of, rest_of};
     ghost use Rattle.flow_claims.specs.Open.{IsOpen};
-    ghost use Rattle.flow_claims.specs.Answers.{AnswersClaim, AnswersAll, Taken, KeepsPort, EndsStint};
+    ghost use Rattle.flow_claims.specs.Answers.{AnswersClaim, AnswersAll, AsksOnce, Taken, KeepsPort, EndsStint};
     ghost use Rattle.flow_claims.specs.Weights.{weight_received, weight_answered};
     ghost use Rattle.flow_claims.specs.Ends.{IsEnd};
     ghost use Rattle.flow_claims.specs.Steps.{Reads};
@@ -144,6 +144,7 @@ impl Claims {
         ensures port { KeepsPort seat.old seat.new }
         ensures answer { AnswersClaim (port_of seat.old) lane (seating seat.old) result (seating seat.new) }
         ensures all { HasAll (seating seat.old) → AnswersAll lane (seating seat.old) result }
+        ensures asks { AsksOnce lane (seating seat.old) (seating seat.new) }
         ensures refused { ((stint : Stint) → result ≢ Claim.Held stint) → (seating seat.new).held ≡ (seating seat.old).held }
         ensures finished { (seating seat.new).finished ≡ (seating seat.old).finished }
         ensures others { (j : ℕ) → j ≢ lane → stint_at (seating seat.new) j ≡ stint_at (seating seat.old) j }
@@ -215,7 +216,7 @@ impl Claims {
         requires seat { IsSeatOf self.now seat.old }
         requires lane { lane < length (lanes_of self.now) }
         ensures seat { IsSeatOf self.now seat.new × (port_of seat.new ≡ port_of seat.old) }
-        ensures seating { seating seat.new ≡ after_look lane result (seating seat.old) }
+        ensures seating { seating seat.new ≡ after_load lane result (seating seat.old) }
         ensures told { Reads lane result (seating seat.old) }
     {
         self.table.shared.load::<Probe>(&mut seat.seat, lane)

@@ -53,6 +53,9 @@ pub struct Seating {
     /// How many words it read: one by a load, one by an exchange. The end of a stint uses no word that it finds, and leaves this and
     /// both words as they were.
     pub reads: u64,
+    /// The lanes whose words it loaded, in the order of the loads. A claim loads the word of its lane once, and so does the closing of a
+    /// lane; an exchange isn't noted here.
+    pub loads: LinkedList<u64>,
     /// Its open stints; the slot of the first was taken last.
     pub held: LinkedList<Begun>,
     /// Its finished stints, and those of the seats that were joined into it.

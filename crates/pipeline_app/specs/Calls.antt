@@ -4,9 +4,10 @@ use Rattle.credit_pool.specs.Accounts.{Stays}
 use Rattle.event_answers.specs.declared.answer.Behind.{Behind}
 use Rattle.event_answers.specs.declared.answer.Refused.{Refused}
 use Rattle.event_answers.specs.declared.answer.Refused.TheVariants.{Stopped}
+use Rattle.event_ports.specs.Claiming.{ClaimsEach}
 use Rattle.event_ports.specs.Draws.{ReturnsSpare}
 use Rattle.event_ports.specs.Lanes.{Dequeues, Releases, Rests, SubmitsTo, lane_for, reply_of}
-use Rattle.event_ports.specs.Ports.{Pays, Refuses, account_of, hand, links, own_site, pocket_of, released_first, seen_by, was_filled}
+use Rattle.event_ports.specs.Ports.{Pays, Refuses, account_of, claim_seating, hand, links, own_site, pocket_of, released_first, seen_by, was_filled}
 use Rattle.event_ports.specs.declared.lane.Lane.TheVariants.{Own}
 use Rattle.event_ports.specs.declared.port.Port.{Port}
 use Rattle.evt_types.specs.declared.event.Delivery.{Delivery}
@@ -23,11 +24,13 @@ pub record IsEnqueue (p : Port) (e : Event) (outcome : Result (Unit {0}) Refused
   pub refused : IfErr outcome (λ f. Refuses p e f q)
   pub stopped : IsTrue (account_of p).saw_shut → e.op ≡ ops.New → outcome ≡ Err Stopped
 
--- The port dequeued at most so many events, of those that its lanes had, after it released what is released first, and saw its own
--- lane empty where fewer came than may; or its reply rings hadn't room for all releases, and it received nothing.
+-- The port dequeued at most so many events, of those that its lanes had, after it released what is released first and claimed each
+-- linked flow lane once at most, and saw its own lane empty where fewer came than may; or its reply rings hadn't room for all
+-- releases, and it received nothing.
 pub record IsDequeue (p : Port) (max : ℕ) (outcome : Result (List Delivery) Behind) (q : Port) : Type 0 where
   pub site : own_site q ≡ own_site p
   pub credit : Stays (account_of p) (account_of q)
+  pub claims : ClaimsEach (links p) (claim_seating p) (claim_seating q)
   pub ok : IfOk outcome (λ deliveries. Dequeues (links p) (released_first p) (hand p) (hand q) deliveries)
   pub few : IfOk outcome (λ deliveries. (length deliveries ≤ max) × (length (hand q).holding ≤ (own_site p).lanes.depth))
   pub drained : IfOk outcome (λ deliveries. length deliveries < max → length (hand q).holding < (own_site p).lanes.depth → seen_by q ≡ [])

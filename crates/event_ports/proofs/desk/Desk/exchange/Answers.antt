@@ -2,9 +2,11 @@
 use Rattle.std.proofs.Common.{rules, ◌+◌, ◌∙◌, List, ap, subst, [], length, arith}
 use Rattle.evt_types.specs.declared.event.Delivery.{Delivery}
 use Rattle.event_ports.specs.declared.lane.Lane.TheVariants.{Own}
-use Rattle.event_ports.specs.Handed.{hand_of}
+use Rattle.event_ports.specs.Claiming.{ClaimsEach}
+use Rattle.event_ports.specs.Handed.{hand_of, seating_of}
 use Rattle.event_ports.specs.Lanes.{Arrives}
-use Rattle.event_ports.specs.Desks.{DeskSite, hand, links}
+use Rattle.event_ports.specs.Desks.{DeskSite, claim_seating, hand, links}
+use Rattle.event_ports.proofs.Claiming.{claims_after, claims_none}
 use Rattle.event_ports.proofs.Released.{dequeues_where, dequeues_released, same_credit}
 use Rattle.event_ports.proofs.desk.Desk.exchange.Goals as goal
 
@@ -26,3 +28,15 @@ returns-clause-ok c =
 pub returns-clause-own_first : goal.returns-clause-own_first
 returns-clause-own_first c ne =
     c.receive_all-2.ensures.own_first (λ e. ne (e ∙ ap (λ (ds : List Delivery). length ds + length c.receive_all-2.new.into.items) (c.in_ok-released.ensures.ok.0.got Own)))
+
+pub returns-then-not-self-clause-claims : goal.returns-then-not-self-clause-claims
+returns-then-not-self-clause-claims c = c.receive_all.ensures.claims
+
+pub returns-in_err-released-clause-claims : goal.returns-in_err-released-clause-claims
+returns-in_err-released-clause-claims c = claims_none _ _ _ c.release_all.ensures.asks
+
+pub returns-clause-claims : goal.returns-clause-claims
+returns-clause-claims c =
+    let Of = λ (p : DeskSite). ClaimsEach p.lanes.flows.links (claim_seating c.release_all.new.self) (seating_of c.receive_all-2.new.self) in
+    claims_after (links c.args.self.now) (claim_seating c.args.self.now) (claim_seating c.release_all.new.self) (seating_of c.receive_all-2.new.self) c.release_all.ensures.asks
+    (subst Of c.release_all.ensures.site c.receive_all-2.ensures.claims)

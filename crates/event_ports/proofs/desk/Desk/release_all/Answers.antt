@@ -6,6 +6,7 @@ use Rattle.event_ports.specs.Flows.{hands_of}
 use Rattle.event_ports.specs.Handed.{hand_of}
 use Rattle.event_ports.specs.Lanes.{Hand, Releases, SubmitsTo, first_lane, reply_of}
 use Rattle.event_ports.specs.Desks.{hand, own_site, pocket_of}
+use Rattle.event_ports.proofs.Claiming.{asks_same, asks_then}
 use Rattle.event_ports.proofs.Refusals.{filled_first}
 use Rattle.event_ports.proofs.Released.{at_lanes, one_more_credit, releases_more, releases_still, some_left}
 use Rattle.event_ports.proofs.desk.Desk.release_all.Goals as goal
@@ -19,6 +20,8 @@ loop-released-preserved c =
       releases_more c.loop-released.released (hand c.args.self.now) (hand c.loop-released.self) (hand_of c.answer.new.self) was.2 submitted,
       one_more_credit (pocket_of c.args.self.now) c.loop-released.released (pocket_of c.loop-released.self) _ was.3 refl,
       was.4,
+      c.answer.ensures.asks.loads ∙ was.5,
+      c.answer.ensures.asks.reads ∙ was.6,
     )
 
 pub returns-in-Err-clause-behind : goal.returns-in-Err-clause-behind
@@ -41,3 +44,13 @@ returns-clause-ok c =
     let all : c.loop-released.released ≡ length (hand c.args.self.now).holding = omega (arith, c.loop-released-test.false, c.loop-released.auto.released-end, was.4) in
     subst (λ (n : ℕ). Releases n (hand c.args.self.now) (hand c.flush-2.new.self) × (pocket_of c.flush-2.new.self ≡ (pocket_of c.args.self.now + n) % 2 ^ 64)) all
     (subst (λ (k : Hand). Releases c.loop-released.released (hand c.args.self.now) k) (sym flushed.hands) was.2, flushed.pocket ∙ was.3)
+
+pub returns-in-Err-clause-asks : goal.returns-in-Err-clause-asks
+returns-in-Err-clause-asks c =
+    let was = c.loop-released.invariant in
+    asks_then _ _ _ (record { loads = was.5; reads = was.6 }) (asks_then _ _ _ c.answer.ensures.asks (asks_same _ _ c.flush.ensures.seat))
+
+pub returns-clause-asks : goal.returns-clause-asks
+returns-clause-asks c =
+    let was = c.loop-released.invariant in
+    asks_then _ _ _ (record { loads = was.5; reads = was.6 }) (asks_same _ _ c.flush-2.ensures.seat)

@@ -4,6 +4,7 @@ use Rattle.flow_claims.specs.Claims.{lanes_of}
 use Rattle.event_ports.specs.Flows.{FlowSite, hands_of}
 use Rattle.event_ports.specs.Lanes.{reply_of}
 use Rattle.event_ports.proofs.Calls.{idle_answered, says_before}
+use Rattle.event_ports.proofs.Claiming.{asks_same, asks_then}
 use Rattle.event_ports.proofs.flows.FlowLanes.answer_oldest.Goals as goal
 
 pub returns-then-not-holds_last-clause-lists : goal.returns-then-not-holds_last-clause-lists
@@ -35,3 +36,12 @@ pub returns-clause-idle : goal.returns-clause-idle
 returns-clause-idle c =
     idle_answered (hands_of c.args.self.now) (hands_of c.put_last.new.self) (hands_of c.give_back.new.self) c.args.lane (reply_of c.args.event.now) c.in_ok-put_last.ensures.lists c.put_last.ensures.entries
     c.give_back.ensures.same c.give_back.ensures.left c.give_back.ensures.elsewhere
+
+pub returns-then-not-holds_last-clause-asks : goal.returns-then-not-holds_last-clause-asks
+returns-then-not-holds_last-clause-asks c = c.answer_more.ensures.asks
+
+pub returns-in_err-put_last-clause-asks : goal.returns-in_err-put_last-clause-asks
+returns-in_err-put_last-clause-asks c = asks_same _ _ c.put_last.ensures.seat
+
+pub returns-clause-asks : goal.returns-clause-asks
+returns-clause-asks c = asks_then _ _ _ (asks_same _ _ c.put_last.ensures.seat) c.give_back.ensures.asks

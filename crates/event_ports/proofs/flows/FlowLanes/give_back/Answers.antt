@@ -9,6 +9,7 @@ use Rattle.flow_claims.specs.declared.claim.Stint.{Stint}
 use Rattle.flow_claims.specs.Answers.{EndsStint}
 use Rattle.flow_claims.specs.Claims.{seating, claims_id, lanes_of}
 use Rattle.event_ports.specs.Holds.{entry_at, held_now, hidden_in, AreFlows, AreShown, Same}
+use Rattle.event_ports.proofs.Claiming.{asks_same}
 use Rattle.event_ports.proofs.Entries.{Stints, hands, place_read, same_list}
 use Rattle.event_ports.proofs.Shown.{none_set, touched_set}
 use Rattle.event_ports.proofs.Turns.{ended, left_same, same_back}
@@ -114,3 +115,9 @@ returns-clause-shown c =
     let f = c.args.self.now in
     let within : c.args.lane < length f.stints.items = omega (arith, f.are.entries, c.requires.exists) in
     none_set f.stints.items c.args.lane c.take.new.self within (ap hidden_in c.take.ensures.after)
+
+pub returns-in_default-clause-asks : goal.returns-in_default-clause-asks
+returns-in_default-clause-asks c = asks_same _ _ refl
+
+pub returns-clause-asks : goal.returns-clause-asks
+returns-clause-asks c = c.give_back.ensures.reads

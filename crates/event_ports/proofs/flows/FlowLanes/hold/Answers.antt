@@ -1,8 +1,9 @@
 -- What a claim makes of the port's flow lanes.
-use Rattle.std.proofs.Common.{◌≡◌, ◌<◌, length, arith, sym, ap, ◌∙◌, Some, None}
+use Rattle.std.proofs.Common.{refl, ◌≡◌, ◌<◌, length, arith, sym, ap, ◌∙◌, Some, None}
 use Rattle.std.specs.Arc.{arc_value}
 use Rattle.flow_claims.specs.Claims.{seating, claims_id, lanes_of, IsSeatOf}
 use Rattle.event_ports.specs.Holds.{entry_at}
+use Rattle.event_ports.proofs.Claiming.{asks_same, claims_none, claims_one}
 use Rattle.event_ports.proofs.Entries.{nothing_there, place_read}
 use Rattle.event_ports.proofs.Shown.{none_set, touched_set}
 use Rattle.event_ports.proofs.Turns.{refused, claimed, claim_same}
@@ -38,3 +39,12 @@ returns-clause-same c =
     place_read _ _ c.index.result.now None c.index.ensures (nothing_there _ (sym c.is_some.ensures ∙ c.if-is_some.false)) within in
     claim_same _ _ c.args.self.now.seat c.claim.new.seat c.args.self.now.stints.items c.args.lane c.in-Held.stint c.args.self.now.are c.claim.ensures.finished c.claim.ensures.others
     c.requires.exists free got.4 got.5 got.2.2
+
+pub returns-then-is_some-clause-claims : goal.returns-then-is_some-clause-claims
+returns-then-is_some-clause-claims c = claims_none _ _ _ (asks_same _ _ refl)
+
+pub returns-in_default-clause-claims : goal.returns-in_default-clause-claims
+returns-in_default-clause-claims c = claims_one c.args.lane _ _ c.claim.ensures.asks
+
+pub returns-clause-claims : goal.returns-clause-claims
+returns-clause-claims c = claims_one c.args.lane _ _ c.claim.ensures.asks

@@ -8,6 +8,7 @@ use Rattle.flow_claims.specs.Claims.{seating}
 use Rattle.event_ports.specs.Flows.{hands_of}
 use Rattle.event_ports.specs.Holds.{entry_at, held_now, hidden_in, AreFlows, AreShown}
 use Rattle.event_ports.proofs.Calls.{same_more}
+use Rattle.event_ports.proofs.Claiming.{asks_same}
 use Rattle.event_ports.proofs.Entries.{Stints, none_left, place_read, same_list}
 use Rattle.event_ports.proofs.Shown.{none_set, touched_set}
 use Rattle.event_ports.proofs.Turns.{same_back, turned, turn_same}
@@ -124,3 +125,12 @@ returns-clause-shown c none =
     let f = c.args.self.now in
     let within : c.args.lane < length f.stints.items = omega (arith, f.are.entries, c.requires) in
     c.give_back.ensures.shown (none_set f.stints.items c.args.lane (Some c.flush.new.self) within c.flush.ensures.shown none)
+
+pub returns-in_default-clause-asks : goal.returns-in_default-clause-asks
+returns-in_default-clause-asks c = asks_same _ _ refl
+
+pub returns-then-held-gt0-clause-asks : goal.returns-then-held-gt0-clause-asks
+returns-then-held-gt0-clause-asks c = asks_same _ _ refl
+
+pub returns-clause-asks : goal.returns-clause-asks
+returns-clause-asks c = c.give_back.ensures.asks

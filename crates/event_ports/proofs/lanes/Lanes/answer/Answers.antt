@@ -14,6 +14,7 @@ use Rattle.event_ports.specs.Lanes.{Hand, IsFilledAt, RefusesFirst, SubmitsTo, f
 use Rattle.event_ports.proofs.Oldest.{oldest_held, oldest_there}
 use Rattle.event_ports.proofs.Orders.{Notes, each_lane, answered_first, first_open, some_first}
 use Rattle.event_ports.proofs.Adding.{counts_own, counts_said, counts_same}
+use Rattle.event_ports.proofs.Claiming.{asks_same}
 use Rattle.event_ports.proofs.Extras.{added_said}
 use Rattle.event_ports.proofs.Refusals.{one_answer, refused_own}
 use Rattle.event_ports.proofs.Calls.{says_no_new, says_received, gave_back}
@@ -127,3 +128,15 @@ returns-in-Err-answer_oldest-clause-refused c =
     let first : first_lane xs ≡ Some (Flow c.in-Flow.lane) = sym c.in-Some.ensures ∙ ap Some c.in-Flow.is in
     let refused = c.in-Err-answer_oldest.ensures.refused in
     subst (RefusesFirst own after xs) (sym refused.0) (some_first xs (Flow c.in-Flow.lane) first, subst (IsFilledAt own after) (sym first) refused.1)
+
+pub returns-in-Ok-clause-asks : goal.returns-in-Ok-clause-asks
+returns-in-Ok-clause-asks c = asks_same _ _ refl
+
+pub returns-in-Err-clause-asks : goal.returns-in-Err-clause-asks
+returns-in-Err-clause-asks c = asks_same _ _ refl
+
+pub returns-in-Ok-answer_oldest-clause-asks : goal.returns-in-Ok-answer_oldest-clause-asks
+returns-in-Ok-answer_oldest-clause-asks c = c.answer_oldest.ensures.asks
+
+pub returns-in-Err-answer_oldest-clause-asks : goal.returns-in-Err-answer_oldest-clause-asks
+returns-in-Err-answer_oldest-clause-asks c = c.answer_oldest.ensures.asks

@@ -16,6 +16,7 @@ use Rattle.event_ports.proofs.Noting.{noted_are, note_fits}
 use Rattle.event_ports.proofs.Orders.{Notes, each_lane, received_last}
 use Rattle.event_ports.proofs.Adding.{counts_same}
 use Rattle.event_ports.proofs.Calls.{added_received, gave_back, same_no_new, idle_received, idle_refused, gets_between, gets_no_answer}
+use Rattle.event_ports.proofs.Claiming.{asks_same, asks_then, claims_before, claims_none}
 use Rattle.event_ports.proofs.Extras.{added_same}
 use Rattle.event_ports.proofs.lanes.Lanes.receive_flow.Goals as goal
 
@@ -181,3 +182,12 @@ leave_unless-requires-clause-held c some none =
 
 pub returns-clause-others : goal.returns-clause-others
 returns-clause-others c = refl
+
+pub returns-then-len-most-clause-claims : goal.returns-then-len-most-clause-claims
+returns-then-len-most-clause-claims c = claims_none _ _ _ (asks_same _ _ refl)
+
+pub returns-then-not-hold-clause-claims : goal.returns-then-not-hold-clause-claims
+returns-then-not-hold-clause-claims c = c.hold.ensures.claims
+
+pub returns-clause-claims : goal.returns-clause-claims
+returns-clause-claims c = claims_before _ _ _ _ c.hold.ensures.claims (asks_then _ _ _ (asks_same _ _ c.receive_some.ensures.seat) c.leave_unless.ensures.asks)

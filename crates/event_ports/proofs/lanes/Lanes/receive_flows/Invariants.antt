@@ -1,7 +1,8 @@
 use Rattle.std.proofs.Common.{◌≡◌, ◌≤◌, ◌-◌, length, map, take}
 use Rattle.event_ports.specs.declared.lane.Lane.TheVariants.{Flow}
+use Rattle.event_ports.specs.Claiming.{ClaimsEach}
 use Rattle.event_ports.specs.Lanes.{ArrivesFrom, HasRoomFor}
-use Rattle.event_ports.specs.Handed.{lanes_site, links_of, seen_own, hand_of, AllShown, CountsNone}
+use Rattle.event_ports.specs.Handed.{lanes_site, links_of, seating_of, seen_own, hand_of, AllShown, CountsNone}
 use Rattle.event_ports.proofs.lanes.Lanes.receive_flows.Given as goal
 
 abbrev pub invariant-loop-position : goal.invariant-loop-position
@@ -9,6 +10,7 @@ invariant-loop-position l = record {
   site : lanes_site l.self ≡ lanes_site l.fn.self;
   counts : CountsNone l.fn.self l.self;
   arrived : ArrivesFrom (map Flow (take l.position (links_of l.fn.self))) (hand_of l.fn.self) (hand_of l.self) l.fn.into.items l.into.items;
+  claims : ClaimsEach (take l.position (links_of l.fn.self)) (seating_of l.fn.self) (seating_of l.self);
   room : HasRoomFor l.most (lanes_site l.self).depth (hand_of l.self).holding l.into.items;
   links : l.count ≡ length (links_of l.fn.self);
   within : l.position ≤ length (links_of l.fn.self);

@@ -1,6 +1,6 @@
 -- A stint that was taken is open, and what the reads tell.
 use Rattle.std.proofs.Common.{rules, ◌≡◌, ◌*◌, ◌/◌, ◌%◌, ℕ, refl, subst}
-use Rattle.flow_claims.specs.Seats.{after_look}
+use Rattle.flow_claims.specs.Seats.{after_load}
 use Rattle.flow_claims.specs.Claims.{seating, port_of}
 use Rattle.flow_claims.specs.Answers.{Taken}
 use Rattle.flow_claims.proofs.Claiming.{free_left}
@@ -17,7 +17,7 @@ returns-in-Ok-clause-answer c =
     let is = taken_after (port_of c.args.seat.now) c.args.lane word c.in-Ok.far (seating c.args.seat.now) (seating c.probe-word.new.seat) (seating c.seize.new.seat)
     c.probe-word.ensures.seating free seized in
     let left = free_left c.args.lane word (seating c.args.seat.now) c.probe-word.ensures.told free in
-    let looked = after_look c.args.lane (256 * (word / 256)) (seating c.args.seat.now) in
+    let looked = after_load c.args.lane (256 * (word / 256)) (seating c.args.seat.now) in
     let after = seating c.seize.new.seat in (
       refl,
       left.not_held,

@@ -68,6 +68,7 @@ returns c =
       stay = λ other ne. stays_open v c.store.new.seat.me.0 other (over.others other.lane ne) rest.2;
       last = over.last;
       parts = rest.0;
+      reads = record { loads = ap (λ x. x.loads) (now ∙ ap (λ f. finished_by gone lane far f v) o.at); reads = ap (λ x. x.reads) (now ∙ ap (λ f. finished_by gone lane far f v) o.at) };
     }
 
 pub invariant_of-seat : goal.invariant_of-seat

@@ -1,4 +1,6 @@
 pub mod Ends
+pub mod HeldPairs
+pub mod HeldRing
 pub mod Identity
 pub mod Intakes
 pub mod Outlets

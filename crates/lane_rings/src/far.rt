@@ -1,13 +1,16 @@
 //! The holder's end of a lane.
 
-ghost use Rattle.std.specs.Prelude.{◌≡◌, ◌<◌, ◌≤◌, ◌+◌, [], ◌++◌, length, count_by, drop, take};
+ghost use Rattle.std.specs.Prelude.{◌≡◌, ◌<◌, ◌≤◌, ◌+◌, [], ◌++◌, length, count_by, drop, map, take};
 ghost use Rattle.evt_types.specs.Additions.{AreBeside, extras_of};
+ghost use Rattle.evt_types.specs.Event.{pair_of};
 ghost use Rattle.evt_types.specs.Operation.{is_answer};
 ghost use Rattle.evt_types.specs.declared.event.TheConstants.{MAX_EXTRAS};
 ghost use Rattle.rtrb.specs.Ring.{consumer_capacity, known_items, SameConsumer};
+ghost use Rattle.lane_rings.specs.HeldPairs.{holds};
 ghost use Rattle.lane_rings.specs.Intakes.{inside, handed};
 ghost use Rattle.lane_rings.specs.Outlets.{put_in};
 
+use crate::held_pairs::HeldPairs;
 use crate::intake::Intake;
 use crate::outlet::Outlet;
 use arrayvec::ArrayVec;
@@ -39,60 +42,71 @@ pub enum Refusal {
     Full,
 }
 
-/// The holder's end of a lane: it receives deliveries and answers. It knows how many deliveries it has not answered, and how many
+/// The holder's end of a lane: it receives deliveries and answers. It knows which deliveries it has not answered, and how many
 /// events it added beside the oldest of them.
 #[derive(Drop)]
 pub struct Far {
     pub(crate) deliveries: Intake<Delivery>,
     pub(crate) replies: Outlet<Reply>,
-    pub(crate) held: usize,
+    pub(crate) held: HeldPairs,
     pub(crate) extras: usize,
-    pub ghost held_is: { count_by is_answer (put_in replies) + held ≡ length (handed deliveries) },
-    ghost held_few: { held ≤ consumer_capacity deliveries.ring },
+    pub ghost held_is: { count_by is_answer (put_in replies) + length held.items ≡ length (handed deliveries) },
+    pub ghost held_are: { held.items ≡ map pair_of (drop (count_by is_answer (put_in replies)) (handed deliveries)) },
+    ghost held_few: { length held.items ≤ consumer_capacity deliveries.ring },
+    ghost held_room: { consumer_capacity deliveries.ring ≤ held.room },
     ghost all_received: { inside deliveries ≡ [] },
     ghost extras_are: { extras ≡ extras_of (put_in replies) },
     ghost extras_few: { extras ≤ MAX_EXTRAS },
     pub ghost beside: { AreBeside (length (handed deliveries)) (put_in replies) },
 }
 
-/// Hands out what was fetched. A delivery is read where it lies, and copied once.
-fn hand_out(from: &mut Intake<Delivery>, into: &mut ArrayVec<Delivery, 64>)
-    requires { length into.old.items + length (inside from.old) ≤ 64 }
+/// Hands out what was fetched, which is held then. A delivery is read where it lies, and copied once.
+fn hand_out(from: &mut Intake<Delivery>, held: &mut HeldPairs, into: &mut ArrayVec<Delivery, 64>)
+    requires into { length into.old.items + length (inside from.old) ≤ 64 }
+    requires held { length held.old.items + length (inside from.old) ≤ held.old.room }
     ensures ring { SameConsumer from.old.ring from.new.ring × (known_items from.new.ring ≡ known_items from.old.ring) }
     ensures handed { handed from.new ≡ handed from.old ++ inside from.old }
     ensures none { inside from.new ≡ [] }
+    ensures held { held.new.items ≡ held.old.items ++ map pair_of (inside from.old) }
+    ensures held_room { held.new.room ≡ held.old.room }
     ensures into { into.new.items ≡ into.old.items ++ inside from.old }
 {
     let batch = from.batch();
     let count = batch.len();
+    held.note(batch);
     for delivery in batch {
         into.push(*delivery);
     }
     from.skip(count);
 }
 
-/// Hands out the first delivery that the ring showed, of which nothing was fetched. It is copied once, and by no loop.
+/// Hands out the first delivery that the ring showed, of which nothing was fetched, and which is held then. It is copied once, and by
+/// no loop.
 #[inline(always)]
-fn hand_first(from: &mut Intake<Delivery>, into: &mut ArrayVec<Delivery, 64>)
+fn hand_first(from: &mut Intake<Delivery>, held: &mut HeldPairs, into: &mut ArrayVec<Delivery, 64>)
     requires room { length into.old.items < 64 }
+    requires held { length held.old.items < held.old.room }
     requires none { inside from.old ≡ [] }
     requires some { 0 < length (known_items from.old.ring) }
     ensures ring { SameConsumer from.old.ring from.new.ring }
     ensures handed { handed from.new ≡ handed from.old ++ take 1 (known_items from.old.ring) }
     ensures none { inside from.new ≡ [] }
     ensures known { known_items from.new.ring ≡ drop 1 (known_items from.old.ring) }
+    ensures held { held.new ≡ holds (held.old.items ++ map pair_of (take 1 (known_items from.old.ring))) held.old.room }
     ensures into { into.new.items ≡ into.old.items ++ take 1 (known_items from.old.ring) }
 {
-    into.push(*from.first_there());
+    let first = from.first_there();
+    held.note_one(first);
+    into.push(*first);
     from.pass_there();
 }
 
 impl Far {
-    ghost use Rattle.std.specs.Prelude.{◌≡◌, ◌≢◌, ◌<◌, ◌≤◌, ◌↔◌, ◌+◌, true, false, List, [], ◌∷◌, ◌++◌, length, drop, IsTrue, IsFalse, OnOk, IfOk, IfErr, IfNone, MatchOption, MatchResult};
+    ghost use Rattle.std.specs.Prelude.{◌≡◌, ◌≢◌, ◌<◌, ◌≤◌, ◌↔◌, ◌+◌, true, false, List, [], ◌∷◌, ◌++◌, length, drop, slice_get, IsTrue, IsFalse, OnOk, IfOk, IfErr, IfNone, MatchOption, MatchResult};
     ghost use Rattle.evt_types.specs.Additions.{more_after};
     ghost use Rattle.evt_types.specs.Operation.{is_answer, is_more_reply, needs_held};
     ghost use mathlib.Core.List.{IsPrefix};
-    ghost use Rattle.lane_rings.specs.Ends.{received_by, seen_deliveries, next_delivery, answered, hidden_answers, answers_among, unanswered, Comes};
+    ghost use Rattle.lane_rings.specs.Ends.{received_by, seen_deliveries, next_delivery, answered, hidden_answers, answers_among, unanswered, held_list, Comes};
     ghost use Rattle.lane_rings.specs.Identity.{far_id};
     ghost use Rattle.lane_rings.specs.Refusal.{RefusesAnswer, RefusesReply, reply_of};
 
@@ -117,7 +131,7 @@ impl Far {
         let first = self.deliveries.first()?;
         let delivery = *first;
         self.deliveries.next();
-        self.held += 1;
+        self.held.note_one(&delivery);
         Some(delivery)
     }
 
@@ -133,11 +147,10 @@ impl Far {
         ensures within { length (unanswered self.new) ≤ (far_id self.new).depth }
         ensures drained { length into.new.items < most → length (unanswered self.new) < (far_id self.new).depth → seen_deliveries self.new ≡ [] }
     {
-        let room = self.deliveries.ring.capacity() - self.held;
-        let before = into.len();
-        self.deliveries.look(room.min(most.saturating_sub(before)));
-        hand_out(&mut self.deliveries, into);
-        self.held += into.len() - before;
+        let room = self.deliveries.ring.capacity() - self.held.len();
+        self.deliveries
+            .look(room.min(most.saturating_sub(into.len())));
+        hand_out(&mut self.deliveries, &mut self.held, into);
     }
 
     /// As `receive_some`, where the array has fewer than `most`. Whether a delivery is seen then: all that lay in the ring as the call
@@ -159,8 +172,7 @@ impl Far {
             return false;
         }
         if there == 1 && !self.is_full() {
-            hand_first(&mut self.deliveries, into);
-            self.held += 1;
+            hand_first(&mut self.deliveries, &mut self.held, into);
             return false;
         }
         self.receive_row(most, into)
@@ -225,12 +237,12 @@ impl Far {
         ensures too_many { (result ≡ Err Refusal.TooMany) ↔ ((is_more_reply (reply_of event.now) ≡ true) × (unanswered self.old ≢ []) × (MAX_EXTRAS ≤ extras_of (answered self.old))) }
         ensures refused { IfErr result (RefusesReply self.old (reply_of event.now)) }
     {
-        let (held, extras) = self.after(event)?;
+        let (ended, extras) = self.after(event)?;
         if !self.replies.has_room() {
             return Err(Refusal::Full);
         }
         self.replies.gather(Reply { event: *event });
-        self.held = held;
+        self.held.skip(ended);
         self.extras = extras;
         Ok(())
     }
@@ -240,7 +252,7 @@ impl Far {
     pub fn holds_last(&self) -> bool
         ensures { IsTrue result ↔ ((length (unanswered self.now) ≡ 1) × (hidden_answers self.now ≡ [])) }
     {
-        self.held == 1 && self.replies.is_flushed()
+        self.held.len() == 1 && self.replies.is_flushed()
     }
 
     /// As `stage`, of an answer to the only delivery that is held, where nothing is gathered: the reply goes into the ring at once. The
@@ -263,35 +275,36 @@ impl Far {
             return Err(Refusal::Full);
         }
         self.replies.put_one(Reply { event: *event });
-        self.held = 0;
+        self.held.clear();
         self.extras = 0;
         Ok(())
     }
 
-    // How many deliveries are held, and how many events are beside the oldest, once the event's reply is given; or why it can't be.
+    // How many of the deliveries that are held the event's reply answers, and how many events are beside the oldest once it is given; or
+    // why it can't be.
     #[inline(always)]
     fn after(&self, event: &PackedEvent) -> Result<(usize, usize), Refusal>
-        ensures held { IfOk result (λ n. answers_among (reply_of event.now ∷ []) + n.0 ≡ self.now.held) }
+        ensures ended { IfOk result (λ n. (n.0 ≡ answers_among (reply_of event.now ∷ [])) × (n.0 ≤ length self.now.held.items)) }
         ensures extras { IfOk result (λ n. (n.1 ≡ more_after self.now.extras (reply_of event.now)) × (n.1 ≤ MAX_EXTRAS)) }
-        ensures may_add { IfOk result (λ n. is_more_reply (reply_of event.now) ≡ true → (0 < self.now.held) × (self.now.extras < MAX_EXTRAS)) }
-        ensures needs { IfOk result (λ n. needs_held (reply_of event.now) ≡ true → 0 < self.now.held) }
-        ensures nothing_held { (result ≡ Err Refusal.NothingHeld) ↔ ((needs_held (reply_of event.now) ≡ true) × (self.now.held ≡ 0)) }
-        ensures too_many { (result ≡ Err Refusal.TooMany) ↔ ((is_more_reply (reply_of event.now) ≡ true) × (0 < self.now.held) × (MAX_EXTRAS ≤ self.now.extras)) }
+        ensures may_add { IfOk result (λ n. is_more_reply (reply_of event.now) ≡ true → (0 < length self.now.held.items) × (self.now.extras < MAX_EXTRAS)) }
+        ensures needs { IfOk result (λ n. needs_held (reply_of event.now) ≡ true → 0 < length self.now.held.items) }
+        ensures nothing_held { (result ≡ Err Refusal.NothingHeld) ↔ ((needs_held (reply_of event.now) ≡ true) × (length self.now.held.items ≡ 0)) }
+        ensures too_many { (result ≡ Err Refusal.TooMany) ↔ ((is_more_reply (reply_of event.now) ≡ true) × (0 < length self.now.held.items) × (MAX_EXTRAS ≤ self.now.extras)) }
         ensures full { result ≢ Err Refusal.Full }
     {
         if event.is_new() {
-            return Ok((self.held, self.extras));
+            return Ok((0, self.extras));
         }
-        if self.held == 0 {
+        if self.held.len() == 0 {
             return Err(Refusal::NothingHeld);
         }
         if event.op() != Op::ForwardMore {
-            return Ok((self.held - 1, 0));
+            return Ok((1, 0));
         }
         if self.extras == MAX_EXTRAS {
             return Err(Refusal::TooMany);
         }
-        Ok((self.held, self.extras + 1))
+        Ok((0, self.extras + 1))
     }
 
     /// Puts all that was gathered into the ring, by one store: the scheduler sees it. Nothing that is seen at this end changes.
@@ -309,7 +322,16 @@ impl Far {
         ensures within { result ≤ (far_id self.now).depth }
         ensures fewer { answers_among (answered self.now) ≤ length (received_by self.now) }
     {
-        self.held
+        self.held.len()
+    }
+
+    /// The queue and the number of the oldest delivery that was received and not answered: the next answer ends it, and what is added is
+    /// added beside it. `None` where nothing is held.
+    #[inline(always)]
+    pub fn oldest(&self) -> Option<(usize, u64)>
+        ensures { result ≡ slice_get (held_list self.now) 0 }
+    {
+        self.held.get(0)
     }
 
     /// How many events were added beside the oldest delivery that is held: the FORWARD_MOREs since the last FORWARD or RELEASE.
@@ -327,6 +349,6 @@ impl Far {
         ensures full { IsTrue result ↔ (length (unanswered self.now) ≡ (far_id self.now).depth) }
         ensures room { result ≡ false → length (unanswered self.now) < (far_id self.now).depth }
     {
-        self.held == self.deliveries.ring.capacity()
+        self.held.len() == self.deliveries.ring.capacity()
     }
 }

@@ -3,6 +3,7 @@
 #![tactic(auto)]
 
 mod far;
+mod held_pairs;
 mod hints;
 mod intake;
 mod near;

@@ -2,14 +2,15 @@
 
 ghost use Rattle.std.specs.Prelude.{◌≡◌, ◌+◌, ◌≤◌, [], ◌++◌, length, max, IfOk};
 ghost use Rattle.evt_types.specs.Additions.{AreBeside};
-ghost use Rattle.lane_rings.specs.Ends.{offered, hidden_offers, taken, seen_replies, fetched_replies, received_by, seen_deliveries, answered, hidden_answers, answers_among, unanswered};
+ghost use Rattle.lane_rings.specs.Ends.{offered, hidden_offers, taken, seen_replies, fetched_replies, received_by, seen_deliveries, answered, hidden_answers, answers_among, held_list};
 ghost use Rattle.lane_rings.specs.Identity.{near_id, far_id};
 ghost use Rattle.lane_rings.specs.Intakes.{ahead, handed};
 ghost use Rattle.lane_rings.specs.Outlets.{put_in};
-ghost use Rattle.lane_rings.specs.Rest.{undelivered, untaken, held_in};
+ghost use Rattle.lane_rings.specs.Rest.{undelivered, untaken, held_pairs};
 ghost use Rattle.rtrb.specs.Ring.{IsPair, consumer_capacity, producer_capacity};
 
 use crate::far::Far;
+use crate::held_pairs::HeldPairs;
 use crate::intake::Intake;
 use crate::near::Near;
 use crate::outlet::Outlet;
@@ -45,6 +46,7 @@ pub fn lane(alloc: Global, depth: usize, replies: usize) -> Result<(Near, Far), 
 {
     let (offers, receipts) = ends_of(alloc, depth, Delivery::default())?;
     let (answers, takings) = ends_of(alloc, replies, Reply::default())?;
+    let held = HeldPairs::new(alloc, depth)?;
     let near = Near {
         deliveries: offers,
         replies: takings,
@@ -52,7 +54,7 @@ pub fn lane(alloc: Global, depth: usize, replies: usize) -> Result<(Near, Far), 
     let far = Far {
         deliveries: receipts,
         replies: answers,
-        held: 0,
+        held,
         extras: 0,
     };
     Ok((near, far))
@@ -66,7 +68,7 @@ pub fn beside(near: Near, far: Far) -> Beside
     ensures untaken { answered far ≡ taken near ++ untaken result }
     ensures room { (length (undelivered result) ≤ (near_id near).depth) × (length (untaken result) ≤ (near_id near).room + max 1 (near_id near).room) }
     ensures fetched { length (untaken result) ≤ (near_id near).room + length (fetched_replies near) }
-    ensures held { held_in result ≡ length (unanswered far) }
+    ensures held { held_pairs result ≡ held_list far }
     ensures fewer { answers_among (answered far) ≤ length (received_by far) }
     ensures beside { AreBeside (length (received_by far)) (answered far) }
 {

@@ -5,7 +5,7 @@ ghost use Rattle.std.specs.Prelude.{◌≡◌, [], IfOk};
 ghost use Rattle.lane_rings.specs.Ends.{offered, taken, seen_replies, received_by, seen_deliveries, answered};
 ghost use Rattle.lane_rings.specs.Identity.{near_id, far_id};
 
-use super::left::leaves;
+use super::left::{leaves, leaves_held};
 use super::made::{delivery, reply};
 use super::refusals::{fault_of, say};
 use arrayvec::ArrayVec;
@@ -60,7 +60,7 @@ struct Row {
     calls: &'static [Call],
     undelivered: &'static [u64],
     untaken: &'static [(Op, u64)],
-    held: usize,
+    held: &'static [u64],
 }
 
 static ROWS: [Row; 6] = [
@@ -79,7 +79,7 @@ static ROWS: [Row; 6] = [
         ],
         undelivered: &[],
         untaken: &[(Op::Release, 4)],
-        held: 0,
+        held: &[],
     },
     Row {
         name: "what is left",
@@ -103,7 +103,7 @@ static ROWS: [Row; 6] = [
         ],
         undelivered: &[9],
         untaken: &[(Op::Forward, 9)],
-        held: 2,
+        held: &[1, 2],
     },
     Row {
         name: "several refusals",
@@ -132,7 +132,7 @@ static ROWS: [Row; 6] = [
         ],
         undelivered: &[],
         untaken: &[(Op::Forward, 5)],
-        held: 1,
+        held: &[1],
     },
     // What is added leaves the oldest held; an answer ends it, and more may be added beside the next.
     Row {
@@ -174,7 +174,7 @@ static ROWS: [Row; 6] = [
             (Op::ForwardMore, 7),
             (Op::New, 9),
         ],
-        held: 1,
+        held: &[1],
     },
     // What is gathered isn't seen before the flush, and takes places of the ring; no more is received than may be held.
     Row {
@@ -194,7 +194,7 @@ static ROWS: [Row; 6] = [
         ],
         undelivered: &[2],
         untaken: &[],
-        held: 2,
+        held: &[0, 1],
     },
     // As many replies as were wanted come out of the ring, leave its places free, and are untaken until they are taken.
     Row {
@@ -217,7 +217,7 @@ static ROWS: [Row; 6] = [
         ],
         undelivered: &[],
         untaken: &[(Op::New, 1), (Op::New, 2), (Op::New, 3), (Op::New, 4)],
-        held: 0,
+        held: &[],
     },
 ];
 
@@ -334,10 +334,10 @@ fn ends_as(row: &Row, near: Near, far: Far) -> (Option<usize>, bool)
     let (mut near, mut far) = (near, far);
     let other = play(&mut near, &mut far, row.calls);
     let mut rests = beside(near, far);
-    (
-        other,
-        leaves(&mut rests, row.undelivered, row.untaken, row.held),
-    )
+    let is_counted = rests.held() == row.held.len();
+    let is_left = leaves(&mut rests, row.undelivered, row.untaken);
+    let is_held = leaves_held(&mut rests, row.held) && rests.next_held() == None;
+    (other, is_counted && is_left && is_held)
 }
 
 #[test]

@@ -1,6 +1,6 @@
 //! What is left in a lane. Deliveries are known by their numbers, and replies by their operation and number.
 
-use super::made::{delivery, reply};
+use super::made::{delivery, pair, reply};
 use evt_types::Op;
 use lane_rings::Beside;
 
@@ -24,12 +24,17 @@ fn leaves_untaken(rests: &mut Beside, replies: &[(Op, u64)]) -> bool {
     rests.next_untaken() == None
 }
 
-/// Whether this is left, and nothing else.
-pub(crate) fn leaves(
-    rests: &mut Beside,
-    undelivered: &[u64],
-    untaken: &[(Op, u64)],
-    held: usize,
-) -> bool {
-    leaves_undelivered(rests, undelivered) && leaves_untaken(rests, untaken) && rests.held() == held
+/// Whether these deliveries are the oldest that were received and not answered; they leave.
+pub(crate) fn leaves_held(rests: &mut Beside, numbers: &[u64]) -> bool {
+    for number in numbers {
+        if rests.next_held() != Some(pair(*number)) {
+            return false;
+        }
+    }
+    true
+}
+
+/// Whether these deliveries were offered and not received, and these replies given and not taken, and no others.
+pub(crate) fn leaves(rests: &mut Beside, undelivered: &[u64], untaken: &[(Op, u64)]) -> bool {
+    leaves_undelivered(rests, undelivered) && leaves_untaken(rests, untaken)
 }

@@ -20,6 +20,11 @@ pub(crate) fn delivery(number: u64) -> Delivery {
     Delivery::new(event(Op::New, 3, number), number)
 }
 
+/// Its queue and its number.
+pub(crate) fn pair(number: u64) -> (usize, u64) {
+    (3, number)
+}
+
 /// The reply of this number.
 pub(crate) fn reply(op: Op, number: u64) -> Reply {
     Reply {

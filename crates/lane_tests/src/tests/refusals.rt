@@ -3,16 +3,16 @@
 ghost use Rattle.std.specs.Prelude.{◌≡◌};
 ghost use Rattle.lane_rings.specs.Identity.{near_id, far_id};
 
-use super::left::leaves;
-use super::made::{delivery, reply};
+use super::left::{leaves, leaves_held};
+use super::made::{delivery, pair, reply};
 use evt_types::{Op, Reply};
-use lane_rings::{AnswerFault, Far, Memory, Near, Refusal, beside, lane};
+use lane_rings::{AnswerFault, Beside, Far, Memory, Near, Refusal, beside, lane};
 use std::alloc::Global;
 use std::test::Fail;
 
-/// How many replies the ring has room for, the deliveries that are received, the replies that are given, and how many of these were added
-/// beside the oldest that is held then.
-type Stand = (usize, &'static [u64], &'static [Op], usize);
+/// How many replies the ring has room for, the deliveries that are received, the replies that are given, how many of these were added
+/// beside the oldest that is held then, and the deliveries that are held then.
+type Stand = (usize, &'static [u64], &'static [Op], usize, &'static [u64]);
 
 /// Where a lane may stand when replies are refused, and which are, by the cause. Deliveries are known by their numbers; number 9 is
 /// offered and not received.
@@ -20,7 +20,6 @@ type Stand = (usize, &'static [u64], &'static [Op], usize);
 struct Row {
     name: &'static str,
     stands: &'static [Stand],
-    held: usize,
     refused: &'static [(Refusal, &'static [Op])],
 }
 
@@ -49,55 +48,49 @@ static ROWS: [Row; 6] = [
     Row {
         name: "nothing held",
         stands: &[
-            (2, &[], &[], 0),
-            (2, &[0], &[Op::Forward], 0),
-            (2, &[0], &[Op::Release], 0),
-            (3, &[0], &[Op::ForwardMore, Op::Forward], 0),
+            (2, &[], &[], 0, &[]),
+            (2, &[0], &[Op::Forward], 0, &[]),
+            (2, &[0], &[Op::Release], 0, &[]),
+            (3, &[0], &[Op::ForwardMore, Op::Forward], 0, &[]),
         ],
-        held: 0,
         refused: &[(Refusal::NothingHeld, OF_HELD)],
     },
     // Where the ring is full too, that nothing is held is the first cause.
     Row {
         name: "nothing held and no room",
         stands: &[
-            (2, &[], &[Op::New, Op::New], 0),
-            (2, &[0, 1], &[Op::Forward, Op::Release], 0),
-            (2, &[0, 1], &[Op::Release, Op::Forward], 0),
+            (2, &[], &[Op::New, Op::New], 0, &[]),
+            (2, &[0, 1], &[Op::Forward, Op::Release], 0, &[]),
+            (2, &[0, 1], &[Op::Release, Op::Forward], 0, &[]),
         ],
-        held: 0,
         refused: &[(Refusal::NothingHeld, OF_HELD), (Refusal::Full, &[Op::New])],
     },
     Row {
         name: "one held and no room",
         stands: &[
-            (2, &[0], &[Op::New, Op::New], 0),
-            (2, &[0, 1], &[Op::Forward, Op::New], 0),
-            (2, &[0, 1], &[Op::New, Op::Release], 0),
+            (2, &[0], &[Op::New, Op::New], 0, &[0]),
+            (2, &[0, 1], &[Op::Forward, Op::New], 0, &[1]),
+            (2, &[0, 1], &[Op::New, Op::Release], 0, &[1]),
         ],
-        held: 1,
         refused: &[(Refusal::Full, ALL)],
     },
     Row {
         name: "two held and no room",
         stands: &[
-            (2, &[0, 1], &[Op::New, Op::New], 0),
-            (2, &[0, 1], &[Op::ForwardMore, Op::ForwardMore], 2),
+            (2, &[0, 1], &[Op::New, Op::New], 0, &[0, 1]),
+            (2, &[0, 1], &[Op::ForwardMore, Op::ForwardMore], 2, &[0, 1]),
         ],
-        held: 2,
         refused: &[(Refusal::Full, ALL)],
     },
     Row {
         name: "four added",
-        stands: &[(5, &[0], FOUR, 4)],
-        held: 1,
+        stands: &[(5, &[0], FOUR, 4, &[0])],
         refused: &[(Refusal::TooMany, &[Op::ForwardMore])],
     },
     // Where the ring is full too, that too many were added is the first cause.
     Row {
         name: "four added and no room",
-        stands: &[(4, &[0], FOUR, 4), (6, &[0, 1], FOUR_LATER, 4)],
-        held: 1,
+        stands: &[(4, &[0], FOUR, 4, &[0]), (6, &[0, 1], FOUR_LATER, 4, &[1])],
         refused: &[
             (Refusal::TooMany, &[Op::ForwardMore]),
             (Refusal::Full, &[Op::New, Op::Forward, Op::Release]),
@@ -188,30 +181,50 @@ fn refused_reply(op: Op) -> Reply {
     reply(op, 7)
 }
 
-/// How many deliveries are held once number 9 was received too and the reply was accepted. An answer ends one, and where no more
-/// could be added the oldest was released before.
-fn held_then(row: &Row, refused: Refused) -> usize {
+/// How many of the deliveries that are held and of number 9, which comes behind them, are answered once the reply is accepted: one by an
+/// answer, and where no more could be added the oldest was released before.
+fn ended_by(refused: Refused) -> usize {
     let (op, refusal) = refused;
     let is_answer = matches!(op, Op::Forward | Op::Release);
-    let ended = usize::from(is_answer) + usize::from(refusal == Refusal::TooMany);
-    row.held.saturating_add(1).saturating_sub(ended)
+    usize::from(is_answer) + usize::from(refusal == Refusal::TooMany)
 }
 
-/// Whether as much is held as the row says, with as much added beside the oldest, and what is next in the ring of deliveries is not
-/// received.
-fn stands(far: &Far, row: &Row, stand: Stand) -> bool {
-    far.held() == row.held && far.extras() == stand.3 && !far.is_full()
+/// Of the deliveries that are held and of number 9, which comes behind them, the one behind so many.
+fn held_behind(held: &[u64], count: usize) -> Option<(usize, u64)> {
+    match held.get(count) {
+        Some(number) => Some(pair(*number)),
+        None if count == held.len() => Some(pair(9)),
+        None => None,
+    }
+}
+
+/// Whether the deliveries behind so many are left as held, with number 9 behind them, and no others.
+fn leaves_behind(rests: &mut Beside, held: &[u64], count: usize) -> bool {
+    if count > held.len() {
+        return rests.held() == 0 && rests.next_held() == None;
+    }
+    let rest = &held[count..];
+    rests.held() == rest.len() + 1
+        && leaves_held(rests, rest)
+        && rests.next_held() == Some(pair(9))
+        && rests.next_held() == None
+}
+
+/// Whether as much is held as is said, the oldest of it first, with as much added beside that, and what is next in the ring of deliveries
+/// is not received.
+fn stands(far: &Far, stand: Stand) -> bool {
+    let (_, _, _, extras, held) = stand;
+    let oldest = held.first().map(|number| pair(*number));
+    far.held() == held.len() && far.oldest() == oldest && far.extras() == extras && !far.is_full()
 }
 
 /// Whether the reply is refused for its cause, and what is held is the same before and after.
-fn refuses(far: &mut Far, row: &Row, stand: Stand, refused: Refused, gathers: bool) -> bool
+fn refuses(far: &mut Far, stand: Stand, refused: Refused, gathers: bool) -> bool
     ensures { far_id far.new ≡ far_id far.old }
 {
     let (op, refusal) = refused;
     let said = Err(fault_of(refusal, refused_reply(op)));
-    stands(far, row, stand)
-        && say(far, refused_reply(op), gathers) == said
-        && stands(far, row, stand)
+    stands(far, stand) && say(far, refused_reply(op), gathers) == said && stands(far, stand)
 }
 
 /// Where no more may be added beside the oldest that is held, that is released; whether the release is taken.
@@ -226,8 +239,8 @@ fn makes_way(near: &mut Near, far: &mut Far, refusal: Refusal) -> bool
     answered == Ok(()) && far.extras() == 0 && near.take() == Some(reply(Op::Release, 6))
 }
 
-/// Whether number 9 is received now, and the reply that was refused is accepted and is all that is taken.
-fn goes_on(near: &mut Near, far: &mut Far, refused: Refused) -> bool
+/// Whether number 9 is received now, and the reply that was refused is accepted and is all that is taken; then the next is the oldest.
+fn goes_on(near: &mut Near, far: &mut Far, stand: Stand, refused: Refused) -> bool
     ensures near { near_id near.new ≡ near_id near.old }
     ensures far { far_id far.new ≡ far_id far.old }
 {
@@ -236,6 +249,7 @@ fn goes_on(near: &mut Near, far: &mut Far, refused: Refused) -> bool
         return false;
     }
     far.answer(refused_reply(op)) == Ok(())
+        && far.oldest() == held_behind(stand.4, ended_by(refused))
         && near.take() == Some(refused_reply(op))
         && near.take() == None
 }
@@ -245,7 +259,7 @@ fn comes(near: &mut Near, far: &mut Far, stand: Stand, turns: u64, gathers: bool
     ensures near { near_id near.new ≡ near_id near.old }
     ensures far { far_id far.new ≡ far_id far.old }
 {
-    let (_, received, given, _) = stand;
+    let (_, received, given, _, _) = stand;
     turn(near, far, turns)
         && deliver(near, far, received)
         && give(far, given, gathers)
@@ -253,26 +267,28 @@ fn comes(near: &mut Near, far: &mut Far, stand: Stand, turns: u64, gathers: bool
 }
 
 /// Brings a lane there, after so many turns and with replies gathered or not, has the reply refused, takes what was given before it,
-/// and goes on; whether all is as the row says.
-fn plays(ends: (Near, Far), row: &Row, stand: Stand, refused: Refused, way: (u64, bool)) -> bool
+/// and goes on; whether all is as is said.
+fn plays(ends: (Near, Far), stand: Stand, refused: Refused, way: (u64, bool)) -> bool
     requires { near_id ends.0 ≡ far_id ends.1 }
 {
     let (mut near, mut far) = ends;
     let (turns, gathers) = way;
     let is_there = comes(&mut near, &mut far, stand, turns, gathers);
-    let is_refused = refuses(&mut far, row, stand, refused, gathers);
+    let is_refused = refuses(&mut far, stand, refused, gathers);
     far.flush();
-    let is_next = take(&mut near, stand.2) && goes_on(&mut near, &mut far, refused);
+    let is_next = take(&mut near, stand.2) && goes_on(&mut near, &mut far, stand, refused);
     let mut rests = beside(near, far);
-    is_there && is_refused && is_next && leaves(&mut rests, &[], &[], held_then(row, refused))
+    let is_left = leaves(&mut rests, &[], &[])
+        && leaves_behind(&mut rests, stand.4, ended_by(refused));
+    is_there && is_refused && is_next && is_left
 }
 
 /// The same over the places at which a ring begins, and with what was given in the ring, or gathered.
-fn plays_each(alloc: Global, row: &Row, stand: Stand, refused: Refused) -> Result<bool, Memory> {
+fn plays_each(alloc: Global, stand: Stand, refused: Refused) -> Result<bool, Memory> {
     for turns in 0..4 {
         for gathers in [false, true] {
             let ends = lane(alloc, DEPTH, stand.0)?;
-            if !plays(ends, row, stand, refused, (turns, gathers)) {
+            if !plays(ends, stand, refused, (turns, gathers)) {
                 return Ok(false);
             }
         }
@@ -280,16 +296,15 @@ fn plays_each(alloc: Global, row: &Row, stand: Stand, refused: Refused) -> Resul
     Ok(true)
 }
 
-/// The same for each of these replies: the first that doesn't go as the row says.
+/// The same for each of these replies: the first that doesn't go as is said.
 fn other_of(
     alloc: Global,
-    row: &Row,
     stand: Stand,
     refusal: Refusal,
     ops: &[Op],
 ) -> Result<Option<Op>, Memory> {
     for op in ops {
-        if !plays_each(alloc, row, stand, (*op, refusal))? {
+        if !plays_each(alloc, stand, (*op, refusal))? {
             return Ok(Some(*op));
         }
     }
@@ -301,7 +316,7 @@ fn a_refused_reply_changes_nothing(rt: HostRuntime) -> Result<(), Fail> {
     for row in &ROWS {
         for stand in row.stands {
             for (refusal, ops) in row.refused {
-                let other = other_of(rt.alloc(), row, *stand, *refusal, ops)?;
+                let other = other_of(rt.alloc(), *stand, *refusal, ops)?;
                 let (name, given) = (row.name, stand.2.len());
                 assert_eq!(rt; other, None, "{name}, {given} given");
             }

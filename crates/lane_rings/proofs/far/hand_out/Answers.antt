@@ -8,7 +8,7 @@ loop-delivery-init c = sym (append-nil c.args.into.now.items)
 pub push-requires : goal.push-requires
 push-requires c = (
   omega arith,
-  omega (arith, c.requires, ap length c.batch-batch.ensures, c.loop-delivery-test.true, ap length c.loop-delivery.invariant, length-append c.args.into.now.items (take c.loop-delivery.delivery-index c.batch-batch.result.now), length-take c.loop-delivery.delivery-index c.batch-batch.result.now),
+  omega (arith, c.requires.into, ap length c.batch-batch.ensures, c.loop-delivery-test.true, ap length c.loop-delivery.invariant, length-append c.args.into.now.items (take c.loop-delivery.delivery-index c.batch-batch.result.now), length-take c.loop-delivery.delivery-index c.batch-batch.result.now),
 )
 
 pub loop-delivery-preserved : goal.loop-delivery-preserved

@@ -6,6 +6,8 @@ use Rattle.evt_types.specs.Additions.{AreBeside, extras_of}
 use Rattle.lane_rings.specs.Ends.{answers_among}
 use Rattle.lane_rings.specs.Intakes.{handed, inside}
 use Rattle.lane_rings.proofs.Handing.{none-first, none-last}
+use Rattle.lane_rings.specs.Outlets.{put_in}
+use Rattle.lane_rings.proofs.HeldPairs.{none_are}
 use Rattle.lane_rings.proofs.pair.lane.Goals as goal
 
 pub invariant_of-far : goal.invariant_of-far
@@ -13,8 +15,10 @@ invariant_of-far c =
     let receipts = c.in_ok-offers.receipts in
     let none = c.in_ok-answers.ensures.writing.0 in
     record {
-      held_is = omega (arith, ap answers_among none, ap length c.in_ok-offers.ensures.reading.0);
-      held_few = omega arith;
+      held_is = omega (arith, ap answers_among none, ap length c.in_ok-offers.ensures.reading.0, ap length c.in_ok-held.ensures.0);
+      held_are = none_are (answers_among (put_in c.in_ok-answers.answers)) (handed receipts) _ c.in_ok-held.ensures.0 (omega (arith, ap length c.in_ok-offers.ensures.reading.0));
+      held_few = omega (arith, ap length c.in_ok-held.ensures.0);
+      held_room = omega (arith, c.in_ok-held.ensures.1, c.in_ok-offers.ensures.reading.2);
       all_received = none-first (inside receipts) (known_items receipts.ring) c.in_ok-offers.ensures.reading.1;
       extras_are = sym (ap extras_of none);
       extras_few = omega arith;

@@ -1,17 +1,25 @@
 -- The only delivery in the ring is handed out, and held.
-use Rattle.std.proofs.Common.{◌≤◌, ◌∙◌, ◌++◌, ap, arith, length, length-append, length-drop, drop, refl, subst, sym, take}
+use Rattle.std.proofs.Common.{◌≤◌, ◌∙◌, ◌++◌, ap, arith, length, length-append, length-drop, drop, map, refl, subst, sym, take}
 use Rattle.std.proofs.Math.Seq.{drop-append-le}
-use Rattle.std.proofs.lemmas.List.{length-take}
+use Rattle.std.proofs.lemmas.List.{length-map, length-take}
 use Rattle.rtrb.specs.Ring.{known_items}
 use Rattle.evt_types.proofs.Additions.{beside-kept}
 use Rattle.evt_types.specs.Additions.{AreBeside}
+use Rattle.evt_types.specs.Event.{pair_of}
 use Rattle.lane_rings.specs.Ends.{answered, answers_among, received_by}
+use Rattle.lane_rings.specs.HeldPairs.{Held}
 use Rattle.lane_rings.specs.Intakes.{handed, inside}
+use Rattle.lane_rings.proofs.HeldPairs.{more_are}
 use Rattle.lane_rings.proofs.Singles.{none-seen}
 use Rattle.lane_rings.proofs.far.Far.receive_waiting.Goals as goal
 
 pub invariant_of-self-clause-held_is : goal.invariant_of-self-clause-held_is
 invariant_of-self-clause-held_is c = c.args.self.now.held_is ∙ sym (ap length c.there-there.ensures.handed.0)
+
+pub invariant_of-self-clause-held_are : goal.invariant_of-self-clause-held_are
+invariant_of-self-clause-held_are c =
+    let old = c.args.self.now in
+    old.held_are ∙ ap (λ ds. map pair_of (drop (answers_among (answered old)) ds)) (sym c.there-there.ensures.handed.0)
 
 pub invariant_of-self-clause-beside : goal.invariant_of-self-clause-beside
 invariant_of-self-clause-beside c = subst (λ ds. AreBeside (length ds) (answered c.args.self.now)) (sym c.there-there.ensures.handed.0) c.args.self.now.beside
@@ -27,7 +35,16 @@ invariant_of-self-then-not-is_full-clause-held_is c =
       length-append (handed c.there-there.new.self) (take 1 known),
       length-take 1 known,
       c.there-there.ensures.value,
+      ap (λ (h : Held). length h.items) c.hand_first.ensures.held,
+      length-append c.args.self.now.held.items (map pair_of (take 1 known)),
+      length-map (take 1 known) pair_of,
     )
+
+pub invariant_of-self-then-not-is_full-clause-held_are : goal.invariant_of-self-then-not-is_full-clause-held_are
+invariant_of-self-then-not-is_full-clause-held_are c =
+    let old = c.args.self.now in
+    let one = take 1 (known_items c.there-there.new.self.ring) in
+    more_are (answers_among (answered old)) (received_by old) one _ _ _ old.held_are (omega (arith, old.held_is)) (ap (λ (h : Held). h.items) c.hand_first.ensures.held) (c.hand_first.ensures.handed ∙ ap (λ ds. ds ++ one) c.there-there.ensures.handed.0)
 
 pub invariant_of-self-then-not-is_full-clause-beside : goal.invariant_of-self-then-not-is_full-clause-beside
 invariant_of-self-then-not-is_full-clause-beside c =

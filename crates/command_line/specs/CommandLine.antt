@@ -1,14 +1,24 @@
 -- What a command line asks for, and the statuses of one that isn't a choice.
 use Rattle.std.specs.Prelude.{◌≡◌, ◌≤◌, ℕ, ◌⊎◌}
-use Rattle.command_line.specs.declared.words.TheConstants.{HELP, REFUSED, NO_MEMORY}
+use Rattle.play_documents.specs.Numbers.{fewest_workers, most_workers}
 use Rattle.command_line.specs.declared.options.Choice.{Choice}
 use Rattle.command_line.specs.declared.options.Choice.TheVariants.{Play, Run}
 
+-- the statuses after help, after words that are refused, and where memory ran out
+abbrev pub helped : ℕ
+helped = 0
+
+abbrev pub refused : ℕ
+refused = 2
+
+abbrev pub no_memory : ℕ
+no_memory = 5
+
 -- help, words that are refused, or want of memory
 abbrev pub IsStatus : ℕ → Type 0
-IsStatus s = (s ≡ HELP) ⊎ (s ≡ REFUSED) ⊎ (s ≡ NO_MEMORY)
+IsStatus s = (s ≡ helped) ⊎ (s ≡ refused) ⊎ (s ≡ no_memory)
 
--- a run has from 1 to 8 workers
+-- a run has as many workers as a run may have
 abbrev pub HasFewWorkers : Choice → Type 0
 HasFewWorkers Play = Unit {0}
-HasFewWorkers (Run n) = (1 ≤ n) × (n ≤ 8)
+HasFewWorkers (Run n) = (fewest_workers ≤ n) × (n ≤ most_workers)

@@ -5,6 +5,7 @@
 mod fault;
 mod fault_text;
 mod input;
+mod numbers;
 mod options;
 mod output;
 mod words;
@@ -12,6 +13,7 @@ mod words;
 pub use fault::AppFault;
 pub use fault_text::fault_line;
 pub use input::read_all;
+pub use numbers::numbers_are_defined;
 pub use options::Choice;
 pub use output::write_text;
 pub use words::choice;

@@ -1,7 +1,8 @@
 //! The reading of a command line.
 
 ghost use Rattle.std.specs.Prelude.{◌≡◌, ◌⊎◌, ◌≤◌, IfOk, IfErr, OnOk, Err};
-ghost use Rattle.command_line.specs.CommandLine.{HasFewWorkers, IsStatus};
+ghost use Rattle.command_line.specs.CommandLine.{HasFewWorkers, IsStatus, no_memory};
+ghost use Rattle.play_documents.specs.Numbers.{fewest_workers, most_workers};
 
 use crate::options::Choice;
 use clap::error::ErrorKind;
@@ -9,11 +10,11 @@ use clap::{Arg, ArgMatches, Command, Error, value_parser};
 use std::alloc::{AllocError, Global};
 
 /// The status after help, and after words that are refused.
-const HELP: u8 = 0;
+pub(crate) const HELP: u8 = 0;
 
-const REFUSED: u8 = 2;
+pub(crate) const REFUSED: u8 = 2;
 /// The status after an allocation that was refused.
-const NO_MEMORY: u8 = 5;
+pub(crate) const NO_MEMORY: u8 = 5;
 
 /// The subcommand that runs a pipeline.
 const RUN: &str = "run";
@@ -22,9 +23,9 @@ const RUN: &str = "run";
 const WORKERS: &str = "workers";
 
 /// The fewest and the most workers that a run may have.
-const MIN_WORKERS: u32 = 1;
+pub(crate) const MIN_WORKERS: u32 = 1;
 
-const MAX_WORKERS: u32 = 8;
+pub(crate) const MAX_WORKERS: u32 = 8;
 
 /// How many a run has where the words don't say.
 const DEFAULT_WORKERS: &str = "2";
@@ -86,7 +87,7 @@ fn command<'a>(alloc: Global) -> Result<Command<'a>, AllocError> {
 /// The number of workers of a run. clap has refused any other; the bounds stand here too, so that what is promised doesn't rest on
 /// a parser.
 fn workers(options: &ArgMatches) -> u32
-    ensures { (MIN_WORKERS ≤ result) × (result ≤ MAX_WORKERS) }
+    ensures { (fewest_workers ≤ result) × (result ≤ most_workers) }
 {
     options
         .get_one(WORKERS)
@@ -109,7 +110,7 @@ fn chosen(words: &ArgMatches) -> Choice
 /// Puts what clap prints into `text`, and gives the status.
 fn refused(alloc: Global, error: &Error, text: &mut String) -> u8
     ensures status { IsStatus result }
-    ensures memory { result ≡ NO_MEMORY → text.new ≡ text.old }
+    ensures memory { result ≡ no_memory → text.new ≡ text.old }
 {
     if error.kind() == ErrorKind::OutOfMemory {
         return NO_MEMORY;
@@ -127,7 +128,7 @@ pub fn choice(alloc: Global, words: &[&str], text: &mut String) -> Result<Choice
     ensures ok { OnOk result (text.new ≡ text.old) }
     ensures workers { IfOk result HasFewWorkers }
     ensures status { IfErr result IsStatus }
-    ensures memory { result ≡ Err NO_MEMORY → text.new ≡ text.old }
+    ensures memory { result ≡ Err no_memory → text.new ≡ text.old }
 {
     let Ok(command) = command(alloc) else {
         return Err(NO_MEMORY);

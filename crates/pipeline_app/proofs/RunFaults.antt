@@ -5,15 +5,15 @@ use Rattle.command_line.specs.Input.{IsInputFault}
 use Rattle.command_line.specs.declared.fault.AppFault.{AppFault}
 use Rattle.command_line.specs.declared.fault.AppFault.TheVariants.{Read, Write, Document, Memory, NoSeat, Strayed}
 use Rattle.play_documents.specs.Document.{IsNamedDoc}
-use Rattle.play_documents.specs.declared.document.TheConstants.{MAX_INPUT}
+use Rattle.play_documents.specs.Numbers.{most_input}
 use Rattle.play_documents.specs.declared.fault.DocFault.{DocFault}
 use Rattle.play_documents.specs.declared.fault.DocFault.TheVariants.{TooLong}
 use Rattle.pipeline_app.specs.Runs.{IsEarlyFault, IsRunFault}
 use Rattle.run_documents.specs.Pipelines.{Planned, pipeline_of}
 
-too_long : (workers : ℕ) (input : List ℕ) → MAX_INPUT < length input → pipeline_of workers input ≡ Err TooLong
+too_long : (workers : ℕ) (input : List ℕ) → most_input < length input → pipeline_of workers input ≡ Err TooLong
 unfolding pipeline_of
-too_long workers input h = rw (lt-ltb MAX_INPUT (length input) h) refl
+too_long workers input h = rw (lt-ltb most_input (length input) h) refl
 
 long_named : (f : DocFault) → f ≡ TooLong → IsNamedDoc f
 long_named f e = subst IsNamedDoc (sym e) tt

@@ -11,9 +11,9 @@ use Rattle.play_documents.specs.Command.{Line, line_of}
 use Rattle.play_documents.specs.Drafts.{plan_asked}
 use Rattle.play_documents.specs.Field.{value_or}
 use Rattle.play_documents.specs.Judge.{first_fault}
+use Rattle.play_documents.specs.Numbers.{most_input}
 use Rattle.play_documents.specs.Script.{script_of}
 use Rattle.play_documents.specs.Survey.{SurveySeen, survey_of}
-use Rattle.play_documents.specs.declared.document.TheConstants.{MAX_INPUT}
 use Rattle.play_documents.specs.declared.document.Document.{Document}
 use Rattle.play_documents.specs.declared.fault.ReadFault.{ReadFault}
 use Rattle.play_documents.specs.declared.fault.ReadFault.TheVariants as reads
@@ -52,7 +52,7 @@ parsed bytes = if is_utf8 bytes then table_or_fault (parse_document bytes) else 
 
 -- the table of bytes that aren't too many
 abbrev pub table_of : List ℕ → Result Members DocFault
-table_of bytes = if nat_lt MAX_INPUT (length bytes) then Err doc.TooLong else parsed bytes
+table_of bytes = if nat_lt most_input (length bytes) then Err doc.TooLong else parsed bytes
 
 -- the rows, unless they show a fault
 abbrev pub unless_fault : {A : Type 0} → Option DocFault → Result A DocFault → Result A DocFault

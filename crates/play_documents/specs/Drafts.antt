@@ -5,15 +5,15 @@ use Rattle.evt_types.specs.declared.draft.QueueDraft.{QueueDraft}
 use Rattle.evt_types.specs.declared.draft.Serving.TheVariants.{Ports}
 use Rattle.evt_types.specs.declared.event.Kind.TheVariants.{Atomic}
 use Rattle.play_documents.specs.Field.{value_or, rows}
+use Rattle.play_documents.specs.Numbers.{normal_priority}
 use Rattle.play_documents.specs.Survey.{PortSeen, SurveySeen}
-use Rattle.play_documents.specs.declared.drafts.TheConstants.{NORMAL_PRIORITY}
 use Rattle.play_documents.specs.declared.survey.DeviceRow.{DeviceRow}
 use Rattle.play_documents.specs.declared.survey.QueueRow.{QueueRow}
 
 -- a queue and a port
 abbrev pub queue_asked : QueueRow → QueueDraft
 queue_asked q =
-    record { kind = value_or Atomic q.kind; priority = value_or NORMAL_PRIORITY q.priority; slots = value_or 0 q.slots; order = value_or 0 q.order; single = value_or false q.single }
+    record { kind = value_or Atomic q.kind; priority = value_or normal_priority q.priority; slots = value_or 0 q.slots; order = value_or 0 q.order; single = value_or false q.single }
 
 abbrev pub port_asked : PortSeen → PortPlan
 port_asked p =

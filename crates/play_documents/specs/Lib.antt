@@ -4,6 +4,7 @@ pub mod Drafts
 pub mod Field
 pub mod Judge
 pub mod Lines
+pub mod Numbers
 pub mod Script
 pub mod Survey
 pub mod Words

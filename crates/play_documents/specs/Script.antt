@@ -2,15 +2,14 @@
 use Rattle.std.specs.Prelude.{ℕ, ◌-◌, ◌^◌, ◌==◌, List, [], ◌∷◌, codes, Option, Some, None, option_map, option_and_then, Result, if◌then◌else◌}
 use Rattle.std.specs.List.{slice_split}
 use Rattle.play_documents.specs.Command.{Line, Enqueue, Dequeue, Sweep, Shut, event_fields, release_fields}
-use Rattle.evt_types.specs.declared.event.TheConstants.{MAX_FLOWS}
 use Rattle.evt_types.specs.declared.event.Op.{Op}
 use Rattle.evt_types.specs.declared.event.Op.TheVariants as ops
 use Rattle.play_documents.specs.Field.{is_text}
 use Rattle.play_documents.specs.Lines.{lines_of}
+use Rattle.play_documents.specs.Numbers.{flows, most_byte, most_dequeue}
 use Rattle.play_documents.specs.Words.{number, port_number}
 use Rattle.play_documents.specs.declared.fault.DocFault.{DocFault}
 use Rattle.play_documents.specs.declared.fault.DocFault.TheVariants.{BadCommand}
-use Rattle.play_documents.specs.declared.script.TheConstants.{MAX_BYTE, MAX_DEQUEUE}
 
 infixl 10 ◌>>=◌
 abbrev pub ◌>>=◌ : {A B : Type 0} → Option A → (A → Option B) → Option B
@@ -26,9 +25,9 @@ entry_op name =
 unfoldable pub event_line : Op → ℕ → List ℕ → List ℕ → List ℕ → List ℕ → List ℕ → Option Line
 event_line op ports p q flow prio payload = do
   port ← port_number ports p
-  queue ← number MAX_BYTE q
-  flow ← number (MAX_FLOWS - 1) flow
-  priority ← number MAX_BYTE prio
+  queue ← number most_byte q
+  flow ← number (flows - 1) flow
+  priority ← number most_byte prio
   payload ← number (2 ^ 64 - 1) payload
   Some (Enqueue port (event_fields op queue flow priority payload))
 
@@ -40,7 +39,7 @@ release_line ports p = option_map (λ port. Enqueue port release_fields) (port_n
 unfoldable pub dequeue_line : ℕ → List ℕ → List ℕ → Option Line
 dequeue_line ports p most = do
   port ← port_number ports p
-  max ← number MAX_DEQUEUE most
+  max ← number most_dequeue most
   Some (Dequeue port max)
 
 -- the command of a line's words

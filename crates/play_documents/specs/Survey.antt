@@ -7,9 +7,9 @@ use Rattle.evt_types.specs.declared.draft.Serving.TheVariants as servings
 use Rattle.evt_types.specs.declared.event.Kind.{Kind}
 use Rattle.evt_types.specs.declared.event.Kind.TheVariants as kinds
 use Rattle.play_documents.specs.Field.{field_map, number_at, flag_at, text_at, numbers_at, tables_at, is_text, knows}
+use Rattle.play_documents.specs.Numbers.{most_byte}
 use Rattle.play_documents.specs.declared.field.Field.{Field}
 use Rattle.play_documents.specs.declared.field.Field.TheVariants.{Absent, Bad, Good}
-use Rattle.play_documents.specs.declared.script.TheConstants.{MAX_BYTE}
 use Rattle.play_documents.specs.declared.survey.DeviceRow.{DeviceRow}
 use Rattle.play_documents.specs.declared.survey.PortRow.{PortRow}
 use Rattle.play_documents.specs.declared.survey.QueueRow.{QueueRow}
@@ -93,7 +93,7 @@ queue_row ms =
     record {
       known = knows (codes "kind" ∷ codes "priority" ∷ codes "slots" ∷ codes "order" ∷ codes "single" ∷ []) ms;
       kind = kind_at (codes "kind") ms;
-      priority = number_at MAX_BYTE (codes "priority") ms;
+      priority = number_at most_byte (codes "priority") ms;
       slots = number_at (2 ^ 32 - 1) (codes "slots") ms;
       order = number_at (2 ^ 32 - 1) (codes "order") ms;
       single = flag_at (codes "single") ms;

@@ -14,7 +14,7 @@ use evt_types::{Draft, Kind, PortDraft, QueueDraft, Serving};
 use std::alloc::{AllocError, Global};
 
 /// The priority of a queue that names none.
-const NORMAL_PRIORITY: u8 = 128;
+pub(crate) const NORMAL_PRIORITY: u8 = 128;
 
 /// What a queue's row asks for.
 pub fn queue_draft(row: &QueueRow) -> QueueDraft

@@ -39,10 +39,10 @@ pub enum DocFault {
     LimitTight,
     /// The script's line of this number, counted from 1, is no command.
     #[error("line {0} of the script is no command")]
-    BadCommand(u64),
+    BadCommand(u32),
     /// The trace's line of this number, counted from 1, is no event.
     #[error("line {0} of the trace is no event")]
-    BadTrace(u64),
+    BadTrace(u32),
 }
 
 /// Why the reading of a document ends without one.

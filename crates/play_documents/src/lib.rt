@@ -7,6 +7,7 @@ mod drafts;
 mod fault;
 pub mod field;
 mod judge;
+mod numbers;
 mod script;
 mod survey;
 pub mod words;
@@ -16,4 +17,5 @@ pub use document::{Document, MAX_INPUT, checked, read_document, shape_fault, tab
 pub use drafts::{device_draft, queue_draft};
 pub use fault::{DocFault, ReadFault};
 pub use judge::{has_bad_device, has_bad_queue, misses_device, misses_queue, rows_fault};
+pub use numbers::numbers_are_defined;
 pub use survey::{DeviceRow, QueueRow, device_row, queue_row};

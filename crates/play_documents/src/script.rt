@@ -7,14 +7,14 @@ ghost use Rattle.play_documents.specs.Script.{command_of, entry_op, line_command
 
 use crate::command::Command;
 use crate::fault::{DocFault, ReadFault};
-use crate::words::{lines, number, port_number, without_carriage_return, words};
+use crate::words::{lines, next_line, number, port_number, without_carriage_return, words};
 use evt_types::{Event, MAX_FLOWS, Op};
 use std::alloc::{AllocError, Global};
 
 /// The most events that a dequeue may ask for.
-const MAX_DEQUEUE: u64 = 64;
+pub(crate) const MAX_DEQUEUE: u64 = 64;
 /// The highest number of a queue, and the lowest priority.
-const MAX_BYTE: u64 = 255;
+pub(crate) const MAX_BYTE: u64 = 255;
 
 /// The operation of a command that brings an event.
 fn entry_op(name: &str) -> Option<Op>
@@ -126,9 +126,9 @@ pub fn read_script(alloc: Global, ports: usize, script: &str) -> Result<Vec<Comm
 {
     let lines = lines(alloc, script)?;
     let mut commands = Vec::new(alloc);
-    let mut number = 0u64;
+    let mut number = 0u32;
     for line in &lines {
-        number += 1;
+        number = next_line(number)?;
         let line = without_carriage_return(line);
         if line.is_empty() {
             continue;

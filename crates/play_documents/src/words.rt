@@ -1,6 +1,6 @@
 //! The lines of a script, their words, and the numbers in them.
 
-ghost use Rattle.std.specs.Prelude.{◌≡◌, ◌==◌, ◌≤◌, ◌<◌, map, IfOk, IfSome};
+ghost use Rattle.std.specs.Prelude.{◌≡◌, ◌==◌, ◌≤◌, ◌<◌, ◌+◌, ◌^◌, map, IfOk, OnErr, IfSome};
 ghost use Rattle.std.specs.Char.{is_ascii_digit};
 ghost use Rattle.std.specs.List.{list_all, slice_split};
 ghost use Rattle.std.specs.Str.Lines.{strip_carriage_return};
@@ -13,6 +13,14 @@ pub fn lines(alloc: Global, text: &str) -> Result<Vec<&str>, AllocError>
     ensures { IfOk result (λ v. map (λ s. s.now) v.items ≡ slice_split (λ b. b == 10) text.now) }
 {
     text.split('\n').collect(alloc)
+}
+
+/// The number of the line after this one. Want of memory is answered only where no `u32` is higher; no document is so long.
+pub fn next_line(line: u32) -> Result<u32, AllocError>
+    ensures next { IfOk result (λ n. n ≡ line + 1) }
+    ensures last { OnErr result (line + 1 ≡ 2 ^ 32) }
+{
+    line.checked_add(1).ok_or(AllocError)
 }
 
 /// The words of a line: what stands between its spaces.

@@ -4,8 +4,8 @@ use Rattle.std.specs.Prelude.{All, IfOk}
 use Rattle.std.proofs.lemmas.Bool.{ltb-false}
 use Rattle.evt_types.proofs.Limits.{within}
 use Rattle.evt_types.specs.Fault.{IsWithinLimits}
+use Rattle.evt_types.specs.Limits.{most_queues}
 use Rattle.evt_types.specs.Plan.{Plan}
-use Rattle.evt_types.specs.declared.shape.TheConstants.{MAX_QUEUES}
 use Rattle.pipeline_laws.specs.Pipeline.{IsProper}
 use Rattle.pipeline_laws.specs.Worked.{IsStaged}
 use Rattle.pipeline_laws.specs.declared.stage.Action.{Action}
@@ -23,7 +23,7 @@ use Rattle.run_documents.specs.declared.pipeline.Pipeline.{Pipeline}
 pub record IsReady (workers : ℕ) (x : Planned) : Type 0 where
   pub staged : IsStaged x.plan x.actions
   pub proper : All IsProper x.actions
-  pub some : (1 ≤ length x.actions) × (length x.actions ≤ MAX_QUEUES)
+  pub some : (1 ≤ length x.actions) × (length x.actions ≤ most_queues)
   pub ports : HasWorkers workers x.plan
   pub room : 2 * x.plan.quantum * (workers + 1) ≤ x.plan.limit
 
@@ -31,7 +31,7 @@ has_room : (workers : ℕ) (p : Plan) → is_tight workers p ≡ false → 2 * p
 unfolding is_tight
 has_room workers p roomy = ltb-false p.limit (2 * p.quantum * (workers + 1)) roomy
 
-as_many : (x : Planned) → IsStaged x.plan x.actions → IsWithinLimits x.plan → (1 ≤ length x.actions) × (length x.actions ≤ MAX_QUEUES)
+as_many : (x : Planned) → IsStaged x.plan x.actions → IsWithinLimits x.plan → (1 ≤ length x.actions) × (length x.actions ≤ most_queues)
 as_many x st limits = rw (← st.queues) limits.queue_count
 
 ready : (workers : ℕ) (bytes : List ℕ) (x : Planned) → pipeline_of workers bytes ≡ Ok x → IsReady workers x

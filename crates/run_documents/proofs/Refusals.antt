@@ -3,8 +3,8 @@ use Rattle.std.proofs.Common.{◌≡◌, ℕ, ◌+◌, ◌<◌, ◌≤◌, Bool,
 use Rattle.std.proofs.lemmas.Bool.Decides.{nat_tests}
 use Rattle.std.proofs.lemmas.List.{length-map, length-replicate}
 use Rattle.evt_types.specs.Fault.{outside}
+use Rattle.evt_types.specs.Limits.{most_ports, most_queues}
 use Rattle.evt_types.specs.Plan.{Plan}
-use Rattle.evt_types.specs.declared.shape.TheConstants.{MAX_PORTS, MAX_QUEUES}
 use Rattle.evt_types.specs.declared.shape.ShapeFault.{ShapeFault}
 use Rattle.evt_types.specs.declared.shape.ShapeFault.TheVariants as shapes
 use Rattle.play_documents.specs.Document.{checked, plan_or_fault}
@@ -44,15 +44,15 @@ module _ (workers : ℕ) (s : SurveySeen) where
 
   pub none-refused : length (rows s.stages) ≡ 0 → checked (plan_asked workers s) ≡ Err (doc.Shape shapes.QueueCount)
   unfolding checked
-  none-refused none = by_first _ _ (plan_asked workers s) (is_none _ MAX_QUEUES (queue_count ∙ none))
+  none-refused none = by_first _ _ (plan_asked workers s) (is_none _ most_queues (queue_count ∙ none))
 
-  pub many-refused : MAX_QUEUES < length (rows s.stages) → checked (plan_asked workers s) ≡ Err (doc.Shape shapes.QueueCount)
+  pub many-refused : most_queues < length (rows s.stages) → checked (plan_asked workers s) ≡ Err (doc.Shape shapes.QueueCount)
   unfolding checked
-  many-refused many = by_first _ _ (plan_asked workers s) (is_many (length (plan_asked workers s).queues) MAX_QUEUES (rw queue_count many))
+  many-refused many = by_first _ _ (plan_asked workers s) (is_many (length (plan_asked workers s).queues) most_queues (rw queue_count many))
 
-  pub workers-refused : 1 ≤ length (rows s.stages) → length (rows s.stages) ≤ MAX_QUEUES → MAX_PORTS ≤ workers
+  pub workers-refused : 1 ≤ length (rows s.stages) → length (rows s.stages) ≤ most_queues → most_ports ≤ workers
       → checked (plan_asked workers s) ≡ Err (doc.Shape shapes.PortCount)
   unfolding checked
   workers-refused some few many =
-      by_second _ _ _ (plan_asked workers s) (is_within (length (plan_asked workers s).queues) MAX_QUEUES (rw queue_count some) (rw queue_count few))
-      (is_many (length (plan_asked workers s).ports) MAX_PORTS (rw port_count (omega arith)))
+      by_second _ _ _ (plan_asked workers s) (is_within (length (plan_asked workers s).queues) most_queues (rw queue_count some) (rw queue_count few))
+      (is_many (length (plan_asked workers s).ports) most_ports (rw port_count (omega arith)))

@@ -3,27 +3,27 @@ use Rattle.std.specs.Prelude.{◌≡◌, ℕ, ◌-◌, ◌^◌, Bool, true, fals
 use Rattle.std.proofs.Common.{refl}
 use Rattle.std.proofs.lemmas.Bool.{ltb-true}
 use Rattle.std.specs.List.{slice_split}
-use Rattle.evt_types.specs.declared.event.TheConstants.{MAX_FLOWS}
 use Rattle.pipeline_laws.specs.declared.stage.Entry.{Entry}
 use Rattle.play_documents.specs.Lines.{lines_of}
+use Rattle.play_documents.specs.Numbers.{flows, most_byte}
 use Rattle.play_documents.specs.Script.{◌>>=◌}
 use Rattle.play_documents.specs.Words.{number}
 use Rattle.play_documents.specs.declared.fault.DocFault.{DocFault}
 use Rattle.play_documents.specs.declared.fault.DocFault.TheVariants.{BadTrace}
 
 -- an event of this flow, where such a flow may be
-abbrev pub entry_where : (flow priority payload : ℕ) (fits : Bool) → nat_lt flow MAX_FLOWS ≡ fits → Option Entry
-entry_where flow priority payload true e = Some (record { flow = flow; priority = priority; payload = payload; flow_fits = ltb-true flow MAX_FLOWS e })
+abbrev pub entry_where : (flow priority payload : ℕ) (fits : Bool) → nat_lt flow flows ≡ fits → Option Entry
+entry_where flow priority payload true e = Some (record { flow = flow; priority = priority; payload = payload; flow_fits = ltb-true flow flows e })
 entry_where flow priority payload false e = None
 
 abbrev pub entry_of : ℕ → ℕ → ℕ → Option Entry
-entry_of flow priority payload = entry_where flow priority payload (nat_lt flow MAX_FLOWS) refl
+entry_of flow priority payload = entry_where flow priority payload (nat_lt flow flows) refl
 
 -- `FLOW PRIO PAYLOAD`
 unfoldable pub entry_by : List ℕ → List ℕ → List ℕ → Option Entry
 entry_by f p x = do
-  flow ← number (MAX_FLOWS - 1) f
-  priority ← number (2 ^ 8 - 1) p
+  flow ← number (flows - 1) f
+  priority ← number most_byte p
   payload ← number (2 ^ 64 - 1) x
   entry_of flow priority payload
 

@@ -2,6 +2,7 @@
 
 ghost use Rattle.std.specs.Prelude.{◌≡◌, ◌≤◌, length, map, IfOk};
 ghost use Rattle.std.specs.List.{range_with_len};
+ghost use Rattle.evt_types.specs.Limits.{most_queues};
 ghost use Rattle.evt_types.specs.Plan.{port_plan};
 ghost use Rattle.evt_types.specs.Plan as plans;
 ghost use Rattle.play_documents.specs.Field.{rows};
@@ -10,7 +11,7 @@ ghost use Rattle.run_documents.specs.Survey.{survey_seen};
 
 use crate::judge::action_asked;
 use crate::survey::{StageRow, Survey};
-use evt_types::{Draft, MAX_QUEUES, PortDraft, QueueDraft};
+use evt_types::{Draft, PortDraft, QueueDraft};
 use pipeline_laws::Action;
 use play_documents::{device_draft, queue_draft};
 use std::alloc::{AllocError, Global};
@@ -41,7 +42,7 @@ fn port_draft(survey: &Survey, links: Vec<u32>) -> PortDraft
 
 /// The numbers of so many queues.
 fn all_queues(alloc: Global, count: usize) -> Result<Vec<u32>, AllocError>
-    requires { count ≤ MAX_QUEUES }
+    requires { count ≤ most_queues }
     ensures { IfOk result (λ v. v.items ≡ range_with_len 0 count) }
 {
     (0..count as u32).collect(alloc)
@@ -49,7 +50,7 @@ fn all_queues(alloc: Global, count: usize) -> Result<Vec<u32>, AllocError>
 
 /// A worker's port, which is linked to every stage's queue.
 fn worker_draft(alloc: Global, survey: &Survey) -> Result<PortDraft, AllocError>
-    requires { length (rows (survey_seen survey.now).stages) ≤ MAX_QUEUES }
+    requires { length (rows (survey_seen survey.now).stages) ≤ most_queues }
     ensures { IfOk result (λ p. port_plan p ≡ worker_asked (survey_seen survey.now)) }
 {
     let links = all_queues(alloc, survey.stages.rows().len())?;
@@ -58,7 +59,7 @@ fn worker_draft(alloc: Global, survey: &Survey) -> Result<PortDraft, AllocError>
 
 /// Port 0, which is linked to nothing, and the workers' ports.
 fn port_drafts(alloc: Global, survey: &Survey, workers: usize) -> Result<Vec<PortDraft>, AllocError>
-    requires { length (rows (survey_seen survey.now).stages) ≤ MAX_QUEUES }
+    requires { length (rows (survey_seen survey.now).stages) ≤ most_queues }
     ensures { IfOk result (λ v. map port_plan v.items ≡ ports_asked workers (survey_seen survey.now)) }
 {
     let mut drafts = Vec::new(alloc);
@@ -72,7 +73,7 @@ fn port_drafts(alloc: Global, survey: &Survey, workers: usize) -> Result<Vec<Por
 /// What a pipeline's rows ask for, with so many workers.
 #[tactic(auto, unfolding(crate::specs::Drafts::plan_asked))]
 pub fn draft_of(alloc: Global, survey: &Survey, workers: usize) -> Result<Draft, AllocError>
-    requires { length (rows (survey_seen survey.now).stages) ≤ MAX_QUEUES }
+    requires { length (rows (survey_seen survey.now).stages) ≤ most_queues }
     ensures { IfOk result (λ d. plans.plan_of d ≡ plan_asked workers (survey_seen survey.now)) }
 {
     let queues = queue_drafts(alloc, survey.stages.rows())?;

@@ -1,6 +1,7 @@
 //! The reading of a pipeline's document.
 
 ghost use Rattle.std.specs.Prelude.{◌≡◌, ◌≤◌, ◌<◌, ◌+◌, ◌*◌, length, All, IfOk, IfErr, OnOk};
+ghost use Rattle.evt_types.specs.Limits.{most_ports, most_queues};
 ghost use Rattle.pipeline_laws.specs.Pipeline.{IsProper};
 ghost use Rattle.pipeline_laws.specs.Worked.{IsStaged};
 ghost use Rattle.play_documents.specs.Document.{Gives, IsNamed, checked};
@@ -32,7 +33,7 @@ pub struct Pipeline {
 /// The configuration that the rows ask for, checked.
 fn shape_of(alloc: Global, survey: &Survey, workers: usize) -> Result<Shape, ReadFault>
     ensures value { Gives (λ s. s) result (checked (plan_asked workers (survey_seen survey.now))) }
-    ensures few { OnOk result (workers < MAX_PORTS) }
+    ensures few { OnOk result (workers < most_ports) }
 {
     let stages = survey.stages.rows().len();
     // The device's first two refusals come before the draft, which is as long as the document and the caller ask for.
@@ -49,7 +50,7 @@ fn shape_of(alloc: Global, survey: &Survey, workers: usize) -> Result<Shape, Rea
 /// Whether the limit has no room for what may rest in the pockets of the ports, which are the workers' and port 0.
 #[tactic(auto, unfolding(crate::specs::Pipelines::is_tight))]
 fn is_tight(shape: &Shape, workers: usize) -> bool
-    requires { workers < MAX_PORTS }
+    requires { workers < most_ports }
     ensures { result ≡ is_tight workers shape.now }
 {
     let ports = workers as u64 + 1;
@@ -101,7 +102,7 @@ pub fn read_pipeline(alloc: Global, bytes: &[u8], workers: usize) -> Result<Pipe
     ensures named { IfErr result IsNamed }
     ensures staged { IfOk result (λ p. IsStaged p.shape p.actions.items) }
     ensures proper { IfOk result (λ p. All IsProper p.actions.items) }
-    ensures some { IfOk result (λ p. (1 ≤ length p.actions.items) × (length p.actions.items ≤ MAX_QUEUES)) }
+    ensures some { IfOk result (λ p. (1 ≤ length p.actions.items) × (length p.actions.items ≤ most_queues)) }
     ensures workers { IfOk result (λ p. HasWorkers workers p.shape) }
     ensures room { IfOk result (λ p. 2 * p.shape.quantum * (workers + 1) ≤ p.shape.limit) }
 {

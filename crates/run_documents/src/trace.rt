@@ -6,7 +6,7 @@ ghost use Rattle.run_documents.specs.Trace.{entry_by, entry_in, line_entry, trac
 
 use evt_types::MAX_FLOWS;
 use pipeline_laws::Entry;
-use play_documents::words::{lines, number, without_carriage_return, words};
+use play_documents::words::{lines, next_line, number, without_carriage_return, words};
 use play_documents::{DocFault, ReadFault};
 use std::alloc::{AllocError, Global};
 
@@ -50,9 +50,9 @@ pub fn read_trace(alloc: Global, text: &str) -> Result<Vec<Entry>, ReadFault>
 {
     let lines = lines(alloc, text)?;
     let mut entries = Vec::new(alloc);
-    let mut number = 0u64;
+    let mut number = 0u32;
     for line in &lines {
-        number += 1;
+        number = next_line(number)?;
         let line = without_carriage_return(line);
         if line.is_empty() {
             continue;

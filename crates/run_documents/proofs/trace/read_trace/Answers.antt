@@ -1,4 +1,4 @@
-use Rattle.std.proofs.Common.{◌+◌, drop, false-eqb, Err, length, refl, sym, ap, ◌∙◌, arith}
+use Rattle.std.proofs.Common.{◌+◌, drop, false-eqb, Err, refl, sym, ap, ◌∙◌}
 use Rattle.std.proofs.lemmas.Bool.{eqb-true}
 use Rattle.play_documents.specs.Lines.{lines_from}
 use Rattle.play_documents.specs.declared.fault.DocFault.TheVariants.{BadTrace}
@@ -11,16 +11,12 @@ loop-line-init c =
     let are = ap texts c.deref-line-items.ensures.value ∙ c.in_ok-lines.ensures in
     (refl, lines-start line_entry (λ n. BadTrace n) c.args.text.now c.deref-line-items.result.now _ c.new-entries.ensures.items are)
 
-pub overflow_add-number : goal.overflow_add-number
-overflow_add-number c =
-    omega (arith, c.loop-line.invariant.0, c.loop-line-test.true, ap length c.deref-line-items.ensures.value, c.in_ok-lines.lines.ok, c.in_ok-lines.lines.small)
-
 pub loop-line-preserved-then-is_empty : goal.loop-line-preserved-then-is_empty
 loop-line-preserved-then-is_empty c =
     let none = eqb-true _ _ (sym c.is_empty.ensures ∙ c.if-is_empty.true) in
     let skips = line-skips line_entry (λ n. BadTrace n) c.deref-line-items.result.now c.loop-line.line-index _ c.loop-line-test.true
     c.without_carriage_return-line.result.now c.without_carriage_return-line.ensures none in
-    (ap (λ n. n + 1) c.loop-line.invariant.0, ap (after c.loop-line.entries.items) (sym skips) ∙ c.loop-line.invariant.1)
+    (c.in_ok-number.ensures.next ∙ ap (λ n. n + 1) c.loop-line.invariant.0, ap (after c.loop-line.entries.items) (sym skips) ∙ c.loop-line.invariant.1)
 
 pub returns-in-None : goal.returns-in-None
 returns-in-None c =
@@ -28,7 +24,7 @@ returns-in-None c =
     let bad = sym c.in_ok-entry.ensures ∙ c.in-None.is in
     let stops = line-stops line_entry (λ n. BadTrace n) c.deref-line-items.result.now c.loop-line.line-index _ c.loop-line-test.true
     c.without_carriage_return-line.result.now c.without_carriage_return-line.ensures some bad in
-    sym c.loop-line.invariant.1 ∙ ap (after c.loop-line.entries.items) stops ∙ ap (λ n. Err (BadTrace (n + 1))) (sym c.loop-line.invariant.0)
+    sym c.loop-line.invariant.1 ∙ ap (after c.loop-line.entries.items) stops ∙ ap (λ n. Err (BadTrace n)) (sym (c.in_ok-number.ensures.next ∙ ap (λ n. n + 1) c.loop-line.invariant.0))
 
 pub loop-line-preserved : goal.loop-line-preserved
 loop-line-preserved c =
@@ -37,7 +33,7 @@ loop-line-preserved c =
     let goes = line-goes line_entry (λ n. BadTrace n) c.deref-line-items.result.now c.loop-line.line-index _ c.loop-line-test.true
     c.without_carriage_return-line.result.now c.without_carriage_return-line.ensures c.loop-line.entries.items c.in-Some.entry some good in
     let rest = lines_from line_entry (λ n. BadTrace n) (c.loop-line.line-index + 1 + 1) (texts (drop (c.loop-line.line-index + 1) c.deref-line-items.result.now)) in
-    (ap (λ n. n + 1) c.loop-line.invariant.0, ap (λ front. after front rest) c.in_ok-push-in-Some.ensures.items ∙ sym goes ∙ c.loop-line.invariant.1)
+    (c.in_ok-number.ensures.next ∙ ap (λ n. n + 1) c.loop-line.invariant.0, ap (λ front. after front rest) c.in_ok-push-in-Some.ensures.items ∙ sym goes ∙ c.loop-line.invariant.1)
 
 pub returns : goal.returns
 returns c =

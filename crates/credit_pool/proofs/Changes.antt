@@ -6,6 +6,7 @@ use lib.ListN.{get_elem?}
 use Rattle.atomic_table.proofs.Lists.{set_here, at_longer, at_last}
 use Rattle.lists.proofs.SeatSums.{place_below, other_place, sum_by-changed, sum_by-split, sum_by-joined}
 use Rattle.credit_pool.specs.declared.account.Account.{Account}
+use Rattle.credit_pool.specs.declared.rule.TheConstants.{WORD}
 use Rattle.credit_pool.specs.Accounts.{free_of, is_shut, IsShut, Stays, rest_of, part_of, after_join, spent_account}
 use Rattle.credit_pool.specs.Rule.{Pool, word_of, free_in, drawn_in, returned_in, parts_in, HasSeat, Balanced}
 use Rattle.credit_pool.specs.Steps.{Kind, looks, draws, gives, shuts, MayStep, word_after, account_after, drawn_by, given_by, after_step, after_split, after_joined}
@@ -13,7 +14,7 @@ use Rattle.credit_pool.proofs.Numbers.{drawn_free, given_free, given_bit, shut_f
 
 -- the word that a step puts
 word_is : (limit : ℕ) (s : Pool) (id : ℕ) (v : Account) (kind : Kind) → Balanced limit s → word_of (after_step kind id v s) ≡ word_after kind (word_of s)
-word_is limit s id v kind b = get_or-set_same s.words 0 (word_after kind (word_of s)) 0 (omega (arith, b.one_word))
+word_is limit s id v kind b = get_or-set_same s.words WORD (word_after kind (word_of s)) 0 (omega (arith, b.words))
 
 free_after : (limit word : ℕ) (kind : Kind) → MayStep limit kind word → free_of (word_after kind word) + drawn_by kind ≡ free_of word + given_by kind
 free_after limit word looks may = refl

@@ -12,6 +12,7 @@ use Rattle.lists.specs.Counts.{count}
 use Rattle.lists.proofs.Counts.{to_count, count_le, count-or}
 use Rattle.lists.proofs.SeatSums.{All-at, other_place, sum_by-changed, sum_by-split, sum_by-joined, term_le, terms_le}
 use Rattle.credit_pool.specs.declared.account.Account.{Account}
+use Rattle.credit_pool.specs.declared.rule.TheConstants.{WORD}
 use Rattle.credit_pool.specs.Accounts.{free_of, is_shut, IsShut, IsOpen, rest_of, part_of, after_join, spent_account}
 use Rattle.credit_pool.specs.Rule.{Pool, word_of, HasSeat, IsEmpty, Balanced}
 use Rattle.credit_pool.specs.Steps.{Kind, looks, draws, gives, shuts, MayStep, word_after, account_after, after_step, after_split, after_joined, Sitting, Loads, Draws, Gives, FetchesOr}
@@ -32,12 +33,12 @@ record MayFollow (limit old new : ℕ) (v w : Account) : Type 0 where
 
 -- one step, at the word and at one account
 placed : (limit : ℕ) (s : Pool) (id new : ℕ) (v w : Account)
-    → Balanced limit s → HasSeat s id v → MayFollow limit (word_of s) new v w → Balanced limit (stepped s 0 new id [] w keeps)
+    → Balanced limit s → HasSeat s id v → MayFollow limit (word_of s) new v w → Balanced limit (stepped s WORD new id [] w keeps)
 placed limit s id new v w b me may =
-    let put : get_or (set s.words 0 new) 0 0 ≡ new = get_or-set_same s.words 0 new 0 (omega (arith, b.one_word)) in
+    let put : get_or (set s.words WORD new) WORD 0 ≡ new = get_or-set_same s.words WORD new 0 (omega (arith, b.words)) in
     let half = ap free_of put in
     record {
-      one_word = length-set s.words 0 new ∙ b.one_word;
+      words = length-set s.words WORD new ∙ b.words;
       sum = omega (arith, half, b.sum, may.sum, sum_by-changed (λ u. u.drawn) s.views id v w me, sum_by-changed (λ u. u.returned) s.views id v w me);
       within = omega (arith, half, may.within);
       parts = omega (arith, b.parts, may.parts, sum_by-changed (λ u. u.parts) s.views id v w me);
@@ -118,21 +119,21 @@ step_keeps limit s id v kind b me part may =
     (All-at (λ u. IsTrue u.set_shut → IsShut (word_of s)) s.views id v b.set_it me) may)
 
 pub loads : (limit slots id : ℕ) (me : Sitting) → me.0.limit ≡ limit → 0 < me.0.parts
-    → Allows (Balanced limit) slots id me 0 (λ n. n) (Loads (step slots 0 0 0 none) me)
+    → Allows (Balanced limit) slots id me WORD (λ n. n) (Loads (step slots WORD 0 0 none) me)
 loads limit slots id me same part s b count_is here small =
     (account_after looks (word_of s) me.0, keeps, tt, step_keeps limit s id me.0 looks b here part tt, (refl, refl, reads limit s id me.0 same b here))
 
 -- what a step owes where the word becomes k
 abbrev Owes : (ℕ → Sitting → Type 0) → ℕ → Pool → ℕ → Sitting → ℕ → Type 0
-Owes then limit s id me k = (w : Account) × (a : Act (Unit {0})) × Valid s.homes me.1 a × Balanced limit (stepped s 0 k id me.1 w a) × then (word_of s) (w, carried_after me.1 a)
+Owes then limit s id me k = (w : Account) × (a : Act (Unit {0})) × Valid s.homes me.1 a × Balanced limit (stepped s WORD k id me.1 w a) × then (word_of s) (w, carried_after me.1 a)
 
 pub draw_exchanges : (limit slots id : ℕ) (me : Sitting) (old n : ℕ) → me.0.limit ≡ limit → 0 < me.0.parts → IsOpen old → n ≤ free_of old
-    → Allows (Balanced limit) slots id me 0 (λ k. either (eqb k old) (old - 2 * n) k) (Draws (step slots 0 old (old - 2 * n) none) me)
+    → Allows (Balanced limit) slots id me WORD (λ k. either (eqb k old) (old - 2 * n) k) (Draws (step slots WORD old (old - 2 * n) none) me)
 draw_exchanges limit slots id me old n same part is_open enough s b count_is here small =
     let told = reads limit s id me.0 same b here in
     let word : ℕ = word_of s in
-    let Becomes : ℕ → ℕ → Type 0 = λ new m. Balanced limit (stepped s 0 new id [] (account_after (draws m) word me.0) keeps) in
-    exchanged word old (old - 2 * n) (Owes (Draws (step slots 0 old (old - 2 * n) none) me) limit s id me)
+    let Becomes : ℕ → ℕ → Type 0 = λ new m. Balanced limit (stepped s WORD new id [] (account_after (draws m) word me.0) keeps) in
+    exchanged word old (old - 2 * n) (Owes (Draws (step slots WORD old (old - 2 * n) none) me) limit s id me)
     (λ e. (
       account_after (draws ((old - (old - 2 * n)) / 2)) word me.0,
       keeps,
@@ -144,12 +145,12 @@ draw_exchanges limit slots id me old n same part is_open enough s b count_is her
     (λ ne. (account_after looks word me.0, keeps, tt, step_keeps limit s id me.0 looks b here part tt, ((λ e. absurd (ne e)), (λ _. refl), refl, told)))
 
 pub give_exchanges : (limit slots id : ℕ) (me : Sitting) (old n : ℕ) → me.0.limit ≡ limit → 0 < me.0.parts → free_of old + n ≤ limit
-    → Allows (Balanced limit) slots id me 0 (λ k. either (eqb k old) (old + 2 * n) k) (Gives (step slots 0 old (old + 2 * n) none) me)
+    → Allows (Balanced limit) slots id me WORD (λ k. either (eqb k old) (old + 2 * n) k) (Gives (step slots WORD old (old + 2 * n) none) me)
 give_exchanges limit slots id me old n same part room s b count_is here small =
     let told = reads limit s id me.0 same b here in
     let word : ℕ = word_of s in
-    let Becomes : ℕ → ℕ → Type 0 = λ new m. Balanced limit (stepped s 0 new id [] (account_after (gives m) word me.0) keeps) in
-    exchanged word old (old + 2 * n) (Owes (Gives (step slots 0 old (old + 2 * n) none) me) limit s id me)
+    let Becomes : ℕ → ℕ → Type 0 = λ new m. Balanced limit (stepped s WORD new id [] (account_after (gives m) word me.0) keeps) in
+    exchanged word old (old + 2 * n) (Owes (Gives (step slots WORD old (old + 2 * n) none) me) limit s id me)
     (λ e. (
       account_after (gives ((old + 2 * n - old) / 2)) word me.0,
       keeps,
@@ -161,7 +162,7 @@ give_exchanges limit slots id me old n same part room s b count_is here small =
     (λ ne. (account_after looks word me.0, keeps, tt, step_keeps limit s id me.0 looks b here part tt, ((λ e. absurd (ne e)), (λ _. refl), refl, told)))
 
 pub fetches_or : (limit slots id : ℕ) (me : Sitting) → 0 < me.0.parts
-    → Allows (Balanced limit) slots id me 0 (λ k. bit_or k 1) (FetchesOr (step slots 0 1 0 none) me)
+    → Allows (Balanced limit) slots id me WORD (λ k. bit_or k 1) (FetchesOr (step slots WORD 1 0 none) me)
 fetches_or limit slots id me part s b count_is here small =
     (account_after shuts (word_of s) me.0, keeps, tt, step_keeps limit s id me.0 shuts b here part tt, (refl, refl))
 
@@ -176,7 +177,7 @@ splits limit id v parts s b here =
     let returned = sum_by-split (λ u. u.returned) s.views id v (rest_of v) (part_of v) here in
     let idle = All-set Idle s.views id (rest_of v) (λ z. absurd (omega arith)) b.idle in
     record {
-      one_word = b.one_word;
+      words = b.words;
       sum = omega (arith, b.sum, drawn, returned);
       within = b.within;
       parts = omega (arith, b.parts, sum_by-split (λ u. u.parts) s.views id v (rest_of v) (part_of v) here);
@@ -202,7 +203,7 @@ joins limit id other v w part s b here ne there =
     let two = terms_le (λ u. count u.set_shut) s.views id other v w ne here there' in
     let idle = All-set Idle s.views id both (λ z. absurd (omega arith)) b.idle in
     record {
-      one_word = b.one_word;
+      words = b.words;
       sum = omega (arith, b.sum, drawn, returned);
       within = b.within;
       parts = omega (arith, b.parts, sum_by-joined (λ u. u.parts) s.views id other v w both spent_account here there);

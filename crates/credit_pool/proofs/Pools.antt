@@ -90,7 +90,7 @@ reads limit s id v same b me = record {
 -- the pool as it is made
 pub first_balanced : (limit : ℕ) → Balanced limit (first_pool limit)
 first_balanced limit = record {
-  one_word = refl;
+  words = refl;
   sum = omega arith;
   within = omega arith;
   parts = refl;

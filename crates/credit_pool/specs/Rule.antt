@@ -1,17 +1,18 @@
 -- The rule of the credit word, which holds between any two steps of any seats, and what a read of the word tells the seat that reads.
-use Rattle.std.specs.Prelude.{◌≡◌, ℕ, ◌+◌, ◌*◌, ◌<◌, ◌≤◌, false, [], ◌∷◌, length, slice_index, sum_by, count_by, All, IsTrue}
+use Rattle.std.specs.Prelude.{◌≡◌, ℕ, ◌+◌, ◌*◌, ◌<◌, ◌≤◌, false, [], length, replicate, set, slice_index, sum_by, count_by, All, IsTrue}
 use mathlib.Core.Option.{some}
 use lib.ListN.{get_elem?}
 use Rattle.atomic_table.specs.Table.{State, opening}
 use Rattle.credit_pool.specs.declared.account.Account.{Account}
+use Rattle.credit_pool.specs.declared.rule.TheConstants.{WORD, WORDS}
 use Rattle.credit_pool.specs.Accounts.{free_of, first_account, IsShut}
 
--- the pool's one word, and the accounts of all seats
+-- the pool's words, of which one is the credit word, and the accounts of all seats
 abbrev pub Pool : Type 0
 Pool = State (Unit {0}) Account
 
 abbrev pub word_of : Pool → ℕ
-word_of s = slice_index s.words 0
+word_of s = slice_index s.words WORD
 
 -- the free credits
 abbrev pub free_in : Pool → ℕ
@@ -39,7 +40,7 @@ pub record IsEmpty (v : Account) : Type 0 where
   pub set_shut : v.set_shut ≡ false
 
 pub record Balanced (limit : ℕ) (s : Pool) : Type 0 where
-  pub one_word : length s.words ≡ 1
+  pub words : length s.words ≡ WORDS
   -- free credits and all that was drawn are the limit and all that was returned (Software Eventdev, "Credit Quanta": one shared pool)
   pub sum : free_in s + drawn_in s ≡ limit + returned_in s
   pub within : free_in s ≤ limit
@@ -59,9 +60,9 @@ pub record HasSetter (s : Pool) : Type 0 where
   pub has_parts : 0 < account.parts
   pub set_it : IsTrue account.set_shut
 
--- the pool as it is made: all credits free, and one seat with all parts
+-- the pool as it is made: all credits free, the other words zero, and one seat with all parts
 abbrev pub first_pool : ℕ → Pool
-first_pool limit = opening (2 * limit ∷ []) [] (first_account limit)
+first_pool limit = opening (set (replicate WORDS 0) WORD (2 * limit)) [] (first_account limit)
 
 -- What any read tells the seat with the account v of the word that it read.
 pub record Reads (v : Account) (word : ℕ) : Type 0 where

@@ -2,6 +2,7 @@
 use Rattle.std.specs.Prelude.{◌≡◌, ◌≢◌, ℕ, ◌+◌, ◌-◌, ◌*◌, ◌/◌, ◌≤◌, [], ◌∷◌, ◌++◌, set, bit_or, ⊤}
 use Rattle.atomic_table.specs.Table.{Me, Step}
 use Rattle.credit_pool.specs.declared.account.Account.{Account}
+use Rattle.credit_pool.specs.declared.rule.TheConstants.{WORD}
 use Rattle.credit_pool.specs.Accounts.{free_of, IsOpen, after_look, after_draw, after_give, after_shut, rest_of, part_of, after_join, spent_account}
 use Rattle.credit_pool.specs.Rule.{Pool, word_of, Reads}
 
@@ -51,7 +52,7 @@ given_by shuts = 0
 -- the pool after a step of the seat with the number id and the account v
 abbrev pub after_step : Kind → ℕ → Account → Pool → Pool
 after_step kind id v s =
-    record { words = set s.words 0 (word_after kind (word_of s)); homes = s.homes; views = set s.views id (account_after kind (word_of s) v) }
+    record { words = set s.words WORD (word_after kind (word_of s)); homes = s.homes; views = set s.views id (account_after kind (word_of s) v) }
 
 -- the pool after it was split; the new seat comes last
 abbrev pub after_split : ℕ → Account → Pool → Pool

@@ -1,9 +1,12 @@
 //! The pool, and the seats that step on its word.
 ghost use Rattle.std.specs.Prelude.{◌≡◌, ◌≢◌, ◌+◌, ◌*◌, ◌^◌, ◌<◌, ◌≤◌, ◌↔◌, [], IsTrue, IsOk, IfOk};
+ghost use Rattle.credit_pool.specs.declared.rule.TheConstants.{WORDS};
 
 use crate::account::Account;
 use crate::answer::{Draw, Give};
-use crate::rule::{Both, CreditRule, DrawExchange, FetchOr, GiveExchange, Load, OnePart};
+use crate::rule::{
+    Both, CreditRule, DrawExchange, FetchOr, GiveExchange, Load, OnePart, WORD, WORDS,
+};
 use atomic_table::{Seat, Table};
 use std::alloc::{AllocError, Global};
 
@@ -12,7 +15,7 @@ use std::alloc::{AllocError, Global};
 pub struct Credits {
     table: Table<(), Account, u64, CreditRule, Global>,
     limit: u64,
-    ghost one_word: { table.shared.table_id.words ≡ 1 },
+    ghost words: { table.shared.table_id.words ≡ WORDS },
     ghost limited: { limit ≡ table.shared.key },
     ghost small: { limit ≤ 2 ^ 32 },
 }
@@ -39,7 +42,9 @@ impl Credits {
         ensures seat { IfOk result (λ r. IsSeatOf r.0 r.1) }
         ensures account { IfOk result (λ r. account r.1 ≡ first_account limit) }
     {
-        let (table, seat) = Table::of_words(alloc, &[2 * limit], &limit)?;
+        let mut words = [0; WORDS];
+        words[WORD] = 2 * limit;
+        let (table, seat) = Table::of_words(alloc, &words, &limit)?;
         Ok((Credits { table, limit }, CreditSeat { seat }))
     }
 
@@ -178,7 +183,7 @@ impl Credits {
         ensures account { account seat.new ≡ after_look result (account seat.old) }
         ensures read { Reads (account seat.old) result }
     {
-        self.table.shared.load::<Load>(&mut seat.seat, 0)
+        self.table.shared.load::<Load>(&mut seat.seat, WORD)
     }
 
     // It draws where it finds `word`.
@@ -193,7 +198,7 @@ impl Credits {
     {
         self.table
             .shared
-            .compare_exchange::<DrawExchange>(&mut seat.seat, 0, word, word - 2 * n)
+            .compare_exchange::<DrawExchange>(&mut seat.seat, WORD, word, word - 2 * n)
     }
 
     // It gives back where it finds `word`.
@@ -207,7 +212,7 @@ impl Credits {
     {
         self.table
             .shared
-            .compare_exchange::<GiveExchange>(&mut seat.seat, 0, word, word + 2 * n)
+            .compare_exchange::<GiveExchange>(&mut seat.seat, WORD, word, word + 2 * n)
     }
 
     fn set_bit(&self, seat: &mut CreditSeat)
@@ -215,7 +220,7 @@ impl Credits {
         ensures seat { IsSeatOf self.now seat.new }
         ensures account { account seat.new ≡ after_shut (account seat.old) }
     {
-        self.table.shared.fetch_or::<FetchOr>(&mut seat.seat, 0, 1);
+        self.table.shared.fetch_or::<FetchOr>(&mut seat.seat, WORD, 1);
     }
 
     fn split_one(&self, seat: &mut CreditSeat) -> CreditSeat

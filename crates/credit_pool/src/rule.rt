@@ -6,6 +6,14 @@ ghost use Rattle.credit_pool.specs.Steps.{Draws, FetchesOr, Gives, Loads};
 use crate::account::Account;
 use atomic_table::{Join, Play, Split, TableRule};
 
+/// The words of a pool's table, of which one counts. The others are never used: they keep it in a cache line of its own, since each step
+/// on it takes its line from all other threads. A line has 64 bytes, and memory is aligned to 16: the word's line begins at most 48 bytes
+/// before it, and ends at most 64 after its start.
+pub(crate) const WORDS: usize = 16;
+
+/// Which of them is the credit word.
+pub(crate) const WORD: usize = 8;
+
 /// The rule of a pool's table: `Balanced` at the pool's limit, between any two steps of any seats.
 pub struct CreditRule;
 

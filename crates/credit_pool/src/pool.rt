@@ -220,7 +220,9 @@ impl Credits {
         ensures seat { IsSeatOf self.now seat.new }
         ensures account { account seat.new ≡ after_shut (account seat.old) }
     {
-        self.table.shared.fetch_or::<FetchOr>(&mut seat.seat, WORD, 1);
+        self.table
+            .shared
+            .fetch_or::<FetchOr>(&mut seat.seat, WORD, 1);
     }
 
     fn split_one(&self, seat: &mut CreditSeat) -> CreditSeat

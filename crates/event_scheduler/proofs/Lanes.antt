@@ -1,5 +1,5 @@
 -- The ends of all lanes where one of them changed.
-use Rattle.std.proofs.Common.{◌≡◌, ◌≢◌, ℕ, ◌+◌, ◌<◌, ◌≤◌, List, [], length, map, set, get_or, ◌⊎◌, inl, inr, sym, ap, ◌∙◌, subst, arith}
+use Rattle.std.proofs.Common.{◌≡◌, ◌≢◌, ℕ, ◌+◌, ◌-◌, ◌<◌, ◌≤◌, List, [], ◌∷◌, length, map, set, get_or, ◌⊎◌, inl, inr, refl, sym, ap, ◌∙◌, subst, arith}
 use Rattle.std.proofs.lemmas.Bool.{cases_eq}
 use Rattle.std.proofs.lemmas.List.{get_or-set_other, get_or-set_same, get_or-map, length-map, map-set}
 use Rattle.std.proofs.Math.Seq.{map-set_same}
@@ -67,6 +67,17 @@ fetched_here lanes i near within is = get_or-map fetched_replies lanes i near []
 pub fetched_now : (lanes : List Near) (i : ℕ) (after : Near) → i < length lanes → fetched_in (set lanes i after) i ≡ fetched_replies after
 fetched_now lanes i after within =
     ap (λ xs. get_or xs i []) (map-set fetched_replies lanes i after) ∙ get_or-set_same (map fetched_replies lanes) i (fetched_replies after) [] (omega (arith, length-map lanes fetched_replies, within))
+
+-- one where nothing was fetched
+abbrev pub unfetched : List Reply → ℕ
+unfetched [] = 1
+unfetched (r ∷ rs) = 0
+
+-- taking goes on where some were taken, or nothing was fetched before, and something is fetched now
+pub fewer_left : (before after : List Reply) (most more : ℕ) → after ≢ [] → 0 < most → more ≤ most → (before ≢ [] → 0 < more) → most - more + unfetched after < most + unfetched before
+fewer_left before [] most more now some few took = absurd (now refl)
+fewer_left [] (r ∷ rs) most more now some few took = omega (arith, some, few)
+fewer_left (x ∷ xs) (r ∷ rs) most more now some few took = omega (arith, some, few, took (λ e. absurd cc))
 
 pub seen_elsewhere : (lanes : List Near) (i : ℕ) (after : Near) (l : ℕ) → l ≢ i → get_or (map seen_replies (set lanes i after)) l [] ≡ get_or (map seen_replies lanes) l []
 seen_elsewhere lanes i after l other =

@@ -19,7 +19,7 @@ use Rattle.event_scheduler.specs.Seeking.{SameLanes}
 use Rattle.event_scheduler.specs.Scheduler.{Runs, Serves, Sight, offered_at, sight, taken_at}
 use Rattle.evt_types.specs.declared.event.Delivery.{Delivery}
 use Rattle.evt_types.specs.declared.event.Reply.{Reply}
-use Rattle.event_scheduler.specs.Taking.{Takes, entered_as, entered_by, of_first, only, replies_from, reply_from, turned_by, with_core, with_taken}
+use Rattle.event_scheduler.specs.Taking.{MayEnd, Takes, entered_as, entered_by, of_first, only, replies_from, reply_from, turned_by, with_core, with_taken}
 use Rattle.evt_types.specs.Event.{pair_of}
 use Rattle.evt_types.specs.Operation.{is_new_op}
 use Rattle.evt_types.specs.Plan.{bound_of, lanes_of}
@@ -304,12 +304,6 @@ lane_ends l n q s t u log mid longer few h k =
     within : (m : ℕ) → only l n m ≤ only l q m
     within m = within_by (m == l)
 
--- a lane was looked at, and some of it were taken
-pub looked_more : (l k : ℕ) (s t u : Sight) (log mid longer : List Step) → Takes (λ m. 0) 0 s log t mid → Takes (only l k) k t mid u longer → Takes (only l k) k s log u longer
-looked_more l k s t u log mid longer h more =
-    subst (λ n. Takes (only l k) n s log u longer) (omega arith)
-    (takes_takes (λ m. 0) (only l k) (only l k) 0 k s t u log mid longer h more (λ i j some later. absurd (omega (arith, some))) (λ m. omega arith))
-
 -- ---- a run of replies of one lane
 
 -- none of none, and the first of some
@@ -347,6 +341,14 @@ first_left (suc k) (suc n) (x ∷ rs) seen r p there = ap (λ xs. slice_get (dro
 pub some_there : (rs : List Reply) → rs ≢ [] → 0 < length rs
 some_there [] some = absurd (some refl)
 some_there (r ∷ rs) some = omega arith
+
+-- taking ends where as many were taken as may be, or none is seen
+pub ends_none : (quantum : ℕ) (v : View) (l n : ℕ) (seen : List Reply) → n ≤ quantum → (n < quantum → seen ≡ []) → MayEnd quantum v l n seen
+ends_none quantum v l n seen few none = by_place (cases_lt n quantum)
+  where
+    by_place : (n < quantum) ⊎ (quantum ≤ n) → MayEnd quantum v l n seen
+    by_place (inl fewer) = inr (inl (none fewer))
+    by_place (inr all) = inl (omega (arith, few, all))
 
 -- taking ends where fewer were taken than were there, or where none is seen, and else all that was there went
 pub ends_by : {E : Type 0} → (k n : ℕ) (sees : Bool) → IsTrue (nat_lt k n || not sees) → (k < n → E) → (sees ≡ false → E) → E

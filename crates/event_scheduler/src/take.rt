@@ -106,35 +106,7 @@ impl Scheduler {
         (taken, (taken < count) | !near.sees())
     }
 
-    /// Goes on taking from a lane of which more is seen than was fetched: no more than `most` replies, until none is seen or one may not be
-    /// taken.
-    #[cold]
-    fn take_on<L: StepLog>(&mut self, lane: usize, most: usize, log: &mut L) -> usize
-        requires lane { lane < lanes_of self.old.core.shape }
-        requires room { kept_in self.old.core + 2 * most ≤ L.room log.old }
-        ensures takes { Takes (only lane result) result (sight_of self.old) (L.steps log.old) (sight_of self.new) (L.steps log.new) }
-        ensures most { result ≤ most }
-        ensures ends { (n q : ℕ) → result < most → MayEnd q self.new.core lane n (seen_at (sight_of self.new) lane) }
-        ensures others { (l : ℕ) → l ≢ lane → seen_at (sight_of self.new) l ≡ seen_at (sight_of self.old) l }
-        ensures room { L.room log.old + kept_in self.new.core ≤ L.room log.new + kept_in self.old.core + 2 * result }
-    {
-        let mut taken = 0;
-        while taken < most {
-            let near = &mut self.lanes[lane];
-            if !near.fetch(most - taken) {
-                return taken;
-            }
-            let (more, ends) = self.take_fetched(lane, most - taken, log);
-            taken += more;
-            if ends {
-                return taken;
-            }
-        }
-        taken
-    }
-
-    /// Takes replies of the lane, no more than the sweep quantum, until none is seen or one may not be taken. Mostly they were fetched as
-    /// the lane was sought, and no more is seen then.
+    /// Takes replies of the lane, no more than the sweep quantum, until none is seen or one may not be taken.
     #[inline(always)]
     fn take_lane<L: StepLog>(&mut self, lane: usize, log: &mut L) -> usize
         requires lane { lane < lanes_of self.old.core.shape }
@@ -146,11 +118,20 @@ impl Scheduler {
         ensures others { (l : ℕ) → l ≢ lane → seen_at (sight_of self.new) l ≡ seen_at (sight_of self.old) l }
     {
         let most = self.core.shape().sweep() as usize;
-        let (taken, ends) = self.take_fetched(lane, most, log);
-        if ends {
-            return taken;
+        let mut taken = 0;
+        while taken < most {
+            let (more, ends) = self.take_fetched(lane, most - taken, log);
+            taken += more;
+            // Mostly all that is seen was fetched as the lane was sought, and the taking ends here.
+            if ends {
+                return taken;
+            }
+            let near = &mut self.lanes[lane];
+            if !near.fetch(most - taken) {
+                return taken;
+            }
         }
-        taken + self.take_on(lane, most - taken, log)
+        taken
     }
 
     /// Takes replies of each lane, by rising lane.

@@ -1,11 +1,13 @@
 use Rattle.std.proofs.Common.{◌≡◌, ◌≢◌, ℕ, ◌+◌, ◌*◌, ◌≤◌, ◌-◌}
 use Rattle.event_scheduler.specs.Scheduler.{seen_at, sight_of}
+use Rattle.event_scheduler.specs.Seeking.{fetched_in}
 use Rattle.event_scheduler.specs.Taking.{Takes, only}
 use Rattle.transcripts.specs.Standing.{kept_in}
-use Rattle.event_scheduler.proofs.scheduler.Scheduler.take_on.Given as goal
+use Rattle.event_scheduler.proofs.Lanes.{unfetched}
+use Rattle.event_scheduler.proofs.scheduler.Scheduler.take_lane.Given as goal
 
 abbrev pub decreases-loop-taken : goal.decreases-loop-taken
-decreases-loop-taken g l = l.most - l.taken
+decreases-loop-taken g l = l.most - l.taken + unfetched (fetched_in l.self.lanes.items l.lane)
 
 abbrev pub invariant-loop-taken : goal.invariant-loop-taken
 invariant-loop-taken g l =

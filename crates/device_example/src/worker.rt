@@ -3,31 +3,38 @@
 ghost use Rattle.std.specs.Prelude.{◌≡◌};
 ghost use Rattle.event_device.specs.Device.{site_of};
 
-use event_device::{Handler, Port, serve};
+use arrayvec::ArrayVec;
+use event_device::Port;
 use evt_types::Delivery;
+use std::thread::yield_now;
 
 /// How many events the worker dequeues at once.
 const BURST: usize = 4;
 
-/// Adds the payloads up. What it doesn't answer the next dequeue releases.
-#[derive(Drop)]
-struct Sum {
-    sum: u64,
-}
-
-impl Handler for Sum {
-    fn handle(&mut self, _port: &mut Port, deliveries: &[Delivery]) {
-        for delivery in deliveries {
-            self.sum = self.sum.wrapping_add(delivery.event().payload);
-        }
+/// The sum, with the payloads of these events.
+fn with_payloads(sum: u64, deliveries: &[Delivery]) -> u64 {
+    let mut sum = sum;
+    for delivery in deliveries {
+        sum = sum.wrapping_add(delivery.event().payload);
     }
+    sum
 }
 
-/// Handles events until the device is shut, and gives the port back with the sum of their payloads.
+/// Handles events until the device is shut, and gives the port back with the sum of their payloads. What it doesn't answer the next
+/// dequeue releases.
 pub fn work(port: Port) -> (Port, u64)
     ensures { site_of result.0 ≡ site_of port }
 {
-    let mut handler = Sum { sum: 0 };
-    let port = serve(port, BURST, &mut handler);
-    (port, handler.sum)
+    let (mut port, mut sum) = (port, 0);
+    let mut deliveries = ArrayVec::new();
+    for _ in 0..u64::MAX {
+        if port.shut_seen() {
+            break;
+        }
+        match port.dequeue_burst(BURST, &mut deliveries) {
+            Ok(count) if count > 0 => sum = with_payloads(sum, &deliveries),
+            _ => yield_now(),
+        }
+    }
+    (port, sum)
 }

@@ -32,4 +32,4 @@ pub use running::Device;
 pub use start::device;
 pub use step_log::{Counted, Memory, StepLog};
 pub use step_tally::{LaneCounts, QueueCounts, Tail, Tally};
-pub use worker::{ComesBack, Handler, serve};
+pub use worker::ComesBack;

@@ -5,7 +5,8 @@ ghost use Rattle.std.specs.Thread.{IsSync};
 ghost use Rattle.event_device.specs.Device.{site_of};
 ghost use Rattle.event_device.specs.Parts.{device_of};
 
-use event_device::{Device, Handler, Port, Refused, serve};
+use arrayvec::ArrayVec;
+use event_device::{Device, Port, Refused};
 use evt_types::{Delivery, Event, MAX_PORTS, Op};
 use std::thread::{Threads, join, yield_now};
 
@@ -82,42 +83,54 @@ fn produce(port: Port, events: u32) -> Port
     port
 }
 
-/// A worker, which passes each event on to the next queue, and ends it after this one.
-#[derive(Drop)]
-struct Worker {
-    last: u8,
+/// What a worker answers: the event passed on to the next queue, and ended after the last.
+fn answer_to(delivery: &Delivery, last: u8) -> Event {
+    let next = delivery.queue().saturating_add(1);
+    if next <= usize::from(last) {
+        let event = delivery.event();
+        event.forwarded(next as u8, event.payload)
+    } else {
+        Event::release()
+    }
 }
 
-impl Worker {
-    fn answer_to(&self, delivery: &Delivery) -> Event {
-        let next = delivery.queue().saturating_add(1);
-        if next <= usize::from(self.last) {
-            let event = delivery.event();
-            event.forwarded(next as u8, event.payload)
-        } else {
-            Event::release()
+/// Answers the deliveries, oldest first.
+fn answer(port: &mut Port, deliveries: &[Delivery], last: u8)
+    ensures { site_of port.new ≡ site_of port.old }
+{
+    for delivery in deliveries {
+        if !enqueue(port, answer_to(delivery, last)) {
+            return;
         }
     }
 }
 
-impl Handler for Worker {
-    fn handle(&mut self, port: &mut Port, deliveries: &[Delivery]) {
-        for delivery in deliveries {
-            if !enqueue(port, self.answer_to(delivery)) {
-                return;
-            }
+/// Answers what the port dequeues until the device is shut, and lets others run where nothing came.
+fn work(port: Port, last: u8) -> Port
+    ensures { site_of result ≡ site_of port }
+{
+    let mut port = port;
+    let mut deliveries = ArrayVec::new();
+    for _ in 0..u64::MAX {
+        if port.shut_seen() {
+            break;
+        }
+        match port.dequeue_burst(BATCH, &mut deliveries) {
+            Ok(count) if count > 0 => answer(&mut port, &deliveries, last),
+            _ => yield_now(),
         }
     }
+    port
 }
 
-/// Port 0 brings the events in, the others handle them until the device is shut.
+/// Port 0 brings the events in, the others answer them until the device is shut.
 fn use_port(port: Port, task: Task) -> Port
     ensures { site_of result ≡ site_of port }
 {
     if port.number() == 0 {
         produce(port, task.events)
     } else {
-        serve(port, BATCH, &mut Worker { last: task.last })
+        work(port, task.last)
     }
 }
 

@@ -1,3 +1,4 @@
+/* SPDX-License-Identifier: BSD-3-Clause */
 /*
  * An event device for C and C++ programs, in the manner of DPDK's rte_eventdev.h.
  *
@@ -40,6 +41,8 @@
 #include <stddef.h>
 #include <stdint.h>
 #include <stdlib.h>
+
+#include "evsched_version.h"
 
 #ifdef __cplusplus
 extern "C" {

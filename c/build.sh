@@ -2,8 +2,10 @@
 # What ./evsched and the gate share: how the program and the library are proved and built, where what was built stands, and of what
 # sources it is. To be read by bash (`. c/build.sh`), with `top` the top of this checkout.
 work_of_a_build="an hour or two of processor time"
-# What was compiled unproved, and of what sources.
-tried=$top/out/unproved/evsched
+# What was compiled unproved, and of what sources; in a checkout that can't be written it is kept with the user's other caches.
+kept=$top/out
+mkdir -p "$kept" 2>/dev/null && [ -w "$kept" ] || kept=${XDG_CACHE_HOME:-${HOME:-/tmp}/.cache}/evsched
+tried=$kept/unproved/evsched
 
 say() { echo "evsched: $*" >&2; }
 
@@ -57,22 +59,23 @@ stop() {
     rm -rf "$room"
 }
 
-# Makes a folder, and runs a command in it in a process group of its own, with its output in a file.
+# Makes a folder, on the same disk where that can be, and runs a command in a process group of its own, with its output in a file there.
 begin() {
-    job='' room=$(mktemp -d "$([ -d "$top/.git" ] && echo "$top/.git" || echo /tmp)/evsched.XXXXXX") && mkdir -p "$top/out" || fail "no folder can be made"
+    job='' room=$(mktemp -d "$top/.git/evsched.XXXXXX" 2>/dev/null || mktemp -d) || fail "no folder can be made"
     trap stop EXIT
     trap 'exit 129' HUP
     trap 'exit 130' INT
     trap 'exit 143' TERM
     set -m
-    "$@" </dev/null >"$top/out/log" 2>&1 &
+    "$@" </dev/null >"$room/log" 2>&1 &
     set +m
     job=$!
 }
 
 fail_of() {
-    tail -n 20 "$top/out/log" >&2
-    fail "$1: these were the last lines of $top/out/log"
+    tail -n 20 "$room/log" >&2
+    cp "$room/log" "$kept/log" 2>/dev/null
+    fail "$1: these were the last lines of $kept/log"
 }
 
 # Proves a crate and those below it by rt ci, side by side, in a tree that has only these and no must-fail edits, and builds it. rt ci takes
@@ -82,7 +85,7 @@ prove_apart() {
     mkdir "$room/.git" && needed "$crate" | tac >"$room/crates.txt" && cp "$top/HANDLES" "$room/" || return 1
     for name in $(sed 's/[ :].*//' "$room/crates.txt"); do
         mkdir -p "$room/crates/$name" || return 1
-        for part in src specs proofs stdin stdout args; do
+        for part in src specs proofs c stdin stdout args status data; do
             [ ! -e "$top/crates/$name/$part" ] || cp -r "$top/crates/$name/$part" "$room/crates/$name/" || return 1
         done
     done
@@ -97,7 +100,7 @@ prove() {
     sum=$(sum_of "$crate") count=$(needed "$crate" | wc -l) made=$(made_of "$crate")
     say "proving $count crates, in at most $work_of_a_build; what was proved on this machine is taken"
     begin prove_apart "$crate"
-    tail -f -n +1 -s 1 --pid="$job" "$top/out/log" 2>/dev/null | awk -v of="$count" '$1 == "rt:" && / (proved|is kept: .*)$/ && !/: its tests/ {
+    tail -f -n +1 -s 1 --pid="$job" "$room/log" 2>/dev/null | awk -v of="$count" '$1 == "rt:" && / (proved|is kept: .*)$/ && !/: its tests/ {
         print "evsched: " ++n " of " of ": " $2 ($3 == "is" ? " was proved before" : " is proved") "; " of - n " left"; fflush() }' >&2 &
     wait "$job" || fail_of "it can't be built"
     wait

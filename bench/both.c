@@ -1,3 +1,4 @@
+/* SPDX-License-Identifier: BSD-3-Clause */
 /*
  * DPDK's loop over event_sw and over evsched, by turns in one process and one thread: a burst of NEWs, a schedule call, dequeues and
  * bursts of RELEASEs; in the last case the workers forward the events to a second queue first. A schedule call after that takes the

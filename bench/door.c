@@ -1,3 +1,4 @@
+/* SPDX-License-Identifier: BSD-3-Clause */
 /*
  * The rounds of `device_bench`, case `atomic-64-flows-tally`, through the C functions: a burst of NEWs, a sweep, a dequeue, a burst of
  * RELEASEs, which the next round's sweep takes. Prints nanoseconds of processor time per event (`bench/door.py`); `bench/instructions.py`

@@ -1,3 +1,4 @@
+/* SPDX-License-Identifier: BSD-3-Clause */
 /*
  * A scheduler that is late: events of an atomic queue by ports and by flow lanes, while the thread that sweeps does so only every so many
  * microseconds, since it has other work to do. A producer keeps the queue filled with events of so many flows, workers dequeue them in

@@ -1,3 +1,4 @@
+/* SPDX-License-Identifier: BSD-3-Clause */
 /*
  * The shape of dpdk-test-eventdev's perf_queue, over event_sw and over evsched, by the same loops: a thread that brings events in, one
  * that schedules, and one or more workers, each pinned to a processor of its own. A worker forwards each event to the next queue, or

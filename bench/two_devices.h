@@ -1,3 +1,4 @@
+/* SPDX-License-Identifier: BSD-3-Clause */
 /*
  * event_sw and evsched, made alike, and their calls, for programs that run the same loops over either (bench/both.c, bench/threads.c).
  * `is_ours` is a constant wherever a loop is compiled, so neither device pays for the other. Both read an event's 16 bytes alike, so a

@@ -1,3 +1,4 @@
+/* SPDX-License-Identifier: BSD-3-Clause */
 /*
  * An event device for C and C++ programs, in the manner of DPDK's rte_eventdev.h.
  *
@@ -53,6 +54,8 @@
 #ifdef EVSCHED_DEBUG
 #include <pthread.h>
 #endif
+
+#include "evsched_version.h"
 
 #ifdef __cplusplus
 extern "C" {

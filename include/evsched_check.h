@@ -1,3 +1,4 @@
+/* SPDX-License-Identifier: BSD-3-Clause */
 /*
  * What stands behind evsched_check and evsched_strerror of evsched.h, which includes it: a configuration judged as the library does it, one
  * fault after the other in its order, each with a sentence that says where it is.

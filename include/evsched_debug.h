@@ -1,3 +1,4 @@
+/* SPDX-License-Identifier: BSD-3-Clause */
 /*
  * What EVSCHED_DEBUG and a sanitizer of threads add to the calls of evsched.h, which includes it: nothing where neither is asked for.
  *

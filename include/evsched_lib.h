@@ -1,3 +1,4 @@
+/* SPDX-License-Identifier: BSD-3-Clause */
 /*
  * What stands behind evsched.h, which includes it: the library's functions, and the block of memory in which a device lies. A program has
  * no need of either: it calls what evsched.h declares.

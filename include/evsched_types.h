@@ -1,3 +1,4 @@
+/* SPDX-License-Identifier: BSD-3-Clause */
 /*
  * The types of evsched.h, which includes it: events, a device's configuration, what it counts and reports, and the numbers of both.
  */

@@ -1,3 +1,4 @@
+/* SPDX-License-Identifier: BSD-3-Clause */
 /*
  * How evsched_dequeue_wait of evsched.h, which includes it, passes the time.
  */

@@ -1,3 +1,4 @@
+/* SPDX-License-Identifier: BSD-3-Clause */
 /*
  * Random configurations, most of them near the limits and many good: evsched_check must answer of each what evsched_create does, with a
  * sentence exactly where that isn't 0, which names the place and ends within the text's size.

@@ -1,3 +1,4 @@
+/* SPDX-License-Identifier: BSD-3-Clause */
 /*
  * What EVSCHED_DEBUG finds: each misuse is made in a child, which must end by abort with one line on standard error that names the call,
  * what it was about, and the threads.

@@ -1,3 +1,4 @@
+/* SPDX-License-Identifier: BSD-3-Clause */
 /* What evsched_info and evsched_dump say of a device, while it runs and after its stop. Ends with status 1 where something differs. */
 #include <evsched.h>
 #include <stdio.h>

@@ -1,3 +1,4 @@
+/* SPDX-License-Identifier: BSD-3-Clause */
 /* The event's layout beside DPDK's, where its headers are installed: random events, bit by bit, and the numbers that a word holds. */
 #include <evsched.h>
 #include <rte_eventdev.h>

@@ -1,3 +1,4 @@
+/* SPDX-License-Identifier: BSD-3-Clause */
 /*
  * What soak.c and stats.c share: random shapes, the count of a program's own calls, and the comparison of it with what a device counted and
  * what its stop found. A check that fails says so and ends the program.

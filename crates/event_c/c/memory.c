@@ -1,3 +1,4 @@
+/* SPDX-License-Identifier: BSD-3-Clause */
 /*
  * A device's life with one allocation refused, the first, the second and so on, and with all from there on refused: each call answers
  * -ENOMEM or does what it should, a call that answered -ENOMEM does it when it is called again, no event is lost, and all memory goes back.

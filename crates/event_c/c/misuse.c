@@ -1,3 +1,4 @@
+/* SPDX-License-Identifier: BSD-3-Clause */
 /* What a program may do wrong and can be seen: each refusal, by its number; a device that is stopped while events are in every place;
  * and a drain. Ends with status 1 where something isn't as it should be. */
 #include <evsched.h>

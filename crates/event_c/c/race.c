@@ -1,3 +1,4 @@
+/* SPDX-License-Identifier: BSD-3-Clause */
 /*
  * A race, for a sanitizer of threads, which must report it: two workers handle events of different flows and both count them in one plain
  * variable. A flow is with one port at a time, so what is counted by flow is no race, and mustn't be reported (examples/c/flows.c).

@@ -1,3 +1,4 @@
+/* SPDX-License-Identifier: BSD-3-Clause */
 /*
  * Devices of random shapes, one after the other, by ports and by flow lanes in turn. Each port is on a thread of its own, the main thread
  * sweeps, and the device is shut at a random moment and stopped. Each payload must come out once, a slot of an atomic queue be with one

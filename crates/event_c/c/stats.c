@@ -1,3 +1,4 @@
+/* SPDX-License-Identifier: BSD-3-Clause */
 /*
  * Random calls on random devices, in one thread, refused ones among them, each counted beside the device: what every counter must show,
  * what each event must look like when it comes out, and that each payload comes out once: dequeued, drained or given back after the stop.

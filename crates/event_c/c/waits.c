@@ -1,3 +1,4 @@
+/* SPDX-License-Identifier: BSD-3-Clause */
 /* A dequeue that waits, and a port that is emptied. Ends with status 1 where something isn't as it should be. */
 #define _GNU_SOURCE
 #include <evsched.h>

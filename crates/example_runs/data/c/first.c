@@ -1,3 +1,4 @@
+/* SPDX-License-Identifier: BSD-3-Clause */
 /* A first event device: port 0 brings ten events in, port 1 handles them; one thread does all. */
 #include <evsched.h>
 #include <stdio.h>

@@ -1,3 +1,4 @@
+/* SPDX-License-Identifier: BSD-3-Clause */
 /*
  * Events through two atomic queues, by threads: a producer (port 0), two workers (ports 1 and 2), and a scheduler, the main thread.
  * Each event goes into queue 0, is forwarded to queue 1 and released there. A worker checks that the events of a flow come in order.

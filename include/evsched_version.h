@@ -1,5 +1,5 @@
 /* SPDX-License-Identifier: BSD-3-Clause */
-/* The version of evsched. c/Makefile reads it here, and c/versions holds the program, the crate for Rust and the papers to it. */
+/* The version of evsched. c/Makefile reads it here, and c/versions holds the program, the crate for Rust, the man pages and the changelog to it. */
 #ifndef EVSCHED_VERSION_H
 #define EVSCHED_VERSION_H
 

@@ -1,17 +1,18 @@
 -- Tables of counts: at no step, where one place changes, and where none does.
-use Rattle.std.proofs.Common.{◌≡◌, ◌≢◌, ℕ, ◌<◌, ◌≤◌, List, [], ◌∷◌, ◌++◌, length, slice_set, replicate, Option, Some, None, ⊎_elim, sym, ap, ◌∙◌, arith}
+use Rattle.std.proofs.Common.{◌≡◌, ◌≢◌, ℕ, ◌<◌, ◌≤◌, List, [], ◌∷◌, ◌++◌, length, slice_set, replicate, Option, Some, None, ⊎_elim, refl, sym, ap, ◌∙◌, arith}
 use Rattle.std.proofs.lemmas.Bool.{cases_eq}
 use Rattle.std.proofs.lemmas.List.{get_or-replicate, get_or-set_other, length-set, length-replicate}
 use Rattle.std.proofs.lemmas.Grind.{get_or-set_at}
 use Rattle.std.proofs.lemmas.Option.{same_Some, none-some}
-use Rattle.evt_types.specs.declared.shape.TheConstants.{MAX_LANES, MAX_QUEUES}
+use Rattle.evt_types.specs.declared.shape.TheConstants.{MAX_LANES, MAX_PORTS, MAX_QUEUES}
 use Rattle.evt_types.specs.declared.step.Step.{Step}
 use Rattle.transcripts.specs.Transcript.{hand, out, answers}
-use Rattle.step_tally.specs.Counts.{new_to, passed_to, queue_counts, released_by, forwarded_by, added_by, turned_on, bounced_on, lane_counts}
-use Rattle.step_tally.specs.Tables.{AreCounts, AreTables}
+use Rattle.step_tally.specs.Counts.{new_to, passed_to, given_to, new_on, released_by, forwarded_by, added_by, turned_on, bounced_on, lane_counts}
+use Rattle.step_tally.specs.Tables.{AreCounts, AreTables, given_row, queue_row}
 use Rattle.step_tally.specs.declared.counts.LaneCounts.{LaneCounts}
 use Rattle.step_tally.specs.declared.counts.QueueCounts.{QueueCounts}
-use Rattle.step_tally.proofs.Pushes.{same_queue, same_lane}
+use Rattle.step_tally.specs.declared.tables.QueueRow.{QueueRow}
+use Rattle.step_tally.proofs.Pushes.{same_queue, same_lane, same_row}
 
 AreCounts-same : {X : Type 0} (f g : ℕ → X) (table : List X) → AreCounts f table → ((k : ℕ) → k < length table → g k ≡ f k) → AreCounts g table
 AreCounts-same f g table h same = λ k d lt. h k d lt ∙ sym (same k lt)
@@ -41,23 +42,31 @@ AreCounts-replicate f n x all = λ k d lt. get_or-replicate n k x d (omega (arit
 
 -- ---- at no step
 
-queue_none : (x : QueueCounts) → (x.rx_new ≡ 0) × ((x.rx_forwarded ≡ 0) × (x.tx ≡ 0)) → (q : ℕ) → queue_counts [] q ≡ x
+given_none : (q : ℕ) → given_row [] q ≡ replicate MAX_PORTS 0
+unfolding given_to
+given_none q = refl
+
+-- a row of which nothing is counted
+abbrev pub zero_row : QueueCounts → QueueRow
+zero_row x = record { counts = x; given = replicate MAX_PORTS 0 }
+
+queue_none : (x : QueueCounts) → (x.rx_new ≡ 0) × ((x.rx_forwarded ≡ 0) × (x.tx ≡ 0)) → (q : ℕ) → queue_row [] q ≡ zero_row x
 unfolding new_to passed_to hand
-queue_none x h q = same_queue (sym h.0) (sym h.1.0) (sym h.1.1)
+queue_none x h q = same_row (same_queue (sym h.0) (sym h.1.0) (sym h.1.1)) (given_none q)
 
 lane_none : (x : LaneCounts)
-    → (x.tx ≡ 0) × ((x.released ≡ 0) × ((x.forwarded ≡ 0) × ((x.added ≡ 0) × ((x.turned ≡ 0) × (x.bounced ≡ 0))))) → (l : ℕ)
+    → (x.rx_new ≡ 0) × ((x.tx ≡ 0) × ((x.released ≡ 0) × ((x.forwarded ≡ 0) × ((x.added ≡ 0) × ((x.turned ≡ 0) × (x.bounced ≡ 0)))))) → (l : ℕ)
     → lane_counts [] l ≡ x
-unfolding released_by forwarded_by added_by turned_on bounced_on out answers
-lane_none x h l = same_lane (sym h.0) (sym h.1.0) (sym h.1.1.0) (sym h.1.1.1.0) (sym h.1.1.1.1.0) (sym h.1.1.1.1.1)
+unfolding new_on released_by forwarded_by added_by turned_on bounced_on out answers
+lane_none x h l = same_lane (sym h.0) (sym h.1.0) (sym h.1.1.0) (sym h.1.1.1.0) (sym h.1.1.1.1.0) (sym h.1.1.1.1.1.0) (sym h.1.1.1.1.1.1)
 
 -- tables of zeros are those of no step
 pub AreTables-none : (x : QueueCounts) (y : LaneCounts) → (x.rx_new ≡ 0) × ((x.rx_forwarded ≡ 0) × (x.tx ≡ 0))
-    → (y.tx ≡ 0) × ((y.released ≡ 0) × ((y.forwarded ≡ 0) × ((y.added ≡ 0) × ((y.turned ≡ 0) × (y.bounced ≡ 0)))))
-    → AreTables [] (replicate MAX_QUEUES x) (replicate MAX_LANES y)
+    → (y.rx_new ≡ 0) × ((y.tx ≡ 0) × ((y.released ≡ 0) × ((y.forwarded ≡ 0) × ((y.added ≡ 0) × ((y.turned ≡ 0) × (y.bounced ≡ 0))))))
+    → AreTables [] (replicate MAX_QUEUES (zero_row x)) (replicate MAX_LANES y)
 AreTables-none x y h k = record {
-  all_queues = length-replicate MAX_QUEUES x;
+  all_queues = length-replicate MAX_QUEUES (zero_row x);
   all_lanes = length-replicate MAX_LANES y;
-  queues = AreCounts-replicate (queue_counts []) MAX_QUEUES x (queue_none x h);
+  queues = AreCounts-replicate (queue_row []) MAX_QUEUES (zero_row x) (queue_none x h);
   lanes = AreCounts-replicate (lane_counts []) MAX_LANES y (lane_none y k);
 }

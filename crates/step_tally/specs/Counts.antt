@@ -1,12 +1,12 @@
 -- What a tally counts of each queue and of each lane, read off the whole transcript (rte_eventdev, rte_event_dev_xstats_get: the
 -- statistics of a queue and of a port; which there are is own).
-use Rattle.std.specs.Prelude.{ℕ, Bool, true, false, List, ◌==◌, length, count_by}
+use Rattle.std.specs.Prelude.{ℕ, Bool, true, false, List, ◌==◌, ◌&&◌, length, count_by}
 use Rattle.transcripts.specs.Transcript.{out, answers, hand}
 use Rattle.evt_types.specs.declared.step.Outcome.{Outcome}
 use Rattle.evt_types.specs.declared.step.Outcome.TheVariants.{Forwarded, Released}
 use Rattle.evt_types.specs.declared.step.Source.TheVariants.{New, Of}
 use Rattle.evt_types.specs.declared.step.Step.{Step}
-use Rattle.evt_types.specs.declared.step.Step.TheVariants.{Accept, More, Turned, Bounced}
+use Rattle.evt_types.specs.declared.step.Step.TheVariants.{Accept, Give, More, Turned, Bounced}
 use Rattle.step_tally.specs.declared.counts.LaneCounts.{LaneCounts}
 use Rattle.step_tally.specs.declared.counts.QueueCounts.{QueueCounts}
 
@@ -29,6 +29,15 @@ new_to T q = count_by (is_new_to q) T
 unfoldable pub passed_to : List Step → ℕ → ℕ
 passed_to T q = count_by (is_passed_to q) T
 
+-- a Give of the queue to the lane
+abbrev pub is_given_to : ℕ → ℕ → Step → Bool
+is_given_to q l (Give m r n) = (r == q) && (m == l)
+is_given_to q l step = false
+
+-- how many of the queue's events were given to the lane
+unfoldable pub given_to : List Step → ℕ → ℕ → ℕ
+given_to T q l = count_by (is_given_to q l) T
+
 abbrev pub queue_counts : List Step → ℕ → QueueCounts
 queue_counts T q = record { rx_new = new_to T q; rx_forwarded = passed_to T q; tx = length (hand T q) }
 
@@ -42,6 +51,11 @@ abbrev pub is_forwarded : Outcome → Bool
 is_forwarded (Forwarded e) = true
 is_forwarded Released = false
 
+-- an Accept from a NEW of the lane
+abbrev pub is_new_on : ℕ → Step → Bool
+is_new_on l (Accept q e (New m)) = m == l
+is_new_on l step = false
+
 -- an event that was added on the lane, a NEW of it that was turned away, a delivery that its ring had no room for
 abbrev pub is_added_on : ℕ → Step → Bool
 is_added_on l (More m e) = m == l
@@ -54,6 +68,10 @@ is_turned_on l step = false
 abbrev pub is_bounced_on : ℕ → Step → Bool
 is_bounced_on l (Bounced m) = m == l
 is_bounced_on l step = false
+
+-- how many of the lane's NEWs were accepted
+unfoldable pub new_on : List Step → ℕ → ℕ
+new_on T l = count_by (is_new_on l) T
 
 -- how many of the lane's answers are RELEASEs, and how many FORWARDs
 unfoldable pub released_by : List Step → ℕ → ℕ
@@ -74,6 +92,7 @@ bounced_on T l = count_by (is_bounced_on l) T
 abbrev pub lane_counts : List Step → ℕ → LaneCounts
 lane_counts T l =
     record {
+      rx_new = new_on T l;
       tx = length (out T l);
       released = released_by T l;
       forwarded = forwarded_by T l;

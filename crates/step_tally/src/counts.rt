@@ -14,6 +14,8 @@ pub struct QueueCounts {
 /// What was counted of a lane.
 #[derive(Clone, Copy, Debug, PartialEq, Eq, Default)]
 pub struct LaneCounts {
+    /// How many of its NEWs were accepted.
+    pub rx_new: u64,
     /// How many events it was given: of a port its `port_N_tx`.
     pub tx: u64,
     /// How many of them it released.

@@ -1,12 +1,19 @@
 //! One step more in a table of counts.
 
 ghost use Rattle.std.specs.Prelude.{◌≡◌, [], ◌∷◌, ◌++◌, length};
-ghost use Rattle.step_tally.specs.Counts.{queue_counts, lane_counts};
-ghost use Rattle.step_tally.specs.Tables.{AreCounts, HasFewOfLane, HasFewOfQueue, lane_after, lane_in, queue_after, queue_in};
+ghost use Rattle.step_tally.specs.Counts.{lane_counts};
+ghost use Rattle.step_tally.specs.Tables.{AreCounts, HasFewOfLane, HasFewOfQueue, lane_after, lane_in, queue_in, queue_row, row_after};
 
 use crate::counts::{LaneCounts, QueueCounts};
-use evt_types::{Outcome, Source, Step};
+use evt_types::{MAX_PORTS, Outcome, Source, Step};
 use step_log::StepLog;
+
+/// What a table has of a queue: what is counted of it, and how many of its events each port's lane was given.
+#[derive(Clone, Copy)]
+pub(crate) struct QueueRow {
+    pub(crate) counts: QueueCounts,
+    pub(crate) given: [u64; MAX_PORTS],
+}
 
 /// The queue of which the step is counted.
 #[inline(always)]
@@ -25,16 +32,21 @@ fn queue_in(step: &Step) -> Option<usize>
 
 /// Counts the step of this queue.
 #[inline(always)]
-fn count_of_queue(counts: &mut QueueCounts, step: &Step)
-    requires { HasFewOfQueue counts.old }
-    ensures { counts.new ≡ queue_after counts.old step.now }
+fn count_of_queue(row: &mut QueueRow, step: &Step)
+    requires { HasFewOfQueue row.old }
+    ensures { row.new ≡ row_after row.old step.now }
 {
     match *step {
         Step::Accept { source, .. } => match source {
-            Source::New { .. } => counts.rx_new += 1,
-            Source::Of { .. } => counts.rx_forwarded += 1,
+            Source::New { .. } => row.counts.rx_new += 1,
+            Source::Of { .. } => row.counts.rx_forwarded += 1,
         },
-        Step::Give { .. } => counts.tx += 1,
+        Step::Give { lane, .. } => {
+            row.counts.tx += 1;
+            if lane < MAX_PORTS {
+                row.given[lane] += 1;
+            }
+        }
         Step::Done { .. }
         | Step::More { .. }
         | Step::Turned { .. }
@@ -45,9 +57,9 @@ fn count_of_queue(counts: &mut QueueCounts, step: &Step)
 
 /// Counts the step, which comes after those of the log, at its queue, where the table has it.
 #[inline(always)]
-pub(crate) fn count_at_queue<L: StepLog>(table: &mut [QueueCounts], _log: &L, step: &Step)
-    requires { AreCounts (queue_counts (L.steps _log.now)) table.old }
-    ensures counts { AreCounts (queue_counts (L.steps _log.now ++ step.now ∷ [])) table.new }
+pub(crate) fn count_at_queue<L: StepLog>(table: &mut [QueueRow], _log: &L, step: &Step)
+    requires { AreCounts (queue_row (L.steps _log.now)) table.old }
+    ensures counts { AreCounts (queue_row (L.steps _log.now ++ step.now ∷ [])) table.new }
     ensures length { length table.new ≡ length table.old }
 {
     if let Some(queue) = queue_in(step) {
@@ -63,12 +75,20 @@ fn lane_in(step: &Step) -> Option<usize>
     ensures { result ≡ lane_in step.now }
 {
     match *step {
-        Step::Give { lane, .. }
+        Step::Accept {
+            source: Source::New { lane },
+            ..
+        }
+        | Step::Give { lane, .. }
         | Step::Done { lane, .. }
         | Step::More { lane, .. }
         | Step::Turned { lane, .. }
         | Step::Bounced { lane } => Some(lane),
-        Step::Accept { .. } | Step::Shut => None,
+        Step::Accept {
+            source: Source::Of { .. },
+            ..
+        }
+        | Step::Shut => None,
     }
 }
 
@@ -79,6 +99,10 @@ fn count_of_lane(counts: &mut LaneCounts, step: &Step)
     ensures { counts.new ≡ lane_after counts.old step.now }
 {
     match *step {
+        Step::Accept { source, .. } => match source {
+            Source::New { .. } => counts.rx_new += 1,
+            Source::Of { .. } => {}
+        },
         Step::Give { .. } => counts.tx += 1,
         Step::Done { outcome, .. } => match outcome {
             Outcome::Released => counts.released += 1,
@@ -87,7 +111,7 @@ fn count_of_lane(counts: &mut LaneCounts, step: &Step)
         Step::More { .. } => counts.added += 1,
         Step::Turned { .. } => counts.turned += 1,
         Step::Bounced { .. } => counts.bounced += 1,
-        Step::Accept { .. } | Step::Shut => {}
+        Step::Shut => {}
     }
 }
 

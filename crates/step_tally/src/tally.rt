@@ -4,17 +4,17 @@ ghost use Rattle.std.specs.Prelude.{[], IfOk};
 ghost use Rattle.step_tally.specs.Tables.{AreTables};
 
 use crate::counts::{LaneCounts, QueueCounts};
-use crate::tables::{count_at_lane, count_at_queue};
-use evt_types::{MAX_LANES, MAX_QUEUES, Step};
+use crate::tables::{QueueRow, count_at_lane, count_at_queue};
+use evt_types::{MAX_LANES, MAX_PORTS, MAX_QUEUES, Step};
 use std::alloc::{AllocFailed, Global};
 use std::marker::Model;
 use step_log::{Memory, StepLog};
 
 /// A log over any other that counts its steps by queue and by lane, exactly, in two tables that are made once: they have a place for
-/// each queue and each lane that a device may have. Which steps it keeps the other log says.
+/// each queue, and in it for each port, and for each lane that a device may have. Which steps it keeps the other log says.
 #[derive(Drop)]
 pub struct Tally<L: StepLog> {
-    queues: Vec<QueueCounts>,
+    queues: Vec<QueueRow>,
     lanes: Vec<LaneCounts>,
     log: L,
 }
@@ -33,18 +33,22 @@ impl<L: StepLog> Model for Tally<L> {
 }
 
 /// The tables of no step.
-fn empty_tables(alloc: Global) -> Result<(Vec<QueueCounts>, Vec<LaneCounts>), Memory>
+fn empty_tables(alloc: Global) -> Result<(Vec<QueueRow>, Vec<LaneCounts>), Memory>
     ensures { IfOk result (λ r. AreTables [] r.0.items r.1.items) }
 {
-    let queues = vec![in alloc; QueueCounts::default(); MAX_QUEUES]?;
+    let row = QueueRow {
+        counts: QueueCounts::default(),
+        given: [0; MAX_PORTS],
+    };
+    let queues = vec![in alloc; row; MAX_QUEUES]?;
     let lanes = vec![in alloc; LaneCounts::default(); MAX_LANES]?;
     Ok((queues, lanes))
 }
 
 impl<L: StepLog> Tally<L> {
     ghost use Rattle.std.specs.Prelude.{◌≡◌, ◌<◌, [], IfOk, IfErr};
-    ghost use Rattle.evt_types.specs.declared.shape.TheConstants.{MAX_LANES, MAX_QUEUES};
-    ghost use Rattle.step_tally.specs.Counts.{queue_counts, lane_counts};
+    ghost use Rattle.evt_types.specs.declared.shape.TheConstants.{MAX_LANES, MAX_PORTS, MAX_QUEUES};
+    ghost use Rattle.step_tally.specs.Counts.{given_to, queue_counts, lane_counts};
 
     /// Begins to count with this log, which has no step yet. Where memory runs out the log comes back.
     pub fn new(alloc: Global, log: L) -> Result<Tally<L>, AllocFailed<L>>
@@ -63,7 +67,16 @@ impl<L: StepLog> Tally<L> {
         requires { queue < MAX_QUEUES }
         ensures { result ≡ queue_counts (L.steps self.now) queue }
     {
-        self.queues[queue]
+        self.queues[queue].counts
+    }
+
+    /// How many of the queue's events the steps give to the port's lane.
+    pub fn given(&self, queue: usize, port: usize) -> u64
+        requires queue { queue < MAX_QUEUES }
+        requires port { port < MAX_PORTS }
+        ensures { result ≡ given_to (L.steps self.now) queue port }
+    {
+        self.queues[queue].given[port]
     }
 
     /// What the steps say of the lane.

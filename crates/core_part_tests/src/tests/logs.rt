@@ -67,18 +67,25 @@ fn push(log: &mut Tally<Tail<2>>, steps: &[Step]) {
     }
 }
 
-/// What is counted of the queue, of the port that brings events in, and of the worker.
-fn counts_in(log: &Tally<Tail<2>>) -> (QueueCounts, LaneCounts, LaneCounts) {
-    (log.queue(0), log.lane(0), log.lane(1))
+/// What is counted of the queue, of the port that brings events in, and of the worker, and how many of the queue's events each of
+/// these two was given.
+fn counts_in(log: &Tally<Tail<2>>) -> (QueueCounts, LaneCounts, LaneCounts, [u64; 2]) {
+    (
+        log.queue(0),
+        log.lane(0),
+        log.lane(1),
+        [log.given(0, 0), log.given(0, 1)],
+    )
 }
 
-const COUNTS: (QueueCounts, LaneCounts, LaneCounts) = (
+const COUNTS: (QueueCounts, LaneCounts, LaneCounts, [u64; 2]) = (
     QueueCounts {
         rx_new: 1,
         rx_forwarded: 1,
         tx: 1,
     },
     LaneCounts {
+        rx_new: 1,
         tx: 0,
         released: 0,
         forwarded: 0,
@@ -87,6 +94,7 @@ const COUNTS: (QueueCounts, LaneCounts, LaneCounts) = (
         bounced: 0,
     },
     LaneCounts {
+        rx_new: 0,
         tx: 1,
         released: 0,
         forwarded: 1,
@@ -94,6 +102,7 @@ const COUNTS: (QueueCounts, LaneCounts, LaneCounts) = (
         turned: 0,
         bounced: 0,
     },
+    [0, 1],
 );
 
 /// How many steps there were, and the last two.

@@ -1,18 +1,20 @@
 -- What is counted balances: what was accepted, given and answered.
-use Rattle.std.proofs.Common.{◌≡◌, ℕ, zero, suc, ◌+◌, ◌<◌, ◌≤◌, Bool, true, false, not, ◌==◌, List, [], ◌∷◌, ◌++◌, length, count_by, filter, filter_map, All, AllPairs, Contains, Option, Some, None, cond, refl, ap, ◌∙◌, subst, arith, ⊎_elim}
+use Rattle.std.proofs.Common.{◌≡◌, ◌≢◌, ℕ, zero, suc, ◌+◌, ◌<◌, ◌≤◌, Bool, true, false, not, ◌==◌, ◌&&◌, List, [], ◌∷◌, ◌++◌, length, count_by, filter, filter_map, All, AllPairs, Contains, Option, Some, None, cond, refl, sym, sum_by, ap, ◌∙◌, subst, arith, ⊎_elim}
 use Rattle.std.specs.List.{cons_option}
 use Rattle.std.proofs.lemmas.Bool.{cases_eq, not_from_true, not_from_false, eq-eqb, cond-true, cond-false}
 use Rattle.std.proofs.lemmas.List.{length_push, take_all}
-use Rattle.std.proofs.lemmas.List.Elements.{All-weaker}
+use Rattle.std.proofs.lemmas.List.Elements.{All-head, All-tail, All-weaker}
 use Rattle.std.proofs.lemmas.List.Sums.{sum_by-cons}
 use Rattle.lists.proofs.Lists.{eqb_other, filter-all}
+use Rattle.lists.proofs.Sums.{sum_changed, sum_same}
+use Rattle.transcripts.proofs.ByLane.{sum_zero}
 use Rattle.transcripts.proofs.Facts.{Facts, Facts-none, Facts-push, AllowedAfter_keeps}
 use Rattle.transcripts.proofs.Pushes.{accepted_in-other, accepted-some, accepted-none, given_of-other, hand-some, hand-none, length-unanswered}
 use Rattle.transcripts.proofs.Waits.{waiting-none, waiting-gives, waiting-accepts, waiting-rises}
 use Rattle.transcripts.proofs.Whole.{steps-Lawful}
 use Rattle.transcripts.specs.Allowed.{Allowed}
-use Rattle.transcripts.specs.Lawful.{Lawful}
-use Rattle.evt_types.specs.Plan.{Plan}
+use Rattle.transcripts.specs.Lawful.{IsFormed, Lawful}
+use Rattle.evt_types.specs.Plan.{Plan, lanes, lanes_of}
 use Rattle.transcripts.specs.Transcript.{accepted_in, accepted, out, answers, unanswered, given_of, hand, waiting}
 use Rattle.evt_types.specs.declared.event.Event.{Event}
 use Rattle.evt_types.specs.declared.event.Numbered.{Numbered}
@@ -22,7 +24,7 @@ use Rattle.evt_types.specs.declared.step.Source.{Source}
 use Rattle.evt_types.specs.declared.step.Source.TheVariants.{New, Of}
 use Rattle.evt_types.specs.declared.step.Step.{Step}
 use Rattle.evt_types.specs.declared.step.Step.TheVariants.{Accept, Give}
-use Rattle.step_tally.specs.Counts.{is_new_to, is_passed_to, new_to, passed_to, is_released, is_forwarded, released_by, forwarded_by}
+use Rattle.step_tally.specs.Counts.{is_new_to, is_passed_to, is_given_to, new_to, passed_to, given_to, is_released, is_forwarded, released_by, forwarded_by}
 
 -- ---- for every transcript
 
@@ -162,3 +164,52 @@ pub accepted_by_give : (p : Plan) (T : List Step) (q : ℕ) → Lawful p T → l
 accepted_by_give p T q h =
     (AllowedAfter_keeps p (Balanced p) (λ P s b a. record { facts = Facts-push p P s b.facts a; waits = λ r. waits_push p P s r b.facts a (b.waits r) }) []
     T (record { facts = Facts-none p; waits = waits_none }) (steps-Lawful p T h).steps).waits q
+
+-- ---- by lane
+
+abbrev GivenByLane : Plan → List Step → ℕ → Type 0
+GivenByLane p T q = length (hand T q) ≡ sum_by (given_to T q) (lanes p)
+
+given_to-cons : (s : Step) (T : List Step) (q l : ℕ) → given_to (s ∷ T) q l ≡ cond (is_given_to q l s) 1 0 + given_to T q l
+unfolding given_to
+given_to-cons s T q l = sum_by-cons (λ t. cond (is_given_to q l t) 1 0) s T
+
+-- a step that is no Give of the queue
+elsewhere : (p : Plan) (s : Step) (T : List Step) (q : ℕ) → given_of q s ≡ None → ((l : ℕ) → is_given_to q l s ≡ false)
+    → GivenByLane p T q → GivenByLane p (s ∷ T) q
+unfolding hand
+elsewhere p s T q none still h =
+    ap (λ o. length (cons_option o (hand T q))) none ∙ (h ∙ sum_same (given_to T q) (given_to (s ∷ T) q) (lanes_of p) (λ l.
+    omega (arith, given_to-cons s T q l, cond-false {A = ℕ} (is_given_to q l s) 1 0 (still l))))
+
+-- a Give of the queue
+here : (p : Plan) (l r n : ℕ) (T : List Step) (q : ℕ) → l < lanes_of p → r ≡ q
+    → GivenByLane p T q → GivenByLane p (Give l r n ∷ T) q
+unfolding hand
+here p l r n T q there same h =
+    let s = Give l r n in
+    let one = ap (λ o. length (cons_option o (hand T q))) (cond-true (r == q) (Some n) None (eq-eqb r q same)) in
+    let of_queue : (k : ℕ) (b : Bool) → (l == k) ≡ b → is_given_to q k s ≡ b = λ k b e. ap (λ c. c && (l == k)) (eq-eqb r q same) ∙ e in
+    let more : given_to T q l + 1 ≡ given_to (s ∷ T) q l + 0 = omega (arith, given_to-cons s T q l, cond-true {A = ℕ} (is_given_to q l s) 1 0 (of_queue l true (eq-eqb l l refl))) in
+    let still : (k : ℕ) → k ≢ l → given_to T q k ≡ given_to (s ∷ T) q k = λ k other. omega (arith, given_to-cons s T q k, cond-false {A = ℕ} (is_given_to q k s) 1 0 (of_queue k false (eqb_other l k (λ e. other (sym e))))) in
+    omega (arith, one, h, sum_changed (given_to T q) (given_to (s ∷ T) q) (lanes_of p) l 1 0 there more still)
+
+given_step : (p : Plan) (s : Step) (T : List Step) (q : ℕ) → IsFormed p s
+    → GivenByLane p T q → GivenByLane p (s ∷ T) q
+given_step p (Give l r n) T q formed h =
+    ⊎_elim (λ same. here p l r n T q formed.lane same h)
+    (λ other. elsewhere p (Give l r n) T q (given_of-other l q r n other) (λ k. ap (λ b. b && (l == k)) (eqb_other r q other)) h)
+    (cases_eq r q)
+given_step p step T q formed h = elsewhere p step T q refl (λ l. refl) h
+
+given_none : (p : Plan) (q : ℕ) → GivenByLane p [] q
+unfolding hand given_to
+given_none p q = sym (sum_zero (given_to [] q) (lanes p) (λ k d l. refl))
+
+given_formed : (p : Plan) (T : List Step) (q : ℕ) → All (IsFormed p) T → GivenByLane p T q
+given_formed p [] q formed = given_none p q
+given_formed p (s ∷ T) q formed =
+    given_step p s T q (All-head (IsFormed p) s T formed) (given_formed p T q (All-tail (IsFormed p) s T formed))
+
+pub given_by_lane : (p : Plan) (T : List Step) (q : ℕ) → Lawful p T → length (hand T q) ≡ sum_by (given_to T q) (lanes p)
+given_by_lane p T q lawful = given_formed p T q lawful.formed

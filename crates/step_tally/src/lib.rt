@@ -11,7 +11,7 @@ mod tally;
 pub use counts::{LaneCounts, QueueCounts};
 pub use laws::{
     accepted_are_given_or_wait, accepted_are_new_or_forwarded, answers_are_released_or_forwarded,
-    given_are_answered_or_unanswered,
+    given_are_answered_or_unanswered, given_are_given_to_lanes,
 };
 pub use tail::Tail;
 pub use tally::Tally;

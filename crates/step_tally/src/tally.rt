@@ -70,7 +70,7 @@ impl<L: StepLog> Tally<L> {
         self.queues[queue].counts
     }
 
-    /// How many of the queue's events the steps give to the port's lane.
+    /// How many of the queue's events the steps give to the port's lane: `qid_N_port_M_packets` of event_sw.
     pub fn given(&self, queue: usize, port: usize) -> u64
         requires queue { queue < MAX_QUEUES }
         requires port { port < MAX_PORTS }

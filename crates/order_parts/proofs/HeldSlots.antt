@@ -2,7 +2,7 @@
 use Rattle.std.proofs.Common.{◌≡◌, ◌≢◌, ℕ, ◌+◌, ◌<◌, ◌≤◌, ◌==◌, List, length, replicate, slice_set, ⊎_elim, refl, sym, ap, ◌∙◌, subst, arith, eqb-true}
 use Rattle.std.specs.Prelude.{◌↔◌, IsTrue}
 use Rattle.std.proofs.lemmas.Bool.{cases_lt, cases_eq, or_cases}
-use Rattle.std.proofs.lemmas.List.{get_or-set_same, get_or-set_other, get_or_past, length-set, length-replicate, get_or-replicate}
+use Rattle.std.proofs.lemmas.List.{get_or-set_same, get_or-set_other, get_or_past, length-set, get_or-replicate}
 use Rattle.order_parts.specs.Held.{AreHeld, AreHeldBelow, IsHeldIn}
 use Rattle.order_parts.specs.Pins.{Pin, IsOn, cell_of, free, may_pin, pin_at, pinned, unpinned}
 use Rattle.small_set.specs.SmallSets.{Has, SameBut, no_places, set_at}

@@ -86,6 +86,12 @@ module _ (a : Inside) (ring : IsRing a) where
   pub held_len : length (held a) ≡ a.len
   held_len = length-window (length a.ring.items) a.first a.len a.ring.items ring.first all_fit refl
 
+  -- an entry, oldest first, at its place
+  pub entry_at : (i : ℕ) (d : Entry) → i < a.len → get_or (held a) i d ≡ get_or a.ring.items (bit_and (a.first + i) a.mask) d
+  entry_at i d within =
+      let place = masked (a.first + i) a.mask (length a.ring.items) ring.power ring.mask in
+      get_or-window (length a.ring.items) a.first a.len a.ring.items ring.first all_fit refl i d within ∙ ap (λ j. get_or a.ring.items j d) (sym place)
+
   pub has_room : (h : Entries) → entries_of (held a) a.capacity ≡ h → length h.entries < h.capacity → a.len < a.capacity
   has_room h is room = omega (arith, room, held_len, ap (λ (e : Entries). length e.entries) is, ap (λ (e : Entries). e.capacity) is)
 

@@ -1,5 +1,5 @@
 -- The pins of an atomic queue's slots: how many unanswered events of a slot there are, and the lane on which they stand.
-use Rattle.std.specs.Prelude.{ℕ, ◌≡◌, ◌<◌, ◌+◌, ◌-◌, ◌%◌, Bool, ◌||◌, ◌==◌, List, slice_index_or, Option, Some, None, if◌then◌else◌}
+use Rattle.std.specs.Prelude.{ℕ, ◌≡◌, ◌<◌, ◌+◌, ◌-◌, ◌%◌, Bool, ◌&&◌, ◌||◌, ◌==◌, nat_lt, List, slice_index_or, Option, Some, None, if◌then◌else◌}
 use Rattle.order_parts.specs.declared.pins.Hold.{Hold}
 
 -- how many unanswered events of the slot there are, and the last lane that was given one
@@ -40,6 +40,10 @@ unpinned p = record { count = p.count - 1; lane = p.lane }
 -- unanswered events of the slot stand on the lane
 abbrev pub IsOn : Pin → ℕ → Type 0
 IsOn x l = (0 < x.count) × (x.lane ≡ l)
+
+-- the same as a test
+abbrev pub is_on : ℕ → Pin → Bool
+is_on l x = nat_lt 0 x.count && (x.lane == l)
 
 -- the number under which the slots of a lane are noted: each of the first lanes has its own
 abbrev pub cell_of : ℕ → ℕ

@@ -1,8 +1,8 @@
 //! Which lane holds each slot of each queue.
 
-ghost use Rattle.std.specs.Prelude.{◌≡◌, ℕ, ◌<◌, ◌↔◌, length, IfOk, IsTrue};
+ghost use Rattle.std.specs.Prelude.{◌≡◌, ℕ, ◌<◌, ◌↔◌, count_by, length, IfOk, IsTrue};
 ghost use Rattle.evt_types.specs.Plan.{atomic_slots};
-ghost use Rattle.order_parts.specs.Pins.{IsOn, holder_of, may_pin, pinned, unpinned};
+ghost use Rattle.order_parts.specs.Pins.{IsOn, holder_of, is_on, may_pin, pinned, unpinned};
 ghost use Rattle.small_set.specs.SmallSets.{Has};
 ghost use Rattle.order_parts.specs.QueuePins.{AreFreePins, pins_at, pin_in, with_pin};
 
@@ -86,6 +86,14 @@ impl AllPins {
         ensures off { (s : ℕ) → s < 64 → (0 < (pin_in self.old queue s).count → (pin_in self.old queue s).lane < 64) → Has result s ↔ ((l : ℕ) → Has lanes l → ¬ IsOn (pin_in self.old queue s) l) }
     {
         self.queues[queue].slots_off(lanes)
+    }
+
+    /// How many of the queue's slots have unanswered events on the lane. None of a queue whose slots have no pin.
+    pub fn slots_on(&self, queue: usize, lane: usize) -> usize
+        requires { queue < length self.now }
+        ensures { result ≡ count_by (is_on lane) (pins_at self.now queue) }
+    {
+        self.queues[queue].slots_on(lane)
     }
 
     /// One event more of the slot goes to the lane.

@@ -1,8 +1,9 @@
 //! The unanswered events of all lanes.
 
-ghost use Rattle.std.specs.Prelude.{◌≡◌, ◌+◌, ◌<◌, ◌==◌, ◌∷◌, ◌++◌, [], length, drop, slice_get, slice_set, Some, IfOk, IsTrue, IsFalse};
+ghost use Rattle.std.specs.Prelude.{◌≡◌, ◌+◌, ◌<◌, ◌==◌, ◌∷◌, ◌++◌, [], count_by, length, drop, slice_get, slice_set, Some, IfOk, IsTrue, IsFalse};
 ghost use Rattle.evt_types.specs.Plan.{lanes_of};
 ghost use Rattle.order_parts.specs.History.{entries_of};
+ghost use Rattle.order_parts.specs.declared.history.Entry.{Entry as EntryValue};
 ghost use Rattle.order_parts.specs.Histories.{AreRoomy, HasRoom, lane_in, AreEmptyLanes};
 ghost use Rattle.small_set.specs.SmallSets.{Has, SameBut};
 
@@ -113,6 +114,14 @@ impl Histories {
         ensures { result + length (lane_in self.now lane).entries ≡ (lane_in self.now lane).capacity }
     {
         self.lanes[lane].room()
+    }
+
+    /// How many of the lane's unanswered events are of the queue.
+    pub fn count_of(&self, lane: usize, queue: usize) -> usize
+        requires { lane < length self.now }
+        ensures { result ≡ count_by (λ (y : EntryValue). y.queue == queue) (lane_in self.now lane).entries }
+    {
+        self.lanes[lane].count_of(queue)
     }
 
     /// Of the first lanes those that have room.

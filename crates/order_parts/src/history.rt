@@ -1,7 +1,8 @@
 //! The events that a lane hasn't answered.
 
-ghost use Rattle.std.specs.Prelude.{◌≡◌, ◌+◌, ◌^◌, ◌<◌, ◌≤◌, ◌==◌, [], ◌∷◌, ◌++◌, length, drop, slice_get, IfOk};
+ghost use Rattle.std.specs.Prelude.{◌≡◌, ◌+◌, ◌^◌, ◌<◌, ◌≤◌, ◌==◌, [], ◌∷◌, ◌++◌, count_by, length, drop, slice_get, IfOk};
 ghost use Rattle.order_parts.specs.History.{entries_of};
+ghost use Rattle.order_parts.specs.declared.history.Entry.{Entry as EntryValue};
 
 use evt_types::Memory;
 use std::alloc::Global;
@@ -126,5 +127,19 @@ impl History {
         self.first = (self.first + 1) & self.mask;
         self.len -= 1;
         Some(entry)
+    }
+
+    /// How many of the entries are of the queue.
+    pub fn count_of(&self, queue: usize) -> usize
+        ensures { result ≡ count_by (λ (y : EntryValue). y.queue == queue) self.now.entries }
+    {
+        let mut count = 0;
+        for index in 0..self.len {
+            let entry = self.ring[(self.first + index) & self.mask];
+            if entry.queue == queue {
+                count += 1;
+            }
+        }
+        count
     }
 }

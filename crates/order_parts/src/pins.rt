@@ -1,9 +1,10 @@
 //! Which lane holds each slot of an atomic queue.
 
-ghost use Rattle.std.specs.Prelude.{◌≡◌, ℕ, ◌+◌, ◌<◌, ◌≤◌, ◌↔◌, List, length, map, replicate, slice_set, IfOk, IsTrue};
+ghost use Rattle.std.specs.Prelude.{◌≡◌, ℕ, ◌+◌, ◌<◌, ◌≤◌, ◌↔◌, List, count_by, length, map, replicate, slice_set, IfOk, IsTrue};
 ghost use Rattle.evt_types.specs.declared.shape.TheConstants.{MAX_DEPTH};
 ghost use Rattle.order_parts.specs.Held.{AreHeld, AreHeldBelow, AreNoted};
-ghost use Rattle.order_parts.specs.Pins.{IsOn, Pin, cell_of, free, pin_at, pin_of, pin_on, may_pin, pinned, unpinned};
+ghost use Rattle.order_parts.specs.Pins.{IsOn, Pin, cell_of, free, is_on, pin_at, pin_of, pin_on, may_pin, pinned, unpinned};
+ghost use Rattle.order_parts.specs.declared.pins.Hold.{Hold as HoldValue};
 ghost use Rattle.small_set.specs.SmallSets.{Has};
 
 use evt_types::{MAX_SLOTS, Memory};
@@ -131,6 +132,16 @@ fn note_unpinned(
     }
 }
 
+/// How many of these slots stand on the lane.
+fn count_on(holds: &[Hold], lane: usize) -> usize
+    ensures { result ≡ count_by (λ (h : HoldValue). is_on lane (pin_of h)) holds.now }
+{
+    holds
+        .iter()
+        .filter(|hold| hold.count > 0 && hold.lane == lane)
+        .count()
+}
+
 impl Model for Pins {
     ghost use Rattle.std.specs.Prelude.{List, map};
     ghost use Rattle.order_parts.specs.Pins.{Pin, pin_of};
@@ -171,6 +182,13 @@ impl Pins {
     {
         let hold = self.holds[slot];
         hold.count == 0 || hold.lane == lane
+    }
+
+    /// How many slots have unanswered events, all of which stand on the lane.
+    pub fn slots_on(&self, lane: usize) -> usize
+        ensures { result ≡ count_by (is_on lane) self.now }
+    {
+        count_on(&self.holds, lane)
     }
 
     /// One event more of the slot goes to the lane.

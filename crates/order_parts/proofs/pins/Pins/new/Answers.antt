@@ -1,4 +1,4 @@
-use Rattle.std.proofs.Common.{◌≡◌, true, map, ap, ◌∙◌, length, sym, arith}
+use Rattle.std.proofs.Common.{map, ap, ◌∙◌, length, arith}
 use Rattle.std.proofs.lemmas.Bool.{false≢true}
 use Rattle.std.proofs.lemmas.List.{length-replicate}
 use Rattle.order_parts.specs.Pins.{free, pin_of}

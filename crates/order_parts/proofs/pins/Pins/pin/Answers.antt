@@ -1,7 +1,7 @@
-use Rattle.std.proofs.Common.{◌≡◌, ◌+◌, map, length, refl, sym, ap, subst, arith}
+use Rattle.std.proofs.Common.{◌+◌, refl, sym, subst, arith}
 use Rattle.std.proofs.lemmas.List.{length-set}
-use Rattle.order_parts.specs.Held.{AreHeld, AreNoted}
-use Rattle.order_parts.specs.Pins.{Pin, pin_at, pin_of, pinned}
+use Rattle.order_parts.specs.Held.{AreNoted}
+use Rattle.order_parts.specs.Pins.{Pin, pin_at, pinned}
 use Rattle.order_parts.proofs.Holds.{set_pin}
 use Rattle.order_parts.proofs.pins.Pins.pin.Goals as goal
 

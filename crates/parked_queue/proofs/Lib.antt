@@ -27,3 +27,4 @@ pub mod Without
 pub mod Changes
 pub mod NewStores
 pub mod Walks
+pub mod LevelRows

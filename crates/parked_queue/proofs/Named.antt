@@ -1,12 +1,12 @@
 -- The events that wait name their queue.
-use Rattle.std.proofs.Common.{◌≡◌, ℕ, zero, suc, ◌<◌, List, [], ◌∷◌, ◌++◌, filter, map, length, set, All, ⊎_elim, refl, sym, ap, ◌∙◌, subst}
+use Rattle.std.proofs.Common.{◌≡◌, ℕ, zero, suc, ◌<◌, List, [], ◌∷◌, ◌++◌, filter, map, length, set, ⊎_elim, refl, sym, ap, ◌∙◌, subst}
 use Rattle.std.proofs.lemmas.Bool.{cases_eq}
 use Rattle.std.proofs.lemmas.List.{get_or-set_other, get_or-set_same}
 use Rattle.std.proofs.lemmas.List.Elements.{All-append, All-cons, All-contains, All-filter, All-head, All-nil, All-tail}
 use Rattle.evt_types.specs.declared.event.Delivery.{Delivery}
 use Rattle.evt_types.specs.declared.event.Numbered.{Numbered}
 use Rattle.small_set.specs.declared.set.SmallSet.{SmallSet}
-use Rattle.parked_queue.specs.Lists.{delivery_of, named_delivery, numbered}
+use Rattle.parked_queue.specs.Lists.{delivery_of, named_delivery}
 use Rattle.parked_queue.specs.Waits.{AreNamed, IsFirstAllowed, Waits, all_empty, is_other, no_waits, waits_at}
 
 -- a queue is another

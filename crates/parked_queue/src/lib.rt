@@ -4,6 +4,7 @@
 #![tactic(auto)]
 
 mod chain;
+mod counts;
 mod first;
 mod level;
 mod parking;

@@ -23,9 +23,9 @@ use std::marker::Model;
 #[derive(Drop)]
 pub struct ParkedQueues {
     /// The lists of all queues, which share one store.
-    lists: WaitingLists,
+    pub(crate) lists: WaitingLists,
     /// How each queue's events are parted into its own lists.
-    queues: Vec<Parking>,
+    pub(crate) queues: Vec<Parking>,
     /// For each queue the levels of which an event waits. One that has become empty leaves when it is next looked at.
     levels: Vec<Levels>,
     /// The queues in which something waits.

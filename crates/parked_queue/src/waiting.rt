@@ -15,12 +15,12 @@ use std::marker::Model;
 #[derive(Drop)]
 pub struct WaitingLists {
     // The nodes of all chains, and the free ones. All are there from the start, so that a push asks for none.
-    nodes: Vec<Node>,
+    pub(crate) nodes: Vec<Node>,
     // The node that became free last, which leads to the one before it, and so on. One is left over when there is room for no event.
     // What became free last is taken first, while its memory is in the cache.
     free: usize,
     // One for each list.
-    chains: Vec<Chain>,
+    pub(crate) chains: Vec<Chain>,
     room: usize,
 }
 

@@ -3,6 +3,7 @@ pub mod Added
 pub mod Adding
 pub mod Answering
 pub mod Cores
+pub mod Counted
 pub mod FirstOnes
 pub mod Giving
 pub mod KeptLists

@@ -1,5 +1,6 @@
 pub mod Answered
 pub mod Inner
+pub mod Inside
 pub mod Links
 pub mod Offered
 pub mod OpenSlots

@@ -4,6 +4,7 @@
 
 mod answer;
 mod give;
+mod inside;
 mod lanes;
 mod new;
 mod offer;

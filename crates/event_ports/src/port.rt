@@ -54,6 +54,13 @@ impl Port {
         self.desk.lanes.held()
     }
 
+    /// How many credits are in the port's pocket: those that were drawn or released, and not spent or returned.
+    pub fn pocket(&self) -> u64
+        ensures { result ≡ pocket_of self.now }
+    {
+        self.desk.pocket
+    }
+
     /// What the port counted since it was made.
     pub fn counts(&self) -> PortCounts
         ensures { result ≡ counts_of self.now }

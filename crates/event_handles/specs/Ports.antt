@@ -7,9 +7,10 @@ use Rattle.event_answers.specs.declared.answer.Refused.{Refused}
 use Rattle.event_ports.specs.Claiming.{ClaimsEach}
 use Rattle.event_ports.specs.Counts.{after_behind, after_burst, after_dequeue, plus}
 use Rattle.event_ports.specs.Draws.{ReturnsSpare}
+use Rattle.event_ports.specs.Holds.{AreDrained}
 use Rattle.event_ports.specs.Lanes as lanes
 use Rattle.event_ports.specs.Lanes.{Releases, SubmitsAll}
-use Rattle.event_ports.specs.Ports.{Bursts, StopsAt, account_of, claim_seating, counts_of, hand, links, own_site, pocket_of, released_first, seen_by, was_filled}
+use Rattle.event_ports.specs.Ports.{Bursts, StopsAt, account_of, claim_seating, counts_of, flow_hands, hand, links, own_site, pocket_of, released_first, seen_by, was_filled}
 use Rattle.event_ports.specs.Queues.{AllNameQueues}
 use Rattle.event_ports.specs.declared.counts.PortCounts.{PortCounts}
 use Rattle.event_ports.specs.declared.lane.Lane.TheVariants.{Own}
@@ -70,6 +71,7 @@ pub record Receives (p : Port) (max : ℕ) (deliveries : List Delivery) (q : Por
   pub received : lanes.Dequeues (links p) (released_first p) (hand p) (hand q) deliveries
   pub few : (length deliveries ≤ max) × (length (hand q).holding ≤ (own_site p).lanes.depth)
   pub drained : length deliveries < max → length (hand q).holding < (own_site p).lanes.depth → seen_by q ≡ []
+  pub drained_flows : length deliveries < max → length (hand q).holding < (own_site p).lanes.depth → AreDrained (flow_hands q)
   pub own_first : length ((hand q).got Own) ≢ length ((hand p).got Own) + length deliveries → seen_by q ≡ []
   pub returned_spare : ReturnsSpare (own_site p).quantum ((pocket_of p + released_first p) % 2 ^ 64) (account_of p) (pocket_of q) (account_of q)
   pub counted : counts_of q ≡ after_dequeue (released_first p) (length deliveries) (counts_of p)

@@ -1,5 +1,5 @@
 -- An event is added beside the oldest that is held, which came from a flow lane, or it is refused: nothing that is held changes.
-use Rattle.std.proofs.Common.{◌≡◌, ◌≢◌, ℕ, ◌+◌, ◌%◌, ◌^◌, ◌<◌, Bool, true, List, [], ◌∷◌, ◌++◌, length, map, Result, Ok, Err, MatchResult, refl, sym, ap, ◌∙◌, subst, arith}
+use Rattle.std.proofs.Common.{◌≡◌, ◌≢◌, ℕ, ◌+◌, ◌%◌, ◌^◌, ◌<◌, Bool, true, List, [], ◌∷◌, ◌++◌, length, map, drop, Option, Some, Result, Ok, Err, MatchResult, refl, sym, ap, ◌∙◌, subst, arith}
 use Rattle.std.specs.Option.{is_some}
 use Rattle.evt_types.specs.Event.{pair_of}
 use Rattle.evt_types.specs.Operation.{is_more_op, is_more_reply, is_new_op, is_new_reply, is_release_op, is_release_reply}
@@ -19,11 +19,12 @@ use Rattle.event_ports.specs.declared.flows.FlowLanes.{FlowLanes}
 use Rattle.event_ports.specs.declared.lanes.Lanes.{Lanes}
 use Rattle.event_ports.specs.Flows.{FlowSite, flow_site, hands_of}
 use Rattle.event_ports.specs.Handed.{CountsNone, CountsOne, flow_count, hand_of, lanes_site, mores_of, news_of, releases_of}
-use Rattle.event_ports.specs.Lanes.{AreOrdered, counted, held_of, open_on, pair_in}
-use Rattle.event_ports.proofs.Calls.{gave_back, held_added, more_needs, says_no_new, same_no_new}
+use Rattle.event_ports.specs.Lanes.{AreOrdered, Hand, Rests, SubmitsTo, counted, got_on, held_of, open_on, pair_in, said_on}
+use Rattle.event_ports.proofs.Calls.{gave_back, held_added, more_needs, says_no_new, says_received, same_no_new}
 use Rattle.event_ports.proofs.Submitted.{IsThere, counts_none, counts_one}
 use Rattle.event_ports.proofs.Extras.{added_said, added_same}
 use Rattle.event_ports.proofs.Orders.{each_lane}
+use Rattle.event_ports.proofs.Refusals.{no_answer}
 
 -- what follows from either answer
 pub by_answer : {E A B P : Type 0} (result : Result (Unit {0}) E) → (A → P) → (B → P) → MatchResult result (λ _. A) (λ _. B) → P
@@ -49,6 +50,27 @@ module _ {E : Type 0} (h k : Hands) (lane : ℕ) (r : Reply) (result : Result (U
 
   pub idle_still : ((j : ℕ) → is_some (stint_in k j) ≡ is_some (stint_in h j)) → AreIdle h → AreIdle k
   idle_still entries idle j none = entries j ∙ idle j (sym (held_still j) ∙ none)
+
+-- what the port has, beside its own lane, of its flow lanes and in its order
+abbrev over : Far → List Holding → Hands → Hand
+over own xs h = record { said = said_on own h; got = got_on own h; holding = xs }
+
+-- what an event that is added makes of it
+pub submits_flow : {E : Type 0} (own : Far) (xs : List Holding) (h k : Hands) (lane : ℕ) (r : Reply) (result : Result (Unit {0}) E) (o : Option Lane) → o ≡ Some (Flow lane) → is_more_reply r ≡ true
+    → MatchResult result (λ _. Says lane r h k) (λ _. Same h k) → MatchResult result (λ _. SubmitsTo o r (over own xs h) (over own xs k)) (λ _. Rests (over own xs h) (over own xs k))
+submits_flow own xs h k lane r (Ok _) o first more says =
+    subst (λ l. SubmitsTo l r (over own xs h) (over own xs k)) (sym first)
+    (record {
+      said_here = says.answered_is;
+      said = each_lane (λ l. l ≢ Flow lane → said_on own k l ≡ said_on own h l) (λ ne. refl) (λ j ne. says.others.answered_is j (λ e. ne (ap Flow e)));
+      got = each_lane (λ l. got_on own k l ≡ got_on own h l) refl (says_received h k lane r says);
+      holding = sym (ap (λ n. drop n xs) (no_answer r more));
+    })
+submits_flow own xs h k lane r (Err _) o first more same = record {
+  said = each_lane (λ l. said_on own k l ≡ said_on own h l) refl same.answered_is;
+  got = each_lane (λ l. got_on own k l ≡ got_on own h l) refl same.received;
+  holding = refl;
+}
 
 -- one reply more was submitted to the lane, and none to another
 pub counts_said : (a b : Lanes) (lane : Lane) (r : Reply) → flow_site b.flows ≡ flow_site a.flows → IsThere (flow_count (lanes_site a)) lane

@@ -71,13 +71,14 @@ says_before h k m lane r says same = record {
   given_back = λ j. same.given_back j ∙ says.given_back j;
 }
 
--- a lane is answered, and given back
-pub idle_answered : (h k m : Hands) (lane : ℕ) (r : Reply) → Says lane r h k → ((i : ℕ) → is_some (stint_in k i) ≡ is_some (stint_in h i)) → Same k m → is_some (stint_in m lane) ≡ false
+-- a lane is answered, and given back where nothing more of it is held
+pub idle_answered : (h k m : Hands) (lane : ℕ) (r : Reply) → Says lane r h k → ((i : ℕ) → is_some (stint_in k i) ≡ is_some (stint_in h i)) → Same k m
+    → (held_on k lane ≡ [] → is_some (stint_in m lane) ≡ false)
     → ((i : ℕ) → i ≢ lane → is_some (stint_in m i) ≡ is_some (stint_in k i)) → AreIdle h → AreIdle m
 idle_answered h k m lane r says entries same left others idle i none =
     let At : ℕ → Type 0 = λ x. is_some (stint_in m x) ≡ false in
     dite (ℕ_discrete i lane)
-    (λ e. subst At (sym e) left)
+    (λ e. subst At (sym e) (left (sym (same.held lane) ∙ ap (held_on m) (sym e) ∙ none)))
     (λ ne. others i ne ∙ entries i ∙ idle i (sym (says.others.held i ne) ∙ sym (same.held i) ∙ none))
 
 -- ---- surrenders

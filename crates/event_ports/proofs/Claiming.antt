@@ -1,5 +1,5 @@
 -- The claims of a dequeue, one lane after the other.
-use Rattle.std.proofs.Common.{◌≡◌, ◌∙◌, ℕ, ◌+◌, ◌≤◌, List, [], ◌∷◌, ◌++◌, ◌⊎◌, inl, inr, length, take, drop, refl, sym, ap, subst, arith, append-nil, append_assoc}
+use Rattle.std.proofs.Common.{◌≡◌, ◌∙◌, ℕ, ◌≤◌, List, [], ◌∷◌, ◌++◌, inl, inr, length, take, drop, refl, sym, ap, subst, arith, append-nil, append_assoc}
 use Rattle.std.proofs.lemmas.List.{length-append, take-append-drop, take-take, take_all}
 use Rattle.flow_claims.specs.declared.seating.Seating.{Seating}
 use Rattle.flow_claims.specs.Answers.{AsksNone, AsksOnce}

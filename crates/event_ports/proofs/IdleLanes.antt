@@ -1,5 +1,5 @@
 -- A port holds just those flow lanes of which it holds something.
-use Rattle.std.proofs.Common.{◌≡◌, ◌≢◌, ℕ, true, false, List, [], ◌∷◌, length, map, Option, Some, None, refl, sym, ap, ◌∙◌, arith}
+use Rattle.std.proofs.Common.{◌≡◌, ◌≢◌, ℕ, true, false, List, [], length, map, Option, Some, None, refl, sym, ap, ◌∙◌, arith}
 use Rattle.std.specs.Option.{is_some}
 use Rattle.std.proofs.lemmas.List.{length-map}
 use Rattle.evt_types.specs.Event.{pair_of}
@@ -13,7 +13,6 @@ use Rattle.event_ports.specs.declared.lanes.Lanes.{Lanes}
 use Rattle.event_ports.specs.Flows.{hands_of}
 use Rattle.event_ports.specs.Holds.{IsEntry, held_now, held_on, stint_in}
 use Rattle.event_ports.specs.Lanes.{held_of, pair_in}
-use Rattle.event_ports.specs.declared.lane.Holding.{Holding}
 use Rattle.event_ports.proofs.Entries.{none_left, nothing_there}
 
 pub idle_lanes : (a : Lanes) (j : ℕ) → held_of (Flow j) a.order.items ≡ [] → is_some (stint_at (hands_of a.flows).view j) ≡ false

@@ -12,6 +12,8 @@ pub mod Refusals
 pub mod ReadOrder
 pub mod Arrivals
 pub mod Claiming
+pub mod Looks
+pub mod Reading
 pub mod Refusing
 pub mod Released
 pub mod Bursts

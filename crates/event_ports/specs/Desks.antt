@@ -21,6 +21,7 @@ use Rattle.flow_claims.specs.declared.seating.Seating.{Seating}
 use Rattle.flow_claims.specs.Seats.{stint_at}
 use Rattle.event_ports.specs.declared.desk.Desk.{Desk}
 use Rattle.event_ports.specs.Flows.{hands_of}
+use Rattle.event_ports.specs.Holds.{Hands}
 use Rattle.event_ports.specs.Lanes.{Hand, Rests, SubmitsAll, SubmitsTo, TakesMore, extras_in, lane_for, reply_of}
 use Rattle.event_ports.specs.Handed.{LanesSite, lanes_site, seating_of, seen_own, hand_of, mores_of, news_of, releases_of, IsFilled}
 use Rattle.event_ports.specs.Draws.{FillsWithin, HasAsked, HasCredits, HasDrawn, HasLooked, ReturnsSpare, SameSums, most_draws}
@@ -61,6 +62,10 @@ hand p = hand_of p.lanes
 -- the deliveries that it saw in the ring of its own lane and didn't receive
 abbrev pub seen_by : Desk → List Delivery
 seen_by p = seen_own p.lanes
+
+-- what it has of its flow lanes: the stints of those that it holds
+abbrev pub flow_hands : Desk → Hands
+flow_hands p = hands_of p.lanes.flows
 
 -- what its claim seat knows
 abbrev pub claim_seating : Desk → Seating

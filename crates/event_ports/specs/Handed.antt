@@ -14,7 +14,7 @@ use Rattle.event_ports.specs.declared.lane.Lane.{Lane}
 use Rattle.event_ports.specs.declared.lane.Lane.TheVariants.{Own, Flow}
 use Rattle.event_ports.specs.declared.lanes.Lanes.{Lanes}
 use Rattle.event_ports.specs.Flows.{FlowSite, flow_site, hands_of}
-use Rattle.event_ports.specs.Holds.{NoneHidden}
+use Rattle.event_ports.specs.Holds.{Hands, NoneHidden}
 use Rattle.event_ports.specs.Lanes.{Hand, said_on, got_on, counted, IsFilledAt, RefusesFirst}
 
 -- what never changes of a port's lanes: the own one, the flow lanes, and how much may be held
@@ -40,6 +40,10 @@ hand_of a = record { said = said_on a.own (hands_of a.flows); got = got_on a.own
 -- what the port's claim seat knows
 abbrev pub seating_of : Lanes → Seating
 seating_of a = (hands_of a.flows).view
+
+-- what the port has of its flow lanes
+abbrev pub flow_hands : Lanes → Hands
+flow_hands a = hands_of a.flows
 
 -- the deliveries that the port saw in the ring of its own lane and didn't receive
 abbrev pub seen_own : Lanes → List Delivery

@@ -7,7 +7,7 @@ use Rattle.evt_types.specs.Additions.{extras_of, more_after}
 use Rattle.evt_types.specs.Operation.{is_new_reply}
 use Rattle.evt_types.specs.declared.event.Delivery.{Delivery}
 use Rattle.evt_types.specs.declared.event.Reply.{Reply}
-use Rattle.lane_rings.specs.Ends.{answered, answers_among, hidden_answers, unanswered}
+use Rattle.lane_rings.specs.Ends.{answered, answers_among, hidden_answers, seen_deliveries, unanswered}
 use Rattle.lane_rings.specs.Identity.{far_id}
 use Rattle.flow_claims.specs.declared.claim.Stint.{Stint}
 use Rattle.flow_claims.specs.declared.claims.Claims.{Claims}
@@ -156,6 +156,15 @@ HoldsLast (Some stint) = (length (unanswered stint.far) ≡ 1) × (hidden_answer
 -- no NEW was submitted to a flow lane
 abbrev pub HaveNoNew : Hands → Type 0
 HaveNoNew h = (lane : ℕ) → count_by is_new_reply (answered_on h lane) ≡ 0
+
+-- no more is seen in the ring of the stint's lane, unless as many are unanswered of it as its depth allows
+abbrev pub IsDrained : Option Stint → Type 0
+IsDrained None = Unit {0}
+IsDrained (Some stint) = length (unanswered stint.far) < (far_id stint.far).depth → seen_deliveries stint.far ≡ []
+
+-- nor in that of any lane that is held
+abbrev pub AreDrained : Hands → Type 0
+AreDrained h = (lane : ℕ) → IsDrained (stint_in h lane)
 
 -- as many replies were given to the lane of the stint as its reply ring has room for, by all ports that held it
 abbrev pub IsFilledBy : Option Stint → Type 0

@@ -1,6 +1,7 @@
 pub mod HeldRings
 pub mod Ring
 pub mod Holds
+pub mod Looks
 pub mod Flows
 pub mod Claiming
 pub mod Lanes

@@ -9,6 +9,7 @@ use Rattle.event_answers.specs.declared.answer.Refused.{Refused}
 use Rattle.event_ports.specs.declared.counts.PortCounts.{PortCounts}
 use Rattle.event_ports.specs.declared.port.Port.{Port}
 use Rattle.event_ports.specs.Desks as desks
+use Rattle.event_ports.specs.Holds.{Hands}
 use Rattle.event_ports.specs.Lanes.{Hand}
 pub use Rattle.event_ports.specs.Desks.{DeskSite}
 
@@ -32,6 +33,10 @@ hand p = desks.hand p.desk
 -- the deliveries that it saw in the ring of its own lane and didn't receive
 abbrev pub seen_by : Port → List Delivery
 seen_by p = desks.seen_by p.desk
+
+-- what it has of its flow lanes: the stints of those that it holds
+abbrev pub flow_hands : Port → Hands
+flow_hands p = desks.flow_hands p.desk
 
 -- what its claim seat knows: the flow lanes that it claimed, and how many words it read
 abbrev pub claim_seating : Port → Seating

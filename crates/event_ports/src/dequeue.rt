@@ -5,8 +5,9 @@ ghost use Rattle.evt_types.specs.declared.event.Op.TheVariants as ops;
 ghost use Rattle.credit_pool.specs.Accounts.{Stays};
 ghost use Rattle.flow_claims.specs.Answers.{AsksNone};
 ghost use Rattle.event_ports.specs.Claiming.{ClaimsEach};
+ghost use Rattle.event_ports.specs.Holds.{AreDrained};
 ghost use Rattle.event_ports.specs.Lanes.{Releases, Dequeues, SubmitsAll};
-ghost use Rattle.event_ports.specs.Desks.{own_site, account_of, claim_seating, pocket_of, hand, seen_by, links, was_filled, released_first, Gathers, StopsAt};
+ghost use Rattle.event_ports.specs.Desks.{own_site, account_of, claim_seating, flow_hands, pocket_of, hand, seen_by, links, was_filled, released_first, Gathers, StopsAt};
 ghost use Rattle.event_ports.specs.Handed.{AllShown, OwnFirst};
 ghost use Rattle.event_ports.specs.Queues.{AllNameQueues};
 
@@ -67,6 +68,7 @@ impl Desk {
         ensures ok { OnOk result (Dequeues (links self.old) (released_first self.old) (hand self.old) (hand self.new) into.new.items) }
         ensures few { OnOk result ((length into.new.items ≤ max) × (length (hand self.new).holding ≤ (own_site self.old).lanes.depth)) }
         ensures drained { OnOk result (length into.new.items < max → length (hand self.new).holding < (own_site self.old).lanes.depth → seen_by self.new ≡ []) }
+        ensures drained_flows { OnOk result (length into.new.items < max → length (hand self.new).holding < (own_site self.old).lanes.depth → AreDrained (flow_hands self.new)) }
         ensures own_first { OnOk result (OwnFirst self.old.lanes self.new.lanes into.new.items) }
         ensures released { IfOk result (λ n. n ≡ released_first self.old) }
         ensures shown { AllShown self.old.lanes → AllShown self.new.lanes }

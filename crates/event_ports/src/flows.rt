@@ -2,6 +2,7 @@
 
 ghost use Rattle.std.specs.Arc.{arc_value};
 ghost use Rattle.event_ports.specs.Holds.{AreFlows, AreShown};
+ghost use Rattle.event_ports.specs.Looks.{AreFirst, IsLinkSet, HasHeld};
 
 use arrayvec::ArrayVec;
 use evt_types::{Delivery, PackedEvent};
@@ -20,36 +21,59 @@ pub(crate) struct FlowLanes {
     /// The lane that was answered last, where what was answered wasn't flushed.
     touched: Option<usize>,
     /// The hints of the device, the lanes of the links, and those that the port holds. A dequeue finds the lanes to look at by these
-    /// three, and no promise rests on them.
+    /// three. No promise rests on the hints.
     hints: Arc<Hints, Global>,
     linked: LaneSet,
-    open: LaneSet,
+    held: LaneSet,
     ghost are: { AreFlows (arc_value claims) seat stints.items links.items },
     ghost shown: { AreShown touched stints.items },
+    ghost placed: { IsLinkSet linked links.items },
+    ghost has_held: { HasHeld held stints.items },
 }
 
-/// The lanes that a dequeue has still to look at. A hint, as the sets are.
+/// The lanes that a dequeue has still to look at.
 #[derive(Clone, Copy)]
 pub(crate) struct Worthy {
     /// Those whose hints were cleared.
     next: LaneSet,
     /// All of them.
     left: LaneSet,
+    ghost first: { AreFirst next left },
+}
+
+impl Worthy {
+    ghost use Rattle.std.specs.Prelude.{◌≡◌, IfSome, IfNone};
+    ghost use Rattle.lane_rings.specs.LaneSets.{IsEmpty, IsFirst, SameBut};
+
+    // The lowest lane, which leaves both sets, where its hint was cleared.
+    #[inline(always)]
+    fn take(&mut self) -> Option<usize>
+        ensures first { IfSome result (IsFirst self.old.left) }
+        ensures others { IfSome result (λ lane. SameBut lane self.old.left self.new.left) }
+        ensures none { IfNone result (IsEmpty self.old.next) }
+        ensures same { IfNone result (self.new ≡ self.old) }
+    {
+        let lane = self.next.take_lowest()?;
+        self.left.remove(lane);
+        Some(lane)
+    }
 }
 
 impl FlowLanes {
-    ghost use Rattle.std.specs.Prelude.{◌≡◌, ◌≢◌, ℕ, ◌<◌, ◌≤◌, [], ◌∷◌, ◌++◌, true, false, length, slice_get, replicate, All, IsOk, IfOk, IfErr, MatchOption, MatchResult};
+    ghost use Rattle.std.specs.Prelude.{◌≡◌, ◌≢◌, ℕ, ◌<◌, ◌≤◌, [], ◌∷◌, ◌++◌, true, false, length, slice_get, replicate, All, IsOk, IfOk, IfErr, IfSome, IfNone, MatchOption, MatchResult};
     ghost use Rattle.std.specs.Option.{is_some};
     ghost use Rattle.lists.specs.Lists.{has};
     ghost use Rattle.evt_types.specs.Operation.{is_answer, is_more_reply};
     ghost use Rattle.evt_types.specs.declared.event.TheConstants.{MAX_EXTRAS};
+    ghost use Rattle.lane_rings.specs.LaneSets.{Has, IsFirst, SameBut, lanes_below, lanes_in};
     ghost use Rattle.lane_rings.specs.Refusal.{reply_of};
     ghost use Rattle.flow_claims.specs.Claims.{seating, port_of, lanes_of, IsSeatOf};
     ghost use Rattle.flow_claims.specs.Seats.{HoldsNone};
     ghost use Rattle.flow_claims.specs.Answers.{AsksNone};
     ghost use Rattle.event_ports.specs.Claiming.{ClaimsEach};
-    ghost use Rattle.event_ports.specs.Holds.{AreIdle, HoldsLast, IsFilledBy, hidden_in, AreLinked, Brings, Flushed, NoneHidden, Same, Kept, Says, Ends, AreEmpty, extras_on, stint_in, held_on};
-    ghost use Rattle.event_ports.specs.Flows.{hands_of, flow_site, touched_of};
+    ghost use Rattle.event_ports.specs.Holds.{AreIdle, HoldsLast, IsDrained, IsFilledBy, hidden_in, AreLinked, Brings, Flushed, NoneHidden, Same, Kept, Says, Ends, AreEmpty, extras_on, stint_in, held_on};
+    ghost use Rattle.event_ports.specs.Flows.{hands_of, flow_site, linked_of, touched_of};
+    ghost use Rattle.event_ports.specs.Looks.{IsIn};
 
     /// The flow lanes of a port whose seat has no stint, with a position for each.
     pub(crate) fn new(
@@ -76,7 +100,7 @@ impl FlowLanes {
             touched: None,
             hints,
             linked,
-            open: LaneSet::none(),
+            held: LaneSet::none(),
         }
     }
 
@@ -99,38 +123,51 @@ impl FlowLanes {
 
     /// The linked flow lanes that may have something: those with a hint, and those that the port holds.
     #[inline(always)]
-    pub(crate) fn worth_a_look(&self) -> Worthy {
-        let mut left = LaneSet::none();
+    pub(crate) fn worth_a_look(&self) -> Worthy
+        ensures { (j lane : ℕ) → slice_get (flow_site self.now).links j ≡ Some lane → IsIn (linked_of self.now) lane → is_some (stint_in (hands_of self.now) lane) ≡ true → Has result.left lane }
+    {
+        let next = LaneSet::none();
         // Without flow lanes the words aren't read.
-        if !self.links.is_empty() {
-            left = self.hints.lanes().either(self.open).both(self.linked);
+        if self.links.is_empty() {
+            return Worthy { next, left: next };
         }
-        Worthy {
-            next: LaneSet::none(),
-            left,
-        }
+        let left = self.hints.lanes().either(self.held).both(self.linked);
+        Worthy { next, left }
     }
 
     /// The lowest lane that is worth a look, which leaves both sets. Where no hint of those that are left was cleared, as many are as
     /// events may come, so that other ports look elsewhere. Where none may come no lane leaves, since it wouldn't be looked at.
     #[inline(always)]
-    fn next_worthy(&self, worthy: &mut Worthy, most: usize) -> Option<usize> {
+    fn next_worthy(&self, worthy: &mut Worthy, most: usize) -> Option<usize>
+        ensures first { IfSome result (IsFirst worthy.old.left) }
+        ensures others { IfSome result (λ lane. SameBut lane worthy.old.left worthy.new.left) }
+        ensures none { IfNone result (0 < most → (lane : ℕ) → lane < 128 → ¬ Has worthy.old.left lane) }
+        ensures same { IfNone result (worthy.new.left ≡ worthy.old.left) }
+    {
         if most == 0 {
             return None;
         }
-        let Worthy { mut next, mut left } = *worthy;
-        let mut lowest = next.take_lowest();
-        if lowest.is_none() {
-            next = left.lowest(most);
-            // What the scheduler gives from here on sets a hint again.
-            self.hints.clear_all(next);
-            lowest = next.take_lowest();
+        if let Some(lane) = worthy.take() {
+            return Some(lane);
         }
-        if let Some(lane) = lowest {
-            left.remove(lane);
-        }
+        let left = worthy.left;
+        let next = left.lowest(most);
+        // What the scheduler gives from here on sets a hint again.
+        self.hints.clear_all(next);
         *worthy = Worthy { next, left };
-        lowest
+        worthy.take()
+    }
+
+    // How many lanes of the links are below this one; all of them, where there is none.
+    #[inline(always)]
+    fn links_below(&self, lane: Option<usize>) -> usize
+        ensures { MatchOption lane (result ≡ lanes_in (linked_of self.now)) (λ below. result ≡ lanes_below (linked_of self.now) below) }
+    {
+        match lane {
+            Some(lane) => self.linked.count_below(lane),
+            // Behind all lanes of which there are hints come those that are always worth a look.
+            None => self.linked.count(),
+        }
     }
 
     /// The position in the links, from this one on, of the lowest lane that is worth a look, which is one no more; past the last where
@@ -138,17 +175,16 @@ impl FlowLanes {
     #[inline(always)]
     pub(crate) fn next_link(&self, position: usize, worthy: &mut Worthy, most: usize) -> usize
         requires { position ≤ length (flow_site self.now).links }
-        ensures { (position ≤ result) × (result ≤ length (flow_site self.now).links) }
+        ensures within { (position ≤ result) × (result ≤ length (flow_site self.now).links) }
+        ensures passed { (j lane : ℕ) → position ≤ j → j < result → slice_get (flow_site self.now).links j ≡ Some lane → 0 < most → IsIn (linked_of self.now) lane × (¬ Has worthy.old.left lane) }
+        ensures left { (j lane : ℕ) → result < j → slice_get (flow_site self.now).links j ≡ Some lane → IsIn (linked_of self.now) lane → Has worthy.old.left lane → Has worthy.new.left lane }
     {
         if position >= self.links.len() {
             return position;
         }
         // The links rise, so before a lane's position come the lower ones.
-        let lower = match self.next_worthy(worthy, most) {
-            Some(lane) => self.linked.count_below(lane),
-            // Behind all lanes of which there are hints come those that are always worth a look.
-            None => self.linked.count(),
-        };
+        let lane = self.next_worthy(worthy, most);
+        let lower = self.links_below(lane);
         lower.max(position).min(self.links.len())
     }
 
@@ -164,6 +200,8 @@ impl FlowLanes {
         requires exists { lane < length (lanes_of (flow_site self.old).claims) }
         requires linked { has lane (flow_site self.old).links ≡ true }
         ensures site { flow_site self.new ≡ flow_site self.old }
+        ensures linked { linked_of self.new ≡ linked_of self.old }
+        ensures others { (j : ℕ) → j ≢ lane → stint_in (hands_of self.new) j ≡ stint_in (hands_of self.old) j }
         ensures claims { ClaimsEach (lane ∷ []) (hands_of self.old).view (hands_of self.new).view }
         ensures same { Same (hands_of self.old) (hands_of self.new) }
         ensures held { is_some (stint_in (hands_of self.new) lane) ≡ result }
@@ -178,7 +216,7 @@ impl FlowLanes {
             return false;
         };
         self.stints[lane] = Some(stint);
-        self.open.add(lane);
+        self.held.add(lane);
         true
     }
 
@@ -195,6 +233,9 @@ impl FlowLanes {
         requires most { most ≤ 64 }
         requires room { length into.old.items < most }
         ensures site { flow_site self.new ≡ flow_site self.old }
+        ensures drained { length into.new.items < most → IsDrained (stint_in (hands_of self.new) lane) }
+        ensures linked { linked_of self.new ≡ linked_of self.old }
+        ensures others { (j : ℕ) → j ≢ lane → stint_in (hands_of self.new) j ≡ stint_in (hands_of self.old) j }
         ensures seat { (hands_of self.new).view ≡ (hands_of self.old).view }
         ensures lists { Brings lane (hands_of self.old) into.old.items (hands_of self.new) into.new.items }
         ensures few { length into.new.items ≤ most }
@@ -344,6 +385,9 @@ impl FlowLanes {
     pub(crate) fn leave(&mut self, lane: usize)
         requires { lane < length (lanes_of (flow_site self.old).claims) }
         ensures site { flow_site self.new ≡ flow_site self.old }
+        ensures drained { IsDrained (stint_in (hands_of self.old) lane) → IsDrained (stint_in (hands_of self.new) lane) }
+        ensures linked { linked_of self.new ≡ linked_of self.old }
+        ensures others { (j : ℕ) → j ≢ lane → stint_in (hands_of self.new) j ≡ stint_in (hands_of self.old) j }
         ensures asks { AsksNone (hands_of self.old).view (hands_of self.new).view }
         ensures same { Same (hands_of self.old) (hands_of self.new) }
         ensures left { held_on (hands_of self.old) lane ≡ [] → is_some (stint_in (hands_of self.new) lane) ≡ false }
@@ -367,6 +411,9 @@ impl FlowLanes {
         requires exists { lane < length (lanes_of (flow_site self.old).claims) }
         requires held { some_held ≡ true → held_on (hands_of self.old) lane ≢ [] }
         ensures site { flow_site self.new ≡ flow_site self.old }
+        ensures drained { IsDrained (stint_in (hands_of self.old) lane) → IsDrained (stint_in (hands_of self.new) lane) }
+        ensures linked { linked_of self.new ≡ linked_of self.old }
+        ensures others { (j : ℕ) → j ≢ lane → stint_in (hands_of self.new) j ≡ stint_in (hands_of self.old) j }
         ensures asks { AsksNone (hands_of self.old).view (hands_of self.new).view }
         ensures same { Same (hands_of self.old) (hands_of self.new) }
         ensures left { held_on (hands_of self.old) lane ≡ [] → is_some (stint_in (hands_of self.new) lane) ≡ false }
@@ -385,6 +432,8 @@ impl FlowLanes {
         requires answered { held_on (hands_of self.old) lane ≡ [] }
         requires shown { hidden_in (stint_in (hands_of self.old) lane) ≡ [] }
         ensures site { flow_site self.new ≡ flow_site self.old }
+        ensures linked { linked_of self.new ≡ linked_of self.old }
+        ensures others { (j : ℕ) → j ≢ lane → stint_in (hands_of self.new) j ≡ stint_in (hands_of self.old) j }
         ensures asks { AsksNone (hands_of self.old).view (hands_of self.new).view }
         ensures same { Same (hands_of self.old) (hands_of self.new) }
         ensures left { is_some (stint_in (hands_of self.new) lane) ≡ false }
@@ -395,7 +444,7 @@ impl FlowLanes {
             return;
         };
         self.claims.give_back(&mut self.seat, stint);
-        self.open.remove(lane);
+        self.held.remove(lane);
     }
 
     /// Surrenders the lane, where it is held.
@@ -431,7 +480,8 @@ impl FlowLanes {
     }
 }
 
-ghost use Rattle.std.specs.Prelude.{◌≡◌, replicate, IfOk};
+ghost use Rattle.std.specs.Prelude.{◌≡◌, ℕ, ◌<◌, true, Some, replicate, slice_get, IfOk};
+ghost use Rattle.lane_rings.specs.LaneSets.{Has};
 
 /// Places for so many flow lanes, none of which is held.
 pub(crate) fn free_entries(alloc: Global, lanes: usize) -> Result<Vec<Option<Stint>>, AllocError>
@@ -444,13 +494,41 @@ pub(crate) fn free_entries(alloc: Global, lanes: usize) -> Result<Vec<Option<Sti
     Ok(stints)
 }
 
-// The lanes of the links.
-fn lanes_of_links(links: &[usize]) -> LaneSet {
+// The set of the links, where they rise; else no lane, so that each link is always worth a look.
+fn lanes_of_links(links: &[usize]) -> LaneSet
+    ensures { IsLinkSet result links.now }
+{
+    let lanes = all_lanes(links);
+    if !are_placed(links, lanes) {
+        return LaneSet::none();
+    }
+    lanes
+}
+
+// All of these lanes of which there may be hints.
+fn all_lanes(links: &[usize]) -> LaneSet
+    ensures { (i lane : ℕ) → slice_get links.now i ≡ Some lane → lane < 128 → Has result lane }
+{
     let mut lanes = LaneSet::none();
     for lane in links {
         lanes.add(*lane);
     }
     lanes
+}
+
+// Whether each link stands behind as many links as the set has lower lanes, or behind all of the set's.
+fn are_placed(links: &[usize], lanes: LaneSet) -> bool
+    requires { (i lane : ℕ) → slice_get links.now i ≡ Some lane → lane < 128 → Has lanes lane }
+    ensures { result ≡ true → IsLinkSet lanes links.now }
+{
+    let all = lanes.count();
+    for (position, lane) in links.iter().enumerate() {
+        let lower = lanes.count_below(*lane);
+        if lower != position && (lower < all || position < all) {
+            return false;
+        }
+    }
+    true
 }
 
 // Sets the lane's hint where something was left in its ring.

@@ -36,7 +36,7 @@ impl Lanes {
     ghost use Rattle.evt_types.specs.declared.event.Op.TheVariants as ops;
     ghost use Rattle.evt_types.specs.declared.event.TheConstants.{MAX_EXTRAS};
     ghost use Rattle.event_ports.specs.Lanes.{Rests, Submits, SubmitsTo, Arrives, ArrivesFrom, HasRoomFor, IsEmptyHand, IsEndOf, AreOf, TakesMore, extras_in, first_lane, lane_for, held_of, pair_in, reply_of};
-    ghost use Rattle.event_ports.specs.Handed.{IsReadable, lanes_site, flow_count, links_of, seating_of, seen_own, hand_of, mores_of, news_of, releases_of, CountsOne, CountsNone, IsFilled, RefusesOldest, AllShown, OwnFirst};
+    ghost use Rattle.event_ports.specs.Handed.{IsReadable, lanes_site, flow_count, links_of, flow_hands, seating_of, seen_own, hand_of, mores_of, news_of, releases_of, CountsOne, CountsNone, IsFilled, RefusesOldest, AllShown, OwnFirst};
     ghost use Rattle.lane_rings.specs.Ends.{received_by, answered, hidden_answers, held_list};
     ghost use Rattle.evt_types.specs.declared.event.Op.{Op};
     ghost use Rattle.flow_claims.specs.Claims.{seating, port_of, IsSeatOf};
@@ -44,8 +44,8 @@ impl Lanes {
     ghost use Rattle.flow_claims.specs.Seats.{HoldsNone};
     ghost use Rattle.flow_claims.specs.Answers.{AsksNone};
     ghost use Rattle.event_ports.specs.Claiming.{ClaimsEach};
-    ghost use Rattle.event_ports.specs.Holds.{AreEmpty, AreLinked, NoneHidden};
-    ghost use Rattle.event_ports.specs.Flows.{flow_site};
+    ghost use Rattle.event_ports.specs.Holds.{AreDrained, AreEmpty, AreLinked, IsDrained, NoneHidden, stint_in};
+    ghost use Rattle.event_ports.specs.Flows.{flow_site, linked_of};
     ghost use Rattle.event_ports.specs.declared.lane.Lane.TheVariants as lanes;
 
     /// The lanes of a port that received and answered nothing, and whose order has the room of its own lane's depth.
@@ -164,6 +164,7 @@ impl Lanes {
         ensures arrived { Arrives (links_of self.old) (hand_of self.old) (hand_of self.new) [] into.new.items }
         ensures few { (length into.new.items ≤ max) × (length (hand_of self.new).holding ≤ (lanes_site self.new).depth) }
         ensures drained { length into.new.items < max → length (hand_of self.new).holding < (lanes_site self.new).depth → seen_own self.new ≡ [] }
+        ensures drained_flows { length into.new.items < max → length (hand_of self.new).holding < (lanes_site self.new).depth → AreDrained (flow_hands self.new) }
         ensures own_first { OwnFirst self.old self.new into.new.items }
         ensures shown { AllShown self.old → AllShown self.new }
     {
@@ -209,6 +210,7 @@ impl Lanes {
     fn receive_flows(&mut self, most: usize, into: &mut ArrayVec<Delivery, 64>)
         requires { HasRoomFor most (lanes_site self.old).depth (hand_of self.old).holding into.old.items }
         ensures site { lanes_site self.new ≡ lanes_site self.old }
+        ensures drained { length into.new.items < most → AreDrained (flow_hands self.new) }
         ensures claims { ClaimsEach (links_of self.old) (seating_of self.old) (seating_of self.new) }
         ensures counts { CountsNone self.old self.new }
         ensures arrived { ArrivesFrom (map lanes.Flow (links_of self.old)) (hand_of self.old) (hand_of self.new) into.old.items into.new.items }
@@ -236,6 +238,9 @@ impl Lanes {
         requires readable { IsReadable (lanes_site self.old) (lanes.Flow lane) }
         requires room { HasRoomFor most (lanes_site self.old).depth (hand_of self.old).holding into.old.items }
         ensures site { lanes_site self.new ≡ lanes_site self.old }
+        ensures linked { linked_of self.new.flows ≡ linked_of self.old.flows }
+        ensures other_lanes { (j : ℕ) → j ≢ lane → stint_in (flow_hands self.new) j ≡ stint_in (flow_hands self.old) j }
+        ensures drained { length into.new.items < most → IsDrained (stint_in (flow_hands self.new) lane) }
         ensures claims { ClaimsEach (lane ∷ []) (seating_of self.old) (seating_of self.new) }
         ensures counts { CountsNone self.old self.new }
         ensures arrived { ArrivesFrom (lanes.Flow lane ∷ []) (hand_of self.old) (hand_of self.new) into.old.items into.new.items }

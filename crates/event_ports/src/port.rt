@@ -34,10 +34,11 @@ impl Port {
     ghost use Rattle.event_ports.specs.Lanes.{Rests, Releases, Dequeues, SubmitsTo, SubmitsAll, lane_for, reply_of};
     ghost use Rattle.event_ports.specs.declared.lane.Lane.TheVariants as lanes;
     ghost use Rattle.event_ports.specs.Claiming.{ClaimsEach};
+    ghost use Rattle.event_ports.specs.Holds.{AreDrained};
     ghost use Rattle.event_ports.specs.Draws.{HasLooked, ReturnsSpare};
     ghost use Rattle.event_ports.specs.Queues.{AllNameQueues, NamesQueue};
     ghost use Rattle.event_ports.specs.Counts.{after_behind, after_burst, after_dequeue, after_enqueue, plus};
-    ghost use Rattle.event_ports.specs.Ports.{own_site, account_of, claim_seating, counts_of, pocket_of, hand, seen_by, links, was_filled, SameCredits, Pays, Refuses, released_first, Bursts, StopsAt};
+    ghost use Rattle.event_ports.specs.Ports.{own_site, account_of, claim_seating, flow_hands, counts_of, pocket_of, hand, seen_by, links, was_filled, SameCredits, Pays, Refuses, released_first, Bursts, StopsAt};
 
     /// The port's number in the device, from 0.
     pub fn number(&self) -> usize
@@ -117,6 +118,7 @@ impl Port {
         ensures ok { IfOk result (λ v. Dequeues (links self.old) (released_first self.old) (hand self.old) (hand self.new) v.items) }
         ensures few { IfOk result (λ v. (length v.items ≤ max) × (length (hand self.new).holding ≤ (own_site self.old).lanes.depth)) }
         ensures drained { IfOk result (λ v. length v.items < max → length (hand self.new).holding < (own_site self.old).lanes.depth → seen_by self.new ≡ []) }
+        ensures drained_flows { IfOk result (λ v. length v.items < max → length (hand self.new).holding < (own_site self.old).lanes.depth → AreDrained (flow_hands self.new)) }
         ensures own_first { IfOk result (λ v. length ((hand self.new).got lanes.Own) ≢ length ((hand self.old).got lanes.Own) + length v.items → seen_by self.new ≡ []) }
         ensures behind { IfErr result (λ b. IsTrue (own_site self.old).implicit × (b.released < length (hand self.old).holding) × Releases b.released (hand self.old) (hand self.new) × was_filled self.new ops.Release) }
         ensures returned_spare { MatchResult result
@@ -147,6 +149,7 @@ impl Port {
         ensures ok { OnOk result (Dequeues (links self.old) (released_first self.old) (hand self.old) (hand self.new) into.new.items) }
         ensures few { OnOk result ((length into.new.items ≤ max) × (length (hand self.new).holding ≤ (own_site self.old).lanes.depth)) }
         ensures drained { OnOk result (length into.new.items < max → length (hand self.new).holding < (own_site self.old).lanes.depth → seen_by self.new ≡ []) }
+        ensures drained_flows { OnOk result (length into.new.items < max → length (hand self.new).holding < (own_site self.old).lanes.depth → AreDrained (flow_hands self.new)) }
         ensures own_first { OnOk result (length ((hand self.new).got lanes.Own) ≢ length ((hand self.old).got lanes.Own) + length into.new.items → seen_by self.new ≡ []) }
         ensures count { IfOk result (λ n. n ≡ length into.new.items) }
         ensures none { IsErr result → into.new.items ≡ [] }

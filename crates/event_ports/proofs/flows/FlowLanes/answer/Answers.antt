@@ -9,12 +9,14 @@ use Rattle.flow_claims.specs.declared.claim.Stint.{Stint}
 use Rattle.flow_claims.specs.Claims.{lanes_of, seating}
 use Rattle.event_ports.specs.Flows.{FlowSite, flow_site, hands_of}
 use Rattle.event_ports.specs.Holds.{entry_at, extras_now, held_now, AreFlows, AreShown, IsFilledBy}
+use Rattle.event_ports.specs.Looks.{HasHeld}
 use Rattle.event_ports.specs.Lanes.{reply_of}
 use Rattle.event_ports.proofs.Calls.{answered_after, same_more}
 use Rattle.event_ports.proofs.Entries.{Stints, at_each, place_read, same_list}
 use Rattle.event_ports.proofs.Refusals.{all_full}
 use Rattle.event_ports.proofs.Shown.{touched_set}
 use Rattle.event_ports.proofs.Turns.{answered_lists, same_back, turned}
+use Rattle.event_ports.proofs.Looks.{held_same}
 use Rattle.event_ports.proofs.flows.FlowLanes.answer.Goals as goal
 
 pub returns-clause-lists : goal.returns-clause-lists
@@ -35,6 +37,8 @@ invariant_of-self c =
     record {
       are = subst (λ (ss : Stints). AreFlows (arc_value turned.claims) turned.seat ss turned.links.items) (sym back) turned.are;
       shown = subst (AreShown turned.touched) (sym back) turned.shown;
+      placed = turned.placed;
+      has_held = subst (HasHeld turned.held) (sym back) turned.has_held;
     }
 
 pub returns-in_default-clause-lists : goal.returns-in_default-clause-lists
@@ -67,6 +71,8 @@ invariant_of-self-2 c =
     record {
       are = turned _ _ f.seat _ _ c.in-Some.stint _ f.are at exists c.stage.ensures.lane.0 (c.stage.ensures.open _);
       shown = touched_set f.touched f.stints.items c.args.lane (Some c.stage.new.self) within (λ other. absurd (other c.turn_to.ensures.touched)) f.shown;
+      placed = f.placed;
+      has_held = held_same f.held f.stints.items c.args.lane _ (Some c.stage.new.self) within at refl f.has_held;
     }
 
 pub returns-clause-entries : goal.returns-clause-entries

@@ -10,9 +10,11 @@ use Rattle.flow_claims.specs.Answers.{EndsStint}
 use Rattle.flow_claims.specs.Claims.{seating, claims_id, lanes_of}
 use Rattle.event_ports.specs.Holds.{entry_at, held_now, hidden_in, AreFlows, AreShown, Same}
 use Rattle.event_ports.proofs.Claiming.{asks_same}
+use Rattle.event_ports.specs.Looks.{HasHeld}
 use Rattle.event_ports.proofs.Entries.{Stints, hands, place_read, same_list}
 use Rattle.event_ports.proofs.Shown.{none_set, touched_set}
 use Rattle.event_ports.proofs.Turns.{ended, left_same, same_back}
+use Rattle.event_ports.proofs.Looks.{held_less}
 use Rattle.event_ports.proofs.flows.FlowLanes.give_back.Goals as goal
 
 pub invariant_of-self-2 : goal.invariant_of-self-2
@@ -23,10 +25,13 @@ invariant_of-self-2 c =
     place_read _ _ _ _ c.index_mut.ensures.value (sym c.take.ensures.value ∙ c.in-Some.is) within in
     let Over : Claims → Type 0 = λ k. EndsStint k false c.in-Some.stint c.args.self.now.seat c.give_back.new.seat in
     let Are : Option Stint → Type 0 = λ o. AreFlows (arc_value c.args.self.now.claims) c.give_back.new.seat (set c.args.self.now.stints.items c.args.lane o) c.args.self.now.links.items in
+    let Held : Option Stint → Type 0 = λ o. HasHeld c.remove.new.self (set c.args.self.now.stints.items c.args.lane o) in
     let Shown : Option Stint → Type 0 = λ o. AreShown c.args.self.now.touched (set c.args.self.now.stints.items c.args.lane o) in
     record {
       are = subst Are (sym c.take.ensures.after) (ended _ _ c.args.self.now.seat c.give_back.new.seat _ _ c.in-Some.stint false are (subst Over c.deref.ensures c.give_back.ensures) at c.requires.exists);
       shown = subst Shown (sym c.take.ensures.after) (touched_set c.args.self.now.touched c.args.self.now.stints.items c.args.lane None within (λ other. refl) c.args.self.now.shown);
+      placed = c.args.self.now.placed;
+      has_held = subst Held (sym c.take.ensures.after) (held_less c.args.self.now.held c.remove.new.self c.args.self.now.stints.items c.args.lane within c.remove.ensures.others c.args.self.now.has_held);
     }
 
 pub returns-clause-same : goal.returns-clause-same
@@ -50,6 +55,8 @@ invariant_of-self c =
     record {
       are = subst (λ (ss : Stints). AreFlows (arc_value f.claims) f.seat ss f.links.items) (sym back) f.are;
       shown = subst (AreShown f.touched) (sym back) f.shown;
+      placed = f.placed;
+      has_held = subst (HasHeld f.held) (sym back) f.has_held;
     }
 
 pub returns-in_default-clause-same : goal.returns-in_default-clause-same
@@ -121,3 +128,9 @@ returns-in_default-clause-asks c = asks_same _ _ refl
 
 pub returns-clause-asks : goal.returns-clause-asks
 returns-clause-asks c = c.give_back.ensures.reads
+
+pub returns-in_default-clause-others : goal.returns-in_default-clause-others
+returns-in_default-clause-others c j ne = get_or-set_other c.args.self.now.stints.items c.args.lane j c.take.new.self None ne
+
+pub returns-clause-others : goal.returns-clause-others
+returns-clause-others c j ne = get_or-set_other c.args.self.now.stints.items c.args.lane j c.take.new.self None ne

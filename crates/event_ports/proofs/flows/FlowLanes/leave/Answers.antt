@@ -6,12 +6,14 @@ use Rattle.std.specs.Option.{is_some}
 use Rattle.lane_rings.specs.Ends.{unanswered}
 use Rattle.flow_claims.specs.Claims.{seating}
 use Rattle.event_ports.specs.Flows.{hands_of}
-use Rattle.event_ports.specs.Holds.{entry_at, held_now, hidden_in, AreFlows, AreShown}
+use Rattle.event_ports.specs.Holds.{entry_at, held_now, hidden_in, AreFlows, AreShown, IsDrained}
+use Rattle.event_ports.specs.Looks.{HasHeld}
 use Rattle.event_ports.proofs.Calls.{same_more}
 use Rattle.event_ports.proofs.Claiming.{asks_same}
 use Rattle.event_ports.proofs.Entries.{Stints, none_left, place_read, same_list}
 use Rattle.event_ports.proofs.Shown.{none_set, touched_set}
 use Rattle.event_ports.proofs.Turns.{same_back, turned, turn_same}
+use Rattle.event_ports.proofs.Looks.{free_drained, held_same}
 use Rattle.event_ports.proofs.flows.FlowLanes.leave.Goals as goal
 
 pub invariant_of-self : goal.invariant_of-self
@@ -23,6 +25,8 @@ invariant_of-self c =
     record {
       are = subst (λ (ss : Stints). AreFlows (arc_value f.claims) f.seat ss f.links.items) (sym back) f.are;
       shown = subst (AreShown f.touched) (sym back) f.shown;
+      placed = f.placed;
+      has_held = subst (HasHeld f.held) (sym back) f.has_held;
     }
 
 pub returns-in_default-clause-same : goal.returns-in_default-clause-same
@@ -55,6 +59,8 @@ invariant_of-self-then-held-gt0 c =
     record {
       are = subst (λ (ss : Stints). AreFlows (arc_value f.claims) f.seat ss f.links.items) (sym back) f.are;
       shown = subst (AreShown f.touched) (sym back) f.shown;
+      placed = f.placed;
+      has_held = subst (HasHeld f.held) (sym back) f.has_held;
     }
 
 pub returns-then-held-gt0-clause-same : goal.returns-then-held-gt0-clause-same
@@ -90,6 +96,8 @@ invariant_of-self-2 c =
     record {
       are = turned _ _ f.seat _ _ c.in-Some.stint _ f.are at c.requires c.flush.ensures.lane.0 (c.flush.ensures.open _);
       shown = touched_set f.touched f.stints.items c.args.lane (Some c.flush.new.self) within (λ other. c.flush.ensures.shown) f.shown;
+      placed = f.placed;
+      has_held = held_same f.held f.stints.items c.args.lane _ (Some c.flush.new.self) within at refl f.has_held;
     }
 
 pub give_back-requires-clause-answered : goal.give_back-requires-clause-answered
@@ -134,3 +142,28 @@ returns-then-held-gt0-clause-asks c = asks_same _ _ refl
 
 pub returns-clause-asks : goal.returns-clause-asks
 returns-clause-asks c = c.give_back.ensures.asks
+
+pub returns-in_default-clause-others : goal.returns-in_default-clause-others
+returns-in_default-clause-others c j ne = get_or-set_other c.args.self.now.stints.items c.args.lane j c.index_mut.result.now None ne
+
+pub returns-then-held-gt0-clause-others : goal.returns-then-held-gt0-clause-others
+returns-then-held-gt0-clause-others c j ne = get_or-set_other c.args.self.now.stints.items c.args.lane j (Some c.in-Some.stint) None ne
+
+pub returns-clause-others : goal.returns-clause-others
+returns-clause-others c j ne = c.give_back.ensures.others j ne ∙ get_or-set_other c.args.self.now.stints.items c.args.lane j (Some c.flush.new.self) None ne
+
+pub returns-in_default-clause-drained : goal.returns-in_default-clause-drained
+returns-in_default-clause-drained c was =
+    let f = c.args.self.now in
+    let within : c.args.lane < length f.stints.items = omega (arith, f.are.entries, c.requires) in
+    free_drained _ (ap is_some (get_or-set_same f.stints.items c.args.lane c.index_mut.result.now None within ∙ c.in_default.is))
+
+pub returns-then-held-gt0-clause-drained : goal.returns-then-held-gt0-clause-drained
+returns-then-held-gt0-clause-drained c was =
+    let f = c.args.self.now in
+    let within : c.args.lane < length f.stints.items = omega (arith, f.are.entries, c.requires) in
+    let at : entry_at f.stints.items c.args.lane ≡ Some c.in-Some.stint = place_read _ _ _ _ c.index_mut.ensures.value c.in-Some.is within in
+    subst IsDrained (at ∙ sym (get_or-set_same f.stints.items c.args.lane (Some c.in-Some.stint) None within)) was
+
+pub returns-clause-drained : goal.returns-clause-drained
+returns-clause-drained c was = free_drained _ c.give_back.ensures.left

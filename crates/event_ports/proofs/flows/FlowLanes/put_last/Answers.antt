@@ -10,6 +10,7 @@ use Rattle.event_ports.proofs.Entries.{at_each, place_read}
 use Rattle.event_ports.proofs.Refusals.{full_after, last_answered, none_after}
 use Rattle.event_ports.proofs.Shown.{touched_set}
 use Rattle.event_ports.proofs.Turns.{answered_lists, turned}
+use Rattle.event_ports.proofs.Looks.{held_same}
 use Rattle.event_ports.proofs.flows.FlowLanes.put_last.Goals as goal
 
 pub returns-clause-lists : goal.returns-clause-lists
@@ -53,6 +54,8 @@ invariant_of-self c =
     record {
       are = turned _ _ f.seat _ _ c.in-Some.stint _ f.are at c.requires.exists c.answer_last.ensures.lane.0 (c.answer_last.ensures.open _);
       shown = touched_set f.touched f.stints.items c.args.lane (Some c.answer_last.new.self) within (λ other. c.answer_last.ensures.far.shown) f.shown;
+      placed = f.placed;
+      has_held = held_same f.held f.stints.items c.args.lane _ (Some c.answer_last.new.self) within at refl f.has_held;
     }
 
 pub returns-clause-answered : goal.returns-clause-answered

@@ -8,7 +8,7 @@ use Rattle.event_ports.specs.declared.lane.Lane.TheVariants.{Own}
 use Rattle.event_ports.specs.Flows.{hands_of}
 use Rattle.event_ports.specs.Handed.{hand_of}
 use Rattle.event_ports.specs.Lanes.{IsFilledAt, extras_to, first_lane, open_on, reply_of}
-use Rattle.event_ports.proofs.Adding.{added_still, counts_flow, gave_back_still, idle_still, no_new_still, ordered_still}
+use Rattle.event_ports.proofs.Adding.{added_still, counts_flow, gave_back_still, idle_still, no_new_still, ordered_still, submits_flow}
 use Rattle.event_ports.proofs.Oldest.{oldest_held, oldest_there}
 use Rattle.event_ports.proofs.Orders.{first_open}
 use Rattle.event_ports.proofs.Refusals.{all_full}
@@ -51,6 +51,11 @@ returns-in-Own-clause-refused c =
     let few : extras_of (answered c.args.self.now.own) < MAX_EXTRAS = subst (λ o. extras_to o (hand_of c.args.self.now) < MAX_EXTRAS) own c.requires.takes.1 in
     subst (λ o. IfErr c.stage.result (λ e. (e ≡ Full) × IsFilledAt c.stage.new.self (hands_of c.args.self.now.flows) o)) (sym own)
     (all_full c.args.self.now.own c.stage.new.self (reply_of c.args.event.now) c.stage.result c.stage.ensures.refused some (λ _. few) c.stage.ensures.lane c.stage.ensures.answered)
+
+pub returns-in-Flow-clause-submitted : goal.returns-in-Flow-clause-submitted
+returns-in-Flow-clause-submitted c =
+    submits_flow c.args.self.now.own c.args.self.now.order.items (hands_of c.args.self.now.flows) (hands_of c.answer.new.self) c.in-Flow.lane (reply_of c.args.event.now) c.answer.result
+    (first_lane c.args.self.now.order.items) (sym c.in-Some.ensures ∙ ap Some c.in-Flow.is) c.requires.more c.answer.ensures.lists
 
 pub returns-in-Flow-clause-counts : goal.returns-in-Flow-clause-counts
 returns-in-Flow-clause-counts c =

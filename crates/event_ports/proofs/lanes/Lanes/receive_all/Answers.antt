@@ -128,3 +128,18 @@ returns-clause-own_first c =
     (c.receive_some.ensures.few (omega (arith, ap length c.requires)))
     (drained c) (own_only (hand_of c.args.self.now) (mid c) c.receive_some.new.into.items _ (first c)) (later c) c.receive_flows.ensures.none
     c.receive_flows.ensures.others
+
+pub returns-clause-drained_flows : goal.returns-clause-drained_flows
+returns-clause-drained_flows c few room =
+    c.receive_flows.ensures.drained
+    (omega (
+      arith,
+      few,
+      room,
+      c.min-most.ensures,
+      c.capacity.ensures.capacity,
+      c.len.ensures.len,
+      c.note.ensures.room,
+      ap (λ (p : LanesSite). p.depth) c.receive_flows.ensures.site,
+      arrives_length _ (hand_of c.args.self.now) (hand_of c.receive_flows.new.self) _ (both c),
+    ))

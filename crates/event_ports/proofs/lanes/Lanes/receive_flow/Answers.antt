@@ -18,6 +18,7 @@ use Rattle.event_ports.proofs.Adding.{counts_same}
 use Rattle.event_ports.proofs.Calls.{added_received, gave_back, same_no_new, idle_received, idle_refused, gets_between, gets_no_answer}
 use Rattle.event_ports.proofs.Claiming.{asks_same, asks_then, claims_before, claims_none}
 use Rattle.event_ports.proofs.Extras.{added_same}
+use Rattle.event_ports.proofs.Looks.{free_drained}
 use Rattle.event_ports.proofs.lanes.Lanes.receive_flow.Goals as goal
 
 pub note-requires : goal.note-requires
@@ -191,3 +192,18 @@ returns-then-not-hold-clause-claims c = c.hold.ensures.claims
 
 pub returns-clause-claims : goal.returns-clause-claims
 returns-clause-claims c = claims_before _ _ _ _ c.hold.ensures.claims (asks_then _ _ _ (asks_same _ _ c.receive_some.ensures.seat) c.leave_unless.ensures.asks)
+
+pub returns-then-len-most-clause-drained : goal.returns-then-len-most-clause-drained
+returns-then-len-most-clause-drained c few = absurd (omega (arith, few, c.len.ensures.value, c.if-len-most.true))
+
+pub returns-then-not-hold-clause-drained : goal.returns-then-not-hold-clause-drained
+returns-then-not-hold-clause-drained c few = free_drained _ (c.hold.ensures.held ∙ c.if-not-hold.true)
+
+pub returns-clause-drained : goal.returns-clause-drained
+returns-clause-drained c few = c.leave_unless.ensures.drained (c.receive_some.ensures.drained few)
+
+pub returns-clause-linked : goal.returns-clause-linked
+returns-clause-linked c = c.leave_unless.ensures.linked ∙ c.receive_some.ensures.linked ∙ c.hold.ensures.linked
+
+pub returns-clause-other_lanes : goal.returns-clause-other_lanes
+returns-clause-other_lanes c j ne = c.leave_unless.ensures.others j ne ∙ c.receive_some.ensures.others j ne ∙ c.hold.ensures.others j ne

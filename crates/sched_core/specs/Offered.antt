@@ -38,6 +38,10 @@ pub record IsOpenLane (v : View) (s : Passed) (q l : ℕ) : Type 0 where
 abbrev pub AreOpenLanes : View → Passed → ℕ → SmallSet → Type 0
 AreOpenLanes v s q lanes = (l : ℕ) → Has lanes l ↔ IsOpenLane v s q l
 
+-- of these lanes there is no other
+abbrev pub IsOnly : SmallSet → ℕ → Type 0
+IsOnly lanes l = Has lanes l × ((m : ℕ) → Has lanes m → m ≡ l)
+
 -- one of the lanes, which may hold the slot
 abbrev pub MayHold : View → SmallSet → ℕ → ℕ → ℕ → Type 0
 MayHold v lanes q slot l = Has lanes l × (is_atomic (queue_of v.shape q).kind ≡ true → HasNoOther v l q slot)

@@ -60,6 +60,8 @@ impl Core {
         ensures room { L.room log.old ≤ L.room log.new + 1 }
     {
         let number = waiting.number;
+        // First, so that where the event was looked for just before, what was read of the queue's list serves to take it out too.
+        self.queues.remove(queue, level, slot, number);
         let place = self.orders.hand(queue, number);
         self.pins.pin(queue, slot, lane);
         self.lanes.push(
@@ -76,8 +78,6 @@ impl Core {
             queue,
             number,
         });
-        // Last, so that what it reads of the queue's list serves the look for the next event too.
-        self.queues.remove(queue, level, slot, number);
     }
 
     /// Appends to the log that the lane's ring had no room for a delivery.

@@ -147,7 +147,7 @@ impl Core {
     }
 
     /// Whether the lane may hold events of the slot: those of an atomic queue stand on one lane at a time.
-    fn may_hold(&self, lane: usize, queue: usize, slot: usize) -> bool
+    pub(crate) fn may_hold(&self, lane: usize, queue: usize, slot: usize) -> bool
         requires { queue < length self.now.shape.queues }
         ensures { IsTrue result ↔ (is_atomic (queue_of self.now.shape queue).kind ≡ true → HasNoOther self.now lane queue slot) }
     {

@@ -1,13 +1,13 @@
 //! Events are given in a run: one after another of one queue and level, to one lane.
 
-ghost use Rattle.std.specs.Prelude.{◌≡◌, ℕ, ◌+◌, ◌<◌, ◌≤◌, false, List, ◌∷◌, [], ◌++◌, length, slice_index, IfSome};
+ghost use Rattle.std.specs.Prelude.{◌≡◌, ℕ, ◌+◌, ◌<◌, ◌≤◌, false, List, ◌∷◌, [], ◌++◌, length, slice_index, IfSome, IsTrue};
 ghost use Rattle.evt_types.specs.Plan.{has_flow_lanes, lanes_of};
 ghost use Rattle.evt_types.specs.declared.shape.TheConstants.{MAX_QUEUES};
 ghost use Rattle.evt_types.specs.declared.step.Step.{Step as StepValue};
-ghost use Rattle.sched_core.specs.Offered.{AreOpenLanes, IsOfferIn, numbered_in, slot_at};
+ghost use Rattle.sched_core.specs.Offered.{AreOpenLanes, IsOfferIn, IsOnly, MayHold, numbered_in, slot_at};
 ghost use Rattle.sched_core.specs.Runs.{AreChoices, IsSteady, IsTurn, HasTurn, gifts_of};
 ghost use Rattle.small_set.specs.SmallSets.{Has};
-ghost use Rattle.transcripts.specs.Choice.{IsChoice, Passed};
+ghost use Rattle.transcripts.specs.Choice.{IsBetterLane, IsChoice, Passed};
 ghost use Rattle.transcripts.specs.Standing.{Stands, View};
 
 use crate::offer::{Offer, numbered};
@@ -46,6 +46,15 @@ fn begin(run: &mut ArrayVec<Delivery, 32>, delivery: Delivery)
     }
 }
 
+/// Whether the lane is the only one of these.
+#[inline(always)]
+fn is_only(lanes: SmallSet, lane: usize) -> bool
+    ensures { IsTrue result → IsOnly lanes lane }
+{
+    let mut others = lanes;
+    others.pop() == Some(lane) && others.is_empty()
+}
+
 impl Core {
     /// How many events of the queue may be given to the lane before a count is full that the choice asks for: of those that were given in
     /// the sweep, of the lane's unanswered ones, and of an ordered queue's places.
@@ -63,13 +72,37 @@ impl Core {
         self.orders.places_for(queue, room.min(quota))
     }
 
-    /// The event of the queue and level that is given next, where that is quick to see and of these open lanes this one is the best one for
-    /// it.
+    /// Whether the next event of the slot goes to the lane: it may hold the slot, and of these open lanes it is the best one. Where it is
+    /// the only one, no other is asked for.
     #[inline(always)]
-    fn next_in_run(&self, queue: usize, level: Level, lane: usize, lanes: SmallSet) -> Option<Found>
+    fn goes_to(&self, lane: usize, queue: usize, slot: usize, lanes: SmallSet, alone: bool) -> bool
+        requires queue { queue < length self.now.shape.queues }
+        requires lanes { (l : ℕ) → Has lanes l → l < lanes_of self.now.shape }
+        requires alone { IsTrue alone → IsOnly lanes lane }
+        ensures fits { IsTrue result → MayHold self.now lanes queue slot lane }
+        ensures best { IsTrue result → (m : ℕ) → MayHold self.now lanes queue slot m → ¬ IsBetterLane self.now m lane }
+    {
+        if alone {
+            self.may_hold(lane, queue, slot)
+        } else {
+            self.port_for(queue, slot, lanes) == Some(lane)
+        }
+    }
+
+    /// The event of the queue and level that is given next, where that is quick to see and it goes to this lane of the open ones.
+    #[inline(always)]
+    fn next_in_run(
+        &self,
+        queue: usize,
+        level: Level,
+        lane: usize,
+        lanes: SmallSet,
+        alone: bool,
+    ) -> Option<Found>
         requires there { queue < length self.now.shape.queues }
         requires ports { has_flow_lanes self.now.shape queue ≡ false }
         requires lanes { (l : ℕ) → Has lanes l → l < lanes_of self.now.shape }
+        requires alone { IsTrue alone → IsOnly lanes lane }
         ensures offer { IfSome result (λ f. (s : Passed) → AreOpenLanes self.now s queue lanes → IsOfferIn self.now s queue level.number lane f.waiting) }
         ensures slot { IfSome result (λ f. f.slot ≡ slot_at self.now queue f.waiting) }
         ensures names { IfSome result (λ f. f.waiting.event.queue ≡ queue) }
@@ -77,18 +110,24 @@ impl Core {
         let found = self
             .queues
             .head(queue, level, SmallSet::below(MAX_MEMBERS))?;
-        let best = self.port_for(queue, found.slot, lanes)?;
-        if best == lane { Some(found) } else { None }
+        if self.goes_to(lane, queue, found.slot, lanes, alone) {
+            Some(found)
+        } else {
+            None
+        }
     }
 
     /// Goes on with a run: gives what is chosen next, one by one, as long as that is an event of this queue and level for this lane and is
-    /// quick to see. Which lanes are open doesn't change before a count is full, so it is asked once.
+    /// quick to see. Which lanes are open doesn't change before a count is full. Each caller says for itself whether the lane is the only
+    /// open one, so that there is a loop for either.
     #[inline(always)]
     fn give_more<L: StepLog>(
         &mut self,
         lane: usize,
         queue: usize,
         level: Level,
+        lanes: SmallSet,
+        alone: bool,
         most: usize,
         skips: &mut Skips,
         run: &mut ArrayVec<Delivery, 32>,
@@ -97,6 +136,8 @@ impl Core {
         requires turn { HasTurn self.old skips.old queue level.number }
         requires ports { has_flow_lanes self.old.shape queue ≡ false }
         requires lane { lane < lanes_of self.old.shape }
+        requires lanes { AreOpenLanes self.old skips.old queue lanes }
+        requires alone { IsTrue alone → IsOnly lanes lane }
         requires quota { slice_index skips.old.given queue ≤ self.old.shape.sweep }
         requires room { self.old.shape.sweep ≤ L.room log.old + slice_index skips.old.given queue }
         ensures choices { (v : View) (s : Passed) → AreChoices lane v s run.old.items self.old skips.old → AreChoices lane v s run.new.items self.new skips.new }
@@ -105,16 +146,15 @@ impl Core {
         ensures shape { self.new.shape ≡ self.old.shape }
         ensures room { L.room log.old + length run.old.items ≤ L.room log.new + length run.new.items }
     {
-        let lanes = self.open_lanes(queue, skips);
         let steady = self.steady_for(queue, lane, skips);
         let bound = steady.min(most).min(MAX_RUN - run.len());
         for _ in 0..bound {
             self.facts();
-            let Some(found) = self.next_in_run(queue, level, lane, lanes) else {
+            let Some(found) = self.next_in_run(queue, level, lane, lanes, alone) else {
                 return;
             };
-            run.push(delivery_of(&found));
             self.give_at(lane, queue, &found.waiting, level, found.slot, log);
+            run.push(delivery_of(&found));
             skips.given(queue);
         }
     }
@@ -163,7 +203,16 @@ impl Core {
             self.close_slot(lane);
             return Some(Turn { queue, level });
         }
-        self.give_more(lane, queue, level, most - 1, skips, run, log);
+        // Mostly the run ends here where its lane is full, or nothing is left of the queue.
+        if self.queues.count(queue) == 0 || self.lanes.room(lane) == 0 {
+            return None;
+        }
+        let lanes = self.open_lanes(queue, skips);
+        if is_only(lanes, lane) {
+            self.give_more(lane, queue, level, lanes, true, most - 1, skips, run, log);
+        } else if self.next_in_run(queue, level, lane, lanes, false).is_some() {
+            self.give_more(lane, queue, level, lanes, false, most - 1, skips, run, log);
+        }
         None
     }
 }

@@ -1,15 +1,24 @@
-use Rattle.std.proofs.Common.{[], ◌<◌, ◌%◌, ◌∙◌, ap, arith, length, refl, slice_index, subst, sym}
+use Rattle.std.proofs.Common.{◌≡◌, ℕ, List, [], ◌∷◌, ◌++◌, ◌<◌, ◌%◌, ◌∙◌, ap, arith, length, refl, slice_index, subst, sym}
+use Rattle.evt_types.proofs.FlowLanes.{port_is_lane}
 use Rattle.evt_types.specs.Plan.{Plan, has_flow_lanes, lanes_of, level_of}
+use Rattle.evt_types.specs.declared.event.Delivery.{Delivery}
 use Rattle.evt_types.specs.declared.event.Numbered.{Numbered}
+use Rattle.evt_types.specs.declared.step.Step.{Step}
+use Rattle.evt_types.specs.declared.step.Step.TheVariants.{Give}
 use Rattle.parked_queue.specs.Waits.{waits_at}
 use Rattle.sched_core.proofs.FirstOnes.{found_slot}
 use Rattle.sched_core.proofs.Offers.{choice_is_offer}
-use Rattle.sched_core.proofs.Runs.{choice_given, choices_stand, room_given, run_first, turn_of, turn_on}
+use Rattle.sched_core.proofs.Runs.{choice_given, choices_stand, gift_is, room_given, run_first, turn_of, turn_on}
 use Rattle.sched_core.specs.Offered.{numbered_in, slot_at}
-use Rattle.sched_core.specs.Runs.{AreChoices, HasTurn}
+use Rattle.sched_core.specs.Runs.{AreChoices, HasTurn, gifts_of}
 use Rattle.transcripts.specs.Choice.{Passed}
 use Rattle.transcripts.specs.Standing.{View}
 use Rattle.sched_core.proofs.state.Core.give_run.Goals as goal
+
+-- the log after the first gift
+first_logged : (l q : ℕ) (before log : List Step) (ds : List Delivery) (d : Delivery) (u : Numbered) → log ≡ before ++ Give l q u.number ∷ [] → q ≡ d.queue → u ≡ numbered_in d → ds ≡ d ∷ [] → log ≡ before ++ gifts_of l ds
+first_logged l q before log ds d u is queue event items =
+    is ∙ (ap (λ (s : Step). before ++ s ∷ []) (gift_is l q u d (sym queue) event) ∙ ap (λ es. before ++ gifts_of l es) (sym items))
 
 pub give_at-requires-clause-offer : goal.give_at-requires-clause-offer
 give_at-requires-clause-offer g c =
@@ -32,8 +41,19 @@ pub returns-then-has_flow_lanes-clause-stands : goal.returns-then-has_flow_lanes
 returns-then-has_flow_lanes-clause-stands g c T stands =
     choices_stand c.args.offer.lane c.args.self.now c.args.skips.now c.begin.new.run.items c.close_slot.new.self c.given.new.self T (returns-then-has_flow_lanes-clause-choices g c) stands
 
+pub next_in_run-requires-clause-lanes : goal.next_in_run-requires-clause-lanes
+next_in_run-requires-clause-lanes g c l has = port_is_lane c.give_at.new.self.shape l ((c.open_lanes-lanes.ensures l).0 has).lane
+
 pub give_more-requires-clause-turn : goal.give_more-requires-clause-turn
 give_more-requires-clause-turn g c =
+    let choice = choice_given c.args.offer.lane c.queue-queue.result c.args.self.now c.args.skips.now c.args.offer.delivery c.numbered.result c.requires.choice c.queue-queue.ensures c.numbered.ensures in
+    turn_on c.args.offer.lane c.queue-queue.result c.args.offer.level.number c.args.self.now c.give_at.new.self c.args.skips.now c.given.new.self c.numbered.result c.facts.ensures.sized
+    (choice_is_offer c.args.self.now c.args.skips.now c.args.offer.lane c.queue-queue.result c.numbered.result choice)
+    (turn_of c.args.self.now c.args.skips.now c.args.offer.lane c.queue-queue.result c.args.offer.level.number c.numbered.result choice (c.args.offer.level_is ∙ ap (λ (w : Numbered). level_of w.event) (sym c.numbered.ensures)))
+    c.give_at.ensures.view c.given.ensures.value
+
+pub give_more-requires-then-is_some-clause-turn : goal.give_more-requires-then-is_some-clause-turn
+give_more-requires-then-is_some-clause-turn g c =
     let choice = choice_given c.args.offer.lane c.queue-queue.result c.args.self.now c.args.skips.now c.args.offer.delivery c.numbered.result c.requires.choice c.queue-queue.ensures c.numbered.ensures in
     turn_on c.args.offer.lane c.queue-queue.result c.args.offer.level.number c.args.self.now c.give_at.new.self c.args.skips.now c.given.new.self c.numbered.result c.facts.ensures.sized
     (choice_is_offer c.args.self.now c.args.skips.now c.args.offer.lane c.queue-queue.result c.numbered.result choice)
@@ -56,13 +76,45 @@ give_more-requires-clause-room g c =
     room_given c.args.skips.now.given c.given.new.self.given c.queue-queue.result c.args.offer.delivery.queue _ _ c.args.self.now.shape.sweep c.give_at.new.self.shape.sweep (g.L.StepLog.room c.args.log.now) (g.L.StepLog.room c.give_at.new.log)
     c.requires.choice.there c.facts.ensures.limits.queue_count.1 c.given.ensures.counts c.queue-queue.ensures c.requires.room c.give_at.ensures.room (ap (λ (t : Passed). t.given) c.given.ensures.value) (ap (λ (p : Plan). p.sweep) c.give_at.ensures.shape)
 
-pub returns-clause-choices : goal.returns-clause-choices
-returns-clause-choices g c = c.give_more.ensures.choices c.args.self.now c.args.skips.now
+pub returns-then-count-eq0-clause-choices : goal.returns-then-count-eq0-clause-choices
+returns-then-count-eq0-clause-choices g c =
+    run_first c.args.offer.lane c.queue-queue.result c.args.self.now c.args.skips.now [] c.begin.new.run.items c.give_at.new.self c.given.new.self c.args.offer.delivery c.numbered.result c.requires.choice c.queue-queue.ensures c.numbered.ensures c.give_at.ensures.view c.given.ensures.value refl c.begin.ensures
+
+pub returns-then-count-eq0-clause-stands : goal.returns-then-count-eq0-clause-stands
+returns-then-count-eq0-clause-stands g c T stands =
+    choices_stand c.args.offer.lane c.args.self.now c.args.skips.now c.begin.new.run.items c.give_at.new.self c.given.new.self T (returns-then-count-eq0-clause-choices g c) stands
+
+pub returns-else-is_some-clause-choices : goal.returns-else-is_some-clause-choices
+returns-else-is_some-clause-choices g c =
+    run_first c.args.offer.lane c.queue-queue.result c.args.self.now c.args.skips.now [] c.begin.new.run.items c.give_at.new.self c.given.new.self c.args.offer.delivery c.numbered.result c.requires.choice c.queue-queue.ensures c.numbered.ensures c.give_at.ensures.view c.given.ensures.value refl c.begin.ensures
+
+pub returns-else-is_some-clause-stands : goal.returns-else-is_some-clause-stands
+returns-else-is_some-clause-stands g c T stands =
+    choices_stand c.args.offer.lane c.args.self.now c.args.skips.now c.begin.new.run.items c.give_at.new.self c.given.new.self T (returns-else-is_some-clause-choices g c) stands
+
+pub returns-then-is_only-clause-choices : goal.returns-then-is_only-clause-choices
+returns-then-is_only-clause-choices g c = c.give_more.ensures.choices c.args.self.now c.args.skips.now
     (run_first c.args.offer.lane c.queue-queue.result c.args.self.now c.args.skips.now [] c.begin.new.run.items c.give_at.new.self c.given.new.self c.args.offer.delivery c.numbered.result c.requires.choice c.queue-queue.ensures c.numbered.ensures c.give_at.ensures.view c.given.ensures.value refl c.begin.ensures)
 
-pub returns-clause-stands : goal.returns-clause-stands
-returns-clause-stands g c T stands =
-    choices_stand c.args.offer.lane c.args.self.now c.args.skips.now c.give_more.new.run.items c.give_more.new.self c.give_more.new.skips T (returns-clause-choices g c) stands
+pub returns-then-is_only-clause-stands : goal.returns-then-is_only-clause-stands
+returns-then-is_only-clause-stands g c T stands =
+    choices_stand c.args.offer.lane c.args.self.now c.args.skips.now c.give_more.new.run.items c.give_more.new.self c.give_more.new.skips T (returns-then-is_only-clause-choices g c) stands
+
+pub returns-then-is_only-clause-logged : goal.returns-then-is_only-clause-logged
+returns-then-is_only-clause-logged g c = c.give_more.ensures.logged (g.L.StepLog.steps c.args.log.now)
+    (first_logged c.args.offer.lane c.queue-queue.result (g.L.StepLog.steps c.args.log.now) (g.L.StepLog.steps c.give_at.new.log) c.begin.new.run.items c.args.offer.delivery c.numbered.result c.give_at.ensures.logged c.queue-queue.ensures c.numbered.ensures c.begin.ensures)
+
+pub returns-then-is_some-clause-choices : goal.returns-then-is_some-clause-choices
+returns-then-is_some-clause-choices g c = c.give_more-then-is_some.ensures.choices c.args.self.now c.args.skips.now
+    (run_first c.args.offer.lane c.queue-queue.result c.args.self.now c.args.skips.now [] c.begin.new.run.items c.give_at.new.self c.given.new.self c.args.offer.delivery c.numbered.result c.requires.choice c.queue-queue.ensures c.numbered.ensures c.give_at.ensures.view c.given.ensures.value refl c.begin.ensures)
+
+pub returns-then-is_some-clause-stands : goal.returns-then-is_some-clause-stands
+returns-then-is_some-clause-stands g c T stands =
+    choices_stand c.args.offer.lane c.args.self.now c.args.skips.now c.give_more-then-is_some.new.run.items c.give_more-then-is_some.new.self c.give_more-then-is_some.new.skips T (returns-then-is_some-clause-choices g c) stands
+
+pub returns-then-is_some-clause-logged : goal.returns-then-is_some-clause-logged
+returns-then-is_some-clause-logged g c = c.give_more-then-is_some.ensures.logged (g.L.StepLog.steps c.args.log.now)
+    (first_logged c.args.offer.lane c.queue-queue.result (g.L.StepLog.steps c.args.log.now) (g.L.StepLog.steps c.give_at.new.log) c.begin.new.run.items c.args.offer.delivery c.numbered.result c.give_at.ensures.logged c.queue-queue.ensures c.numbered.ensures c.begin.ensures)
 
 pub slot_of-slot-requires : goal.slot_of-slot-requires
 slot_of-slot-requires g c = omega (arith, c.requires.choice.there, c.queue-queue.ensures, c.self.invariant.queues, ap (λ (v : View). length v.shape.queues) c.self.view_is)
@@ -98,18 +150,6 @@ give_more-requires-clause-ports g c = sym c.has_flow_lanes.ensures ∙ c.if-has_
 
 pub give_more-requires-clause-lane : goal.give_more-requires-clause-lane
 give_more-requires-clause-lane g c = subst (λ p. c.args.offer.lane < lanes_of p) (sym c.give_at.ensures.shape) (choice_is_offer c.args.self.now c.args.skips.now c.args.offer.lane c.args.offer.delivery.queue (numbered_in c.args.offer.delivery) c.requires.choice).lane
-
-pub returns-clause-some : goal.returns-clause-some
-returns-clause-some g c most = omega (arith, ap length c.begin.ensures, c.give_more.ensures.few.0)
-
-pub returns-clause-few : goal.returns-clause-few
-returns-clause-few g c = omega (arith, ap length c.begin.ensures, c.give_more.ensures.few.1, c.if-most-eq0.false)
-
-pub returns-clause-shape : goal.returns-clause-shape
-returns-clause-shape g c = c.give_more.ensures.shape ∙ c.give_at.ensures.shape
-
-pub returns-clause-room : goal.returns-clause-room
-returns-clause-room g c = omega (arith, ap length c.begin.ensures, c.give_at.ensures.room, c.give_more.ensures.room)
 
 pub close_slot-requires : goal.close_slot-requires
 close_slot-requires g c = subst (λ p. c.args.offer.lane < lanes_of p) (sym c.give_at.ensures.shape) (choice_is_offer c.args.self.now c.args.skips.now c.args.offer.lane c.args.offer.delivery.queue (numbered_in c.args.offer.delivery) c.requires.choice).lane

@@ -10,6 +10,10 @@ use Rattle.evt_types.specs.declared.step.Step.{Step}
 use Rattle.evt_types.specs.declared.step.Step.TheVariants.{Shut}
 use Rattle.transcripts.specs.Standing.{View, after}
 
+-- the same scheduler, whose seat has read this word
+abbrev pub looked : ℕ → Sight → Sight
+looked word s = record s { account = after_look word s.account }
+
 -- what a look at the credits logs, by the word that it read: Shut, the first time that it has the shut bit
 abbrev pub look_steps : ℕ → View → List Step
 look_steps word v = if is_shut word then (if v.shut then [] else Shut ∷ []) else []

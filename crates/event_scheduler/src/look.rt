@@ -1,9 +1,11 @@
 //! The credit word: whether the device is shut, and the return of the credits of what was turned away.
 
-ghost use Rattle.std.specs.Prelude.{◌≡◌, ◌+◌, ◌^◌, ◌<◌, ◌≤◌};
+ghost use Rattle.std.specs.Prelude.{◌≡◌, ◌+◌, ◌^◌, ◌<◌, ◌≤◌, List};
+ghost use Rattle.credit_pool.specs.Accounts.{free_of};
 ghost use Rattle.credit_pool.specs.Pool.{account};
-ghost use Rattle.event_scheduler.specs.Looking.{Looks, Rests, Returns};
-ghost use Rattle.event_scheduler.specs.Scheduler.{sight_of};
+ghost use Rattle.event_scheduler.specs.Looking.{Looks, Rests, Returns, looked};
+ghost use Rattle.event_scheduler.specs.Scheduler.{Serves, sight_of};
+ghost use Rattle.evt_types.specs.declared.step.Step.{Step as StepValue};
 ghost use Rattle.transcripts.specs.Standing.{kept_in};
 
 use crate::scheduler::Scheduler;
@@ -21,6 +23,17 @@ impl Scheduler {
         if self.pool.look(&mut self.seat).1 {
             self.core.shut(log);
         }
+    }
+
+    /// The free credits, by one look at the pool, and those in the scheduler's pocket.
+    pub fn credits(&mut self) -> (u64, u64)
+        ensures looked { sight_of self.new ≡ looked (sight_of self.new).account.last (sight_of self.old) }
+        ensures serves { (T : List StepValue) → Serves T (sight_of self.old) → Serves T (sight_of self.new) }
+        ensures free { result.0 ≡ free_of (sight_of self.new).account.last }
+        ensures own { result.1 ≡ (sight_of self.old).pocket }
+    {
+        let free = self.pool.look(&mut self.seat).0;
+        (free, self.pocket)
     }
 
     /// Tries to give back the credits of what was turned away, all of them at once.

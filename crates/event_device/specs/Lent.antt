@@ -3,6 +3,7 @@ use Rattle.std.specs.Prelude.{ℕ, zero, suc, ◌≡◌, ◌≢◌, ◌<◌, ◌
 use Rattle.std.specs.Prelude.Option.{Some, None}
 use Rattle.event_answers.specs.declared.answer.Swept.{Swept}
 use Rattle.event_ports.specs.declared.port.Port.{Port}
+use Rattle.event_scheduler.specs.Looking.{looked}
 use Rattle.event_scheduler.specs.Swept.{Sweeps}
 use Rattle.transcripts.specs.Transcript.{inside}
 use Rattle.event_device.specs.Control.{control_of, was_shut}
@@ -20,6 +21,10 @@ Keeps r q = q ≡ record r { recorded = q.recorded }
 pub record SweepsOnce (swept : Swept) (r q : Parts) : Type 0 where
   pub sweeps : Sweeps swept r.recorded.sight r.recorded.log q.recorded.sight q.recorded.log
   pub others : Keeps r q
+
+-- the scheduler's seat has read this word of the credits, and all else stays
+abbrev pub with_look : ℕ → Parts → Parts
+with_look word r = record r { recorded = record r.recorded { sight = looked word r.recorded.sight } }
 
 -- how many events are inside
 abbrev pub inside_of : Parts → ℕ

@@ -10,6 +10,7 @@ use event_answers::{Swept, Turned};
 use event_ports::Port;
 use evt_types::Shape;
 use flow_claims::Claims;
+use sched_core::Core;
 use std::alloc::Global;
 use std::marker::Model;
 use std::snapshot::Snapshot;
@@ -70,9 +71,10 @@ impl Device<Tally<Counted>> {
 
 impl<L: StepLog> Device<L> {
     ghost use Rattle.std.specs.Prelude.{◌≡◌, ◌<◌, ◌^◌, [], IfOk, IfErr, IsErr};
+    ghost use Rattle.credit_pool.specs.Accounts.{free_of};
     ghost use Rattle.event_scheduler.specs.Swept.{Sweeps};
     ghost use Rattle.event_device.specs.Fault.{shape_in};
-    ghost use Rattle.event_device.specs.Lent.{Keeps, SweepsAll, SweepsSome};
+    ghost use Rattle.event_device.specs.Lent.{Keeps, SweepsAll, SweepsSome, with_look};
     ghost use Rattle.event_device.specs.Listed.{turned_all};
     ghost use Rattle.event_device.specs.Parts.{device_of};
     ghost use Rattle.event_device.specs.Start.{IsFresh};
@@ -160,6 +162,23 @@ impl<L: StepLog> Device<L> {
         ensures few { result < 2 ^ 63 }
     {
         self.recorder.inside()
+    }
+
+    /// The free credits, by one look at the pool, and those in the scheduler's pocket.
+    pub fn credits(&mut self) -> (u64, u64)
+        ensures looked { self.new ≡ with_look self.new.recorded.sight.account.last self.old }
+        ensures device { device_of self.new ≡ device_of self.old }
+        ensures free { result.0 ≡ free_of self.new.recorded.sight.account.last }
+        ensures own { result.1 ≡ self.old.recorded.sight.pocket }
+    {
+        self.recorder.scheduler.credits()
+    }
+
+    /// The scheduling core, to be read.
+    pub fn core(&self) -> &Core
+        ensures { result.now ≡ self.now.recorded.sight.core }
+    {
+        self.recorder.scheduler.core()
     }
 
     /// How many events were accepted as new.

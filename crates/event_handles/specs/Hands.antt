@@ -1,6 +1,6 @@
 -- What the calls of a hub that runs do: ports and control leave it and come back, and it sweeps. Each does what `Device` promises of
 -- its own call (`event_device`, specs/Lent.antt), and answers a number.
-use Rattle.std.specs.Prelude.{ℕ, ℤ, pos, ◌≡◌, ◌+◌, ◌⊎◌, true, Option}
+use Rattle.std.specs.Prelude.{ℕ, ℤ, pos, ◌≡◌, ◌+◌, ◌⊎◌, true, length, Option}
 use Rattle.std.specs.Prelude.Option.{Some, None}
 use Rattle.event_answers.specs.declared.answer.Swept.{Swept}
 use Rattle.event_device.specs.Control.{control_of, was_shut}
@@ -8,13 +8,15 @@ use Rattle.event_device.specs.Device.{IsPortOf, control_site}
 use Rattle.event_device.specs.Lent.{ComesBack, ControlComesBack, ControlIsThere, ControlLeaves, IsThere, MayLeave, SweepsOnce}
 use Rattle.event_device.specs.Parts.{Parts, device_of}
 use Rattle.event_device.specs.declared.control.Control.{Control}
-use Rattle.event_handles.specs.Hub.{Changes}
+use Rattle.event_handles.specs.Hub.{Changes, WhileRunning}
 use Rattle.event_handles.specs.Kinds.{kinds_of}
 use Rattle.event_handles.specs.Numbers.{busy, no_device, no_memory}
+use Rattle.event_handles.specs.Sweeps.{AreSent, after_sweep}
 use Rattle.event_handles.specs.declared.control.ControlHandle.{ControlHandle}
 use Rattle.event_handles.specs.declared.hub.Hub.{Hub}
 use Rattle.event_handles.specs.declared.port.PortHandle.{PortHandle}
 use Rattle.event_handles.specs.declared.port.Seat.{Seat}
+use Rattle.event_handles.specs.declared.sweep_counts.SweepCounts.{SweepCounts}
 
 -- ---- a port leaves
 
@@ -79,15 +81,19 @@ IsShut old new answer = ShutsBy old.control new.control answer
 
 -- ---- a sweep
 
--- one sweep, and how many replies it took and events it gave
-pub record Sweeps (answer : ℤ) (r q : Parts) : Type 0 where
+-- One sweep, and how many replies it took and events it gave. It is counted, with what had been given to each port's lane before it.
+pub record Sweeps (answer : ℤ) (c d : SweepCounts) (r q : Parts) : Type 0 where
   pub swept : Swept
   pub sweeps : SweepsOnce swept r q
   pub answered : answer ≡ pos (swept.taken + swept.given)
+  pub counted : d ≡ after_sweep swept d.sent c
+  pub sent : AreSent r.recorded.log (length r.recorded.sight.core.shape.ports) d.sent
 
 -- or memory ran out, and nothing has changed
-abbrev pub MaySweep : ℤ → Parts → Parts → Type 0
-MaySweep answer r q = Sweeps answer r q ⊎ ((answer ≡ no_memory) × (q ≡ r))
+abbrev pub MaySweep : ℤ → SweepCounts → SweepCounts → Parts → Parts → Type 0
+MaySweep answer c d r q = Sweeps answer c d r q ⊎ ((answer ≡ no_memory) × (q ≡ r) × (d ≡ c))
 
-abbrev pub IsSweep : Hub → Hub → ℤ → Type 0
-IsSweep old new answer = Changes (MaySweep answer) (answer ≡ no_device) old new
+pub record IsSweep (old new : Hub) (answer : ℤ) : Type 0 where
+  pub device : WhileRunning (MaySweep answer old.sweeps new.sweeps) ((answer ≡ no_device) × (new.sweeps ≡ old.sweeps)) old.device new.device
+  pub stopped : new.stopped ≡ old.stopped
+  pub why : new.why ≡ old.why

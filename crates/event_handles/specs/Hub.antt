@@ -18,6 +18,7 @@ WhileRunning P Q None None = Q
 pub record Changes (P : Parts → Parts → Type 0) (Q : Type 0) (old new : Hub) : Type 0 where
   pub device : WhileRunning P Q old.device new.device
   pub stopped : new.stopped ≡ old.stopped
+  pub sweeps : new.sweeps ≡ old.sweeps
   pub why : new.why ≡ old.why
 
 -- how many events wait, are kept or are unanswered in a device that runs; else what there is to say

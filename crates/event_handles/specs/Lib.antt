@@ -6,6 +6,7 @@ pub mod Hub
 pub mod Kinds
 pub mod Left
 pub mod Logs
+pub mod Now
 pub mod Numbers
 pub mod Ports
 pub mod Pulls
@@ -13,3 +14,4 @@ pub mod Refusals
 pub mod Report
 pub mod Start
 pub mod Stop
+pub mod Sweeps

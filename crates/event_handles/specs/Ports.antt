@@ -1,5 +1,5 @@
 -- What the calls of a port for C answer, and what they do: all that the port's own calls say, with C's events.
-use Rattle.std.specs.Prelude.{◌≡◌, ◌≢◌, ℕ, ℤ, pos, ◌+◌, ◌%◌, ◌^◌, ◌<◌, ◌≤◌, ◌↔◌, ◌⊎◌, List, [], ◌∷◌, ◌++◌, length, map, take, drop, Option, IsTrue, IsNone, IfSome}
+use Rattle.std.specs.Prelude.{◌≡◌, ◌≢◌, ℕ, ℤ, pos, ◌+◌, ◌-◌, ◌%◌, ◌^◌, ◌<◌, ◌≤◌, ◌↔◌, ◌⊎◌, List, [], ◌∷◌, ◌++◌, length, map, min, take, drop, Option, IsTrue, IsNone, IfSome}
 use Rattle.std.specs.Prelude.Option.{Some, None}
 use Rattle.std.specs.List.{AllZip}
 use Rattle.credit_pool.specs.Accounts.{Stays}
@@ -127,6 +127,11 @@ why_in (Some s) = s.why
 abbrev pub held_in : Option Seat → ℤ
 held_in None = no_device
 held_in (Some s) = pos (length (hand s.port).holding)
+
+-- how many credits are in its pocket, which are at most the greatest number
+abbrev pub pocket_in : Option Seat → ℤ
+pocket_in None = no_device
+pocket_in (Some s) = pos (min (pocket_of s.port) (2 ^ 63 - 1))
 
 abbrev pub count_list : PortCounts → List ℕ
 count_list c =

@@ -43,4 +43,5 @@ PullsFrom None None before after answer = (answer ≡ no_device) × (after ≡ b
 pub record IsLeft (old new : Hub) (before after : List CLeft) (answer : ℤ) : Type 0 where
   pub pulls : PullsFrom old.stopped new.stopped before after answer
   pub device : new.device ≡ old.device
+  pub sweeps : new.sweeps ≡ old.sweeps
   pub why : new.why ≡ old.why

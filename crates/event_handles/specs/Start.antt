@@ -7,6 +7,7 @@ use Rattle.event_device.specs.declared.fault.DeviceFault.{DeviceFault}
 use Rattle.event_device.specs.declared.fault.DeviceFault.TheVariants.{Memory, NoSeat}
 use Rattle.event_handles.specs.Config.{early_fault, fault_in, late_fault, plan_of_config}
 use Rattle.event_handles.specs.Numbers.{no_memory, not_shared}
+use Rattle.event_handles.specs.Sweeps.{no_sweeps}
 use Rattle.event_handles.specs.declared.config.Config.{Config}
 use Rattle.event_handles.specs.declared.hub.Hub.{Hub}
 
@@ -30,3 +31,4 @@ pub record IsFresh (c : Config) (r : Parts) : Type 0 where
 pub record IsNew (hub : Hub) (c : Config) : Type 0 where
   pub made : MatchOption hub.device (IsRefusal c hub.why) (λ r. IsFresh c r × (hub.why ≡ pos 0))
   pub not_stopped : hub.stopped ≡ None
+  pub unswept : hub.sweeps ≡ no_sweeps

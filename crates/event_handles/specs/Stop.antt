@@ -37,6 +37,7 @@ pub record IsStopped (r : Parts) (old new : Hub) (answer : ℤ) : Type 0 where
   pub stopped : Stopped
   pub left : new.stopped ≡ Some stopped
   pub stops : Stops r stopped
+  pub sweeps : new.sweeps ≡ old.sweeps
   pub why : new.why ≡ old.why
 
 abbrev pub StopsFrom : Option Parts → Hub → Hub → ℤ → Type 0

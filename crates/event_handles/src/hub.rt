@@ -10,8 +10,9 @@ use crate::errno::{EBUSY, ENODEV, ENOMEM};
 use crate::port::{PortHandle, Seat};
 use crate::start::start_device;
 use crate::stopped::Stopped;
+use crate::sweep_counts::{SweepCounts, note_sent};
 use event_device::Device;
-use evt_types::{Kind, MAX_QUEUES};
+use evt_types::{Kind, MAX_PORTS, MAX_QUEUES};
 use std::alloc::Global;
 
 /// A device for C, with all of its parts that are at home. Where it is refused it holds why, and once it is stopped its account.
@@ -21,6 +22,10 @@ pub struct Hub {
     /// The scheduling types of the device's queues, where it runs.
     pub(crate) kinds: [Kind; MAX_QUEUES],
     pub(crate) stopped: Option<Stopped>,
+    /// What the device's sweeps did.
+    pub(crate) sweeps: SweepCounts,
+    /// Where a sweep notes what was given before it, until it is known to succeed. Between sweeps nothing rests on it.
+    given: [u64; MAX_PORTS],
     pub(crate) why: i64,
     pub ghost kinds_are: { ForSome device (λ r. kinds ≡ kinds_of r) },
 }
@@ -42,6 +47,8 @@ impl Hub {
                     device: Some(started.0),
                     kinds,
                     stopped: None,
+                    sweeps: SweepCounts::none(),
+                    given: [0; MAX_PORTS],
                     why: 0,
                 }
             }
@@ -51,6 +58,8 @@ impl Hub {
                     device: None,
                     kinds,
                     stopped: None,
+                    sweeps: SweepCounts::none(),
+                    given: [0; MAX_PORTS],
                     why,
                 }
             }
@@ -146,9 +155,11 @@ impl Hub {
         let Some(device) = &mut self.device else {
             return ENODEV;
         };
+        note_sent(device, &mut self.given);
         let Ok(swept) = device.sweep() else {
             return ENOMEM;
         };
+        self.sweeps.count(&swept, &self.given);
         // So many steps, and with them what was taken and given, can be counted.
         let _log = device.log();
         let count = (swept.taken + swept.given) as i64;

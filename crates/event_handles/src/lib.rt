@@ -10,12 +10,14 @@ mod errno;
 mod event;
 mod hub;
 mod left;
+mod now;
 mod port;
 mod refusal;
 mod report;
 mod start;
 mod stop;
 mod stopped;
+mod sweep_counts;
 
 pub use config::{Config, PortConf, QueueConf};
 pub use control::ControlHandle;

@@ -100,7 +100,7 @@ impl Seat {
 
 impl PortHandle {
     ghost use Rattle.std.specs.Prelude.{◌≡◌};
-    ghost use Rattle.event_handles.specs.Ports.{IsCounted, IsDequeue, IsEnqueue, held_in, why_in};
+    ghost use Rattle.event_handles.specs.Ports.{IsCounted, IsDequeue, IsEnqueue, held_in, pocket_in, why_in};
 
     /// Enqueues the events one after the other up to the first that is refused, 64 at most: how many were taken. Why the next one wasn't
     /// is then what `why` says. -19 without a seat.
@@ -141,6 +141,16 @@ impl PortHandle {
     {
         match &self.seat {
             Some(seat) => seat.port.held() as i64,
+            None => ENODEV,
+        }
+    }
+
+    /// How many credits are in the port's pocket, or the greatest number where there are more. -19 without a seat.
+    pub fn pocket(&self) -> i64
+        ensures { result ≡ pocket_in self.now.seat }
+    {
+        match &self.seat {
+            Some(seat) => seat.port.pocket().min(i64::MAX as u64) as i64,
             None => ENODEV,
         }
     }

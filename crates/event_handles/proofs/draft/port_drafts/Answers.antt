@@ -1,6 +1,6 @@
-use Rattle.std.proofs.Common.{◌≡◌, ◌∙◌, ◌++◌, ◌∷◌, [], List, ap, arith, length, map, slice_index_or, sym, take}
+use Rattle.std.proofs.Common.{◌∙◌, ◌++◌, ◌∷◌, [], ap, arith, length, map, sym, take}
 use Rattle.std.proofs.lemmas.List.{length-map, length-take, map_more, map_push}
-use Rattle.evt_types.specs.Plan.{PortPlan, port_plan}
+use Rattle.evt_types.specs.Plan.{port_plan}
 use Rattle.event_handles.specs.Config.{port_draft}
 use Rattle.event_handles.proofs.draft.port_drafts.Goals as goal
 

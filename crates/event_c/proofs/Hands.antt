@@ -1,7 +1,7 @@
 -- Exports of the form `(at, number, to)`: what lies at the first pointer is lent for the call, the number is passed on, and what the call gives is written to the second.
 use Rattle.event_c.proofs.Steps.{ℕ, List, [], ◌∷◌, ◌++◌, refl, Ura, full_share, SProp, emp, ex, sep, id⊢, Lft, Incl, ftrue, erased, mut, ty_ptr, ty_ref, ty_unit, Fn, Callee, place, deref, assign, seq, return, call, copy, opd_unit, rv_opd, addr_of, Val, vptr, vunit, Model, WpFn, fact, Running, tables, Logic, sem, ‵, raw, ◌⊛◌, some, later, prop, ◌$◌, ◌∵◌, !, qed, done, move, keep, show, use1, use2, split, join, feq_i, pick, await, regoal, suffices, frame, group, enter, of_opd, unit_lit, init, assigns, addr, stop, no_more, and_then, returns, alloc_all, pass_all, free_all, look_at, get, through, sets, lands_as, One, unit, yes, part_in, Is, shows, lone, part_at, pointee, Laws, RattleType, Denots, Ptr, RawPtr, block_ptr, lies_at, room_at, in_a_block, rawptr_vals, rawptr_Tells, plain, Slot, Lfts, types_at, nothing, heard, peeks, calls_from, Args, AtExit, Outs, framed, walk_of, says, stay_dropped, Goes-dropped, ends_at, is_typed, w64, ty_int, usize, uint_vals, uint_Tells}
 use Rattle.event_c.proofs.Lent.{by_mut, Called, calling, stays_at, beside, lent}
-use Rattle.event_c.proofs.Points.{Export, Passes, asked, fn, binds, others, points_with}
+use Rattle.event_c.proofs.Points.{Export, Passes, asked, fn, binds, points_with}
 
 -- R is the type of what lies there, Q the type of what is given, and Promise what the call promises of the first before, of the number, of the first after, and of what is given
 module _ (R : RattleType) (laws : Laws R) (within : (κ : Lft) → Incl κ R.lives) (one : One R.mir) (Q : RattleType) (made_laws : Laws Q) (Promise : R.Denot → ℕ → R.Denot → Q.Denot → Type 0) where

@@ -1,5 +1,5 @@
 -- Exports of the form `(at, from) -> i64`: what lies at the first pointer is lent for the call, what lies at the second is moved into it, and the call's number is the answer.
-use Rattle.event_c.proofs.Steps.{ℕ, ℤ, List, [], ◌∷◌, ◌++◌, refl, w64, Ura, full_share, SProp, assoc∗, ex_i, emp, ex, sep, id⊢, Lft, Incl, ftrue, fat, froom, erased, mut, ty_int, ty_ptr, ty_ref, Fn, Callee, place, deref, assign, seq, return, call, copy, rv_opd, addr_of, Val, vptr, Model, WpFn, fact, Running, tables, Logic, sem, ‵, raw, ◌⊛◌, some, later, prop, ◌$◌, ◌∵◌, !, qed, done, move, keep, show, use1, split, join, pick, await, regoal, suffices, group, enter, of_opd, load, look, addr, stop, no_more, and_then, returns, alloc_all, pass_all, free_all, look_at, get, through, sets, lands_as, One, i64, yes, part_out, Is, shows, lone, part_at, pointee, Laws, RattleType, Denots, Ptr, RawPtr, block_ptr, lies_at, room_at, in_a_block, rawptr_vals, rawptr_Tells, plain, Slot, Lfts, types_at, sint_Lawful, nothing, peeks, calls_from, Args, AtExit, Outs, lasts_of, framed, walk_of, stay_dropped, Goes-dropped, ends_at, is_typed}
+use Rattle.event_c.proofs.Steps.{ℤ, List, [], ◌∷◌, ◌++◌, refl, w64, Ura, full_share, SProp, assoc∗, ex_i, emp, ex, sep, id⊢, Lft, Incl, ftrue, fat, froom, erased, mut, ty_int, ty_ptr, ty_ref, Fn, Callee, place, deref, assign, seq, return, call, copy, rv_opd, addr_of, Val, vptr, Model, WpFn, fact, Running, tables, Logic, sem, ‵, raw, ◌⊛◌, some, later, prop, ◌$◌, ◌∵◌, !, qed, done, move, keep, show, use1, split, join, pick, await, regoal, suffices, group, enter, of_opd, load, look, addr, stop, no_more, and_then, returns, alloc_all, pass_all, free_all, look_at, get, through, sets, lands_as, One, i64, yes, part_out, Is, shows, lone, part_at, pointee, Laws, RattleType, Denots, Ptr, RawPtr, block_ptr, lies_at, room_at, in_a_block, rawptr_vals, rawptr_Tells, plain, Slot, Lfts, types_at, sint_Lawful, nothing, peeks, calls_from, Args, AtExit, Outs, lasts_of, framed, walk_of, stay_dropped, Goes-dropped, ends_at, is_typed}
 use Rattle.event_c.proofs.Lent.{by_mut, Called, calling, stays_at, lent}
 use Rattle.event_c.proofs.Points.{Export, Passes, asked, fn, binds, others, points_with}
 

@@ -5,6 +5,7 @@ pub mod Answers
 pub mod Fills
 pub mod Takes
 pub mod ReportsFor
+pub mod SharesFor
 pub mod Clears
 pub mod Joins
 pub mod Lends

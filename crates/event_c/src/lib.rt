@@ -16,6 +16,7 @@ ghost use Rattle.event_handles.specs.declared.port.PortHandle.{PortHandle as Por
 ghost use Rattle.event_handles.specs.Counts as tallies;
 ghost use Rattle.event_handles.specs.Hands.{Hands, HandsControl, IsControlOf, IsOf, IsShut, IsSweep, Joins, JoinsControl};
 ghost use Rattle.event_handles.specs.Hub.{inside_in};
+ghost use Rattle.event_handles.specs.Now.{IsNow, IsShared};
 ghost use Rattle.event_handles.specs.Ports as ports;
 ghost use Rattle.event_handles.specs.Pulls.{IsLeft};
 ghost use Rattle.event_handles.specs.Report.{IsReported};
@@ -152,6 +153,31 @@ pub unsafe extern "C" fn evsched_hub_counts(at: *mut u8, what: usize, counts: &m
     (*(at as *mut Hub)).counts(what, counts)
 }
 
+/// Writes what is so now.
+#[unsafe(no_mangle)]
+pub unsafe extern "C" fn evsched_hub_now(at: *mut u8, what: usize, counts: &mut [u64]) -> i64
+    ghost value: { HubValue }
+    requires* { sem 𝓛 (points_to hub_row at value) }
+    ensures* { changes 𝓛 hub_row at (λ new. IsNow value what new counts.old counts.new result) }
+{
+    (*(at as *mut Hub)).now(what, counts)
+}
+
+/// Writes what a port's lane has of a queue.
+#[unsafe(no_mangle)]
+pub unsafe extern "C" fn evsched_hub_shares(
+    at: *mut u8,
+    queue: usize,
+    port: usize,
+    counts: &mut [u64],
+) -> i64
+    ghost value: { HubValue }
+    requires* { sem 𝓛 (points_to hub_row at value) }
+    ensures* { sem 𝓛 (points_to hub_row at value) ∗ ⌜ IsShared value queue port counts.old counts.new result ⌝ }
+{
+    (*(at as *mut Hub)).shares(queue, port, counts)
+}
+
 /// Writes the numbers of the report.
 #[unsafe(no_mangle)]
 pub unsafe extern "C" fn evsched_hub_report(at: *mut u8, counts: &mut [u64]) -> i64
@@ -200,6 +226,16 @@ pub unsafe extern "C" fn evsched_port_held(at: *mut u8) -> i64
     ensures* { sem 𝓛 (points_to port_row at value) ∗ ⌜ result ≡ ports.held_in value.seat ⌝ }
 {
     (*(at as *mut PortHandle)).held()
+}
+
+/// How many credits are in the port's pocket.
+#[unsafe(no_mangle)]
+pub unsafe extern "C" fn evsched_port_pocket(at: *mut u8) -> i64
+    ghost value: { PortValue }
+    requires* { sem 𝓛 (points_to port_row at value) }
+    ensures* { sem 𝓛 (points_to port_row at value) ∗ ⌜ result ≡ ports.pocket_in value.seat ⌝ }
+{
+    (*(at as *mut PortHandle)).pocket()
 }
 
 /// Writes what the port counted.

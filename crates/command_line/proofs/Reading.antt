@@ -12,7 +12,7 @@ ends_whole new n Write h = inl h
 ends_whole new n (Document f) h = inl h
 ends_whole new n Memory h = tt
 ends_whole new n NoSeat h = inl h
-ends_whole new n Strayed h = inl h
+ends_whole new n (Strayed log) h = inl h
 
 whole_ok : {X : Type 0} (new : Option (List ℕ)) (r : Result X AppFault) → IsAtEnd new → IfOk r (λ _. IsAtEnd new)
 whole_ok new (Ok x) h = h

@@ -64,7 +64,7 @@ status_of Write = 3
 status_of (Document f) = named_status (doc_fault_name f)
 status_of Memory = 5
 status_of NoSeat = 5
-status_of Strayed = 6
+status_of (Strayed log) = 6
 
 -- the line, without its line end
 abbrev pub line_of_fault : AppFault → List ℕ
@@ -73,4 +73,4 @@ line_of_fault Write = codes "evsched: write failed"
 line_of_fault (Document f) = named_line (doc_fault_name f) (line_number f)
 line_of_fault Memory = no_memory
 line_of_fault NoSeat = no_memory
-line_of_fault Strayed = codes "evsched: a worker strayed"
+line_of_fault (Strayed log) = codes "evsched: a worker strayed"

@@ -13,7 +13,7 @@ IsInputFault known Write = ⊥
 IsInputFault known (Document f) = (f ≡ TooLong) × IfSome known (λ input. most_input < length input)
 IsInputFault known Memory = Unit {0}
 IsInputFault known NoSeat = ⊥
-IsInputFault known Strayed = ⊥
+IsInputFault known (Strayed log) = ⊥
 
 -- All was read, or as much as shows that it is too long for a document: one byte more than one may have.
 abbrev pub IsReadUp : Option (List ℕ) → ℕ → Type 0
@@ -26,7 +26,7 @@ EndsReading new n Write = IsReadUp new n
 EndsReading new n (Document f) = IsReadUp new n
 EndsReading new n Memory = Unit {0}
 EndsReading new n NoSeat = IsReadUp new n
-EndsReading new n Strayed = IsReadUp new n
+EndsReading new n (Strayed log) = IsReadUp new n
 
 -- What a call took from its reader, by what the reader had before and has after: all of it, or as much as its fault allows, and
 -- never more than one byte past the most that a document may have.

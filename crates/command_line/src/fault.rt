@@ -4,12 +4,13 @@ ghost use Rattle.std.specs.Prelude.{◌≡◌};
 ghost use Rattle.command_line.specs.Fault.{app_fault};
 ghost use Rattle.command_line.specs.declared.fault.AppFault.TheVariants.{Memory};
 
+use evt_types::Step;
 use play_documents::{DocFault, ReadFault};
 use std::alloc::{AllocError, AllocFailed};
 use thiserror::Error;
 
 /// Why a run stops before its end.
-#[derive(Clone, Copy, Debug, PartialEq, Eq, Error)]
+#[derive(Debug, PartialEq, Eq, Drop, Error)]
 pub enum AppFault {
     /// The document couldn't be read to its end.
     #[error("the document could not be read")]
@@ -26,9 +27,9 @@ pub enum AppFault {
     /// The device couldn't be shared out to its ports.
     #[error("the device could not be shared out to its ports")]
     NoSeat,
-    /// A worker answered an event otherwise than its stage's action.
+    /// A worker answered an event otherwise than its stage's action, as this log of the run shows.
     #[error("a worker did not answer an event as its stage says")]
-    Strayed,
+    Strayed(Vec<Step>),
 }
 
 impl From<AllocError> for AppFault {

@@ -108,7 +108,7 @@ pub fn fault_line(fault: &AppFault, out: &mut ArrayString<64>) -> u8
             out.push_str(NO_MEMORY);
             5
         }
-        AppFault::Strayed => {
+        AppFault::Strayed(_) => {
             out.push_str("evsched: a worker strayed");
             6
         }

@@ -122,7 +122,7 @@ impl From<AppFault> for BenchFault {
             AppFault::Write => BenchFault::Write,
             AppFault::Memory => BenchFault::Memory,
             AppFault::NoSeat => BenchFault::NoSeat,
-            AppFault::Strayed => BenchFault::Strayed,
+            AppFault::Strayed(_) => BenchFault::Strayed,
         }
     }
 }

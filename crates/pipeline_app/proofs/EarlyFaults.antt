@@ -24,4 +24,4 @@ IsEarlyFault-input None (Document f) h = (long_named f h.0, tt)
 IsEarlyFault-input (Some input) (Document f) h = (long_named f h.0, too_long input h.1 ∙ ap Err (sym h.0))
 IsEarlyFault-input known Memory h = tt
 IsEarlyFault-input known NoSeat h = tt
-IsEarlyFault-input known Strayed h = absurd h
+IsEarlyFault-input known (Strayed log) h = absurd h

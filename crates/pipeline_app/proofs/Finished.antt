@@ -28,11 +28,10 @@ finished_text p actions others trace entries T U V n count a e u v lawful staged
 
 -- the answers of a finished log aren't due
 pub finished_stray : (p : Plan) (actions others : List Action) (trace entries : List Entry) (T V : List Step) → p.serving ≡ Flows → others ≡ actions → entries ≡ trace → V ≡ T
-    → Lawful p T → IsPrefix (newcomers T) (map new_event entries) → IsFinished p entries T → (AddsNone V × AnswersAreDue others V → ⊥) → Strays (record { plan = p; actions = actions; trace = trace })
+    → Lawful p T → IsPrefix (newcomers T) (map new_event entries) → IsFinished p entries T → (AddsNone V × AnswersAreDue others V → ⊥) → Strays (record { plan = p; actions = actions; trace = trace }) T
 finished_stray p actions others trace entries T V flows a e v lawful news finished strayed =
     record {
       flows = flows;
-      log = T;
       lawful = lawful;
       newcomers = subst (λ ts. IsPrefix (newcomers T) (map new_event ts)) e news;
       finished = subst (λ ts. IsFinished p ts T) e finished;

@@ -52,22 +52,22 @@ AfterFault known old new app.Read = Keeps old new
 AfterFault known old new (app.Document f) = Keeps old new
 AfterFault known old new app.Memory = Keeps old new
 AfterFault known old new app.NoSeat = Keeps old new
-AfterFault known old new app.Strayed = Keeps old new
+AfterFault known old new (app.Strayed log) = Keeps old new
 
--- which faults come before the first byte is written: a document's where it is its first
+-- which faults come before the first byte is written: a document's where it is its first, and never a stray
 abbrev pub IsEarlyFault : Option (List ℕ) → AppFault → Type 0
 IsEarlyFault known app.Write = ⊥
 IsEarlyFault known app.Read = Unit {0}
 IsEarlyFault known (app.Document f) = IsNamedDoc f × IfSome known (λ input. document_of input ≡ Err f)
 IsEarlyFault known app.Memory = Unit {0}
 IsEarlyFault known app.NoSeat = Unit {0}
-IsEarlyFault known app.Strayed = ⊥
+IsEarlyFault known (app.Strayed log) = ⊥
 
--- which faults a play ends with: a document's where it is its first
+-- which faults a play ends with: a document's where it is its first, and never a stray
 abbrev pub IsFaultOf : Option (List ℕ) → AppFault → Type 0
 IsFaultOf known app.Write = Unit {0}
 IsFaultOf known app.Read = Unit {0}
 IsFaultOf known (app.Document f) = IsNamedDoc f × IfSome known (λ input. document_of input ≡ Err f)
 IsFaultOf known app.Memory = Unit {0}
 IsFaultOf known app.NoSeat = Unit {0}
-IsFaultOf known app.Strayed = ⊥
+IsFaultOf known (app.Strayed log) = ⊥

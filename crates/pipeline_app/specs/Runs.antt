@@ -38,41 +38,40 @@ AfterFault workers known old new app.Read = Keeps old new
 AfterFault workers known old new (app.Document f) = Keeps old new
 AfterFault workers known old new app.Memory = Keeps old new
 AfterFault workers known old new app.NoSeat = Keeps old new
-AfterFault workers known old new app.Strayed = Keeps old new
+AfterFault workers known old new (app.Strayed log) = Keeps old new
 
--- A run of the pipeline, which flow lanes serve, strayed: its log, to whose end the whole trace went in and came out, has an answer that
--- isn't its stage's action of the event that it answers, or an event that was added beside another.
-pub record Strays (p : Planned) : Type 0 where
+-- This log of a run of the pipeline, which flow lanes serve, strays: to its end the whole trace went in and came out, and it has an answer
+-- that isn't its stage's action of the event that it answers, or an event that was added beside another.
+pub record Strays (p : Planned) (log : List Step) : Type 0 where
   pub flows : p.plan.serving ≡ Flows
-  pub log : List Step
   pub lawful : Lawful p.plan log
   pub newcomers : IsPrefix (newcomers log) (map new_event p.trace)
   pub finished : IsFinished p.plan p.trace log
   pub strayed : AddsNone log × AnswersAreDue p.actions log → ⊥
 
--- a run of the document did
-pub record HasStrayed (workers : ℕ) (known : Option (List ℕ)) : Type 0 where
+-- so does this log of a run of the document
+pub record HasStrayed (workers : ℕ) (known : Option (List ℕ)) (log : List Step) : Type 0 where
   pub said : Planned
-  pub strays : Strays said
+  pub strays : Strays said log
   pub document : IfSome known (λ input. pipeline_of workers input ≡ Ok said)
 
--- Which faults come before the first byte is written: a document's where it is its first, and a stray only after a run that strayed.
+-- Which faults come before the first byte is written: a document's where it is its first, and a stray with the log that strays.
 abbrev pub IsEarlyFault : ℕ → Option (List ℕ) → AppFault → Type 0
 IsEarlyFault workers known app.Write = ⊥
 IsEarlyFault workers known app.Read = Unit {0}
 IsEarlyFault workers known (app.Document f) = IsNamedDoc f × IfSome known (λ input. pipeline_of workers input ≡ Err f)
 IsEarlyFault workers known app.Memory = Unit {0}
 IsEarlyFault workers known app.NoSeat = Unit {0}
-IsEarlyFault workers known app.Strayed = HasStrayed workers known
+IsEarlyFault workers known (app.Strayed log) = HasStrayed workers known log.items
 
--- which faults a run ends with
+-- which faults a run ends with: a stray with the log that strays
 abbrev pub IsFaultOf : ℕ → Option (List ℕ) → AppFault → Type 0
 IsFaultOf workers known app.Write = Unit {0}
 IsFaultOf workers known app.Read = Unit {0}
 IsFaultOf workers known (app.Document f) = IsNamedDoc f × IfSome known (λ input. pipeline_of workers input ≡ Err f)
 IsFaultOf workers known app.Memory = Unit {0}
 IsFaultOf workers known app.NoSeat = Unit {0}
-IsFaultOf workers known app.Strayed = HasStrayed workers known
+IsFaultOf workers known (app.Strayed log) = HasStrayed workers known log.items
 
 -- ---- a pipeline that was read
 
@@ -84,14 +83,14 @@ pub record IsRunnable (p : Planned) : Type 0 where
   pub workers : 1 < length p.plan.ports
   pub producer : (port_of p.plan 0).links ≡ []
 
--- which faults its run ends with
+-- which faults its run ends with: a stray with the log that strays
 abbrev pub IsRunFault : Planned → AppFault → Type 0
 IsRunFault p app.Write = ⊥
 IsRunFault p app.Read = ⊥
 IsRunFault p (app.Document f) = ⊥
 IsRunFault p app.Memory = Unit {0}
 IsRunFault p app.NoSeat = Unit {0}
-IsRunFault p app.Strayed = Strays p
+IsRunFault p (app.Strayed log) = Strays p log.items
 
 abbrev pub run_fault : RunFault → AppFault
 run_fault runs.Memory = app.Memory

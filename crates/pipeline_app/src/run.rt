@@ -106,7 +106,7 @@ fn flows_text<R: Threads + Wait + Sync, G: Gate>(
     };
     let due = answers_are_due(alloc, queues, lanes, &actions, &report.log)?;
     if !due {
-        return Err(AppFault::Strayed);
+        return Err(AppFault::Strayed(report.log));
     }
     Ok(log_text(alloc, actions.len(), &report.log)?)
 }
@@ -167,8 +167,8 @@ fn ran_text<R: Threads + Wait + Sync, I: Read, G: Gate>(
 /// Reads a pipeline's document, runs its trace through the stages with so many workers, each in a thread of its own, and writes what
 /// each stage accepted, by flow and level. Whatever the schedule, the text is that of the plain pipeline; it is built whole and then
 /// written. Each worker dequeues one event at a time: it passes the gate before the event's action, and dequeues the next one once this
-/// one is answered. `Strayed` comes only where the log of the run, which flow lanes served, has an answer that isn't its stage's action
-/// of the event that it answers, or an event that was added beside another.
+/// one is answered. `Strayed` has the log of the run, which flow lanes served: it has an answer that isn't its stage's action of the
+/// event that it answers, or an event that was added beside another.
 pub fn run_trace<R: Threads + Wait + Sync, I: Read, W: Write, G: Gate>(
     rt: &R,
     alloc: Global,

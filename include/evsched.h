@@ -50,6 +50,7 @@
 #include <stdint.h>
 #include <stdio.h>
 #include <stdlib.h>
+#include <string.h>
 #include <time.h>
 #ifdef EVSCHED_DEBUG
 #include <pthread.h>
@@ -69,6 +70,7 @@ extern "C" {
 #include "evsched_check.h"
 #include "evsched_debug.h"
 #include "evsched_wait.h"
+#include "evsched_watch.h"
 
 #if defined(__cplusplus) && defined(__GNUC__)
 #pragma GCC diagnostic push
@@ -152,9 +154,9 @@ static inline int evsched_check(const struct evsched_dev_config *config, char *t
  */
 static inline size_t evsched_size(uint32_t nb_event_ports)
 {
-	size_t ports = nb_event_ports < EVSCHED_MAX_PORTS ? nb_event_ports : EVSCHED_MAX_PORTS;
+	size_t ports = evsched_priv_ports(nb_event_ports);
 	return evsched_priv_up(sizeof(struct evsched)) + evsched_priv_up(evsched_hub_size()) + evsched_priv_up(evsched_control_size())
-		+ ports * (EVSCHED_PRIV_LINE + evsched_priv_up(evsched_port_size()));
+		+ ports * evsched_priv_stride() + evsched_priv_said_size(ports) + evsched_priv_reset_size(ports);
 }
 
 /*
@@ -173,7 +175,7 @@ static inline int evsched_create_in(void *memory, const struct evsched_dev_confi
 		return -EVSCHED_E_UNALIGNED;
 	if (evsched_priv_reserved(config) < EVSCHED_MAX_QUEUES)
 		return -EVSCHED_E_RESERVED;
-	made = evsched_priv_lay_out(memory);
+	made = evsched_priv_lay_out(memory, evsched_priv_ports(config->nb_event_ports));
 	evsched_priv_resolve(&made->config, config);
 	evsched_hub_init(made->hub, &made->config);
 	why = evsched_hub_why(made->hub);
@@ -185,6 +187,7 @@ static inline int evsched_create_in(void *memory, const struct evsched_dev_confi
 	}
 	evsched_priv_number(made);
 	evsched_priv_hand_out(made);
+	evsched_priv_publish_all(made);
 	*dev = made;
 	return 0;
 }
@@ -261,6 +264,7 @@ static inline uint16_t evsched_enqueue_burst(struct evsched_port *port, const st
 	evsched_priv_comes_before(port->dev);
 	done = evsched_priv_enqueue(port, ev, nb_events);
 	evsched_priv_comes_behind(port->dev->control);
+	evsched_priv_answer_port(port);
 	evsched_priv_leave_port(port, before);
 	return done;
 }
@@ -330,6 +334,7 @@ static inline uint16_t evsched_dequeue_burst(struct evsched_port *port, struct e
 	evsched_priv_comes_before_release(port);
 	n = evsched_port_dequeue(evsched_priv_at(port), nb_events ? ev : &none, nb_events);
 	evsched_priv_comes_behind(port->dev);
+	evsched_priv_answer_port(port);
 	evsched_priv_leave_port(port, before);
 	return n < 0 ? 0 : (uint16_t)n;
 }
@@ -433,6 +438,7 @@ static inline int evsched_sweep(struct evsched *dev)
 	did = (int)evsched_hub_sweep(dev->hub);
 	evsched_priv_comes_behind(dev);
 	evsched_priv_comes_behind(dev->control);
+	evsched_priv_answer(dev, did);
 	evsched_priv_leave(dev, before);
 	return did;
 }
@@ -515,10 +521,13 @@ static inline int evsched_stop(struct evsched *dev)
 	uint32_t p;
 	int r;
 	evsched_priv_enter_all(dev, __func__);
+	evsched_priv_publish_all(dev);
 	for (p = 0; p < dev->config.nb_event_ports; p++)
 		evsched_hub_join(dev->hub, evsched_priv_at(evsched_priv_port(dev, p)));
 	evsched_hub_join_control(dev->hub, dev->control);
 	r = (int)evsched_hub_stop(dev->hub);
+	if (r == 0)
+		__atomic_store_n(&dev->is_over, 1, __ATOMIC_RELEASE);
 	evsched_priv_hand_out(dev);
 	evsched_priv_leave_all(dev);
 	return r;
@@ -556,6 +565,7 @@ static inline int evsched_left(struct evsched *dev, struct evsched_left *left, u
 /* ---- statistics: what was counted, and the configuration ---- */
 
 #include "evsched_stats.h"
+#include "evsched_xstats.h"
 
 #if defined(__cplusplus) && defined(__GNUC__)
 #pragma GCC diagnostic pop

@@ -30,12 +30,15 @@ int64_t evsched_hub_stop(unsigned char *at);
 int64_t evsched_hub_report(unsigned char *at, uint64_t *counts, size_t n);
 int64_t evsched_hub_left(unsigned char *at, struct evsched_left *left, size_t n);
 int64_t evsched_hub_counts(unsigned char *at, size_t what, uint64_t *counts, size_t n);
+int64_t evsched_hub_now(unsigned char *at, size_t what, uint64_t *counts, size_t n);
+int64_t evsched_hub_shares(unsigned char *at, size_t queue, size_t port, uint64_t *counts, size_t n);
 int64_t evsched_control_shut(unsigned char *at);
 int64_t evsched_port_counts(unsigned char *at, uint64_t *counts, size_t n);
 int64_t evsched_port_enqueue(unsigned char *at, const struct evsched_event *events, size_t n);
 int64_t evsched_port_dequeue(unsigned char *at, struct evsched_event *events, size_t n);
 int64_t evsched_port_why(unsigned char *at);
 int64_t evsched_port_held(unsigned char *at);
+int64_t evsched_port_pocket(unsigned char *at);
 void evsched_hub_clear(unsigned char *at);
 void evsched_port_clear(unsigned char *at);
 void evsched_control_clear(unsigned char *at);
@@ -45,30 +48,53 @@ enum { EVSCHED_PRIV_LINE = 64 }; /* bytes: a cache line */
 /* By these handles are known, and what was one. */
 enum { EVSCHED_PRIV_DEVICE = 0x45764465, EVSCHED_PRIV_PORT = 0x4576506f, EVSCHED_PRIV_FREED = 0x45764672 };
 
+/* How many words are published: before what is said; of the device, of each queue, port's lane and share; and by a port (evsched_watch.h). */
+enum {
+	EVSCHED_PRIV_HEAD = 3, EVSCHED_PRIV_OF_DEVICE = 17, EVSCHED_PRIV_OF_QUEUE = 9, EVSCHED_PRIV_OF_LANE = 8, EVSCHED_PRIV_OF_SHARE = 2,
+	EVSCHED_PRIV_OF_PORT = 13
+};
+
+/* How many statistics there are (evsched_xstats.h): of the device, of each port, of them those of rings, of each queue, and of it by port. */
+enum {
+	EVSCHED_PRIV_X_DEVICE = 23, EVSCHED_PRIV_X_PORT = 28, EVSCHED_PRIV_X_RINGS = 4, EVSCHED_PRIV_X_QUEUE = 11, EVSCHED_PRIV_X_SHARE = 2
+};
+
 /* A port's handle: a cache line of its own, behind which the library's port lies. */
 struct evsched_port {
 	uint32_t magic;
 	uint32_t number;
 	struct evsched *dev;
-	uintptr_t thread; /* with EVSCHED_DEBUG: that is in a call of it, or 0 */
-	unsigned char rest[EVSCHED_PRIV_LINE - 2 * sizeof(uint32_t) - sizeof(struct evsched *) - sizeof(uintptr_t)];
+	uintptr_t thread;  /* with EVSCHED_DEBUG: that is in a call of it, or 0 */
+	uint64_t asked;    /* how often its thread was asked to publish: by readers; */
+	uint64_t answered; /* up to which question it did; */
+	uint64_t *said;    /* and what */
+	unsigned char rest[EVSCHED_PRIV_LINE - 2 * sizeof(uint32_t) - 3 * sizeof(uint64_t) - 2 * sizeof(void *)];
 };
 
-/* A device: this, hub, control and ports in one block of memory, each in cache lines of its own. */
+/* A device: this, hub, control, ports and what was published in one block of memory, each in cache lines of its own. */
 struct evsched {
 	uint32_t magic;
 	uint32_t lanes;
-	unsigned char *hub, *control, *port;
-	size_t stride;                 /* from one port to the next */
-	void *base;                    /* what evsched_create allocated; NULL where the block is the program's */
-	uintptr_t thread, shut_thread; /* with EVSCHED_DEBUG: that is in a call of the device, or of its shut, or 0; */
-	int flushes;                   /* how many flushes run; */
-	struct evsched *next;          /* and which device was freed before it */
+	unsigned char *hub;
+	uint64_t asked, answered;         /* as a port's, of the thread that sweeps */
+	unsigned char *control, *port;
+	size_t stride;                    /* from one port to the next */
+	void *base;                       /* what evsched_create allocated; NULL where the block is the program's */
+	uintptr_t thread, shut_thread;    /* with EVSCHED_DEBUG: that is in a call of the device, or of its shut, or 0; */
+	int flushes;                      /* how many flushes run; */
+	struct evsched *next;             /* and which device was freed before it */
+	uint64_t *said;                   /* as a port's */
+	uint64_t *reset;                  /* by statistic: the count from which it counts since it was reset */
+	uint32_t is_over;                 /* 1 after the stop: nothing is published any more */
 	struct evsched_dev_config config; /* as it was resolved */
 };
 
 typedef char evsched_layout_is_right[sizeof(struct evsched_event) == 16 && sizeof(struct evsched_left) == 40
 	&& sizeof(struct evsched_dev_config) == 1048 && sizeof(struct evsched_port) == EVSCHED_PRIV_LINE ? 1 : -1];
+typedef char evsched_words_are_right[sizeof(struct evsched_dev_now) == (EVSCHED_PRIV_OF_DEVICE + 8) * sizeof(uint64_t)
+	&& sizeof(struct evsched_queue_now) == (EVSCHED_PRIV_OF_QUEUE + 2) * sizeof(uint64_t)
+	&& sizeof(struct evsched_port_now) == (EVSCHED_PRIV_OF_LANE + EVSCHED_PRIV_OF_PORT + 7) * sizeof(uint64_t)
+	&& sizeof(struct evsched_share) == EVSCHED_PRIV_OF_SHARE * sizeof(uint64_t) ? 1 : -1];
 
 static inline size_t evsched_priv_up(size_t bytes)
 {
@@ -118,17 +144,49 @@ static inline void evsched_priv_hand_out(struct evsched *dev)
 	evsched_hub_control(dev->hub, dev->control);
 }
 
+/* Room is for at most so many ports, whatever a configuration says. */
+static inline size_t evsched_priv_ports(uint32_t nb_event_ports)
+{
+	return nb_event_ports < EVSCHED_MAX_PORTS ? nb_event_ports : EVSCHED_MAX_PORTS;
+}
+
+/* How many bytes a port has: its handle, the library's port, and what it says. */
+static inline size_t evsched_priv_stride(void)
+{
+	return EVSCHED_PRIV_LINE + evsched_priv_up(evsched_port_size())
+		+ evsched_priv_up((EVSCHED_PRIV_HEAD + EVSCHED_PRIV_OF_PORT) * sizeof(uint64_t));
+}
+
+/* How many bytes what is published of a device has, with so many ports and as many queues as may be. */
+static inline size_t evsched_priv_said_size(size_t ports)
+{
+	return evsched_priv_up((EVSCHED_PRIV_HEAD + EVSCHED_PRIV_OF_DEVICE + EVSCHED_MAX_QUEUES * EVSCHED_PRIV_OF_QUEUE
+		+ ports * (EVSCHED_PRIV_OF_LANE + EVSCHED_MAX_QUEUES * EVSCHED_PRIV_OF_SHARE)) * sizeof(uint64_t));
+}
+
+/* And how many the counts from which its statistics count. */
+static inline size_t evsched_priv_reset_size(size_t ports)
+{
+	return evsched_priv_up((EVSCHED_PRIV_X_DEVICE + ports * EVSCHED_PRIV_X_PORT
+		+ EVSCHED_MAX_QUEUES * (EVSCHED_PRIV_X_QUEUE + ports * EVSCHED_PRIV_X_SHARE)) * sizeof(uint64_t));
+}
+
 /* Where in a device's block each of its parts lies. */
-static inline struct evsched *evsched_priv_lay_out(void *memory)
+static inline struct evsched *evsched_priv_lay_out(void *memory, size_t ports)
 {
 	struct evsched *dev = (struct evsched *)memory;
 	dev->hub = (unsigned char *)memory + evsched_priv_up(sizeof(*dev));
 	dev->control = dev->hub + evsched_priv_up(evsched_hub_size());
 	dev->port = dev->control + evsched_priv_up(evsched_control_size());
-	dev->stride = EVSCHED_PRIV_LINE + evsched_priv_up(evsched_port_size());
+	dev->stride = evsched_priv_stride();
+	dev->said = (uint64_t *)(void *)(dev->port + ports * dev->stride);
+	dev->reset = (uint64_t *)(void *)(dev->port + ports * dev->stride + evsched_priv_said_size(ports));
 	dev->base = NULL;
 	dev->thread = dev->shut_thread = 0;
 	dev->flushes = 0;
+	dev->asked = dev->answered = 0;
+	dev->is_over = 0;
+	memset(dev->said, 0, evsched_priv_said_size(ports) + evsched_priv_reset_size(ports));
 	return dev;
 }
 
@@ -148,6 +206,9 @@ static inline void evsched_priv_number(struct evsched *dev)
 		port->number = p;
 		port->dev = dev;
 		port->thread = 0;
+		port->asked = port->answered = 0;
+		port->said = (uint64_t *)(void *)(dev->port + (p + 1) * dev->stride) - EVSCHED_PRIV_HEAD - EVSCHED_PRIV_OF_PORT;
+		memset(port->said, 0, (EVSCHED_PRIV_HEAD + EVSCHED_PRIV_OF_PORT) * sizeof(uint64_t));
 	}
 	dev->magic = EVSCHED_PRIV_DEVICE;
 	dev->lanes = dev->config.nb_event_ports;

@@ -168,6 +168,7 @@ struct evsched_queue_stats {
 	uint64_t tx;           /* given */
 };
 struct evsched_port_stats {
+	uint64_t rx_new;    /* its NEWs that were accepted */
 	uint64_t tx;        /* given to the lane */
 	uint64_t released;  /* taken from it: RELEASEs, */
 	uint64_t forwarded; /* FORWARDs, */
@@ -193,6 +194,76 @@ struct evsched_port_counters {
 	uint64_t full;         /* ENOBUFS, */
 	uint64_t too_many;     /* E2BIG */
 	uint64_t behind;       /* dequeues that were refused: ENOBUFS */
+};
+
+/*
+ * What evsched_stats_read reads from any thread, while the device runs. The device's part (`dev`, but for the two sums that are named there,
+ * `queue`, `share`, and of `port` what is counted of its lane) is of one moment between two sweeps; what a port says of itself is of one
+ * between two of its calls. An age is how many nanoseconds ago, at most, that was.
+ */
+struct evsched_dev_now {
+	uint64_t rx_new;   /* accepted as NEW by all queues */
+	uint64_t inside;   /* waiting, unanswered or kept */
+	uint64_t sweeps;   /* how many there were, since evsched_create, and didn't run out of memory, */
+	uint64_t taken;    /* what they took of ports */
+	uint64_t given;    /* and gave to them, */
+	uint64_t no_take;  /* how many of them took nothing, */
+	uint64_t no_give;  /* and how many gave nothing */
+	uint64_t free;     /* credits in the pool, */
+	uint64_t own;      /* with the scheduler, */
+	uint64_t progress; /* 1: it was published behind a sweep that took or gave anything */
+	struct evsched_port_stats lanes; /* counted of all lanes in all, those of flows too */
+	uint64_t rx;       /* accepted by all queues, */
+	uint64_t tx;       /* and given by them */
+	uint64_t ports;    /* bit p: the last sweep gave to port p's lane */
+	uint64_t limit;    /* nb_events_limit */
+	uint64_t pockets;  /* credits with the ports: the sum of what each said */
+	uint64_t rx_ring;  /* how many NEWs and answers are in all rings to the scheduler, */
+	uint64_t cq_ring;  /* and events in all rings to the ports: as rx_ring and cq_ring of a port, */
+	uint64_t age;
+};
+struct evsched_queue_now {
+	uint64_t rx_new;       /* as of evsched_queue_stats */
+	uint64_t rx_forwarded;
+	uint64_t tx;
+	uint64_t level[4];     /* waiting, by level: priority / 64 */
+	uint64_t unanswered;
+	uint64_t kept;         /* forwards that an ordered queue keeps until their turn */
+	uint64_t rx;           /* accepted in all */
+	uint64_t waiting;      /* at all levels */
+};
+struct evsched_port_now {
+	struct evsched_port_stats lane; /* as evsched_port_stats has them of the port's lane */
+	uint64_t given;      /* by the last sweep to the lane */
+	struct evsched_port_counters counters; /* said by the port: as evsched_port_counters has them, */
+	uint64_t pocket;     /* the credits in it, */
+	uint64_t held;       /* and how many events it holds */
+	uint64_t rx;         /* accepted from the lane: NEW, FORWARD and FORWARD_MORE */
+	uint64_t unanswered; /* given to the lane, and no answer taken from it */
+	uint64_t rx_ring;    /* enqueued, and not taken by a sweep, */
+	uint64_t rx_free;    /* and the rest of enqueue_depth; */
+	uint64_t cq_ring;    /* given, and not dequeued, */
+	uint64_t cq_free;    /* and the rest of dequeue_depth. These four are differences of what the port and the scheduler counted: exact
+	                        while nothing moves, and EVSCHED_UNKNOWN where there are flow lanes */
+	uint64_t age;        /* of what the port said */
+};
+struct evsched_share {
+	uint64_t tx;     /* how many of the queue's events were given to the port's lane, */
+	uint64_t pinned; /* and how many of its slots have an unanswered event there */
+};
+struct evsched_stats {
+	struct evsched_dev_now dev;
+	struct evsched_queue_now queue[EVSCHED_MAX_QUEUES]; /* those that aren't there are 0 */
+	struct evsched_port_now port[EVSCHED_MAX_PORTS];
+	struct evsched_share share[EVSCHED_MAX_QUEUES][EVSCHED_MAX_PORTS];
+};
+#define EVSCHED_UNKNOWN UINT64_MAX
+
+/* As enum rte_event_dev_xstats_mode and struct rte_event_dev_xstats_name. */
+enum evsched_xstats_mode { EVSCHED_XSTATS_DEVICE, EVSCHED_XSTATS_PORT, EVSCHED_XSTATS_QUEUE };
+#define EVSCHED_XSTATS_NAME_SIZE 64
+struct evsched_xstats_name {
+	char name[EVSCHED_XSTATS_NAME_SIZE];
 };
 
 /* A device and a port. Their members are no business of a program. */

@@ -527,7 +527,7 @@ static inline int evsched_stop(struct evsched *dev)
 	evsched_hub_join_control(dev->hub, dev->control);
 	r = (int)evsched_hub_stop(dev->hub);
 	if (r == 0)
-		__atomic_store_n(&dev->is_over, 1, __ATOMIC_RELEASE);
+		evsched_priv_fall_silent(dev);
 	evsched_priv_hand_out(dev);
 	evsched_priv_leave_all(dev);
 	return r;

@@ -26,6 +26,9 @@ enum { EVSCHED_PRIV_DEVICE_COUNTS = EVSCHED_MAX_QUEUES + EVSCHED_MAX_LANES, EVSC
 /* Of a function that is seldom called, so that its callers stay small. */
 #define EVSCHED_PRIV_SELDOM __attribute__((unused, noinline, cold)) static
 
+/* Has a compiler forget what it knows of a handle: gcc warns of an atomic step on one that it takes for NULL on some way. */
+#define EVSCHED_PRIV_FORGET(handle) __asm__("" : "+r"(handle))
+
 /* ---- publishing: in the thread that sweeps, or in a port's ---- */
 
 /* Writes n words: where the next ones go. */
@@ -139,14 +142,23 @@ EVSCHED_PRIV_SELDOM void evsched_priv_publish_all(struct evsched *dev)
 /* What is paid while nobody asks: behind a sweep, and behind an enqueue or dequeue. */
 static inline void evsched_priv_answer(struct evsched *dev, int did)
 {
+	EVSCHED_PRIV_FORGET(dev);
 	if (__builtin_expect(__atomic_load_n(&dev->asked, __ATOMIC_RELAXED) != dev->answered, 0))
 		evsched_priv_publish(dev, did);
 }
 
 static inline void evsched_priv_answer_port(struct evsched_port *port)
 {
+	EVSCHED_PRIV_FORGET(port);
 	if (__builtin_expect(__atomic_load_n(&port->asked, __ATOMIC_RELAXED) != port->answered, 0))
 		evsched_priv_publish_port(port);
+}
+
+/* From now on nothing is published. */
+static inline void evsched_priv_fall_silent(struct evsched *dev)
+{
+	EVSCHED_PRIV_FORGET(dev);
+	__atomic_store_n(&dev->is_over, 1, __ATOMIC_RELEASE);
 }
 
 /* ---- reading: in any thread ---- */
@@ -309,6 +321,7 @@ static inline int evsched_priv_read(struct evsched *dev, struct evsched_stats *s
 {
 	struct evsched_priv_asked asked;
 	int late;
+	EVSCHED_PRIV_FORGET(dev);
 	evsched_priv_ask(dev, &asked);
 	late = evsched_priv_await(dev, &asked, ports, timeout_ns);
 	evsched_priv_get_all(dev, stats);

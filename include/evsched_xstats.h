@@ -204,7 +204,9 @@ static inline uint64_t evsched_priv_xstats_value(const struct evsched_stats *sta
 static inline uint64_t evsched_priv_xstats_since(const struct evsched *dev, const struct evsched_stats *stats, uint64_t id)
 {
 	struct evsched_priv_xid x;
-	uint64_t reset = __atomic_load_n(&dev->reset[id], __ATOMIC_RELAXED), value = 0;
+	uint64_t reset, value = 0;
+	EVSCHED_PRIV_FORGET(dev);
+	reset = __atomic_load_n(&dev->reset[id], __ATOMIC_RELAXED);
 	if (evsched_priv_xstats_find(dev, id, &x))
 		value = evsched_priv_xstats_value(stats, &x);
 	return value > reset ? value - reset : 0;
@@ -298,6 +300,7 @@ static inline uint64_t evsched_xstats_by_name_get(struct evsched *dev, const cha
 static inline void evsched_priv_xstats_note(struct evsched *dev, const struct evsched_stats *stats, uint64_t id)
 {
 	struct evsched_priv_xid x;
+	EVSCHED_PRIV_FORGET(dev);
 	if (evsched_priv_xstats_find(dev, id, &x) && evsched_priv_xstats_entry(&x)->is_count)
 		__atomic_store_n(&dev->reset[id], evsched_priv_xstats_value(stats, &x), __ATOMIC_RELAXED);
 }

@@ -194,17 +194,18 @@ static uint64_t check_queues(struct evsched *dev, const struct ledger *all, cons
  * inside. */
 static void check_counts(struct evsched *dev, const struct ledger *all, const struct leftover *l, int is_settled)
 {
-	struct evsched_port_stats port, sum = {0, 0, 0, 0, 0, 0};
+	struct evsched_port_stats port, sum = {0, 0, 0, 0, 0, 0, 0};
 	const struct evsched_report *r = &l->report;
 	uint64_t releases = in_all(all->enqueued[EVSCHED_OP_RELEASE]) + all->counted.released;
 	for (uint32_t lane = 0; !evsched_port_stats(dev, lane, &port); lane++) {
 		CHECK(port.turned == l->on[EVSCHED_LEFT_TURNED][lane]);
+		sum.rx_new += port.rx_new;
 		sum.tx += port.tx;
 		sum.released += port.released;
 		sum.forwarded += port.forwarded;
 		sum.added += port.added;
 	}
-	CHECK(sum.tx == check_queues(dev, all, l));
+	CHECK(sum.rx_new == l->before.rx_new && sum.tx == check_queues(dev, all, l));
 	CHECK(sum.forwarded + in_all(l->untaken[EVSCHED_OP_FORWARD]) == in_all(all->enqueued[EVSCHED_OP_FORWARD]));
 	CHECK(sum.added + in_all(l->untaken[EVSCHED_OP_FORWARD_MORE]) == in_all(all->enqueued[EVSCHED_OP_FORWARD_MORE]));
 	CHECK(is_settled ? sum.released == releases : sum.released <= releases);

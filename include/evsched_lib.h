@@ -48,13 +48,13 @@ enum { EVSCHED_PRIV_LINE = 64 }; /* bytes: a cache line */
 /* By these handles are known, and what was one. */
 enum { EVSCHED_PRIV_DEVICE = 0x45764465, EVSCHED_PRIV_PORT = 0x4576506f, EVSCHED_PRIV_FREED = 0x45764672 };
 
-/* How many words are published: before what is said; of the device, of each queue, port's lane and share; and by a port (evsched_watch.h). */
+/* How many words are published: before what is said; of the device, each queue, port's lane and share; and by a port (evsched_watch.h). */
 enum {
 	EVSCHED_PRIV_HEAD = 3, EVSCHED_PRIV_OF_DEVICE = 17, EVSCHED_PRIV_OF_QUEUE = 9, EVSCHED_PRIV_OF_LANE = 8, EVSCHED_PRIV_OF_SHARE = 2,
 	EVSCHED_PRIV_OF_PORT = 13
 };
 
-/* How many statistics there are (evsched_xstats.h): of the device, of each port, of them those of rings, of each queue, and of it by port. */
+/* How many statistics there are (evsched_xstats.h): of the device, of each port, of these of its rings, of each queue, of it by port. */
 enum {
 	EVSCHED_PRIV_X_DEVICE = 23, EVSCHED_PRIV_X_PORT = 28, EVSCHED_PRIV_X_RINGS = 4, EVSCHED_PRIV_X_QUEUE = 11, EVSCHED_PRIV_X_SHARE = 2
 };

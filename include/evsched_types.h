@@ -197,9 +197,9 @@ struct evsched_port_counters {
 };
 
 /*
- * What evsched_stats_read reads from any thread, while the device runs. The device's part (`dev`, but for the two sums that are named there,
- * `queue`, `share`, and of `port` what is counted of its lane) is of one moment between two sweeps; what a port says of itself is of one
- * between two of its calls. An age is how many nanoseconds ago, at most, that was.
+ * What evsched_stats_read reads from any thread, while the device runs. The device's part (`dev`, `queue`, `share`, and of `port` what the
+ * scheduler counted) is of one moment between two sweeps; what a port says of itself is of one between two of its calls. An age is how many
+ * nanoseconds ago, at most, that was.
  */
 struct evsched_dev_now {
 	uint64_t rx_new;   /* accepted as NEW by all queues */

@@ -1,11 +1,11 @@
 /* SPDX-License-Identifier: BSD-3-Clause */
 /*
- * The statistics of evsched_stats_read by name and by id, for evsched.h, which includes it: as rte_event_dev_xstats_*, from any thread, with
- * a timeout more.
+ * The statistics of evsched_stats_read by name and by id, for evsched.h, which includes it: as rte_event_dev_xstats_*, from any thread, and
+ * with a timeout.
  *
- * What event_sw has too is first, in its order and with its names; docs/EVENTDEV.md says of each what it counts. Ids are those of the
- * device, then of port after port, then of queue after queue. A reset is a difference: it notes the counts from which they count from then
- * on, for all readers; what is no count, as a ring's fill, stays. Each call that needs numbers reads all of them, on the stack (27 kB).
+ * What event_sw has too is first, in its order and with its names; docs/EVENTDEV.md says of each what it is. Ids are those of the device,
+ * then of port after port, then of queue after queue. A reset is a difference: from then on counts are shown less what they were, to all
+ * who read them so. What is no count, as a ring's fill, stays. A call that needs numbers reads all of them onto the stack (27 kB).
  */
 #ifndef EVSCHED_XSTATS_H
 #define EVSCHED_XSTATS_H

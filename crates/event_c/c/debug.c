@@ -79,6 +79,7 @@ static void null_device(void) { evsched_sweep(NULL); }
 static void null_shut(void) { evsched_shut(NULL); }
 static void no_port(void) { evsched_held((struct evsched_port *)(void *)dev); }
 static void no_device(void) { struct evsched_dev_stats stats; evsched_dev_stats((struct evsched *)(void *)evsched_port(dev, 0), &stats); }
+static void xstats_of_null(void) { evsched_xstats_reset(NULL, EVSCHED_XSTATS_DEVICE, 0, NULL, 0, 0); }
 static void number_of_null(void) { evsched_port(NULL, 0); }
 
 /* ---- free ---- */
@@ -95,6 +96,7 @@ static void free_in_quiesce(void) { evsched_quiesce(evsched_port(dev, 1), free_i
 
 static void device_after_free(void) { evsched_free(dev); evsched_sweep(dev); }
 static void free_twice(void) { evsched_free(dev); evsched_free(dev); }
+static void read_after_free(void) { static struct evsched_stats stats; evsched_free(dev); evsched_stats_read(dev, &stats, 0); }
 static void port_after_free(void) { struct evsched_port *port = evsched_port(dev, 1); evsched_free(dev); evsched_errno(port); }
 
 /* What the line must have, in this order; T is a thread's number. */
@@ -113,12 +115,14 @@ static const struct {
 	{"a port that is NULL", null_port, {"evsched_dequeue_burst", "thread 0x", "port", "NULL"}},
 	{"a device that is NULL", null_device, {"evsched_sweep", "thread 0x", "device", "NULL"}},
 	{"a shut of NULL", null_shut, {"evsched_shut", "thread 0x", "device", "NULL"}},
+	{"statistics of NULL", xstats_of_null, {"evsched_xstats_reset", "thread 0x", "device", "NULL"}},
 	{"a port of NULL", number_of_null, {"evsched_port", "thread 0x", "device", "NULL"}},
 	{"a device for a port", no_port, {"evsched_held", "thread 0x", "is no port", ""}},
 	{"a port for a device", no_device, {"evsched_dev_stats", "thread 0x", "is no device", ""}},
 	{"a free in a drain's flush", free_in_drain, {"evsched_free", "thread 0x", "while a flush runs", ""}},
 	{"a free in a quiesce's flush", free_in_quiesce, {"evsched_free", "thread 0x", "while a flush runs", ""}},
 	{"a sweep after the free", device_after_free, {"evsched_sweep", "thread 0x", "device", "after evsched_free"}},
+	{"statistics after the free", read_after_free, {"evsched_stats_read", "thread 0x", "device", "after evsched_free"}},
 	{"a second free", free_twice, {"evsched_free", "thread 0x", "device", "after evsched_free"}},
 	{"a port after the free", port_after_free, {"evsched_errno", "thread 0x", "port", "after evsched_free"}},
 };

@@ -103,6 +103,7 @@ static void check_sums(const struct evsched_stats *s)
 	CHECK(d->tx == tx && d->lanes.tx == tx && d->given == tx && d->inside == inside);
 	CHECK(unanswered == tx - d->lanes.released - d->lanes.forwarded);
 	CHECK(d->taken == rx_new + d->lanes.turned + d->lanes.released + d->lanes.forwarded + d->lanes.added);
+	CHECK(d->rx_ring < UINT32_MAX && d->cq_ring < UINT32_MAX && d->age < UINT64_MAX / 2);
 	CHECK(d->no_take <= d->sweeps && d->no_give <= d->sweeps && d->progress <= 1);
 	CHECK(d->limit == (uint64_t)config.nb_events_limit && d->free + d->own <= d->limit && d->pockets == pockets);
 	CHECK(has_flow_lanes() || d->free + d->own + d->inside <= d->limit + room);
@@ -254,7 +255,24 @@ static void check_swept(void)
 	CHECK(seen.dev.free + seen.dev.own + seen.dev.pockets + seen.dev.inside == 512 && seen.dev.ports == 2);
 }
 
-/* After the stop nobody is waited for, and what was so stays. */
+/* What a port enqueues behind its answer, and a sweep takes, was never in the ring as far as the two are known; a dequeue answers too. */
+static void check_apart(void)
+{
+	read_now(1);
+	evsched_stats_read(dev, &seen, 0);
+	put(0, EVSCHED_OP_NEW, 1, 1, 0);
+	put(0, EVSCHED_OP_NEW, 1, 2, 0);
+	CHECK(evsched_sweep(dev) > 0);
+	take(1, 1);
+	CHECK(evsched_stats_read(dev, &seen, 0) == PORTS + 1 && seen.port[0].counters.enqueued == 19 && seen.port[0].lane.rx_new == 20);
+	CHECK(seen.port[0].rx_ring == 0 && seen.dev.rx_ring == 0 && seen.port[1].counters.dequeued == 7 && seen.port[1].held == 6);
+	for (int i = 0; i < 2; i++) { /* of which the first answers, and the second doesn't */
+		take(1, 1);
+		put(0, EVSCHED_OP_NEW, 0, 9, 0);
+	}
+}
+
+/* The stop publishes once more. After it nobody is waited for, and what was so stays. */
 static void check_stopped(void)
 {
 	static struct evsched_stats after;
@@ -263,11 +281,13 @@ static void check_stopped(void)
 	CHECK(evsched_stop(dev) == 0 && evsched_report(dev, &report) == 0);
 	start = now_ns();
 	CHECK(evsched_stats_read(dev, &after, 60000u * (uint64_t)MS) == PORTS + 1 && now_ns() - start < 30000u * (uint64_t)MS);
+	CHECK(after.port[0].counters.enqueued == 22 && after.port[0].rx_ring == 2 && after.port[1].held == 8 && report.untaken == 2);
 	CHECK(after.dev.inside == seen.dev.inside && after.dev.free == report.free && after.dev.own == report.own);
 	CHECK(after.dev.pockets == report.pockets && after.dev.cq_ring == report.undelivered);
 	CHECK(after.port[1].held + after.port[2].held == report.held && after.queue[1].kept == report.kept);
 	CHECK(evsched_sweep(dev) == -ENODEV && evsched_dequeue_burst(evsched_port(dev, 1), NULL, 0) == 0 && evsched_stop(dev) == -ENODEV);
-	CHECK(evsched_stats_read(dev, &seen, 60000u * (uint64_t)MS) == PORTS + 1 && seen.dev.age > after.dev.age && now_ns() - start < 30000u * (uint64_t)MS);
+	CHECK(evsched_stats_read(dev, &seen, 60000u * (uint64_t)MS) == PORTS + 1 && now_ns() - start < 30000u * (uint64_t)MS);
+	CHECK(seen.dev.age > after.dev.age);
 	CHECK(seen.port[1].age > after.port[1].age && seen.port[1].held == after.port[1].held && seen.dev.sweeps == after.dev.sweeps);
 }
 
@@ -289,7 +309,8 @@ static uint64_t check_names(enum evsched_xstats_mode mode, uint8_t of, int expec
 	enum evsched_xstats_mode other = mode == EVSCHED_XSTATS_PORT ? EVSCHED_XSTATS_QUEUE : EVSCHED_XSTATS_PORT;
 	int n = evsched_xstats_names_get(dev, mode, of, names, ids, 200), i, j;
 	uint64_t id, value;
-	CHECK(n == expected && evsched_xstats_names_get(dev, mode, of, NULL, ids, 200) == n && evsched_xstats_names_get(dev, mode, of, names, NULL, 9) == n);
+	CHECK(n == expected && evsched_xstats_names_get(dev, mode, of, NULL, ids, 200) == n);
+	CHECK(evsched_xstats_names_get(dev, mode, of, names, NULL, 9) == n);
 	CHECK(evsched_xstats_get(dev, mode, of, ids, values, (unsigned)n, 0) == n);
 	for (i = 0; i < n; i++) {
 		CHECK(ids[i] == first + (uint64_t)i && evsched_xstats_get(dev, other, 0, &ids[i], &value, 1, 0) == -EINVAL);
@@ -349,14 +370,16 @@ static void check_reset(void)
 	uint64_t id = 2, bad[2] = {0, 500};
 	CHECK(evsched_xstats_reset(dev, EVSCHED_XSTATS_DEVICE, 0, &id, 1, 0) == 0 && by_name("dev_sched_calls") == 0 && by_name("dev_rx") == 17);
 	CHECK(evsched_xstats_reset(dev, EVSCHED_XSTATS_DEVICE, 0, bad, 2, 0) == -EINVAL && by_name("dev_rx") == 17);
-	CHECK(evsched_xstats_reset(dev, EVSCHED_XSTATS_PORT, PORTS, NULL, 0, 0) == -EINVAL && evsched_xstats_reset(dev, EVSCHED_XSTATS_PORT, -2, NULL, 0, 0) == -EINVAL);
+	CHECK(evsched_xstats_reset(dev, EVSCHED_XSTATS_PORT, PORTS, NULL, 0, 0) == -EINVAL);
+	CHECK(evsched_xstats_reset(dev, EVSCHED_XSTATS_PORT, -2, NULL, 0, 0) == -EINVAL);
 	CHECK(evsched_xstats_reset(dev, EVSCHED_XSTATS_DEVICE, 0, NULL, 0, 0) == 0 && by_name("dev_rx") == 0 && by_name("dev_inside") == 16);
 	CHECK(by_name("dev_credits_free") == 480 && by_name("dev_sched_last_iter_bitmask") == 2 && by_name("port_1_tx") == 9);
 	CHECK(evsched_xstats_reset(dev, EVSCHED_XSTATS_PORT, 1, NULL, 0, 0) == 0 && by_name("port_1_tx") == 0 && by_name("port_1_dequeued") == 0);
 	CHECK(by_name("port_1_held") == 5 && by_name("port_1_cq_ring_used") == 3 && by_name("port_0_rx") == 17 && by_name("qid_0_rx") == 14);
 	CHECK(evsched_xstats_reset(dev, EVSCHED_XSTATS_PORT, -1, NULL, 0, 0) == 0 && by_name("port_0_rx") == 0 && by_name("port_3_rx") == 0);
-	CHECK(evsched_xstats_reset(dev, EVSCHED_XSTATS_QUEUE, 0, NULL, 0, 0) == 0 && by_name("qid_0_rx") == 0 && by_name("qid_0_port_1_packets") == 0);
-	CHECK(by_name("qid_0_port_1_pinned_flows") == 8 && by_name("qid_0_iq_1_used") == 2 && by_name("qid_1_rx") == 3);
+	CHECK(evsched_xstats_reset(dev, EVSCHED_XSTATS_QUEUE, 0, NULL, 0, 0) == 0 && by_name("qid_0_rx") == 0);
+	CHECK(by_name("qid_0_port_1_packets") == 0 && by_name("qid_0_port_1_pinned_flows") == 8 && by_name("qid_1_rx") == 3);
+	CHECK(by_name("qid_0_iq_1_used") == 2);
 	put(0, EVSCHED_OP_NEW, 1, 1, 0);
 	read_now(1);
 	CHECK(by_name("dev_rx") == 1 && by_name("dev_sched_calls") == 1 && by_name("port_0_rx") == 1 && by_name("qid_0_rx") == 0);
@@ -376,6 +399,7 @@ static void alone(void)
 	check_values();
 	check_all_names(28);
 	check_reset();
+	check_apart();
 	check_stopped();
 	check_all_names(28);
 	evsched_free(dev);
@@ -483,7 +507,7 @@ static void *observe(void *arg)
 	struct evsched_stats *pair = pairs[me];
 	memset(pair, 0, sizeof(pairs[me]));
 	for (turn = 0; !atomic_load(&is_read); turn++) {
-		read_stats(&pair[turn % 2], any(&random, 4) ? 50 * MS : any(&random, 2) * MS);
+		read_stats(&pair[turn % 2], any(&random, 2) ? 50 * MS : any(&random, 2) * MS);
 		check_rises(&pair[1 - turn % 2], &pair[turn % 2]);
 		if (any(&random, 4) == 0)
 			read_by_name(&random);

@@ -23,12 +23,14 @@
  *
  * No compiler checks a C program, so four rules are its own duty:
  *
- * 1. One thread at a time uses a port, one the device (evsched_sweep, _inside, _stats) and one its shut (evsched_shut); these may be
- *    different threads at the same time. Where one thread goes on after another, a release of the one and an acquire of the other
- *    stand between, as in DPDK: an atomic store and load, a lock, a pthread_create or a pthread_join. They do, since what calls of a
- *    port read and write plainly is the port's own, and happens before then; words that other ports use too are read and written by
- *    atomic steps of the library's.
- * 2. While evsched_drain, _stop or _free runs, no other thread uses the device, its shut or a port. After evsched_free none is used.
+ * 1. One thread at a time uses a port, one the device (evsched_sweep, _inside, _dump, _queue_stats and their like) and one its shut
+ *    (evsched_shut); these may be different threads at the same time. Any number of any threads may read statistics meanwhile, by
+ *    evsched_stats_read and evsched_xstats_..., and call evsched_info and evsched_port. Where one thread goes on with a port or the
+ *    device after another, a release of the one and an acquire of the other stand between, as in DPDK: an atomic store and load, a
+ *    lock, a pthread_create or a pthread_join. They do, since what calls of a port read and write plainly is the port's own, and happens
+ *    before then; words that other ports use too are read and written by atomic steps of the library's.
+ * 2. While evsched_drain, _stop or _free runs, no other thread uses the device, its shut or a port; statistics may be read still, but
+ *    not while evsched_free runs. After it nothing of the device is used.
  * 3. Nothing is called from a signal handler, or in the child of a fork.
  * 4. Devices and ports are those that evsched_create and evsched_port gave, an array has as many events as is said, and only these
  *    calls read or write a device's memory.
@@ -319,7 +321,7 @@ static inline const char *evsched_strerror(int code)
 /* ---- dequeue ---- */
 
 /*
- * Dequeues at most nb_events, at most 64, and no more than the port may hold. Fewer come only where no more were in its ring. With
+ * Dequeues at most nb_events, at most 64, and no more than the port may hold. Fewer come only where it has seen no more in its ring. With
  * implicit release all that is held is released first, also where nb_events is 0; where the ring is too full for that, some may be
  * released, the rest stays held, and nothing is received. It doesn't wait. As rte_event_dequeue_burst.
  *   Returns  how many; 0 where nothing was there or it was refused: then evsched_errno isn't 0
@@ -562,7 +564,7 @@ static inline int evsched_left(struct evsched *dev, struct evsched_left *left, u
 	return got;
 }
 
-/* ---- statistics: what was counted, and the configuration ---- */
+/* ---- statistics: what was counted, and the configuration; for any thread there is evsched_stats_read (evsched_watch.h) ---- */
 
 #include "evsched_stats.h"
 #include "evsched_xstats.h"

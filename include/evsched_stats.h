@@ -19,7 +19,8 @@ static inline int evsched_priv_counts(struct evsched *dev, uint32_t what, void *
 }
 
 /*
- * What was counted of a queue, of a lane (a port's has the port's number) and of the device; but for the last one after the stop too.
+ * What was counted of a queue, of a lane (a port's has the port's number) and of the device; but for the last one after the stop too. From
+ * any other thread: evsched_stats_read.
  *   Returns  0
  *   Thread   the device's
  *   Errors   -EINVAL: there is no such queue or lane; -ENODEV

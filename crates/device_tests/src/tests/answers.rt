@@ -1,4 +1,5 @@
-//! Each call of a port answers as it must: on the way of a first event, and after each refusal that the worked examples meet.
+//! Each call of a port answers as it must: on the way of a first event, after each refusal that the worked examples meet, and all of
+//! this again after a stop that was refused for want of a port.
 
 use super::asks::{
     Ask, FORWARD, FORWARD_TO_NONE, NEW_TO_NONE, NO_COUNTS, NONE_FREE, RELEASE, RELEASE_TO_NONE,
@@ -461,11 +462,13 @@ static ROWS: [Row; 10] = [
 fn ports_answer_as_they_must(rt: HostRuntime) -> Result<(), Fail> {
     for row in &ROWS {
         let name = row.name;
-        assert_eq!(rt;
-            other_call(rt.alloc(), &row.rig, row.calls)?,
-            None,
-            "{name}"
-        );
+        for refused in [false, true] {
+            assert_eq!(rt;
+                other_call(rt.alloc(), &row.rig, refused, row.calls)?,
+                None,
+                "{name}"
+            );
+        }
     }
     Ok(())
 }

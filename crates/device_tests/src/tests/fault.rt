@@ -1,6 +1,6 @@
 //! Why a device of a plan isn't made, called as wanted or stopped.
 
-use event_device::{DeviceFault, NotStopped};
+use event_device::{DeviceFault, NotStopped, StopFault};
 use evt_types::ShapeFault;
 use std::alloc::AllocError;
 use thiserror::Error;
@@ -20,6 +20,12 @@ pub(crate) enum RigFault {
     /// The device isn't stopped.
     #[error("the device is not stopped: {0}")]
     Stop(NotStopped),
+    /// The recorder, control and ports aren't stopped.
+    #[error("the parts are not stopped: {0}")]
+    Parts(StopFault),
+    /// A stop without port 0 wasn't refused for want of that port.
+    #[error("a stop without port 0 had another answer")]
+    NotMissing,
     /// Memory ran out.
     #[error("memory ran out")]
     Memory(#[from] AllocError),

@@ -1,10 +1,14 @@
 //! Devices of one queue, and calls that are made on them, each with what must come of it.
 
-use super::asks::{Ask, answers};
+ghost use Rattle.std.specs.Prelude.{IfOk};
+ghost use Rattle.event_device.specs.Stop.{AreOf};
+
+use super::asks::Ask;
 use super::fault::RigFault;
 use super::steps::ATOMIC;
-use event_device::{Device, Memory, Swept};
-use evt_types::{Draft, PortDraft, Serving, Shape, Step};
+use super::whole::Whole;
+use event_device::{Memory, Swept};
+use evt_types::{Draft, PortDraft, Serving, Shape};
 use std::alloc::{AllocError, Global};
 
 /// A device of one atomic queue: port 0 brings events in, and port 1 is linked to the queue.
@@ -77,19 +81,10 @@ pub(crate) enum Made {
     Inside(u64, usize),
 }
 
-/// Whether the port of this number, which is at home, answers as it must.
-fn port_answers(device: &mut Device<Vec<Step>>, number: usize, ask: &Ask) -> bool {
-    let Some(mut port) = device.take_port(number) else {
-        return false;
-    };
-    let is_so = answers(&mut port, ask);
-    device.put_back(port).is_ok() && is_so
-}
-
 /// Makes the call: whether that came of it which must.
-fn is_made(device: &mut Device<Vec<Step>>, call: &Made) -> Result<bool, Memory> {
+fn is_made(device: &mut Whole, call: &Made) -> Result<bool, Memory> {
     match call {
-        Made::Port(number, ask) => Ok(port_answers(device, *number, ask)),
+        Made::Port(number, ask) => Ok(device.port_answers(*number, ask)),
         Made::Sweep(taken, given) => {
             let wanted = Swept {
                 taken: *taken,
@@ -98,18 +93,16 @@ fn is_made(device: &mut Device<Vec<Step>>, call: &Made) -> Result<bool, Memory> 
             };
             Ok(device.sweep()? == wanted)
         }
-        Made::Shut => Ok(device.shut()),
-        Made::Inside(accepted, inside) => {
-            Ok(device.accepted_new() == *accepted && device.inside() == *inside)
+        Made::Shut => {
+            device.shut();
+            Ok(true)
         }
+        Made::Inside(accepted, inside) => Ok(device.inside() == (*accepted, *inside)),
     }
 }
 
 /// Makes the calls, up to the first of which something else came: its place, and that of its list.
-fn first_other(
-    device: &mut Device<Vec<Step>>,
-    lists: &[&[Made]],
-) -> Result<Option<(usize, usize)>, Memory> {
+fn first_other(device: &mut Whole, lists: &[&[Made]]) -> Result<Option<(usize, usize)>, Memory> {
     for (list, calls) in lists.iter().enumerate() {
         for (place, call) in calls.iter().enumerate() {
             if !is_made(device, call)? {
@@ -120,13 +113,27 @@ fn first_other(
     Ok(None)
 }
 
-/// Makes the calls on a new device, up to the first of which something else came: its place, and that of its list.
+/// A new device of the rig; where it is asked for, after a stop without port 0, which was refused.
+pub(crate) fn new_device(alloc: Global, rig: &Rig, refused: bool) -> Result<Whole, RigFault>
+    ensures { IfOk result (λ w. AreOf w.recorder w.control w.ports.items) }
+{
+    let device = Whole::new(alloc, rig.shape(alloc)?)?;
+    if !refused {
+        return Ok(device);
+    }
+    device
+        .refused_without_first(alloc)
+        .ok_or(RigFault::NotMissing)
+}
+
+/// Makes the calls on such a device, up to the first of which something else came: its place, and that of its list.
 pub(crate) fn other_call(
     alloc: Global,
     rig: &Rig,
+    refused: bool,
     lists: &[&[Made]],
 ) -> Result<Option<(usize, usize)>, RigFault> {
-    let mut device = Device::with_log(alloc, Vec::new(alloc), rig.shape(alloc)?)?;
+    let mut device = new_device(alloc, rig, refused)?;
     let other = first_other(&mut device, lists);
     drop(device);
     Ok(other?)

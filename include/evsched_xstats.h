@@ -14,7 +14,7 @@
 #error "include evsched.h"
 #endif
 
-/* A statistic: its name behind that of its device, port or queue, where in that's struct it stands, and whether it is a count. */
+/* A statistic: its name behind that of its device, port or queue, where it stands in the struct of that, and whether it is a count. */
 struct evsched_priv_xstat {
 	const char *name;
 	size_t at;

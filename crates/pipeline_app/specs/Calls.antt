@@ -6,8 +6,9 @@ use Rattle.event_answers.specs.declared.answer.Refused.{Refused}
 use Rattle.event_answers.specs.declared.answer.Refused.TheVariants.{Stopped}
 use Rattle.event_ports.specs.Claiming.{ClaimsEach}
 use Rattle.event_ports.specs.Draws.{ReturnsSpare}
+use Rattle.event_ports.specs.Holds.{AreDrained}
 use Rattle.event_ports.specs.Lanes.{Dequeues, Releases, Rests, SubmitsTo, lane_for, reply_of}
-use Rattle.event_ports.specs.Ports.{Pays, Refuses, account_of, claim_seating, hand, links, own_site, pocket_of, released_first, seen_by, was_filled}
+use Rattle.event_ports.specs.Ports.{Pays, Refuses, account_of, claim_seating, flow_hands, hand, links, own_site, pocket_of, released_first, seen_by, was_filled}
 use Rattle.event_ports.specs.declared.lane.Lane.TheVariants.{Own}
 use Rattle.event_ports.specs.declared.port.Port.{Port}
 use Rattle.evt_types.specs.declared.event.Delivery.{Delivery}
@@ -25,7 +26,7 @@ pub record IsEnqueue (p : Port) (e : Event) (outcome : Result (Unit {0}) Refused
   pub stopped : IsTrue (account_of p).saw_shut → e.op ≡ ops.New → outcome ≡ Err Stopped
 
 -- The port dequeued at most so many events, of those that its lanes had, after it released what is released first and claimed each
--- linked flow lane once at most, and saw its own lane empty where fewer came than may; or its reply rings hadn't room for all
+-- linked flow lane once at most, and saw its own lane and those that it holds empty where fewer came than may; or its reply rings hadn't room for all
 -- releases, and it received nothing.
 pub record IsDequeue (p : Port) (max : ℕ) (outcome : Result (List Delivery) Behind) (q : Port) : Type 0 where
   pub site : own_site q ≡ own_site p
@@ -34,6 +35,7 @@ pub record IsDequeue (p : Port) (max : ℕ) (outcome : Result (List Delivery) Be
   pub ok : IfOk outcome (λ deliveries. Dequeues (links p) (released_first p) (hand p) (hand q) deliveries)
   pub few : IfOk outcome (λ deliveries. (length deliveries ≤ max) × (length (hand q).holding ≤ (own_site p).lanes.depth))
   pub drained : IfOk outcome (λ deliveries. length deliveries < max → length (hand q).holding < (own_site p).lanes.depth → seen_by q ≡ [])
+  pub drained_flows : IfOk outcome (λ deliveries. length deliveries < max → length (hand q).holding < (own_site p).lanes.depth → AreDrained (flow_hands q))
   pub own_first : IfOk outcome (λ deliveries. length ((hand q).got Own) ≢ length ((hand p).got Own) + length deliveries → seen_by q ≡ [])
   pub behind : IfErr outcome (λ b. IsTrue (own_site p).implicit × (b.released < length (hand p).holding) × Releases b.released (hand p) (hand q) × was_filled q ops.Release)
   pub returned_spare : MatchResult outcome

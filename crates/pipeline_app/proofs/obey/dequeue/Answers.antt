@@ -20,6 +20,7 @@ returns-in_ok-from_slice-in-Ok-clause-call c =
       ok = rw copied c.in-Ok.ensures.ok;
       few = rw copied c.in-Ok.ensures.few;
       drained = rw copied c.in-Ok.ensures.drained;
+      drained_flows = rw copied c.in-Ok.ensures.drained_flows;
       own_first = rw copied c.in-Ok.ensures.own_first;
       behind = tt;
       returned_spare = c.in-Ok.ensures.returned_spare;
@@ -32,7 +33,7 @@ pub returns-in-Err-clause-call : goal.returns-in-Err-clause-call
 returns-in-Err-clause-call c =
     let call = c.dequeue-outcome in
     port_dequeues _ _ _ _ _ c.take_port-port.ensures.left call.ensures.site call.ensures.credit _ _ _ c.put_back.ensures.back
-    (record { site = call.ensures.site; credit = call.ensures.credit; claims = call.ensures.claims; ok = tt; few = tt; drained = tt; own_first = tt; behind = c.in-Err.ensures.behind; returned_spare = c.in-Err.ensures.returned_spare })
+    (record { site = call.ensures.site; credit = call.ensures.credit; claims = call.ensures.claims; ok = tt; few = tt; drained = tt; drained_flows = tt; own_first = tt; behind = c.in-Err.ensures.behind; returned_spare = c.in-Err.ensures.returned_spare })
 
 pub returns-in-Err-clause-home : goal.returns-in-Err-clause-home
 returns-in-Err-clause-home c = all_come_home _ _ _ _ _ c.take_port-port.ensures.left c.dequeue-outcome.ensures.site c.dequeue-outcome.ensures.credit _ c.put_back.ensures.back c.requires.home

@@ -243,6 +243,32 @@ static void answers_in_order(void)
 	evsched_shards_free(group);
 }
 
+/* A burst of all kinds: each goes where it must, whatever stands before it. */
+static void mixes(void)
+{
+	struct evsched_shards_config config = four_ports();
+	struct evsched_event ev[8];
+	struct evsched_queue_stats queue;
+	make(&config);
+	for (unsigned i = 0; i < 3; i++)
+		CHECK(bring(1, i) == 1);
+	sweep();
+	CHECK(evsched_shards_dequeue_burst(port(1), ev, 8) == 3);
+	ev[0] = event(EVSCHED_OP_NEW, 0, 2, 10);
+	ev[1] = event(EVSCHED_OP_RELEASE, 0, 0, 0);
+	ev[2] = event(EVSCHED_OP_NEW, 0, 0, 11);
+	ev[3] = event(EVSCHED_OP_FORWARD, 1, 0, 12);
+	ev[4] = event(EVSCHED_OP_NEW, 0, 1, 13);
+	ev[5] = event(EVSCHED_OP_FORWARD, 1, 2, 14);
+	ev[6] = event(EVSCHED_OP_NEW, 0, 1, 15);
+	CHECK(evsched_shards_enqueue_burst(port(1), ev, 7) == 7 && evsched_shards_held(port(1)) == 0);
+	sweep();
+	for (uint32_t d = 0; d < DEVICES; d++)
+		CHECK(evsched_queue_stats(evsched_shards_dev(group, d), 0, &queue) == 0 && queue.rx_new == (d == 1 ? 5u : 1u));
+	CHECK(evsched_queue_stats(evsched_shards_dev(group, 1), 1, &queue) == 0 && queue.rx_forwarded == 2);
+	evsched_shards_free(group);
+}
+
 static void flush(struct evsched *dev, struct evsched_event ev, void *arg)
 {
 	CHECK(arg == flushed && dev == evsched_shards_dev(group, ev.flow_id));
@@ -262,6 +288,8 @@ static void drains(void)
 	for (unsigned i = 0; i < 9; i++)
 		CHECK(flushed[i] == (i % DEVICES > 0));
 	CHECK(bring(2, 9) == 1);
+	sweep();
+	CHECK(evsched_shards_dequeue_burst(port(1), ev, 8) == 1 && ev[0].u64 == 9 && answer(1, EVSCHED_OP_RELEASE) == 0);
 	CHECK(evsched_shards_shut(group, NULL) == 0);
 	CHECK(bring(0, 9) == 0 && evsched_shards_errno(port(0), NULL) == ESHUTDOWN);
 	evsched_shards_free(group);
@@ -332,6 +360,7 @@ int main(void)
 	takes_a_part();
 	waits_for_room();
 	answers_in_order();
+	mixes();
 	drains();
 	stops();
 	hashes();

@@ -22,13 +22,15 @@
 
 enum { FLOWS = 1024, BURST = 16, INSIDE = 128, WARM = 5, LENGTH = 20, PATIENCE = 10000 }; /* INSIDE of each worker; times in milliseconds */
 enum { SW, DSW, ALONE, ALL, OWN, KINDS };
+enum { UNIFORM, HALF, ONE, FLOW_KINDS }; /* all flows have as many events; flow 0 has half of all; it has all */
 
 static const char *const kinds[KINDS] = {"event_sw", "event_dsw", "one-device", "serves-all", "serves-own"};
+static const char *const flow_kinds[FLOW_KINDS] = {"uniform", "half", "one"};
 
 /* Of a kind how many schedulers and workers there are. */
 struct row {
 	uint32_t processors, devices[KINDS], workers[KINDS];
-	int is_hot; /* half of all events are of flow 0 */
+	int flows;
 	struct shape shape;
 };
 
@@ -144,13 +146,21 @@ ALWAYS void handle(union event *ev, int n)
 	}
 }
 
+/* The flow of a worker's event of this number. */
+ALWAYS uint32_t flow_of(uint32_t number)
+{
+	if (row.flows == ONE || (row.flows == HALF && number % 2 == 0))
+		return 0;
+	return (row.flows == HALF ? number / 2 : number) % FLOWS;
+}
+
 /* NEWs for those that were released. */
 ALWAYS void bring(int kind, uint32_t number, struct worker *worker, uint64_t word)
 {
 	if (worker->brought == worker->made) {
 		int i, n = worker->owed < BURST ? (int)worker->owed : BURST;
 		for (i = 0; i < n; i++, worker->next++)
-			worker->fresh[i].theirs.event = word | (row.is_hot && worker->next % 2 ? 0 : worker->next * 7 / (row.is_hot ? 2 : 1) % FLOWS);
+			worker->fresh[i].theirs.event = word | flow_of(worker->next);
 		worker->owed -= (uint32_t)n;
 		worker->made = n;
 		worker->brought = 0;
@@ -265,20 +275,20 @@ static void measure(int windows)
 			best[kind] = rate;
 	}
 	for (kind = 0; kind < KINDS; kind++)
-		printf("%10u %-8s %-10s %7u %7u %9.2f %9.2f %6.2f\n", row.processors, row.is_hot ? "half" : "uniform", kinds[kind],
+		printf("%10u %-8s %-10s %7u %7u %9.2f %9.2f %6.2f\n", row.processors, flow_kinds[row.flows], kinds[kind],
 			row.devices[kind], row.workers[kind], sum[kind] / windows, best[kind], sum[kind] / sum[SW]);
 	fflush(stdout);
 	usleep((useconds_t)(KINDS * windows * (WARM + LENGTH) * 1000));
 }
 
-static void set_row(uint32_t processors, int is_hot)
+static void set_row(uint32_t processors, int flows)
 {
 	int kind;
 	uint32_t w;
 	memset(&row, 0, sizeof(row));
 	memset(workers, 0, sizeof(workers));
 	row.processors = processors;
-	row.is_hot = is_hot;
+	row.flows = flows;
 	for (kind = 0; kind < KINDS; kind++) {
 		row.devices[kind] = kind == DSW ? 0 : kind == ALL || kind == OWN ? processors / 2 : 1;
 		row.workers[kind] = processors - row.devices[kind];
@@ -294,14 +304,14 @@ static void set_row(uint32_t processors, int is_hot)
 
 int main(int argc, char **argv)
 {
-	int windows = argc > 1 ? atoi(argv[1]) : 10, is_hot;
+	int windows = argc > 1 ? atoi(argv[1]) : 10, flows;
 	uint32_t processors;
 	start_eal(argv[0]);
 	handle_cycles = argc > 2 ? strtoull(argv[2], NULL, 10) * rte_get_tsc_hz() / 1000000000 : 0;
 	printf("%10s %-8s %-10s %7s %7s %9s %9s %6s\n", "processors", "flows", "kind", "devices", "workers", "mean", "best", "ratio");
 	for (processors = 2; processors <= rte_lcore_count() && processors <= MOST_WORKERS; processors += 2)
-		for (is_hot = 0; is_hot < 2; is_hot++) {
-			set_row(processors, is_hot);
+		for (flows = 0; flows < FLOW_KINDS; flows++) {
+			set_row(processors, flows);
 			make_theirs(&row.shape);
 			make_ours(&row.shape);
 			make_dsw();

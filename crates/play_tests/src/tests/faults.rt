@@ -6,7 +6,7 @@ use play_documents::DocFault;
 use std::process::Abort;
 
 /// Faults without a log, with their lines and statuses.
-static FAULTS: [(AppFault, &str, u8); 6] = [
+const FAULTS: [(AppFault, &str, u8); 6] = [
     (AppFault::Read, "evsched: read failed", 3),
     (AppFault::Write, "evsched: write failed", 3),
     (AppFault::Memory, "evsched: out of memory or seats", 5),

@@ -1,0 +1,236 @@
+/* SPDX-License-Identifier: BSD-3-Clause */
+/* Start, sweeps and stop: a device of evsched.h is made of what was set up, swept by the service, and taken apart. */
+#include "evsched_eventdev.h"
+
+#include <stdlib.h>
+#include <string.h>
+#include <unistd.h>
+
+#include <rte_malloc.h>
+#include <rte_service_component.h>
+
+enum { STOP_TRIES = 100, STOP_PAUSE = 1000 /* microseconds */ };
+
+static uint32_t least(uint32_t a, uint32_t b)
+{
+	return a < b ? a : b;
+}
+
+/* Shares the slots of a device out among its atomic queues: each gets what it asks for, or the largest number that leaves enough for all. */
+static void share_slots(struct evsched_dev_config *config)
+{
+	uint32_t most, all, q;
+	for (most = EVSCHED_MAX_ATOMIC_FLOWS; most > 1; most--) {
+		all = 0;
+		for (q = 0; q < config->nb_event_queues; q++)
+			if (config->queue[q].schedule_type == EVSCHED_TYPE_ATOMIC)
+				all += least(config->queue[q].nb_atomic_flows, most);
+		if (all <= EVSCHED_MAX_ALL_ATOMIC_FLOWS)
+			break;
+	}
+	for (q = 0; q < config->nb_event_queues; q++)
+		config->queue[q].nb_atomic_flows = least(config->queue[q].nb_atomic_flows, most);
+}
+
+static void take_queue(const struct rte_event_queue_conf *from, struct evsched_queue_conf *to)
+{
+	bool is_single = from->event_queue_cfg & RTE_EVENT_QUEUE_CFG_SINGLE_LINK;
+	to->event_queue_cfg = is_single ? EVSCHED_QUEUE_CFG_SINGLE_LINK : 0;
+	to->schedule_type = is_single ? EVSCHED_TYPE_PARALLEL : from->schedule_type;
+	to->priority = from->priority;
+	to->nb_atomic_flows = from->nb_atomic_flows;
+	to->nb_atomic_order_sequences = least(from->nb_atomic_order_sequences, EVSCHED_MAX_ORDER_SEQUENCES);
+}
+
+static void take_port(const struct rte_eventdev *dev, uint8_t port, struct evsched_port_conf *to)
+{
+	const struct rte_event_port_conf *from = &dev->data->ports_cfg[port];
+	const struct evd_port *at = &evd_of(dev)->ports[port];
+	to->new_event_threshold = (int32_t)least((uint32_t)from->new_event_threshold, (uint32_t)evd_events_limit(dev));
+	to->dequeue_depth = at->depth;
+	to->enqueue_depth = EVSCHED_MAX_DEPTH;
+	to->event_port_cfg = at->releases ? 0 : EVSCHED_PORT_CFG_DISABLE_IMPL_REL;
+	to->links = evd_links(dev, port);
+}
+
+/* How many credits a port draws at a time: few enough that all ports may have some, and each may draw. */
+static uint32_t quantum(const struct evsched_dev_config *config, uint32_t asked)
+{
+	uint32_t p, n = least(asked, (uint32_t)config->nb_events_limit / (2 * config->nb_event_ports));
+	for (p = 0; p < config->nb_event_ports; p++)
+		n = least(n, (uint32_t)config->port[p].new_event_threshold);
+	return n > 0 ? n : 1;
+}
+
+/* What was set up, as a configuration of evsched.h. */
+static void take(const struct rte_eventdev *dev, struct evsched_dev_config *config)
+{
+	const struct evd *device = evd_of(dev);
+	uint8_t i;
+	*config = evsched_dev_default_config(dev->data->nb_queues, dev->data->nb_ports);
+	config->nb_events_limit = evd_events_limit(dev);
+	config->sched_quanta = device->arguments.sched_quanta;
+	for (i = 0; i < dev->data->nb_queues; i++)
+		take_queue(&dev->data->queues_cfg[i], &config->queue[i]);
+	for (i = 0; i < dev->data->nb_ports; i++)
+		take_port(dev, i, &config->port[i]);
+	share_slots(config);
+	config->credit_quanta = quantum(config, device->arguments.credit_quanta);
+}
+
+/* Whether all was set up: 0, or what a start answers. */
+static int is_set_up(const struct rte_eventdev *dev)
+{
+	const struct evd *device = evd_of(dev);
+	uint8_t i;
+	for (i = 0; i < dev->data->nb_ports; i++)
+		if (!device->ports[i].is_set_up) {
+			EVD_LOG(ERR, device, "port %u is not set up", i);
+			return -ESTALE;
+		}
+	for (i = 0; i < dev->data->nb_queues; i++)
+		if (!(device->queues_set_up >> i & 1)) {
+			EVD_LOG(ERR, device, "queue %u is not set up", i);
+			return -ENOLINK;
+		}
+	return 0;
+}
+
+/* What a start answers for a refusal of evsched_create_in. */
+static int refusal(struct evd *device, const struct evsched_dev_config *config, int why)
+{
+	char text[160];
+	if (evsched_check(config, text, sizeof(text)) == 0)
+		snprintf(text, sizeof(text), "%s", evsched_strerror(why));
+	EVD_LOG(ERR, device, "it isn't started: %s", text);
+	switch (why) {
+	case -EVSCHED_E_QUEUE_UNLINKED: return -ENOLINK;
+	case -EVSCHED_E_SINGLE_LINK_COUNT: return -EDQUOT;
+	case -ENOMEM: return -ENOMEM;
+	default: return -EINVAL;
+	}
+}
+
+/* Memory that a stop needs for its lists: of all events, and of what rings have beside them, while a list grows by doubling. */
+static size_t stop_needs(const struct evsched_dev_config *config)
+{
+	size_t most = (size_t)config->nb_events_limit + (size_t)config->nb_event_ports * EVSCHED_MAX_DEPTH;
+	return 4 * most * sizeof(struct evsched_left);
+}
+
+static void let_go(struct evd *device)
+{
+	free(device->for_stop);
+	rte_free(device->memory);
+	device->for_stop = device->memory = NULL;
+}
+
+/* Tells the ports what they are now. */
+static void hand_out(struct evd *device, struct evsched *made, uint8_t n)
+{
+	uint8_t p;
+	for (p = 0; p < n; p++) {
+		struct evd_port *at = &device->ports[p];
+		at->port = evsched_port(made, p);
+		at->said = 0;
+		at->sent = at->received = at->pocket = at->dropped = 0;
+		memset(at->sizes, 0, sizeof(at->sizes));
+	}
+}
+
+int evd_start(struct rte_eventdev *dev)
+{
+	struct evd *device = evd_of(dev);
+	struct evsched_dev_config config;
+	struct evsched *made;
+	int r = is_set_up(dev);
+	if (r < 0)
+		return r;
+	take(dev, &config);
+	device->for_stop = malloc(stop_needs(&config));
+	device->memory = rte_zmalloc_socket("evsched", evsched_size(config.nb_event_ports), RTE_CACHE_LINE_SIZE, dev->data->socket_id);
+	r = device->memory && device->for_stop ? evsched_create_in(device->memory, &config, &made) : -ENOMEM;
+	if (r < 0) {
+		let_go(device);
+		return refusal(device, &config, r);
+	}
+	hand_out(device, made, dev->data->nb_ports);
+	rte_ticketlock_lock(&device->lock);
+	device->running = made;
+	device->did = 0;
+	device->has_said_relink = false;
+	evd_xstats_begin(device);
+	rte_ticketlock_unlock(&device->lock);
+	rte_service_component_runstate_set(device->service, 1);
+	return 0;
+}
+
+/* The service's callback. */
+int32_t evd_sweep(void *at)
+{
+	struct evd *device = at;
+	int did = 0;
+	rte_ticketlock_lock(&device->lock);
+	if (likely(device->running != NULL)) {
+		did = evsched_sweep(device->running);
+		device->did = (uint64_t)did;
+	}
+	rte_ticketlock_unlock(&device->lock);
+	return did > 0 ? 0 : -EAGAIN;
+}
+
+/* Gives what was left to the callback that the program has registered. */
+static void flush(struct rte_eventdev *dev, struct evsched *stopped)
+{
+	eventdev_stop_flush_t to = dev->dev_ops->dev_stop_flush;
+	struct evsched_left left[32];
+	struct rte_event ev;
+	int i, n;
+	while (to != NULL && (n = evsched_left(stopped, left, RTE_DIM(left))) > 0)
+		for (i = 0; i < n; i++) {
+			ev.event = left[i].event.event;
+			ev.u64 = left[i].event.u64;
+			to(dev->data->dev_id, ev, dev->data->dev_stop_flush_arg);
+		}
+}
+
+/* Stops a device. Its lists find the memory that was put aside for them; where another thread was quicker it waits a little. */
+static int stop(struct evd *device, struct evsched *running)
+{
+	int r, tries;
+	free(device->for_stop);
+	device->for_stop = NULL;
+	for (tries = 0; (r = evsched_stop(running)) == -ENOMEM && tries < STOP_TRIES; tries++)
+		usleep(STOP_PAUSE);
+	return r;
+}
+
+void evd_stop(struct rte_eventdev *dev)
+{
+	struct evd *device = evd_of(dev);
+	struct evsched *running;
+	uint32_t p;
+	rte_service_component_runstate_set(device->service, 0);
+	rte_ticketlock_lock(&device->lock);
+	running = device->running;
+	device->running = NULL;
+	rte_ticketlock_unlock(&device->lock);
+	if (stop(device, running) == 0)
+		flush(dev, running);
+	else
+		EVD_LOG(ERR, device, "memory ran out at the stop: the events that are inside are lost");
+	for (p = 0; p < dev->data->nb_ports; p++)
+		device->ports[p].port = NULL;
+	evsched_free(running);
+	let_go(device);
+}
+
+int evd_close(struct rte_eventdev *dev)
+{
+	struct evd *device = evd_of(dev);
+	uint32_t p;
+	device->queues_set_up = 0;
+	for (p = 0; p < EVSCHED_MAX_PORTS; p++)
+		device->ports[p].is_set_up = false;
+	return 0;
+}

@@ -1,7 +1,7 @@
 /* SPDX-License-Identifier: BSD-3-Clause */
 /*
  * What no suite of DPDK's asks of the driver: what is refused, dropped or changed on its way, what a stop gives back, and what is counted.
- * All of it in one thread, which runs the service itself.
+ * All of it in one thread, which runs the service itself; one test has a reader beside it.
  *
  *     calls EAL'S WORDS
  *
@@ -203,6 +203,7 @@ int main(int argc, char **argv)
 	test_ids();
 	test_stops();
 	test_two();
+	test_reader();
 	rte_eal_cleanup();
 	printf("calls: %d checks, %d failed\n", checks, failures);
 	return failures > 0;

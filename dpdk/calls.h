@@ -53,10 +53,11 @@ uint32_t links(struct device *d, uint8_t port);
 bool says(struct device *d, const char *text);
 void count_flush(uint8_t id, struct rte_event ev, void *arg);
 
-/* calls_counts.c */
+/* calls_counts.c, calls_reader.c */
 void test_counts(void);
 void test_ids(void);
 void test_stops(void);
 void test_two(void);
+void test_reader(void);
 
 #endif

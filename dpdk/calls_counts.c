@@ -82,7 +82,8 @@ static void test_levels(void)
 	bring(d);
 	sweep(d);
 	EXPECT(d, "waiting", {"qid_0_iq_0_used", 2}, {"qid_0_iq_1_used", 1}, {"qid_0_iq_2_used", 3}, {"qid_0_iq_3_used", 4},
-		{"qid_0_inflight", 64}, {"dev_sched_last_iter_bitmask", 0}, {"dev_sched_no_cq_enq", 1});
+		{"qid_0_inflight", 64}, {"dev_sched_last_iter_bitmask", 0}, {"dev_sched_no_cq_enq", 1},
+		{"dev_sched_no_iq_enq", 0}, {"dev_sched_progress_last_iter", 1});
 	CHECK(get(d, 1, ev, 64) == 64 && get(d, 1, ev, 64) == 0);
 	EXPECT(d, "released", {"port_1_rx_ring_used", 64}, {"port_1_dequeues_returning_61-64", 1});
 	end(d);
@@ -120,7 +121,8 @@ void test_ids(void)
 	uint64_t ids[100], id = 0;
 	bring(d);
 	sweep(d);
-	CHECK(get(d, 1, ev, 4) == 4 && get(d, 1, ev, 4) == 4);
+	CHECK(get(d, 1, ev, 4) == 4 && get(d, 1, ev, 1) == 1);
+	EXPECT(d, "released in part", {"port_1_rx_ring_used", 4}, {"port_1_cq_ring_used", 5}, {"port_1_dequeues_returning_1-4", 2});
 	sweep(d);
 	CHECK(rte_event_dev_xstats_by_name_get(d->id, "no_such", &id) == UINT64_MAX && id == UINT32_MAX);
 	CHECK(rte_event_dev_xstats_names_get(d->id, RTE_EVENT_DEV_XSTATS_PORT, 3, names, ids, 100) == 0);

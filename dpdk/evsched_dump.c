@@ -35,9 +35,9 @@ void evd_dump(struct rte_eventdev *dev, FILE *to)
 		fprintf(to, "%s: no memory for a dump\n", dev->data->name);
 		return;
 	}
-	rte_ticketlock_lock(&device->lock);
+	evd_lock(device);
 	dump_device(device, dev->data->nb_ports, in_memory);
-	rte_ticketlock_unlock(&device->lock);
+	evd_unlock(device);
 	fclose(in_memory);
 	fwrite(text, 1, length, to);
 	free(text);

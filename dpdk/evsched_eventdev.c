@@ -71,7 +71,6 @@ static void prepare(struct rte_eventdev *dev, const struct evd_arguments *argume
 	device->eventdev = dev;
 	device->ops = calls;
 	device->arguments = *arguments;
-	rte_ticketlock_init(&device->lock);
 	for (p = 0; p < EVSCHED_MAX_PORTS; p++) {
 		device->ports[p].device = device;
 		device->ports[p].number = (uint8_t)p;

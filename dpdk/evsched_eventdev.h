@@ -17,7 +17,6 @@
 #include <rte_errno.h>
 #include <rte_eventdev.h>
 #include <rte_log.h>
-#include <rte_ticketlock.h>
 
 #include <eventdev_pmd.h>
 #include <eventdev_pmd_vdev.h>
@@ -69,7 +68,8 @@ struct evd_port {
 
 /* A device. */
 struct evd {
-	rte_ticketlock_t lock;
+	uint8_t is_taken;          /* the lock */
+	uint32_t wanted;           /* how many threads other than the service's wait for it */
 	struct evsched *running;   /* NULL while it is stopped */
 	void *memory;              /* in which that lies, */
 	void *for_stop;            /* and what is given back so that a stop finds memory */
@@ -94,6 +94,17 @@ void evd_log(uint32_t level, const char *name, const char *format, ...) __rte_fo
 static inline struct evd *evd_of(const struct rte_eventdev *dev)
 {
 	return (struct evd *)dev->data->dev_private;
+}
+
+/* The device's lock. The service's thread never waits for it: where it is taken it has nothing to do. */
+static inline bool evd_try_lock(struct evd *device)
+{
+	return __atomic_exchange_n(&device->is_taken, 1, __ATOMIC_ACQUIRE) == 0;
+}
+
+static inline void evd_unlock(struct evd *device)
+{
+	__atomic_store_n(&device->is_taken, 0, __ATOMIC_RELEASE);
 }
 
 /* A port's own word, which other threads read. */
@@ -140,7 +151,8 @@ int evd_port_unlink(struct rte_eventdev *dev, void *port, uint8_t queues[], uint
 int32_t evd_events_limit(const struct rte_eventdev *dev);
 uint32_t evd_links(const struct rte_eventdev *dev, uint8_t port);
 
-/* evsched_run.c: start, sweeps, stop. */
+/* evsched_run.c: start, sweeps, stop; and the lock, waited for by any thread. */
+void evd_lock(struct evd *device);
 int evd_start(struct rte_eventdev *dev);
 int32_t evd_sweep(void *device);
 void evd_stop(struct rte_eventdev *dev);

@@ -2,14 +2,16 @@
 /* Start, sweeps and stop: a device of evsched.h is made of what was set up, swept by the service, and taken apart. */
 #include "evsched_eventdev.h"
 
+#include <sched.h>
 #include <stdlib.h>
 #include <string.h>
 #include <unistd.h>
 
 #include <rte_malloc.h>
+#include <rte_pause.h>
 #include <rte_service_component.h>
 
-enum { STOP_TRIES = 100, STOP_PAUSE = 1000 /* microseconds */ };
+enum { STOP_TRIES = 100, STOP_PAUSE = 1000 /* microseconds */, SPINS = 1024, GAP = 16 };
 
 static uint32_t least(uint32_t a, uint32_t b)
 {
@@ -155,27 +157,51 @@ int evd_start(struct rte_eventdev *dev)
 		return refusal(device, &config, r);
 	}
 	hand_out(device, made, dev->data->nb_ports);
-	rte_ticketlock_lock(&device->lock);
+	evd_lock(device);
 	device->running = made;
 	device->did = 0;
 	device->has_said_relink = false;
 	evd_xstats_begin(device);
-	rte_ticketlock_unlock(&device->lock);
+	evd_unlock(device);
 	rte_service_component_runstate_set(device->service, 1);
 	return 0;
 }
 
-/* The service's callback. */
+/* Waits for the lock. It yields the processor now and then, since the thread that has it may wait for this one's. */
+void evd_lock(struct evd *device)
+{
+	uint32_t turn = 0;
+	__atomic_fetch_add(&device->wanted, 1, __ATOMIC_RELAXED);
+	while (!evd_try_lock(device)) {
+		rte_pause();
+		if (++turn % SPINS == 0)
+			sched_yield();
+	}
+	__atomic_fetch_sub(&device->wanted, 1, __ATOMIC_RELAXED);
+}
+
+/* Leaves the lock free for a moment, so that who waits for it finds it so. */
+static __rte_noinline void give_way(void)
+{
+	uint32_t turn;
+	for (turn = 0; turn < GAP; turn++)
+		rte_pause();
+}
+
+/* The service's callback. A reader that lost its processor while it waits holds no sweep up. */
 int32_t evd_sweep(void *at)
 {
 	struct evd *device = at;
 	int did = 0;
-	rte_ticketlock_lock(&device->lock);
+	if (unlikely(!evd_try_lock(device)))
+		return -EAGAIN;
 	if (likely(device->running != NULL)) {
 		did = evsched_sweep(device->running);
 		device->did = (uint64_t)did;
 	}
-	rte_ticketlock_unlock(&device->lock);
+	evd_unlock(device);
+	if (unlikely(__atomic_load_n(&device->wanted, __ATOMIC_RELAXED) > 0))
+		give_way();
 	return did > 0 ? 0 : -EAGAIN;
 }
 
@@ -211,10 +237,10 @@ void evd_stop(struct rte_eventdev *dev)
 	struct evsched *running;
 	uint32_t p;
 	rte_service_component_runstate_set(device->service, 0);
-	rte_ticketlock_lock(&device->lock);
+	evd_lock(device);
 	running = device->running;
 	device->running = NULL;
-	rte_ticketlock_unlock(&device->lock);
+	evd_unlock(device);
 	if (stop(device, running) == 0)
 		flush(dev, running);
 	else

@@ -243,11 +243,11 @@ int evd_xstats_get(const struct rte_eventdev *dev, enum rte_event_dev_xstats_mod
 	uint32_t got = 0;
 	if (most == 0)
 		return -EINVAL;
-	rte_ticketlock_lock(&device->lock);
+	evd_lock(device);
 	for (i = 0; i < n && got < most; i++)
 		if (find(dev, ids[i], &stat) && stat.mode == mode && (mode == RTE_EVENT_DEV_XSTATS_DEVICE || stat.number == number))
 			values[got++] = value_of(device, &stat) - device->reset[ids[i]];
-	rte_ticketlock_unlock(&device->lock);
+	evd_unlock(device);
 	return (int)got;
 }
 
@@ -265,9 +265,9 @@ uint64_t evd_xstats_by_name(const struct rte_eventdev *dev, const char *name, ui
 	}
 	if (find(dev, i, &stat)) {
 		*id = i;
-		rte_ticketlock_lock(&device->lock);
+		evd_lock(device);
 		value = value_of(device, &stat) - device->reset[i];
-		rte_ticketlock_unlock(&device->lock);
+		evd_unlock(device);
 	}
 	return value;
 }
@@ -302,12 +302,12 @@ int evd_xstats_reset(struct rte_eventdev *dev, enum rte_event_dev_xstats_mode mo
 	uint32_t i;
 	if (mode > RTE_EVENT_DEV_XSTATS_QUEUE || (number != -1 && count_of(dev, mode, (uint32_t)number) == 0))
 		return -EINVAL;
-	rte_ticketlock_lock(&device->lock);
+	evd_lock(device);
 	if (ids == NULL)
 		reset_all(dev, mode, number);
 	for (i = 0; ids != NULL && i < n; i++)
 		if (!reset(dev, mode, number, ids[i]))
 			r = -EINVAL;
-	rte_ticketlock_unlock(&device->lock);
+	evd_unlock(device);
 	return r;
 }

@@ -202,6 +202,7 @@ int main(int argc, char **argv)
 	test_counts();
 	test_ids();
 	test_stops();
+	test_memory();
 	test_two();
 	test_reader();
 	rte_eal_cleanup();

@@ -57,6 +57,7 @@ void count_flush(uint8_t id, struct rte_event ev, void *arg);
 void test_counts(void);
 void test_ids(void);
 void test_stops(void);
+void test_memory(void);
 void test_two(void);
 void test_reader(void);
 

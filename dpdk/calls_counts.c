@@ -2,6 +2,9 @@
 /* What the driver counts, by name and by id, and what a stop gives back. */
 #include "calls.h"
 
+#include <sys/resource.h>
+#include <unistd.h>
+
 struct expected {
 	const char *name;
 	uint64_t value;
@@ -166,6 +169,39 @@ void test_stops(void)
 		CHECK(rte_event_dev_start(d->id) == 0);
 	}
 	end(d);
+}
+
+/* The process may have no more memory than it has from here on, or as much as before. */
+static void limit_memory(bool is_limited)
+{
+	struct rlimit limit;
+	unsigned long pages = 0;
+	FILE *from = fopen("/proc/self/statm", "r");
+	CHECK(from != NULL && fscanf(from, "%lu", &pages) == 1 && getrlimit(RLIMIT_AS, &limit) == 0);
+	fclose(from);
+	limit.rlim_cur = is_limited ? pages * (unsigned long)sysconf(_SC_PAGESIZE) : limit.rlim_max;
+	CHECK(setrlimit(RLIMIT_AS, &limit) == 0);
+}
+
+/* A stop of a full device finds the memory that it needs where there is no more. (Sanitizers have memory of their own.) */
+void test_memory(void)
+{
+#if !defined(__SANITIZE_ADDRESS__) && !defined(__SANITIZE_THREAD__)
+	struct rte_event ev[64];
+	struct device *d = begin("event_evsched0", NULL, 1, 2, &(struct conf){.limit = 16384});
+	uint16_t i;
+	for (i = 0; i < 64; i++)
+		event(&ev[i], NEW, 0, 1);
+	for (i = 0; i < 16384 / 64; i++) {
+		CHECK(put(d, 0, ev, 64) == 64);
+		sweep(d);
+	}
+	limit_memory(true);
+	rte_event_dev_stop(d->id);
+	limit_memory(false);
+	CHECK(d->flushed == 16384);
+	forget(d);
+#endif
 }
 
 /* Two devices, one of them stopped while the other has events. */

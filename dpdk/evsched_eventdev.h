@@ -68,8 +68,8 @@ struct evd_port {
 
 /* A device. */
 struct evd {
-	uint8_t is_taken;          /* the lock */
-	uint32_t wanted;           /* how many threads other than the service's wait for it */
+	uint8_t has_lock;          /* who has the lock */
+	uint32_t wanted;           /* how many readers wait for it */
 	struct evsched *running;   /* NULL while it is stopped */
 	void *memory;              /* in which that lies, */
 	void *for_stop;            /* and what is given back so that a stop finds memory */
@@ -96,15 +96,20 @@ static inline struct evd *evd_of(const struct rte_eventdev *dev)
 	return (struct evd *)dev->data->dev_private;
 }
 
-/* The device's lock. The service's thread never waits for it: where it is taken it has nothing to do. */
-static inline bool evd_try_lock(struct evd *device)
+/* Who has the device's lock. */
+enum { EVD_NOBODY, EVD_SWEEP, EVD_READER };
+
+/* Takes the lock, or says who has it. */
+static inline uint8_t evd_try_lock(struct evd *device, uint8_t who)
 {
-	return __atomic_exchange_n(&device->is_taken, 1, __ATOMIC_ACQUIRE) == 0;
+	uint8_t before = EVD_NOBODY;
+	__atomic_compare_exchange_n(&device->has_lock, &before, who, 0, __ATOMIC_ACQUIRE, __ATOMIC_RELAXED);
+	return before;
 }
 
 static inline void evd_unlock(struct evd *device)
 {
-	__atomic_store_n(&device->is_taken, 0, __ATOMIC_RELEASE);
+	__atomic_store_n(&device->has_lock, EVD_NOBODY, __ATOMIC_RELEASE);
 }
 
 /* A port's own word, which other threads read. */

@@ -167,17 +167,32 @@ int evd_start(struct rte_eventdev *dev)
 	return 0;
 }
 
-/* Waits for the lock. It yields the processor now and then, since the thread that has it may wait for this one's. */
+/* Passes the time. It yields the processor now and then, since the thread that has the lock may wait for this one's. */
+static void pass(uint32_t turn)
+{
+	rte_pause();
+	if (turn % SPINS == SPINS - 1)
+		sched_yield();
+}
+
+/* Waits for the lock, to read or to stop. */
 void evd_lock(struct evd *device)
 {
 	uint32_t turn = 0;
 	__atomic_fetch_add(&device->wanted, 1, __ATOMIC_RELAXED);
-	while (!evd_try_lock(device)) {
-		rte_pause();
-		if (++turn % SPINS == 0)
-			sched_yield();
-	}
+	while (evd_try_lock(device, EVD_READER) != EVD_NOBODY)
+		pass(turn++);
 	__atomic_fetch_sub(&device->wanted, 1, __ATOMIC_RELAXED);
+}
+
+/* Waits while another thread sweeps, which the service forbids, but a program may run it so: whether no reader has the lock instead. */
+static __rte_noinline bool lock_behind(struct evd *device)
+{
+	uint32_t turn = 0;
+	uint8_t who;
+	while ((who = evd_try_lock(device, EVD_SWEEP)) == EVD_SWEEP)
+		pass(turn++);
+	return who == EVD_NOBODY;
 }
 
 /* Leaves the lock free for a moment, so that who waits for it finds it so. */
@@ -188,12 +203,12 @@ static __rte_noinline void give_way(void)
 		rte_pause();
 }
 
-/* The service's callback. A reader that lost its processor while it waits holds no sweep up. */
+/* The service's callback. It doesn't wait for readers: one that lost its processor while it waits holds no sweep up. */
 int32_t evd_sweep(void *at)
 {
 	struct evd *device = at;
 	int did = 0;
-	if (unlikely(!evd_try_lock(device)))
+	if (unlikely(evd_try_lock(device, EVD_SWEEP) != EVD_NOBODY) && !lock_behind(device))
 		return -EAGAIN;
 	if (likely(device->running != NULL)) {
 		did = evsched_sweep(device->running);

@@ -118,6 +118,10 @@ static inline uint16_t evsched_priv_enqueue(struct evsched_port *port, const str
 	static const struct evsched_event none = {{0}, {0}};
 	const struct evsched_event *from = nb_events ? ev : &none;
 	uint16_t done = 0;
+	if (nb_events <= EVSCHED_MAX_BURST) {
+		int64_t taken = evsched_port_enqueue(evsched_priv_at(port), from, nb_events);
+		return taken > 0 ? (uint16_t)taken : 0;
+	}
 	for (;;) {
 		uint16_t left = (uint16_t)(nb_events - done);
 		uint16_t part = left < EVSCHED_MAX_BURST ? left : EVSCHED_MAX_BURST;

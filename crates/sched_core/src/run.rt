@@ -117,6 +117,17 @@ impl Core {
         }
     }
 
+    /// A hint: whether a run goes on where several lanes are open. Mostly the next event goes to another lane, so this is asked before any
+    /// count is. Not inlined: else what it read would be taken up by the loop behind it, at a cost for each event.
+    #[inline(never)]
+    fn goes_on(&self, queue: usize, level: Level, lane: usize, lanes: SmallSet) -> bool
+        requires there { queue < length self.now.shape.queues }
+        requires ports { has_flow_lanes self.now.shape queue ≡ false }
+        requires lanes { (l : ℕ) → Has lanes l → l < lanes_of self.now.shape }
+    {
+        self.next_in_run(queue, level, lane, lanes, false).is_some()
+    }
+
     /// Goes on with a run: gives what is chosen next, one by one, as long as that is an event of this queue and level for this lane and is
     /// quick to see. Which lanes are open doesn't change before a count is full. Each caller says for itself whether the lane is the only
     /// open one, so that there is a loop for either.
@@ -210,7 +221,7 @@ impl Core {
         let lanes = self.open_lanes(queue, skips);
         if is_only(lanes, lane) {
             self.give_more(lane, queue, level, lanes, true, most - 1, skips, run, log);
-        } else if self.next_in_run(queue, level, lane, lanes, false).is_some() {
+        } else if self.goes_on(queue, level, lane, lanes) {
             self.give_more(lane, queue, level, lanes, false, most - 1, skips, run, log);
         }
         None

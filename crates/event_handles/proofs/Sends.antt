@@ -25,7 +25,7 @@ fields_send =
         (let kind = kinds.the_send in search sendable depth 20),
         (
           (let account = stopped.the_send in search sendable depth 20),
-          ((let counts = sweeps.the_send in search sendable depth 20), (search sendable depth 20, (search sendable depth 20, tt))),
+          ((let counts = sweeps.the_send in search sendable depth 20), (search sendable depth 20, tt)),
         ),
       ),
     )

@@ -11,7 +11,7 @@ use Rattle.event_device.specs.declared.control.Control.{Control}
 use Rattle.event_handles.specs.Hub.{Changes, WhileRunning}
 use Rattle.event_handles.specs.Kinds.{kinds_of}
 use Rattle.event_handles.specs.Numbers.{busy, no_device, no_memory}
-use Rattle.event_handles.specs.Sweeps.{AreSent, after_sweep}
+use Rattle.event_handles.specs.Sweeps.{AreLast, after_sweep}
 use Rattle.event_handles.specs.declared.control.ControlHandle.{ControlHandle}
 use Rattle.event_handles.specs.declared.hub.Hub.{Hub}
 use Rattle.event_handles.specs.declared.port.PortHandle.{PortHandle}
@@ -81,13 +81,13 @@ IsShut old new answer = ShutsBy old.control new.control answer
 
 -- ---- a sweep
 
--- One sweep, and how many replies it took and events it gave. It is counted, with what had been given to each port's lane before it.
+-- One sweep, and how many replies it took and events it gave. It is counted, with what it gave to each port's lane.
 pub record Sweeps (answer : ℤ) (c d : SweepCounts) (r q : Parts) : Type 0 where
   pub swept : Swept
   pub sweeps : SweepsOnce swept r q
   pub answered : answer ≡ pos (swept.taken + swept.given)
-  pub counted : d ≡ after_sweep swept d.sent c
-  pub sent : AreSent r.recorded.log (length r.recorded.sight.core.shape.ports) d.sent
+  pub counted : d ≡ after_sweep swept d.sent d.before c
+  pub last : AreLast r.recorded.log q.recorded.log (length r.recorded.sight.core.shape.ports) d
 
 -- or memory ran out, and nothing has changed
 abbrev pub MaySweep : ℤ → SweepCounts → SweepCounts → Parts → Parts → Type 0

@@ -1,5 +1,5 @@
 -- What a hub says of a device that runs, as it is now (rte_eventdev, rte_event_dev_xstats_get; which there are is own).
-use Rattle.std.specs.Prelude.{ℕ, ℤ, ◌≡◌, ◌+◌, ◌-◌, ◌==◌, ◌&&◌, Bool, nat_lt, MatchBool, List, [], ◌∷◌, length, count_by, sum_by, slice_index_or, Option}
+use Rattle.std.specs.Prelude.{ℕ, ℤ, ◌≡◌, ◌+◌, ◌-◌, ◌==◌, ◌&&◌, Bool, nat_lt, MatchBool, List, [], ◌∷◌, length, count_by, sum_by, Option}
 use Rattle.std.specs.Prelude.Option.{Some, None}
 use Rattle.credit_pool.specs.Accounts.{free_of}
 use Rattle.evt_types.specs.declared.shape.TheConstants.{MAX_PORTS, MAX_QUEUES}
@@ -7,13 +7,14 @@ use Rattle.step_tally.specs.Counts.{given_to}
 use Rattle.sched_core.specs.Inside.{is_of_queue, slots_among}
 use Rattle.transcripts.specs.Lawful.{is_of_level}
 use Rattle.transcripts.specs.Standing.{View, kept_at, unanswered_at, waiting_at}
-use Rattle.transcripts.specs.Transcript.{Held, out}
+use Rattle.transcripts.specs.Transcript.{Held}
 use Rattle.event_device.specs.Lent.{with_look}
 use Rattle.event_device.specs.Parts.{Parts}
 use Rattle.event_handles.specs.Counts.{of_device}
 use Rattle.event_handles.specs.Hub.{Changes}
 use Rattle.event_handles.specs.Numbers.{invalid, no_device}
 use Rattle.event_handles.specs.Report.{Fills, LeavesEmpty}
+use Rattle.event_handles.specs.Sweeps.{given_last}
 use Rattle.event_handles.specs.declared.hub.Hub.{Hub}
 use Rattle.event_handles.specs.declared.sweep_counts.SweepCounts.{SweepCounts}
 
@@ -40,13 +41,10 @@ abbrev pub SaysQueue : Parts → ℕ → List ℕ → List ℕ → ℤ → Type 
 SaysQueue r q before after answer =
     MatchBool (has_queue r q) (Fills (queue_list r.recorded.sight.core q) before after answer) (LeavesEmpty invalid before after answer)
 
--- what the port's lane was given less what it had been given before the last sweep
-abbrev pub given_last : Parts → SweepCounts → ℕ → ℕ
-given_last r c n = length (out r.recorded.log n) - slice_index_or c.sent n 0
-
+-- what the last sweep gave to the port's lane
 abbrev pub SaysPort : Parts → SweepCounts → ℕ → List ℕ → List ℕ → ℤ → Type 0
 SaysPort r c n before after answer =
-    MatchBool (has_port r n) (Fills (given_last r c n ∷ []) before after answer) (LeavesEmpty invalid before after answer)
+    MatchBool (has_port r n) (Fills (given_last c n ∷ []) before after answer) (LeavesEmpty invalid before after answer)
 
 -- the credit word is read once: what is free by it, and what is in the scheduler's pocket
 pub record SaysCredits (before after : List ℕ) (answer : ℤ) (r q : Parts) : Type 0 where

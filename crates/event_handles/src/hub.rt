@@ -3,6 +3,7 @@
 ghost use Rattle.std.specs.Prelude.{◌≡◌};
 ghost use Rattle.std.specs.Option.{ForSome};
 ghost use Rattle.event_handles.specs.Kinds.{kinds_of};
+ghost use Rattle.event_handles.specs.Sweeps.{AreSentBy};
 
 use crate::config::Config;
 use crate::control::ControlHandle;
@@ -10,9 +11,9 @@ use crate::errno::{EBUSY, ENODEV, ENOMEM};
 use crate::port::{PortHandle, Seat};
 use crate::start::start_device;
 use crate::stopped::Stopped;
-use crate::sweep_counts::{SweepCounts, note_sent};
+use crate::sweep_counts::SweepCounts;
 use event_device::Device;
-use evt_types::{Kind, MAX_PORTS, MAX_QUEUES};
+use evt_types::{Kind, MAX_QUEUES};
 use std::alloc::Global;
 
 /// A device for C, with all of its parts that are at home. Where it is refused it holds why, and once it is stopped its account.
@@ -24,10 +25,9 @@ pub struct Hub {
     pub(crate) stopped: Option<Stopped>,
     /// What the device's sweeps did.
     pub(crate) sweeps: SweepCounts,
-    /// Where a sweep notes what was given before it, until it is known to succeed. Between sweeps nothing rests on it.
-    given: [u64; MAX_PORTS],
     pub(crate) why: i64,
     pub ghost kinds_are: { ForSome device (λ r. kinds ≡ kinds_of r) },
+    pub ghost are_sent: { ForSome device (λ r. AreSentBy r sweeps.sent) },
 }
 
 impl Hub {
@@ -48,7 +48,6 @@ impl Hub {
                     kinds,
                     stopped: None,
                     sweeps: SweepCounts::none(),
-                    given: [0; MAX_PORTS],
                     why: 0,
                 }
             }
@@ -59,7 +58,6 @@ impl Hub {
                     kinds,
                     stopped: None,
                     sweeps: SweepCounts::none(),
-                    given: [0; MAX_PORTS],
                     why,
                 }
             }
@@ -155,11 +153,10 @@ impl Hub {
         let Some(device) = &mut self.device else {
             return ENODEV;
         };
-        note_sent(device, &mut self.given);
         let Ok(swept) = device.sweep() else {
             return ENOMEM;
         };
-        self.sweeps.count(&swept, &self.given);
+        self.sweeps.count(&swept, device);
         // So many steps, and with them what was taken and given, can be counted.
         let _log = device.log();
         let count = (swept.taken + swept.given) as i64;

@@ -41,8 +41,12 @@ fn port_now(device: &Device, sweeps: &SweepCounts, port: usize, out: &mut [u64])
     if port >= port_count(device) {
         return EINVAL;
     }
-    let sent = device.log().lane(port).tx;
-    fill(&[sent.saturating_sub(sweeps.sent[port])], out)
+    let given = if sweeps.gave {
+        sweeps.sent[port].saturating_sub(sweeps.before[port])
+    } else {
+        0
+    };
+    fill(&[given], out)
 }
 
 /// The free credits, and the scheduler's own.

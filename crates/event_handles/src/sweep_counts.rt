@@ -3,7 +3,7 @@
 ghost use Rattle.std.specs.Prelude.{◌≡◌, ◌≤◌, length};
 ghost use Rattle.evt_types.specs.declared.shape.TheConstants.{MAX_PORTS};
 ghost use Rattle.event_handles.specs.Logs.{steps_logged};
-ghost use Rattle.event_handles.specs.Sweeps.{AreSent};
+ghost use Rattle.event_handles.specs.Sweeps.{AreKept, AreSent};
 
 use event_device::{Counted, Device, Swept, Tally};
 use evt_types::MAX_PORTS;
@@ -21,8 +21,12 @@ pub(crate) struct SweepCounts {
     pub(crate) no_take: u64,
     /// How many of them gave nothing.
     pub(crate) no_give: u64,
-    /// For each port how many events its lane had been given before the last sweep.
+    /// Whether the last one gave something.
+    pub(crate) gave: bool,
+    /// For each port how many events its lane was given so far.
     pub(crate) sent: [u64; MAX_PORTS],
+    /// The same before the last sweep that gave something.
+    pub(crate) before: [u64; MAX_PORTS],
 }
 
 /// How many ports the device has.
@@ -36,26 +40,26 @@ pub(crate) fn port_count(device: &Device) -> usize
     shape.ports().len()
 }
 
-/// Notes how many events each of the first so many lanes was given so far.
-fn note_lanes(log: &Tally<Counted>, lanes: usize, sent: &mut [u64; MAX_PORTS])
+/// Notes of each of the first so many lanes how many events it was given so far, and what was noted of it before.
+fn note_lanes(
+    log: &Tally<Counted>,
+    lanes: usize,
+    sent: &mut [u64; MAX_PORTS],
+    before: &mut [u64; MAX_PORTS],
+)
     requires { lanes ≤ MAX_PORTS }
-    ensures { AreSent (steps_logged log.now) lanes sent.new }
+    ensures sent { AreSent (steps_logged log.now) lanes sent.new }
+    ensures before { AreKept lanes sent.old before.new }
 {
     for lane in 0..lanes {
+        before[lane] = sent[lane];
         sent[lane] = log.lane(lane).tx;
     }
 }
 
-/// Notes how many events each port's lane was given so far.
-pub(crate) fn note_sent(device: &Device, sent: &mut [u64; MAX_PORTS])
-    ensures { AreSent device.now.recorded.log (length device.now.recorded.sight.core.shape.ports) sent.new }
-{
-    note_lanes(device.log(), port_count(device), sent);
-}
-
 impl SweepCounts {
     ghost use Rattle.std.specs.Prelude.{◌≡◌};
-    ghost use Rattle.event_handles.specs.Sweeps.{after_sweep, no_sweeps};
+    ghost use Rattle.event_handles.specs.Sweeps.{AreNoted, after_sweep, no_sweeps};
 
     /// No sweep yet.
     pub(crate) fn none() -> SweepCounts
@@ -67,13 +71,16 @@ impl SweepCounts {
             given: 0,
             no_take: 0,
             no_give: 0,
+            gave: false,
             sent: [0; MAX_PORTS],
+            before: [0; MAX_PORTS],
         }
     }
 
-    /// Counts a sweep, before which so much had been given.
-    pub(crate) fn count(&mut self, swept: &Swept, sent: &[u64; MAX_PORTS])
-        ensures { self.new ≡ after_sweep swept.now sent.now self.old }
+    /// Counts a sweep of the device. Where that gave nothing, what is noted of the lanes is still so.
+    pub(crate) fn count(&mut self, swept: &Swept, device: &Device)
+        ensures counted { self.new ≡ after_sweep swept.now self.new.sent self.new.before self.old }
+        ensures noted { AreNoted swept.now.given device.now self.old self.new }
     {
         self.sweeps = self.sweeps.wrapping_add(1);
         self.taken = self.taken.wrapping_add(swept.taken as u64);
@@ -81,9 +88,16 @@ impl SweepCounts {
         if swept.taken == 0 {
             self.no_take = self.no_take.wrapping_add(1);
         }
+        self.gave = swept.given != 0;
         if swept.given == 0 {
             self.no_give = self.no_give.wrapping_add(1);
+        } else {
+            note_lanes(
+                device.log(),
+                port_count(device),
+                &mut self.sent,
+                &mut self.before,
+            );
         }
-        self.sent = *sent;
     }
 }

@@ -242,6 +242,10 @@ impl Far {
             return Err(Refusal::Full);
         }
         self.replies.gather(Reply { event: *event });
+        // A NEW answers nothing, so what is held isn't written.
+        if event.is_new() {
+            return Ok(());
+        }
         self.held.skip(ended);
         self.extras = extras;
         Ok(())

@@ -1,6 +1,7 @@
-//! What the holder's end of a lane has to answer, in a ring with a place for each delivery that may be held.
+//! What the holder's end of a lane has to answer, in a ring with a place at least for each delivery that may be held.
 
 ghost use Rattle.std.specs.Prelude.{◌≡◌, ◌+◌, ◌%◌, ◌^◌, ◌<◌, ◌≤◌, [], ◌∷◌, ◌++◌, length, map, drop, slice_get, IfOk};
+ghost use Rattle.std.specs.Int.{IsPowerOfTwo};
 ghost use Rattle.evt_types.specs.Event.{pair_of};
 ghost use Rattle.lane_rings.specs.HeldPairs.{holds, window};
 
@@ -11,6 +12,7 @@ use std::marker::Model;
 /// The queue and the number of each delivery that is held, oldest first, in a ring.
 #[derive(Drop)]
 pub(crate) struct HeldPairs {
+    /// As many places as a power of two, so that a mask finds the place after the last one.
     places: Vec<(usize, u64)>,
     /// The oldest one's place.
     first: usize,
@@ -33,15 +35,11 @@ impl Model for HeldPairs {
 /// The place that lies so many behind another, around the end.
 #[inline(always)]
 fn place_behind(first: usize, count: usize, places: usize) -> usize
-    requires { (first < places) × (count ≤ places) × (places < 2 ^ 63) }
+    requires within { (first < places) × (count ≤ places) × (places < 2 ^ 63) }
+    requires power { IsPowerOfTwo places }
     ensures { result ≡ (first + count) % places }
 {
-    let place = first + count;
-    if place < places {
-        place
-    } else {
-        place - places
-    }
+    (first + count) & (places - 1)
 }
 
 impl HeldPairs {
@@ -49,8 +47,9 @@ impl HeldPairs {
     pub(crate) fn new(alloc: Global, depth: usize) -> Result<HeldPairs, Memory>
         ensures { IfOk result (λ h. (h.items ≡ []) × (depth ≤ h.room)) }
     {
-        // One place at least, so that the oldest one's place is always one of them.
-        let places = vec![in alloc; (0, 0); depth.max(1)]?;
+        // More places than can be counted are asked for as the most that can be, which no memory has.
+        let count = depth.checked_next_power_of_two().unwrap_or(usize::MAX);
+        let places = vec![in alloc; (0, 0); count]?;
         Ok(HeldPairs {
             places,
             first: 0,
@@ -127,6 +126,7 @@ fn write(
     deliveries: &[Delivery],
 ) -> usize
     requires first { first < length places.old }
+    requires power { IsPowerOfTwo (length places.old) }
     requires room { count + length deliveries.now ≤ length places.old }
     ensures places { length places.new ≡ length places.old }
     ensures count { result ≡ count + length deliveries.now }

@@ -1,4 +1,4 @@
-use Rattle.std.proofs.Common.{◌++◌, ◌∙◌, ap, arith, length, length-set, map}
+use Rattle.std.proofs.Common.{◌++◌, ◌∙◌, ap, arith, length-set, map}
 use Rattle.std.proofs.lemmas.List.{take_all}
 use Rattle.evt_types.specs.Event.{pair_of}
 use Rattle.lane_rings.specs.HeldPairs.{window}

@@ -1,10 +1,14 @@
 -- A reply goes behind the others: an answer ends the oldest and its additions, and another adds one or changes nothing.
-use Rattle.std.proofs.Common.{◌≡◌, ◌∙◌, ◌+◌, ℕ, List, [], ◌∷◌, ◌++◌, ap, arith, cond, drop, length, length-drop, map, rules, subst, sym}
+use Rattle.std.proofs.Common.{true, false, refl, ◌≡◌, ◌∙◌, ◌+◌, ℕ, List, [], ◌∷◌, ◌++◌, ap, arith, cond, drop, length, length-drop, map, rules, subst, sym}
 use Rattle.std.proofs.lemmas.List.Sums.{sum_by-append}
-use Rattle.evt_types.proofs.Additions.{beside-append, extras-append}
+use Rattle.std.proofs.lemmas.Bool.{false≢true}
+use Rattle.evt_types.proofs.Additions.{beside-append, extras-append, extras-other}
 use Rattle.evt_types.specs.Additions.{AreBeside, extras_of, more_after}
 use Rattle.evt_types.specs.Event.{pair_of}
-use Rattle.evt_types.specs.Operation.{is_answer}
+use Rattle.evt_types.specs.Operation.{is_answer, is_answer_op, is_more_op, is_more_reply, is_new_op}
+use Rattle.evt_types.specs.declared.event.Event.{Event}
+use Rattle.evt_types.specs.declared.event.Op.{Op}
+use Rattle.evt_types.specs.declared.event.Op.TheVariants as ops
 use Rattle.evt_types.specs.declared.event.Reply.{Reply}
 use Rattle.lane_rings.specs.Ends.{answered, answers_among, received_by}
 use Rattle.lane_rings.specs.HeldPairs.{Held}
@@ -41,6 +45,38 @@ invariant_of-self-2-clause-beside c =
     subst (AreBeside received) (sym (c.gather.ensures.put ∙ ap (λ (rs : List Reply). rs ++ reply_of c.args.event.now ∷ []) c.has_room.ensures.put))
     (beside-append received (answered c.args.self.now) (reply_of c.args.event.now) c.args.self.now.beside
     (λ adds. (omega (arith, (c.in_ok-ended.ensures.may_add adds).0, c.args.self.now.held_is), omega (arith, (c.in_ok-ended.ensures.may_add adds).1, c.args.self.now.extras_are))))
+
+-- a NEW answers nothing and adds nothing
+no_answer : (e : Event) → is_new_op e.op ≡ true → (is_answer (reply_of e) ≡ false) × (is_more_reply (reply_of e) ≡ false)
+no_answer e new = by_op e.op new
+  where
+    by_op : (o : Op) → is_new_op o ≡ true → (is_answer_op o ≡ false) × (is_more_op o ≡ false)
+    by_op ops.New new = (refl, refl)
+    by_op ops.Forward new = absurd (false≢true new)
+    by_op ops.Release new = absurd (false≢true new)
+    by_op ops.ForwardMore new = absurd (false≢true new)
+
+none_among : (r : Reply) → is_answer r ≡ false → answers_among (r ∷ []) ≡ 0
+none_among r none = ap (λ b. 0 + cond b 1 0) none
+
+pub invariant_of-self-then-is_new : goal.invariant_of-self-then-is_new
+invariant_of-self-then-is_new c =
+    let old = c.args.self.now in
+    let reply : Reply = reply_of c.args.event.now in
+    let none = no_answer c.args.event.now (sym c.is_new.ensures ∙ c.if-is_new.true) in
+    let put : put_in c.gather.new.self ≡ answered old ++ reply ∷ [] = c.gather.ensures.put ∙ ap (λ (rs : List Reply). rs ++ reply ∷ []) c.has_room.ensures.put in
+    let count : answers_among (put_in c.gather.new.self) ≡ answers_among (answered old) + answers_among (reply ∷ []) = ap answers_among put ∙ sum_by-append (λ x. cond (is_answer x) 1 0) (answered old) (reply ∷ []) in
+    let same : answers_among (put_in c.gather.new.self) ≡ answers_among (answered old) = omega (arith, count, none_among reply none.0) in
+    record {
+      held_is = omega (arith, same, old.held_is);
+      held_are = old.held_are ∙ ap (λ n. map pair_of (drop n (received_by old))) (sym same);
+      held_few = old.held_few;
+      held_room = old.held_room;
+      all_received = old.all_received;
+      extras_are = old.extras_are ∙ sym (ap extras_of put ∙ extras-other (answered old) reply none.0 none.1);
+      extras_few = old.extras_few;
+      beside = subst (AreBeside (length (received_by old))) (sym put) (beside-append (length (received_by old)) (answered old) reply old.beside (λ adds. absurd (false≢true (sym none.1 ∙ adds))));
+    }
 
 pub returns-clause-nothing_held : goal.returns-clause-nothing_held
 returns-clause-nothing_held c =

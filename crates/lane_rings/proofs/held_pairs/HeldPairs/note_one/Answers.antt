@@ -1,4 +1,5 @@
-use Rattle.std.proofs.Common.{ℕ, ◌+◌, ◌%◌, ◌++◌, ◌∷◌, [], ◌∙◌, ap, arith, length-set}
+use Rattle.std.proofs.Common.{ℕ, ◌+◌, ◌%◌, ◌++◌, ◌∷◌, [], ◌∙◌, ap, arith, length-set, subst, sym}
+use Rattle.std.specs.Int.{IsPowerOfTwo}
 use Rattle.evt_types.specs.Event.{pair_of}
 use Rattle.lane_rings.specs.HeldPairs.{Held, holds}
 use Rattle.lane_rings.proofs.HeldPairs.{has_room, one_pushed}
@@ -8,6 +9,7 @@ pub invariant_of-self : goal.invariant_of-self
 invariant_of-self c =
     let long = length-set c.self.inside.places.items c.place_behind-last.result (c.queue.result, c.number.result) in
     record {
+      power = subst IsPowerOfTwo (sym long) c.self.invariant.power;
       first = omega (arith, c.self.invariant.first, long);
       few = omega (arith, has_room c.self.inside c.self.invariant c.args.self.now 1 c.self.view_is (omega (arith, c.requires)), long);
     }

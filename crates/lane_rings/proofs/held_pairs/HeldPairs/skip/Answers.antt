@@ -1,4 +1,5 @@
-use Rattle.std.proofs.Common.{List, ℕ, ◌+◌, ◌-◌, ◌%◌, ◌∙◌, ap, arith, drop, length}
+use Rattle.std.proofs.Common.{List, ℕ, ◌+◌, ◌-◌, ◌%◌, ◌∙◌, ap, arith, drop, length, subst, sym}
+use Rattle.std.specs.Int.{IsPowerOfTwo}
 use Rattle.lane_rings.specs.HeldPairs.{Held, holds, window}
 use Rattle.lane_rings.proofs.HeldPairs.{fewer_held, length_is}
 use Rattle.lane_rings.proofs.held_pairs.HeldPairs.skip.Goals as goal
@@ -6,7 +7,10 @@ use Rattle.lane_rings.proofs.held_pairs.HeldPairs.skip.Goals as goal
 pub place_behind-self-inside-requires : goal.place_behind-self-inside-requires
 place_behind-self-inside-requires c =
     let within = length_is c.self.inside c.self.invariant c.args.self.now c.self.view_is in
-    (omega (arith, c.self.invariant.first, c.len.ensures), omega (arith, c.requires, within, c.self.invariant.few, c.len.ensures), omega (arith, c.len.ensures))
+    record {
+      within = (omega (arith, c.self.invariant.first, c.len.ensures), omega (arith, c.requires, within, c.self.invariant.few, c.len.ensures), omega (arith, c.len.ensures));
+      power = subst IsPowerOfTwo (sym (c.len.ensures ∙ c.self.inside.places.ok.0)) c.self.invariant.power;
+    }
 
 pub overflow_sub-self : goal.overflow_sub-self
 overflow_sub-self c = omega (arith, c.requires, length_is c.self.inside c.self.invariant c.args.self.now c.self.view_is)

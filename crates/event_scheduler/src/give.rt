@@ -33,9 +33,9 @@ pub(crate) fn give_all<L: StepLog>(
     ensures shown { NoneHidden lanes.new.items }
 {
     if core.shape().serving() == Serving::Flows {
-        give_each(core, lanes, hints, run, true, log)
+        give_each::<L, true>(core, lanes, hints, run, log)
     } else {
-        give_each(core, lanes, hints, run, false, log)
+        give_each::<L, false>(core, lanes, hints, run, log)
     }
 }
 
@@ -59,12 +59,11 @@ fn note(flows: bool, hints: &Hints, gave: &mut LaneSet, lane: usize) {
 /// ring has room for; it goes into the ring at once. A lane whose ring is full is passed over. At the end the hints of the lanes that were
 /// given something are set.
 #[inline(always)]
-fn give_each<L: StepLog>(
+fn give_each<L: StepLog, const FLOWS: bool>(
     core: &mut Core,
     lanes: &mut Vec<Near>,
     hints: &Hints,
     run: &mut ArrayVec<Delivery, 32>,
-    flows: bool,
     log: &mut L,
 ) -> (usize, usize)
     requires lanes { length lanes.old.items ≡ lanes_of core.old.shape }
@@ -92,8 +91,8 @@ fn give_each<L: StepLog>(
         } else {
             let next = core.give_run(offer, room, &mut skips, run, log);
             near.offer_all(run.as_slice());
-            turn = turn_by(flows, next);
-            note(flows, hints, &mut gave, lane);
+            turn = turn_by(FLOWS, next);
+            note(FLOWS, hints, &mut gave, lane);
             given += run.len();
         }
     }

@@ -14,11 +14,11 @@ static inline bool may_have_unknown(const struct rte_event ev[], uint16_t n)
 {
 	const struct rte_event *end = ev + n;
 	uint64_t any = 0;
-	for (; end - ev >= 8; ev += 8)
-		any |= ev[0].event | ev[1].event | ev[2].event | ev[3].event | ev[4].event | ev[5].event | ev[6].event | ev[7].event;
 #pragma GCC unroll 1
-	for (; ev < end; ev++)
-		any |= ev->event;
+	for (; n & 7; n--)
+		any |= (--end)->event;
+	for (; ev != end; ev += 8)
+		any |= ev[0].event | ev[1].event | ev[2].event | ev[3].event | ev[4].event | ev[5].event | ev[6].event | ev[7].event;
 	return (any >> OP_SHIFT & OP_MASK) == OP_MASK;
 }
 
@@ -116,9 +116,17 @@ static __rte_noinline uint16_t put_known(struct evd_port *port, const struct rte
 	return done;
 }
 
+/* A burst of none, or of more than the library takes at once. */
+static __rte_noinline uint16_t put_long(struct evd_port *port, const struct rte_event ev[], uint16_t n)
+{
+	return may_have_unknown(ev, n) ? put_known(port, ev, n) : put_rest(port, ev, put(port, ev, n), n);
+}
+
 static __rte_always_inline uint16_t enqueue(struct evd_port *port, const struct rte_event ev[], uint16_t n)
 {
 	uint16_t done;
+	if (unlikely(n - 1u >= EVSCHED_MAX_BURST))
+		return put_long(port, ev, n);
 	if (unlikely(may_have_unknown(ev, n)))
 		return put_known(port, ev, n);
 	done = put(port, ev, n);

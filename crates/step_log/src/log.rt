@@ -3,8 +3,9 @@
 ghost use Rattle.std.specs.Prelude.{◌≡◌, ℕ, ◌+◌, ◌-◌, ◌<◌, ◌≤◌, ◌^◌, List, [], ◌∷◌, ◌++◌, length, vec_len, vec_capacity, OnOk};
 ghost use Rattle.std.proofs.Common.{rules};
 ghost use Rattle.evt_types.specs.declared.step.Step.{Step as StepValue};
+ghost use Rattle.step_log.specs.Rows.{news_steps, release_steps};
 
-use evt_types::{Memory, Step};
+use evt_types::{Memory, Outcome, Reply, Source, Step};
 
 /// A log of steps. Its `steps` are all that were pushed, in their order, whether it keeps them or not; for so many more it has `room`.
 pub trait StepLog: Drop {
@@ -17,6 +18,37 @@ pub trait StepLog: Drop {
         requires { 0 < room self.old }
         ensures steps { steps self.new ≡ steps self.old ++ step ∷ [] }
         ensures room { room self.old ≤ room self.new + 1 };
+
+    /// The queue accepts these NEWs of the lane, one after the other.
+    #[inline(always)]
+    fn push_news(&mut self, lane: usize, queue: usize, replies: &[Reply])
+        requires { length replies.now ≤ room self.old }
+        ensures steps { steps self.new ≡ steps self.old ++ news_steps lane queue replies.now }
+        ensures room { room self.old ≤ room self.new + length replies.now }
+    {
+        for reply in replies {
+            self.push_step(Step::Accept {
+                queue,
+                event: reply.event.unpack(),
+                source: Source::New { lane },
+            });
+        }
+    }
+
+    /// The lane releases so many events.
+    #[inline(always)]
+    fn push_releases(&mut self, lane: usize, count: usize)
+        requires { count ≤ room self.old }
+        ensures steps { steps self.new ≡ steps self.old ++ release_steps lane count }
+        ensures room { room self.old ≤ room self.new + count }
+    {
+        for _ in 0..count {
+            self.push_step(Step::Done {
+                lane,
+                outcome: Outcome::Released,
+            });
+        }
+    }
 
     /// Makes room for so many more steps.
     fn make_room(&mut self, count: usize) -> Result<(), Memory>

@@ -14,6 +14,8 @@ pub mod Slots
 pub mod Parkings
 pub mod Seen
 pub mod Segments
+pub mod Rows
+pub mod RowCalls
 pub mod Calls
 pub mod LevelSets
 pub mod Named

@@ -208,6 +208,9 @@ module _ (l : Lists) (ps : List Parking) (qs : List Waits) (q : ℕ) (are : AreP
       pub waits_come : all_waits m (set ps q entered) ≡ set qs q (with_event (waits_at qs q) e)
       waits_come = waits_changed m p entered (λ w. with_event w e) read comes
 
+      pub parkings_come : AreParkings m (set ps q entered)
+      parkings_come = parkings_after l m ps q entered (with_event (waits_by l p) e) are there (moved m p entered (λ w. with_event w e) read comes)
+
       pub sound_come : AreWaits (with_event (waits_at qs q) e)
       sound_come = sound_changed m p entered (λ w. with_event w e) read comes
 

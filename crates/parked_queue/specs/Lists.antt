@@ -1,9 +1,10 @@
 -- Many lists of waiting events, and how many events they may have in all.
-use Rattle.std.specs.Prelude.{ℕ, ◌==◌, Bool, false, List, [], ◌∷◌, ◌++◌, length, drop, Option, Some, None, replicate, slice_set, slice_index_or, sum_by}
+use Rattle.std.specs.Prelude.{ℕ, ◌+◌, ◌==◌, Bool, false, List, [], ◌∷◌, ◌++◌, length, drop, Option, Some, None, replicate, slice_set, slice_index_or, sum_by}
 use Rattle.evt_types.specs.Delivered.{delivered}
 use Rattle.evt_types.specs.declared.event.Delivery.{Delivery}
 use Rattle.evt_types.specs.declared.event.Event.{Event}
 use Rattle.evt_types.specs.declared.event.Numbered.{Numbered}
+use Rattle.evt_types.specs.declared.event.Reply.{Reply}
 
 -- the lists, each oldest first
 pub record Lists : Type 0 where
@@ -41,6 +42,15 @@ has_number n (Some w) = w.number == n
 -- the event under a number
 abbrev pub numbered : ℕ → Event → Numbered
 numbered n e = record { number = n; event = e }
+
+-- the events of the replies, under numbers from this one on
+abbrev pub numbered_from : ℕ → List Reply → List Numbered
+numbered_from n [] = []
+numbered_from n (r ∷ rs) = numbered n r.event ∷ numbered_from (n + 1) rs
+
+-- these are the last ones of the list
+abbrev pub with_row : Lists → ℕ → List Numbered → Lists
+with_row v k ws = with_list v k (list_at v k ++ ws)
 
 -- the event as it is delivered by the queue that it names
 abbrev pub named_delivery : Numbered → Delivery

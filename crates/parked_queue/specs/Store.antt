@@ -1,7 +1,8 @@
 -- How the lists stand in one store of nodes. `at` is what it has at each number of a node, and `size` how many nodes it has.
-use Rattle.std.specs.Prelude.{ℕ, suc, ◌-◌, ◌<◌, ◌≤◌, List, length, map, Option}
+use Rattle.std.specs.Prelude.{ℕ, suc, ◌≡◌, ◌+◌, ◌-◌, ◌<◌, ◌≤◌, List, length, map, slice_set, Option}
+use Rattle.evt_types.specs.declared.event.Numbered.{Numbered}
 use Rattle.parked_queue.specs.Chains.{AreNodes, IsChain, chain_at, events_of, row}
-use Rattle.parked_queue.specs.Lists.{Lists, total_of}
+use Rattle.parked_queue.specs.Lists.{Lists, total_of, with_row}
 use Rattle.parked_queue.specs.declared.chain.Chain.{Chain}
 use Rattle.parked_queue.specs.declared.chain.Node.{Node}
 
@@ -19,3 +20,21 @@ pub record IsStore (at : ℕ → Option Node) (size free : ℕ) (cs : List Chain
   pub within : total_of (lists_in at size cs room) ≤ room
   pub chains : AreChains at size (suc (room - total_of (lists_in at size cs room))) free cs
   pub spacious : room < size
+
+-- The chain is that of a list of the store, in which there is room for so many events more.
+pub record IsOfStore (at : ℕ → Option Node) (size free : ℕ) (c : Chain) (n : ℕ) (cs : List Chain) (room k : ℕ) : Type 0 where
+  pub there : k < length cs
+  pub is : c ≡ chain_at cs k
+  pub store : IsStore at size free cs room
+  pub fits : total_of (lists_in at size cs room) + n ≤ room
+
+pub record HasStore (at : ℕ → Option Node) (size free : ℕ) (c : Chain) (n : ℕ) : Type 0 where
+  pub chains : List Chain
+  pub room : ℕ
+  pub list : ℕ
+  pub is : IsOfStore at size free c n chains room list
+
+-- with this chain in its place, and this node as the first free one, it is a store in which these events came to the list's end
+pub record HasCome (old new : ℕ → Option Node) (size free : ℕ) (c : Chain) (ws : List Numbered) (cs : List Chain) (room k : ℕ) : Type 0 where
+  pub store : IsStore new size free (slice_set cs k c) room
+  pub view : lists_in new size (slice_set cs k c) room ≡ with_row (lists_in old size cs room) k ws

@@ -3,6 +3,8 @@ use Rattle.std.specs.Prelude.{ℕ, ◌≡◌, ◌≢◌, ◌+◌, ◌%◌, ◌<�
 use Rattle.evt_types.specs.Plan.{level_of}
 use Rattle.evt_types.specs.declared.event.Event.{Event}
 use Rattle.evt_types.specs.declared.event.Numbered.{Numbered}
+use Rattle.evt_types.specs.declared.event.Reply.{Reply}
+use Rattle.parked_queue.specs.Lists.{numbered_from}
 use Rattle.small_set.specs.SmallSets.{Has}
 use Rattle.small_set.specs.declared.set.SmallSet.{SmallSet}
 
@@ -63,6 +65,10 @@ AreNamed q ws = All (λ (w : Numbered). w.event.queue ≡ q) ws
 -- the event waits under the next number
 abbrev pub with_event : Waits → Event → Waits
 with_event q e = record q { waiting = q.waiting ++ record { number = q.next; event = e } ∷ []; next = q.next + 1 }
+
+-- the events of the replies wait under the next numbers
+abbrev pub with_replies : Waits → List Reply → Waits
+with_replies q rs = record q { waiting = q.waiting ++ numbered_from q.next rs; next = q.next + length rs }
 
 -- another number
 abbrev pub is_other : ℕ → Numbered → Bool

@@ -1,11 +1,13 @@
 //! A list of events as a chain of nodes in a store that many chains share. Each chain ends in a spare node, into which its next
 //! event is written. So a chain is never without a node, and it asks of no event whether it is the first one.
 
-ghost use Rattle.std.specs.Prelude.{◌≡◌, ◌==◌, ◌+◌, ◌<◌, false, slice_get, vec_len, IfNone, IfOk, IfSome};
+ghost use Rattle.std.specs.Prelude.{◌≡◌, ℕ, ◌==◌, ◌+◌, ◌<◌, ◌≤◌, ◌^◌, false, List, length, slice_get, vec_len, IfNone, IfOk, IfSome};
 ghost use Rattle.parked_queue.specs.Chains.{AreInRow, HasChain, HasNone, IsBehind, IsFilled, IsLinked, AreNewChains, events_of, next_of};
-ghost use Rattle.parked_queue.specs.Lists.{has_number, numbered};
+ghost use Rattle.parked_queue.specs.Lists.{has_number, numbered, numbered_from};
+ghost use Rattle.parked_queue.specs.Store.{HasCome, HasStore, IsOfStore};
+ghost use Rattle.parked_queue.specs.declared.chain.Chain.{Chain as ChainValue};
 
-use evt_types::{Numbered, PackedEvent};
+use evt_types::{Numbered, PackedEvent, Reply};
 use std::alloc::{AllocError, Global};
 
 /// An event, and the node behind it. The event counts only where it waits.
@@ -89,6 +91,27 @@ pub(crate) fn append(
     filled.item.number = number;
     filled.next = spare;
     only
+}
+
+/// Puts the events of the replies into the chain one after the other, under numbers from this one on. Each goes into the chain's spare
+/// node, and the free nodes lead to one another.
+#[inline(always)]
+pub(crate) fn append_row(
+    nodes: &mut Vec<Node>,
+    chain: &mut Chain,
+    free: &mut usize,
+    number: u64,
+    replies: &[Reply],
+)
+    requires store { HasStore (slice_get nodes.old.items) (vec_len nodes.old) free.old chain.old (length replies.now) }
+    requires numbers { number + length replies.now ≤ 2 ^ 63 }
+    ensures come { (cs : List ChainValue) (room k : ℕ) → IsOfStore (slice_get nodes.old.items) (vec_len nodes.old) free.old chain.old (length replies.now) cs room k → HasCome (slice_get nodes.old.items) (slice_get nodes.new.items) (vec_len nodes.old) free.new chain.new (numbered_from number replies.now) cs room k }
+    ensures count { vec_len nodes.new ≡ vec_len nodes.old }
+{
+    for (index, reply) in replies.iter().enumerate() {
+        let spare = take_node(nodes, free);
+        let _ = append(nodes, chain, spare, number + index as u64, &reply.event);
+    }
 }
 
 /// Makes the node the one that became free last: the node that it led to.

@@ -1,8 +1,10 @@
 //! What waits in several queues.
 
-ghost use Rattle.std.specs.Prelude.{◌≡◌, ℕ, ◌+◌, ◌<◌, ◌≤◌, ◌^◌, ◌%◌, ◌++◌, length, map, slice_set, vec_len, vec_capacity, IsTrue, IfOk, IfSome, IfNone};
+ghost use Rattle.std.specs.Prelude.{◌≡◌, ℕ, ◌+◌, ◌<◌, ◌≤◌, ◌^◌, ◌%◌, ◌++◌, length, map, slice_set, vec_len, vec_capacity, All, IsTrue, IfOk, IfSome, IfNone};
+ghost use Rattle.evt_types.specs.Plan.{level_of};
+ghost use Rattle.evt_types.specs.declared.event.Reply.{Reply as ReplyValue};
 ghost use Rattle.parked_queue.specs.Busy.{AreBusy};
-ghost use Rattle.parked_queue.specs.Waits.{AreSlots, AreWaits, HasNoneAllowed, IsFirstAllowed, IsOnlyOf, all_empty, all_waiting, slot_of, waits_at, with_event, without_number};
+ghost use Rattle.parked_queue.specs.Waits.{AreSlots, AreWaits, HasNoneAllowed, IsFirstAllowed, IsOnlyOf, all_empty, all_waiting, slot_of, waits_at, with_event, with_replies, without_number};
 ghost use Rattle.parked_queue.specs.LevelSets.{AreLevels};
 ghost use Rattle.parked_queue.specs.Lists.{delivery_of};
 ghost use Rattle.small_set.specs.SmallSets.{Has};
@@ -12,7 +14,7 @@ use crate::level::{LEVELS, Level, Levels};
 use crate::parking::{Parking, empty_parkings};
 use crate::slot::slot_in;
 use crate::waiting::WaitingLists;
-use evt_types::{Delivery, PackedEvent};
+use evt_types::{Delivery, PackedEvent, Reply};
 use small_set::SmallSet;
 use std::alloc::{AllocError, Global};
 use std::marker::Model;
@@ -88,6 +90,30 @@ impl ParkedQueues {
         entered.count += 1;
         let list = entered.base + level.number;
         if self.lists.push_event(list, number, event) {
+            self.levels[queue].add(level);
+            self.busy.add(queue);
+        }
+    }
+
+    /// Lets the events of the replies wait in the queue, one after the other, under its next numbers. All name the queue, and are of the
+    /// level. Wants room for all of them.
+    #[inline(always)]
+    pub fn accept_row(&mut self, queue: usize, level: Level, replies: &[Reply])
+        requires there { queue < length self.old }
+        requires some { 0 < length replies.now }
+        requires named { All (λ (r : ReplyValue). (r.event.queue ≡ queue) × (level_of r.event ≡ level.number)) replies.now }
+        requires room { all_waiting self.old + length replies.now ≤ (waits_at self.old queue).room }
+        requires numbers { (waits_at self.old queue).next + length replies.now ≤ 2 ^ 63 }
+        ensures value { self.new ≡ slice_set self.old queue (with_replies (waits_at self.old queue) replies.now) }
+        ensures waits { AreWaits (with_replies (waits_at self.old queue) replies.now) }
+    {
+        let count = replies.len();
+        let entered = &mut self.queues[queue];
+        let number = entered.next;
+        entered.next = number + count as u64;
+        entered.count += count;
+        let list = entered.base + level.number;
+        if self.lists.push_row(list, number, replies) {
             self.levels[queue].add(level);
             self.busy.add(queue);
         }

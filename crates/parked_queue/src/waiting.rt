@@ -1,13 +1,14 @@
 //! Many lists of waiting events.
 
-ghost use Rattle.std.specs.Prelude.{◌≡◌, ◌==◌, ◌+◌, ◌<◌, ◌≤◌, [], ◌++◌, false, filter, length, map, slice_get, vec_len, vec_capacity, IfOk, IsFalse, IsTrue, option_copied};
-ghost use Rattle.parked_queue.specs.Lists.{list_at, total_of, all_empty, has_number, named_delivery, numbered, with_last, with_list, without_first};
+ghost use Rattle.std.specs.Prelude.{◌≡◌, ◌==◌, ◌+◌, ◌<◌, ◌≤◌, ◌^◌, [], ◌++◌, false, filter, length, map, slice_get, vec_len, vec_capacity, IfOk, IsFalse, IsTrue, option_copied};
+ghost use Rattle.parked_queue.specs.Lists.{list_at, total_of, all_empty, has_number, named_delivery, numbered, numbered_from, with_last, with_list, with_row, without_first};
 ghost use Rattle.parked_queue.specs.Waits.{IsRising, is_other};
 
 use crate::chain::{
-    Chain, Node, append, empty_chains, node_before, release, row_of_nodes, skip, take_node,
+    Chain, Node, append, append_row, empty_chains, node_before, release, row_of_nodes, skip,
+    take_node,
 };
-use evt_types::{Delivery, Numbered, PackedEvent};
+use evt_types::{Delivery, Numbered, PackedEvent, Reply};
 use std::alloc::{AllocError, Global};
 use std::marker::Model;
 
@@ -98,6 +99,25 @@ impl WaitingLists {
             number,
             event,
         )
+    }
+
+    /// Puts the events of the replies at the list's end, one after the other, under numbers from this one on: whether nothing was in the
+    /// list.
+    #[inline(always)]
+    pub fn push_row(&mut self, list: usize, number: u64, replies: &[Reply]) -> bool
+        requires list { list < length self.old.lists }
+        requires room { total_of self.old + length replies.now ≤ self.old.room }
+        requires numbers { number + length replies.now ≤ 2 ^ 63 }
+        ensures first { result ≡ (length (list_at self.old list) == 0) }
+        ensures value { self.new ≡ with_row self.old list (numbered_from number replies.now) }
+    {
+        let mut chain = self.chains[list];
+        let mut free = self.free;
+        let first = chain.first == chain.spare;
+        append_row(&mut self.nodes, &mut chain, &mut free, number, replies);
+        self.chains[list] = chain;
+        self.free = free;
+        first
     }
 
     /// Takes the oldest event of the list out, which is there.

@@ -32,12 +32,12 @@ row_split v k w ws lt =
     ∙ (ap (λ ls. record v { lists = ls }) (set-set v.lists k (list_at v k ++ w ∷ []) ((list_at v k ++ w ∷ []) ++ ws))
     ∙ ap (with_list v k) (append_assoc (list_at v k) (w ∷ []) ws))
 
-waits_split : (w : Waits) (r : Reply) (rs : List Reply) → with_replies (with_event w r.event) rs ≡ with_replies w (r ∷ rs)
+pub waits_split : (w : Waits) (r : Reply) (rs : List Reply) → with_replies (with_event w r.event) rs ≡ with_replies w (r ∷ rs)
 waits_split w r rs =
     ap (λ ws. record w { waiting = ws; next = (w.next + 1) + length rs }) (append_assoc w.waiting (numbered w.next r.event ∷ []) (numbered_from (w.next + 1) rs))
     ∙ ap (λ n. record w { waiting = w.waiting ++ numbered_from w.next (r ∷ rs); next = n }) (omega arith)
 
-waits_none : (w : Waits) → with_replies w [] ≡ w
+pub waits_none : (w : Waits) → with_replies w [] ≡ w
 waits_none w = ap (λ ws. record w { waiting = ws; next = w.next + 0 }) (append-nil w.waiting) ∙ ap (λ n. record w { next = n }) (add-zero w.next)
 
 abbrev pub entered_by : Parking → ℕ → Parking

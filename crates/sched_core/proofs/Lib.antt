@@ -21,6 +21,7 @@ pub mod Pinned
 pub mod Members
 pub mod Busy
 pub mod Service
+pub mod Rows
 pub mod Runs
 pub mod Settling
 pub mod Sound

@@ -11,6 +11,7 @@ mod offer;
 mod open_slots;
 mod propose;
 mod queues;
+mod row;
 mod run;
 mod settle;
 mod shut;

@@ -26,7 +26,7 @@ pub enum Took {
 }
 
 /// How many events a core accepts in all.
-const MAX_ENTRIES: u64 = 1 << 63;
+pub(crate) const MAX_ENTRIES: u64 = 1 << 63;
 
 impl Core {
     /// Whether the lane's reply may be taken now: it is an answer and the lane has something to answer, or it adds an event beside one

@@ -1,0 +1,128 @@
+//! Replies of a lane that are taken in a row: counts are kept and the log is told once for all of them.
+
+ghost use Rattle.std.specs.Prelude.{◌≡◌, ◌+◌, ◌*◌, ◌<◌, ◌≤◌, ◌^◌, false, List, ◌++◌, length, take, All, IsTrue};
+ghost use Rattle.evt_types.specs.Plan.{lanes_of, level_of};
+ghost use Rattle.evt_types.specs.declared.event.Reply.{Reply as ReplyValue};
+ghost use Rattle.evt_types.specs.declared.step.Step.{Step as StepValue};
+ghost use Rattle.sched_core.specs.Rows.{IsLike, IsNewRow, row_of};
+ghost use Rattle.step_log.specs.Rows.{news_steps};
+ghost use Rattle.transcripts.specs.Replies.{new_count, turned_count};
+ghost use Rattle.transcripts.specs.Standing.{Stands, after, entries_of, kept_in};
+ghost use Rattle.transcripts.specs.Sweep.{MayBeTaken, replies_steps};
+
+use crate::state::Core;
+use crate::take::MAX_ENTRIES;
+use evt_types::{Kind, PackedEvent, Reply};
+use parked_queue::Level;
+use step_log::StepLog;
+
+/// Whether the events have the same operation, queue and priority. These stand side by side in the event word.
+#[inline(always)]
+fn is_like(first: &PackedEvent, event: &PackedEvent) -> bool
+    ensures { IsTrue result → IsLike first.now event.now }
+{
+    let asked = first.word(Kind::Ordered);
+    let word = event.word(Kind::Ordered);
+    (word >> 32) % (1 << 24) == (asked >> 32) % (1 << 24)
+}
+
+/// How many of the replies, from the oldest on, have the operation, queue and priority of this event.
+#[inline(always)]
+fn like(first: &PackedEvent, replies: &[Reply]) -> usize
+    ensures few { result ≤ length replies.now }
+    ensures each { All (λ (r : ReplyValue). IsLike first.now r.event) (take result replies.now) }
+{
+    for (index, reply) in replies.iter().enumerate() {
+        if !is_like(first, &reply.event) {
+            return index;
+        }
+    }
+    replies.len()
+}
+
+impl Core {
+    /// Whether so many new events of the lane may be taken for the queue, as far as there is room for them inside.
+    #[inline(always)]
+    fn may_bring_row(&self, lane: usize, queue: usize, count: usize) -> bool
+        ensures port { IsTrue result → lane < length self.now.shape.ports }
+        ensures queue { IsTrue result → queue < length self.now.shape.queues }
+        ensures unshut { IsTrue result → self.now.shut ≡ false }
+        ensures entries { IsTrue result → entries_of self.now + count ≤ 2 ^ 63 }
+    {
+        !self.shut
+            && lane < self.shape.ports().len()
+            && queue < self.queues.len()
+            && count as u64 <= MAX_ENTRIES - self.entries
+    }
+
+    /// How many of the lane's replies, from the oldest on, are NEWs like this one that may be taken.
+    #[inline(always)]
+    fn news(&self, lane: usize, first: &PackedEvent, replies: &[Reply]) -> usize
+        ensures few { result ≤ length replies.now }
+        ensures row { 0 < result → IsNewRow self.now lane first.now.queue (level_of first.now) (take result replies.now) }
+    {
+        let queue = usize::from(first.queue());
+        if !first.is_new() || !self.may_bring_row(lane, queue, replies.len()) {
+            return 0;
+        }
+        let most = replies.len().min(self.bound - self.inside);
+        like(first, &replies[..most])
+    }
+
+    /// These NEWs wait in their queue, one after the other.
+    #[inline(always)]
+    fn accept_row<L: StepLog>(
+        &mut self,
+        lane: usize,
+        queue: usize,
+        level: Level,
+        replies: &[Reply],
+        log: &mut L,
+    )
+        requires lane { lane < lanes_of self.old.shape }
+        requires some { 0 < length replies.now }
+        requires row { IsNewRow self.old lane queue level.number replies.now }
+        requires room { length replies.now ≤ L.room log.old }
+        ensures may { MayBeTaken self.old (row_of lane replies.now) }
+        ensures view { self.new ≡ after self.old (replies_steps self.old (row_of lane replies.now)) }
+        ensures steps { replies_steps self.old (row_of lane replies.now) ≡ news_steps lane queue replies.now }
+        ensures logged { L.steps log.new ≡ L.steps log.old ++ replies_steps self.old (row_of lane replies.now) }
+        ensures room { L.room log.old ≤ L.room log.new + length replies.now }
+    {
+        let count = replies.len();
+        self.queues.accept_row(queue, level, replies);
+        self.inside += count;
+        self.entries += count as u64;
+        log.push_news(lane, queue, replies);
+    }
+
+    /// Takes the oldest of the lane's replies in a row, as long as they are NEWs for one queue and of one priority that may be taken and
+    /// are accepted: how many. It may take none where `take` would take some.
+    #[inline(always)]
+    pub fn take_news<L: StepLog>(&mut self, lane: usize, replies: &[Reply], log: &mut L) -> usize
+        requires lane { lane < lanes_of self.old.shape }
+        requires room { length replies.now ≤ L.room log.old }
+        ensures few { result ≤ length replies.now }
+        ensures may { MayBeTaken self.old (row_of lane (take result replies.now)) }
+        ensures view { self.new ≡ after self.old (replies_steps self.old (row_of lane (take result replies.now))) }
+        ensures logged { L.steps log.new ≡ L.steps log.old ++ replies_steps self.old (row_of lane (take result replies.now)) }
+        ensures stands { (T : List StepValue) → Stands T self.old → Stands (T ++ replies_steps self.old (row_of lane (take result replies.now))) self.new }
+        ensures accepted { new_count (replies_steps self.old (row_of lane (take result replies.now))) ≡ result }
+        ensures turned { turned_count (replies_steps self.old (row_of lane (take result replies.now))) ≡ 0 }
+        ensures shape { self.new.shape ≡ self.old.shape }
+        ensures kept { kept_in self.new ≡ kept_in self.old }
+        ensures room { L.room log.old ≤ L.room log.new + result }
+    {
+        let Some(first) = replies.first() else {
+            return 0;
+        };
+        let count = self.news(lane, &first.event, replies);
+        if count == 0 {
+            return 0;
+        }
+        let queue = usize::from(first.event.queue());
+        let row = &replies[..count];
+        self.accept_row(lane, queue, Level::of(&first.event), row, log);
+        count
+    }
+}

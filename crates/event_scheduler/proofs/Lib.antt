@@ -6,6 +6,7 @@ pub mod Lanes
 pub mod Looking
 pub mod Passing
 pub mod Replies
+pub mod Rows
 pub mod Serving
 pub mod Silence
 pub mod Starting

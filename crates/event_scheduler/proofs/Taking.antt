@@ -311,7 +311,7 @@ pub run_none : (s : Sight) (l : ℕ) → l < length s.taken → with_taken s l [
 run_none s l within = ap (λ ts. record s { taken = ts }) (ap (set s.taken l) (append-nil (taken_at s l)) ∙ set-get_or s.taken l [])
 
 -- some replies more, and one
-run_more : (s : Sight) (l : ℕ) (xs ys : List Reply) → l < length s.taken → with_taken (with_taken s l xs) l ys ≡ with_taken s l (xs ++ ys)
+pub run_more : (s : Sight) (l : ℕ) (xs ys : List Reply) → l < length s.taken → with_taken (with_taken s l xs) l ys ≡ with_taken s l (xs ++ ys)
 run_more s l xs ys within =
     ap (λ ts. record s { taken = ts })
     (ap (λ zs. set (set s.taken l (taken_at s l ++ xs)) l (zs ++ ys)) (put_here s.taken l (taken_at s l ++ xs) within)

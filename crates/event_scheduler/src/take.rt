@@ -48,9 +48,9 @@ fn take_one<L: StepLog>(
     }
 }
 
-/// Takes these replies of the lane, oldest first, up to the first that may not be taken: how many.
+/// Takes these replies of the lane one by one, oldest first, up to the first that may not be taken: how many.
 #[inline(always)]
-fn take_run<L: StepLog>(
+fn take_each<L: StepLog>(
     core: &mut Core,
     pocket: &mut u64,
     accepted_new: &mut u64,
@@ -75,6 +75,87 @@ fn take_run<L: StepLog>(
         take_one(core, pocket, accepted_new, lane, reply, log);
     }
     replies.len()
+}
+
+/// Takes the oldest of these replies of the lane row by row, as long as rows are taken: how many. None is turned away.
+#[inline(always)]
+fn take_rows<L: StepLog>(
+    core: &mut Core,
+    accepted_new: &mut u64,
+    lane: usize,
+    replies: &[Reply],
+    log: &mut L,
+) -> usize
+    requires lane { lane < lanes_of core.old.shape }
+    requires room { length replies.now ≤ L.room log.old }
+    ensures takes { (s : Sight) (pocket : ℕ) → pocket < 2 ^ 64 → lane < length s.taken → Takes (only lane result) result (with_core s core.old pocket accepted_new.old) (L.steps log.old) (with_core (with_taken s lane (take result replies.now)) core.new pocket accepted_new.new) (L.steps log.new) }
+    ensures few { result ≤ length replies.now }
+    ensures shape { core.new.shape ≡ core.old.shape }
+    ensures kept { kept_in core.new ≡ kept_in core.old }
+    ensures room { L.room log.old ≤ L.room log.new + result }
+{
+    let mut taken = 0;
+    while taken < replies.len() {
+        // To read the count makes known that it is within its range.
+        let count = *accepted_new;
+        let row = core.take_news(lane, &replies[taken..], log);
+        if row == 0 {
+            return taken;
+        }
+        *accepted_new = count.wrapping_add(row as u64);
+        taken += row;
+    }
+    taken
+}
+
+/// The same of several replies: those that come in rows are taken in rows. It stands apart, so that the code by which a single reply is
+/// taken stays small.
+#[inline(never)]
+fn take_many<L: StepLog>(
+    core: &mut Core,
+    pocket: &mut u64,
+    accepted_new: &mut u64,
+    lane: usize,
+    replies: &[Reply],
+    log: &mut L,
+) -> usize
+    requires lane { lane < lanes_of core.old.shape }
+    requires room { kept_in core.old + 2 * length replies.now ≤ L.room log.old }
+    ensures takes { (s : Sight) → lane < length s.taken → Takes (only lane result) result (with_core s core.old pocket.old accepted_new.old) (L.steps log.old) (with_core (with_taken s lane (take result replies.now)) core.new pocket.new accepted_new.new) (L.steps log.new) }
+    ensures few { result ≤ length replies.now }
+    ensures refused { result < length replies.now → (reply : ReplyValue) × (slice_get replies.now result ≡ Some reply) × (may_take core.new lane reply.event ≡ false) }
+    ensures shape { core.new.shape ≡ core.old.shape }
+    ensures room { L.room log.old + kept_in core.new ≤ L.room log.new + kept_in core.old + 2 * result }
+{
+    // To read the count makes known that it is within its range.
+    let _pocket = *pocket;
+    let rows = take_rows(core, accepted_new, lane, replies, log);
+    rows + take_each(core, pocket, accepted_new, lane, &replies[rows..], log)
+}
+
+/// Takes these replies of the lane, oldest first, up to the first that may not be taken: how many.
+#[inline(always)]
+fn take_run<L: StepLog>(
+    core: &mut Core,
+    pocket: &mut u64,
+    accepted_new: &mut u64,
+    lane: usize,
+    replies: &[Reply],
+    log: &mut L,
+) -> usize
+    requires lane { lane < lanes_of core.old.shape }
+    requires room { kept_in core.old + 2 * length replies.now ≤ L.room log.old }
+    ensures takes { (s : Sight) → lane < length s.taken → Takes (only lane result) result (with_core s core.old pocket.old accepted_new.old) (L.steps log.old) (with_core (with_taken s lane (take result replies.now)) core.new pocket.new accepted_new.new) (L.steps log.new) }
+    ensures few { result ≤ length replies.now }
+    ensures refused { result < length replies.now → (reply : ReplyValue) × (slice_get replies.now result ≡ Some reply) × (may_take core.new lane reply.event ≡ false) }
+    ensures shape { core.new.shape ≡ core.old.shape }
+    ensures room { L.room log.old + kept_in core.new ≤ L.room log.new + kept_in core.old + 2 * result }
+{
+    if replies.len() > 1 {
+        take_many(core, pocket, accepted_new, lane, replies, log)
+    } else {
+        take_each(core, pocket, accepted_new, lane, replies, log)
+    }
 }
 
 impl Scheduler {

@@ -5,7 +5,7 @@ use Rattle.event_scheduler.specs.Scheduler.{Sight, taken_at}
 use Rattle.event_scheduler.specs.Taking.{Takes, only, with_core, with_taken}
 use Rattle.event_scheduler.proofs.Taking.{lane_more, run_next, run_none, takes_none, took}
 use Rattle.transcripts.specs.Standing.{kept_in}
-use Rattle.event_scheduler.proofs.take.take_run.Goals as goal
+use Rattle.event_scheduler.proofs.take.take_each.Goals as goal
 
 pub loop-taken-init : goal.loop-taken-init
 loop-taken-init g c = (

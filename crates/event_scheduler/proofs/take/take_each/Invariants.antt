@@ -2,7 +2,7 @@ use Rattle.std.proofs.Common.{◌≡◌, ◌+◌, ◌*◌, ◌≤◌, ◌<◌, l
 use Rattle.event_scheduler.specs.Scheduler.{Sight}
 use Rattle.event_scheduler.specs.Taking.{Takes, only, with_core, with_taken}
 use Rattle.transcripts.specs.Standing.{kept_in}
-use Rattle.event_scheduler.proofs.take.take_run.Given as goal
+use Rattle.event_scheduler.proofs.take.take_each.Given as goal
 
 abbrev pub invariant-loop-taken : goal.invariant-loop-taken
 invariant-loop-taken g l =

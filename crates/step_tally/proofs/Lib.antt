@@ -1,3 +1,4 @@
 pub mod Balance
 pub mod Entries
 pub mod Pushes
+pub mod RowCounts

@@ -4,6 +4,7 @@
 
 mod counts;
 mod laws;
+mod rows;
 mod tables;
 mod tail;
 mod tally;

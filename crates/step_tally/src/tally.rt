@@ -4,8 +4,9 @@ ghost use Rattle.std.specs.Prelude.{[], IfOk};
 ghost use Rattle.step_tally.specs.Tables.{AreTables};
 
 use crate::counts::{LaneCounts, QueueCounts};
+use crate::rows::{count_news_at_lane, count_news_at_queue, count_releases};
 use crate::tables::{QueueRow, count_at_lane, count_at_queue};
-use evt_types::{MAX_LANES, MAX_PORTS, MAX_QUEUES, Step};
+use evt_types::{MAX_LANES, MAX_PORTS, MAX_QUEUES, Reply, Step};
 use std::alloc::{AllocFailed, Global};
 use std::marker::Model;
 use step_log::{Memory, StepLog};
@@ -115,6 +116,19 @@ impl<L: StepLog> StepLog for Tally<L> {
         count_at_queue(&mut self.queues, &self.log, &step);
         count_at_lane(&mut self.lanes, &self.log, &step);
         self.log.push_step(step);
+    }
+
+    #[inline(always)]
+    fn push_news(&mut self, lane: usize, queue: usize, replies: &[Reply]) {
+        self.log.push_news(lane, queue, replies);
+        count_news_at_queue(&mut self.queues, &self.log, lane, queue, replies);
+        count_news_at_lane(&mut self.lanes, &self.log, lane, queue, replies);
+    }
+
+    #[inline(always)]
+    fn push_releases(&mut self, lane: usize, count: usize) {
+        self.log.push_releases(lane, count);
+        count_releases(&mut self.lanes, &self.log, lane, count);
     }
 
     fn make_room(&mut self, count: usize) -> Result<(), Memory> {

@@ -1,3 +1,4 @@
+pub mod BookRows
 pub mod Accounts
 pub mod Credits
 pub mod Devices

@@ -5,7 +5,7 @@ ghost use Rattle.std.proofs.Common.{rules};
 ghost use Rattle.event_device.specs.Listed.{turned_all};
 
 use event_answers::Turned;
-use evt_types::Step;
+use evt_types::{Reply, Step};
 use std::alloc::Global;
 use step_log::{Memory, StepLog};
 
@@ -53,6 +53,16 @@ impl<L: StepLog> StepLog for Books<L> {
             self.turned.push_reserved(Turned { lane, event });
         }
         self.log.push_step(step);
+    }
+
+    #[inline(always)]
+    fn push_news(&mut self, lane: usize, queue: usize, replies: &[Reply]) {
+        self.log.push_news(lane, queue, replies);
+    }
+
+    #[inline(always)]
+    fn push_releases(&mut self, lane: usize, count: usize) {
+        self.log.push_releases(lane, count);
     }
 
     fn make_room(&mut self, count: usize) -> Result<(), Memory> {

@@ -9,6 +9,7 @@ pub mod Kept
 pub mod Oldest
 pub mod Places
 pub mod Rings
+pub mod Unpinning
 pub mod Roomy
 pub mod Rows
 pub mod ShownLists

@@ -1,5 +1,5 @@
 -- What stands in a ring: before and after an entry is put behind the last one, and before and after the first one is taken.
-use Rattle.std.proofs.Common.{◌≡◌, ℕ, ◌+◌, ◌-◌, ◌%◌, ◌^◌, ◌<◌, ◌≤◌, ◌⊎◌, List, [], ◌∷◌, ◌++◌, length, get_or, set, refl, sym, subst, ap, ap₂, ◌∙◌, inl, inr, mod-eq_of_lt, arith, length-append, length-drop, length-set, length-take-le, get_or-drop, get_or-take}
+use Rattle.std.proofs.Common.{◌≡◌, ℕ, ◌+◌, ◌-◌, ◌%◌, ◌^◌, ◌<◌, ◌≤◌, ◌⊎◌, List, [], ◌∷◌, ◌++◌, length, get_or, set, refl, sym, subst, ap, ap₂, drop, ◌∙◌, inl, inr, mod-eq_of_lt, arith, length-append, length-drop, length-set, length-take-le, get_or-drop, get_or-take}
 use Rattle.std.specs.Prelude.{bit_and}
 use Rattle.std.specs.Int.{IsPowerOfTwo}
 use Rattle.std.specs.Vec.{with_item}
@@ -77,6 +77,21 @@ module _ {X : Type 0} (size k n : ℕ) (xs : List X) (within : k < size) (fits :
         get_or-window size _ (n - 1) xs next_within (omega arith) length_xs i e,
       )))
 
+  pub window_dropped : (c : ℕ) → c ≤ n → drop c (window k n xs) ≡ window ((k + c) % size) (n - c) xs
+  window_dropped c few =
+      let next_within : (k + c) % size < size = mod_below (k + c) size (omega arith) in
+      let length_old = length-window size k n xs within fits length_xs in
+      let length_new = length-window size ((k + c) % size) (n - c) xs next_within (omega arith) length_xs in
+      let old_entry = get_or-window size k n xs within fits length_xs in
+      same_lists _ _ (simp length-drop (omega arith)) (λ i e in_range. grind (
+        arith,
+        length-drop c (window k n xs),
+        get_or-drop c (window k n xs) i e,
+        mod-add-mod (k + c) size i,
+        old_entry (c + i) e,
+        get_or-window size _ (n - c) xs next_within (omega arith) length_xs i e,
+      ))
+
 -- ---- a history's ring
 
 module _ (a : Inside) (ring : IsRing a) where
@@ -119,3 +134,8 @@ module _ (a : Inside) (ring : IsRing a) where
         few = omega (arith, room);
         room = omega (arith, ring.room, size);
       }
+
+  pub fewer_held : (c : ℕ) → c ≤ a.len → drop c (held a) ≡ window (bit_and (a.first + c) a.mask) (a.len - c) a.ring.items
+  fewer_held c few =
+      let place = masked (a.first + c) a.mask (length a.ring.items) ring.power ring.mask in
+      window_dropped (length a.ring.items) a.first a.len a.ring.items ring.first all_fit refl c few ∙ ap (λ k. window k (a.len - c) a.ring.items) (sym place)

@@ -41,6 +41,14 @@ one_left old new within some is =
     let capacity : new.capacity ≡ old.capacity = ap (λ (l : Entries). l.capacity) is in
     omega (arith, left, held, capacity, within, some)
 
+-- the same where some leave
+pub some_left : (old new : Entries) (n : ℕ) → length old.entries ≤ old.capacity → 0 < n → n ≤ length old.entries → new ≡ entries_of (drop n old.entries) old.capacity → length new.entries < new.capacity
+some_left old new n within some held is =
+    let left = length-drop n old.entries in
+    let now : length new.entries ≡ length (drop n old.entries) = ap (λ (l : Entries). length l.entries) is in
+    let capacity : new.capacity ≡ old.capacity = ap (λ (l : Entries). l.capacity) is in
+    omega (arith, left, now, capacity, within, some, held)
+
 -- the history of a lane
 pub lane_is : (ls : List Entries) (l : ℕ) → l < length ls → lane_in ls l ≡ get_or ls l (lane_in ls l)
 lane_is ls l h = get_or_default ls l (entries_of [] 0) (lane_in ls l) h

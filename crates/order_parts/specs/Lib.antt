@@ -7,3 +7,4 @@ pub mod QueuePins
 pub mod Reorder
 pub mod Ring
 pub mod Rows
+pub mod Unpinned

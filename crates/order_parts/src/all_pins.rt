@@ -1,11 +1,16 @@
 //! Which lane holds each slot of each queue.
 
-ghost use Rattle.std.specs.Prelude.{◌≡◌, ℕ, ◌<◌, ◌↔◌, count_by, length, IfOk, IsTrue};
+ghost use Rattle.std.specs.Prelude.{◌≡◌, ◌≢◌, ℕ, ◌<◌, ◌≤◌, ◌↔◌, count_by, length, slice_get, slice_set, take, All, Some, IfOk, IsTrue};
 ghost use Rattle.evt_types.specs.Plan.{atomic_slots};
 ghost use Rattle.order_parts.specs.Pins.{IsOn, holder_of, is_on, may_pin, pinned, unpinned};
+ghost use Rattle.order_parts.specs.Histories.{lane_in};
+ghost use Rattle.order_parts.specs.Unpinned.{AreHeldInTurn, IsOfQueue, without_entries};
+ghost use Rattle.order_parts.specs.declared.history.Entry.{Entry as EntryValue};
 ghost use Rattle.small_set.specs.SmallSets.{Has};
 ghost use Rattle.order_parts.specs.QueuePins.{AreFreePins, pins_at, pin_in, with_pin};
 
+use crate::histories::Histories;
+use crate::history::History;
 use crate::pins::Pins;
 use evt_types::{MAX_DEPTH, Memory, QueueDraft, Shape};
 use small_set::SmallSet;
@@ -37,6 +42,28 @@ fn slots_of(queue: &QueueDraft) -> usize
     } else {
         0
     }
+}
+
+/// The slots of the oldest entries have an event fewer each, as far as these are of the queue and no more than so many: how many.
+#[inline(always)]
+fn unpin_entries(pins: &mut Pins, queue: usize, history: &History, most: usize) -> usize
+    requires most { most ≤ length history.now.entries }
+    requires held { AreHeldInTurn queue pins.old history.now.entries }
+    ensures few { result ≤ most }
+    ensures each { All (IsOfQueue queue) (take result history.now.entries) }
+    ensures last { result < most → (y : EntryValue) × (slice_get history.now.entries result ≡ Some y) × (y.queue ≢ queue) }
+    ensures value { pins.new ≡ without_entries pins.old (take result history.now.entries) }
+{
+    for index in 0..most {
+        let entry = history.entry(index);
+        if entry.queue != queue {
+            return index;
+        }
+        if entry.slot < pins.slots() {
+            pins.unpin(entry.slot);
+        }
+    }
+    most
 }
 
 impl AllPins {
@@ -107,6 +134,27 @@ impl AllPins {
         if slot < pins.slots() {
             pins.pin(slot, lane);
         }
+    }
+
+    /// The lane's oldest events were answered, as far as they are of the queue and no more than so many: how many.
+    #[inline(always)]
+    pub fn unpin_oldest(
+        &mut self,
+        queue: usize,
+        lanes: &Histories,
+        lane: usize,
+        most: usize,
+    ) -> usize
+        requires there { queue < length self.old }
+        requires lane { lane < length lanes.now }
+        requires most { most ≤ length (lane_in lanes.now lane).entries }
+        requires held { AreHeldInTurn queue (pins_at self.old queue) (lane_in lanes.now lane).entries }
+        ensures few { result ≤ most }
+        ensures each { All (IsOfQueue queue) (take result (lane_in lanes.now lane).entries) }
+        ensures last { result < most → (y : EntryValue) × (slice_get (lane_in lanes.now lane).entries result ≡ Some y) × (y.queue ≢ queue) }
+        ensures value { self.new ≡ slice_set self.old queue (without_entries (pins_at self.old queue) (take result (lane_in lanes.now lane).entries)) }
+    {
+        unpin_entries(&mut self.queues[queue], queue, &lanes.lanes[lane], most)
     }
 
     /// One event of the slot was answered. The slot is free once all of them were.

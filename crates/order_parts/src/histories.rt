@@ -1,6 +1,6 @@
 //! The unanswered events of all lanes.
 
-ghost use Rattle.std.specs.Prelude.{◌≡◌, ◌+◌, ◌<◌, ◌==◌, ◌∷◌, ◌++◌, [], count_by, length, drop, slice_get, slice_set, Some, IfOk, IsTrue, IsFalse};
+ghost use Rattle.std.specs.Prelude.{◌≡◌, ◌+◌, ◌<◌, ◌≤◌, ◌==◌, ◌∷◌, ◌++◌, [], count_by, length, drop, slice_get, slice_set, Some, IfOk, IsTrue, IsFalse};
 ghost use Rattle.evt_types.specs.Plan.{lanes_of};
 ghost use Rattle.order_parts.specs.History.{entries_of};
 ghost use Rattle.order_parts.specs.declared.history.Entry.{Entry as EntryValue};
@@ -16,7 +16,7 @@ use std::marker::Model;
 /// The history of each lane, and a word of the lanes that have room, so that the lanes with room are asked for at once.
 #[derive(Drop)]
 pub struct Histories {
-    lanes: Vec<History>,
+    pub(crate) lanes: Vec<History>,
     /// Of the first lanes those that have room. The ports' lanes are among them.
     roomy: SmallSet,
 }
@@ -151,6 +151,21 @@ impl Histories {
         ensures { slice_get (lane_in self.now lane).entries 0 ≡ Some result }
     {
         self.lanes[lane].oldest().unwrap()
+    }
+
+    /// Takes out so many of the lane's oldest events, one at least.
+    #[inline(always)]
+    pub fn drop_oldest(&mut self, lane: usize, count: usize)
+        requires there { lane < length self.old }
+        requires some { 0 < count }
+        requires held { count ≤ length (lane_in self.old lane).entries }
+        ensures { self.new ≡ slice_set self.old lane (entries_of (drop count (lane_in self.old lane).entries) (lane_in self.old lane).capacity) }
+    {
+        let history = &mut self.lanes[lane];
+        leave(&mut self.roomy, lane, history.is_full());
+        // To ask for the count makes known that no more are held than there is room for.
+        let _ = history.len();
+        history.drop_oldest(count);
     }
 
     /// Takes out the lane's oldest event.

@@ -1,6 +1,6 @@
 //! The events that a lane hasn't answered.
 
-ghost use Rattle.std.specs.Prelude.{◌≡◌, ◌+◌, ◌^◌, ◌<◌, ◌≤◌, ◌==◌, [], ◌∷◌, ◌++◌, count_by, length, drop, slice_get, IfOk};
+ghost use Rattle.std.specs.Prelude.{◌≡◌, ◌+◌, ◌^◌, ◌<◌, ◌≤◌, ◌==◌, [], ◌∷◌, ◌++◌, count_by, length, drop, slice_get, Some, IfOk};
 ghost use Rattle.order_parts.specs.History.{entries_of};
 ghost use Rattle.order_parts.specs.declared.history.Entry.{Entry as EntryValue};
 
@@ -127,6 +127,25 @@ impl History {
         self.first = (self.first + 1) & self.mask;
         self.len -= 1;
         Some(entry)
+    }
+
+    /// The entry at this index, counted from the oldest, where it lies.
+    #[inline(always)]
+    pub(crate) fn entry(&self, index: usize) -> &Entry
+        requires { index < length self.now.entries }
+        ensures { slice_get self.now.entries index ≡ Some result.now }
+    {
+        &self.ring[(self.first + index) & self.mask]
+    }
+
+    /// Takes so many of the oldest entries out.
+    #[inline(always)]
+    pub(crate) fn drop_oldest(&mut self, count: usize)
+        requires { count ≤ length self.old.entries }
+        ensures { self.new ≡ entries_of (drop count self.old.entries) self.old.capacity }
+    {
+        self.first = (self.first + count) & self.mask;
+        self.len -= count;
     }
 
     /// How many of the entries are of the queue.

@@ -7,12 +7,14 @@ use Rattle.evt_types.specs.Plan.{level_of}
 use Rattle.evt_types.specs.declared.event.Event.{Event}
 use Rattle.evt_types.specs.declared.event.Numbered.{Numbered}
 use Rattle.small_set.specs.SmallSets.{Has}
+use Rattle.parked_queue.specs.Heads.{AreHeads}
 use Rattle.parked_queue.specs.Lists.{Lists, list_at, total_of, with_last}
 use Rattle.parked_queue.specs.Marks.{Kept, marks_at}
 use Rattle.parked_queue.specs.Merge.{lists_of}
 use Rattle.parked_queue.specs.Parted.{Parted, below_at, list_in, list_of, list_count, with_waits}
 use Rattle.parked_queue.specs.Waits.{Waits, AreWaits, slot_of, with_event}
 use Rattle.parked_queue.proofs.Merges.{by_number_length, lists_with}
+use Rattle.parked_queue.proofs.Noting.{heads_own}
 use Rattle.parked_queue.proofs.Holding.{Holds, view_held, list_held, list_if_not}
 
 -- as many wait as the lists have
@@ -70,4 +72,7 @@ module _ (a : Kept) (v : Parted) (e : Event) (l : Lists) (h : Holds a v) (lt : l
               marked = All-push (λ (u : Numbered). u.number < below_at v.below (level_of u.event) → Has (marks_at a.parked (level_of u.event)) (slot_of v.waits.slots u)) v.waits.waiting w h.marks.marked (λ parked. let b = h.bounds (level_of e) in absurd (omega arith));
               there = h.marks.there;
             };
+        heads =
+            subst (λ (m : Lists). AreHeads m a.slots a.heads) (sym is)
+            (heads_own a.lists a.slots a.heads h.heads (level_of e) (list_at a.lists (level_of e) ++ record { number = a.next; event = e } ∷ []) lt);
       }

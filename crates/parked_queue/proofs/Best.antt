@@ -1,5 +1,5 @@
 -- The oldest parked event of a level whose slot is allowed.
-use Rattle.std.proofs.Common.{◌≡◌, ◌≢◌, ℕ, ◌<◌, ◌≤◌, Bool, true, false, List, set, get_or, All, Option, Some, None, IfSome, IfNone, slice_get, ◌⊎◌, ⊎_elim, inl, inr, refl, sym, ap, ◌∙◌, subst, arith, eq-eqb}
+use Rattle.std.proofs.Common.{◌≡◌, ◌≢◌, ℕ, ◌<◌, ◌≤◌, Bool, true, false, List, set, get_or, All, Option, Some, None, slice_get, ⊎_elim, refl, sym, ap, ◌∙◌, subst, arith, eq-eqb}
 use Rattle.std.specs.Prelude.{Contains}
 use Rattle.std.proofs.lemmas.Bool.{cases_eq, cases_lt, false≢true}
 use Rattle.std.proofs.lemmas.List.{length-set, get_or-set_same, get_or-set_other}
@@ -7,15 +7,16 @@ use Rattle.std.proofs.lemmas.List.Elements.{All-contains}
 use Rattle.lists.proofs.Lists.{eqb_is}
 use Rattle.evt_types.specs.Plan.{level_of}
 use Rattle.evt_types.specs.declared.event.Numbered.{Numbered}
-use Rattle.small_set.specs.SmallSets.{Has, IsEmpty, SameBut}
+use Rattle.small_set.specs.SmallSets.{Has, SameBut}
 use Rattle.small_set.specs.declared.set.SmallSet.{SmallSet}
+use Rattle.parked_queue.specs.Heads.{HasNoHead, IsFirstSlot, number_at, number_of}
 use Rattle.parked_queue.specs.Marks.{Kept, marks_at}
 use Rattle.parked_queue.specs.Merge.{is_in}
-use Rattle.parked_queue.specs.Parted.{Parted, HasMarks, HasNoneParked, IsBest, IsFirstParked, IsNoLater, IsParkedAllowed, below_at, list_in, list_of_slot, list_of}
+use Rattle.parked_queue.specs.Parted.{Parted, HasMarks, HasNoneParked, IsFirstParked, IsParkedAllowed, below_at, list_in, list_of_slot, list_of}
 use Rattle.parked_queue.specs.Waits.{AreWaits, slot_of}
 use Rattle.std.specs.Option.{is_some}
 use Rattle.parked_queue.specs.Lists.{list_at}
-use Rattle.parked_queue.proofs.Holding.{Holds, list_held, list_if_not, list_if_parked}
+use Rattle.parked_queue.proofs.Holding.{Holds, list_held, list_if_not, list_if_parked, slot_within}
 use Rattle.parked_queue.proofs.Splits.{Split, first_least, first_split, first_there, none_first}
 
 -- what it says of an event to be in the list of a slot's parked events
@@ -38,7 +39,7 @@ module _ (v : Parted) (c s : ℕ) (waits : AreWaits v.waits) (lt : c < 4) where
   test = is_in (list_of v.waits.slots v.below) (list_of_slot s c)
 
   -- nothing is parked there
-  pub none_aside : slice_get (list_in v (list_of_slot s c)) 0 ≡ None → All (λ (u : Numbered). level_of u.event ≡ c → u.number < below_at v.below c → slot_of v.waits.slots u ≢ s) v.waits.waiting
+  none_aside : slice_get (list_in v (list_of_slot s c)) 0 ≡ None → All (λ (u : Numbered). level_of u.event ≡ c → u.number < below_at v.below c → slot_of v.waits.slots u ≢ s) v.waits.waiting
   none_aside e k d h =
       let u : Numbered = get_or v.waits.waiting k d in
       λ here lower slot. false≢true (sym (none_first test v.waits.waiting e k d h) ∙ is_aside v.waits.slots v.below c s u here slot lower)
@@ -53,39 +54,64 @@ module _ (v : Parted) (c s : ℕ) (waits : AreWaits v.waits) (lt : c < 4) where
     head_waits : Contains v.waits.waiting w
     head_waits = first_there test v.waits.waiting w aside
 
-    pub head_there : (allowed : SmallSet) → Has allowed s → IsParkedAllowed v c allowed w
+    pub slot_of_head : s ≡ slot_of v.waits.slots w
+    slot_of_head = sym of_head.1
+
+    head_there : (allowed : SmallSet) → Has allowed s → IsParkedAllowed v c allowed w
     head_there allowed has = record { waits = head_waits; level = of_head.0; slot = subst (Has allowed) (sym of_head.1) has; parked = of_head.2 }
 
-    pub head_least : All (λ (u : Numbered). level_of u.event ≡ c → u.number < below_at v.below c → slot_of v.waits.slots u ≡ s → w.number ≤ u.number) v.waits.waiting
+    head_least : All (λ (u : Numbered). level_of u.event ≡ c → u.number < below_at v.below c → slot_of v.waits.slots u ≡ s → w.number ≤ u.number) v.waits.waiting
     head_least k d h =
         let u : Numbered = get_or v.waits.waiting k d in
         λ here lower slot. first_least test v.waits.waiting w aside k d h (is_aside v.waits.slots v.below c s u here slot lower)
 
--- ---- the walk over the slots
+-- ---- the slot whose first event has the lowest number
 
-module _ (v : Parted) (c : ℕ) (allowed : SmallSet) where
-  -- nothing is looked at yet
-  pub best_none : IsBest v c allowed allowed None
-  best_none k d h here lower may left = left may
-
-  -- the slot has no parked event
-  pub best_kept : (s : ℕ) (left less : SmallSet) (best : Option Numbered) → AreWaits v.waits → c < 4 → slice_get (list_in v (list_of_slot s c)) 0 ≡ None → SameBut s left less → IsBest v c allowed left best → IsBest v c allowed less best
-  best_kept s left less best waits lt none but old k d h =
+module _ (v : Parted) (c : ℕ) (row : List ℕ) (waits : AreWaits v.waits) (lt : c < 4) (are : (s : ℕ) → s < v.waits.slots → number_at row s ≡ number_of (slice_get (list_in v (list_of_slot s c)) 0)) where
+  -- the number of a slot is no later than its parked events
+  row_least : All (λ (u : Numbered). level_of u.event ≡ c → u.number < below_at v.below c → number_at row (slot_of v.waits.slots u) ≤ u.number) v.waits.waiting
+  row_least k d h =
       let u : Numbered = get_or v.waits.waiting k d in
-      λ here lower may gone. old k d h here lower may (λ has. gone ((but (slot_of v.waits.slots u) (none_aside v c s waits lt none k d h here lower)).1 has))
+      let s : ℕ = slot_of v.waits.slots u in
+      λ here lower. by (slice_get (list_in v (list_of_slot s c)) 0) refl here lower (are s (slot_within v.waits.slots u waits.some))
+    where
+      by : (o : Option Numbered) → slice_get (list_in v (list_of_slot (slot_of v.waits.slots (get_or v.waits.waiting k d)) c)) 0 ≡ o → level_of (get_or v.waits.waiting k d).event ≡ c → (get_or v.waits.waiting k d).number < below_at v.below c
+          → number_at row (slot_of v.waits.slots (get_or v.waits.waiting k d)) ≡ number_of (slice_get (list_in v (list_of_slot (slot_of v.waits.slots (get_or v.waits.waiting k d)) c)) 0)
+          → number_at row (slot_of v.waits.slots (get_or v.waits.waiting k d)) ≤ (get_or v.waits.waiting k d).number
+      by None e here lower same = absurd (none_aside v c (slot_of v.waits.slots (get_or v.waits.waiting k d)) waits lt e k d h here lower refl)
+      by (Some w) e here lower same =
+          let number = same ∙ ap number_of e in
+          let least = head_least v c (slot_of v.waits.slots (get_or v.waits.waiting k d)) waits lt w e k d h here lower refl in
+          omega arith
 
-  -- the older one of the best and the slot's first
-  pub best_older : (s : ℕ) (left less : SmallSet) (best : Option Numbered) (w r : Numbered) → AreWaits v.waits → c < 4 → slice_get (list_in v (list_of_slot s c)) 0 ≡ Some w → SameBut s left less
-      → ((n : ℕ) → IsNoLater best n ⊎ (w.number ≤ n) → r.number ≤ n) → IsBest v c allowed left best → IsBest v c allowed less (Some r)
-  best_older s left less best w r waits lt head but older old k d h =
-      let u : Numbered = get_or v.waits.waiting k d in
-      λ here lower may gone. ⊎_elim
-      (λ this. older u.number (inr (head_least v c s waits lt w head k d h here lower this)))
-      (λ other. older u.number (inl (old k d h here lower may (λ has. gone ((but (slot_of v.waits.slots u) other).1 has)))))
-      (cases_eq (slot_of v.waits.slots u) s)
+  module _ (marked : SmallSet) where
+    pub first_numbered : (s : ℕ) → s < v.waits.slots → IsFirstSlot row marked s → (w : Numbered) → slice_get (list_in v (list_of_slot s c)) 0 ≡ Some w → IsFirstParked v c marked w
+    first_numbered s less is w e =
+        let number = are s less ∙ ap number_of e in
+        record {
+          one = head_there v c s waits lt w e marked is.there;
+          first =
+              λ k d h.
+              let u : Numbered = get_or v.waits.waiting k d in
+              λ here lower may.
+              let first = is.first (slot_of v.waits.slots u) may in
+              let least = row_least k d h here lower in
+              omega arith;
+        }
 
-  pub one_older : (s : ℕ) (best : Option Numbered) (w r : Numbered) → AreWaits v.waits → c < 4 → slice_get (list_in v (list_of_slot s c)) 0 ≡ Some w → Has allowed s → (best ≡ Some r) ⊎ (r ≡ w) → IfSome best (IsParkedAllowed v c allowed) → IsParkedAllowed v c allowed r
-  one_older s best w r waits lt head has one old = ⊎_elim (λ e. subst (λ o. IfSome o (IsParkedAllowed v c allowed)) e old) (λ e. subst (IsParkedAllowed v c allowed) (sym e) (head_there v c s waits lt w head allowed has)) one
+    -- it has an event
+    pub some_numbered : (s : ℕ) → s < v.waits.slots → IsFirstSlot row marked s → slice_get (list_in v (list_of_slot s c)) 0 ≢ None
+    some_numbered s less is e = let number = are s less ∙ ap number_of e in let some = is.some in omega arith
+
+    pub none_numbered : HasNoHead row marked → HasNoneParked v c marked
+    none_numbered none k d h =
+        let u : Numbered = get_or v.waits.waiting k d in
+        λ here lower may.
+        let least = row_least k d h here lower in
+        let high = none (slot_of v.waits.slots u) may in
+        let below = waits.below k d h in
+        let fits = waits.fits in
+        omega arith
 
 -- ---- a mark goes
 
@@ -128,6 +154,7 @@ module _ (a : Kept) (v : Parted) (c s : ℕ) (p : SmallSet) (h : Holds a v) (lt 
         four = h.four;
         levels = length-set a.parked c p ∙ h.levels;
         marks = record { marked = λ k d l. marked_after (get_or v.waits.waiting k d) (none_aside v c s h.waits lt none k d l) (h.marks.marked k d l); there = there_after };
+        heads = h.heads;
       }
 
 -- ---- what stands first in the list of a slot's parked events
@@ -152,18 +179,3 @@ marks_held a v c h =
           λ here lower. subst (λ n. Has (marks_at a.parked n) (slot_of v.waits.slots u)) here (h.marks.marked k d l (subst (λ n. u.number < below_at v.below n) (sym here) lower));
       there = h.marks.there c;
     }
-
--- ---- when each slot is looked at
-
--- what holds of each member but the one that is taken out of a set
-pub still_there : (Q : ℕ → Type 0) (s : ℕ) (left less : SmallSet) → SameBut s left less → ¬ Has less s → ((k : ℕ) → Has left k → Q k) → (k : ℕ) → Has less k → Q k
-still_there Q s left less but gone all k has = all k ((but k (λ e. gone (subst (Has less) e has))).0 has)
-
-module _ (v : Parted) (c : ℕ) (allowed left : SmallSet) (empty : IsEmpty left) where
-  pub is_first : (best : Option Numbered) → IfSome best (IsParkedAllowed v c allowed) → IsBest v c allowed left best → IfSome best (IsFirstParked v c allowed)
-  is_first None one best = tt
-  is_first (Some w) one best = record { one = one; first = λ k d h. (λ here lower may. best k d h here lower may (empty (slot_of v.waits.slots (get_or v.waits.waiting k d)))) }
-
-  pub has_none : (best : Option Numbered) → IsBest v c allowed left best → IfNone best (HasNoneParked v c allowed)
-  has_none None best = λ k d h. (λ here lower may. best k d h here lower may (empty (slot_of v.waits.slots (get_or v.waits.waiting k d))))
-  has_none (Some w) best = tt

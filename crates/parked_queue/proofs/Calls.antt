@@ -1,24 +1,26 @@
 -- What a call makes of one queue.
-use Rattle.std.proofs.Common.{◌≡◌, ℕ, ◌+◌, ◌-◌, ◌^◌, ◌<◌, ◌≤◌, true, false, [], ◌∷◌, ◌++◌, drop, length, set, filter, Option, Some, None, slice_get, refl, sym, ap, ◌∙◌, subst, arith}
+use Rattle.std.proofs.Common.{◌≡◌, ◌≢◌, ℕ, ◌+◌, ◌-◌, ◌^◌, ◌<◌, ◌≤◌, true, false, List, [], ◌∷◌, ◌++◌, nat_lt, drop, length, set, get_or, filter, Option, Some, None, slice_get, ◌⊎◌, inl, inr, refl, sym, ap, ◌∙◌, subst, arith}
 use Rattle.std.specs.Option.{is_some}
-use Rattle.std.proofs.lemmas.Bool.{false≢true}
-use Rattle.std.proofs.lemmas.List.{length_push}
+use Rattle.std.proofs.lemmas.Bool.{cond_both, false≢true}
+use Rattle.std.proofs.lemmas.List.{get_or_default, length_push}
 use Rattle.std.proofs.lemmas.List.Kept.{AllPairs-filter}
 use Rattle.evt_types.specs.Plan.{level_of}
 use Rattle.evt_types.specs.declared.event.Event.{Event}
 use Rattle.evt_types.specs.declared.event.Numbered.{Numbered}
 use Rattle.small_set.specs.SmallSets.{Has, SameBut}
 use Rattle.small_set.specs.declared.set.SmallSet.{SmallSet}
+use Rattle.parked_queue.specs.Heads.{AreHeads, HasNoHead, IsFirstSlot, number_at, number_of, row_at}
 use Rattle.parked_queue.specs.Lists.{Lists, has_number, list_at, total_of, with_last, with_list, without_first}
 use Rattle.parked_queue.specs.Marks.{IsMasked, marks_at}
 use Rattle.parked_queue.specs.Merge.{is_in}
 use Rattle.parked_queue.specs.Parkings.{IsBut, IsChanged, IsParted, kept, parted_by, segment, waits_by}
-use Rattle.parked_queue.specs.Parted.{HasMarks, Parted, list_in, own_first, list_of_slot, list_of_number, list_of, list_count, with_below, with_waits}
-use Rattle.parked_queue.specs.Waits.{IsOnlyOf, IsRising, is_other, slot_of, with_event, without_number}
+use Rattle.parked_queue.specs.Parted.{HasMarks, HasNoneParked, IsFirstParked, Parted, below_at, list_in, own_first, list_of_slot, list_of_number, list_of, list_count, with_below, with_waits}
+use Rattle.parked_queue.specs.Waits.{IsOnlyOf, IsRising, Waits, is_other, slot_of, with_event, without_number}
 use Rattle.parked_queue.specs.declared.parking.Parking.{Parking}
 use Rattle.parked_queue.proofs.Accepting.{accepted_held, total_held}
-use Rattle.parked_queue.proofs.Best.{mark_gone, marks_held}
+use Rattle.parked_queue.proofs.Best.{first_numbered, mark_gone, marks_held, none_numbered, slot_of_head, some_numbered}
 use Rattle.parked_queue.proofs.Holding.{Holds, held, holds_held, list_held, slot_within, view_held}
+use Rattle.parked_queue.proofs.Noting.{heads_noted}
 use Rattle.parked_queue.proofs.Parks.{level_of_own, number_fits, set_aside}
 use Rattle.parked_queue.proofs.Segments.{but_none, but_one, but_then, segment_at, segment_first, segment_last, segment_length, segment_with}
 use Rattle.parked_queue.proofs.Taking.{head_held, list_of_number_within, taken_held}
@@ -32,6 +34,17 @@ changed_then l m k p x y first then =
       base = then.base ∙ first.base;
       slots = then.slots ∙ first.slots;
       but = but_then p.base (list_count p.slots) l m k first.but (subst (λ b. IsBut b (list_count p.slots) m k) first.base (subst (λ s. IsBut x.base (list_count s) m k) first.slots then.but));
+      waits = then.waits ∙ first.waits;
+    }
+
+-- a change after one that changed what waits
+pub changed_last : (l m : Lists) (p x y : Parking) (w : Waits) → IsChanged l p m x w → IsChanged m x m y (waits_by m x) → IsChanged l p m y w
+changed_last l m p x y w first then =
+    record {
+      part = then.part;
+      base = then.base ∙ first.base;
+      slots = then.slots ∙ first.slots;
+      but = but_then p.base (list_count p.slots) l m m first.but (subst (λ b. IsBut b (list_count p.slots) m m) first.base (subst (λ s. IsBut x.base (list_count s) m m) first.slots then.but));
       waits = then.waits ∙ first.waits;
     }
 
@@ -102,6 +115,20 @@ module _ (l : Lists) (p : Parking) (is : IsParted l p) where
   pub list_is : (k : ℕ) → k < n → list_at l (p.base + k) ≡ list_in v k
   list_is k less = sym (segment_at l p.base n k less) ∙ list_held (kept l p) v k holds less
 
+  -- the row of a level, as it is when a number of it is noted
+  pub noted_row : (c slot i j : ℕ) (d row : List ℕ) → c < 4 → row ≡ set (get_or p.heads c d) slot i → i ≡ j → row ≡ set (row_at p.heads c) slot j
+  noted_row c slot i j d row level e same =
+      e
+      ∙ (ap (λ r. set r slot i) (get_or_default p.heads c d [] (let four = is.parking.heads.four in omega arith)) ∙ ap (set (row_at p.heads c) slot) same)
+
+  -- the number that is noted, as the queue's own lists have it
+  noted_here : (m : Lists) (c slot k : ℕ) (row : List ℕ) → k < n → k ≡ list_of_slot slot c → row ≡ set (row_at p.heads c) slot (number_of (slice_get (list_at m (p.base + k)) 0))
+      → row ≡ set (row_at p.heads c) slot (number_of (slice_get (list_at (segment m p.base n) (list_of_slot slot c)) 0))
+  noted_here m c slot k row within list noted =
+      noted
+      ∙ (ap (λ us. set (row_at p.heads c) slot (number_of (slice_get us 0))) (sym (segment_at m p.base n k within))
+      ∙ ap (λ i. set (row_at p.heads c) slot (number_of (slice_get (list_at (segment m p.base n) i) 0))) list)
+
   -- what stands first in a list
   pub first_is : (k j : ℕ) → j < n → k ≡ j → (o : Option Numbered) → o ≡ slice_get (list_at l (p.base + k)) 0 → o ≡ slice_get (list_in v j) 0
   first_is k j less list o e = e ∙ (ap (λ i. slice_get (list_at l (p.base + i)) 0) list ∙ ap (λ us. slice_get us 0) (list_is j less))
@@ -112,6 +139,37 @@ module _ (l : Lists) (p : Parking) (is : IsParted l p) where
   -- the slots of a level that are marked
   pub marks_are : (c : ℕ) → HasMarks v c (marks_at p.parked c)
   marks_are c = marks_held (kept l p) v c holds
+
+  -- ---- the first events that are set aside
+
+  -- the row of a level, as it is read
+  pub row_long : (c k : ℕ) (d : List ℕ) → c < 4 → k < p.slots → k < length (get_or p.heads c d)
+  row_long c k d level less =
+      let long = is.parking.heads.long c level in
+      subst (λ r. k < length r) (sym (get_or_default p.heads c d [] (let four = is.parking.heads.four in omega arith))) (omega arith)
+
+  row_is : (c s : ℕ) → c < 4 → s < p.slots → number_at (row_at p.heads c) s ≡ number_of (slice_get (list_in v (list_of_slot s c)) 0)
+  row_is c s level less = is.parking.heads.first c s level less ∙ ap (λ us. number_of (slice_get us 0)) (list_held (kept l p) v (list_of_slot s c) holds (slot_list c s (list_of_slot s c) level less refl))
+
+  module _ (c : ℕ) (d : List ℕ) (marked : SmallSet) (level : c < 4) where
+    as_row : get_or p.heads c d ≡ row_at p.heads c
+    as_row = get_or_default p.heads c d [] (let four = is.parking.heads.four in omega arith)
+
+    pub none_aside_of : HasNoHead (get_or p.heads c d) marked → HasNoneParked v c marked
+    none_aside_of none = none_numbered v c (row_at p.heads c) is.parking.waits level (λ s less. row_is c s level less) marked (subst (λ r. HasNoHead r marked) as_row none)
+
+    module _ (s k : ℕ) (o : Option Numbered) (less : s < p.slots) (first : IsFirstSlot (get_or p.heads c d) marked s) (list : k ≡ list_of_slot s c) (read : o ≡ slice_get (list_at l (p.base + k)) 0) where
+      as_first : o ≡ slice_get (list_in v (list_of_slot s c)) 0
+      as_first = first_is k (list_of_slot s c) (slot_list c s (list_of_slot s c) level less refl) list o read
+
+      pub first_aside_of : (w : Numbered) → o ≡ Some w → IsFirstParked v c marked w
+      first_aside_of w e = first_numbered v c (row_at p.heads c) is.parking.waits level (λ t lower. row_is c t level lower) marked s less (subst (λ r. IsFirstSlot r marked s) as_row first) w (sym as_first ∙ e)
+
+      pub slot_aside_of : (w : Numbered) → o ≡ Some w → s ≡ slot_of p.slots w
+      slot_aside_of w e = slot_of_head v c s is.parking.waits level w (sym as_first ∙ e)
+
+      pub some_aside_of : o ≢ None
+      some_aside_of e = some_numbered v c (row_at p.heads c) is.parking.waits level (λ t lower. row_is c t level lower) marked s less (subst (λ r. IsFirstSlot r marked s) as_row first) (sym as_first ∙ e)
 
   -- ---- an event comes
 
@@ -156,29 +214,30 @@ module _ (l : Lists) (p : Parking) (is : IsParted l p) where
           let bound = is.room in
           omega arith
 
-      module _ (m : Lists) (k : ℕ) (marks : SmallSet) (list : k ≡ list_of_slot slot c) (come : m ≡ with_last a (p.base + k) w) (has : Has marks slot) (but : SameBut slot (marks_at p.parked c) marks) where
+      module _ (m : Lists) (k : ℕ) (marks : SmallSet) (row : List ℕ) (list : k ≡ list_of_slot slot c) (come : m ≡ with_last a (p.base + k) w) (has : Has marks slot) (but : SameBut slot (marks_at p.parked c) marks)
+          (noted : row ≡ set (row_at p.heads c) slot (number_of (slice_get (list_at m (p.base + k)) 0))) where
         within_now : k < n
         within_now = slot_list c slot k less slot_head list
 
-        held_aside : Holds (kept m (record p { below = set p.below c (w.number + 1); parked = set p.parked c marks })) (with_below v c (w.number + 1))
+        held_aside : Holds (kept m (record p { below = set p.below c (w.number + 1); parked = set p.parked c marks; heads = set p.heads c row })) (with_below v c (w.number + 1))
         held_aside =
             let first : IsBut p.base n l a = subst (IsBut p.base n l) (sym gone) (but_one l p.base n c (drop 1 (list_at l (p.base + c))) (level_list c less) is.within) in
             let there : p.base + n ≤ length a.lists = let e = first.count in let i = is.within in omega arith in
-            set_aside (kept l p) v w c holds level_head less head (segment a p.base n) (segment m p.base n) slot k marks of list
+            set_aside (kept l p) v w c holds level_head less head (segment a p.base n) (segment m p.base n) slot k marks row (noted_here m c slot k row within_now list noted) of list
             (ap (λ (x : Lists). segment x p.base n) gone ∙ segment_first l p.base n c (level_list c less) is.within)
             (ap (λ (x : Lists). segment x p.base n) come ∙ segment_last a p.base n k w within_now there)
             has but
 
-        pub aside : IsChanged l p m (record p { below = set p.below c (w.number + 1); parked = set p.parked c marks }) v.waits
+        pub aside : IsChanged l p m (record p { below = set p.below c (w.number + 1); parked = set p.parked c marks; heads = set p.heads c row }) v.waits
         aside =
             let first : IsBut p.base n l a = subst (IsBut p.base n l) (sym gone) (but_one l p.base n c (drop 1 (list_at l (p.base + c))) (level_list c less) is.within) in
             let there : p.base + n ≤ length a.lists = let e = first.count in let i = is.within in omega arith in
             let then : IsBut p.base n a m = subst (IsBut p.base n a) (sym come) (but_one a p.base n k (list_at a (p.base + k) ++ w ∷ []) within_now there) in
-            changed m (record p { below = set p.below c (w.number + 1); parked = set p.parked c marks }) (with_below v c (w.number + 1)) refl refl
+            changed m (record p { below = set p.below c (w.number + 1); parked = set p.parked c marks; heads = set p.heads c row }) (with_below v c (w.number + 1)) refl refl
             (but_then p.base n l a m first then) held_aside is.count still
 
-        pub parted_aside : parted_by m (record p { below = set p.below c (w.number + 1); parked = set p.parked c marks }) ≡ with_below v c (w.number + 1)
-        parted_aside = view_held (kept m (record p { below = set p.below c (w.number + 1); parked = set p.parked c marks })) (with_below v c (w.number + 1)) held_aside
+        pub parted_aside : parted_by m (record p { below = set p.below c (w.number + 1); parked = set p.parked c marks; heads = set p.heads c row }) ≡ with_below v c (w.number + 1)
+        parted_aside = view_held (kept m (record p { below = set p.below c (w.number + 1); parked = set p.parked c marks; heads = set p.heads c row })) (with_below v c (w.number + 1)) held_aside
 
   -- ---- a slot is no longer looked at
 
@@ -221,23 +280,33 @@ module _ (l : Lists) (p : Parking) (is : IsParted l p) where
             (omega arith),
       )
 
+  own_or_slot : (c slot i k : ℕ) → c < 4 → k ≡ list_of_number p.below c slot i → (k < 4) ⊎ (k ≡ list_of_slot slot c)
+  own_or_slot c slot i k level list =
+      subst (λ j. (j < 4) ⊎ (j ≡ list_of_slot slot c)) (sym list)
+      (cond_both (nat_lt i (below_at p.below c)) (list_of_slot slot c) c (λ j. (j < 4) ⊎ (j ≡ list_of_slot slot c)) (λ _. inr refl) (λ _. inl level))
+
   pub number_list : (c slot i k : ℕ) → c < 4 → slot < p.slots → k ≡ list_of_number p.below c slot i → k < n
   number_list c slot i k level less list = subst (λ j. j < n) (sym list) (list_of_number_within p.below c slot i p.slots level less)
 
-  pub taken : (m : Lists) (c slot i k j count : ℕ) → c < 4 → slot < p.slots → IsOnlyOf v.waits c slot i → k ≡ list_of_number p.below c slot i → m ≡ with_list l (p.base + k) (filter (is_other i) (list_at l (p.base + k))) → total_of m + j ≡ total_of l
-      → (j ≤ p.count) × (count + j ≡ p.count → IsChanged l p m (record p { count = count }) (without_number v.waits i))
-  taken m c slot i k j count level less only list gone fewer =
+  pub taken : (m : Lists) (c slot i k j count t : ℕ) (row : List ℕ) → t ≡ list_of_slot slot c → row ≡ set (row_at p.heads c) slot (number_of (slice_get (list_at m (p.base + t)) 0)) → c < 4 → slot < p.slots → IsOnlyOf v.waits c slot i → k ≡ list_of_number p.below c slot i → m ≡ with_list l (p.base + k) (filter (is_other i) (list_at l (p.base + k))) → total_of m + j ≡ total_of l
+      → (j ≤ p.count) × (count + j ≡ p.count → IsChanged l p m (record p { count = count; heads = set p.heads c row }) (without_number v.waits i))
+  taken m c slot i k j count t row aside noted level less only list gone fewer =
       let within : k < n = number_list c slot i k level less list in
       let moved : segment m p.base n ≡ with_list (segment l p.base n) k (filter (is_other i) (list_at (segment l p.base n) k)) =
       ap (λ (x : Lists). segment x p.base n) gone ∙ (segment_with l p.base n k (filter (is_other i) (list_at l (p.base + k))) within is.within
       ∙ ap (λ us. with_list (segment l p.base n) k (filter (is_other i) us)) (sym (segment_at l p.base n k within))) in
-      let holds_now = taken_held (kept l p) v c slot i k holds level less list only (segment m p.base n) moved in
+      let xs = filter (is_other i) (list_at (segment l p.base n) k) in
+      let here = noted_here m c slot t row (slot_list c slot t level less aside) aside noted in
+      let heads : AreHeads (segment m p.base n) p.slots (set p.heads c row) =
+      subst (λ x. AreHeads x p.slots (set p.heads c row)) (sym moved)
+      (heads_noted (segment l p.base n) p.slots p.heads is.parking.heads c slot k xs row level less (own_or_slot c slot i k level list) (here ∙ ap (λ x. set (row_at p.heads c) slot (number_of (slice_get (list_at x (list_of_slot slot c)) 0))) moved)) in
+      let holds_now = taken_held (kept l p) v c slot i k holds level less list only (segment m p.base n) moved (set p.heads c row) heads in
       let but : IsBut p.base n l m = subst (IsBut p.base n l) (sym gone) (but_one l p.base n k (filter (is_other i) (list_at l (p.base + k))) within is.within) in
       let before = total_held (kept l p) v holds in
-      let after = total_held (record (kept l p) { lists = segment m p.base n }) (with_waits v (without_number v.waits i)) holds_now in
+      let after = total_held (record (kept l p) { lists = segment m p.base n; heads = set p.heads c row }) (with_waits v (without_number v.waits i)) holds_now in
       let both = but.total in
       let bound = is.room in
       let counted = is.count in (
         omega arith,
-        λ left. changed m (record p { count = count }) (with_waits v (without_number v.waits i)) refl refl but holds_now (omega arith) (omega arith),
+        λ left. changed m (record p { count = count; heads = set p.heads c row }) (with_waits v (without_number v.waits i)) refl refl but holds_now (omega arith) (omega arith),
       )

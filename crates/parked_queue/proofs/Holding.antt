@@ -8,6 +8,7 @@ use Rattle.evt_types.specs.Plan.{level_of}
 use Rattle.evt_types.specs.declared.event.Numbered.{Numbered}
 use Rattle.small_set.specs.SmallSets.{Has}
 use Rattle.small_set.specs.declared.set.SmallSet.{SmallSet}
+use Rattle.parked_queue.specs.Heads.{AreHeads}
 use Rattle.parked_queue.specs.Lists.{Lists, list_at}
 use Rattle.parked_queue.specs.Marks.{Kept, AreMarks, IsParking, marks_at, mask_of, parted_in}
 use Rattle.parked_queue.specs.Merge.{by_number, in_list, lists_of}
@@ -28,6 +29,7 @@ pub record Holds (a : Kept) (v : Parted) : Type 0 where
   pub four : length v.below ≡ 4
   pub levels : length a.parked ≡ 4
   pub marks : AreMarks v a.parked
+  pub heads : AreHeads a.lists a.slots a.heads
 
 -- ---- each event is in one of the lists
 
@@ -77,6 +79,7 @@ holds_held a v h =
       four = ap length h.below ∙ h.four;
       levels = h.levels;
       marks = subst (λ (x : Parted). AreMarks x a.parked) (sym same) h.marks;
+      heads = h.heads;
     }
 
 pub held : (a : Kept) (v : Parted) → IsParking a → parted_in a ≡ v → Holds a v
@@ -92,6 +95,7 @@ held a v is same = subst (Holds a) same (record {
   four = is.four;
   levels = is.levels;
   marks = is.marks;
+  heads = is.heads;
 })
 
 -- ---- the lists
@@ -120,9 +124,9 @@ no_marks p (suc (suc zero)) slot none zeros = none slot
 no_marks p (suc (suc (suc zero))) slot none zeros = none slot
 no_marks p (suc (suc (suc (suc c)))) slot none zeros = zeros slot
 
-pub nothing_held : (l : Lists) (slots room m : ℕ) (p : SmallSet) → 0 < slots → slots ≤ 64 → m ≡ mask_of slots → l ≡ record { room = room; lists = replicate (list_count slots) [] } → ((k : ℕ) → ¬ Has p k) → ((k : ℕ) → ¬ Has (record { bits = 0 }) k)
-    → Holds (record { lists = l; slots = slots; mask = m; below = 0 ∷ 0 ∷ 0 ∷ 0 ∷ []; parked = p ∷ p ∷ p ∷ p ∷ []; next = 0 }) (no_parted slots room)
-nothing_held l slots room m p some few mask is none zeros =
+pub nothing_held : (l : Lists) (slots room m : ℕ) (p : SmallSet) (rows : List (List ℕ)) → AreHeads l slots rows → 0 < slots → slots ≤ 64 → m ≡ mask_of slots → l ≡ record { room = room; lists = replicate (list_count slots) [] } → ((k : ℕ) → ¬ Has p k) → ((k : ℕ) → ¬ Has (record { bits = 0 }) k)
+    → Holds (record { lists = l; slots = slots; mask = m; below = 0 ∷ 0 ∷ 0 ∷ 0 ∷ []; parked = p ∷ p ∷ p ∷ p ∷ []; heads = rows; next = 0 }) (no_parted slots room)
+nothing_held l slots room m p rows heads some few mask is none zeros =
     record {
       waits = record { rising = λ i j d lt within. absurd (omega arith); below = λ k d h. absurd (omega arith); levels = λ k d h. absurd (omega arith); fits = omega arith; within = omega arith; some = some; few = few };
       lists = ap (λ (x : Lists). x.lists) is ∙ fill_by_all (λ k. []) (replicate (list_count slots) []) (list_count slots) [] (length-replicate (list_count slots) []) (λ k h. get_or-replicate (list_count slots) k [] [] h);
@@ -135,4 +139,5 @@ nothing_held l slots room m p some few mask is none zeros =
       four = refl;
       levels = refl;
       marks = record { marked = λ k d h. absurd (omega arith); there = λ c slot has. absurd (no_marks p c slot none zeros has) };
+      heads = heads;
     }

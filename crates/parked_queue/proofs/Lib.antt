@@ -1,5 +1,6 @@
 pub mod Accepting
 pub mod Holding
+pub mod Noting
 pub mod Merges
 pub mod Parks
 pub mod Splits

@@ -1,5 +1,5 @@
 -- Queues in which nothing waits.
-use Rattle.std.proofs.Common.{◌≡◌, ℕ, zero, suc, ◌+◌, ◌-◌, ◌*◌, ◌^◌, ◌<◌, ◌≤◌, List, [], ◌∷◌, ◌++◌, length, get_or, replicate, refl, sym, ap, ◌∙◌, subst, arith, ⊎_elim}
+use Rattle.std.proofs.Common.{◌≡◌, ℕ, zero, suc, ◌+◌, ◌-◌, ◌*◌, ◌^◌, ◌<◌, ◌≤◌, List, [], ◌∷◌, ◌++◌, length, get_or, replicate, slice_get, refl, sym, ap, ◌∙◌, subst, arith, ⊎_elim}
 use Rattle.std.proofs.lemmas.Bool.{cases_lt}
 use Rattle.std.proofs.lemmas.List.{ext_get_or, get_or-append_right, get_or-map, get_or-replicate, get_or_append_left, length-map, length-replicate, length_push}
 use Rattle.std.proofs.lemmas.List.Folds.{sum_by-replicate}
@@ -10,11 +10,12 @@ use Rattle.lists.proofs.Ranges.{mapped_same}
 use Rattle.evt_types.specs.declared.event.Numbered.{Numbered}
 use Rattle.small_set.specs.SmallSets.{Has}
 use Rattle.small_set.specs.declared.set.SmallSet.{SmallSet}
+use Rattle.parked_queue.specs.Heads.{AreHeads, no_head, number_at, number_of, row_at}
 use Rattle.parked_queue.specs.Lists.{Lists, list_at, total_of}
 use Rattle.parked_queue.specs.Lists as lists
 use Rattle.parked_queue.specs.Marks.{Kept, mask_of}
 use Rattle.parked_queue.specs.Parkings.{AreApart, AreFirstParkings, AreNewParkings, AreParkings, IsNewParking, all_waits, kept, no_parking, parking_at, segment, waits_by}
-use Rattle.parked_queue.specs.Parted.{Parted, no_parted, list_count}
+use Rattle.parked_queue.specs.Parted.{Parted, no_parted, list_count, list_of_slot}
 use Rattle.parked_queue.specs.Waits.{AreSlots, Waits, all_empty, all_waiting, count_of, no_waits, no_waits_of}
 use Rattle.parked_queue.specs.declared.parking.Parking.{Parking}
 use Rattle.parked_queue.proofs.Holding.{Holds, holds_held, nothing_held, view_held}
@@ -98,9 +99,33 @@ segment_none n room b k =
     (mapped_same (λ j. []) (λ j. list_at (lists.all_empty n room) (b + j)) k (λ j lt. none_at n room (b + j))
     ∙ sym (fill_by_all (λ j. []) (replicate k []) k [] (length-replicate k []) (λ j h. get_or-replicate k j [] [] h)))
 
-same_kept : (l m : Lists) (s t i j x y : ℕ) (b c : List ℕ) (p q : List SmallSet) → l ≡ m → s ≡ t → i ≡ j → b ≡ c → p ≡ q → x ≡ y
-    → ◌≡◌ {A = Kept} (record { lists = l; slots = s; mask = i; below = b; parked = p; next = x }) (record { lists = m; slots = t; mask = j; below = c; parked = q; next = y })
-same_kept l m s t i j x y b c p q e f g h k o = cc
+same_kept : (l m : Lists) (s t i j x y : ℕ) (b c : List ℕ) (p q : List SmallSet) (f g : List (List ℕ)) → l ≡ m → s ≡ t → i ≡ j → b ≡ c → p ≡ q → f ≡ g → x ≡ y
+    → ◌≡◌ {A = Kept} (record { lists = l; slots = s; mask = i; below = b; parked = p; heads = f; next = x }) (record { lists = m; slots = t; mask = j; below = c; parked = q; heads = g; next = y })
+same_kept l m s t i j x y b c p q f g e h k o r u z = cc
+
+-- no slot has a number
+abbrev no_rows : ℕ → List (List ℕ)
+no_rows s = replicate s no_head ∷ replicate s no_head ∷ replicate s no_head ∷ replicate s no_head ∷ []
+
+row_none : (s c : ℕ) → c < 4 → row_at (no_rows s) c ≡ replicate s no_head
+row_none s zero lt = refl
+row_none s (suc zero) lt = refl
+row_none s (suc (suc zero)) lt = refl
+row_none s (suc (suc (suc zero))) lt = refl
+row_none s (suc (suc (suc (suc c)))) lt = absurd (omega arith)
+
+none_number : (s slot : ℕ) → number_at (replicate s no_head) slot ≡ no_head
+none_number zero slot = refl
+none_number (suc s) zero = refl
+none_number (suc s) (suc slot) = none_number s slot
+
+heads_none : (room s : ℕ) → AreHeads (record { room = room; lists = replicate (list_count s) [] }) s (no_rows s)
+heads_none room s =
+    record {
+      four = refl;
+      long = λ c lt. ap length (row_none s c lt) ∙ length-replicate s no_head;
+      first = λ c slot lt less. ap (λ r. number_at r slot) (row_none s c lt) ∙ (none_number s slot ∙ ap (λ us. number_of (slice_get us 0)) (sym (none_there (list_count s) (list_of_slot slot c))));
+    }
 
 zeros : (k : ℕ) → ¬ Has (record { bits = 0 }) k
 zeros k h = let e = bit_at-zero k in omega arith
@@ -109,9 +134,9 @@ none_kept : (n room s : ℕ) (p : Parking) → 0 < s → s ≤ 64 → IsNewParki
 none_kept n room s p some few is =
     subst (λ x. Holds x (no_parted s room))
     (sym
-    (same_kept _ (record { room = room; lists = replicate (list_count s) [] }) p.slots s p.mask (mask_of s) p.next 0 p.below (0 ∷ 0 ∷ 0 ∷ 0 ∷ []) p.parked _
-    (segment_none n room p.base (list_count p.slots) ∙ ap (λ k. record { room = room; lists = replicate (list_count k) [] }) is.slots) is.slots is.mask is.below is.parked.1 is.next))
-    (nothing_held (record { room = room; lists = replicate (list_count s) [] }) s room (mask_of s) is.parked.0 some few refl refl is.parked.2 zeros)
+    (same_kept _ (record { room = room; lists = replicate (list_count s) [] }) p.slots s p.mask (mask_of s) p.next 0 p.below (0 ∷ 0 ∷ 0 ∷ 0 ∷ []) p.parked _ p.heads (no_rows s)
+    (segment_none n room p.base (list_count p.slots) ∙ ap (λ k. record { room = room; lists = replicate (list_count k) [] }) is.slots) is.slots is.mask is.below is.parked.1 is.heads is.next))
+    (nothing_held (record { room = room; lists = replicate (list_count s) [] }) s room (mask_of s) is.parked.0 (no_rows s) (heads_none room s) some few refl refl is.parked.2 zeros)
 
 module _ (slots : List ℕ) (ps : List Parking) (n room : ℕ) (are : AreNewParkings slots ps n) (each : AreSlots slots) where
   abbrev l : Lists

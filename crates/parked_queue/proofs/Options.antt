@@ -22,3 +22,7 @@ if_more (Some x) P Q more known = more x known
 pub if_there : {X : Type 0} (o : Option X) (P : Type 0) → is_some o ≡ true → IfNone o P
 if_there None P some = absurd (false≢true some)
 if_there (Some x) P some = tt
+
+pub if_none : {X : Type 0} (o : Option X) (P : Type 0) → P → IfNone o P
+if_none None P known = known
+if_none (Some x) P known = tt

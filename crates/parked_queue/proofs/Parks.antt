@@ -8,12 +8,14 @@ use Rattle.evt_types.specs.Plan.{level_of}
 use Rattle.evt_types.specs.declared.event.Numbered.{Numbered}
 use Rattle.small_set.specs.SmallSets.{Has, SameBut}
 use Rattle.small_set.specs.declared.set.SmallSet.{SmallSet}
+use Rattle.parked_queue.specs.Heads.{AreHeads, number_of, row_at}
 use Rattle.parked_queue.specs.Lists.{Lists, list_at, total_of, with_last, without_first}
 use Rattle.parked_queue.specs.Marks.{Kept, AreMarks, marks_at}
 use Rattle.parked_queue.specs.Merge.{is_in, in_list, lists_of}
 use Rattle.parked_queue.specs.Parted.{Parted, below_at, list_in, own_first, list_of_slot, list_of, list_count, with_below}
 use Rattle.parked_queue.specs.Waits.{AreWaits, slot_of}
 use Rattle.parked_queue.proofs.Accepting.{total_held}
+use Rattle.parked_queue.proofs.Noting.{heads_noted, heads_own}
 use Rattle.parked_queue.proofs.Totals.{total_without}
 use Rattle.parked_queue.proofs.Holding.{Holds, count_held, list_held, list_if_not, list_if_parked, slot_within}
 use Rattle.parked_queue.proofs.Splits.{Split, first_alone, first_least, first_split, first_there, left, lists_moved}
@@ -202,9 +204,9 @@ module _ (a : Kept) (v : Parted) (w : Numbered) (c : ℕ) (h : Holds a v) (level
       (λ differs. let e = grown_other v w c h.waits level lt h.four head k differs in let b = h.bounds k in omega arith)
       (cases_eq k c)
 
-  pub parked_held : (l : Lists) (p : SmallSet) → l ≡ with_last (without_first a.lists c) aside w → Has p (slot_of v.waits.slots w) → SameBut (slot_of v.waits.slots w) (marks_at a.parked c) p
-      → Holds (record a { lists = l; below = set a.below c (w.number + 1); parked = set a.parked c p }) (with_below v c (w.number + 1))
-  parked_held l p is has but =
+  pub parked_held : (l : Lists) (p : SmallSet) (rows : List (List ℕ)) → AreHeads l a.slots rows → l ≡ with_last (without_first a.lists c) aside w → Has p (slot_of v.waits.slots w) → SameBut (slot_of v.waits.slots w) (marks_at a.parked c) p
+      → Holds (record a { lists = l; below = set a.below c (w.number + 1); parked = set a.parked c p; heads = rows }) (with_below v c (w.number + 1))
+  parked_held l p rows heads is has but =
       record {
         waits = h.waits;
         lists = lists_parked l is;
@@ -217,6 +219,7 @@ module _ (a : Kept) (v : Parted) (w : Numbered) (c : ℕ) (h : Holds a v) (level
         four = length-set v.below c (w.number + 1) ∙ h.four;
         levels = length-set a.parked c p ∙ h.levels;
         marks = marks_after v w c h.waits level lt h.four head a.parked p h.marks h.levels has but;
+        heads = heads;
       }
 
   -- ---- the calls, one after the other
@@ -247,10 +250,15 @@ module _ (a : Kept) (v : Parted) (w : Numbered) (c : ℕ) (h : Holds a v) (level
       let fits = h.waits.fits in
       omega arith
 
-  pub set_aside : (l m : Lists) (s k : ℕ) (p : SmallSet) → s ≡ slot_of v.waits.slots w → k ≡ list_of_slot s c → l ≡ without_first a.lists c → m ≡ with_last l k w → Has p s → SameBut s (marks_at a.parked c) p
-      → Holds (record a { lists = m; below = set a.below c (w.number + 1); parked = set a.parked c p }) (with_below v c (w.number + 1))
-  set_aside l m s k p slot list gone come has but =
-      parked_held m p (come ∙ (ap (λ x. with_last x k w) gone ∙ ap (λ n. with_last (without_first a.lists c) n w) (list ∙ ap (λ n. list_of_slot n c) slot)))
+  pub set_aside : (l m : Lists) (s k : ℕ) (p : SmallSet) (row : List ℕ) → row ≡ set (row_at a.heads c) s (number_of (slice_get (list_at m (list_of_slot s c)) 0)) → s ≡ slot_of v.waits.slots w → k ≡ list_of_slot s c → l ≡ without_first a.lists c → m ≡ with_last l k w → Has p s → SameBut s (marks_at a.parked c) p
+      → Holds (record a { lists = m; below = set a.below c (w.number + 1); parked = set a.parked c p; heads = set a.heads c row }) (with_below v c (w.number + 1))
+  set_aside l m s k p row noted slot list gone come has but =
+      let within : s < a.slots = let same = h.slots in let less = slot_within v.waits.slots w h.waits.some in omega arith in
+      let first : AreHeads l a.slots a.heads = subst (λ (x : Lists). AreHeads x a.slots a.heads) (sym gone) (heads_own a.lists a.slots a.heads h.heads c (drop 1 (list_at a.lists c)) lt) in
+      parked_held m p (set a.heads c row)
+      (subst (λ (x : Lists). AreHeads x a.slots (set a.heads c row)) (sym come)
+      (heads_noted l a.slots a.heads first c s k (list_at l k ++ w ∷ []) row lt within (inr list) (noted ∙ ap (λ (x : Lists). set (row_at a.heads c) s (number_of (slice_get (list_at x (list_of_slot s c)) 0))) come)))
+      (come ∙ (ap (λ x. with_last x k w) gone ∙ ap (λ n. with_last (without_first a.lists c) n w) (list ∙ ap (λ n. list_of_slot n c) slot)))
       (subst (Has p) slot has)
       (subst (λ n. SameBut n (marks_at a.parked c) p) slot but)
 

@@ -1,5 +1,5 @@
 -- One event less.
-use Rattle.std.proofs.Common.{◌≡◌, ℕ, ◌<◌, ◌≤◌, List, length, filter, set, get_or, nat_lt, All, [], ◌∷◌, true, slice_get, eqb-true, sym, ap, ◌∙◌, subst, arith}
+use Rattle.std.proofs.Common.{◌≡◌, ℕ, ◌<◌, ◌≤◌, List, length, drop, filter, set, get_or, nat_lt, All, [], ◌∷◌, true, slice_get, eqb-true, sym, ap, ◌∙◌, subst, arith}
 use Rattle.std.proofs.lemmas.Bool.{cond_both, false≢true}
 use Rattle.std.proofs.lemmas.List.Elements.{All-filter, All-head, filter_passes}
 use Rattle.std.proofs.lemmas.List.Kept.{AllPairs-filter}
@@ -7,12 +7,14 @@ use Rattle.std.proofs.lemmas.List.Sums.{length-filter, count_by-le-length}
 use Rattle.evt_types.specs.Plan.{level_of}
 use Rattle.evt_types.specs.declared.event.Numbered.{Numbered}
 use Rattle.small_set.specs.SmallSets.{Has}
+use Rattle.parked_queue.specs.Heads.{AreHeads}
 use Rattle.parked_queue.specs.Lists.{Lists, has_number, list_at, with_list, without_first}
 use Rattle.parked_queue.specs.Marks.{Kept, marks_at}
 use Rattle.parked_queue.specs.Merge.{is_in, lists_of}
 use Rattle.parked_queue.specs.Parted.{Parted, below_at, list_in, own_first, list_of_slot, list_of_number, list_of, list_count, with_waits}
 use Rattle.parked_queue.specs.Waits.{Waits, AreWaits, IsOnlyOf, IsRising, is_other, slot_of, without_number}
 use Rattle.parked_queue.proofs.Holding.{Holds, count_held, list_held}
+use Rattle.parked_queue.proofs.Noting.{heads_own}
 use Rattle.parked_queue.proofs.Merges.{lists_without}
 use Rattle.parked_queue.proofs.Without.{first_out}
 
@@ -74,8 +76,8 @@ module _ (a : Kept) (v : Parted) (c slot n k : ℕ) (h : Holds a v) (lt : c < 4)
         ∙ sym (lists_without (list_of v.waits.slots v.below) (list_count v.waits.slots) v.waits.waiting n k within
         (subst (λ m. All (λ (w : Numbered). w.number ≡ n → list_of v.waits.slots v.below w ≡ m) v.waits.waiting) (sym list) (only_there v c slot n only)))))
 
-    pub taken_held : Holds (record a { lists = l }) (with_waits v (without_number v.waits n))
-    taken_held =
+    pub taken_held : (rows : List (List ℕ)) → AreHeads l a.slots rows → Holds (record a { lists = l; heads = rows }) (with_waits v (without_number v.waits n))
+    taken_held rows heads =
         record {
           waits = waits_without v.waits n h.waits;
           lists = lists_taken;
@@ -92,6 +94,7 @@ module _ (a : Kept) (v : Parted) (c slot n k : ℕ) (h : Holds a v) (lt : c < 4)
                 marked = All-filter (is_other n) (λ (u : Numbered). u.number < below_at v.below (level_of u.event) → Has (marks_at a.parked (level_of u.event)) (slot_of v.waits.slots u)) v.waits.waiting h.marks.marked;
                 there = h.marks.there;
               };
+          heads = heads;
         }
 
 -- the event has left at the head of the level's own list
@@ -100,4 +103,5 @@ pub head_held : (a : Kept) (v : Parted) (c slot n : ℕ) → Holds a v → c < 4
 head_held a v c slot n h lt less only has l is =
     let first : has_number n (own_first v c) ≡ true = subst (λ us. has_number n (slice_get us 0) ≡ true) (list_held a v c h (omega arith)) has in
     let list = own_list v c slot n only first in
-    taken_held a v c slot n c h lt less list only l (is ∙ ap (with_list a.lists c) (first_out n (list_at a.lists c) (list_rises a v c slot n c h lt less list) has))
+    taken_held a v c slot n c h lt less list only l (is ∙ ap (with_list a.lists c) (first_out n (list_at a.lists c) (list_rises a v c slot n c h lt less list) has)) a.heads
+    (subst (λ (m : Lists). AreHeads m a.slots a.heads) (sym is) (heads_own a.lists a.slots a.heads h.heads c (drop 1 (list_at a.lists c)) lt))

@@ -1,4 +1,5 @@
 pub mod Busy
+pub mod Heads
 pub mod Chains
 pub mod LevelSets
 pub mod Lists

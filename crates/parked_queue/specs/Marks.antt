@@ -7,16 +7,18 @@ use Rattle.small_set.specs.declared.set.SmallSet.{SmallSet}
 use Rattle.parked_queue.specs.Merge.{by_number, lists_of}
 use Rattle.parked_queue.specs.Parted.{Parted, below_at, list_of, list_count}
 use Rattle.parked_queue.specs.Waits.{AreWaits, slot_of}
+use Rattle.parked_queue.specs.Heads.{AreHeads}
 use Rattle.parked_queue.specs.Lists.{Lists}
 
--- A queue's lists, its slots, what leaves a flow's slot, for each level the number below which its events are parked and the slots that
--- may have such an event, and the next event's number.
+-- A queue's lists, its slots, what leaves a flow's slot, for each level the number below which its events are parked, the slots that
+-- may have such an event and each slot's first number, and the next event's number.
 pub record Kept : Type 0 where
   pub lists : Lists
   pub slots : ℕ
   pub mask : ℕ
   pub below : List ℕ
   pub parked : List SmallSet
+  pub heads : List (List ℕ)
   pub next : ℕ
 
 -- the slots of a level that may have parked events
@@ -42,6 +44,7 @@ abbrev pub parted_in : Kept → Parted
 parted_in a = record { waits = record { waiting = by_number a.lists.lists; next = a.next; room = a.lists.room; slots = a.slots }; below = a.below }
 
 -- the lists are those of what waits, the mask is that of the slots, no number below which events are parked is past the next one, and the slots are marked
+-- and have the numbers of the first events that are parked
 pub record IsParking (a : Kept) : Type 0 where
   pub waits : AreWaits (parted_in a).waits
   pub lists : a.lists.lists ≡ lists_of (list_of a.slots a.below) 0 (list_count a.slots) (by_number a.lists.lists)
@@ -50,3 +53,4 @@ pub record IsParking (a : Kept) : Type 0 where
   pub four : length a.below ≡ 4
   pub levels : length a.parked ≡ 4
   pub marks : AreMarks (parted_in a) a.parked
+  pub heads : AreHeads a.lists a.slots a.heads

@@ -1,8 +1,9 @@
 -- How the events of several queues are parted into lists of one store.
-use Rattle.std.specs.Prelude.{ℕ, ◌≡◌, ◌+◌, ◌*◌, ◌<◌, ◌≤◌, ◌^◌, ◌⊎◌, List, [], ◌∷◌, length, map, slice_index_or}
+use Rattle.std.specs.Prelude.{ℕ, ◌≡◌, ◌+◌, ◌*◌, ◌<◌, ◌≤◌, ◌^◌, ◌⊎◌, List, [], ◌∷◌, length, map, replicate, slice_index_or}
 use Rattle.std.specs.List.{range_with_len}
 use Rattle.small_set.specs.SmallSets.{Has}
 use Rattle.small_set.specs.declared.set.SmallSet.{SmallSet}
+use Rattle.parked_queue.specs.Heads.{no_head}
 use Rattle.parked_queue.specs.Lists.{Lists, list_at, total_of}
 use Rattle.parked_queue.specs.Marks.{Kept, IsParking, mask_of, parted_in}
 use Rattle.parked_queue.specs.Parted.{Parted, list_count}
@@ -17,7 +18,7 @@ segment l base n = record { room = l.room; lists = map (λ k. list_at l (base + 
 
 -- what is kept of the queue
 abbrev pub kept : Lists → Parking → Kept
-kept l p = record { lists = segment l p.base (list_count p.slots); slots = p.slots; mask = p.mask; below = p.below; parked = p.parked; next = p.next }
+kept l p = record { lists = segment l p.base (list_count p.slots); slots = p.slots; mask = p.mask; below = p.below; parked = p.parked; heads = p.heads; next = p.next }
 
 -- how its events are parted, and what waits in it
 abbrev pub parted_by : Lists → Parking → Parted
@@ -53,7 +54,7 @@ pub record IsChanged (l : Lists) (p : Parking) (m : Lists) (x : Parking) (w : Wa
 -- ---- all queues
 
 abbrev pub no_parking : Parking
-no_parking = record { base = 0; slots = 1; mask = 0; below = []; parked = []; next = 0; count = 0 }
+no_parking = record { base = 0; slots = 1; mask = 0; below = []; parked = []; heads = []; next = 0; count = 0 }
 
 abbrev pub parking_at : List Parking → ℕ → Parking
 parking_at ps q = slice_index_or ps q no_parking
@@ -88,6 +89,7 @@ pub record IsNewParking (b n : ℕ) (p : Parking) : Type 0 where
   pub mask : p.mask ≡ mask_of n
   pub below : p.below ≡ 0 ∷ 0 ∷ 0 ∷ 0 ∷ []
   pub parked : (marks : SmallSet) × (p.parked ≡ marks ∷ marks ∷ marks ∷ marks ∷ []) × ((k : ℕ) → ¬ Has marks k)
+  pub heads : p.heads ≡ replicate n no_head ∷ replicate n no_head ∷ replicate n no_head ∷ replicate n no_head ∷ []
   pub next : p.next ≡ 0
   pub count : p.count ≡ 0
 

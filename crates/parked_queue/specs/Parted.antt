@@ -1,5 +1,5 @@
 -- How the waiting events are parted into lists.
-use Rattle.std.specs.Prelude.{ℕ, ◌≡◌, ◌+◌, ◌*◌, ◌<◌, ◌≤◌, Bool, List, [], ◌∷◌, nat_lt, slice_get, slice_index_or, slice_set, Option, Some, None, All, Contains, if◌then◌else◌}
+use Rattle.std.specs.Prelude.{ℕ, ◌≡◌, ◌+◌, ◌*◌, ◌<◌, ◌≤◌, Bool, List, [], ◌∷◌, nat_lt, slice_get, slice_index_or, slice_set, Option, All, Contains, if◌then◌else◌}
 use Rattle.evt_types.specs.Plan.{level_of}
 use Rattle.evt_types.specs.declared.event.Numbered.{Numbered}
 use Rattle.small_set.specs.SmallSets.{Has}
@@ -58,15 +58,6 @@ pub record IsParkedAllowed (v : Parted) (c : ℕ) (allowed : SmallSet) (w : Numb
   pub level : level_of w.event ≡ c
   pub slot : Has allowed (slot_of v.waits.slots w)
   pub parked : w.number < below_at v.below c
-
--- the best one is no later than a number
-abbrev pub IsNoLater : Option Numbered → ℕ → Type 0
-IsNoLater None n = ⊥
-IsNoLater (Some w) n = w.number ≤ n
-
--- the best one is no later than each parked event of the level whose slot is allowed and not left to look at
-abbrev pub IsBest : Parted → ℕ → SmallSet → SmallSet → Option Numbered → Type 0
-IsBest v c allowed left best = All (λ (u : Numbered). level_of u.event ≡ c → u.number < below_at v.below c → Has allowed (slot_of v.waits.slots u) → (¬ Has left (slot_of v.waits.slots u)) → IsNoLater best u.number) v.waits.waiting
 
 -- the oldest parked event of the level whose slot is allowed
 pub record IsFirstParked (v : Parted) (c : ℕ) (allowed : SmallSet) (w : Numbered) : Type 0 where

@@ -1,15 +1,15 @@
 //! The first event of a level whose slot is allowed.
 
-ghost use Rattle.std.specs.Prelude.{◌≡◌, ℕ, ◌<◌, ◌≤◌, ◌⊎◌, Some, IfSome, IfNone};
+ghost use Rattle.std.specs.Prelude.{◌≡◌, ℕ, ◌<◌, IfSome, IfNone};
 ghost use Rattle.evt_types.specs.declared.event.Numbered.{Numbered as NumberedValue};
 ghost use Rattle.small_set.specs.SmallSets.{Has};
 ghost use Rattle.parked_queue.specs.Parkings.{IsChanged, IsParted, parted_by, waits_by};
-ghost use Rattle.parked_queue.specs.Parted.{IsFirstParked, HasNoneParked, IsNoLater};
+ghost use Rattle.parked_queue.specs.Parted.{IsFirstParked, HasNoneParked};
 ghost use Rattle.parked_queue.specs.Waits.{IsFirstAllowed, HasNoneAllowed, slot_of};
 
 use crate::level::Level;
 use crate::parking::Parking;
-use crate::slot::slot_in;
+use crate::slot::{parked_list, slot_in};
 use crate::waiting::WaitingLists;
 use evt_types::Numbered;
 use small_set::SmallSet;
@@ -23,54 +23,23 @@ pub struct Found {
     pub ghost flow_is: { flow ≡ waiting.event.flow },
 }
 
-/// The event with the lower number.
-#[inline(always)]
-fn older(best: Option<Numbered>, head: Numbered) -> Numbered
-    ensures one { (best ≡ Some result) ⊎ (result ≡ head) }
-    ensures older { (n : ℕ) → IsNoLater best n ⊎ (head.number ≤ n) → result.number ≤ n }
-{
-    match best {
-        Some(known) if known.number < head.number => known,
-        _ => head,
-    }
-}
-
 impl Parking {
     /// The oldest parked event of the level whose slot is among these.
     #[cold]
-    fn first_parked(
-        &mut self,
-        lists: &WaitingLists,
-        level: Level,
-        marked: SmallSet,
-    ) -> Option<Found>
-        requires parted { IsParted lists.now self.old }
-        requires there { (k : ℕ) → Has marked k → k < self.old.slots }
-        ensures changed { IsChanged lists.now self.old lists.now self.new (waits_by lists.now self.old) }
-        ensures same { parted_by lists.now self.new ≡ parted_by lists.now self.old }
-        ensures first { IfSome result (λ f. IsFirstParked (parted_by lists.now self.old) level.number marked f.waiting) }
-        ensures slot { IfSome result (λ f. f.slot ≡ slot_of self.old.slots f.waiting) }
-        ensures none { IfNone result (HasNoneParked (parted_by lists.now self.old) level.number marked) }
+    fn first_parked(&self, lists: &WaitingLists, level: Level, marked: SmallSet) -> Option<Found>
+        requires parted { IsParted lists.now self.now }
+        requires there { (k : ℕ) → Has marked k → k < self.now.slots }
+        ensures first { IfSome result (λ f. IsFirstParked (parted_by lists.now self.now) level.number marked f.waiting) }
+        ensures slot { IfSome result (λ f. f.slot ≡ slot_of self.now.slots f.waiting) }
+        ensures none { IfNone result (HasNoneParked (parted_by lists.now self.now) level.number marked) }
     {
-        let mut best = None;
-        let mut left = marked;
-        while let Some(slot) = left.pop() {
-            if let Some(head) = self.parked_front(lists, level, slot) {
-                best = Some(older(best, head));
-            }
-        }
-        match best {
-            Some(waiting) => {
-                let flow = waiting.event.flow();
-                let slot = slot_in(self.slots, self.mask, flow);
-                Some(Found {
-                    slot,
-                    flow,
-                    waiting,
-                })
-            }
-            None => None,
-        }
+        let slot = self.heads[level.number].first_of(marked)?;
+        let waiting = lists.head(self.base + parked_list(level, slot))?;
+        Some(Found {
+            slot,
+            flow: waiting.event.flow(),
+            waiting: *waiting,
+        })
     }
 
     /// The first event of the level's own list whose slot is allowed. Those before it are set aside.

@@ -6,6 +6,7 @@
 mod chain;
 mod counts;
 mod first;
+mod heads;
 mod level;
 mod parking;
 mod queues;

@@ -1,10 +1,11 @@
 //! How the events that wait in one queue are parted into lists.
 
-ghost use Rattle.std.specs.Prelude.{◌≡◌, ◌+◌, ◌<◌, ◌≤◌, true, length, slice_get, is_some, option_copied, IfOk, IfSome, IsTrue};
-ghost use Rattle.parked_queue.specs.Parted.{list_in, own_first, list_of_slot, list_of_number, with_below};
+ghost use Rattle.std.specs.Prelude.{◌≡◌, ◌+◌, ◌<◌, ◌≤◌, true, length, is_some, option_copied, IfOk, IfSome, IsTrue};
+ghost use Rattle.parked_queue.specs.Parted.{own_first, list_of_number, with_below};
 ghost use Rattle.parked_queue.specs.Parkings.{AreNewParkings, IsChanged, IsNewParking, IsParted, parted_by, waits_by};
 ghost use Rattle.parked_queue.specs.Waits.{AreSlots, HasNoneOf, IsOnlyOf, slot_of, without_number};
 
+use crate::heads::{Heads, head_number};
 use crate::level::{LEVELS, Level};
 use crate::slot::{mask_for, parked_list};
 use crate::waiting::WaitingLists;
@@ -14,32 +15,40 @@ use std::alloc::{AllocError, Global};
 
 /// How the events of one queue are parted. From `base` on there is a list for each level, by the level's number, and behind these
 /// a list for each slot and level, for the events that are set aside: the level's events whose number is below `below`. `parked`
-/// has each slot that may have such an event, and `mask` is what leaves a flow's slot.
-#[derive(Clone, Copy)]
+/// has each slot that may have such an event, `heads` the number of each slot's first one, and `mask` is what leaves a flow's slot.
+#[derive(Drop)]
 pub(crate) struct Parking {
     pub(crate) base: usize,
     pub(crate) slots: usize,
     pub(crate) mask: usize,
     pub(crate) below: [u64; LEVELS],
     pub(crate) parked: [SmallSet; LEVELS],
+    pub(crate) heads: [Heads; LEVELS],
     pub(crate) next: u64,
     pub(crate) count: usize,
 }
 
 /// A queue whose lists begin at this one, and in which nothing waits.
-fn empty_parking(base: usize, slots: usize) -> Parking
+fn empty_parking(alloc: Global, base: usize, slots: usize) -> Result<Parking, AllocError>
     requires { 0 < slots }
-    ensures { IsNewParking base slots result }
+    ensures { IfOk result (IsNewParking base slots) }
 {
-    Parking {
+    let heads = [
+        Heads::none(alloc, slots)?,
+        Heads::none(alloc, slots)?,
+        Heads::none(alloc, slots)?,
+        Heads::none(alloc, slots)?,
+    ];
+    Ok(Parking {
         base,
         slots,
         mask: mask_for(slots),
         below: [0; LEVELS],
         parked: [SmallSet::none(); LEVELS],
+        heads,
         next: 0,
         count: 0,
-    }
+    })
 }
 
 /// Queues of so many slots, in which nothing waits, and how many lists they have.
@@ -54,7 +63,7 @@ pub(crate) fn empty_parkings(
     let mut queues = Vec::with_capacity(alloc, slots.len())?;
     let mut lists = 0;
     for count in slots {
-        queues.push(empty_parking(lists, *count))?;
+        queues.push(empty_parking(alloc, lists, *count)?)?;
         lists += LEVELS * (*count + 1);
     }
     Ok((queues, lists))
@@ -79,28 +88,6 @@ impl Parking {
         self.front(lists, level).is_none() && self.parked[level.number].is_empty()
     }
 
-    /// The first parked event of the level and the slot. Where there is none, the slot is no longer looked at.
-    #[inline(always)]
-    pub(crate) fn parked_front(
-        &mut self,
-        lists: &WaitingLists,
-        level: Level,
-        slot: usize,
-    ) -> Option<Numbered>
-        requires parted { IsParted lists.now self.old }
-        requires slot { slot < self.old.slots }
-        ensures changed { IsChanged lists.now self.old lists.now self.new (waits_by lists.now self.old) }
-        ensures same { parted_by lists.now self.new ≡ parted_by lists.now self.old }
-        ensures value { result ≡ slice_get (list_in (parted_by lists.now self.old) (list_of_slot slot level.number)) 0 }
-    {
-        let list = self.base + parked_list(level, slot);
-        let head = lists.head(list).copied();
-        if head.is_none() {
-            self.parked[level.number].remove(slot);
-        }
-        head
-    }
-
     /// Sets the first event of the level's own list aside, which is of the slot.
     #[cold]
     pub(crate) fn park(&mut self, lists: &mut WaitingLists, level: Level, slot: usize)
@@ -112,7 +99,9 @@ impl Parking {
     {
         if let Some(head) = lists.pop(self.base + level.number) {
             let number = head.number;
-            lists.push(self.base + parked_list(level, slot), head);
+            let list = self.base + parked_list(level, slot);
+            lists.push(list, head);
+            self.heads[level.number].set(slot, head_number(lists.head(list)));
             self.below[level.number] = number + 1;
             self.parked[level.number].add(slot);
         }
@@ -148,8 +137,15 @@ impl Parking {
         ensures { IsChanged lists.old self.old lists.new self.new (without_number (waits_by lists.old self.old) number) }
     {
         let list = self.base + list_for(&self.below, level, slot, number);
-        if lists.take_number(list, number) {
+        let taken = lists.take_number(list, number);
+        let head = lists.head(self.base + parked_list(level, slot));
+        self.heads[level.number].set(slot, head_number(head));
+        if taken {
             self.count -= 1;
+            // Where no event of the slot is left there, the slot is no longer looked at.
+            if head.is_none() {
+                self.parked[level.number].remove(slot);
+            }
         }
     }
 }

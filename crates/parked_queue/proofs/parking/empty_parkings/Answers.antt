@@ -24,12 +24,12 @@ loop-count-preserved c =
     let range = c.requires.each c.loop-count.count-index 0 (omega (arith, c.loop-count-test.true, c.loop-count.auto.count-index-end)) in
     let count = c.loop-count.invariant.count in
     let items = c.in_ok-push.ensures.items in
-    let longer = length_push c.loop-count.queues.items c.empty_parking.result in
+    let longer = length_push c.loop-count.queues.items c.in_ok-empty_parking.field-0 in
     record {
       count = ap length items ∙ omega arith;
       first =
           subst (λ ps. AreFirstParkings c.args.slots.now ps (c.loop-count.lists + 4 * (get_or c.args.slots.now c.loop-count.count-index 0 + 1))) (sym items)
-          (first_more c.args.slots.now c.loop-count.queues.items c.loop-count.lists (get_or c.args.slots.now c.loop-count.count-index 0) c.empty_parking.result c.loop-count.invariant.first c.empty_parking.ensures
+          (first_more c.args.slots.now c.loop-count.queues.items c.loop-count.lists (get_or c.args.slots.now c.loop-count.count-index 0) c.in_ok-empty_parking.field-0 c.loop-count.invariant.first c.in_ok-empty_parking.ensures
           (ap (λ k. get_or c.args.slots.now k 0) count) range.1);
     }
 

@@ -114,8 +114,12 @@ impl Core {
         if offer.is_some() {
             return offer;
         }
-        if others.is_empty() && self.queues.is_blocked(queue, level, allowed) {
-            return None;
+        if others.is_empty() {
+            if self.queues.is_blocked(queue, level, allowed) {
+                return None;
+            }
+            let offer = self.offer_at_level(queue, level, lanes, allowed, skips)?;
+            return Some(offer);
         }
         // Moved from a place of its own: memory for it is written only here.
         let offer = self.offer_by_level(queue, lanes, skips)?;
@@ -154,6 +158,35 @@ impl Core {
             }
         }
         None
+    }
+
+    /// The first event of the queue's level that some lane may take, for the best lane. Where slots are marked, these are the slots whose
+    /// events may go; else those are found first.
+    #[cold]
+    fn offer_at_level(
+        &mut self,
+        queue: usize,
+        level: Level,
+        lanes: SmallSet,
+        allowed: SmallSet,
+        skips: &Skips,
+    ) -> Option<Offer>
+        requires queue { queue < length self.old.shape.queues }
+        requires lanes { AreOpenLanes self.old skips.now queue lanes }
+        requires allowed { HasAllowed self.old skips.now queue allowed }
+        ensures same { self.new ≡ self.old }
+        ensures offer { IfSome result (λ o. (o.delivery.queue ≡ queue) × IsOfferIn self.old skips.now queue level.number o.lane (numbered_in o.delivery)) }
+        ensures none { IfNone result (HasNoneIn self.old skips.now queue level.number) }
+    {
+        if self.queues.parked_slots(queue, level).is_empty() {
+            return self.offer_in(queue, level, lanes, skips);
+        }
+        self.facts();
+        // Where no slot is allowed, what waits isn't looked at, so that none of it is set aside.
+        if allowed.is_empty() {
+            return None;
+        }
+        self.offer_behind(queue, level, lanes, allowed, skips)
     }
 
     /// The first event of the queue's level that some lane may take, for the best lane: the slots whose events may go are found first.

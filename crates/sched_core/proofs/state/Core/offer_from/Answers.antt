@@ -1,10 +1,10 @@
-use Rattle.std.proofs.Common.{◌≡◌, ◌<◌, length, sym, ◌∙◌, subst}
+use Rattle.std.proofs.Common.{◌≡◌, ◌<◌, length, Some, sym, ◌∙◌, subst}
 use Rattle.std.specs.Option.{IfSome}
 use Rattle.evt_types.specs.Fault.{IsWithinLimits}
 use Rattle.transcripts.specs.Choice.{HasNone}
 use Rattle.transcripts.specs.Standing.{View}
 use Rattle.parked_queue.specs.LevelSets.{members}
-use Rattle.sched_core.specs.Offered.{AreOpenLanes, HasAllowed, IsOfferOf, numbered_in}
+use Rattle.sched_core.specs.Offered.{AreOpenLanes, HasAllowed, HasNoneIn, IsOfferOf, numbered_in}
 use Rattle.sched_core.proofs.FirstOnes.{found_none, levels_here, slots_within}
 use Rattle.sched_core.proofs.Offers.{IsOfferAt, level_more, none_beside, none_either, none_in, offer_first, some_here}
 use Rattle.sched_core.proofs.OpenLanes.{none_open}
@@ -42,17 +42,43 @@ returns-then-is_blocked-clause-none c =
 
 pub returns-in_err-offer-clause-none : goal.returns-in_err-offer-clause-none
 returns-in_err-offer-clause-none c =
-    none_either c.from_residual-in_err-offer.result (HasNone c.args.self.now c.args.skips.now c.args.queue)
-    (subst (λ v. HasNone v c.args.skips.now c.args.queue) c.allowed_at-allowed.ensures.same c.in_err-offer.ensures.none)
+    let v : View = c.args.self.now in
+    let s = c.args.skips.now in
+    let q = c.args.queue in
+    let level = c.in_ok-level.level.number in
+    none_either c.from_residual-in_err-offer.result (HasNone v s q)
+    (none_beside v s q (members c.pop.new.self) (c.is_empty-2.ensures.0 c.if-is_empty-2.true)
+    (level_more v s q level (members c.levels-others.result) (members c.pop.new.self) c.in_ok-level.ensures.others
+    (subst (λ u. HasNoneIn u s q level) c.allowed_at-allowed.ensures.same c.in_err-offer.ensures.none)
+    (levels_here c.self.inside v s q c.levels-others.result c.self.view_is c.levels-others.ensures)))
+
+pub returns-in_err-offer-2-clause-none : goal.returns-in_err-offer-2-clause-none
+returns-in_err-offer-2-clause-none c =
+    none_either c.from_residual-in_err-offer-2.result (HasNone c.args.self.now c.args.skips.now c.args.queue)
+    (subst (λ v. HasNone v c.args.skips.now c.args.queue) c.allowed_at-allowed.ensures.same c.in_err-offer-2.ensures.none)
+
+pub returns-then-is_empty-2-clause-offer : goal.returns-then-is_empty-2-clause-offer
+returns-then-is_empty-2-clause-offer c =
+    offer_first c.args.self.now c.args.skips.now c.args.queue c.in_ok-level.level.number (members c.levels-others.result) (Some c.in_ok-offer.offer) c.in_ok-level.ensures.first
+    (levels_here c.self.inside c.args.self.now c.args.skips.now c.args.queue c.levels-others.result c.self.view_is c.levels-others.ensures)
+    (subst (λ v. IsOfferAt v c.args.skips.now c.args.queue c.in_ok-level.level.number c.in_ok-offer.offer) c.allowed_at-allowed.ensures.same c.in_ok-offer.ensures.offer)
+
+pub offer_at_level-requires-clause-lanes : goal.offer_at_level-requires-clause-lanes
+offer_at_level-requires-clause-lanes c =
+    subst (λ v. AreOpenLanes v c.args.skips.now c.args.queue c.open_lanes-lanes.result) (sym c.allowed_at-allowed.ensures.same) c.open_lanes-lanes.ensures
+
+pub offer_at_level-requires-clause-allowed : goal.offer_at_level-requires-clause-allowed
+offer_at_level-requires-clause-allowed c =
+    subst (λ v. HasAllowed v c.args.skips.now c.args.queue c.allowed_at-allowed.result) (sym c.allowed_at-allowed.ensures.same) c.allowed_at-allowed.ensures.allowed
 
 pub returns-in_err-offer-clause-offer : goal.returns-in_err-offer-clause-offer
 returns-in_err-offer-clause-offer c = rw (c.from_residual-in_err-offer.ensures) tt
 
 pub returns-clause-offer : goal.returns-clause-offer
 returns-clause-offer c =
-    subst (λ v. (c.in_ok-offer.offer.delivery.queue ≡ c.args.queue)
-    × IsOfferOf v c.args.skips.now c.args.queue c.in_ok-offer.offer.lane (numbered_in c.in_ok-offer.offer.delivery))
-    c.allowed_at-allowed.ensures.same c.in_ok-offer.ensures.offer
+    subst (λ v. (c.in_ok-offer-2.offer.delivery.queue ≡ c.args.queue)
+    × IsOfferOf v c.args.skips.now c.args.queue c.in_ok-offer-2.offer.lane (numbered_in c.in_ok-offer-2.offer.delivery))
+    c.allowed_at-allowed.ensures.same c.in_ok-offer-2.ensures.offer
 
 pub offer_at_head-offer-requires-clause-queue : goal.offer_at_head-offer-requires-clause-queue
 offer_at_head-offer-requires-clause-queue c = subst (λ (v : View). c.args.queue < length v.shape.queues) (sym c.allowed_at-allowed.ensures.same) c.requires

@@ -3,9 +3,10 @@
 ghost use Rattle.std.specs.Prelude.{◌≡◌, ℕ, ◌+◌, ◌-◌, ◌<◌, ◌≤◌, ◌^◌, List, [], ◌∷◌, ◌++◌, length, vec_len, vec_capacity, OnOk};
 ghost use Rattle.std.proofs.Common.{rules};
 ghost use Rattle.evt_types.specs.declared.step.Step.{Step as StepValue};
+ghost use Rattle.step_log.specs.Gives.{gives_of};
 ghost use Rattle.step_log.specs.Rows.{news_steps, release_steps};
 
-use evt_types::{Memory, Outcome, Reply, Source, Step};
+use evt_types::{Delivery, Memory, Outcome, Reply, Source, Step};
 
 /// A log of steps. Its `steps` are all that were pushed, in their order, whether it keeps them or not; for so many more it has `room`.
 pub trait StepLog: Drop {
@@ -46,6 +47,21 @@ pub trait StepLog: Drop {
             self.push_step(Step::Done {
                 lane,
                 outcome: Outcome::Released,
+            });
+        }
+    }
+
+    /// Each of these events of the queue is given to the lane: so many steps more, in this order.
+    fn push_gives(&mut self, lane: usize, queue: usize, row: &[Delivery])
+        requires { length row.now ≤ room self.old }
+        ensures steps { steps self.new ≡ steps self.old ++ gives_of lane queue row.now }
+        ensures room { room self.old ≤ room self.new + length row.now }
+    {
+        for delivery in row {
+            self.push_step(Step::Give {
+                lane,
+                queue,
+                number: delivery.number(),
             });
         }
     }

@@ -1,0 +1,13 @@
+-- The steps of a row of gifts.
+use Rattle.std.specs.Prelude.{ℕ, List, map}
+use Rattle.evt_types.specs.declared.event.Delivery.{Delivery}
+use Rattle.evt_types.specs.declared.step.Step.{Step}
+use Rattle.evt_types.specs.declared.step.Step.TheVariants.{Give}
+
+-- the step by which the lane is given this event of the queue
+abbrev pub give_of : ℕ → ℕ → Delivery → Step
+give_of l q d = Give l q d.number
+
+-- and these
+abbrev pub gives_of : ℕ → ℕ → List Delivery → List Step
+gives_of l q ds = map (give_of l q) ds

@@ -14,10 +14,10 @@ use Rattle.step_tally.specs.declared.counts.QueueCounts.{QueueCounts}
 use Rattle.step_tally.specs.declared.tables.QueueRow.{QueueRow}
 use Rattle.step_tally.proofs.Pushes.{same_queue, same_lane, same_row}
 
-AreCounts-same : {X : Type 0} (f g : ℕ → X) (table : List X) → AreCounts f table → ((k : ℕ) → k < length table → g k ≡ f k) → AreCounts g table
+pub AreCounts-same : {X : Type 0} (f g : ℕ → X) (table : List X) → AreCounts f table → ((k : ℕ) → k < length table → g k ≡ f k) → AreCounts g table
 AreCounts-same f g table h same = λ k d lt. h k d lt ∙ sym (same k lt)
 
-AreCounts-set : {X : Type 0} (f g : ℕ → X) (table : List X) (q : ℕ) (x : X) → AreCounts f table → x ≡ g q → ((k : ℕ) → k ≢ q → g k ≡ f k)
+pub AreCounts-set : {X : Type 0} (f g : ℕ → X) (table : List X) (q : ℕ) (x : X) → AreCounts f table → x ≡ g q → ((k : ℕ) → k ≢ q → g k ≡ f k)
     → AreCounts g (slice_set table q x)
 AreCounts-set f g table q x h here same = λ k d lt. ⊎_elim
     (λ e. get_or-set_at table q k x d e (omega (arith, length-set table q x)) ∙ (here ∙ ap g (sym e)))

@@ -1,4 +1,5 @@
 pub mod Balance
 pub mod Entries
+pub mod GivenRows
 pub mod Pushes
 pub mod RowCounts

@@ -49,6 +49,10 @@ abbrev pub row_after : QueueRow → Step → QueueRow
 row_after r (Give l q n) = record { counts = queue_after r.counts (Give l q n); given = slice_set r.given l (slice_index r.given l + 1) }
 row_after r step = record r { counts = queue_after r.counts step }
 
+-- the row of a queue after so many gifts of it to the lane
+abbrev pub row_given : QueueRow → ℕ → ℕ → QueueRow
+row_given r l n = record { counts = record r.counts { tx = r.counts.tx + n }; given = slice_set r.given l (slice_index r.given l + n) }
+
 -- the lane of which the step is counted
 abbrev pub lane_in : Step → Option ℕ
 lane_in (Accept q e (New l)) = Some l

@@ -3,6 +3,7 @@
 #![tactic(auto)]
 
 mod counts;
+mod gives;
 mod laws;
 mod rows;
 mod tables;

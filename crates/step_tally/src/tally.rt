@@ -4,9 +4,10 @@ ghost use Rattle.std.specs.Prelude.{[], IfOk};
 ghost use Rattle.step_tally.specs.Tables.{AreTables};
 
 use crate::counts::{LaneCounts, QueueCounts};
+use crate::gives::{count_gives_at_lane, count_gives_at_queue};
 use crate::rows::{count_news_at_lane, count_news_at_queue, count_releases};
 use crate::tables::{QueueRow, count_at_lane, count_at_queue};
-use evt_types::{MAX_LANES, MAX_PORTS, MAX_QUEUES, Reply, Step};
+use evt_types::{Delivery, MAX_LANES, MAX_PORTS, MAX_QUEUES, Reply, Step};
 use std::alloc::{AllocFailed, Global};
 use std::marker::Model;
 use step_log::{Memory, StepLog};
@@ -129,6 +130,13 @@ impl<L: StepLog> StepLog for Tally<L> {
     fn push_releases(&mut self, lane: usize, count: usize) {
         self.log.push_releases(lane, count);
         count_releases(&mut self.lanes, &self.log, lane, count);
+    }
+
+    #[inline(always)]
+    fn push_gives(&mut self, lane: usize, queue: usize, row: &[Delivery]) {
+        count_gives_at_queue(&mut self.queues, &self.log, lane, queue, row);
+        count_gives_at_lane(&mut self.lanes, &self.log, lane, queue, row);
+        self.log.push_gives(lane, queue, row);
     }
 
     fn make_room(&mut self, count: usize) -> Result<(), Memory> {

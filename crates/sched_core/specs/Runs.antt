@@ -1,5 +1,5 @@
 -- A run: choices that follow each other, all for one lane (own; Software Eventdev, "Scheduling Quanta").
-use Rattle.std.specs.Prelude.{ℕ, ◌≡◌, ◌+◌, ◌<◌, ◌≤◌, true, List, [], ◌∷◌, length, map, slice_index, slice_set}
+use Rattle.std.specs.Prelude.{ℕ, ◌≡◌, ◌+◌, ◌<◌, ◌≤◌, true, List, [], ◌∷◌, ◌++◌, length, map, slice_index, slice_set, All}
 use Rattle.evt_types.specs.declared.event.Delivery.{Delivery}
 use Rattle.evt_types.specs.declared.step.Step.{Step}
 use Rattle.evt_types.specs.declared.step.Step.TheVariants.{Give}
@@ -26,6 +26,21 @@ gifts_of l ds = map (gift_of l) ds
 abbrev pub AreChoices : ℕ → View → Passed → List Delivery → View → Passed → Type 0
 AreChoices l v s [] w t = (w ≡ v) × (t ≡ s)
 AreChoices l v s (d ∷ ds) w t = IsChoice v s l d.queue (numbered_in d) × AreChoices l (after v (gift_of l d ∷ [])) (given_once s d.queue) ds w t
+
+-- what a sweep passes over, once it gave so many events more of the queue
+abbrev pub given_times : Passed → ℕ → ℕ → Passed
+given_times s q n = record s { given = slice_set s.given q (slice_index s.given q + n) }
+
+-- These events of the queue, no more than so many, were the choices for the lane.
+pub record AreGiven (l q most : ℕ) (v : View) (s : Passed) (ds : List Delivery) (w : View) : Type 0 where
+  pub choices : AreChoices l v s ds w (given_times s q (length ds))
+  pub named : All (λ (d : Delivery). d.queue ≡ q) ds
+  pub few : length ds ≤ most
+  pub shape : w.shape ≡ v.shape
+
+-- by them a run goes on
+abbrev pub GoesOn : ℕ → ℕ → ℕ → View → Passed → List Delivery → View → List Delivery → Type 0
+GoesOn l q most v s run w longer = (ds : List Delivery) × (longer ≡ run ++ ds) × AreGiven l q most v s ds w
 
 -- ---- how a run goes on
 

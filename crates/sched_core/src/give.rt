@@ -39,7 +39,39 @@ impl Core {
         );
     }
 
-    /// The same of an event of the queue, of this level and slot.
+    /// Hands an event of the queue, of this level and slot, to the lane. Its step is not logged yet.
+    #[inline(always)]
+    pub(crate) fn hand_out(
+        &mut self,
+        lane: usize,
+        queue: usize,
+        waiting: &Numbered,
+        level: Level,
+        slot: usize,
+    )
+        requires offer { IsOffer self.old lane queue waiting.now }
+        requires level { level.number ≡ level_of waiting.now.event }
+        requires slot { slot ≡ slot_at self.old queue waiting.now }
+        ensures view { self.new ≡ after self.old (Step.Give lane queue waiting.now.number ∷ []) }
+        ensures shape { self.new.shape ≡ self.old.shape }
+    {
+        let number = waiting.number;
+        // First, so that where the event was looked for just before, what was read of the queue's list serves to take it out too.
+        self.queues.remove(queue, level, slot, number);
+        let place = self.orders.hand(queue, number);
+        self.pins.pin(queue, slot, lane);
+        self.lanes.push(
+            lane,
+            Entry {
+                queue,
+                number,
+                slot,
+                place,
+            },
+        );
+    }
+
+    /// The same, and its step is appended to the log.
     #[inline(always)]
     pub(crate) fn give_at<L: StepLog>(
         &mut self,
@@ -59,24 +91,11 @@ impl Core {
         ensures shape { self.new.shape ≡ self.old.shape }
         ensures room { L.room log.old ≤ L.room log.new + 1 }
     {
-        let number = waiting.number;
-        // First, so that where the event was looked for just before, what was read of the queue's list serves to take it out too.
-        self.queues.remove(queue, level, slot, number);
-        let place = self.orders.hand(queue, number);
-        self.pins.pin(queue, slot, lane);
-        self.lanes.push(
-            lane,
-            Entry {
-                queue,
-                number,
-                slot,
-                place,
-            },
-        );
+        self.hand_out(lane, queue, waiting, level, slot);
         log.push_step(Step::Give {
             lane,
             queue,
-            number,
+            number: waiting.number,
         });
     }
 

@@ -5,7 +5,7 @@ ghost use Rattle.evt_types.specs.Plan.{has_flow_lanes, lanes_of};
 ghost use Rattle.evt_types.specs.declared.shape.TheConstants.{MAX_QUEUES};
 ghost use Rattle.evt_types.specs.declared.step.Step.{Step as StepValue};
 ghost use Rattle.sched_core.specs.Offered.{AreOpenLanes, IsOfferIn, IsOnly, MayHold, numbered_in, slot_at};
-ghost use Rattle.sched_core.specs.Runs.{AreChoices, IsSteady, IsTurn, HasTurn, gifts_of};
+ghost use Rattle.sched_core.specs.Runs.{AreChoices, GoesOn, IsSteady, IsTurn, HasTurn, gifts_of};
 ghost use Rattle.small_set.specs.SmallSets.{Has};
 ghost use Rattle.transcripts.specs.Choice.{IsBetterLane, IsChoice, Passed};
 ghost use Rattle.transcripts.specs.Standing.{Stands, View};
@@ -128,6 +128,38 @@ impl Core {
         self.next_in_run(queue, level, lane, lanes, false).is_some()
     }
 
+    /// Hands out what is chosen next, one by one, as long as that is an event of this queue and level for this lane and is quick to see.
+    /// Nothing is logged or counted yet.
+    #[inline(always)]
+    fn hand_each(
+        &mut self,
+        lane: usize,
+        queue: usize,
+        level: Level,
+        lanes: SmallSet,
+        alone: bool,
+        bound: usize,
+        skips: &Skips,
+        run: &mut ArrayVec<Delivery, 32>,
+    )
+        requires turn { HasTurn self.old skips.now queue level.number }
+        requires ports { has_flow_lanes self.old.shape queue ≡ false }
+        requires steady { IsSteady self.old skips.now lane queue bound lanes }
+        requires alone { IsTrue alone → IsOnly lanes lane }
+        requires counts { length skips.now.given ≡ MAX_QUEUES }
+        requires room { length run.old.items + bound ≤ 32 }
+        ensures { GoesOn lane queue bound self.old skips.now run.old.items self.new run.new.items }
+    {
+        for _ in 0..bound {
+            self.facts();
+            let Some(found) = self.next_in_run(queue, level, lane, lanes, alone) else {
+                return;
+            };
+            self.hand_out(lane, queue, &found.waiting, level, found.slot);
+            run.push(delivery_of(&found));
+        }
+    }
+
     /// Goes on with a run: gives what is chosen next, one by one, as long as that is an event of this queue and level for this lane and is
     /// quick to see. Which lanes are open doesn't change before a count is full. Each caller says for itself whether the lane is the only
     /// open one, so that there is a loop for either.
@@ -158,16 +190,13 @@ impl Core {
         ensures room { L.room log.old + length run.old.items ≤ L.room log.new + length run.new.items }
     {
         let steady = self.steady_for(queue, lane, skips);
-        let bound = steady.min(most).min(MAX_RUN - run.len());
-        for _ in 0..bound {
-            self.facts();
-            let Some(found) = self.next_in_run(queue, level, lane, lanes, alone) else {
-                return;
-            };
-            self.give_at(lane, queue, &found.waiting, level, found.slot, log);
-            run.push(delivery_of(&found));
-            skips.given(queue);
-        }
+        let start = run.len();
+        let bound = steady.min(most).min(MAX_RUN - start);
+        self.facts();
+        self.hand_each(lane, queue, level, lanes, alone, bound, skips, run);
+        let row = &run.as_slice()[start..];
+        log.push_gives(lane, queue, row);
+        skips.given_row(queue, row.len());
     }
 
     /// Gives what was proposed, and then what is chosen after it, one by one, as long as that is an event of the same queue and level for

@@ -1,8 +1,9 @@
 //! What a sweep passes over.
 
-ghost use Rattle.std.specs.Prelude.{◌≡◌, ℕ, ◌+◌, ◌-◌, ◌<◌, ◌↔◌, true, slice_set, slice_index, nat_lt, length};
+ghost use Rattle.std.specs.Prelude.{◌≡◌, ℕ, ◌+◌, ◌-◌, ◌<◌, ◌≤◌, ◌↔◌, true, slice_set, slice_index, nat_lt, length};
 ghost use Rattle.transcripts.specs.Choice.{has_bounced};
 ghost use Rattle.small_set.specs.SmallSets.{Has};
+ghost use Rattle.sched_core.specs.Runs.{given_times};
 ghost use Rattle.sched_core.specs.Skipped.{nothing_passed};
 
 use evt_types::{MAX_LANES, MAX_QUEUES, MAX_SWEEP};
@@ -62,6 +63,17 @@ impl Skips {
         ensures counts { length self.old.given ≡ MAX_QUEUES }
     {
         self.given[queue] += 1;
+    }
+
+    /// So many events of the queue were given.
+    #[inline(always)]
+    pub fn given_row(&mut self, queue: usize, count: usize)
+        requires queue { queue < MAX_QUEUES }
+        requires count { slice_index self.old.given queue + count ≤ MAX_SWEEP }
+        ensures value { self.new ≡ given_times self.old queue count }
+        ensures counts { length self.old.given ≡ MAX_QUEUES }
+    {
+        self.given[queue] += count as u8;
     }
 
     /// Of the first lanes, as many as a set may have members, those that are passed over.

@@ -16,14 +16,14 @@ use Rattle.sched_core.specs.View.{view_in}
 use Rattle.sched_core.specs.declared.state.Core.TheInside.{Inside}
 use Rattle.parked_queue.specs.Waits.{without_number, waits_at}
 use Rattle.sched_core.proofs.Busy.{waits_is}
-use Rattle.sched_core.proofs.state.Core.give_at.Goals as goal
+use Rattle.sched_core.proofs.state.Core.hand_out.Goals as goal
 
 -- the slot is that of the event
 slot_here : (a : Inside) (v : View) (q slot : ℕ) (w : Numbered) → view_in a ≡ v → slot ≡ slot_at v q w → slot ≡ slot_at (view_in a) q w
 slot_here a v q slot w view is = is ∙ ap (λ u. slot_at u q w) (sym view)
 
 pub remove-requires-clause-only : goal.remove-requires-clause-only
-remove-requires-clause-only g c =
+remove-requires-clause-only c =
     let offer : IsOffer (view_in c.self.inside) c.args.lane c.args.queue c.args.waiting.now = subst (λ v. IsOffer v c.args.lane c.args.queue c.args.waiting.now) (sym c.self.view_is) c.requires.offer in
     let h : c.args.queue < length c.self.inside.queues = omega (arith, offer.queue, c.self.invariant.queues) in
     λ k d lt same.
@@ -31,32 +31,32 @@ remove-requires-clause-only g c =
     (ap level_of one ∙ sym c.requires.level, ap (λ (e : Event). e.flow % (waits_at c.self.inside.queues c.args.queue).slots) one ∙ (slot_in_queue c.self.inside c.args.queue (waits_at c.self.inside.queues c.args.queue) c.self.invariant h (waits_is c.self.inside.queues c.args.queue h) c.args.waiting.now ∙ sym (slot_here c.self.inside c.args.self.now c.args.queue c.args.slot c.args.waiting.now c.self.view_is c.requires.slot)))
 
 pub pin-requires-clause-there : goal.pin-requires-clause-there
-pin-requires-clause-there g c =
+pin-requires-clause-there c =
     let queue : c.args.queue < length c.self.inside.shape.queues = subst (λ (v : View). c.args.queue < length v.shape.queues) (sym c.self.view_is) c.requires.offer.queue in
     omega (arith, queue, c.self.invariant.pins.count)
 
 pub pin-requires-clause-may : goal.pin-requires-clause-may
-pin-requires-clause-may g c =
+pin-requires-clause-may c =
     let queue : c.args.queue < length c.self.inside.shape.queues = subst (λ (v : View). c.args.queue < length v.shape.queues) (sym c.self.view_is) c.requires.offer.queue in
     let h : c.args.queue < length c.self.inside.queues = omega (arith, queue, c.self.invariant.queues) in
     offer_may c.self.inside c.args.self.now c.args.lane c.args.queue c.args.slot c.args.waiting.now c.self.invariant c.self.view_is c.requires.offer (slot_here c.self.inside c.args.self.now c.args.queue c.args.slot c.args.waiting.now c.self.view_is c.requires.slot)
 
 pub pin-requires-clause-room : goal.pin-requires-clause-room
-pin-requires-clause-room g c =
+pin-requires-clause-room c =
     let queue : c.args.queue < length c.self.inside.shape.queues = subst (λ (v : View). c.args.queue < length v.shape.queues) (sym c.self.view_is) c.requires.offer.queue in
     let h : c.args.queue < length c.self.inside.queues = omega (arith, queue, c.self.invariant.queues) in
     offer_room c.self.inside c.args.self.now c.args.lane c.args.queue c.args.slot c.args.waiting.now c.self.invariant c.self.view_is c.requires.offer (slot_here c.self.inside c.args.self.now c.args.queue c.args.slot c.args.waiting.now c.self.view_is c.requires.slot)
 
 pub hand-place-requires-clause-there : goal.hand-place-requires-clause-there
-hand-place-requires-clause-there g c =
+hand-place-requires-clause-there c =
     let queue : c.args.queue < length c.self.inside.shape.queues = subst (λ (v : View). c.args.queue < length v.shape.queues) (sym c.self.view_is) c.requires.offer.queue in
     omega (arith, queue, c.self.invariant.places.count)
 
 pub hand-place-requires-clause-room : goal.hand-place-requires-clause-room
-hand-place-requires-clause-room g c = offer_place c.self.inside c.args.self.now c.args.lane c.args.queue c.args.waiting.now c.self.invariant c.self.view_is c.requires.offer
+hand-place-requires-clause-room c = offer_place c.self.inside c.args.self.now c.args.lane c.args.queue c.args.waiting.now c.self.invariant c.self.view_is c.requires.offer
 
 pub invariant_of-self : goal.invariant_of-self
-invariant_of-self g c =
+invariant_of-self c =
     let offer : IsOffer (view_in c.self.inside) c.args.lane c.args.queue c.args.waiting.now = subst (λ v. IsOffer v c.args.lane c.args.queue c.args.waiting.now) (sym c.self.view_is) c.requires.offer in
     let h : c.args.queue < length c.self.inside.queues = omega (arith, offer.queue, c.self.invariant.queues) in
     let k : c.args.lane < length c.self.inside.lanes = omega (arith, offer.lane, c.self.invariant.lanes) in
@@ -68,7 +68,7 @@ invariant_of-self g c =
     refl c.remove.ensures.waits refl refl refl refl (slot_here c.self.inside c.args.self.now c.args.queue c.args.slot c.args.waiting.now c.self.view_is c.requires.slot) c.hand-place.ensures.place c.pin.ensures)
 
 pub returns-clause-view : goal.returns-clause-view
-returns-clause-view g c =
+returns-clause-view c =
     let offer : IsOffer (view_in c.self.inside) c.args.lane c.args.queue c.args.waiting.now = subst (λ v. IsOffer v c.args.lane c.args.queue c.args.waiting.now) (sym c.self.view_is) c.requires.offer in
     let h : c.args.queue < length c.self.inside.queues = omega (arith, offer.queue, c.self.invariant.queues) in
     let k : c.args.lane < length c.self.inside.lanes = omega (arith, offer.lane, c.self.invariant.lanes) in
@@ -81,11 +81,11 @@ returns-clause-view g c =
     ∙ ap (λ v. after_give v c.args.lane c.args.queue c.args.waiting.now.number) c.self.view_is)
 
 pub push-requires-clause-there : goal.push-requires-clause-there
-push-requires-clause-there g c =
+push-requires-clause-there c =
     let offer : IsOffer (view_in c.self.inside) c.args.lane c.args.queue c.args.waiting.now = subst (λ v. IsOffer v c.args.lane c.args.queue c.args.waiting.now) (sym c.self.view_is) c.requires.offer in
     omega (arith, offer.lane, c.self.invariant.lanes)
 
 pub push-requires-clause-room : goal.push-requires-clause-room
-push-requires-clause-room g c =
+push-requires-clause-room c =
     let offer : IsOffer (view_in c.self.inside) c.args.lane c.args.queue c.args.waiting.now = subst (λ v. IsOffer v c.args.lane c.args.queue c.args.waiting.now) (sym c.self.view_is) c.requires.offer in
     (room_here c.self.inside c.args.lane c.self.invariant (omega (arith, offer.lane, c.self.invariant.lanes))).1 offer.room

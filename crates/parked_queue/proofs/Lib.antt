@@ -30,4 +30,5 @@ pub mod Without
 pub mod Changes
 pub mod NewStores
 pub mod Walks
+pub mod LevelHeads
 pub mod LevelRows

@@ -8,5 +8,6 @@ pub mod Merge
 pub mod Parkings
 pub mod Parted
 pub mod Parts
+pub mod Rows
 pub mod Store
 pub mod Waits

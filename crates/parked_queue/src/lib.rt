@@ -10,6 +10,7 @@ mod heads;
 mod level;
 mod parking;
 mod queues;
+mod row;
 mod slot;
 mod waiting;
 

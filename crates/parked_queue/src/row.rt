@@ -1,0 +1,71 @@
+//! The first events of a level, as a row.
+
+ghost use Rattle.std.specs.Prelude.{◌≡◌, ◌+◌, ◌<◌, ◌≤◌, ◌%◌, ◌++◌, List, All, length, map, slice_set};
+ghost use Rattle.evt_types.specs.declared.event.Delivery.{Delivery as DeliveryValue};
+ghost use Rattle.evt_types.specs.declared.event.Numbered.{Numbered as NumberedValue};
+ghost use Rattle.parked_queue.specs.Lists.{list_at, named_delivery};
+ghost use Rattle.parked_queue.specs.Rows.{AreHeads, without_all};
+ghost use Rattle.parked_queue.specs.Waits.{AreWaits, IsOnlyOf, waits_at};
+
+use crate::chain::Node;
+use crate::level::Level;
+use crate::queues::ParkedQueues;
+use crate::waiting::WaitingLists;
+use arrayvec::ArrayVec;
+use evt_types::Delivery;
+
+impl WaitingLists {
+    /// Appends the list's oldest events, no more than so many, each as a delivery of the queue that it names.
+    #[inline(always)]
+    pub(crate) fn push_heads(&self, list: usize, most: usize, into: &mut ArrayVec<Delivery, 32>)
+        requires list { list < length self.now.lists }
+        requires room { length into.old.items + most ≤ 32 }
+        ensures { (heads rest : List NumberedValue) × (list_at self.now list ≡ heads ++ rest) × (into.new.items ≡ into.old.items ++ map named_delivery heads) × (length heads ≤ most) }
+    {
+        let chain = self.chains[list];
+        let mut cursor = chain.first;
+        for _ in 0..most {
+            if cursor == chain.spare {
+                return;
+            }
+            let Node { item, next } = self.nodes[cursor];
+            into.push(Delivery::new(item.event, item.number));
+            cursor = next;
+        }
+    }
+}
+
+impl ParkedQueues {
+    /// Appends the first events of the queue's level as deliveries, no more than so many, where they are quick to see. Where they are
+    /// not, none is appended.
+    #[inline(always)]
+    pub fn push_heads(
+        &self,
+        queue: usize,
+        level: Level,
+        most: usize,
+        into: &mut ArrayVec<Delivery, 32>,
+    )
+        requires there { queue < length self.now }
+        requires room { length into.old.items + most ≤ 32 }
+        ensures { AreHeads (waits_at self.now queue) queue level.number most into.old.items into.new.items }
+    {
+        let asked = &self.queues[queue];
+        if asked.parked[level.number].is_empty() {
+            self.lists.push_heads(asked.base + level.number, most, into);
+        }
+    }
+
+    /// Takes these events out of the queue, which are of the level.
+    #[inline(always)]
+    pub fn remove_row(&mut self, queue: usize, level: Level, row: &[Delivery])
+        requires there { queue < length self.old }
+        requires only { All (λ (d : DeliveryValue). IsOnlyOf (waits_at self.old queue) level.number (d.event.flow % (waits_at self.old queue).slots) d.number) row.now }
+        ensures { self.new ≡ slice_set self.old queue (without_all (waits_at self.old queue) row.now) }
+    {
+        for delivery in row {
+            let slot = self.slot_of(queue, delivery.packed().flow());
+            self.remove(queue, level, slot, delivery.number());
+        }
+    }
+}

@@ -1,7 +1,9 @@
 -- The first events of a level: what they are where none of it is parked, and what is left where they go.
-use Rattle.std.proofs.Common.{◌≡◌, ℕ, ◌<◌, ◌≤◌, ◌==◌, Bool, true, false, cond, List, [], ◌∷◌, ◌++◌, filter, get_or, All, slice_get, ⊎_elim, refl, sym, ap, ◌∙◌, subst, arith, eq-eqb, eqb-true}
-use Rattle.std.proofs.lemmas.Bool.{cases_lt}
-use Rattle.std.proofs.lemmas.List.Elements.{All-filter}
+use Rattle.std.proofs.Common.{◌≡◌, ℕ, ◌<◌, ◌≤◌, ◌==◌, Bool, true, false, cond, List, [], ◌∷◌, ◌++◌, filter, get_or, All, slice_get, ⊎_elim, refl, sym, ap, ◌∙◌, subst, arith, eq-eqb, eqb-true, ◌+◌, length, ◌-◌, ◌%◌, map, drop, set}
+use Rattle.std.proofs.Math.Nat.{mod-lt}
+use Rattle.std.proofs.lemmas.List.{drop-drop, get_or-map, get_or-set_same, length-map, length-set, set-get_or, set-set}
+use Rattle.std.proofs.lemmas.Bool.{cases_lt, cases_eq}
+use Rattle.std.proofs.lemmas.List.Elements.{All-filter, All-head, All-tail, All-weaker}
 use Rattle.std.proofs.lemmas.List.Kept.{AllPairs-filter}
 use Rattle.lists.proofs.Lists.{All-front, eqb_other, eqb_same, filter_agree_all}
 use Rattle.evt_types.specs.Plan.{level_of}
@@ -9,13 +11,22 @@ use Rattle.evt_types.specs.declared.event.Delivery.{Delivery}
 use Rattle.evt_types.specs.declared.event.Numbered.{Numbered}
 use Rattle.small_set.specs.SmallSets.{Has, IsEmpty}
 use Rattle.small_set.specs.declared.set.SmallSet.{SmallSet}
+use Rattle.small_set.specs.SmallSets.{SameBut}
+use Rattle.parked_queue.specs.Busy.{AreNoted}
+use Rattle.parked_queue.specs.Lists.{Lists, has_number, list_at, named_delivery, with_list, without_first}
+use Rattle.parked_queue.specs.Parkings.{IsBut, IsChanged, IsParted, waits_by}
+use Rattle.parked_queue.specs.declared.level.Levels.{Levels}
+use Rattle.parked_queue.specs.declared.parking.Parking.{Parking}
 use Rattle.parked_queue.specs.Merge.{is_in}
-use Rattle.parked_queue.specs.Parted.{HasMarks, Parted, below_at, list_in, list_of}
+use Rattle.parked_queue.specs.Parted.{HasMarks, Parted, below_at, list_count, list_in, list_of}
 use Rattle.parked_queue.specs.Rows.{at_level, is_at, without_all}
-use Rattle.parked_queue.specs.Waits.{AreNamed, AreWaits, IsFirstAllowed, IsOnlyOf, IsRising, Waits, is_other, slot_of, without_number}
+use Rattle.parked_queue.specs.Waits.{AreNamed, AreWaits, IsFirstAllowed, IsOnlyOf, IsRising, Waits, is_other, slot_of, without_number, waits_at, no_waits}
 use Rattle.parked_queue.proofs.Holding.{list_if_not, list_if_parked}
 use Rattle.parked_queue.proofs.Splits.{first_least, first_split, first_there}
-use Rattle.parked_queue.proofs.Without.{first_out}
+use Rattle.parked_queue.proofs.Calls.{headless, level_list, list_there}
+use Rattle.parked_queue.proofs.Seen.{noted_less}
+use Rattle.parked_queue.proofs.Segments.{but_none, but_then}
+use Rattle.parked_queue.proofs.Without.{first_out, list_same}
 
 -- an event is in the level's own list just where it is of the level, if none of it is parked
 own_test : (slots : ℕ) (below : List ℕ) (c : ℕ) (u : Numbered) → c < 4 → (level_of u.event ≡ c → below_at below c ≤ u.number) → is_in (list_of slots below) c u ≡ is_at c u
@@ -91,3 +102,113 @@ only_still v c slot n (d ∷ ds) only =
 pub slots_still : (v : Waits) (ds : List Delivery) → (without_all v ds).slots ≡ v.slots
 slots_still v [] = refl
 slots_still v (d ∷ ds) = slots_still (without_number v d.number) ds
+
+-- ---- the first events of a list go
+
+pub dropped_at : (l m : Lists) (k : ℕ) (xs : List Numbered) → k < length l.lists → m ≡ with_list l k xs → list_at m k ≡ xs
+dropped_at l m k xs there is = ap (λ x. list_at x k) is ∙ get_or-set_same l.lists k xs [] there
+
+with_twice : (l : Lists) (k : ℕ) (xs ys : List Numbered) → with_list (with_list l k xs) k ys ≡ with_list l k ys
+with_twice l k xs ys = ap (λ ls. record l { lists = ls }) (set-set l.lists k xs ys)
+
+pub dropped_more : (l m : Lists) (k i : ℕ) → k < length l.lists → m ≡ with_list l k (drop i (list_at l k)) → without_first m k ≡ with_list l k (drop (i + 1) (list_at l k))
+dropped_more l m k i there is =
+    ap (λ xs. with_list m k (drop 1 xs)) (dropped_at l m k (drop i (list_at l k)) there is)
+    ∙ (ap (λ x. with_list x k (drop 1 (drop i (list_at l k)))) is
+    ∙ (with_twice l k (drop i (list_at l k)) (drop 1 (drop i (list_at l k))) ∙ ap (with_list l k) (drop-drop 1 i (list_at l k))))
+
+-- one change after another
+changed_on : (l m k : Lists) (p x y : Parking) (u w : Waits) → IsChanged l p m x u → IsChanged m x k y w → IsChanged l p k y w
+changed_on l m k p x y u w first then =
+    record {
+      part = then.part;
+      base = then.base ∙ first.base;
+      slots = then.slots ∙ first.slots;
+      but = but_then p.base (list_count p.slots) l m k first.but (subst (λ b. IsBut b (list_count p.slots) m k) first.base (subst (λ s. IsBut x.base (list_count s) m k) first.slots then.but));
+      waits = then.waits;
+    }
+
+-- the first events of the level's own list go, so many
+pub heads_gone : (l : Lists) (p : Parking) (c : ℕ) (hs rest : List Numbered) → IsParted l p → c < 4 → list_at l (p.base + c) ≡ hs ++ rest
+    → All (λ (w : Numbered). IsOnlyOf (waits_by l p) c (w.event.flow % p.slots) w.number) hs
+    → (length hs ≤ p.count) × IsChanged l p (with_list l (p.base + c) (drop (length hs) (list_at l (p.base + c)))) (record p { count = p.count - length hs }) (without_all (waits_by l p) (map named_delivery hs))
+heads_gone l p c [] rest is few whole only =
+    let same : with_list l (p.base + c) (drop 0 (list_at l (p.base + c))) ≡ l = list_same l (p.base + c) in
+    let none : ◌≡◌ {A = Parking} (record p { count = p.count - 0 }) p = ap (λ k. record p { count = k }) (omega arith) in (
+      omega arith,
+      subst (λ m. IsChanged l p m (record p { count = p.count - 0 }) (waits_by l p)) (sym same)
+          (subst (λ x. IsChanged l p l x (waits_by l p)) (sym none) (record { part = is; base = refl; slots = refl; but = but_none p.base (list_count p.slots) l; waits = refl })),
+    )
+heads_gone l p c (w ∷ hs) rest is few whole only =
+    let k : ℕ = p.base + c in
+    let m : Lists = without_first l k in
+    let x : Parking = record p { count = p.count - 1 } in
+    let there : k < length l.lists = list_there l p is c (level_list l p is c few) in
+    let some = is.parking.waits.some in
+    let one = headless l p is m c (w.event.flow % p.slots) w.number few (mod-lt w.event.flow some) (All-head (λ (u : Numbered). IsOnlyOf (waits_by l p) c (u.event.flow % p.slots) u.number) w hs only)
+    (ap (λ us. has_number w.number (slice_get us 0)) whole ∙ eqb_same w.number) refl
+    in
+    let left : list_at m k ≡ hs ++ rest = dropped_at l m k (drop 1 (list_at l k)) there refl ∙ ap (drop 1) whole in
+    let on = heads_gone m x c hs rest one.1.part few left
+    (All-weaker (λ (u : Numbered). IsOnlyOf (waits_by l p) c (u.event.flow % p.slots) u.number) (λ (u : Numbered). IsOnlyOf (waits_by m x) c (u.event.flow % p.slots) u.number)
+    (λ u o. subst (λ v. IsOnlyOf v c (u.event.flow % p.slots) u.number) (sym one.1.waits) (only_still (waits_by l p) c (u.event.flow % p.slots) u.number (named_delivery w ∷ []) o)) hs
+    (All-tail (λ (u : Numbered). IsOnlyOf (waits_by l p) c (u.event.flow % p.slots) u.number) w hs only))
+    in
+    let lists : with_list m k (drop (length hs) (list_at m k)) ≡ with_list l k (drop (1 + length hs) (list_at l k)) =
+    ap (λ xs. with_list m k (drop (length hs) xs)) (dropped_at l m k (drop 1 (list_at l k)) there refl)
+    ∙ (with_twice l k (drop 1 (list_at l k)) (drop (length hs) (drop 1 (list_at l k))) ∙ ap (with_list l k) (drop-drop (length hs) 1 (list_at l k)))
+    in
+    let longer : 1 + length hs ≡ length (w ∷ hs) = omega arith in
+    let counts : p.count - 1 - length hs ≡ p.count - length (w ∷ hs) = omega arith in (
+      omega (arith, one.0, on.0),
+      subst (λ n. IsChanged l p n (record p { count = p.count - length (w ∷ hs) }) (without_all (waits_by l p) (map named_delivery (w ∷ hs)))) (lists ∙ ap (λ j. with_list l k (drop j (list_at l k))) longer)
+          (subst (λ j. IsChanged l p (with_list m k (drop (length hs) (list_at m k))) (record p { count = j }) (without_all (waits_by l p) (map named_delivery (w ∷ hs)))) counts
+          (subst (λ v. IsChanged l p (with_list m k (drop (length hs) (list_at m k))) (record x { count = x.count - length hs }) (without_all v (map named_delivery hs))) one.1.waits
+          (changed_on l m (with_list m k (drop (length hs) (list_at m k))) p x (record x { count = x.count - length hs }) (without_number (waits_by l p) w.number) (without_all (waits_by m x) (map named_delivery hs)) one.1 on.1))),
+    )
+
+-- ---- what is said of all queues
+
+pub noted_all : (qs : List Waits) (ls : List Levels) (busy : SmallSet) (q : ℕ) (ds : List Delivery) → q < length qs → AreNoted qs ls busy → AreNoted (set qs q (without_all (waits_at qs q) ds)) ls busy
+noted_all qs ls busy q [] there noted = subst (λ xs. AreNoted xs ls busy) (sym (set-get_or qs q (no_waits 1 0))) noted
+noted_all qs ls busy q (d ∷ ds) there noted =
+    let u : Waits = without_number (waits_at qs q) d.number in
+    let here : waits_at (set qs q u) q ≡ u = get_or-set_same qs q u (no_waits 1 0) there in
+    subst (λ xs. AreNoted xs ls busy) (ap (λ v. set (set qs q u) q (without_all v ds)) here ∙ set-set qs q u (without_all u ds))
+    (noted_all (set qs q u) ls busy q ds (omega (arith, there, length-set qs q u)) (noted_less qs qs ls busy q noted refl there d.number))
+
+-- nothing is left in the queue
+pub noted_none : (qs : List Waits) (ls : List Levels) (busy now : SmallSet) (q : ℕ) → q < length qs → AreNoted qs ls busy → (waits_at qs q).waiting ≡ [] → SameBut q busy now → AreNoted qs ls now
+noted_none qs ls busy now q there noted none same =
+    record {
+      levels = noted.levels;
+      busy =
+          record {
+            few = noted.busy.few;
+            there = λ k has. ⊎_elim (λ e. omega (arith, e, there)) (λ ne. noted.busy.there k ((same k ne).0 has)) (cases_eq k q);
+            rest = λ k never. ⊎_elim (λ e. ap (λ j. (waits_at qs j).waiting) e ∙ none) (λ ne. noted.busy.rest k (λ has. never ((same k ne).1 has))) (cases_eq k q);
+          };
+      named = noted.named;
+    }
+
+-- what is said of a row's events, said of its heads
+pub only_heads : (v w : Waits) (c n : ℕ) (row : List Delivery) (hs : List Numbered) → v ≡ w → v.slots ≡ n → row ≡ map named_delivery hs → All (λ (d : Delivery). IsOnlyOf w c (d.event.flow % w.slots) d.number) row
+    → All (λ (u : Numbered). IsOnlyOf v c (u.event.flow % n) u.number) hs
+only_heads v w c n row hs same slots is only k d lt =
+    let all : All (λ (e : Delivery). IsOnlyOf v c (e.event.flow % n) e.number) (map named_delivery hs) =
+    subst (All (λ (e : Delivery). IsOnlyOf v c (e.event.flow % n) e.number)) is
+    (subst (λ m. All (λ (e : Delivery). IsOnlyOf v c (e.event.flow % m) e.number) row) slots (subst (λ x. All (λ (e : Delivery). IsOnlyOf x c (e.event.flow % x.slots) e.number) row) (sym same) only))
+    in
+    subst (λ (e : Delivery). IsOnlyOf v c (e.event.flow % n) e.number) (get_or-map named_delivery hs k d (named_delivery d) lt) (all k (named_delivery d) (omega (arith, lt, length-map hs named_delivery)))
+
+-- the change that a row of heads makes, where it is as long
+pub row_gone : (l m : Lists) (p : Parking) (c : ℕ) (hs rest : List Numbered) (row : List Delivery) → IsParted l p → c < 4 → list_at l (p.base + c) ≡ hs ++ rest → All (λ (w : Numbered). IsOnlyOf (waits_by l p) c (w.event.flow % p.slots) w.number) hs
+    → row ≡ map named_delivery hs → m ≡ with_list l (p.base + c) (drop (length row) (list_at l (p.base + c))) → (length row ≤ p.count) × IsChanged l p m (record p { count = p.count - length row }) (without_all (waits_by l p) row)
+row_gone l m p c hs rest row is few whole only row_is gone =
+    let went = heads_gone l p c hs rest is few whole only in
+    let long : length hs ≡ length row = sym (ap length row_is ∙ length-map hs named_delivery) in (
+      omega (arith, long, went.0),
+      subst (λ x. IsChanged l p x (record p { count = p.count - length row }) (without_all (waits_by l p) row)) (sym gone)
+          (subst (λ ds. IsChanged l p (with_list l (p.base + c) (drop (length row) (list_at l (p.base + c)))) (record p { count = p.count - length row }) (without_all (waits_by l p) ds)) (sym row_is)
+          (subst (λ n. IsChanged l p (with_list l (p.base + c) (drop n (list_at l (p.base + c)))) (record p { count = p.count - n }) (without_all (waits_by l p) (map named_delivery hs))) long went.1)),
+    )

@@ -17,4 +17,5 @@ mod waiting;
 pub use first::Found;
 pub use level::{Level, Levels};
 pub use queues::ParkedQueues;
+pub use slot::QueueSlots;
 pub use waiting::WaitingLists;

@@ -31,7 +31,7 @@ pub struct ParkedQueues {
     /// For each queue the levels of which an event waits. One that has become empty leaves when it is next looked at.
     levels: Vec<Levels>,
     /// The queues in which something waits.
-    busy: SmallSet,
+    pub(crate) busy: SmallSet,
 }
 
 impl Model for ParkedQueues {

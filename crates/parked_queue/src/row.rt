@@ -1,15 +1,16 @@
 //! The first events of a level, as a row.
 
-ghost use Rattle.std.specs.Prelude.{◌≡◌, ◌+◌, ◌<◌, ◌≤◌, ◌%◌, ◌++◌, List, All, length, map, slice_set};
+ghost use Rattle.std.specs.Prelude.{◌≡◌, ◌+◌, ◌<◌, ◌≤◌, ◌%◌, ◌++◌, List, All, drop, length, map, slice_set};
 ghost use Rattle.evt_types.specs.declared.event.Delivery.{Delivery as DeliveryValue};
 ghost use Rattle.evt_types.specs.declared.event.Numbered.{Numbered as NumberedValue};
-ghost use Rattle.parked_queue.specs.Lists.{list_at, named_delivery};
-ghost use Rattle.parked_queue.specs.Rows.{AreHeads, without_all};
-ghost use Rattle.parked_queue.specs.Waits.{AreWaits, IsOnlyOf, waits_at};
+ghost use Rattle.parked_queue.specs.Lists.{list_at, named_delivery, with_list};
+ghost use Rattle.parked_queue.specs.Rows.{AreHeads, at_level, without_all};
+ghost use Rattle.parked_queue.specs.Waits.{IsOnlyOf, waits_at};
 
 use crate::chain::Node;
 use crate::level::Level;
 use crate::queues::ParkedQueues;
+use crate::slot::QueueSlots;
 use crate::waiting::WaitingLists;
 use arrayvec::ArrayVec;
 use evt_types::Delivery;
@@ -31,6 +32,18 @@ impl WaitingLists {
             let Node { item, next } = self.nodes[cursor];
             into.push(Delivery::new(item.event, item.number));
             cursor = next;
+        }
+    }
+
+    /// Takes the list's oldest events out, so many.
+    #[inline(always)]
+    pub(crate) fn drop_heads(&mut self, list: usize, count: usize)
+        requires list { list < length self.old.lists }
+        requires some { count ≤ length (list_at self.old list) }
+        ensures { self.new ≡ with_list self.old list (drop count (list_at self.old list)) }
+    {
+        for _ in 0..count {
+            self.drop_first(list);
         }
     }
 }
@@ -56,9 +69,43 @@ impl ParkedQueues {
         }
     }
 
-    /// Takes these events out of the queue, which are of the level.
+    /// The slots of the queue.
+    #[inline(always)]
+    pub fn slots(&self, queue: usize) -> QueueSlots
+        requires { queue < length self.now }
+        ensures { result.count ≡ (waits_at self.now queue).slots }
+    {
+        let asked = &self.queues[queue];
+        QueueSlots {
+            count: asked.slots,
+            mask: asked.mask,
+        }
+    }
+
+    /// Takes the first events of the queue's level out, which are these.
     #[inline(always)]
     pub fn remove_row(&mut self, queue: usize, level: Level, row: &[Delivery])
+        requires there { queue < length self.old }
+        requires heads { (heads rest : List NumberedValue) × (at_level level.number (waits_at self.old queue) ≡ heads ++ rest) × (row.now ≡ map named_delivery heads) }
+        requires only { All (λ (d : DeliveryValue). IsOnlyOf (waits_at self.old queue) level.number (d.event.flow % (waits_at self.old queue).slots) d.number) row.now }
+        ensures { self.new ≡ slice_set self.old queue (without_all (waits_at self.old queue) row.now) }
+    {
+        let asked = &self.queues[queue];
+        if !asked.parked[level.number].is_empty() {
+            self.remove_each(queue, level, row);
+            return;
+        }
+        let left = &mut self.queues[queue];
+        self.lists.drop_heads(left.base + level.number, row.len());
+        left.count -= row.len();
+        if left.count == 0 {
+            self.busy.remove(queue);
+        }
+    }
+
+    /// The same of any events of the level.
+    #[cold]
+    fn remove_each(&mut self, queue: usize, level: Level, row: &[Delivery])
         requires there { queue < length self.old }
         requires only { All (λ (d : DeliveryValue). IsOnlyOf (waits_at self.old queue) level.number (d.event.flow % (waits_at self.old queue).slots) d.number) row.now }
         ensures { self.new ≡ slice_set self.old queue (without_all (waits_at self.old queue) row.now) }

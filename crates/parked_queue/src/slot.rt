@@ -49,3 +49,24 @@ pub(crate) fn parked_list(level: Level, slot: usize) -> usize
 {
     LEVELS * (slot + 1) + level.number
 }
+
+/// The slots of a queue, by which the slot of a flow is found without the queue.
+#[derive(Clone, Copy)]
+pub struct QueueSlots {
+    pub count: usize,
+    pub(crate) mask: usize,
+    pub ghost masked: { IsMasked count mask },
+}
+
+impl QueueSlots {
+    ghost use Rattle.std.specs.Prelude.{◌≡◌, ◌%◌, ◌<◌};
+
+    /// The flow's slot.
+    #[inline(always)]
+    pub fn of(self, flow: u32) -> usize
+        ensures value { result ≡ flow % self.count }
+        ensures within { result < self.count }
+    {
+        slot_in(self.count, self.mask, flow)
+    }
+}

@@ -122,7 +122,7 @@ impl WaitingLists {
 
     /// Takes the oldest event of the list out, which is there.
     #[inline(always)]
-    fn drop_first(&mut self, list: usize)
+    pub(crate) fn drop_first(&mut self, list: usize)
         requires list { list < length self.old.lists }
         requires some { 0 < length (list_at self.old list) }
         ensures { self.new ≡ without_first self.old list }

@@ -1,46 +1,109 @@
-use Rattle.std.proofs.Common.{◌≡◌, ◌+◌, ◌<◌, ◌++◌, ◌∷◌, ◌%◌, [], ℕ, All, List, ap, get_or, length, set, subst, sym, take, ◌∙◌}
-use Rattle.std.proofs.lemmas.List.{get_or-set_same, set-get_or, set-set, take_more}
-use Rattle.evt_types.specs.declared.event.Delivery.{Delivery}
-use Rattle.evt_types.specs.declared.event.Event.{Event}
-use Rattle.parked_queue.specs.Rows.{without_all}
-use Rattle.parked_queue.specs.Waits.{IsOnlyOf, Waits, no_waits, waits_at, without_number}
-use Rattle.parked_queue.proofs.LevelHeads.{only_still, slots_still, without_more}
+use Rattle.std.proofs.Common.{◌+◌, ◌-◌, ◌∙◌, ap, arith, drop, length, refl, set, subst, sym}
+use Rattle.std.proofs.lemmas.List.{get_or-set_same, length-append, length-map, length-set}
+use Rattle.small_set.specs.SmallSets.{IsEmpty}
+use Rattle.parked_queue.specs.Busy.{AreNoted}
+use Rattle.parked_queue.specs.Lists.{list_at, named_delivery, with_list}
+use Rattle.parked_queue.specs.Marks.{marks_at}
+use Rattle.parked_queue.specs.Parkings.{parted_by, waits_by}
+use Rattle.parked_queue.specs.Rows.{at_level, without_all}
+use Rattle.parked_queue.specs.Waits.{Waits, no_waits, waits_at}
+use Rattle.parked_queue.specs.declared.parking.Parking.{Parking}
+use Rattle.parked_queue.proofs.Calls.{level_list, list_is, marks_are}
+use Rattle.parked_queue.proofs.LevelHeads.{noted_all, noted_none, only_heads, own_list, row_gone}
+use Rattle.parked_queue.proofs.Parkings.{asked, queues_changed, waits_changed}
+use Rattle.std.proofs.lemmas.List.{nil_from_length}
 use Rattle.parked_queue.proofs.queues.ParkedQueues.remove_row.Goals as goal
 
--- the queue at this turn
-at_turn : (qs now : List Waits) (q : ℕ) (w : Waits) → q < length qs → now ≡ set qs q w → waits_at now q ≡ w
-at_turn qs now q w there is = ap (λ xs. waits_at xs q) is ∙ get_or-set_same qs q w (no_waits 1 0) there
+pub drop_heads-requires-clause-some : goal.drop_heads-requires-clause-some
+drop_heads-requires-clause-some c =
+    let q = c.args.queue in
+    let k = c.args.level.number in
+    let l = c.self.inside.lists in
+    let p = c.index_mut-left.result.now in
+    let a = asked l c.self.inside.queues.items c.args.self.now q c.self.invariant.parkings c.self.view_is c.requires.there p c.index_mut-left.ensures.value in
+    let b = asked l c.self.inside.queues.items c.args.self.now q c.self.invariant.parkings c.self.view_is c.requires.there c.index-asked.result.now c.index-asked.ensures in
+    let heads = c.requires.heads in
+    let empty = subst (λ (x : Parking). IsEmpty (marks_at x.parked k)) (b.is ∙ sym a.is) (c.if-not-is_empty.ensures.0 refl) in
+    let own = list_is l p a.part k (level_list l p a.part k c.args.level.few) ∙ (own_list (parted_by l p) k (marks_at p.parked k) c.args.level.few (marks_are l p a.part k) empty ∙ (ap (at_level k) a.waits ∙ heads.2)) in
+    omega (arith, ap length own, ap length heads.3, length-map heads.0 named_delivery, length-append heads.0 heads.1)
 
-pub loop-delivery-init : goal.loop-delivery-init
-loop-delivery-init c = sym (set-get_or c.args.self.now c.args.queue (no_waits 1 0))
+pub overflow_sub-left : goal.overflow_sub-left
+overflow_sub-left c =
+    let q = c.args.queue in
+    let k = c.args.level.number in
+    let l = c.self.inside.lists in
+    let p = c.index_mut-left.result.now in
+    let a = asked l c.self.inside.queues.items c.args.self.now q c.self.invariant.parkings c.self.view_is c.requires.there p c.index_mut-left.ensures.value in
+    let b = asked l c.self.inside.queues.items c.args.self.now q c.self.invariant.parkings c.self.view_is c.requires.there c.index-asked.result.now c.index-asked.ensures in
+    let heads = c.requires.heads in
+    let empty = subst (λ (x : Parking). IsEmpty (marks_at x.parked k)) (b.is ∙ sym a.is) (c.if-not-is_empty.ensures.0 refl) in
+    let own = list_is l p a.part k (level_list l p a.part k c.args.level.few) ∙ (own_list (parted_by l p) k (marks_at p.parked k) c.args.level.few (marks_are l p a.part k) empty ∙ (ap (at_level k) a.waits ∙ heads.2)) in
+    let only = only_heads (waits_by l p) (waits_at c.args.self.now q) k p.slots c.args.row.now heads.0 a.waits refl heads.3 c.requires.only in
+    let went = row_gone l (with_list l (p.base + k) (drop (length c.args.row.now) (list_at l (p.base + k)))) p k heads.0 heads.1 c.args.row.now a.part c.args.level.few own only heads.3 refl in
+    went.0
 
--- what was asked of the row, of its event at this turn
-only_at_turn : (w now : Waits) (c slot n i : ℕ) (row : List Delivery) (d : Delivery) → All (λ (e : Delivery). IsOnlyOf w c (e.event.flow % w.slots) e.number) row → i < length row → d ≡ get_or row i d → now ≡ without_all w (take i row) → slot ≡ d.event.flow % now.slots → n ≡ d.number → IsOnlyOf now c slot n
-only_at_turn w now c slot n i row d only lt is at here number =
-    let this : IsOnlyOf w c (d.event.flow % w.slots) d.number = subst (λ (e : Delivery). IsOnlyOf w c (e.event.flow % w.slots) e.number) (sym is) (only i d lt) in
-    let slots : now.slots ≡ w.slots = ap (λ (x : Waits). x.slots) at ∙ slots_still w (take i row) in
-    subst (λ x. IsOnlyOf x c slot n) (sym at)
-    (subst (λ k. IsOnlyOf (without_all w (take i row)) c slot k) (sym number)
-    (subst (λ k. IsOnlyOf (without_all w (take i row)) c k d.number) (sym (here ∙ ap (λ k. d.event.flow % k) slots)) (only_still w c (d.event.flow % w.slots) d.number (take i row) this)))
+pub invariant_of-self : goal.invariant_of-self
+invariant_of-self c =
+    let q = c.args.queue in
+    let k = c.args.level.number in
+    let l = c.self.inside.lists in
+    let p = c.index_mut-left.result.now in
+    let a = asked l c.self.inside.queues.items c.args.self.now q c.self.invariant.parkings c.self.view_is c.requires.there p c.index_mut-left.ensures.value in
+    let b = asked l c.self.inside.queues.items c.args.self.now q c.self.invariant.parkings c.self.view_is c.requires.there c.index-asked.result.now c.index-asked.ensures in
+    let heads = c.requires.heads in
+    let empty = subst (λ (x : Parking). IsEmpty (marks_at x.parked k)) (b.is ∙ sym a.is) (c.if-not-is_empty.ensures.0 refl) in
+    let own = list_is l p a.part k (level_list l p a.part k c.args.level.few) ∙ (own_list (parted_by l p) k (marks_at p.parked k) c.args.level.few (marks_are l p a.part k) empty ∙ (ap (at_level k) a.waits ∙ heads.2)) in
+    let only = only_heads (waits_by l p) (waits_at c.args.self.now q) k p.slots c.args.row.now heads.0 a.waits refl heads.3 c.requires.only in
+    let went = row_gone l (c.drop_heads.new.self) p k heads.0 heads.1 c.args.row.now a.part c.args.level.few own only heads.3 c.drop_heads.ensures in
+    let now : Waits = without_all (waits_at c.args.self.now q) c.args.row.now in
+    let here = get_or-set_same c.args.self.now q now (no_waits 1 0) c.requires.there in
+    let none = nil_from_length (waits_at (set c.args.self.now q now) q).waiting (ap (λ (w : Waits). length w.waiting) here ∙ (ap (λ w. length (without_all w c.args.row.now).waiting) (sym a.waits) ∙ (ap (λ (w : Waits). length w.waiting) (sym went.1.waits) ∙ (sym went.1.part.count ∙ c.if-left-eq0.true)))) in
+    queues_changed l c.self.inside.queues.items c.args.self.now q c.self.invariant.parkings c.self.view_is c.requires.there c.drop_heads.new.self p (record p { count = p.count - length c.args.row.now }) (λ w. without_all w c.args.row.now) c.index_mut-left.ensures.value went.1 c.self.inside.levels.items c.remove.new.self
+    (noted_none (set c.args.self.now q now) c.self.inside.levels.items c.self.inside.busy c.remove.new.self q (omega (arith, c.requires.there, length-set c.args.self.now q now))
+    (noted_all c.args.self.now c.self.inside.levels.items c.self.inside.busy q c.args.row.now c.requires.there (subst (λ ws. AreNoted ws c.self.inside.levels.items c.self.inside.busy) c.self.view_is c.self.invariant.noted)) none c.remove.ensures.others)
 
-pub remove-requires-clause-only : goal.remove-requires-clause-only
-remove-requires-clause-only c =
-    only_at_turn (waits_at c.args.self.now c.args.queue) (waits_at c.loop-delivery.self c.args.queue) c.args.level.number c.slot_of-slot.result c.number.result c.loop-delivery.delivery-index c.args.row.now c.delivery-item.result c.requires.only c.loop-delivery-test.true c.delivery-item.is
-    (at_turn c.args.self.now c.loop-delivery.self c.args.queue (without_all (waits_at c.args.self.now c.args.queue) (take c.loop-delivery.delivery-index c.args.row.now)) c.requires.there c.loop-delivery.invariant)
-    (c.slot_of-slot.ensures.value ∙ ap (λ f. f % (waits_at c.loop-delivery.self c.args.queue).slots) (c.flow.ensures ∙ ap (λ (e : Event). e.flow) c.packed.ensures)) c.number.ensures
+pub invariant_of-self-else-left-eq0 : goal.invariant_of-self-else-left-eq0
+invariant_of-self-else-left-eq0 c =
+    let q = c.args.queue in
+    let k = c.args.level.number in
+    let l = c.self.inside.lists in
+    let p = c.index_mut-left.result.now in
+    let a = asked l c.self.inside.queues.items c.args.self.now q c.self.invariant.parkings c.self.view_is c.requires.there p c.index_mut-left.ensures.value in
+    let b = asked l c.self.inside.queues.items c.args.self.now q c.self.invariant.parkings c.self.view_is c.requires.there c.index-asked.result.now c.index-asked.ensures in
+    let heads = c.requires.heads in
+    let empty = subst (λ (x : Parking). IsEmpty (marks_at x.parked k)) (b.is ∙ sym a.is) (c.if-not-is_empty.ensures.0 refl) in
+    let own = list_is l p a.part k (level_list l p a.part k c.args.level.few) ∙ (own_list (parted_by l p) k (marks_at p.parked k) c.args.level.few (marks_are l p a.part k) empty ∙ (ap (at_level k) a.waits ∙ heads.2)) in
+    let only = only_heads (waits_by l p) (waits_at c.args.self.now q) k p.slots c.args.row.now heads.0 a.waits refl heads.3 c.requires.only in
+    let went = row_gone l (c.drop_heads.new.self) p k heads.0 heads.1 c.args.row.now a.part c.args.level.few own only heads.3 c.drop_heads.ensures in
+    queues_changed l c.self.inside.queues.items c.args.self.now q c.self.invariant.parkings c.self.view_is c.requires.there c.drop_heads.new.self p (record p { count = p.count - length c.args.row.now }) (λ w. without_all w c.args.row.now) c.index_mut-left.ensures.value went.1 c.self.inside.levels.items c.self.inside.busy
+    (noted_all c.args.self.now c.self.inside.levels.items c.self.inside.busy q c.args.row.now c.requires.there (subst (λ ws. AreNoted ws c.self.inside.levels.items c.self.inside.busy) c.self.view_is c.self.invariant.noted))
 
--- the queues after this turn
-turned : (qs now later : List Waits) (q n i : ℕ) (row : List Delivery) (d : Delivery) → q < length qs → now ≡ set qs q (without_all (waits_at qs q) (take i row)) → i < length row → d ≡ get_or row i d → n ≡ d.number
-    → later ≡ set now q (without_number (waits_at now q) n) → later ≡ set qs q (without_all (waits_at qs q) (take (i + 1) row))
-turned qs now later q n i row d there was lt is number step =
-    let w : Waits = without_all (waits_at qs q) (take i row) in
-    let more : take (i + 1) row ≡ take i row ++ d ∷ [] = take_more row i d lt ∙ ap (λ e. take i row ++ e ∷ []) (sym is) in
-    step
-    ∙ (ap (λ x. set now q (without_number x n)) (at_turn qs now q w there was)
-    ∙ (ap (λ xs. set xs q (without_number w n)) was
-    ∙ (set-set qs q w (without_number w n)
-    ∙ (ap (λ k. set qs q (without_number w k)) number ∙ (ap (set qs q) (sym (without_more (waits_at qs q) (take i row) d)) ∙ ap (λ ds. set qs q (without_all (waits_at qs q) ds)) (sym more))))))
+pub returns-then-left-eq0 : goal.returns-then-left-eq0
+returns-then-left-eq0 c =
+    let q = c.args.queue in
+    let k = c.args.level.number in
+    let l = c.self.inside.lists in
+    let p = c.index_mut-left.result.now in
+    let a = asked l c.self.inside.queues.items c.args.self.now q c.self.invariant.parkings c.self.view_is c.requires.there p c.index_mut-left.ensures.value in
+    let b = asked l c.self.inside.queues.items c.args.self.now q c.self.invariant.parkings c.self.view_is c.requires.there c.index-asked.result.now c.index-asked.ensures in
+    let heads = c.requires.heads in
+    let empty = subst (λ (x : Parking). IsEmpty (marks_at x.parked k)) (b.is ∙ sym a.is) (c.if-not-is_empty.ensures.0 refl) in
+    let own = list_is l p a.part k (level_list l p a.part k c.args.level.few) ∙ (own_list (parted_by l p) k (marks_at p.parked k) c.args.level.few (marks_are l p a.part k) empty ∙ (ap (at_level k) a.waits ∙ heads.2)) in
+    let only = only_heads (waits_by l p) (waits_at c.args.self.now q) k p.slots c.args.row.now heads.0 a.waits refl heads.3 c.requires.only in
+    let went = row_gone l (c.drop_heads.new.self) p k heads.0 heads.1 c.args.row.now a.part c.args.level.few own only heads.3 c.drop_heads.ensures in
+    waits_changed l c.self.inside.queues.items c.args.self.now q c.self.invariant.parkings c.self.view_is c.requires.there c.drop_heads.new.self p (record p { count = p.count - length c.args.row.now }) (λ w. without_all w c.args.row.now) c.index_mut-left.ensures.value went.1
 
-pub loop-delivery-preserved : goal.loop-delivery-preserved
-loop-delivery-preserved c =
-    turned c.args.self.now c.loop-delivery.self c.remove.new.self c.args.queue c.number.result c.loop-delivery.delivery-index c.args.row.now c.delivery-item.result c.requires.there c.loop-delivery.invariant c.loop-delivery-test.true c.delivery-item.is c.number.ensures c.remove.ensures.value
+pub returns-else-left-eq0 : goal.returns-else-left-eq0
+returns-else-left-eq0 c =
+    let q = c.args.queue in
+    let k = c.args.level.number in
+    let l = c.self.inside.lists in
+    let p = c.index_mut-left.result.now in
+    let a = asked l c.self.inside.queues.items c.args.self.now q c.self.invariant.parkings c.self.view_is c.requires.there p c.index_mut-left.ensures.value in
+    let b = asked l c.self.inside.queues.items c.args.self.now q c.self.invariant.parkings c.self.view_is c.requires.there c.index-asked.result.now c.index-asked.ensures in
+    let heads = c.requires.heads in
+    let empty = subst (λ (x : Parking). IsEmpty (marks_at x.parked k)) (b.is ∙ sym a.is) (c.if-not-is_empty.ensures.0 refl) in
+    let own = list_is l p a.part k (level_list l p a.part k c.args.level.few) ∙ (own_list (parted_by l p) k (marks_at p.parked k) c.args.level.few (marks_are l p a.part k) empty ∙ (ap (at_level k) a.waits ∙ heads.2)) in
+    let only = only_heads (waits_by l p) (waits_at c.args.self.now q) k p.slots c.args.row.now heads.0 a.waits refl heads.3 c.requires.only in
+    let went = row_gone l (c.drop_heads.new.self) p k heads.0 heads.1 c.args.row.now a.part c.args.level.few own only heads.3 c.drop_heads.ensures in
+    waits_changed l c.self.inside.queues.items c.args.self.now q c.self.invariant.parkings c.self.view_is c.requires.there c.drop_heads.new.self p (record p { count = p.count - length c.args.row.now }) (λ w. without_all w c.args.row.now) c.index_mut-left.ensures.value went.1

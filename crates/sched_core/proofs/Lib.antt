@@ -21,6 +21,8 @@ pub mod Pinned
 pub mod Members
 pub mod Busy
 pub mod Service
+pub mod GiftRows
+pub mod HandedRows
 pub mod Rows
 pub mod Runs
 pub mod Settling

@@ -240,6 +240,22 @@ pin_room p us ps q slot l pins limits h k room may = by_kind (cases_Bool (is_ato
         omega arith
     by_kind (inr plain) = let none = ap (λ (x : Pin). x.count) (free_plain p us ps q slot pins h plain) in omega arith
 
+-- a lane that has room for so many leaves room for as many in a pin
+pub pin_room_for : (p : Plan) (us : List (List Held)) (ps : List (List Pin)) (q slot l more : ℕ) → ArePins p us ps → IsWithinLimits p → q < length p.queues → l < lanes_of p
+    → length (entries_at us l) + more ≤ depth_of p l → may_pin (pin_in ps q slot) l ≡ true → (pin_in ps q slot).count + more ≤ MAX_DEPTH
+pin_room_for p us ps q slot l more pins limits h k room may = by_kind (cases_Bool (is_atomic (queue_of p q).kind))
+  where
+    by_kind : (is_atomic (queue_of p q).kind ≡ true) ⊎ (is_atomic (queue_of p q).kind ≡ false) → (pin_in ps q slot).count + more ≤ MAX_DEPTH
+    by_kind (inl atomic) =
+        let depth : IsBetween 1 MAX_DEPTH (depth_of p l) = depth_within p l limits k in
+        let few = count_by-le-length (is_of q slot) (entries_at us l) in
+        let all = pins.held q slot l atomic ∙ count_on_may l (pin_in ps q slot) may in
+        omega arith
+    by_kind (inr plain) =
+        let depth : IsBetween 1 MAX_DEPTH (depth_of p l) = depth_within p l limits k in
+        let none = ap (λ (x : Pin). x.count) (free_plain p us ps q slot pins h plain) in
+        omega arith
+
 -- an event's slot in an atomic queue has a pin
 pub slot_within : (p : Plan) (q flow : ℕ) → IsWithinLimits p → q < length p.queues → is_atomic (queue_of p q).kind ≡ true → slot_of p q flow < slots_of p q
 slot_within p q flow limits h atomic =

@@ -7,6 +7,7 @@ pub mod OpenSlots
 pub mod Ordered
 pub mod Pinned
 pub mod Members
+pub mod GiftRows
 pub mod Rows
 pub mod Runs
 pub mod Service

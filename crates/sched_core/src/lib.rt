@@ -3,6 +3,7 @@
 #![tactic(auto)]
 
 mod answer;
+mod gift_row;
 mod give;
 mod inside;
 mod lanes;

@@ -72,37 +72,23 @@ impl Core {
         self.orders.places_for(queue, room.min(quota))
     }
 
-    /// Whether the next event of the slot goes to the lane: it may hold the slot, and of these open lanes it is the best one. Where it is
-    /// the only one, no other is asked for.
+    /// Whether the next event of the slot goes to the lane: it may hold the slot, and of these open lanes it is the best one.
     #[inline(always)]
-    fn goes_to(&self, lane: usize, queue: usize, slot: usize, lanes: SmallSet, alone: bool) -> bool
+    fn goes_to(&self, lane: usize, queue: usize, slot: usize, lanes: SmallSet) -> bool
         requires queue { queue < length self.now.shape.queues }
         requires lanes { (l : ℕ) → Has lanes l → l < lanes_of self.now.shape }
-        requires alone { IsTrue alone → IsOnly lanes lane }
         ensures fits { IsTrue result → MayHold self.now lanes queue slot lane }
         ensures best { IsTrue result → (m : ℕ) → MayHold self.now lanes queue slot m → ¬ IsBetterLane self.now m lane }
     {
-        if alone {
-            self.may_hold(lane, queue, slot)
-        } else {
-            self.port_for(queue, slot, lanes) == Some(lane)
-        }
+        self.port_for(queue, slot, lanes) == Some(lane)
     }
 
     /// The event of the queue and level that is given next, where that is quick to see and it goes to this lane of the open ones.
     #[inline(always)]
-    fn next_in_run(
-        &self,
-        queue: usize,
-        level: Level,
-        lane: usize,
-        lanes: SmallSet,
-        alone: bool,
-    ) -> Option<Found>
+    fn next_in_run(&self, queue: usize, level: Level, lane: usize, lanes: SmallSet) -> Option<Found>
         requires there { queue < length self.now.shape.queues }
         requires ports { has_flow_lanes self.now.shape queue ≡ false }
         requires lanes { (l : ℕ) → Has lanes l → l < lanes_of self.now.shape }
-        requires alone { IsTrue alone → IsOnly lanes lane }
         ensures offer { IfSome result (λ f. (s : Passed) → AreOpenLanes self.now s queue lanes → IsOfferIn self.now s queue level.number lane f.waiting) }
         ensures slot { IfSome result (λ f. f.slot ≡ slot_at self.now queue f.waiting) }
         ensures names { IfSome result (λ f. f.waiting.event.queue ≡ queue) }
@@ -110,7 +96,7 @@ impl Core {
         let found = self
             .queues
             .head(queue, level, SmallSet::below(MAX_MEMBERS))?;
-        if self.goes_to(lane, queue, found.slot, lanes, alone) {
+        if self.goes_to(lane, queue, found.slot, lanes) {
             Some(found)
         } else {
             None
@@ -125,13 +111,42 @@ impl Core {
         requires ports { has_flow_lanes self.now.shape queue ≡ false }
         requires lanes { (l : ℕ) → Has lanes l → l < lanes_of self.now.shape }
     {
-        self.next_in_run(queue, level, lane, lanes, false).is_some()
+        self.next_in_run(queue, level, lane, lanes).is_some()
     }
 
     /// Hands out what is chosen next, one by one, as long as that is an event of this queue and level for this lane and is quick to see.
     /// Nothing is logged or counted yet.
     #[inline(always)]
     fn hand_each(
+        &mut self,
+        lane: usize,
+        queue: usize,
+        level: Level,
+        lanes: SmallSet,
+        bound: usize,
+        skips: &Skips,
+        run: &mut ArrayVec<Delivery, 32>,
+    )
+        requires turn { HasTurn self.old skips.now queue level.number }
+        requires ports { has_flow_lanes self.old.shape queue ≡ false }
+        requires steady { IsSteady self.old skips.now lane queue bound lanes }
+        requires counts { length skips.now.given ≡ MAX_QUEUES }
+        requires room { length run.old.items + bound ≤ 32 }
+        ensures { GoesOn lane queue bound self.old skips.now run.old.items self.new run.new.items }
+    {
+        for _ in 0..bound {
+            self.facts();
+            let Some(found) = self.next_in_run(queue, level, lane, lanes) else {
+                return;
+            };
+            self.hand_out(lane, queue, &found.waiting, level, found.slot);
+            run.push(delivery_of(&found));
+        }
+    }
+
+    /// Hands out what is chosen next, where the lane is the only open one as a row.
+    #[inline(always)]
+    fn hand_more(
         &mut self,
         lane: usize,
         queue: usize,
@@ -146,17 +161,15 @@ impl Core {
         requires ports { has_flow_lanes self.old.shape queue ≡ false }
         requires steady { IsSteady self.old skips.now lane queue bound lanes }
         requires alone { IsTrue alone → IsOnly lanes lane }
+        requires lane { lane < lanes_of self.old.shape }
         requires counts { length skips.now.given ≡ MAX_QUEUES }
         requires room { length run.old.items + bound ≤ 32 }
         ensures { GoesOn lane queue bound self.old skips.now run.old.items self.new run.new.items }
     {
-        for _ in 0..bound {
-            self.facts();
-            let Some(found) = self.next_in_run(queue, level, lane, lanes, alone) else {
-                return;
-            };
-            self.hand_out(lane, queue, &found.waiting, level, found.slot);
-            run.push(delivery_of(&found));
+        if alone {
+            self.hand_row(lane, queue, level, lanes, bound, skips, run);
+        } else {
+            self.hand_each(lane, queue, level, lanes, bound, skips, run);
         }
     }
 
@@ -193,7 +206,7 @@ impl Core {
         let start = run.len();
         let bound = steady.min(most).min(MAX_RUN - start);
         self.facts();
-        self.hand_each(lane, queue, level, lanes, alone, bound, skips, run);
+        self.hand_more(lane, queue, level, lanes, alone, bound, skips, run);
         let row = &run.as_slice()[start..];
         log.push_gives(lane, queue, row);
         skips.given_row(queue, row.len());

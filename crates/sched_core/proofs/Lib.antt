@@ -23,6 +23,7 @@ pub mod Busy
 pub mod Service
 pub mod GiftRows
 pub mod HandedRows
+pub mod Released
 pub mod Rows
 pub mod Runs
 pub mod Settling

@@ -30,3 +30,7 @@ pub record IsNewRow (v : View) (l q c : ℕ) (rs : List Reply) : Type 0 where
   pub inside : inside_of v + length rs ≤ bound_of v.shape
   pub entries : entries_of v + length rs ≤ 2 ^ 63
   pub each : All (IsNewOf q c) rs
+
+-- a RELEASE
+abbrev pub IsRelease : Reply → Type 0
+IsRelease r = r.event.op ≡ ops.Release

@@ -1,18 +1,20 @@
 //! Replies of a lane that are taken in a row: counts are kept and the log is told once for all of them.
 
-ghost use Rattle.std.specs.Prelude.{◌≡◌, ◌+◌, ◌*◌, ◌<◌, ◌≤◌, ◌^◌, false, List, ◌++◌, length, take, All, IsTrue};
-ghost use Rattle.evt_types.specs.Plan.{lanes_of, level_of};
+ghost use Rattle.std.specs.Prelude.{◌≡◌, ◌+◌, ◌*◌, ◌<◌, ◌≤◌, ◌^◌, false, List, ◌++◌, length, take, All, Some, IsTrue};
+ghost use Rattle.evt_types.specs.Plan.{is_ordered, lanes_of, level_of, queue_of};
 ghost use Rattle.evt_types.specs.declared.event.Reply.{Reply as ReplyValue};
 ghost use Rattle.evt_types.specs.declared.step.Step.{Step as StepValue};
-ghost use Rattle.sched_core.specs.Rows.{IsLike, IsNewRow, row_of};
-ghost use Rattle.step_log.specs.Rows.{news_steps};
+ghost use Rattle.sched_core.specs.Rows.{IsLike, IsNewRow, IsRelease, row_of};
+ghost use Rattle.step_log.specs.Rows.{news_steps, release_steps};
 ghost use Rattle.transcripts.specs.Replies.{new_count, turned_count};
-ghost use Rattle.transcripts.specs.Standing.{Stands, after, entries_of, kept_in};
+ghost use Rattle.transcripts.specs.Standing.{Stands, after, entries_of, kept_in, oldest_at, unanswered_at};
 ghost use Rattle.transcripts.specs.Sweep.{MayBeTaken, replies_steps};
+ghost use Rattle.transcripts.specs.Transcript.{Held};
 
+use crate::open_slots::open_slot;
 use crate::state::Core;
 use crate::take::MAX_ENTRIES;
-use evt_types::{Kind, PackedEvent, Reply};
+use evt_types::{Kind, Op, PackedEvent, Reply};
 use parked_queue::Level;
 use step_log::StepLog;
 
@@ -124,5 +126,78 @@ impl Core {
         let row = &replies[..count];
         self.accept_row(lane, queue, Level::of(&first.event), row, log);
         count
+    }
+
+    /// The lane's oldest unanswered events are released, as far as they are of the queue, which restores no order, and no more than so
+    /// many: how many.
+    #[inline(always)]
+    fn release_row<L: StepLog>(
+        &mut self,
+        lane: usize,
+        queue: usize,
+        most: usize,
+        log: &mut L,
+    ) -> usize
+        requires lane { lane < lanes_of self.old.shape }
+        requires oldest { (held : Held) × (oldest_at self.old lane ≡ Some held) × (held.queue ≡ queue) }
+        requires plain { is_ordered (queue_of self.old.shape queue).kind ≡ false }
+        requires some { 0 < most }
+        requires most { most ≤ length (unanswered_at self.old lane) }
+        requires room { most ≤ L.room log.old }
+        ensures few { result ≤ most }
+        ensures may { (replies : List ReplyValue) → All IsRelease replies → length replies ≡ result → MayBeTaken self.old (row_of lane replies) }
+        ensures steps { (replies : List ReplyValue) → All IsRelease replies → length replies ≡ result → replies_steps self.old (row_of lane replies) ≡ release_steps lane result }
+        ensures view { self.new ≡ after self.old (release_steps lane result) }
+        ensures logged { L.steps log.new ≡ L.steps log.old ++ release_steps lane result }
+        ensures kept { kept_in self.new ≡ kept_in self.old }
+        ensures room { L.room log.old ≤ L.room log.new + result }
+    {
+        open_slot(&mut self.open_slots, &self.shape, lane);
+        let count = self.pins.unpin_oldest(queue, &self.lanes, lane, most);
+        self.lanes.drop_oldest(lane, count);
+        self.extras[lane] = 0;
+        self.inside -= count;
+        log.push_releases(lane, count);
+        count
+    }
+
+    /// Takes the oldest of the lane's replies in a row, as long as they are RELEASEs that are alike and answer events of one queue that
+    /// restores no order: how many. It may take none where `take` would take some.
+    #[inline(always)]
+    pub fn take_releases<L: StepLog>(
+        &mut self,
+        lane: usize,
+        replies: &[Reply],
+        log: &mut L,
+    ) -> usize
+        requires lane { lane < lanes_of self.old.shape }
+        requires room { length replies.now ≤ L.room log.old }
+        ensures few { result ≤ length replies.now }
+        ensures may { MayBeTaken self.old (row_of lane (take result replies.now)) }
+        ensures view { self.new ≡ after self.old (replies_steps self.old (row_of lane (take result replies.now))) }
+        ensures logged { L.steps log.new ≡ L.steps log.old ++ replies_steps self.old (row_of lane (take result replies.now)) }
+        ensures stands { (T : List StepValue) → Stands T self.old → Stands (T ++ replies_steps self.old (row_of lane (take result replies.now))) self.new }
+        ensures accepted { new_count (replies_steps self.old (row_of lane (take result replies.now))) ≡ 0 }
+        ensures turned { turned_count (replies_steps self.old (row_of lane (take result replies.now))) ≡ 0 }
+        ensures shape { self.new.shape ≡ self.old.shape }
+        ensures kept { kept_in self.new ≡ kept_in self.old }
+        ensures room { L.room log.old ≤ L.room log.new + result }
+    {
+        let Some(first) = replies.first() else {
+            return 0;
+        };
+        if first.event.op() != Op::Release || self.lanes.is_empty(lane) {
+            return 0;
+        }
+        let queue = self.lanes.oldest(lane).queue;
+        if self.restores_order(queue) {
+            return 0;
+        }
+        let most = self.lanes.len(lane).min(replies.len());
+        let alike = like(&first.event, &replies[..most]);
+        if alike == 0 {
+            return 0;
+        }
+        self.release_row(lane, queue, alike, log)
     }
 }

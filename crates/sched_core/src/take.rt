@@ -92,7 +92,7 @@ impl Core {
     }
 
     /// Whether the queue restores the order of its hand-out.
-    fn restores_order(&self, queue: usize) -> bool
+    pub(crate) fn restores_order(&self, queue: usize) -> bool
         requires { queue < length self.now.shape.queues }
         ensures { result ≡ is_ordered (queue_of self.now.shape queue).kind }
     {

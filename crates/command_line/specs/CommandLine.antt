@@ -2,7 +2,9 @@
 use Rattle.std.specs.Prelude.{◌≡◌, ◌≤◌, ℕ, ◌⊎◌}
 use Rattle.play_documents.specs.Numbers.{fewest_workers, most_workers}
 use Rattle.command_line.specs.declared.options.Choice.{Choice}
-use Rattle.command_line.specs.declared.options.Choice.TheVariants.{Play, Run}
+use Rattle.command_line.specs.declared.options.Choice.TheVariants.{Play, Run, Document, Example}
+use Rattle.command_line.specs.declared.options.Task.{Task}
+use Rattle.command_line.specs.declared.options.Task.TheVariants as tasks
 
 -- the statuses after help, after words that are refused, and where memory ran out
 abbrev pub helped : ℕ
@@ -18,7 +20,17 @@ no_memory = 5
 abbrev pub IsStatus : ℕ → Type 0
 IsStatus s = (s ≡ helped) ⊎ (s ≡ refused) ⊎ (s ≡ no_memory)
 
--- a run has as many workers as a run may have
+-- a run, and the check of a document for one, has as many workers as a run may have
+abbrev pub AreFew : ℕ → Type 0
+AreFew n = (fewest_workers ≤ n) × (n ≤ most_workers)
+
+abbrev pub HasFew : Task → Type 0
+HasFew tasks.Play = Unit {0}
+HasFew (tasks.Run n) = AreFew n
+HasFew (tasks.Check n) = AreFew n
+
 abbrev pub HasFewWorkers : Choice → Type 0
 HasFewWorkers Play = Unit {0}
-HasFewWorkers (Run n) = (fewest_workers ≤ n) × (n ≤ most_workers)
+HasFewWorkers (Run n) = AreFew n
+HasFewWorkers (Document task file explain) = HasFew task
+HasFewWorkers (Example name) = Unit {0}

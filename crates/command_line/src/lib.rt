@@ -4,6 +4,7 @@
 
 mod fault;
 mod fault_text;
+mod help_texts;
 mod input;
 mod numbers;
 mod options;
@@ -14,6 +15,6 @@ pub use fault::AppFault;
 pub use fault_text::fault_line;
 pub use input::read_all;
 pub use numbers::numbers_are_defined;
-pub use options::Choice;
+pub use options::{Choice, Task};
 pub use output::write_text;
 pub use words::choice;

@@ -4,9 +4,12 @@ ghost use Rattle.std.specs.Prelude.{◌≡◌, ◌⊎◌, ◌≤◌, IfOk, IfErr
 ghost use Rattle.command_line.specs.CommandLine.{HasFewWorkers, IsStatus, no_memory};
 ghost use Rattle.play_documents.specs.Numbers.{fewest_workers, most_workers};
 
-use crate::options::Choice;
+use crate::help_texts::{
+    AFTER_CHECK_HELP, AFTER_EXAMPLE_HELP, AFTER_HELP, AFTER_PLAY_HELP, AFTER_RUN_HELP, DOCUMENTS, FAULTS,
+};
+use crate::options::{Choice, Task};
 use clap::error::ErrorKind;
-use clap::{Arg, ArgMatches, Command, Error, value_parser};
+use clap::{Arg, ArgAction, ArgMatches, Command, Error, value_parser};
 use std::alloc::{AllocError, Global};
 
 /// The status after help, and after words that are refused.
@@ -16,11 +19,28 @@ pub(crate) const REFUSED: u8 = 2;
 /// The status after an allocation that was refused.
 pub(crate) const NO_MEMORY: u8 = 5;
 
-/// The subcommand that runs a pipeline.
+/// The subcommands.
+const PLAY: &str = "play";
+
 const RUN: &str = "run";
 
-/// Its option, which says how many workers serve the stages.
+const CHECK: &str = "check";
+
+const EXAMPLE: &str = "example";
+
+/// The option that says how many workers serve the stages.
 const WORKERS: &str = "workers";
+
+/// The option that has a fault explained.
+const EXPLAIN: &str = "explain";
+
+/// The file of a document, and the name of an example.
+const FILE: &str = "FILE";
+
+const EXAMPLE_NAME: &str = "NAME";
+
+/// The word for standard input in place of a file.
+const STANDARD_INPUT: &str = "-";
 
 /// The fewest and the most workers that a run may have.
 pub(crate) const MIN_WORKERS: u32 = 1;
@@ -35,40 +55,72 @@ const NAME: &str = "evsched";
 
 const VERSION: &str = "0.1.0";
 
-/// The ends of the helps: where the document is described, and an example.
-const AFTER_HELP: &str = "The documents are described in docs/FORMATS.md; examples/ has some to try:
-  evsched play < examples/first-event.toml";
-
-const AFTER_PLAY_HELP: &str =
-    "The document is described in docs/FORMATS.md, \"The document of `play`\". An example:
-  evsched play < examples/first-event.toml";
-
-const AFTER_RUN_HELP: &str =
-    "The document is described in docs/FORMATS.md, \"The document of `run`\". An example:
-  evsched run --workers 4 < examples/three-stages.toml";
-
-/// The subcommand that plays a script.
-fn play_command<'a>(alloc: Global) -> Command<'a> {
-    Command::new(alloc, "play")
-        .about("Plays the script of a document, read from standard input, and prints what happened")
-        .after_help(AFTER_PLAY_HELP)
-}
-
-/// The subcommand that runs a pipeline.
-fn run_command<'a>(alloc: Global) -> Result<Command<'a>, AllocError> {
+/// The option of the number of workers.
+fn workers_option<'a>(alloc: Global) -> Arg<'a> {
     let range = i64::from(MIN_WORKERS)..=i64::from(MAX_WORKERS);
-    let workers = Arg::new(alloc, WORKERS)
+    Arg::new(alloc, WORKERS)
         .long(WORKERS)
         .value_name("N")
         .help("The number of worker threads, from 1 to 8")
         .value_parser(value_parser!(u32).range(range))
-        .default_value(DEFAULT_WORKERS);
+        .default_value(DEFAULT_WORKERS)
+}
+
+/// The option that has a fault explained.
+fn explain_option<'a>(alloc: Global) -> Arg<'a> {
+    Arg::new(alloc, EXPLAIN)
+        .long(EXPLAIN)
+        .action(ArgAction::SetTrue)
+        .help("Say below a document's fault where it is and why")
+}
+
+/// The file of a document.
+fn file_word<'a>(alloc: Global) -> Arg<'a> {
+    Arg::new(alloc, FILE).help("The document; standard input where it is left out or is -")
+}
+
+/// The subcommand that plays a script.
+fn play_command<'a>(alloc: Global) -> Result<Command<'a>, AllocError> {
+    Command::new(alloc, PLAY)
+        .about("Play the script of a document, and print what happened")
+        .after_help(AFTER_PLAY_HELP)
+        .arg(explain_option(alloc))?
+        .arg(file_word(alloc))
+}
+
+/// The subcommand that runs a pipeline.
+fn run_command<'a>(alloc: Global) -> Result<Command<'a>, AllocError> {
     Command::new(alloc, RUN)
-        .about(
-            "Runs the trace of a document, read from standard input, through its stages by worker threads, and prints what each stage accepted",
-        )
+        .about("Run the trace of a document through its stages by worker threads, and print what each stage accepted")
         .after_help(AFTER_RUN_HELP)
-        .arg(workers)
+        .arg(workers_option(alloc))?
+        .arg(explain_option(alloc))?
+        .arg(file_word(alloc))
+}
+
+/// The subcommand that looks for a document's fault.
+fn check_command<'a>(alloc: Global) -> Result<Command<'a>, AllocError> {
+    Command::new(alloc, CHECK)
+        .about("Look for the fault of a document of either kind, and say where it is and why")
+        .after_help(AFTER_CHECK_HELP)
+        .arg(workers_option(alloc))?
+        .arg(file_word(alloc))
+}
+
+/// The subcommand that prints an example.
+fn example_command<'a>(alloc: Global) -> Result<Command<'a>, AllocError> {
+    Command::new(alloc, EXAMPLE)
+        .about("Print one of the example documents, or the names of all")
+        .after_help(AFTER_EXAMPLE_HELP)
+        .arg(Arg::new(alloc, EXAMPLE_NAME).help("The example; without it the names are printed"))
+}
+
+/// A part of the manual, which only `help` prints.
+fn topic<'a>(alloc: Global, name: &'a str, text: &'a str) -> Command<'a> {
+    Command::new(alloc, name)
+        .hide(true)
+        .arg_required_else_help(true)
+        .override_help(text)
 }
 
 /// The program's command line.
@@ -80,8 +132,12 @@ fn command<'a>(alloc: Global) -> Result<Command<'a>, AllocError> {
         .no_binary_name(true)
         .bin_name(NAME)?
         .subcommand_required(true)
-        .subcommand(play_command(alloc))?
-        .subcommand(run_command(alloc)?)
+        .subcommand(play_command(alloc)?)?
+        .subcommand(run_command(alloc)?)?
+        .subcommand(check_command(alloc)?)?
+        .subcommand(example_command(alloc)?)?
+        .subcommand(topic(alloc, "documents", DOCUMENTS))?
+        .subcommand(topic(alloc, "faults", FAULTS))
 }
 
 /// The number of workers of a run. clap has refused any other; the bounds stand here too, so that what is promised doesn't rest on
@@ -95,14 +151,76 @@ fn workers(options: &ArgMatches) -> u32
         .clamp(MIN_WORKERS, MAX_WORKERS)
 }
 
-/// What the words ask for that clap has accepted.
-fn chosen(words: &ArgMatches) -> Choice
+/// The number of the first of the words that is the value at this id.
+fn place_of(words: &[&str], options: &ArgMatches, id: &str) -> Option<usize> {
+    let value = options.get_str(id)?;
+    words.iter().position(|word| *word == value)
+}
+
+/// The word that names the file of a document; none for standard input.
+fn file_of(words: &[&str], options: &ArgMatches) -> Option<usize> {
+    if options.get_str(FILE) == Some(STANDARD_INPUT) {
+        None
+    } else {
+        place_of(words, options, FILE)
+    }
+}
+
+/// The playing of a script.
+fn play_choice(file: Option<usize>, explain: bool) -> Choice
     ensures workers { HasFewWorkers result }
 {
-    match words.subcommand_matches(RUN) {
-        Some(options) => Choice::Run {
-            workers: workers(options),
-        },
+    if file.is_none() && !explain {
+        return Choice::Play;
+    }
+    let task = Task::Play;
+    Choice::Document {
+        task,
+        file,
+        explain,
+    }
+}
+
+/// The run of a pipeline.
+fn run_choice(workers: u32, file: Option<usize>, explain: bool) -> Choice
+    requires { (fewest_workers ≤ workers) × (workers ≤ most_workers) }
+    ensures workers { HasFewWorkers result }
+{
+    if file.is_none() && !explain {
+        return Choice::Run { workers };
+    }
+    let task = Task::Run { workers };
+    Choice::Document {
+        task,
+        file,
+        explain,
+    }
+}
+
+/// What the words ask for that clap has accepted.
+fn chosen(words: &[&str], matches: &ArgMatches) -> Choice
+    ensures workers { HasFewWorkers result }
+{
+    if let Some(options) = matches.subcommand_matches(RUN) {
+        let workers = workers(options);
+        return run_choice(workers, file_of(words, options), options.get_flag(EXPLAIN));
+    }
+    if let Some(options) = matches.subcommand_matches(CHECK) {
+        return Choice::Document {
+            task: Task::Check {
+                workers: workers(options),
+            },
+            file: file_of(words, options),
+            explain: true,
+        };
+    }
+    if let Some(options) = matches.subcommand_matches(EXAMPLE) {
+        return Choice::Example {
+            name: place_of(words, options, EXAMPLE_NAME),
+        };
+    }
+    match matches.subcommand_matches(PLAY) {
+        Some(options) => play_choice(file_of(words, options), options.get_flag(EXPLAIN)),
         None => Choice::Play,
     }
 }
@@ -134,7 +252,7 @@ pub fn choice(alloc: Global, words: &[&str], text: &mut String) -> Result<Choice
         return Err(NO_MEMORY);
     };
     match command.try_get_matches_from(words) {
-        Ok(matches) => Ok(chosen(&matches)),
+        Ok(matches) => Ok(chosen(words, &matches)),
         Err(error) => Err(refused(alloc, &error, text)),
     }
 }

@@ -1,17 +1,23 @@
-//! The program `evsched`: it plays the script of a document on an event device, or runs the document's trace through a pipeline.
-//! The document stands on standard input.
+//! The program `evsched`: it plays the script of a document on an event device, runs the document's trace through a pipeline, or says
+//! what is wrong with the document, which stands in a file or on standard input.
 #![tactic(auto)]
 
-ghost use Rattle.std.specs.Prelude.{◌≤◌};
+ghost use Rattle.command_line.specs.CommandLine.{HasFew};
 
+mod noted;
 mod progress;
 
 use arrayvec::ArrayString;
-use pipeline_app::{AppFault, Choice, choice, fault_line, play, run_trace};
+use example_documents::{EXAMPLES, example};
+use noted::Noted;
+use pipeline_app::{
+    AppFault, Choice, Task, check, choice, fault_line, play_explained, run_explained,
+};
 use progress::Progress;
-use std::io::IsTerminal;
+use std::fs::File;
+use std::io::{IsTerminal, Read};
 use std::process::ExitCode;
-use std::rt::Env;
+use std::rt::{Env, Files};
 use std::sync::Wait;
 use std::thread::Threads;
 use std::time::Clock;
@@ -36,16 +42,42 @@ fn failed(rt: &impl Eprint, fault: &AppFault) -> u8 {
 /// Prints what a command line that is no choice gave: help on standard output, all else on standard error.
 fn explained(rt: &(impl Print + Eprint), status: u8, text: &str) -> u8 {
     match status {
-        0 => match print!(rt; "{text}") {
-            Ok(()) => status,
-            Err(_) => failed(rt, &AppFault::Write),
-        },
+        0 => printed(rt, text),
         REFUSED => {
             let _ = eprint!(rt; "{text}");
             status
         }
         _ => failed(rt, &AppFault::Memory),
     }
+}
+
+/// Prints a text on standard output, and gives the status.
+fn printed(rt: &(impl Print + Eprint), text: &str) -> u8 {
+    match print!(rt; "{text}") {
+        Ok(()) => 0,
+        Err(_) => failed(rt, &AppFault::Write),
+    }
+}
+
+/// Prints the example of this name.
+fn shown(rt: &(impl Print + Eprint), name: &str) -> u8 {
+    match example(name) {
+        Some(text) => printed(rt, text),
+        None => {
+            let _ = eprintln!(rt; "evsched: there is no example {name}; evsched example lists them");
+            REFUSED
+        }
+    }
+}
+
+/// Prints the names of the examples, each with the command that takes it.
+fn listed(rt: &(impl Print + Eprint)) -> u8 {
+    for (name, command) in &EXAMPLES {
+        if print!(rt; "{name}  (evsched {command})\n").is_err() {
+            return failed(rt, &AppFault::Write);
+        }
+    }
+    0
 }
 
 /// The words of the command line, or the status of a fault in them.
@@ -62,47 +94,124 @@ fn args<R: AllocGlobal + Env + Eprint>(rt: &R) -> Result<Vec<String>, u8> {
     }
 }
 
-/// Plays the script of the document on standard input, and gives the status.
-fn played<R: AllocGlobal + Input + Print + Eprint>(rt: &R) -> u8 {
-    match play(rt.alloc(), &mut rt.reader(), &mut io::writer(rt)) {
-        Ok(()) => 0,
-        Err(fault) => failed(rt, &fault),
+/// Which of the standard streams are a terminal.
+#[derive(Clone, Copy)]
+struct Terminals {
+    input: bool,
+    error: bool,
+}
+
+/// Does the task with the document that the reader gives. Where it has a fault, `why` may say where it is and why.
+fn outcome<R: AllocGlobal + Print + Eprint + Clock + Threads + Wait + Sync, I: Read>(
+    rt: &R,
+    task: Task,
+    reader: &mut I,
+    on_terminal: bool,
+    why: &mut String,
+) -> Result<(), AppFault>
+    requires { HasFew task }
+{
+    let alloc = rt.alloc();
+    match task {
+        Task::Play => play_explained(alloc, reader, &mut io::writer(rt), why),
+        Task::Run { workers } => {
+            let progress = Progress::new(rt, on_terminal);
+            run_explained(rt, alloc, reader, workers, &progress, &mut io::writer(rt), why)
+        }
+        Task::Check { workers } => check(alloc, reader, workers, why),
     }
 }
 
-/// Runs the trace of the document on standard input with so many workers, and gives the status. The progress is shown where
-/// standard error is a terminal.
-fn ran<R: AllocGlobal + Input + Print + Eprint + Clock + Threads + Wait + Sync>(
+/// Does the task, and gives the status. A fault's explanation is printed below its line where that is asked for.
+fn done<R: AllocGlobal + Print + Eprint + Clock + Threads + Wait + Sync, I: Read>(
     rt: &R,
-    workers: u32,
+    task: Task,
+    explain: bool,
+    reader: &mut I,
     on_terminal: bool,
 ) -> u8
-    requires { (1 ≤ workers) × (workers ≤ 8) }
+    requires { HasFew task }
 {
-    let progress = Progress::new(rt, on_terminal);
-    match run_trace(
-        rt,
-        rt.alloc(),
-        &mut rt.reader(),
-        workers,
-        &progress,
-        &mut io::writer(rt),
-    ) {
+    let mut why = String::new(rt.alloc());
+    match outcome(rt, task, reader, on_terminal, &mut why) {
         Ok(()) => 0,
-        Err(fault) => failed(rt, &fault),
+        Err(fault) => {
+            let status = failed(rt, &fault);
+            if explain {
+                let _ = eprint!(rt; "{why}");
+            }
+            status
+        }
     }
+}
+
+/// Prints the line of a failing read, and below it the file and the cause.
+fn unreadable(rt: &impl Eprint, file: &str, cause: &io::Error) -> u8 {
+    let status = failed(rt, &AppFault::Read);
+    let _ = eprintln!(rt; "  {file}: {cause}");
+    status
+}
+
+/// Does the task with the document in a file.
+fn done_with_file<R: AllocGlobal + Files + Print + Eprint + Clock + Threads + Wait + Sync>(
+    rt: &R,
+    task: Task,
+    explain: bool,
+    file: &str,
+    on_terminal: bool,
+) -> u8
+    requires { HasFew task }
+{
+    match File::open(rt, file) {
+        Ok(opened) => {
+            let mut reader = Noted::new(opened);
+            let status = done(rt, task, explain, &mut reader, on_terminal);
+            if let Some(cause) = reader.cause() {
+                let _ = eprintln!(rt; "  {file}: {cause}");
+            }
+            status
+        }
+        Err(cause) => unreadable(rt, file, &cause),
+    }
+}
+
+/// Does the task with the document on standard input. Where that is a terminal, a line says that it is waited for.
+fn done_with_input<R: AllocGlobal + Input + Print + Eprint + Clock + Threads + Wait + Sync>(
+    rt: &R,
+    task: Task,
+    explain: bool,
+    terminals: Terminals,
+) -> u8
+    requires { HasFew task }
+{
+    if terminals.input {
+        complain(rt, "evsched: reading a document from standard input, to its end (Ctrl-D); evsched --help says more");
+    }
+    done(rt, task, explain, &mut rt.reader(), terminals.error)
 }
 
 /// Does what the words after the program's name ask for, and gives the status.
-fn run<R: AllocGlobal + Input + Print + Eprint + Clock + Threads + Wait + Sync>(
+fn run<R: AllocGlobal + Files + Input + Print + Eprint + Clock + Threads + Wait + Sync>(
     rt: &R,
     words: &[&str],
-    on_terminal: bool,
+    terminals: Terminals,
 ) -> u8 {
     let mut text = String::new(rt.alloc());
     match choice(rt.alloc(), words, &mut text) {
-        Ok(Choice::Play) => played(rt),
-        Ok(Choice::Run { workers }) => ran(rt, workers, on_terminal),
+        Ok(Choice::Play) => done_with_input(rt, Task::Play, false, terminals),
+        Ok(Choice::Run { workers }) => done_with_input(rt, Task::Run { workers }, false, terminals),
+        Ok(Choice::Document {
+            task,
+            file,
+            explain,
+        }) => match file.and_then(|word| words.get(word)) {
+            Some(file) => done_with_file(rt, task, explain, file, terminals.error),
+            None => done_with_input(rt, task, explain, terminals),
+        },
+        Ok(Choice::Example { name }) => match name.and_then(|word| words.get(word)) {
+            Some(name) => shown(rt, name),
+            None => listed(rt),
+        },
         Err(status) => explained(rt, status, text.as_str()),
     }
 }
@@ -118,7 +227,13 @@ fn main(rt: HostRuntime) -> ExitCode {
         .map(|word| word.as_str())
         .collect(rt.alloc());
     match words {
-        Ok(words) => ExitCode::from(run(&rt, &words, rt.stderr().is_terminal())),
+        Ok(words) => {
+            let terminals = Terminals {
+                input: rt.stdin().is_terminal(),
+                error: rt.stderr().is_terminal(),
+            };
+            ExitCode::from(run(&rt, &words, terminals))
+        },
         Err(_) => ExitCode::from(failed(&rt, &AppFault::Memory)),
     }
 }

@@ -1,4 +1,5 @@
 pub mod Calls
+pub mod Checks
 pub mod Commands
 pub mod Play
 pub mod Runs

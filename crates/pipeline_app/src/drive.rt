@@ -8,8 +8,10 @@ ghost use Rattle.play_documents.specs.Command.{AllPortsThere, line_of};
 ghost use Rattle.command_line.specs.Input.{HasRead};
 ghost use Rattle.pipeline_app.specs.Play.{IsRun, HasRun, WritesRun, AfterFault, IsEarlyFault, IsFaultOf};
 
+use crate::checking::explain_input;
 use crate::obey::obey_all;
 use command_line::{AppFault, read_all, write_text};
+use document_checks::explain_play;
 use event_device::{Device, DeviceFault, Report};
 use evt_types::{Shape, Step};
 use play_documents::{Document, read_document};
@@ -73,6 +75,29 @@ fn played_text<R: Read>(alloc: Global, reader: &mut R) -> Result<String, AppFaul
     document_text(alloc, &bytes)
 }
 
+/// The text of the run of the document that the reader gives. Where the document has a fault, `why` says where it is and why.
+fn explained_text<R: Read>(
+    alloc: Global,
+    reader: &mut R,
+    why: &mut String,
+) -> Result<String, AppFault>
+    ensures run { IfOk result (λ text. HasRun (R.remaining reader.old) (string_bytes text)) }
+    ensures fault { IfErr result (IsEarlyFault (R.remaining reader.old)) }
+    ensures reads { HasRead (R.remaining reader.old) (R.remaining reader.new) result }
+{
+    let bytes = match read_all(alloc, reader) {
+        Ok(bytes) => bytes,
+        Err(fault) => {
+            explain_input(alloc, &fault, why);
+            return Err(fault);
+        }
+    };
+    if let Ok(Some(explanation)) = explain_play(alloc, &bytes) {
+        *why = explanation.text;
+    }
+    document_text(alloc, &bytes)
+}
+
 /// Reads a document, plays its script on a device in one thread, and writes the answers, the log and the report. The text
 /// is built whole and then written.
 pub fn play<R: Read, W: Write>(
@@ -86,5 +111,21 @@ pub fn play<R: Read, W: Write>(
     ensures reads { HasRead (R.remaining reader.old) (R.remaining reader.new) result }
 {
     let text = played_text(alloc, reader)?;
+    write_text(writer, text.as_bytes())
+}
+
+/// Does what `play` does. Where the document has a fault, `why` says where it is and why, in lines that end in a line feed.
+pub fn play_explained<R: Read, W: Write>(
+    alloc: Global,
+    reader: &mut R,
+    writer: &mut W,
+    why: &mut String,
+) -> Result<(), AppFault>
+    ensures ok { OnOk result (WritesRun (R.remaining reader.old) (W.contents writer.old) (W.contents writer.new)) }
+    ensures err { IfErr result (AfterFault (R.remaining reader.old) (W.contents writer.old) (W.contents writer.new)) }
+    ensures fault { IfErr result (IsFaultOf (R.remaining reader.old)) }
+    ensures reads { HasRead (R.remaining reader.old) (R.remaining reader.new) result }
+{
+    let text = explained_text(alloc, reader, why)?;
     write_text(writer, text.as_bytes())
 }

@@ -2,11 +2,13 @@
 //! pipeline's document is run by threads, and what its stages accepted is printed.
 #![tactic(auto)]
 
+mod checking;
 mod drive;
 mod obey;
 mod run;
 
-pub use command_line::{AppFault, Choice, choice, fault_line};
-pub use drive::play;
+pub use checking::check;
+pub use command_line::{AppFault, Choice, Task, choice, fault_line};
+pub use drive::{play, play_explained};
 pub use pipeline_threads::{Gate, OpenGate};
-pub use run::{pipeline_text, run_trace};
+pub use run::{pipeline_text, run_explained, run_trace};

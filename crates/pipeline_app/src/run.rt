@@ -8,7 +8,9 @@ ghost use Rattle.command_line.specs.Input.{HasRead};
 ghost use Rattle.pipeline_app.specs.Runs.{AfterFault, HasText, IsEarlyFault, IsFaultOf, IsRunFault, IsRunnable, WritesText, run_fault};
 ghost use Rattle.run_documents.specs.Pipelines.{planned_of};
 
+use crate::checking::explain_input;
 use command_line::{AppFault, read_all, write_text};
+use document_checks::explain_run;
 use event_device::StepLog;
 use evt_types::{Serving, Step};
 use pipeline_laws::{AcceptedLog, answers_are_due, write_accepted, write_run};
@@ -164,6 +166,33 @@ fn ran_text<R: Threads + Wait + Sync, I: Read, G: Gate>(
     document_text(rt, alloc, &bytes, workers, gate)
 }
 
+/// The text of the run of the document that the reader gives. Where the document has a fault, `why` says where it is and why.
+fn explained_text<R: Threads + Wait + Sync, I: Read, G: Gate>(
+    rt: &R,
+    alloc: Global,
+    reader: &mut I,
+    workers: u32,
+    gate: &G,
+    why: &mut String,
+) -> Result<String, AppFault>
+    requires { 1 ≤ workers }
+    ensures text { IfOk result (λ text. HasText workers (I.remaining reader.old) (string_bytes text)) }
+    ensures fault { IfErr result (IsEarlyFault workers (I.remaining reader.old)) }
+    ensures reads { HasRead (I.remaining reader.old) (I.remaining reader.new) result }
+{
+    let bytes = match read_all(alloc, reader) {
+        Ok(bytes) => bytes,
+        Err(fault) => {
+            explain_input(alloc, &fault, why);
+            return Err(fault);
+        }
+    };
+    if let Ok(Some(explanation)) = explain_run(alloc, &bytes, workers as usize) {
+        *why = explanation.text;
+    }
+    document_text(rt, alloc, &bytes, workers, gate)
+}
+
 /// Reads a pipeline's document, runs its trace through the stages with so many workers, each in a thread of its own, and writes what
 /// each stage accepted, by flow and level. Whatever the schedule, the text is that of the plain pipeline; it is built whole and then
 /// written. Each worker dequeues one event at a time: it passes the gate before the event's action, and dequeues the next one once this
@@ -184,5 +213,25 @@ pub fn run_trace<R: Threads + Wait + Sync, I: Read, W: Write, G: Gate>(
     ensures reads { HasRead (I.remaining reader.old) (I.remaining reader.new) result }
 {
     let text = ran_text(rt, alloc, reader, workers, gate)?;
+    write_text(writer, text.as_bytes())
+}
+
+/// Does what `run_trace` does. Where the document has a fault, `why` says where it is and why, in lines that end in a line feed.
+pub fn run_explained<R: Threads + Wait + Sync, I: Read, W: Write, G: Gate>(
+    rt: &R,
+    alloc: Global,
+    reader: &mut I,
+    workers: u32,
+    gate: &G,
+    writer: &mut W,
+    why: &mut String,
+) -> Result<(), AppFault>
+    requires { (1 ≤ workers) × (workers ≤ 8) }
+    ensures ok { OnOk result (WritesText workers (I.remaining reader.old) (W.contents writer.old) (W.contents writer.new)) }
+    ensures err { IfErr result (AfterFault workers (I.remaining reader.old) (W.contents writer.old) (W.contents writer.new)) }
+    ensures fault { IfErr result (IsFaultOf workers (I.remaining reader.old)) }
+    ensures reads { HasRead (I.remaining reader.old) (I.remaining reader.new) result }
+{
+    let text = explained_text(rt, alloc, reader, workers, gate, why)?;
     write_text(writer, text.as_bytes())
 }

@@ -8,4 +8,5 @@ mod pipeline;
 mod survey;
 mod trace;
 
+pub use action::action_at;
 pub use pipeline::{Pipeline, read_pipeline};

@@ -28,7 +28,8 @@ Status: 0 when the trace was run, 2 for a refused command line, 3 when reading o
 evsched help documents describes the document, evsched help faults what each fault means;
 the manual is evsched(1), and docs/FORMATS.md has all of it.";
 
-pub(crate) const AFTER_CHECK_HELP: &str = "Nothing is printed where the document has no fault. One with a stage or a trace, and no script, queue
+pub(crate) const AFTER_CHECK_HELP: &str =
+    "Nothing is printed where the document has no fault. One with a stage or a trace, and no script, queue
 or port, is checked as run would, with so many workers; any other as play would.
 
 Example:
@@ -49,7 +50,8 @@ Status: 0 when it was printed, 2 for a refused command line or a name that no ex
 The manual is evsched(1).";
 
 /// The documents, as `help documents` prints them.
-pub(crate) const DOCUMENTS: &str = "A document is TOML, in at most 1,048,576 bytes. A number is a TOML integer from 0 to 4,294,967,295.
+pub(crate) const DOCUMENTS: &str =
+    "A document is TOML, in at most 1,048,576 bytes. A number is a TOML integer from 0 to 4,294,967,295.
 
 The document of play
   limit      number, 1 to 16,384: the most events inside
@@ -92,7 +94,8 @@ The document of run
 evsched example prints documents to begin with. docs/FORMATS.md has what is printed, too.";
 
 /// The faults, as `help faults` prints them.
-pub(crate) const FAULTS: &str = "A fault prints one line on standard error. Status 4 is a document's fault, and evsched check says where it is.
+pub(crate) const FAULTS: &str =
+    "A fault prints one line on standard error. Status 4 is a document's fault, and evsched check says where it is.
 
 evsched: read failed (status 3)
   Cause: the document couldn't be opened or read.      Cure: see the cause in the next line.
@@ -117,14 +120,14 @@ evsched: document: NAME (status 4), in the order in which they are looked for, e
   LastAction       run: the last stage doesn't pass     Cure: leave its action out, or add a stage after it.
   QueueCount       not 1 to 32 queues or stages         Cure: add or remove some.
   PortCount        not 1 to 32 ports                    Cure: add or remove some.
-  LimitRange       limit isn't 1 to 16,384
-  QuantumRange     quantum isn't 1 to the limit
-  ThresholdRange   a threshold isn't quantum to limit
-  DepthRange       a depth or replies isn't 1 to 64
+  LimitRange       limit isn't 1 to 16,384              Cure: a number in the range; it bounds the events inside.
+  QuantumRange     quantum isn't 1 to the limit         Cure: a lower quantum, or a higher limit.
+  ThresholdRange   a threshold isn't quantum to limit   Cure: a threshold between them; the limit where in doubt.
+  DepthRange       a depth or replies isn't 1 to 64     Cure: a number in the range.
   FlowSlots        an atomic queue's slots aren't 1     Cure: fewer slots; flows that fall into one slot take
                      to 64, or all are above 128          turns.
-  OrderDepth       an order isn't 1 to 256
-  SweepRange       sweep isn't 1 to 64
+  OrderDepth       an order isn't 1 to 256              Cure: a number in the range.
+  SweepRange       sweep isn't 1 to 64                  Cure: a number in the range.
   LinkUnknown      a port is linked to no queue         Cure: queues are counted from 0.
   LinkTwice        a port is linked to a queue twice    Cure: name it once.
   QueueUnlinked    a queue has no port                  Cure: add its number to the links of a port.

@@ -7,7 +7,9 @@ pub enum Choice {
     /// To play the script of a document that is read from standard input.
     Play,
     /// To run the pipeline of a document that is read from standard input, with so many workers, from 1 to 8.
-    Run { workers: u32 },
+    Run {
+        workers: u32,
+    },
     /// To do this with a document, and to explain its fault where `explain`.
     Document {
         task: Task,
@@ -15,7 +17,9 @@ pub enum Choice {
         explain: bool,
     },
     /// To print the example that the word of this number names, or without one the names of all.
-    Example { name: Option<usize> },
+    Example {
+        name: Option<usize>,
+    },
 }
 
 /// What is done with a document.

@@ -5,7 +5,8 @@ ghost use Rattle.command_line.specs.CommandLine.{HasFewWorkers, IsStatus, no_mem
 ghost use Rattle.play_documents.specs.Numbers.{fewest_workers, most_workers};
 
 use crate::help_texts::{
-    AFTER_CHECK_HELP, AFTER_EXAMPLE_HELP, AFTER_HELP, AFTER_PLAY_HELP, AFTER_RUN_HELP, DOCUMENTS, FAULTS,
+    AFTER_CHECK_HELP, AFTER_EXAMPLE_HELP, AFTER_HELP, AFTER_PLAY_HELP, AFTER_RUN_HELP, DOCUMENTS,
+    FAULTS,
 };
 use crate::options::{Choice, Task};
 use clap::error::ErrorKind;
@@ -91,7 +92,9 @@ fn play_command<'a>(alloc: Global) -> Result<Command<'a>, AllocError> {
 /// The subcommand that runs a pipeline.
 fn run_command<'a>(alloc: Global) -> Result<Command<'a>, AllocError> {
     Command::new(alloc, RUN)
-        .about("Run the trace of a document through its stages by worker threads, and print what each stage accepted")
+        .about(
+            "Run the trace of a document through its stages by worker threads, and print what each stage accepted",
+        )
         .after_help(AFTER_RUN_HELP)
         .arg(workers_option(alloc))?
         .arg(explain_option(alloc))?

@@ -64,7 +64,9 @@ fn shown(rt: &(impl Print + Eprint), name: &str) -> u8 {
     match example(name) {
         Some(text) => printed(rt, text),
         None => {
-            let _ = eprintln!(rt; "evsched: there is no example {name}; evsched example lists them");
+            let _ = eprintln!(rt;
+                "evsched: there is no example {name}; evsched example lists them"
+            );
             REFUSED
         }
     }
@@ -116,7 +118,15 @@ fn outcome<R: AllocGlobal + Print + Eprint + Clock + Threads + Wait + Sync, I: R
         Task::Play => play_explained(alloc, reader, &mut io::writer(rt), why),
         Task::Run { workers } => {
             let progress = Progress::new(rt, on_terminal);
-            run_explained(rt, alloc, reader, workers, &progress, &mut io::writer(rt), why)
+            run_explained(
+                rt,
+                alloc,
+                reader,
+                workers,
+                &progress,
+                &mut io::writer(rt),
+                why,
+            )
         }
         Task::Check { workers } => check(alloc, reader, workers, why),
     }
@@ -185,7 +195,10 @@ fn done_with_input<R: AllocGlobal + Input + Print + Eprint + Clock + Threads + W
     requires { HasFew task }
 {
     if terminals.input {
-        complain(rt, "evsched: reading a document from standard input, to its end (Ctrl-D); evsched --help says more");
+        complain(
+            rt,
+            "evsched: reading a document from standard input, to its end (Ctrl-D); evsched --help says more",
+        );
     }
     done(rt, task, explain, &mut rt.reader(), terminals.error)
 }
@@ -200,11 +213,13 @@ fn run<R: AllocGlobal + Files + Input + Print + Eprint + Clock + Threads + Wait 
     match choice(rt.alloc(), words, &mut text) {
         Ok(Choice::Play) => done_with_input(rt, Task::Play, false, terminals),
         Ok(Choice::Run { workers }) => done_with_input(rt, Task::Run { workers }, false, terminals),
-        Ok(Choice::Document {
-            task,
-            file,
-            explain,
-        }) => match file.and_then(|word| words.get(word)) {
+        Ok(
+            Choice::Document {
+                task,
+                file,
+                explain,
+            },
+        ) => match file.and_then(|word| words.get(word)) {
             Some(file) => done_with_file(rt, task, explain, file, terminals.error),
             None => done_with_input(rt, task, explain, terminals),
         },

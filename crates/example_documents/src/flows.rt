@@ -41,7 +41,8 @@ implicit = false
 links = [0]
 "#;
 
-pub(crate) const TWO_FLOWS: &str = r#"# Two flows, two workers: an atomic queue keeps each flow with one port, and different flows go to different ports.
+pub(crate) const TWO_FLOWS: &str =
+    r#"# Two flows, two workers: an atomic queue keeps each flow with one port, and different flows go to different ports.
 #
 #     ./evsched play < examples/two-flows.toml
 
@@ -92,7 +93,8 @@ implicit = false
 links = [0]
 "#;
 
-pub(crate) const ONE_FLOW_TWO_PORTS: &str = r#"# One flow, two workers: an atomic queue gives all events of the flow to one port, so that the other finds nothing.
+pub(crate) const ONE_FLOW_TWO_PORTS: &str =
+    r#"# One flow, two workers: an atomic queue gives all events of the flow to one port, so that the other finds nothing.
 #
 #     ./evsched play < examples/one-flow-two-ports.toml
 
@@ -137,7 +139,8 @@ implicit = false
 links = [0]
 "#;
 
-pub(crate) const OVERTAKING: &str = r#"# Urgent events overtake: a queue of higher priority is served first, and in a queue the lower level of priority.
+pub(crate) const OVERTAKING: &str =
+    r#"# Urgent events overtake: a queue of higher priority is served first, and in a queue the lower level of priority.
 #
 #     ./evsched play < examples/overtaking.toml
 
@@ -182,7 +185,8 @@ implicit = false
 links = [0, 1]
 "#;
 
-pub(crate) const BACKPRESSURE: &str = r#"# Backpressure: a port that brings events in may not fill the device. Its threshold leaves room for the forwards of the workers.
+pub(crate) const BACKPRESSURE: &str =
+    r#"# Backpressure: a port that brings events in may not fill the device. Its threshold leaves room for the forwards of the workers.
 #
 #     ./evsched play < examples/backpressure.toml
 

@@ -1,6 +1,7 @@
 //! Examples of pipelines.
 
-pub(crate) const THREE_STAGES: &str = r#"# Three stages: an ordered one adds 1, an atomic one drops the even payloads, and a parallel one passes what comes.
+pub(crate) const THREE_STAGES: &str =
+    r#"# Three stages: an ordered one adds 1, an atomic one drops the even payloads, and a parallel one passes what comes.
 # ./evsched run --workers 2 < examples/three-stages.toml
 limit = 32
 quantum = 1
@@ -27,7 +28,8 @@ action = "drop 2"
 kind = "parallel"
 "#;
 
-pub(crate) const DROPPING_STAGES: &str = r#"# A sieve: two atomic stages drop the multiples of 2 and of 3, and the last, an ordered one, passes the rest. Each slot of an atomic
+pub(crate) const DROPPING_STAGES: &str =
+    r#"# A sieve: two atomic stages drop the multiples of 2 and of 3, and the last, an ordered one, passes the rest. Each slot of an atomic
 # stage has a lane of its own, which the workers claim.
 # ./evsched run --workers 4 < examples/dropping-stages.toml
 limit = 64

@@ -1,6 +1,7 @@
 //! Examples of stages that events pass through.
 
-pub(crate) const TWO_STAGES: &str = r#"# A pipeline of two stages by hand: an atomic queue, where the events of a flow are handled one after the other, and then a
+pub(crate) const TWO_STAGES: &str =
+    r#"# A pipeline of two stages by hand: an atomic queue, where the events of a flow are handled one after the other, and then a
 # parallel queue, where they are handled at once.
 #
 #     ./evsched play < examples/two-stages.toml
@@ -59,7 +60,8 @@ implicit = false
 links = [0, 1]
 "#;
 
-pub(crate) const ORDERED_STAGE: &str = r#"# An ordered stage: two workers handle the events of one flow at once and finish out of order. What they forward enters the
+pub(crate) const ORDERED_STAGE: &str =
+    r#"# An ordered stage: two workers handle the events of one flow at once and finish out of order. What they forward enters the
 # next stage in the order in which the stage's events were handed out.
 #
 #     ./evsched play < examples/ordered-stage.toml
@@ -123,7 +125,8 @@ implicit = false
 links = [1]
 "#;
 
-pub(crate) const ORDERED_RELEASE: &str = r#"# An ordered stage that drops an event: a release keeps nothing back. Of three events the third is forwarded first and the
+pub(crate) const ORDERED_RELEASE: &str =
+    r#"# An ordered stage that drops an event: a release keeps nothing back. Of three events the third is forwarded first and the
 # second released; as the first is forwarded, both forwards enter the next stage, in the order of the hand-out.
 #
 #     ./evsched play < examples/ordered-release.toml
@@ -188,7 +191,8 @@ implicit = false
 links = [0]
 "#;
 
-pub(crate) const TRANSMIT: &str = r#"# A single-link queue in front of a transmit port: workers forward to it from any core, and one port alone empties it, so that
+pub(crate) const TRANSMIT: &str =
+    r#"# A single-link queue in front of a transmit port: workers forward to it from any core, and one port alone empties it, so that
 # the device behind that port needs no lock.
 #
 #     ./evsched play < examples/transmit.toml
@@ -252,7 +256,8 @@ implicit = false
 links = [1]
 "#;
 
-pub(crate) const SEVERAL_FORWARDS: &str = r#"# A packet that is cut into three: a worker adds two events beside the one that it holds, and forwards that one as the third.
+pub(crate) const SEVERAL_FORWARDS: &str =
+    r#"# A packet that is cut into three: a worker adds two events beside the one that it holds, and forwards that one as the third.
 # The stage is ordered, so the three stand together in the next stage, before what the packet behind them became.
 #
 #     ./evsched play < examples/several-forwards.toml

@@ -1,8 +1,13 @@
 //! How a run ends.
 
+ghost use Rattle.std.specs.Prelude.{IfOk};
+ghost use Rattle.command_line.specs.CommandLine.{HasFew};
+
 use anyhow::{Result, bail};
 use arrayvec::ArrayString;
-use pipeline_app::{AppFault, Choice, OpenGate, choice, fault_line, play, run_trace};
+use pipeline_app::{
+    AppFault, Choice, OpenGate, Task, check, choice, fault_line, play_explained, run_explained,
+};
 use std::alloc::{AllocError, Global};
 use std::fmt;
 use std::sync::Wait;
@@ -19,11 +24,12 @@ pub struct Ending {
 }
 
 impl Ending {
-    /// The ending of a run with this outcome, which wrote this.
+    /// The ending of a run with this outcome, which wrote this, and says this below the line of a fault.
     fn of(
         alloc: Global,
         outcome: Result<(), AppFault>,
         output: Vec<u8>,
+        why: &str,
     ) -> Result<Ending, AllocError> {
         let mut complaint = String::new(alloc);
         let status = match outcome {
@@ -33,6 +39,7 @@ impl Ending {
                 let status = fault_line(&fault, &mut line);
                 complaint.push_str(line.as_str())?;
                 complaint.push('\n')?;
+                complaint.push_str(why)?;
                 status
             }
         };
@@ -75,6 +82,28 @@ impl fmt::Display for Ending {
     }
 }
 
+/// What the words after the program's name ask to be done with a document on standard input, and whether its fault is explained.
+fn task_of(alloc: Global, words: &[&str]) -> Result<(Task, bool)>
+    ensures { IfOk result (λ t. HasFew t.0) }
+{
+    let mut text = String::new(alloc);
+    match choice(alloc, words, &mut text) {
+        Ok(Choice::Play) => Ok((Task::Play, false)),
+        Ok(Choice::Run { workers }) => Ok((Task::Run { workers }, false)),
+        Ok(
+            Choice::Document {
+                task,
+                file: None,
+                explain,
+            },
+        ) => Ok((task, explain)),
+        Ok(Choice::Document { .. } | Choice::Example { .. }) => {
+            bail!("the index has words that ask for another document")
+        }
+        Err(_) => bail!("the index has words that ask for no run: {text}"),
+    }
+}
+
 /// Does what the words after the program's name ask for, with the document on standard input.
 pub fn ending_of<R: AllocGlobal + Threads + Wait + Sync>(
     rt: &R,
@@ -83,15 +112,23 @@ pub fn ending_of<R: AllocGlobal + Threads + Wait + Sync>(
 ) -> Result<Ending> {
     let alloc = rt.alloc();
     let words: Vec<&str> = words.split(' ').collect(alloc)?;
+    let (task, explain) = task_of(alloc, &words)?;
     let mut reader = document;
     let mut output = Vec::new(alloc);
-    let mut text = String::new(alloc);
-    let outcome = match choice(alloc, &words, &mut text) {
-        Ok(Choice::Play) => play(alloc, &mut reader, &mut output),
-        Ok(Choice::Run { workers }) => {
-            run_trace(rt, alloc, &mut reader, workers, &OpenGate, &mut output)
-        }
-        Err(_) => bail!("the index has words that ask for no run: {text}"),
+    let mut why = String::new(alloc);
+    let outcome = match task {
+        Task::Play => play_explained(alloc, &mut reader, &mut output, &mut why),
+        Task::Run { workers } => run_explained(
+            rt,
+            alloc,
+            &mut reader,
+            workers,
+            &OpenGate,
+            &mut output,
+            &mut why,
+        ),
+        Task::Check { workers } => check(alloc, &mut reader, workers, &mut why),
     };
-    Ok(Ending::of(alloc, outcome, output)?)
+    let said = if explain { why.as_str() } else { "" };
+    Ok(Ending::of(alloc, outcome, output, said)?)
 }

@@ -1,22 +1,51 @@
 //! The command line.
 
-use command_line::{Choice, choice};
+use command_line::{Choice, Task, choice};
 
 /// The words after the program's name, what they ask for or the status to end with, and a part of what is printed.
-static LINES: [(&[&str], Result<Choice, u8>, &str); 15] = [
+static LINES: [(&[&str], Result<Choice, u8>, &str); 20] = [
     (&["play"], Ok(Choice::Play), ""),
     (&["--help"], Err(0), "Usage: evsched <COMMAND>"),
     (&["help"], Err(0), "docs/FORMATS.md"),
     (&["--version"], Err(0), "evsched 0.1.0\n"),
     (&["play", "--help"], Err(0), "Usage: evsched play"),
-    (
-        &["help", "play"],
-        Err(0),
-        "evsched play < examples/first-event.toml",
-    ),
+    (&["help", "play"], Err(0), "evsched play first-event.toml"),
     (&[], Err(2), "play"),
     (&["stop"], Err(2), "stop"),
-    (&["play", "now"], Err(2), "now"),
+    (&["play", "now", "then"], Err(2), "then"),
+    (
+        &["play", "now"],
+        Ok(Choice::Document {
+            task: Task::Play,
+            file: Some(1),
+            explain: false,
+        }),
+        "",
+    ),
+    (
+        &["check", "--workers", "3", "-"],
+        Ok(Choice::Document {
+            task: Task::Check { workers: 3 },
+            file: None,
+            explain: true,
+        }),
+        "",
+    ),
+    (
+        &["run", "--explain", "now"],
+        Ok(Choice::Document {
+            task: Task::Run { workers: 2 },
+            file: Some(2),
+            explain: true,
+        }),
+        "",
+    ),
+    (
+        &["example", "two-flows"],
+        Ok(Choice::Example { name: Some(1) }),
+        "",
+    ),
+    (&["help", "faults"], Err(0), "LimitTight"),
     (&["run"], Ok(Choice::Run { workers: 2 }), ""),
     (
         &["run", "--workers", "1"],

@@ -1,1 +1,3 @@
 pub mod Explanations
+pub mod Keys
+pub mod Places

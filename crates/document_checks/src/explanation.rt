@@ -1,11 +1,15 @@
 //! The fault of a document, and its explanation.
 
-ghost use Rattle.std.specs.Prelude.{◌≡◌, IfOk, option_map};
+ghost use Rattle.std.specs.Prelude.{◌≡◌, IfOk, IfSome, option_map};
+ghost use Rattle.toml.specs.View.{table_view};
 ghost use Rattle.play_documents.specs.Document.{document_of};
 ghost use Rattle.run_documents.specs.Pipelines.{pipeline_of};
 ghost use Rattle.document_checks.specs.Explanations.{fault_in, fault_of_either, is_pipeline};
+ghost use Rattle.document_checks.specs.Places.{IsPlaceIn, IsPlaceOf};
+ghost use Rattle.document_checks.specs.declared.tables.Reading.TheVariants.{Play, Run};
 
 use crate::bad::{bad_place, write_bad};
+use crate::confirmed::confirmed;
 use crate::keys::Key;
 use crate::missing::{missing_place, write_missing};
 use crate::places::Place;
@@ -51,8 +55,8 @@ fn key_at(sheet: &Sheet<'_>, place: &Place) -> Option<Key> {
     None
 }
 
-/// The place of a key's fault.
-fn place_of(
+/// The first key that seems to be at fault.
+fn found(
     alloc: Global,
     sheets: &[Sheet<'_>],
     fault: DocFault,
@@ -62,6 +66,22 @@ fn place_of(
         DocFault::MissingKey => missing_place(alloc, sheets),
         DocFault::BadValue => bad_place(alloc, sheets),
         _ => Ok(None),
+    }
+}
+
+/// The place of a key's fault. What was found is looked at once more, by what a table may have, must have and refuses.
+fn place_of(
+    alloc: Global,
+    reading: Reading,
+    table: &Table,
+    sheets: &[Sheet<'_>],
+    fault: DocFault,
+) -> Result<Option<Place>, AllocError>
+    ensures { IfOk result (λ p. IfSome p (IsPlaceOf reading (table_view table.now) fault)) }
+{
+    match found(alloc, sheets, fault)? {
+        Some(place) => confirmed(alloc, reading, table, fault, place),
+        None => Ok(None),
     }
 }
 
@@ -111,11 +131,12 @@ fn explained_table(
     reading: Reading,
     fault: DocFault,
 ) -> Result<Explanation, AllocError>
-    ensures { IfOk result (λ e. e.fault ≡ fault) }
+    ensures fault { IfOk result (λ e. e.fault ≡ fault) }
+    ensures place { IfOk result (λ e. IfSome e.place (IsPlaceOf reading (table_view table.now) fault)) }
 {
     let source = Source::new(alloc, bytes, reading, table)?;
     let sheets = sheets(alloc, reading, table)?;
-    let place = place_of(alloc, &sheets, fault)?;
+    let place = place_of(alloc, reading, table, &sheets, fault)?;
     let mut text = String::new(alloc);
     match &place {
         Some(place) => write_place(&source, &sheets, fault, place, &mut text)?,
@@ -131,7 +152,8 @@ fn explained(
     reading: Reading,
     fault: DocFault,
 ) -> Result<Explanation, AllocError>
-    ensures { IfOk result (λ e. e.fault ≡ fault) }
+    ensures fault { IfOk result (λ e. e.fault ≡ fault) }
+    ensures place { IfOk result (λ e. IfSome e.place (IsPlaceIn reading bytes.now fault)) }
 {
     match table_of(alloc, bytes) {
         Ok(table) => explained_table(alloc, bytes, &table, reading, fault),
@@ -168,6 +190,7 @@ pub fn too_long(alloc: Global) -> Result<Explanation, AllocError>
 /// The fault that `play` finds in the document of these bytes, explained; `None` where it finds none.
 pub fn explain_play(alloc: Global, bytes: &[u8]) -> Result<Option<Explanation>, AllocError>
     ensures fault { IfOk result (λ e. option_map (λ x. x.fault) e ≡ fault_in (document_of bytes.now)) }
+    ensures place { IfOk result (λ e. IfSome e (λ x. IfSome x.place (IsPlaceIn Play bytes.now x.fault))) }
 {
     match read_document(alloc, bytes) {
         Ok(_) => Ok(None),
@@ -186,6 +209,7 @@ pub fn explain_run(
     workers: usize,
 ) -> Result<Option<Explanation>, AllocError>
     ensures fault { IfOk result (λ e. option_map (λ x. x.fault) e ≡ fault_in (pipeline_of workers bytes.now)) }
+    ensures place { IfOk result (λ e. IfSome e (λ x. IfSome x.place (IsPlaceIn (Run workers) bytes.now x.fault))) }
 {
     match read_pipeline(alloc, bytes, workers) {
         Ok(_) => Ok(None),

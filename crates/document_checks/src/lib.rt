@@ -3,6 +3,7 @@
 #![tactic(auto)]
 
 mod bad;
+mod confirmed;
 mod explanation;
 mod key_marks;
 mod keys;

@@ -1,7 +1,9 @@
 pub mod Calling
+mod CheckFaults
 pub mod EarlyFaults
 pub mod Finished
 pub mod Home
 pub mod Playing
 pub mod Ranges
 pub mod RunFaults
+mod Writing

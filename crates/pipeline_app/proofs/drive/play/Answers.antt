@@ -1,24 +1,6 @@
-use Rattle.std.proofs.Common.{◌≡◌, ℕ, List, Option, Result, Ok, Err, sym, subst}
-use Rattle.std.specs.Prelude.{IfErr, OnOk}
-use Rattle.std.specs.Io.KnownBytes.{Appends}
 use Rattle.command_line.proofs.Reading.{reads_fault, reads_whole}
-use Rattle.command_line.specs.Output.{AppendsPrefix}
-use Rattle.command_line.specs.declared.fault.AppFault.{AppFault}
-use Rattle.command_line.specs.declared.fault.AppFault.TheVariants.{Write}
-use Rattle.pipeline_app.specs.Play.{AfterFault, HasRun, WritesPart, WritesRun}
+use Rattle.pipeline_app.proofs.Writing.{after_whole, after_write}
 use Rattle.pipeline_app.proofs.drive.play.Goals as goal
-
--- after a write's fault a first part of the run's text was written
-after_write : (known old new : Option (List ℕ)) (text written : List ℕ) (r : Result (Unit {0}) AppFault) → HasRun known text → written ≡ text → IfErr r (λ e. (e ≡ Write) × AppendsPrefix old new written) → IfErr r (AfterFault known old new)
-after_write known old new text written (Ok u) run is h = tt
-after_write known old new text written (Err e) run is h =
-    let part : WritesPart known old new = (text, run, subst (AppendsPrefix old new) is h.1) in
-    subst (AfterFault known old new) (sym h.0) part
-
--- after a whole write all of the run's text was written
-after_whole : (known old new : Option (List ℕ)) (text written : List ℕ) (r : Result (Unit {0}) AppFault) → HasRun known text → written ≡ text → OnOk r (Appends old new written) → OnOk r (WritesRun known old new)
-after_whole known old new text written (Ok u) run is h = (text, run, subst (Appends old new) is h)
-after_whole known old new text written (Err e) run is h = tt
 
 pub returns-in_err-text-clause-reads : goal.returns-in_err-text-clause-reads
 returns-in_err-text-clause-reads g c = reads_fault c.in_err-text.was c.from_residual.ensures.1 c.played_text.ensures.reads

@@ -11,7 +11,8 @@ use arrayvec::ArrayString;
 use example_documents::{EXAMPLES, example};
 use noted::Noted;
 use pipeline_app::{
-    AppFault, Choice, Task, check, choice, fault_line, play_explained, run_explained,
+    AppFault, Choice, Task, check, choice, fault_line, play, play_explained, run_explained,
+    run_trace,
 };
 use progress::Progress;
 use std::fs::File;
@@ -103,36 +104,34 @@ struct Terminals {
     error: bool,
 }
 
-/// Does the task with the document that the reader gives. Where it has a fault, `why` may say where it is and why.
+/// Does the task with the document that the reader gives. Where its fault is to be explained, `why` says where it is and why.
 fn outcome<R: AllocGlobal + Print + Eprint + Clock + Threads + Wait + Sync, I: Read>(
     rt: &R,
     task: Task,
+    explain: bool,
     reader: &mut I,
     on_terminal: bool,
     why: &mut String,
 ) -> Result<(), AppFault>
     requires { HasFew task }
 {
-    let alloc = rt.alloc();
+    let (alloc, mut writer) = (rt.alloc(), io::writer(rt));
     match task {
-        Task::Play => play_explained(alloc, reader, &mut io::writer(rt), why),
+        Task::Play if explain => play_explained(alloc, reader, &mut writer, why),
+        Task::Play => play(alloc, reader, &mut writer),
         Task::Run { workers } => {
             let progress = Progress::new(rt, on_terminal);
-            run_explained(
-                rt,
-                alloc,
-                reader,
-                workers,
-                &progress,
-                &mut io::writer(rt),
-                why,
-            )
+            if explain {
+                run_explained(rt, alloc, reader, workers, &progress, &mut writer, why)
+            } else {
+                run_trace(rt, alloc, reader, workers, &progress, &mut writer)
+            }
         }
         Task::Check { workers } => check(alloc, reader, workers, why),
     }
 }
 
-/// Does the task, and gives the status. A fault's explanation is printed below its line where that is asked for.
+/// Does the task, and gives the status. A fault's explanation, where it is asked for, is printed below its line.
 fn done<R: AllocGlobal + Print + Eprint + Clock + Threads + Wait + Sync, I: Read>(
     rt: &R,
     task: Task,
@@ -143,13 +142,11 @@ fn done<R: AllocGlobal + Print + Eprint + Clock + Threads + Wait + Sync, I: Read
     requires { HasFew task }
 {
     let mut why = String::new(rt.alloc());
-    match outcome(rt, task, reader, on_terminal, &mut why) {
+    match outcome(rt, task, explain, reader, on_terminal, &mut why) {
         Ok(()) => 0,
         Err(fault) => {
             let status = failed(rt, &fault);
-            if explain {
-                let _ = eprint!(rt; "{why}");
-            }
+            let _ = eprint!(rt; "{why}");
             status
         }
     }

@@ -6,7 +6,8 @@ ghost use Rattle.command_line.specs.CommandLine.{HasFew};
 use anyhow::{Result, bail};
 use arrayvec::ArrayString;
 use pipeline_app::{
-    AppFault, Choice, OpenGate, Task, check, choice, fault_line, play_explained, run_explained,
+    AppFault, Choice, OpenGate, Task, check, choice, fault_line, play, play_explained,
+    run_explained, run_trace,
 };
 use std::alloc::{AllocError, Global};
 use std::fmt;
@@ -117,8 +118,9 @@ pub fn ending_of<R: AllocGlobal + Threads + Wait + Sync>(
     let mut output = Vec::new(alloc);
     let mut why = String::new(alloc);
     let outcome = match task {
-        Task::Play => play_explained(alloc, &mut reader, &mut output, &mut why),
-        Task::Run { workers } => run_explained(
+        Task::Play if explain => play_explained(alloc, &mut reader, &mut output, &mut why),
+        Task::Play => play(alloc, &mut reader, &mut output),
+        Task::Run { workers } if explain => run_explained(
             rt,
             alloc,
             &mut reader,
@@ -127,8 +129,10 @@ pub fn ending_of<R: AllocGlobal + Threads + Wait + Sync>(
             &mut output,
             &mut why,
         ),
+        Task::Run { workers } => {
+            run_trace(rt, alloc, &mut reader, workers, &OpenGate, &mut output)
+        }
         Task::Check { workers } => check(alloc, &mut reader, workers, &mut why),
     };
-    let said = if explain { why.as_str() } else { "" };
-    Ok(Ending::of(alloc, outcome, output, said)?)
+    Ok(Ending::of(alloc, outcome, output, why.as_str())?)
 }

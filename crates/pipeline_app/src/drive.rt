@@ -92,10 +92,13 @@ fn explained_text<R: Read>(
             return Err(fault);
         }
     };
-    if let Ok(Some(explanation)) = explain_play(alloc, &bytes) {
-        *why = explanation.text;
+    let result = document_text(alloc, &bytes);
+    if let Err(AppFault::Document(_)) = &result {
+        if let Ok(Some(explanation)) = explain_play(alloc, &bytes) {
+            *why = explanation.text;
+        }
     }
-    document_text(alloc, &bytes)
+    result
 }
 
 /// Reads a document, plays its script on a device in one thread, and writes the answers, the log and the report. The text

@@ -187,10 +187,13 @@ fn explained_text<R: Threads + Wait + Sync, I: Read, G: Gate>(
             return Err(fault);
         }
     };
-    if let Ok(Some(explanation)) = explain_run(alloc, &bytes, workers as usize) {
-        *why = explanation.text;
+    let result = document_text(rt, alloc, &bytes, workers, gate);
+    if let Err(AppFault::Document(_)) = &result {
+        if let Ok(Some(explanation)) = explain_run(alloc, &bytes, workers as usize) {
+            *why = explanation.text;
+        }
     }
-    document_text(rt, alloc, &bytes, workers, gate)
+    result
 }
 
 /// Reads a pipeline's document, runs its trace through the stages with so many workers, each in a thread of its own, and writes what

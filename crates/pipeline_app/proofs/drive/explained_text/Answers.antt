@@ -7,4 +7,4 @@ pub returns-in-Err-clause-fault : goal.returns-in-Err-clause-fault
 returns-in-Err-clause-fault g c = IsEarlyFault-input _ _ c.in-Err.ensures.err
 
 pub returns-clause-run : goal.returns-clause-run
-returns-clause-run g c = run_read (λ text. string_bytes text) _ _ _ c.document_text.result c.deref.ensures.value c.in-Ok.ensures.all c.document_text.ensures.run
+returns-clause-run g c = run_read (λ text. string_bytes text) _ _ _ c.document_text-result.result c.deref.ensures.value c.in-Ok.ensures.all c.document_text-result.ensures.run

@@ -5,4 +5,4 @@ pub returns-in-Err-clause-fault : goal.returns-in-Err-clause-fault
 returns-in-Err-clause-fault g c = early_input c.args.workers _ _ c.in-Err.ensures.err
 
 pub returns-clause-fault : goal.returns-clause-fault
-returns-clause-fault g c = early_read c.args.workers _ _ _ c.document_text.result c.deref.ensures.value c.in-Ok.ensures.all c.document_text.ensures.fault
+returns-clause-fault g c = early_read c.args.workers _ _ _ c.document_text-result.result c.deref.ensures.value c.in-Ok.ensures.all c.document_text-result.ensures.fault

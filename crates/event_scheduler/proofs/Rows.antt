@@ -10,7 +10,7 @@ use Rattle.evt_types.specs.declared.step.Step.{Step}
 use Rattle.sched_core.specs.Rows.{row_of}
 use Rattle.std.proofs.lemmas.Option.{none-some}
 use Rattle.std.proofs.Math.Seq.{take-add}
-use Rattle.std.proofs.lemmas.List.{length-drop, length-set, take_all}
+use Rattle.std.proofs.lemmas.List.{length-drop, length-set, length-take-le, take_all}
 use Rattle.transcripts.proofs.WholeStands.{shape_after, takes_stand}
 use Rattle.transcripts.specs.Replies.{new_count, turned_count}
 use Rattle.transcripts.specs.Standing.{View, after, steps_of}
@@ -118,6 +118,22 @@ next_row s l k n rs v u w p m q later r more log mid longer within left h row =
     subst (λ x. Takes (only l (k + n)) (k + n) (with_core s v p m) log (with_core x w r more) longer)
     (run_more s l (take k rs) (take n (take (length rs - k) (drop k rs))) within ∙ ap (with_taken s l) (ap (λ ys. take k rs ++ take n ys) (rest_is k rs) ∙ sym (take-add k n rs)))
     (lane_more l k n _ _ _ log mid longer h row)
+
+-- some replies of a lane, and a row behind them of which none is turned away
+pub row_behind :
+    (s : Sight) (l k n : ℕ) (rs : List Reply) (v u w : View) (p m came more : ℕ) (log mid longer : List Step) → l < length s.taken → p < 2 ^ 64 → came < 2 ^ 64 → n ≤ length (take (length rs - k) (drop k rs))
+    → Takes (only l k) k (with_core s v p m) log (with_core (with_taken s l (take k rs)) u p came) mid → MayBeTaken u (row_of l (take n (take (length rs - k) (drop k rs))))
+    → w ≡ after u (replies_steps u (row_of l (take n (take (length rs - k) (drop k rs))))) → longer ≡ mid ++ replies_steps u (row_of l (take n (take (length rs - k) (drop k rs))))
+    → turned_count (replies_steps u (row_of l (take n (take (length rs - k) (drop k rs))))) ≡ 0 → more ≡ (came + new_count (replies_steps u (row_of l (take n (take (length rs - k) (drop k rs)))))) % 2 ^ 64
+    → Takes (only l (k + n)) (k + n) (with_core s v p m) log (with_core (with_taken s l (take (k + n) rs)) w p more) longer
+row_behind s l k n rs v u w p m came more log mid longer within fits_p fits_c left h may view logged turns enters =
+    let rest : List Reply = take (length rs - k) (drop k rs) in
+    let behind : Sight = with_taken s l (take k rs) in
+    let inside : l < length behind.taken = omega (arith, within, length-set s.taken l (taken_at s l ++ take k rs)) in
+    let row : Takes (only l (length (take n rest))) (length (take n rest)) (with_core behind u p came) mid (with_core (with_taken behind l (take n rest)) w p more) longer =
+    row_took (take n rest) behind l u w p came (new_count (replies_steps u (row_of l (take n rest)))) more mid longer inside fits_p fits_c may view logged turns refl enters in
+    next_row s l k n rs v u w p m p came p more log mid longer within left h
+    (subst (λ j. Takes (only l j) j (with_core behind u p came) mid (with_core (with_taken behind l (take n rest)) w p more) longer) (length-take-le n rest left) row)
 
 -- what stands behind some of them
 pub slice_behind : (k n : ℕ) (rs : List Reply) (r : Reply) → slice_get (drop k rs) n ≡ Some r → slice_get rs (k + n) ≡ Some r

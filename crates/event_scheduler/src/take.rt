@@ -7,8 +7,11 @@ ghost use Rattle.event_scheduler.specs.Taking.{MayEnd, Takes, TakesAll, entered_
 ghost use Rattle.evt_types.specs.declared.event.Reply.{Reply as ReplyValue};
 ghost use Rattle.evt_types.specs.Plan.{lanes_of};
 ghost use Rattle.evt_types.specs.declared.step.Step.{Step as StepValue};
+ghost use Rattle.sched_core.specs.Rows.{row_of};
 ghost use Rattle.sched_core.specs.Taken.{took_of};
+ghost use Rattle.transcripts.specs.Replies.{new_count, turned_count};
 ghost use Rattle.transcripts.specs.Standing.{Stands, after, kept_in, may_take, steps_of};
+ghost use Rattle.transcripts.specs.Sweep.{MayBeTaken, replies_steps};
 
 use crate::scheduler::Scheduler;
 use evt_types::Reply;
@@ -77,6 +80,41 @@ fn take_each<L: StepLog>(
     replies.len()
 }
 
+/// Takes the oldest of these replies of the lane in a row, and counts the NEWs, which are accepted: how many. It may take none where some
+/// may be taken.
+#[inline(always)]
+fn take_row<L: StepLog>(
+    core: &mut Core,
+    accepted_new: &mut u64,
+    lane: usize,
+    replies: &[Reply],
+    log: &mut L,
+) -> usize
+    requires lane { lane < lanes_of core.old.shape }
+    requires room { length replies.now ≤ L.room log.old }
+    ensures few { result ≤ length replies.now }
+    ensures may { MayBeTaken core.old (row_of lane (take result replies.now)) }
+    ensures view { core.new ≡ after core.old (replies_steps core.old (row_of lane (take result replies.now))) }
+    ensures logged { L.steps log.new ≡ L.steps log.old ++ replies_steps core.old (row_of lane (take result replies.now)) }
+    ensures accepted { accepted_new.new ≡ (accepted_new.old + new_count (replies_steps core.old (row_of lane (take result replies.now)))) % 2 ^ 64 }
+    ensures turned { turned_count (replies_steps core.old (row_of lane (take result replies.now))) ≡ 0 }
+    ensures shape { core.new.shape ≡ core.old.shape }
+    ensures kept { kept_in core.new ≡ kept_in core.old }
+    ensures room { L.room log.old ≤ L.room log.new + result }
+{
+    // To read the count makes known that it is within its range.
+    let count = *accepted_new;
+    let Some(first) = replies.first() else {
+        return 0;
+    };
+    if !first.event.is_new() {
+        return core.take_releases(lane, replies, log);
+    }
+    let row = core.take_news(lane, replies, log);
+    *accepted_new = count.wrapping_add(row as u64);
+    row
+}
+
 /// Takes the oldest of these replies of the lane row by row, as long as rows are taken: how many. None is turned away.
 #[inline(always)]
 fn take_rows<L: StepLog>(
@@ -97,19 +135,18 @@ fn take_rows<L: StepLog>(
     let mut taken = 0;
     while taken < replies.len() {
         // To read the count makes known that it is within its range.
-        let count = *accepted_new;
-        let row = core.take_news(lane, &replies[taken..], log);
+        let _accepted_new = *accepted_new;
+        let row = take_row(core, accepted_new, lane, &replies[taken..], log);
         if row == 0 {
             return taken;
         }
-        *accepted_new = count.wrapping_add(row as u64);
         taken += row;
     }
     taken
 }
 
-/// The same of several replies: those that come in rows are taken in rows. It stands apart, so that the code by which a single reply is
-/// taken stays small.
+/// Takes several replies of the lane, oldest first, up to the first that may not be taken: how many. The first ones go in rows, as long as
+/// rows are taken, and then one by one. It isn't inlined, so that the code by which a single reply is taken stays small.
 #[inline(never)]
 fn take_many<L: StepLog>(
     core: &mut Core,

@@ -5,7 +5,7 @@ ghost use Rattle.std.proofs.Common.{rules};
 ghost use Rattle.event_device.specs.Listed.{turned_all};
 
 use event_answers::Turned;
-use evt_types::{Reply, Step};
+use evt_types::{Delivery, Reply, Step};
 use std::alloc::Global;
 use step_log::{Memory, StepLog};
 
@@ -63,6 +63,11 @@ impl<L: StepLog> StepLog for Books<L> {
     #[inline(always)]
     fn push_releases(&mut self, lane: usize, count: usize) {
         self.log.push_releases(lane, count);
+    }
+
+    #[inline(always)]
+    fn push_gives(&mut self, lane: usize, queue: usize, row: &[Delivery]) {
+        self.log.push_gives(lane, queue, row);
     }
 
     fn make_room(&mut self, count: usize) -> Result<(), Memory> {

@@ -30,3 +30,5 @@ pub mod Noting
 pub mod Shown
 pub mod Rings
 pub mod LastStints
+pub mod Chains
+pub mod OwnRows

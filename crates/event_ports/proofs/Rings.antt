@@ -5,6 +5,7 @@ use Rattle.std.proofs.lemmas.Bool.{cases_lt}
 use Rattle.std.proofs.lemmas.Grind.{common_steps}
 use Rattle.std.proofs.lemmas.List.{append_assoc, same_lists, drop_more, get_or_append_left, get_or-append_right}
 use Rattle.std.proofs.lemmas.Nat.{mod_below}
+use Rattle.std.proofs.lemmas.Option.{slice_get_read}
 use Rattle.evt_types.specs.declared.event.Delivery.{Delivery}
 use Rattle.event_ports.specs.HeldRings.{Held, holds, window}
 use Rattle.event_ports.specs.Ring.{in_ring, IsRing}
@@ -56,18 +57,18 @@ module _ {X : Type 0} (size k n : ℕ) (xs : List X) (within : k < size) (fits :
         get_or-window size k (n + 1) ys within (omega arith) length_ys i d,
       ))
 
-  pub window_dropped : 0 < n → drop 1 (window k n xs) ≡ window ((k + 1) % size) (n - 1) xs
-  window_dropped some =
-      let next_within : (k + 1) % size < size = mod_below (k + 1) size (omega arith) in
+  pub window_dropped : (m : ℕ) → m ≤ n → drop m (window k n xs) ≡ window ((k + m) % size) (n - m) xs
+  window_dropped m some =
+      let next_within : (k + m) % size < size = mod_below (k + m) size (omega arith) in
       let length_old = length-window size k n xs within fits length_xs in
-      let length_new = length-window size ((k + 1) % size) (n - 1) xs next_within (omega arith) length_xs in
+      let length_new = length-window size ((k + m) % size) (n - m) xs next_within (omega arith) length_xs in
       same_lists _ _ (simp length-drop (omega arith)) (λ i d in_range. grind (
         arith,
-        length-drop 1 (window k n xs),
-        get_or-drop 1 (window k n xs) i d,
-        mod-add-mod (k + 1) size i,
-        get_or-window size k n xs within fits length_xs (1 + i) d,
-        get_or-window size _ (n - 1) xs next_within (omega arith) length_xs i d,
+        length-drop m (window k n xs),
+        get_or-drop m (window k n xs) i d,
+        mod-add-mod (k + m) size i,
+        get_or-window size k n xs within fits length_xs (m + i) d,
+        get_or-window size _ (n - m) xs next_within (omega arith) length_xs i d,
       ))
 
   pub window_first : (d : X) → 0 < n → window k n xs ≡ get_or xs k d ∷ drop 1 (window k n xs)
@@ -99,11 +100,22 @@ module _ (a : Inside) (ring : IsRing a) where
   pub has_room : (v : Held) (n : ℕ) → holds (in_ring a) a.capacity ≡ v → length v.items + n ≤ v.capacity → a.len + n ≤ a.capacity
   has_room v n is room = omega (arith, room, length_held, ap (λ (v : Held). length v.items) is, ap (λ (v : Held). v.capacity) is)
 
+  pub held_within : (v : Held) (n : ℕ) → holds (in_ring a) a.capacity ≡ v → n ≤ length v.items → n ≤ a.len
+  held_within v n is within = omega (arith, within, length_held, ap (λ (v : Held). length v.items) is)
+
+  -- the one behind so many
+  pub held_at : (n : ℕ) (h : Holding) → h ≡ get_or a.places.items ((a.first + n) % 64) h → n < a.len → slice_get (in_ring a) n ≡ Some h
+  held_at n h there within =
+      slice_get_read (in_ring a) a.len n h (sym length_held) within (there ∙ sym (get_or-window 64 a.first a.len a.places.items ring.first all_fit ring.places n h within))
+
   pub none_held : a.len ≡ 0 → in_ring a ≡ []
   none_held none = ap (λ n. window a.first n a.places.items) none ∙ window_none a.first a.places.items
 
+  pub fewer_held : (n : ℕ) → n ≤ a.len → window ((a.first + n) % 64) (a.len - n) a.places.items ≡ drop n (in_ring a)
+  fewer_held n within = sym (window_dropped 64 a.first a.len a.places.items ring.first all_fit ring.places n within)
+
   pub one_less : 0 < a.len → window ((a.first + 1) % 64) (a.len - 1) a.places.items ≡ drop 1 (in_ring a)
-  one_less some = sym (window_dropped 64 a.first a.len a.places.items ring.first all_fit ring.places some)
+  one_less some = fewer_held 1 (omega (arith, some))
 
   pub first_held : (h : Holding) → h ≡ get_or a.places.items a.first h → 0 < a.len → Some h ≡ slice_get (in_ring a) 0
   first_held h oldest some =

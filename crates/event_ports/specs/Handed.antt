@@ -1,11 +1,12 @@
 -- What a clause sees of a port's lanes.
-use Rattle.std.specs.Prelude.{◌≡◌, ◌≢◌, ◌+◌, ◌<◌, ℕ, true, List, [], length, Option}
+use Rattle.std.specs.Prelude.{◌≡◌, ◌≢◌, ◌+◌, ◌<◌, ℕ, true, List, [], ◌++◌, length, map, drop, Option}
 use Rattle.lists.specs.Lists.{has}
 use Rattle.evt_types.specs.Operation.{is_more_reply, is_new_reply, is_release_reply}
 use Rattle.evt_types.specs.declared.event.Delivery.{Delivery}
+use Rattle.evt_types.specs.declared.event.Event.{Event}
 use Rattle.evt_types.specs.declared.event.Reply.{Reply}
 use Rattle.lists.specs.Counts.{count}
-use Rattle.lane_rings.specs.Ends.{hidden_answers, seen_deliveries}
+use Rattle.lane_rings.specs.Ends.{answered, hidden_answers, received_by, seen_deliveries}
 use Rattle.lane_rings.specs.Identity.{far_id, LaneId}
 use Rattle.lane_rings.specs.declared.far.Refusal.{Refusal}
 use Rattle.flow_claims.specs.declared.seating.Seating.{Seating}
@@ -15,7 +16,7 @@ use Rattle.event_ports.specs.declared.lane.Lane.TheVariants.{Own, Flow}
 use Rattle.event_ports.specs.declared.lanes.Lanes.{Lanes}
 use Rattle.event_ports.specs.Flows.{FlowSite, flow_site, hands_of}
 use Rattle.event_ports.specs.Holds.{Hands, NoneHidden}
-use Rattle.event_ports.specs.Lanes.{Hand, said_on, got_on, counted, IsFilledAt, RefusesFirst}
+use Rattle.event_ports.specs.Lanes.{Hand, said_on, got_on, counted, reply_of, IsFilledAt, RefusesFirst}
 
 -- what never changes of a port's lanes: the own one, the flow lanes, and how much may be held
 pub record LanesSite : Type 0 where
@@ -83,6 +84,14 @@ pub record CountsNone (a b : Lanes) : Type 0 where
   pub news : news_of b ≡ news_of a
   pub mores : mores_of b ≡ mores_of a
   pub releases : releases_of b ≡ releases_of a
+
+-- these answers went to the own lane, one after the other, each to the oldest that was held
+pub record AnswersRow (es : List Event) (a b : Lanes) : Type 0 where
+  pub site : lanes_site b ≡ lanes_site a
+  pub flows : b.flows ≡ a.flows
+  pub got : received_by b.own ≡ received_by a.own
+  pub said : answered b.own ≡ answered a.own ++ map reply_of es
+  pub holding : b.order.items ≡ drop (length es) a.order.items
 
 -- as many replies were given to the lane as its reply ring has room for
 abbrev pub IsFilled : Lanes → Option Lane → Type 0

@@ -47,10 +47,14 @@ impl Desk {
         ensures refused { IfSome result.1 (λ e. StopsAt self.old events.now result.0 e self.new) }
         ensures chain { Gathers self.old events.now result.0 result.1 self.new }
     {
-        for (taken, event) in events.iter().enumerate() {
+        let mut taken = 0;
+        while taken < events.len() {
+            let event = &events[taken];
             if let Err(refused) = self.submit(event) {
                 return (taken, Some(refused));
             }
+            taken += 1;
+            taken += self.submit_row(event.op(), &events[taken..]);
         }
         (events.len(), None)
     }

@@ -30,14 +30,15 @@ pub(crate) struct Lanes {
 }
 
 impl Lanes {
-    ghost use Rattle.std.specs.Prelude.{◌≡◌, ◌≢◌, ℕ, ◌<◌, ◌≤◌, [], ◌∷◌, true, length, map, count_by, Some, IfErr, MatchOption, MatchResult};
+    ghost use Rattle.std.specs.Prelude.{◌≡◌, ◌≢◌, ℕ, ◌<◌, ◌≤◌, [], ◌∷◌, All, true, length, map, take, count_by, Some, IfErr, MatchOption, MatchResult};
     ghost use Rattle.evt_types.specs.Additions.{extras_of};
     ghost use Rattle.evt_types.specs.Operation.{costs_credit, is_answer, is_more_reply, is_new_reply};
     ghost use Rattle.evt_types.specs.declared.event.Op.TheVariants as ops;
     ghost use Rattle.evt_types.specs.declared.event.TheConstants.{MAX_EXTRAS};
     ghost use Rattle.event_ports.specs.Lanes.{Rests, Submits, SubmitsTo, Arrives, ArrivesFrom, HasRoomFor, IsEmptyHand, IsEndOf, AreOf, TakesMore, extras_in, first_lane, lane_for, held_of, pair_in, reply_of};
-    ghost use Rattle.event_ports.specs.Handed.{IsReadable, lanes_site, flow_count, links_of, flow_hands, seating_of, seen_own, hand_of, mores_of, news_of, releases_of, CountsOne, CountsNone, IsFilled, RefusesOldest, AllShown, OwnFirst};
-    ghost use Rattle.lane_rings.specs.Ends.{received_by, answered, hidden_answers, held_list};
+    ghost use Rattle.event_ports.specs.Handed.{IsReadable, lanes_site, flow_count, links_of, flow_hands, seating_of, seen_own, hand_of, mores_of, news_of, releases_of, CountsOne, CountsNone, IsFilled, RefusesOldest, AllShown, AnswersRow, OwnFirst};
+    ghost use Rattle.lane_rings.specs.Ends.{received_by, answered, hidden_answers, held_list, room_left};
+    ghost use Rattle.evt_types.specs.declared.event.Event.{Event as EventValue};
     ghost use Rattle.evt_types.specs.declared.event.Op.{Op};
     ghost use Rattle.flow_claims.specs.Claims.{seating, port_of, IsSeatOf};
     ghost use Rattle.flow_claims.specs.Laws.{IsUnused};
@@ -151,6 +152,32 @@ impl Lanes {
                 Err(fault) => Err(fault),
             },
         }
+    }
+
+    /// How many of so many answers may go to the own lane in a row: the oldest that are held came from it, and there is room.
+    #[inline(always)]
+    pub(crate) fn own_row(&self, most: usize) -> usize
+        ensures within { result ≤ most }
+        ensures own { All (λ x. x.lane ≡ lanes.Own) (take result (hand_of self.now).holding) }
+        ensures held { result ≤ length (hand_of self.now).holding }
+        ensures room { result ≤ room_left self.now.own }
+    {
+        let most = most.min(self.own.known_room()).min(self.order.len());
+        self.order.count_own(most)
+    }
+
+    /// Answers so many of the oldest that are held, which came from the own lane. The scheduler sees it after the next `flush`.
+    #[inline(always)]
+    pub(crate) fn answer_row(&mut self, events: &[PackedEvent])
+        requires some { 0 < length events.now }
+        requires answers { All (λ (e : EventValue). is_answer (reply_of e) ≡ true) events.now }
+        requires own { All (λ x. x.lane ≡ lanes.Own) (take (length events.now) (hand_of self.old).holding) }
+        requires held { length events.now ≤ length (hand_of self.old).holding }
+        requires room { length events.now ≤ room_left self.old.own }
+        ensures { AnswersRow events.now self.old self.new }
+    {
+        self.own.stage_answers(events);
+        self.order.drop_row(events.len());
     }
 
     /// Receives at most `max` deliveries, and no more than may be held: from the own lane first, then from the linked flow lanes

@@ -14,6 +14,7 @@ mod lanes;
 mod parts;
 mod port;
 mod rest;
+mod rows;
 mod stop;
 
 pub use counts::PortCounts;

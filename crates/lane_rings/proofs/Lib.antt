@@ -5,3 +5,4 @@ pub mod Room
 pub mod Fetching
 pub mod Singles
 pub mod LaneSets
+pub mod Answering

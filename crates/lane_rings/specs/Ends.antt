@@ -58,6 +58,10 @@ answered far = put_in far.replies
 abbrev pub hidden_answers : Far → List Reply
 hidden_answers far = kept_back far.replies
 
+-- how many replies more there is a free slot for, as far as the holder's end knows
+abbrev pub room_left : Far → ℕ
+room_left far = room_of far.replies
+
 -- how many replies end the handling of a delivered event
 abbrev pub answers_among : List Reply → ℕ
 answers_among replies = count_by is_answer replies

@@ -102,11 +102,12 @@ fn hand_first(from: &mut Intake<Delivery>, held: &mut HeldPairs, into: &mut Arra
 }
 
 impl Far {
-    ghost use Rattle.std.specs.Prelude.{◌≡◌, ◌≢◌, ◌<◌, ◌≤◌, ◌↔◌, ◌+◌, true, false, List, [], ◌∷◌, ◌++◌, length, drop, slice_get, IsTrue, IsFalse, OnOk, IfOk, IfErr, IfNone, MatchOption, MatchResult};
+    ghost use Rattle.std.specs.Prelude.{◌≡◌, ◌≢◌, ◌<◌, ◌≤◌, ◌↔◌, ◌+◌, true, false, List, [], ◌∷◌, ◌++◌, All, length, drop, map, slice_get, IsTrue, IsFalse, OnOk, IfOk, IfErr, IfNone, MatchOption, MatchResult};
     ghost use Rattle.evt_types.specs.Additions.{more_after};
     ghost use Rattle.evt_types.specs.Operation.{is_answer, is_more_reply, needs_held};
     ghost use mathlib.Core.List.{IsPrefix};
-    ghost use Rattle.lane_rings.specs.Ends.{received_by, seen_deliveries, next_delivery, answered, hidden_answers, answers_among, unanswered, held_list, Comes};
+    ghost use Rattle.evt_types.specs.declared.event.Event.{Event as EventValue};
+    ghost use Rattle.lane_rings.specs.Ends.{received_by, seen_deliveries, next_delivery, answered, hidden_answers, answers_among, unanswered, held_list, room_left, Comes};
     ghost use Rattle.lane_rings.specs.Identity.{far_id};
     ghost use Rattle.lane_rings.specs.Refusal.{RefusesAnswer, RefusesReply, reply_of};
 
@@ -282,6 +283,32 @@ impl Far {
         self.held.clear();
         self.extras = 0;
         Ok(())
+    }
+
+    /// How many replies more there is a free slot for, as far as that is known; the next `stage` looks where none is known.
+    #[inline(always)]
+    pub fn known_room(&self) -> usize
+        ensures { result ≡ room_left self.now }
+    {
+        self.replies.free - self.replies.batch.len()
+    }
+
+    /// As `stage`, of FORWARDs and RELEASEs one after the other, of which each answers a delivery that is held, and for which there is
+    /// room.
+    #[inline(always)]
+    pub fn stage_answers(&mut self, events: &[PackedEvent])
+        requires some { 0 < length events.now }
+        requires answers { All (λ (e : EventValue). is_answer (reply_of e) ≡ true) events.now }
+        requires held { length events.now ≤ length (unanswered self.old) }
+        requires room { length events.now ≤ room_left self.old }
+        ensures lane { far_id self.new ≡ far_id self.old }
+        ensures received { (received_by self.new ≡ received_by self.old) × (seen_deliveries self.new ≡ seen_deliveries self.old) }
+        ensures answered { answered self.new ≡ answered self.old ++ map reply_of events.now }
+        ensures held { unanswered self.new ≡ drop (length events.now) (unanswered self.old) }
+    {
+        self.replies.gather_row(events);
+        self.held.skip(events.len());
+        self.extras = 0;
     }
 
     // How many of the deliveries that are held the event's reply answers, and how many events are beside the oldest once it is given; or

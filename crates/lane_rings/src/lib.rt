@@ -10,6 +10,7 @@ mod near;
 mod outlet;
 mod pair;
 mod rests;
+mod rows;
 
 pub use evt_types::Memory;
 pub use far::{AnswerFault, Far, Refusal};

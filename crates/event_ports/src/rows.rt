@@ -1,0 +1,61 @@
+//! Rows of events that have one operation: they are judged by their count, and gathered by one loop.
+
+ghost use Rattle.std.specs.Prelude.{◌≡◌, ◌≤◌, length, take, All};
+ghost use Rattle.evt_types.specs.declared.event.Event.{Event as EventValue};
+ghost use Rattle.evt_types.specs.declared.event.Op.TheVariants as ops;
+
+use crate::desk::Desk;
+use evt_types::{Op, PackedEvent};
+
+/// How many of so many events are RELEASEs, before the first that isn't.
+#[inline(always)]
+fn count_releases(events: &[PackedEvent], most: usize) -> usize
+    requires { most ≤ length events.now }
+    ensures within { result ≤ most }
+    ensures releases { All (λ (e : EventValue). e.op ≡ ops.Release) (take result events.now) }
+{
+    for position in 0..most {
+        let Op::Release = events[position].op() else {
+            return position;
+        };
+    }
+    most
+}
+
+impl Desk {
+    ghost use Rattle.std.specs.Prelude.{◌≤◌, length, take};
+    ghost use Rattle.event_ports.specs.Desks.{EnqueuesAll};
+
+    // After an event of this operation was taken: submits the first of the events, as long as they make a row with it: how many.
+    #[inline(always)]
+    pub(crate) fn submit_row(&mut self, op: Op, events: &[PackedEvent]) -> usize
+        ensures within { result ≤ length events.now }
+        ensures taken { EnqueuesAll (take result events.now) self.old self.new }
+    {
+        if events.is_empty() {
+            return 0;
+        }
+        match op {
+            Op::Release => self.submit_releases(events),
+            Op::New | Op::Forward | Op::ForwardMore => 0,
+        }
+    }
+
+    // Submits the first of the events, as long as they are RELEASEs of what came from the own lane: how many. The others are left to
+    // `submit`, as soon as no free slot is known, and before two quanta are in the pocket: the return rule is applied there alone.
+    #[inline(always)]
+    fn submit_releases(&mut self, events: &[PackedEvent]) -> usize
+        ensures within { result ≤ length events.now }
+        ensures taken { EnqueuesAll (take result events.now) self.old self.new }
+    {
+        let spare = self.quantum.saturating_mul(2).saturating_sub(self.pocket);
+        let most = events.len().min(spare.saturating_sub(1) as usize);
+        let count = self.lanes.own_row(count_releases(events, most));
+        if count == 0 {
+            return 0;
+        }
+        self.lanes.answer_row(&events[..count]);
+        self.pocket += count as u64;
+        count
+    }
+}

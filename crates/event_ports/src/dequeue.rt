@@ -47,14 +47,16 @@ impl Desk {
         ensures refused { IfSome result.1 (λ e. StopsAt self.old events.now result.0 e self.new) }
         ensures chain { Gathers self.old events.now result.0 result.1 self.new }
     {
-        let mut taken = 0;
-        while taken < events.len() {
-            let event = &events[taken];
+        let mut rest = events;
+        while let Some((event, others)) = rest.split_first() {
             if let Err(refused) = self.submit(event) {
-                return (taken, Some(refused));
+                return (events.len() - rest.len(), Some(refused));
             }
-            taken += 1;
-            taken += self.submit_row(event.op(), &events[taken..]);
+            if others.is_empty() {
+                return (events.len(), None);
+            }
+            let row = self.submit_row(event.op(), others);
+            rest = &others[row..];
         }
         (events.len(), None)
     }

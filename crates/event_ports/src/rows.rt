@@ -32,9 +32,6 @@ impl Desk {
         ensures within { result ≤ length events.now }
         ensures taken { EnqueuesAll (take result events.now) self.old self.new }
     {
-        if events.is_empty() {
-            return 0;
-        }
         match op {
             Op::Release => self.submit_releases(events),
             Op::New | Op::Forward | Op::ForwardMore => 0,

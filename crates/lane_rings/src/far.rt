@@ -238,13 +238,15 @@ impl Far {
         ensures too_many { (result ≡ Err Refusal.TooMany) ↔ ((is_more_reply (reply_of event.now) ≡ true) × (unanswered self.old ≢ []) × (MAX_EXTRAS ≤ extras_of (answered self.old))) }
         ensures refused { IfErr result (RefusesReply self.old (reply_of event.now)) }
     {
+        // What was gathered may lie where the event does, as far as the compiler can tell: it would be read again.
+        let is_new = event.is_new();
         let (ended, extras) = self.after(event)?;
         if !self.replies.has_room() {
             return Err(Refusal::Full);
         }
         self.replies.gather(Reply { event: *event });
         // A NEW answers nothing, so what is held isn't written.
-        if event.is_new() {
+        if is_new {
             return Ok(());
         }
         self.held.skip(ended);

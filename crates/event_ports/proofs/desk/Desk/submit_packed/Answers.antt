@@ -1,52 +1,53 @@
 -- One event more was taken, and those that made a row with it, or it was refused.
-use Rattle.std.proofs.Common.{rules, ◌≡◌, ◌∙◌, ◌+◌, ◌-◌, List, length, length-drop, drop, Some, refl, slice_get, subst, take, arith}
+use Rattle.std.proofs.Common.{rules, ◌≡◌, ◌∙◌, ◌∷◌, ◌-◌, List, length, length-drop, drop, refl, take, arith}
 use Rattle.std.proofs.lemmas.List.{take_all}
 use Rattle.evt_types.specs.declared.event.Event.{Event}
 use Rattle.event_ports.proofs.Refusing.{same_refusal, stays_more}
 use Rattle.event_ports.specs.Desks.{account_of, hand, Enqueues, EnqueuesAll}
-use Rattle.event_ports.proofs.Bursts.{chain_taken, read_next}
-use Rattle.event_ports.proofs.Chains.{chain_names, chain_site, chain_stays, chain_submits, row_taken, submits_rest}
+use Rattle.event_ports.proofs.Chains.{IsLeft, all_chained, chain_names, chain_site, chain_stays, chain_submits, left_next, left_others, left_row, one_chained, row_chained, submits_rest}
 use Rattle.event_ports.proofs.desk.Desk.submit_packed.Goals as goal
 
 pub returns-in-Err-clause-site : goal.returns-in-Err-clause-site
-returns-in-Err-clause-site c = c.submit.ensures.site ∙ chain_site (take c.loop-taken.taken c.args.events.now) c.args.self.now c.loop-taken.self c.loop-taken.invariant.1
+returns-in-Err-clause-site c = c.submit.ensures.site ∙ chain_site (take (length c.args.events.now - length c.loop-event.rest.now) c.args.events.now) c.args.self.now c.loop-event.self c.loop-event.invariant.1
 
 pub returns-in-Err-clause-credit : goal.returns-in-Err-clause-credit
 returns-in-Err-clause-credit c =
-    stays_more (account_of c.args.self.now) (account_of c.loop-taken.self) (account_of c.submit.new.self)
-    (chain_stays (take c.loop-taken.taken c.args.events.now) c.args.self.now c.loop-taken.self c.loop-taken.invariant.1) c.submit.ensures.credit
+    stays_more (account_of c.args.self.now) (account_of c.loop-event.self) (account_of c.submit.new.self)
+    (chain_stays (take (length c.args.events.now - length c.loop-event.rest.now) c.args.events.now) c.args.self.now c.loop-event.self c.loop-event.invariant.1) c.submit.ensures.credit
 
 pub returns-in-Err-clause-submitted : goal.returns-in-Err-clause-submitted
 returns-in-Err-clause-submitted c =
-    submits_rest (take c.loop-taken.taken c.args.events.now) (hand c.args.self.now) (hand c.loop-taken.self) (hand c.submit.new.self)
-    (chain_submits (take c.loop-taken.taken c.args.events.now) c.args.self.now c.loop-taken.self c.loop-taken.invariant.1) c.in-Err.ensures.submitted
+    submits_rest (take (length c.args.events.now - length c.loop-event.rest.now) c.args.events.now) (hand c.args.self.now) (hand c.loop-event.self) (hand c.submit.new.self)
+    (chain_submits (take (length c.args.events.now - length c.loop-event.rest.now) c.args.events.now) c.args.self.now c.loop-event.self c.loop-event.invariant.1) c.in-Err.ensures.submitted
 
 pub returns-in-Err-clause-there : goal.returns-in-Err-clause-there
-returns-in-Err-clause-there c = chain_names (take c.loop-taken.taken c.args.events.now) c.args.self.now c.loop-taken.self c.loop-taken.invariant.1
+returns-in-Err-clause-there c = chain_names (take (length c.args.events.now - length c.loop-event.rest.now) c.args.events.now) c.args.self.now c.loop-event.self c.loop-event.invariant.1
 
 pub returns-in-Err-clause-refused : goal.returns-in-Err-clause-refused
 returns-in-Err-clause-refused c =
-    let taken : List Event = take c.loop-taken.taken c.args.events.now in
-    let chain = c.loop-taken.invariant.1 in
+    let taken : List Event = take (length c.args.events.now - length c.loop-event.rest.now) c.args.events.now in
+    let chain = c.loop-event.invariant.1 in
+    let first : c.loop-event.rest.now ≡ c.in-Some.event.now ∷ c.in-Some.others.now = (search rules) in
     record {
-      event = c.index-events-taken.result;
-      between = c.loop-taken.self;
-      is_next = read_next c.args.events.now c.loop-taken.taken c.index-events-taken.result c.loop-taken-test.true c.index-events-taken.is;
-      site = chain_site taken c.args.self.now c.loop-taken.self chain;
-      credit = chain_stays taken c.args.self.now c.loop-taken.self chain;
-      submitted = chain_submits taken c.args.self.now c.loop-taken.self chain;
-      there = chain_names taken c.args.self.now c.loop-taken.self chain;
+      event = c.in-Some.event.now;
+      between = c.loop-event.self;
+      is_next = left_next c.args.events.now c.loop-event.rest.now c.in-Some.others.now c.in-Some.event.now c.loop-event.invariant.0 first;
+      site = chain_site taken c.args.self.now c.loop-event.self chain;
+      credit = chain_stays taken c.args.self.now c.loop-event.self chain;
+      submitted = chain_submits taken c.args.self.now c.loop-event.self chain;
+      there = chain_names taken c.args.self.now c.loop-event.self chain;
       refused = c.in-Err.ensures.refused;
     }
 
 pub returns-in-Err-clause-chain : goal.returns-in-Err-clause-chain
 returns-in-Err-clause-chain c =
+    let first : c.loop-event.rest.now ≡ c.in-Some.event.now ∷ c.in-Some.others.now = (search rules) in
     record {
-      between = c.loop-taken.self;
-      taken = c.loop-taken.invariant.1;
+      between = c.loop-event.self;
+      taken = c.loop-event.invariant.1;
       ends = (
-        c.index-events-taken.result,
-        read_next c.args.events.now c.loop-taken.taken c.index-events-taken.result c.loop-taken-test.true c.index-events-taken.is,
+        c.in-Some.event.now,
+        left_next c.args.events.now c.loop-event.rest.now c.in-Some.others.now c.in-Some.event.now c.loop-event.invariant.0 first,
         record {
           site = c.submit.ensures.site;
           credit = c.submit.ensures.credit;
@@ -57,47 +58,138 @@ returns-in-Err-clause-chain c =
       );
     }
 
-pub loop-taken-preserved : goal.loop-taken-preserved
-loop-taken-preserved c =
+pub returns-then-is_empty-clause-site : goal.returns-then-is_empty-clause-site
+returns-then-is_empty-clause-site c =
     let events = c.args.events.now in
-    let at : slice_get events c.loop-taken.taken ≡ Some c.index-events-taken.result = read_next events c.loop-taken.taken c.index-events-taken.result c.loop-taken-test.true c.index-events-taken.is in
-    let one : Enqueues c.index-events-taken.result c.loop-taken.self c.submit.new.self = record {
+    let others = c.in-Some.others.now in
+    let first : c.loop-event.rest.now ≡ c.in-Some.event.now ∷ others = (search rules) in
+    let one : Enqueues c.in-Some.event.now c.loop-event.self c.submit.new.self = record {
       site = c.submit.ensures.site;
       credit = c.submit.ensures.credit;
-      submitted = c.in_default.ensures.submitted;
-      pays = c.in_default.ensures.pays;
-      there = c.in_default.ensures.there;
+      submitted = c.in_default-submit.ensures.submitted;
+      pays = c.in_default-submit.ensures.pays;
+      there = c.in_default-submit.ensures.there;
       unshut = (search rules);
-    } in (
-      omega (arith, c.loop-taken-test.true, c.submit_row-taken.ensures.within, length-drop (c.loop-taken.taken + 1) events),
-      row_taken events _ (c.loop-taken.taken + 1) c.submit_row-taken.result c.args.self.now c.submit.new.self c.submit_row-taken.new.self
-          (take_all (length events - (c.loop-taken.taken + 1)) (drop (c.loop-taken.taken + 1) events) (omega (arith, length-drop (c.loop-taken.taken + 1) events)))
-          (chain_taken events c.loop-taken.taken c.index-events-taken.result c.args.self.now c.loop-taken.self c.submit.new.self at c.loop-taken.invariant.1 one)
-          c.submit_row-taken.ensures.taken,
+    } in
+    let chain : EnqueuesAll (take (length events - length others) events) c.args.self.now c.submit.new.self =
+    one_chained events c.loop-event.rest.now others c.in-Some.event.now c.loop-event.invariant.0 first c.args.self.now c.loop-event.self c.submit.new.self c.loop-event.invariant.1 one in
+    let all = all_chained events others c.args.self.now c.submit.new.self (search rules) chain in
+    chain_site (take (length c.args.events.now) c.args.events.now) c.args.self.now c.submit.new.self all
+
+pub returns-then-is_empty-clause-credit : goal.returns-then-is_empty-clause-credit
+returns-then-is_empty-clause-credit c =
+    let events = c.args.events.now in
+    let others = c.in-Some.others.now in
+    let first : c.loop-event.rest.now ≡ c.in-Some.event.now ∷ others = (search rules) in
+    let one : Enqueues c.in-Some.event.now c.loop-event.self c.submit.new.self = record {
+      site = c.submit.ensures.site;
+      credit = c.submit.ensures.credit;
+      submitted = c.in_default-submit.ensures.submitted;
+      pays = c.in_default-submit.ensures.pays;
+      there = c.in_default-submit.ensures.there;
+      unshut = (search rules);
+    } in
+    let chain : EnqueuesAll (take (length events - length others) events) c.args.self.now c.submit.new.self =
+    one_chained events c.loop-event.rest.now others c.in-Some.event.now c.loop-event.invariant.0 first c.args.self.now c.loop-event.self c.submit.new.self c.loop-event.invariant.1 one in
+    let all = all_chained events others c.args.self.now c.submit.new.self (search rules) chain in
+    chain_stays (take (length c.args.events.now) c.args.events.now) c.args.self.now c.submit.new.self all
+
+pub returns-then-is_empty-clause-submitted : goal.returns-then-is_empty-clause-submitted
+returns-then-is_empty-clause-submitted c =
+    let events = c.args.events.now in
+    let others = c.in-Some.others.now in
+    let first : c.loop-event.rest.now ≡ c.in-Some.event.now ∷ others = (search rules) in
+    let one : Enqueues c.in-Some.event.now c.loop-event.self c.submit.new.self = record {
+      site = c.submit.ensures.site;
+      credit = c.submit.ensures.credit;
+      submitted = c.in_default-submit.ensures.submitted;
+      pays = c.in_default-submit.ensures.pays;
+      there = c.in_default-submit.ensures.there;
+      unshut = (search rules);
+    } in
+    let chain : EnqueuesAll (take (length events - length others) events) c.args.self.now c.submit.new.self =
+    one_chained events c.loop-event.rest.now others c.in-Some.event.now c.loop-event.invariant.0 first c.args.self.now c.loop-event.self c.submit.new.self c.loop-event.invariant.1 one in
+    let all = all_chained events others c.args.self.now c.submit.new.self (search rules) chain in
+    chain_submits (take (length c.args.events.now) c.args.events.now) c.args.self.now c.submit.new.self all
+
+pub returns-then-is_empty-clause-there : goal.returns-then-is_empty-clause-there
+returns-then-is_empty-clause-there c =
+    let events = c.args.events.now in
+    let others = c.in-Some.others.now in
+    let first : c.loop-event.rest.now ≡ c.in-Some.event.now ∷ others = (search rules) in
+    let one : Enqueues c.in-Some.event.now c.loop-event.self c.submit.new.self = record {
+      site = c.submit.ensures.site;
+      credit = c.submit.ensures.credit;
+      submitted = c.in_default-submit.ensures.submitted;
+      pays = c.in_default-submit.ensures.pays;
+      there = c.in_default-submit.ensures.there;
+      unshut = (search rules);
+    } in
+    let chain : EnqueuesAll (take (length events - length others) events) c.args.self.now c.submit.new.self =
+    one_chained events c.loop-event.rest.now others c.in-Some.event.now c.loop-event.invariant.0 first c.args.self.now c.loop-event.self c.submit.new.self c.loop-event.invariant.1 one in
+    let all = all_chained events others c.args.self.now c.submit.new.self (search rules) chain in
+    chain_names (take (length c.args.events.now) c.args.events.now) c.args.self.now c.submit.new.self all
+
+pub returns-then-is_empty-clause-chain : goal.returns-then-is_empty-clause-chain
+returns-then-is_empty-clause-chain c =
+    let events = c.args.events.now in
+    let others = c.in-Some.others.now in
+    let first : c.loop-event.rest.now ≡ c.in-Some.event.now ∷ others = (search rules) in
+    let one : Enqueues c.in-Some.event.now c.loop-event.self c.submit.new.self = record {
+      site = c.submit.ensures.site;
+      credit = c.submit.ensures.credit;
+      submitted = c.in_default-submit.ensures.submitted;
+      pays = c.in_default-submit.ensures.pays;
+      there = c.in_default-submit.ensures.there;
+      unshut = (search rules);
+    } in
+    let chain : EnqueuesAll (take (length events - length others) events) c.args.self.now c.submit.new.self =
+    one_chained events c.loop-event.rest.now others c.in-Some.event.now c.loop-event.invariant.0 first c.args.self.now c.loop-event.self c.submit.new.self c.loop-event.invariant.1 one in
+    let all = all_chained events others c.args.self.now c.submit.new.self (search rules) chain in
+    record { between = c.submit.new.self; taken = all; ends = refl }
+
+pub loop-event-preserved : goal.loop-event-preserved
+loop-event-preserved c =
+    let events = c.args.events.now in
+    let others = c.in-Some.others.now in
+    let first : c.loop-event.rest.now ≡ c.in-Some.event.now ∷ others = (search rules) in
+    let one : Enqueues c.in-Some.event.now c.loop-event.self c.submit.new.self = record {
+      site = c.submit.ensures.site;
+      credit = c.submit.ensures.credit;
+      submitted = c.in_default-submit.ensures.submitted;
+      pays = c.in_default-submit.ensures.pays;
+      there = c.in_default-submit.ensures.there;
+      unshut = (search rules);
+    } in
+    let chain : EnqueuesAll (take (length events - length others) events) c.args.self.now c.submit.new.self =
+    one_chained events c.loop-event.rest.now others c.in-Some.event.now c.loop-event.invariant.0 first c.args.self.now c.loop-event.self c.submit.new.self c.loop-event.invariant.1 one in
+    let left : IsLeft events others = left_others events c.loop-event.rest.now others c.in-Some.event.now c.loop-event.invariant.0 first in
+    let rest = take_all (length others - c.submit_row-row.result) (drop c.submit_row-row.result others) (omega (arith, length-drop c.submit_row-row.result others)) in (
+      left_row events others _ c.submit_row-row.result left c.submit_row-row.ensures.within rest,
+      row_chained events others _ c.submit_row-row.result left c.submit_row-row.ensures.within rest c.args.self.now c.submit.new.self c.submit_row-row.new.self chain c.submit_row-row.ensures.taken,
     )
 
-pub returns-clause-chain : goal.returns-clause-chain
-returns-clause-chain c =
-    record {
-      between = c.loop-taken.self;
-      taken = subst (λ n. EnqueuesAll (take n c.args.events.now) c.args.self.now c.loop-taken.self) (omega (arith, c.loop-taken.invariant.0, c.loop-taken-test.false)) c.loop-taken.invariant.1;
-      ends = refl;
-    }
-
 pub returns-clause-site : goal.returns-clause-site
-returns-clause-site c = chain_site (take c.loop-taken.taken c.args.events.now) c.args.self.now c.loop-taken.self c.loop-taken.invariant.1
+returns-clause-site c =
+    let all = all_chained c.args.events.now c.loop-event.rest.now c.args.self.now c.loop-event.self c.in_default.ensures.cases c.loop-event.invariant.1 in
+    chain_site (take (length c.args.events.now) c.args.events.now) c.args.self.now c.loop-event.self all
 
 pub returns-clause-credit : goal.returns-clause-credit
-returns-clause-credit c = chain_stays (take c.loop-taken.taken c.args.events.now) c.args.self.now c.loop-taken.self c.loop-taken.invariant.1
+returns-clause-credit c =
+    let all = all_chained c.args.events.now c.loop-event.rest.now c.args.self.now c.loop-event.self c.in_default.ensures.cases c.loop-event.invariant.1 in
+    chain_stays (take (length c.args.events.now) c.args.events.now) c.args.self.now c.loop-event.self all
 
 pub returns-clause-submitted : goal.returns-clause-submitted
 returns-clause-submitted c =
-    let all : EnqueuesAll (take (length c.args.events.now) c.args.events.now) c.args.self.now c.loop-taken.self =
-    subst (λ n. EnqueuesAll (take n c.args.events.now) c.args.self.now c.loop-taken.self) (omega (arith, c.loop-taken.invariant.0, c.loop-taken-test.false)) c.loop-taken.invariant.1 in
-    chain_submits (take (length c.args.events.now) c.args.events.now) c.args.self.now c.loop-taken.self all
+    let all = all_chained c.args.events.now c.loop-event.rest.now c.args.self.now c.loop-event.self c.in_default.ensures.cases c.loop-event.invariant.1 in
+    chain_submits (take (length c.args.events.now) c.args.events.now) c.args.self.now c.loop-event.self all
 
 pub returns-clause-there : goal.returns-clause-there
 returns-clause-there c =
-    let all : EnqueuesAll (take (length c.args.events.now) c.args.events.now) c.args.self.now c.loop-taken.self =
-    subst (λ n. EnqueuesAll (take n c.args.events.now) c.args.self.now c.loop-taken.self) (omega (arith, c.loop-taken.invariant.0, c.loop-taken-test.false)) c.loop-taken.invariant.1 in
-    chain_names (take (length c.args.events.now) c.args.events.now) c.args.self.now c.loop-taken.self all
+    let all = all_chained c.args.events.now c.loop-event.rest.now c.args.self.now c.loop-event.self c.in_default.ensures.cases c.loop-event.invariant.1 in
+    chain_names (take (length c.args.events.now) c.args.events.now) c.args.self.now c.loop-event.self all
+
+pub returns-clause-chain : goal.returns-clause-chain
+returns-clause-chain c =
+    let all = all_chained c.args.events.now c.loop-event.rest.now c.args.self.now c.loop-event.self c.in_default.ensures.cases c.loop-event.invariant.1 in
+    record { between = c.loop-event.self; taken = all; ends = refl }

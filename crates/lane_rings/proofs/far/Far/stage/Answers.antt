@@ -63,7 +63,7 @@ pub invariant_of-self-then-is_new : goal.invariant_of-self-then-is_new
 invariant_of-self-then-is_new c =
     let old = c.args.self.now in
     let reply : Reply = reply_of c.args.event.now in
-    let none = no_answer c.args.event.now (sym c.is_new.ensures ∙ c.if-is_new.true) in
+    let none = no_answer c.args.event.now (sym c.is_new-is_new.ensures ∙ c.if-is_new.true) in
     let put : put_in c.gather.new.self ≡ answered old ++ reply ∷ [] = c.gather.ensures.put ∙ ap (λ (rs : List Reply). rs ++ reply ∷ []) c.has_room.ensures.put in
     let count : answers_among (put_in c.gather.new.self) ≡ answers_among (answered old) + answers_among (reply ∷ []) = ap answers_among put ∙ sum_by-append (λ x. cond (is_answer x) 1 0) (answered old) (reply ∷ []) in
     let same : answers_among (put_in c.gather.new.self) ≡ answers_among (answered old) = omega (arith, count, none_among reply none.0) in

@@ -3,6 +3,7 @@
 #![tactic(auto)]
 
 mod answer;
+mod deal;
 mod gift_row;
 mod give;
 mod inside;

@@ -223,7 +223,7 @@ impl Core {
     /// The first event of the queue's level whose slot is allowed, for the best lane, where it is found at once and some lane may
     /// take it.
     #[inline(always)]
-    fn offer_at_head(
+    pub(crate) fn offer_at_head(
         &self,
         queue: usize,
         level: Level,

@@ -3,6 +3,7 @@ pub mod Changes
 pub mod EmptyLanes
 pub mod Fields
 pub mod FreePins
+pub mod HandedOn
 pub mod HeldSlots
 pub mod Holds
 pub mod Kept

@@ -1,3 +1,4 @@
+pub mod HandedRow
 pub mod Held
 pub mod Histories
 pub mod History

@@ -71,6 +71,15 @@ impl AllOrders {
         Ok(AllOrders { queues: orders })
     }
 
+    /// Whether the queue restores an order.
+    #[inline(always)]
+    pub fn restores(&self, queue: usize) -> bool
+        requires { queue < length self.now }
+        ensures { result ≡ is_restoring (order_at self.now queue) }
+    {
+        self.queues[queue].is_some()
+    }
+
     /// Whether an event of the queue may be handed out: there is a place for it, or it needs none.
     #[inline(always)]
     pub fn has_place(&self, queue: usize) -> bool

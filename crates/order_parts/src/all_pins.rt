@@ -21,7 +21,7 @@ use std::marker::Model;
 /// pinning it does nothing, so that no caller asks for the queue's kind.
 #[derive(Drop)]
 pub struct AllPins {
-    queues: Vec<Pins>,
+    pub(crate) queues: Vec<Pins>,
 }
 
 impl Model for AllPins {

@@ -1,14 +1,20 @@
 //! The unanswered events of all lanes.
 
-ghost use Rattle.std.specs.Prelude.{◌≡◌, ◌+◌, ◌<◌, ◌≤◌, ◌==◌, ◌∷◌, ◌++◌, [], count_by, length, drop, slice_get, slice_set, Some, IfOk, IsTrue, IsFalse};
+ghost use Rattle.std.specs.Prelude.{◌≡◌, ℕ, take, ◌+◌, ◌<◌, ◌≤◌, ◌==◌, ◌∷◌, ◌++◌, [], count_by, length, drop, slice_get, slice_set, Some, IfOk, IsTrue, IsFalse};
 ghost use Rattle.evt_types.specs.Plan.{lanes_of};
+ghost use Rattle.evt_types.specs.declared.shape.TheConstants.{MAX_DEPTH};
+ghost use Rattle.order_parts.specs.HandedRow.{AreHandedOn, IsRefused, OfFlows};
+ghost use Rattle.order_parts.specs.Pins.{may_pin};
+ghost use Rattle.order_parts.specs.QueuePins.{pin_in, pins_at};
 ghost use Rattle.order_parts.specs.History.{entries_of};
 ghost use Rattle.order_parts.specs.declared.history.Entry.{Entry as EntryValue};
 ghost use Rattle.order_parts.specs.Histories.{AreRoomy, HasRoom, lane_in, AreEmptyLanes};
 ghost use Rattle.small_set.specs.SmallSets.{Has, SameBut};
 
+use crate::all_pins::AllPins;
+use crate::handing::hand_each;
 use crate::history::{Entry, History};
-use evt_types::{Memory, Shape};
+use evt_types::{Delivery, Memory, Shape};
 use small_set::{MAX_MEMBERS, SmallSet};
 use std::alloc::Global;
 use std::marker::Model;
@@ -142,6 +148,36 @@ impl Histories {
         if history.is_full() {
             note_full(&mut self.roomy, lane);
         }
+    }
+
+    /// Events of a queue that restores no order are handed to the lane, in their order, as long as it may have the slot of each: how
+    /// many. Each is one more that is unanswered.
+    #[inline(always)]
+    pub fn push_row<F: Fn(u32) -> usize>(
+        &mut self,
+        pins: &mut AllPins,
+        lane: usize,
+        queue: usize,
+        row: &[Delivery],
+        slot_of: F,
+    ) -> usize
+        requires callable { F.IsAlwaysCallable slot_of }
+        requires lane { lane < length self.old }
+        requires queue { queue < length pins.old }
+        requires counts { (slot : ℕ) → IsTrue (may_pin (pin_in pins.old queue slot) lane) → (pin_in pins.old queue slot).count + length row.now ≤ MAX_DEPTH }
+        requires room { length (lane_in self.old lane).entries + length row.now ≤ (lane_in self.old lane).capacity }
+        ensures few { result ≤ length row.now }
+        ensures handed { AreHandedOn (OfFlows (F.post slot_of)) lane queue (pins_at pins.old queue) (lane_in self.old lane).entries (take result row.now) (pins_at pins.new queue) (lane_in self.new lane).entries }
+        ensures last { result < length row.now → IsRefused (OfFlows (F.post slot_of)) lane (pins_at pins.new queue) row.now result }
+        ensures pins { pins.new ≡ slice_set pins.old queue (pins_at pins.new queue) }
+        ensures lanes { self.new ≡ slice_set self.old lane (entries_of (lane_in self.new lane).entries (lane_in self.old lane).capacity) }
+    {
+        let history = &mut self.lanes[lane];
+        let count = hand_each(&mut pins.queues[queue], history, lane, queue, row, slot_of);
+        if history.is_full() {
+            note_full(&mut self.roomy, lane);
+        }
+        count
     }
 
     /// The lane's oldest event, which stays.

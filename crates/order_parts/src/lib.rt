@@ -4,6 +4,7 @@
 
 mod all_orders;
 mod all_pins;
+mod handing;
 mod histories;
 mod history;
 mod pins;

@@ -1,10 +1,11 @@
 -- A row of events is handed to a lane one after another: one event more.
-use Rattle.std.proofs.Common.{◌≡◌, ℕ, ◌+◌, ◌<◌, ◌≤◌, true, false, List, [], ◌∷◌, ◌++◌, length, set, IsTrue, ⊎_elim, refl, sym, ap, ◌∙◌, subst, arith}
+use Rattle.std.proofs.Common.{◌≡◌, ℕ, ◌+◌, ◌<◌, ◌≤◌, ◌%◌, true, false, List, [], ◌∷◌, ◌++◌, length, set, IsTrue, ⊎_elim, refl, sym, ap, ◌∙◌, subst, arith}
 use Rattle.std.proofs.lemmas.Bool.{cases_Bool, cases_eq, cases_lt, cond-true, cond-false, false≢true}
 use Rattle.std.proofs.lemmas.Grind.{get_or-set_at}
-use Rattle.std.proofs.lemmas.List.{get_or-set_other, get_or-set_same, length_push, set_past}
+use Rattle.std.proofs.lemmas.List.{get_or-set_other, get_or-set_same, length-set, length_push, set-get_or, set-set, set_past}
 use Rattle.evt_types.specs.declared.event.Delivery.{Delivery}
 use Rattle.evt_types.specs.declared.shape.TheConstants.{MAX_DEPTH}
+use Rattle.order_parts.specs.HandedRow.{AreHandedOn}
 use Rattle.order_parts.specs.Histories.{lane_in}
 use Rattle.order_parts.specs.History.{Entries, entries_of}
 use Rattle.order_parts.specs.Orders.{handed, is_restoring, order_at}
@@ -65,3 +66,41 @@ pub room_left : (ls : List Entries) (l more : ℕ) (y : Entry) → l < length ls
 room_left ls l more y there left =
     subst (λ (x : Entries). length x.entries + more ≤ x.capacity) (sym (get_or-set_same ls l (entries_of ((lane_in ls l).entries ++ y ∷ []) (lane_in ls l).capacity) (entries_of [] 0) there))
     (omega (arith, left, length_push (lane_in ls l).entries y))
+
+-- ---- a queue that restores no order
+
+-- its row, as the slots' pins and the lane's entries have it
+module _ (is_slot : ℕ → ℕ → Type 0) (n l q : ℕ) (of : (flow slot : ℕ) → is_slot flow slot → slot ≡ flow % n) (os : List Reordering) (plain : is_restoring (order_at os q) ≡ false) where
+  plain_order : (k : ℕ) → set os q (handed (order_at os q) k) ≡ os
+  plain_order k = ap (set os q) (cond-false (is_restoring (order_at os q)) (after_hand (order_at os q) k) (order_at os q) plain) ∙ set-get_or os q (empty 0)
+
+  pub plain_handed : (ps : List (List Pin)) (ls : List Entries) (ds : List Delivery) (pt : List Pin) (yt : List Entry) → q < length ps → l < length ls
+      → AreHandedOn is_slot l q (pins_at ps q) (lane_in ls l).entries ds pt yt
+      → AreHanded n l q os ps ls ds os (set ps q pt) (set ls l (entries_of yt (lane_in ls l).capacity))
+  plain_handed ps ls [] pt yt pin there went = (
+    refl,
+    ap (set ps q) went.0 ∙ set-get_or ps q [],
+    ap (λ ys. set ls l (entries_of ys (lane_in ls l).capacity)) went.1 ∙ set-get_or ls l (entries_of [] 0),
+  )
+  plain_handed ps ls (d ∷ ds) pt yt pin there went =
+      let slot : went.0 ≡ slot_in_row n d = of d.event.flow went.0 went.1 in
+      let y : Entry = record { queue = q; number = d.number; slot = slot_in_row n d; place = 0 } in
+      let xs : List Pin = set (pins_at ps q) (slot_in_row n d) (pinned (pin_in ps q (slot_in_row n d)) l) in
+      let held : Entries = entries_of ((lane_in ls l).entries ++ y ∷ []) (lane_in ls l).capacity in
+      let pins_now : pins_at (pinned_on ps q (slot_in_row n d) l) q ≡ xs = get_or-set_same ps q xs [] pin in
+      let lane_now : lane_in (with_entry ls l y) l ≡ held = get_or-set_same ls l held (entries_of [] 0) there in
+      let rest : AreHandedOn is_slot l q xs held.entries ds pt yt =
+      subst (λ s. AreHandedOn is_slot l q (set (pins_at ps q) s (pinned (pin_in ps q s) l)) ((lane_in ls l).entries ++ (record { queue = q; number = d.number; slot = s; place = 0 }) ∷ []) ds pt yt) slot went.3
+      in
+      let on = plain_handed (pinned_on ps q (slot_in_row n d) l) (with_entry ls l y) ds pt yt (omega (arith, pin, length-set ps q xs)) (omega (arith, there, length-set ls l held))
+      (subst (λ x. AreHandedOn is_slot l q x (lane_in (with_entry ls l y) l).entries ds pt yt) (sym pins_now)
+      (subst (λ (h : Entries). AreHandedOn is_slot l q xs h.entries ds pt yt) (sym lane_now) rest))
+      in (
+        0,
+        subst (λ s. IsTrue (may_pin (pin_in ps q s) l)) slot went.2,
+        λ restoring. absurd (false≢true (sym plain ∙ restoring)),
+        subst (λ x. AreHanded n l q x (pinned_on ps q (slot_in_row n d) l) (with_entry ls l y) ds os (set ps q pt) (set ls l (entries_of yt (lane_in ls l).capacity))) (sym (plain_order d.number))
+            (subst (λ x. AreHanded n l q os (pinned_on ps q (slot_in_row n d) l) (with_entry ls l y) ds os x (set ls l (entries_of yt (lane_in ls l).capacity))) (set-set ps q xs pt)
+            (subst (λ x. AreHanded n l q os (pinned_on ps q (slot_in_row n d) l) (with_entry ls l y) ds os (set (pinned_on ps q (slot_in_row n d) l) q pt) x)
+            (ap (λ (h : Entries). set (with_entry ls l y) l (entries_of yt h.capacity)) lane_now ∙ set-set ls l held (entries_of yt (lane_in ls l).capacity)) on)),
+      )

@@ -39,6 +39,9 @@ fn hand_all(
     ensures few { result ≤ length row.now }
     ensures handed { AreHanded slots.count lane queue orders.old pins.old lanes.old (take result row.now) orders.new pins.new lanes.new }
 {
+    if !orders.restores(queue) {
+        return lanes.push_row(pins, lane, queue, row, |flow| slots.of(flow));
+    }
     let mut count = 0;
     for delivery in row {
         let slot = slots.of(delivery.packed().flow());

@@ -1,4 +1,4 @@
-use Rattle.std.proofs.Common.{◌≡◌, ◌+◌, ◌-◌, ◌%◌, ◌≤◌, true, ◌++◌, ◌∷◌, [], ℕ, IsTrue, List, ap, arith, length, set, subst, sym, take, ◌∙◌}
+use Rattle.std.proofs.Common.{◌≡◌, ◌+◌, ◌-◌, ◌%◌, ◌≤◌, true, ◌++◌, ◌∷◌, [], ℕ, IsTrue, List, ap, arith, length, rules, set, subst, sym, take, ◌∙◌}
 use Rattle.std.proofs.lemmas.List.{length-set, take_more}
 use Rattle.evt_types.specs.declared.event.Delivery.{Delivery}
 use Rattle.evt_types.specs.declared.event.Event.{Event}
@@ -9,9 +9,21 @@ use Rattle.order_parts.specs.Orders.{handed, is_restoring, order_at}
 use Rattle.order_parts.specs.Pins.{Pin, may_pin, pinned}
 use Rattle.order_parts.specs.QueuePins.{pin_in, pins_at}
 use Rattle.order_parts.specs.Reorder.{Reordering}
-use Rattle.sched_core.proofs.HandedRows.{counts_left, handed_push, places_left, room_left}
+use Rattle.order_parts.specs.declared.history.Entry.{Entry}
+use Rattle.sched_core.proofs.HandedRows.{counts_left, handed_push, places_left, plain_handed, room_left}
 use Rattle.sched_core.specs.GiftRows.{AreHanded, pinned_on, slot_in_row, with_entry}
 use Rattle.sched_core.proofs.gift_row.hand_all.Goals as goal
+
+pub returns-then-not-restores-clause-handed : goal.returns-then-not-restores-clause-handed
+returns-then-not-restores-clause-handed c =
+    let q : ℕ = c.args.queue in
+    let ps : List (List Pin) = c.args.pins.now in
+    let ls : List Entries = c.args.lanes.now in
+    let pt : List Pin = pins_at c.push_row.new.pins q in
+    let yt : List Entry = (lane_in c.push_row.new.self c.args.lane).entries in
+    subst (λ x. AreHanded c.args.slots.count c.args.lane q c.args.orders.now ps ls (take c.push_row.result c.args.row.now) c.args.orders.now x c.push_row.new.self) (sym c.push_row.ensures.pins)
+    (subst (AreHanded c.args.slots.count c.args.lane q c.args.orders.now ps ls (take c.push_row.result c.args.row.now) c.args.orders.now (set ps q pt)) (sym c.push_row.ensures.lanes)
+    (plain_handed _ c.args.slots.count c.args.lane q (λ flow slot is. search rules) c.args.orders.now (sym c.restores.ensures ∙ c.if-not-restores.true) ps ls (take c.push_row.result c.args.row.now) pt yt c.requires.pins c.requires.lane c.push_row.ensures.handed))
 
 pub loop-delivery-preserved : goal.loop-delivery-preserved
 loop-delivery-preserved c =

@@ -1,4 +1,5 @@
 pub mod Counts
+pub mod Dealing
 pub mod Ending
 pub mod Gifts
 pub mod Giving

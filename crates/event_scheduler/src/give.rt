@@ -11,10 +11,12 @@ ghost use Rattle.sched_core.specs.Runs.{IsTurn};
 ghost use Rattle.transcripts.specs.Choice.{Passed};
 ghost use Rattle.transcripts.specs.Standing.{View};
 
+use crate::deal::deal_all;
 use arrayvec::ArrayVec;
 use evt_types::{Delivery, Serving};
 use lane_rings::{Hints, LaneSet, Near};
 use sched_core::{Core, Skips, Turn};
+use small_set::MAX_MEMBERS;
 use step_log::StepLog;
 
 /// Gives all that may go. There is a copy of the loop for each kind of serving, so that neither asks for what only the other needs.
@@ -81,6 +83,13 @@ fn give_each<L: StepLog, const FLOWS: bool>(
     let mut gave = LaneSet::none();
     while let Some(offer) = core.propose_next(turn, &skips) {
         let lane = offer.lane;
+        if !FLOWS && lanes.len() <= MAX_MEMBERS && core.deals(&offer, &skips) {
+            let counts = deal_all(core, lanes, offer, &mut skips, log);
+            turn = None;
+            given += counts.0;
+            bounced += counts.1;
+            continue;
+        }
         let near = &mut lanes[lane];
         let room = near.room();
         if room == 0 {

@@ -2,6 +2,7 @@
 //! goes once over all of that, and appends its steps to a log.
 #![tactic(auto)]
 
+mod deal;
 mod give;
 mod laws;
 mod look;

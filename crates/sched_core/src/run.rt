@@ -256,8 +256,12 @@ impl Core {
             self.close_slot(lane);
             return Some(Turn { queue, level });
         }
-        // Mostly the run ends here where its lane is full, or nothing is left of the queue.
-        if self.queues.count(queue) == 0 || self.lanes.room(lane) == 0 {
+        // Mostly the run ends here where its lane is full, or nothing is left of the queue. While events are set aside each is chosen by
+        // itself.
+        if self.queues.count(queue) == 0
+            || self.lanes.room(lane) == 0
+            || !self.queues.parked_slots(queue, level).is_empty()
+        {
             return None;
         }
         let lanes = self.open_lanes(queue, skips);

@@ -2,22 +2,28 @@
 # SPDX-License-Identifier: BSD-3-Clause
 """Says how many devices (evsched_shards.h) and machines a load wants, from what was measured of one device and how the load falls on flows.
 
-    scale_model.py plan LOAD FLOWS --device RATE --worker RATE --flow RATE [--keeps SHARE] [--processors N] [--others N] [--full SHARE]
+    scale_model.py plan LOAD FLOWS --device RATE --worker RATE --flow RATE [--half RATE] [--keeps SHARE] [--processors N] [--others N]
+                                   [--full SHARE]
     scale_model.py check TABLE
 
 All rates and the load are events a second. `plan` prints, device by device, what they pass, and what is wanted:
 
     FLOWS        uniform:N, half:N (one flow has half of the load, N others share the rest), or a file of a trace: a line `FLOW COUNT` for
                  each flow
-    --device     what one device passes when its workers keep up
+    --device     what one device passes where all flows have as many events, with as many workers as are to serve each device
+    --flow       what it passes where all events are of one flow of an atomic queue, with as many workers
+    --half       what it passes where one flow has half of them: by default what lies between the two
     --worker     what one worker passes, with what it does with an event
-    --flow       what one flow of an atomic queue passes, however many devices there are
-    --keeps      what share of its rate a device keeps while others run on the same machine: 1 by default
+    --keeps      what share of its rate a device keeps where NEWs are dealt to several, and these run on the same machine: 1 by default
     --processors of a machine, 16 by default, and --others of these that do something else, 0 by default
     --full       how full a processor may be, 0.7 by default
 
-`check` reads what bench/shards prints (`bench/against_event_sw shards`): it foretells the rows of a group of several devices from those of
-one device with one worker, and fails where one is off by more than 20 per cent.
+An event of a device costs so much by how large a share its hottest flow has, between what was measured with none, half and all; the group
+is full when the device is whose share of the load costs most.
+
+`check` reads what bench/shards prints (`bench/against_event_sw shards`). Of each kind of serving it takes one device with as many workers
+as serve each device of the group, and of the group with even flows what share of its rate a device keeps. From these it foretells the
+group's rows in which one flow has half of the load, or all of it, and fails where one is off by more than 20 per cent.
 """
 import argparse
 import math
@@ -75,17 +81,33 @@ def flows_of(text):
     return scaled(counts)
 
 
-def passed(flows, devices, device, flow):
-    """What so many devices pass: the one with the largest share is full first, or the largest flow is."""
-    return min(device / max(shares(flows, devices)), flow / max(flows.values()))
+class Device:
+    """What one device passes, by how large a share its hottest flow has."""
+
+    def __init__(self, even, half, one):
+        between = 2 / (1 / even + 1 / one)
+        self.points = ((0.0, 1 / even), (0.5, 1 / (half or between)), (1.0, 1 / one))
+
+    def rate(self, hottest):
+        """Between two points as its time for an event lies."""
+        (low, before), (high, behind) = self.points[:2] if hottest < 0.5 else self.points[1:]
+        return 1 / (before + (behind - before) * (hottest - low) / (high - low))
+
+
+def passed(flows, devices, device, keeps):
+    """What so many devices pass: the one whose share costs most is full first. Where others have a part of the load it keeps so much."""
+    sums, hottest = shares(flows, devices), [0.0] * devices
+    for flow, share in flows.items():
+        at = hashed(flow) * devices >> 32
+        hottest[at] = max(hottest[at], share)
+    return min(device.rate(hot / sum) * (keeps if sum < 1 else 1) / sum for hot, sum in zip(hottest, sums) if sum > 0)
 
 
 def fits(given, flows, machines, devices):
     """Workers of each machine, where so many machines of so many devices carry the load; else None. A device's number says its machine."""
-    each = shares(flows, machines * devices)
-    one = given.device * (given.keeps if devices > 1 else 1)
-    if given.load * max(each) > given.full * one:
+    if given.load > given.full * passed(flows, machines * devices, given.one, given.keeps):
         return None
+    each = shares(flows, machines * devices)
     busiest = max(sum(each[at * devices : (at + 1) * devices]) for at in range(machines))
     workers = math.ceil(given.load * busiest / (given.full * given.worker))
     return workers if devices + workers + given.others <= given.processors else None
@@ -104,12 +126,12 @@ def wanted(given, flows):
 def plan(given):
     flows = flows_of(given.flows)
     largest = max(flows.values())
+    given.one = Device(given.device, given.half, given.flow)
     print(f"{len(flows):,} flows, of which the largest has {largest:.1%} of the load")
     print(f"{'devices':>7} {'busiest has':>11} {'they pass':>13}")
     for devices in (1, 2, 3, 4, 6, 8, 12, 16, 24, 32):
-        one = given.device * (given.keeps if devices > 1 else 1)
-        print(f"{devices:7} {max(shares(flows, devices)):11.1%} {passed(flows, devices, one, given.flow):13,.0f}")
-    if given.load * largest > given.full * min(given.flow, given.device):
+        print(f"{devices:7} {max(shares(flows, devices)):11.1%} {passed(flows, devices, given.one, given.keeps):13,.0f}")
+    if given.load * largest > given.full * given.flow:
         sys.exit("no number of devices carries it: the largest flow alone is more than one passes, so it is to become several")
     found = wanted(given, flows)
     if found is None:
@@ -119,33 +141,37 @@ def plan(given):
 
 
 def rows_of(path):
-    """The mean rates of a table, by processors, flows and kind, and how many devices there were."""
+    """The mean rates of a table, by kind, devices, workers and flows."""
     rows = {}
     for line in pathlib.Path(path).read_text().splitlines():
         words = line.split()
-        if len(words) == 8 and words[0].isdigit():
-            rows[int(words[0]), words[1], words[2]] = int(words[3]), float(words[5]) * 1e6
+        if len(words) == 8 and words[0].isdigit() and words[2].startswith("serves"):
+            rows.setdefault((words[2], int(words[3]), int(words[4])), {})[words[1]] = float(words[5]) * 1e6
     return rows
 
 
 def check(given):
-    """Whether all rows are as foretold. One device and its worker pass so many; the busiest of several is full first."""
+    """Whether the rows of groups with a hot flow are as foretold."""
     rows = rows_of(given.table)
     kinds = {"uniform": scaled({flow: 1 for flow in range(FLOWS)}), "half": halves(FLOWS), "one": {0: 1.0}}
     worst = count = 0
-    print(f"{'processors':>10} {'flows':8} {'kind':10} {'measured':>12} {'foretold':>12} {'ratio':>6}")
-    for (processors, flows, kind), (devices, rate) in rows.items():
-        if devices < 2 or not kind.startswith("serves") or (2, flows, kind) not in rows:
+    print(f"{'kind':10} {'devices':>7} {'workers':>7} {'flows':8} {'measured':>12} {'foretold':>12} {'ratio':>6}")
+    for (kind, devices, workers), rates in rows.items():
+        serving = workers if kind == "serves-all" else workers // devices
+        one = rows.get((kind, 1, serving))
+        if devices < 2 or one is None:
             continue
-        one = rows[2, flows, kind][1]
-        most = rows[2, "one", kind][1] if (2, "one", kind) in rows else math.inf
-        if min(one, most) <= 0:
-            sys.exit("one device with one worker passed nothing")
-        foretold = passed(kinds[flows], devices, one, most)
-        print(f"{processors:10} {flows:8} {kind:10} {rate:12,.0f} {foretold:12,.0f} {rate / foretold:6.2f}")
-        worst, count = max(worst, abs(rate / foretold - 1)), count + 1
+        if min(*rates.values(), *one.values()) <= 0:
+            sys.exit("a row passed nothing")
+        device = Device(one["uniform"], one["half"], one["one"])
+        keeps = rates["uniform"] / passed(kinds["uniform"], devices, device, 1)
+        print(f"{kind:10} {devices:7} {workers:7} {'uniform':8} {rates['uniform']:12,.0f} a device keeps {keeps:.2f} of its rate")
+        for flows in ("half", "one"):
+            foretold = passed(kinds[flows], devices, device, keeps)
+            print(f"{kind:10} {devices:7} {workers:7} {flows:8} {rates[flows]:12,.0f} {foretold:12,.0f} {rates[flows] / foretold:6.2f}")
+            worst, count = max(worst, abs(rates[flows] / foretold - 1)), count + 1
     if not count:
-        sys.exit("there is no row of several devices")
+        sys.exit("there is no group of several devices, or no device alone with as many workers as serve each of them")
     sys.exit(0 if worst <= MOST else 1)
 
 
@@ -158,7 +184,7 @@ def main():
     it.add_argument("flows")
     for name in ("--device", "--worker", "--flow"):
         it.add_argument(name, type=float, required=True)
-    for name, default in (("--keeps", 1.0), ("--full", 0.7)):
+    for name, default in (("--half", None), ("--keeps", 1.0), ("--full", 0.7)):
         it.add_argument(name, type=float, default=default)
     for name, default in (("--processors", 16), ("--others", 0)):
         it.add_argument(name, type=int, default=default)

@@ -3,10 +3,10 @@
  * What several devices side by side (evsched_shards.h) pass, by processors, beside event_sw and event_dsw of DPDK and one device alone, by
  * the same loops. Each thread is pinned to a processor of its own: schedulers, and workers, which bring in a NEW of an atomic queue for
  * each event that they release, so that as many are always inside. Of so many processors event_sw and one device alone have a scheduler,
- * and the others are workers; event_dsw schedules in its workers, so all of them are; of a group half are devices' and half workers, each
- * of which serves all devices, or its own. Windows of a few milliseconds, of each kind by turns; prints how many millions of events a
- * second are released, in the mean of the windows and in the best one, and the ratio to event_sw's mean. `bench/against_event_sw shards`
- * builds it; bench/scale_model.py reads what it prints.
+ * and the others are workers; event_dsw schedules in its workers, so all of them are; of a group half are devices', rounded down, and the
+ * others workers, each of which serves all devices, or its own. Windows of a few milliseconds, of each kind by turns; prints how many
+ * millions of events a second are released, in the mean of the windows and in the best one, and the ratio to event_sw's mean.
+ * `bench/against_event_sw shards` builds it; bench/scale_model.py reads what it prints.
  *
  *     shards [WINDOWS [HANDLE]]     a worker handles each event for HANDLE nanoseconds
  *
@@ -309,7 +309,7 @@ int main(int argc, char **argv)
 	start_eal(argv[0]);
 	handle_cycles = argc > 2 ? strtoull(argv[2], NULL, 10) * rte_get_tsc_hz() / 1000000000 : 0;
 	printf("%10s %-8s %-10s %7s %7s %9s %9s %6s\n", "processors", "flows", "kind", "devices", "workers", "mean", "best", "ratio");
-	for (processors = 2; processors <= rte_lcore_count() && processors <= MOST_WORKERS; processors += 2)
+	for (processors = 2; processors <= rte_lcore_count() && processors <= MOST_WORKERS; processors++)
 		for (flows = 0; flows < FLOW_KINDS; flows++) {
 			set_row(processors, flows);
 			make_theirs(&row.shape);

@@ -295,6 +295,45 @@ static void drains(void)
 	evsched_shards_free(group);
 }
 
+/* Any thread reads the sums of all devices: those of a question that sweeps and ports have answered, also ports of devices to which they
+ * didn't come. */
+static void reads_sums(void)
+{
+	struct evsched_shards_config config = four_ports();
+	static struct evsched_stats sum;
+	struct evsched_event ev[8];
+	uint64_t asked, now;
+	make(&config);
+	CHECK(evsched_shards_stats_read(group, &sum, 0) == DEVICES * 5);
+	CHECK(sum.dev.inside == 0 && sum.dev.free + sum.dev.own + sum.dev.pockets == DEVICES * LIMIT && sum.dev.limit == DEVICES * LIMIT);
+	for (unsigned i = 0; i < 7; i++)
+		CHECK(bring(i % 2, i) == 1);
+	evsched_shards_stats_read(group, &sum, 0);
+	sweep();
+	CHECK(evsched_shards_enqueue_new_burst(port(0), ev, 0) == 0 && evsched_shards_dequeue_burst(port(1), ev, 2) == 2);
+	CHECK(evsched_shards_dequeue_burst(port(2), ev + 2, 6) == 0 && evsched_shards_dequeue_burst(port(3), ev + 2, 6) == 0);
+	evsched_shards_stats_read(group, &sum, 0);
+	CHECK(sum.dev.rx_new == 7 && sum.dev.inside == 7 && sum.dev.sweeps == DEVICES && sum.dev.given == 7 && sum.dev.progress == 1);
+	CHECK(sum.dev.no_take == 1 && sum.dev.ports == 2 && sum.dev.rx == 7 && sum.dev.tx == 7);
+	CHECK(sum.queue[0].rx_new == 7 && sum.queue[0].tx == 7 && sum.queue[0].unanswered == 7 && sum.queue[1].rx == 0);
+	CHECK(sum.port[0].rx == 7 && sum.port[0].counters.enqueued == 7 && sum.port[1].unanswered == 7 && sum.share[0][1].tx == 7);
+	CHECK(sum.port[1].held == 2 && sum.port[1].cq_ring == 5 && sum.port[1].counters.dequeued == 2);
+	CHECK(sum.port[1].rx_free == DEVICES * config.dev.port[1].enqueue_depth && sum.port[0].age > 0 && sum.dev.age > 0);
+	CHECK(sum.dev.free + sum.dev.own + sum.dev.pockets + 7 == DEVICES * LIMIT);
+	/* All were asked, and answer but for port 3, which makes no call: what its part says is older. */
+	asked = evsched_priv_now();
+	sweep();
+	CHECK(evsched_shards_enqueue_burst(port(0), ev, 0) == 0 && evsched_shards_dequeue_burst(port(1), ev, 0) == 0);
+	CHECK(evsched_shards_enqueue_new_burst(port(2), ev, 0) == 0);
+	evsched_shards_stats_read(group, &sum, 0);
+	now = evsched_priv_now();
+	CHECK(sum.dev.age <= now - asked && sum.port[0].age <= now - asked && sum.port[1].age <= now - asked);
+	CHECK(sum.port[2].age <= now - asked && sum.port[3].age > sum.port[2].age);
+	CHECK(evsched_shards_stop(group, NULL) == 0);
+	CHECK(evsched_shards_stats_read(group, &sum, UINT64_MAX) == DEVICES * 5 && sum.dev.rx_new == 7 && sum.dev.sweeps == 2 * DEVICES);
+	evsched_shards_free(group);
+}
+
 /* Each event that is inside is given back once, with its device, and the credits of all devices are there. */
 static void stops(void)
 {
@@ -363,6 +402,7 @@ int main(void)
 	mixes();
 	drains();
 	stops();
+	reads_sums();
 	hashes();
 	printf("group: %d failures\n", failures);
 	return failures > 0;

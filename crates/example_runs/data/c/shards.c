@@ -3,7 +3,8 @@
  * Events through a group of devices, each with a thread that sweeps it: two producers (ports 0 and 1) and workers (the other ports), which
  * serve all devices. Each event goes into queue 0 of its flow's device, is forwarded to queue 1 there and released. A worker checks that
  * the events of a flow come in order, and counts each payload. What it reads and writes for that, `next` and `came`, are plain variables:
- * that a flow stays in one device, and is with one port at a time there, is all that guards them.
+ * that a flow stays in one device, and is with one port at a time there, is all that guards them. The main thread reads meanwhile what all
+ * devices did.
  *
  *     shards [EVENTS [DEVICES [WORKERS]]]
  */
@@ -107,6 +108,20 @@ static void *schedule(void *arg)
 	return NULL;
 }
 
+/* Reads the sums of all devices while they run, as a monitor would. Whether one of them fell. */
+static uint64_t watch(void)
+{
+	static struct evsched_stats sum;
+	uint64_t seen = 0, fell = 0;
+	while (atomic_load(&through) < events) {
+		evsched_shards_stats_read(shards, &sum, 1000000);
+		fell |= sum.queue[1].tx < seen;
+		seen = sum.queue[1].tx;
+		sched_yield();
+	}
+	return fell;
+}
+
 static void make_group(void)
 {
 	struct evsched_shards_config config = evsched_shards_default_config((uint32_t)devices, 2, (uint32_t)(PRODUCERS + workers));
@@ -123,13 +138,13 @@ static void make_group(void)
 		fail("create", r, at);
 }
 
-/* Runs all threads to their end. How many events were out of order. */
+/* Runs all threads to their end. How many events, or sums, were out of order. */
 static uint64_t run_threads(void)
 {
 	static struct worker worker[MOST_WORKERS];
 	static uint64_t number[MOST_DEVICES];
 	pthread_t thread[MOST_THREADS];
-	uint64_t misordered = 0;
+	uint64_t misordered;
 	int n = 0, failed = 0;
 	for (uint64_t i = 0; i < MOST_DEVICES; i++)
 		number[i] = i;
@@ -143,6 +158,7 @@ static uint64_t run_threads(void)
 		failed |= pthread_create(&thread[n++], NULL, produce, &number[p]);
 	if (failed)
 		exit(1);
+	misordered = watch();
 	while (n > 0)
 		pthread_join(thread[--n], NULL);
 	for (uint64_t w = 0; w < workers; w++)

@@ -141,37 +141,37 @@ def plan(given):
 
 
 def rows_of(path):
-    """The mean rates of a table, by kind, devices, workers and flows."""
-    rows = {}
+    """The mean rates of a table, by processors and kind, and how many devices there were."""
+    rows, devices = {}, {}
     for line in pathlib.Path(path).read_text().splitlines():
         words = line.split()
-        if len(words) == 8 and words[0].isdigit() and words[2].startswith("serves"):
-            rows.setdefault((words[2], int(words[3]), int(words[4])), {})[words[1]] = float(words[5]) * 1e6
-    return rows
+        if len(words) == 8 and words[0].isdigit():
+            rows.setdefault((int(words[0]), words[2]), {})[words[1]] = float(words[5]) * 1e6
+            devices[int(words[0]), words[2]] = int(words[3])
+    return rows, devices
 
 
 def check(given):
     """Whether the rows of groups with a hot flow are as foretold."""
-    rows = rows_of(given.table)
+    rows, devices = rows_of(given.table)
     kinds = {"uniform": scaled({flow: 1 for flow in range(FLOWS)}), "half": halves(FLOWS), "one": {0: 1.0}}
     worst = count = 0
-    print(f"{'kind':10} {'devices':>7} {'workers':>7} {'flows':8} {'measured':>12} {'foretold':>12} {'ratio':>6}")
-    for (kind, devices, workers), rates in rows.items():
-        serving = workers if kind == "serves-all" else workers // devices
-        one = rows.get((kind, 1, serving))
-        if devices < 2 or one is None:
+    print(f"{'processors':>10} {'kind':10} {'flows':8} {'measured':>12} {'foretold':>12} {'ratio':>6}")
+    for (processors, kind), rates in rows.items():
+        if not kind.startswith("serves") or devices[processors, kind] < 2:
             continue
+        one = rows[processors, kind.replace("serves", "one-of")]
         if min(*rates.values(), *one.values()) <= 0:
             sys.exit("a row passed nothing")
         device = Device(one["uniform"], one["half"], one["one"])
-        keeps = rates["uniform"] / passed(kinds["uniform"], devices, device, 1)
-        print(f"{kind:10} {devices:7} {workers:7} {'uniform':8} {rates['uniform']:12,.0f} a device keeps {keeps:.2f} of its rate")
+        keeps = rates["uniform"] / passed(kinds["uniform"], devices[processors, kind], device, 1)
+        print(f"{processors:10} {kind:10} {'uniform':8} {rates['uniform']:12,.0f} a device keeps {keeps:.2f} of its rate")
         for flows in ("half", "one"):
-            foretold = passed(kinds[flows], devices, device, keeps)
-            print(f"{kind:10} {devices:7} {workers:7} {flows:8} {rates[flows]:12,.0f} {foretold:12,.0f} {rates[flows] / foretold:6.2f}")
+            foretold = passed(kinds[flows], devices[processors, kind], device, keeps)
+            print(f"{processors:10} {kind:10} {flows:8} {rates[flows]:12,.0f} {foretold:12,.0f} {rates[flows] / foretold:6.2f}")
             worst, count = max(worst, abs(rates[flows] / foretold - 1)), count + 1
     if not count:
-        sys.exit("there is no group of several devices, or no device alone with as many workers as serve each of them")
+        sys.exit("there is no row of several devices")
     sys.exit(0 if worst <= MOST else 1)
 
 

@@ -3,15 +3,16 @@
  * What several devices side by side (evsched_shards.h) pass, by processors, beside event_sw and event_dsw of DPDK and one device alone, by
  * the same loops. Each thread is pinned to a processor of its own: schedulers, and workers, which bring in a NEW of an atomic queue for
  * each event that they release, so that as many are always inside. Of so many processors event_sw and one device alone have a scheduler,
- * and the others are workers; event_dsw schedules in its workers, so all of them are; of a group half are devices', rounded down, and the
- * others workers, each of which serves all devices, or its own. Windows of a few milliseconds, of each kind by turns; prints how many
- * millions of events a second are released, in the mean of the windows and in the best one, and the ratio to event_sw's mean.
- * `bench/against_event_sw shards` builds it; bench/scale_model.py reads what it prints.
+ * and the others are workers; event_dsw schedules in its workers, so all of them are; of a group half are devices' and half workers, each
+ * of which serves all devices, or its own. Beside these a group of one device alone, with as many workers as serve each device of either
+ * group. Windows of a few milliseconds, of each kind and all flows by turns; prints how many millions of events a second are released, in
+ * the mean of the windows and in the best one, and the ratio to event_sw's mean. `bench/against_event_sw shards` builds it;
+ * bench/scale_model.py reads what it prints.
  *
  *     shards [WINDOWS [HANDLE]]     a worker handles each event for HANDLE nanoseconds
  *
  * A thread ends when the time of its window is over, whatever the others do. Where a machine has other work these threads are to come
- * first (chrt -f 10): after the windows of a row they leave the processors for as long as they had them.
+ * first (chrt -f 10): after each turn they leave the processors for as long as they had them.
  */
 #include "two_devices.h"
 #include <evsched_shards.h>
@@ -21,16 +22,16 @@
 #include <rte_pause.h>
 
 enum { FLOWS = 1024, BURST = 16, INSIDE = 128, WARM = 5, LENGTH = 20, PATIENCE = 10000 }; /* INSIDE of each worker; times in milliseconds */
-enum { SW, DSW, ALONE, ALL, OWN, KINDS };
+enum { SW, DSW, ALONE, ALL, OWN, ONE_OF_ALL, ONE_OF_OWN, KINDS };
 enum { UNIFORM, HALF, ONE, FLOW_KINDS }; /* all flows have as many events; flow 0 has half of all; it has all */
 
-static const char *const kinds[KINDS] = {"event_sw", "event_dsw", "one-device", "serves-all", "serves-own"};
+static const char *const kinds[KINDS] = {"event_sw", "event_dsw", "one-device", "serves-all", "serves-own", "one-of-all",
+	"one-of-own"};
 static const char *const flow_kinds[FLOW_KINDS] = {"uniform", "half", "one"};
 
-/* Of a kind how many schedulers and workers there are. */
+/* Of each kind how many schedulers and workers there are. */
 struct row {
 	uint32_t processors, devices[KINDS], workers[KINDS];
-	int flows;
 	struct shape shape;
 };
 
@@ -50,7 +51,7 @@ static struct row row;
 static uint64_t handle_cycles;
 static struct {
 	uint64_t start, end;
-	int kind;
+	int kind, flows;
 } window;
 
 static void make_dsw(void)
@@ -105,11 +106,12 @@ static struct evsched_shards *make_group(int kind)
 
 static void free_all(void)
 {
+	int kind;
 	rte_event_dev_stop(dsw);
 	if (rte_event_dev_close(dsw) || rte_eal_hotplug_remove("vdev", dsw_name))
 		fail("event_dsw isn't freed");
-	evsched_shards_free(groups[ALL]);
-	evsched_shards_free(groups[OWN]);
+	for (kind = ALL; kind < KINDS; kind++)
+		evsched_shards_free(groups[kind]);
 	free_both();
 }
 
@@ -149,9 +151,9 @@ ALWAYS void handle(union event *ev, int n)
 /* The flow of a worker's event of this number. */
 ALWAYS uint32_t flow_of(uint32_t number)
 {
-	if (row.flows == ONE || (row.flows == HALF && number % 2 == 0))
+	if (window.flows == ONE || (window.flows == HALF && number % 2 == 0))
 		return 0;
-	return (row.flows == HALF ? number / 2 : number) % FLOWS;
+	return (window.flows == HALF ? number / 2 : number) % FLOWS;
 }
 
 /* NEWs for those that were released. */
@@ -241,13 +243,14 @@ static void await(unsigned lcore)
 }
 
 /* One window: events a second. The main thread is the first one. */
-static double run_window(int kind)
+static double run_window(int kind, int flows)
 {
 	uint64_t millisecond = rte_get_tsc_hz() / 1000;
 	double rate = 0;
 	unsigned lcore;
 	uint32_t at = 1;
 	window.kind = kind;
+	window.flows = flows;
 	window.start = rte_rdtsc() + WARM * millisecond;
 	window.end = window.start + LENGTH * millisecond;
 	RTE_LCORE_FOREACH_WORKER(lcore) {
@@ -263,35 +266,39 @@ static double run_window(int kind)
 	return rate;
 }
 
-/* Prints the rows of so many processors and of one kind of flows. */
+/* Prints the rows of so many processors. */
 static void measure(int windows)
 {
-	double sum[KINDS] = {0}, best[KINDS] = {0};
-	int i, kind;
-	for (i = 0; i < KINDS * windows; i++) {
-		double rate = run_window(kind = i % KINDS) / 1e6;
-		sum[kind] += rate;
-		if (rate > best[kind])
-			best[kind] = rate;
+	double sum[FLOW_KINDS][KINDS] = {{0}}, best[FLOW_KINDS][KINDS] = {{0}};
+	int i, flows, kind;
+	for (i = 0; i < windows; i++) {
+		for (flows = 0; flows < FLOW_KINDS; flows++)
+			for (kind = 0; kind < KINDS; kind++) {
+				double rate = run_window(kind, flows) / 1e6;
+				sum[flows][kind] += rate;
+				if (rate > best[flows][kind])
+					best[flows][kind] = rate;
+			}
+		usleep((useconds_t)(FLOW_KINDS * KINDS * (WARM + LENGTH) * 1000));
 	}
-	for (kind = 0; kind < KINDS; kind++)
-		printf("%10u %-8s %-10s %7u %7u %9.2f %9.2f %6.2f\n", row.processors, flow_kinds[row.flows], kinds[kind],
-			row.devices[kind], row.workers[kind], sum[kind] / windows, best[kind], sum[kind] / sum[SW]);
+	for (flows = 0; flows < FLOW_KINDS; flows++)
+		for (kind = 0; kind < KINDS; kind++)
+			printf("%10u %-8s %-10s %7u %7u %9.2f %9.2f %6.2f\n", row.processors, flow_kinds[flows], kinds[kind],
+				row.devices[kind], row.workers[kind], sum[flows][kind] / windows, best[flows][kind],
+				sum[flows][kind] / sum[flows][SW]);
 	fflush(stdout);
-	usleep((useconds_t)(KINDS * windows * (WARM + LENGTH) * 1000));
 }
 
-static void set_row(uint32_t processors, int flows)
+static void set_row(uint32_t processors)
 {
 	int kind;
 	uint32_t w;
 	memset(&row, 0, sizeof(row));
 	memset(workers, 0, sizeof(workers));
 	row.processors = processors;
-	row.flows = flows;
 	for (kind = 0; kind < KINDS; kind++) {
 		row.devices[kind] = kind == DSW ? 0 : kind == ALL || kind == OWN ? processors / 2 : 1;
-		row.workers[kind] = processors - row.devices[kind];
+		row.workers[kind] = kind == ONE_OF_ALL ? processors / 2 : kind == ONE_OF_OWN ? 1 : processors - row.devices[kind];
 		for (w = 0; w < row.workers[kind]; w++) {
 			workers[kind][w].owed = INSIDE;
 			workers[kind][w].next = w * 131;
@@ -304,21 +311,20 @@ static void set_row(uint32_t processors, int flows)
 
 int main(int argc, char **argv)
 {
-	int windows = argc > 1 ? atoi(argv[1]) : 10, flows;
+	int windows = argc > 1 ? atoi(argv[1]) : 10, kind;
 	uint32_t processors;
 	start_eal(argv[0]);
 	handle_cycles = argc > 2 ? strtoull(argv[2], NULL, 10) * rte_get_tsc_hz() / 1000000000 : 0;
 	printf("%10s %-8s %-10s %7s %7s %9s %9s %6s\n", "processors", "flows", "kind", "devices", "workers", "mean", "best", "ratio");
-	for (processors = 2; processors <= rte_lcore_count() && processors <= MOST_WORKERS; processors++)
-		for (flows = 0; flows < FLOW_KINDS; flows++) {
-			set_row(processors, flows);
-			make_theirs(&row.shape);
-			make_ours(&row.shape);
-			make_dsw();
-			groups[ALL] = make_group(ALL);
-			groups[OWN] = make_group(OWN);
-			measure(windows);
-			free_all();
-		}
+	for (processors = 2; processors <= rte_lcore_count() && processors <= MOST_WORKERS; processors += 2) {
+		set_row(processors);
+		make_theirs(&row.shape);
+		make_ours(&row.shape);
+		make_dsw();
+		for (kind = ALL; kind < KINDS; kind++)
+			groups[kind] = make_group(kind);
+		measure(windows);
+		free_all();
+	}
 	return 0;
 }

@@ -10,7 +10,7 @@ static_assert(sizeof(struct rte_event) == sizeof(struct evsched_event), "an even
 enum { OP_SHIFT = 32, OP_MASK = 3 };
 
 /* Whether an event may have an op that DPDK doesn't have: one that is both FORWARD and RELEASE. A burst of both kinds may, too. */
-static inline bool may_have_unknown(const struct rte_event ev[], uint16_t n)
+static inline bool may_have_unknown(const struct rte_event ev[], uint64_t n)
 {
 	const struct rte_event *end = ev + n;
 	uint64_t any = 0;
@@ -31,12 +31,18 @@ static uint16_t before_unknown(const struct rte_event ev[], uint16_t n)
 	return i;
 }
 
+/* So many more were enqueued. */
+static __rte_always_inline void note(struct evd_port *port, uint64_t done)
+{
+	evd_write(&port->pocket, evd_pocket(port));
+	evd_write(&port->sent, port->sent + done);
+}
+
 /* Enqueues what the library takes. */
 static inline uint16_t put(struct evd_port *port, const struct rte_event ev[], uint16_t n)
 {
 	uint16_t done = evsched_enqueue_burst(port->port, (const struct evsched_event *)ev, n);
-	evd_write(&port->sent, port->sent + done);
-	evd_write(&port->pocket, evd_pocket(port));
+	note(port, done);
 	return done;
 }
 
@@ -122,15 +128,26 @@ static __rte_noinline uint16_t put_long(struct evd_port *port, const struct rte_
 	return may_have_unknown(ev, n) ? put_known(port, ev, n) : put_rest(port, ev, put(port, ev, n), n);
 }
 
-static __rte_always_inline uint16_t enqueue(struct evd_port *port, const struct rte_event ev[], uint16_t n)
+/* What is left of a burst of which the library has taken so many. */
+static __rte_noinline uint16_t put_behind(struct evd_port *port, const struct rte_event ev[], uint16_t done, uint16_t n)
 {
-	uint16_t done;
-	if (unlikely(n - 1u >= EVSCHED_MAX_BURST))
-		return put_long(port, ev, n);
+	note(port, done);
+	return put_rest(port, ev, done, n);
+}
+
+/* It is small where the library takes all: what else may be stands apart. */
+static __rte_always_inline uint16_t enqueue(struct evd_port *port, const struct rte_event ev[], uint64_t n)
+{
+	uint64_t done;
+	if (unlikely(n - 1 >= EVSCHED_MAX_BURST))
+		return put_long(port, ev, (uint16_t)n);
 	if (unlikely(may_have_unknown(ev, n)))
-		return put_known(port, ev, n);
-	done = put(port, ev, n);
-	return likely(done == n) ? done : put_rest(port, ev, done, n);
+		return put_known(port, ev, (uint16_t)n);
+	done = evsched_enqueue_burst(port->port, (const struct evsched_event *)ev, (uint16_t)n);
+	if (unlikely(done != n))
+		return put_behind(port, ev, (uint16_t)done, (uint16_t)n);
+	note(port, n);
+	return (uint16_t)n;
 }
 
 uint16_t evd_enqueue_burst(void *port, const struct rte_event ev[], uint16_t n)
@@ -159,7 +176,7 @@ static uint16_t receive_and_release(struct evd_port *port, struct evsched_event 
 static __rte_always_inline uint16_t dequeue(struct evd_port *port, struct rte_event ev[], uint16_t n)
 {
 	struct evsched_event *to = (struct evsched_event *)ev;
-	uint16_t got = port->releases ? receive_and_release(port, to, n) : evsched_dequeue_burst(port->port, to, n);
+	uint16_t got = unlikely(port->releases) ? receive_and_release(port, to, n) : evsched_dequeue_burst(port->port, to, n);
 	uint64_t *size = &port->sizes[(got + 3u) / 4];
 	evd_write(size, *size + 1);
 	evd_write(&port->received, port->received + got);

@@ -73,7 +73,7 @@ struct evd {
 	struct evsched *running;   /* NULL while it is stopped */
 	void *memory;              /* in which that lies, */
 	void *for_stop;            /* and what is given back so that a stop finds memory */
-	bool did;                  /* whether the last sweep took or gave anything */
+	int did;                   /* how many the last sweep took and gave */
 	struct rte_eventdev *eventdev;
 	struct eventdev_ops ops;   /* its own, since a stop's callback is kept in it */
 	uint32_t service;

@@ -159,7 +159,7 @@ int evd_start(struct rte_eventdev *dev)
 	hand_out(device, made, dev->data->nb_ports);
 	evd_lock(device);
 	device->running = made;
-	device->did = false;
+	device->did = 0;
 	device->has_said_relink = false;
 	evd_xstats_begin(device);
 	evd_unlock(device);
@@ -212,7 +212,7 @@ int32_t evd_sweep(void *at)
 		return -EAGAIN;
 	if (likely(device->running != NULL)) {
 		did = evsched_sweep(device->running);
-		device->did = did > 0;
+		device->did = did;
 	}
 	evd_unlock(device);
 	if (unlikely(__atomic_load_n(&device->wanted, __ATOMIC_RELAXED) > 0))

@@ -127,7 +127,7 @@ static uint64_t of_device(const struct evd *device, uint32_t place)
 	case 4: return sweeps.no_take;
 	case 5: return sweeps.no_give;
 	case 6: return sweeps.given_to;
-	case 7: return device->did;
+	case 7: return device->did > 0;
 	default: return 0; /* nothing is dropped: what isn't taken is refused */
 	}
 }

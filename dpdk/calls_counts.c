@@ -183,7 +183,7 @@ static void limit_memory(bool is_limited)
 	CHECK(setrlimit(RLIMIT_AS, &limit) == 0);
 }
 
-/* A stop of a full device finds the memory that it needs where there is no more. (Sanitizers have memory of their own.) */
+/* A stop of a full device gives each event back where there is no memory for its lists. (Sanitizers have memory of their own.) */
 void test_memory(void)
 {
 #if !defined(__SANITIZE_ADDRESS__) && !defined(__SANITIZE_THREAD__)
@@ -196,10 +196,11 @@ void test_memory(void)
 		CHECK(put(d, 0, ev, 64) == 64);
 		sweep(d);
 	}
+	CHECK(get(d, 1, ev, 8) == 8); /* these are the program's */
 	limit_memory(true);
 	rte_event_dev_stop(d->id);
 	limit_memory(false);
-	CHECK(d->flushed == 16384);
+	CHECK(d->flushed == 16384 - 8);
 	forget(d);
 #endif
 }

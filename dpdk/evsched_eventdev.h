@@ -71,8 +71,7 @@ struct evd {
 	uint8_t has_lock;          /* who has the lock */
 	uint32_t wanted;           /* how many readers wait for it */
 	struct evsched *running;   /* NULL while it is stopped */
-	void *memory;              /* in which that lies, */
-	void *for_stop;            /* and what is given back so that a stop finds memory */
+	void *memory;              /* in which that lies */
 	int did;                   /* how many the last sweep took and gave */
 	struct rte_eventdev *eventdev;
 	struct eventdev_ops ops;   /* its own, since a stop's callback is kept in it */

@@ -5,13 +5,12 @@
 #include <sched.h>
 #include <stdlib.h>
 #include <string.h>
-#include <unistd.h>
 
 #include <rte_malloc.h>
 #include <rte_pause.h>
 #include <rte_service_component.h>
 
-enum { STOP_TRIES = 100, STOP_PAUSE = 1000 /* microseconds */, SPINS = 1024, GAP = 16 };
+enum { SPINS = 1024, GAP = 16 };
 
 static uint32_t least(uint32_t a, uint32_t b)
 {
@@ -113,18 +112,10 @@ static int refusal(struct evd *device, const struct evsched_dev_config *config, 
 	}
 }
 
-/* Memory that a stop needs for its lists: of all events, and of what rings have beside them, while a list grows by doubling. */
-static size_t stop_needs(const struct evsched_dev_config *config)
-{
-	size_t most = (size_t)config->nb_events_limit + (size_t)config->nb_event_ports * EVSCHED_MAX_DEPTH;
-	return 4 * most * sizeof(struct evsched_left);
-}
-
 static void let_go(struct evd *device)
 {
-	free(device->for_stop);
 	rte_free(device->memory);
-	device->for_stop = device->memory = NULL;
+	device->memory = NULL;
 }
 
 /* Tells the ports what they are now. */
@@ -149,9 +140,8 @@ int evd_start(struct rte_eventdev *dev)
 	if (r < 0)
 		return r;
 	take(dev, &config);
-	device->for_stop = malloc(stop_needs(&config));
 	device->memory = rte_zmalloc_socket("evsched", evsched_size(config.nb_event_ports), RTE_CACHE_LINE_SIZE, dev->data->socket_id);
-	r = device->memory && device->for_stop ? evsched_create_in(device->memory, &config, &made) : -ENOMEM;
+	r = device->memory ? evsched_create_in(device->memory, &config, &made) : -ENOMEM;
 	if (r < 0) {
 		let_go(device);
 		return refusal(device, &config, r);
@@ -220,30 +210,27 @@ int32_t evd_sweep(void *at)
 	return did > 0 ? 0 : -EAGAIN;
 }
 
-/* Gives what was left to the callback that the program has registered. */
-static void flush(struct rte_eventdev *dev, struct evsched *stopped)
+/* Gives an event to the callback that the program has registered. */
+static void hand_back(struct evsched *stopped, struct evsched_event event, void *arg)
 {
+	struct rte_eventdev *dev = arg;
 	eventdev_stop_flush_t to = dev->dev_ops->dev_stop_flush;
-	struct evsched_left left[32];
 	struct rte_event ev;
-	int i, n;
-	while (to != NULL && (n = evsched_left(stopped, left, RTE_DIM(left))) > 0)
-		for (i = 0; i < n; i++) {
-			ev.event = left[i].event.event;
-			ev.u64 = left[i].event.u64;
-			to(dev->data->dev_id, ev, dev->data->dev_stop_flush_arg);
-		}
+	RTE_SET_USED(stopped);
+	ev.event = event.event;
+	ev.u64 = event.u64;
+	if (to != NULL)
+		to(dev->data->dev_id, ev, dev->data->dev_stop_flush_arg);
 }
 
-/* Stops a device. Its lists find the memory that was put aside for them; where another thread was quicker it waits a little. */
-static int stop(struct evd *device, struct evsched *running)
+/* Gives all that was left. */
+static void flush(struct rte_eventdev *dev, struct evsched *stopped)
 {
-	int r, tries;
-	free(device->for_stop);
-	device->for_stop = NULL;
-	for (tries = 0; (r = evsched_stop(running)) == -ENOMEM && tries < STOP_TRIES; tries++)
-		usleep(STOP_PAUSE);
-	return r;
+	struct evsched_left left[32];
+	int i, n;
+	while ((n = evsched_left(stopped, left, RTE_DIM(left))) > 0)
+		for (i = 0; i < n; i++)
+			hand_back(stopped, left[i].event, dev);
 }
 
 void evd_stop(struct rte_eventdev *dev)
@@ -256,10 +243,10 @@ void evd_stop(struct rte_eventdev *dev)
 	running = device->running;
 	device->running = NULL;
 	evd_unlock(device);
-	if (stop(device, running) == 0)
+	if (evsched_stop(running) == 0)
 		flush(dev, running);
-	else
-		EVD_LOG(ERR, device, "memory ran out at the stop: the events that are inside are lost");
+	else if (evsched_drain(running, hand_back, dev) < 0) /* the lists of a stop need memory, and a drain needs none */
+		EVD_LOG(ERR, device, "events that are inside are lost at the stop");
 	for (p = 0; p < dev->data->nb_ports; p++)
 		device->ports[p].port = NULL;
 	evsched_free(running);

@@ -2,7 +2,8 @@
 use Rattle.std.proofs.Common.{◌≡◌, ◌≢◌, ℕ, zero, suc, ◌+◌, ◌*◌, ◌%◌, ◌^◌, ◌<◌, ◌≤◌, true, cond, All, List, [], ◌∷◌, ◌++◌, length, map, take, drop, Some, slice_get, Ok, refl, sym, ap, ◌∙◌, subst, arith, append_assoc, append-nil, get_or-take, length-take}
 use Rattle.std.proofs.lemmas.Grind.{common_steps}
 use Rattle.std.proofs.lemmas.List.{drop-drop}
-use Rattle.std.proofs.lemmas.List.Elements.{All-push}
+use Rattle.std.proofs.lemmas.List.Elements.{All-cons, All-nil, All-push}
+use Rattle.std.proofs.lemmas.List.Sums.{length-filter, count_by-le-length}
 use Rattle.lists.proofs.Parts.{take_next}
 use Rattle.evt_types.specs.Event.{pair_of}
 use Rattle.evt_types.specs.Operation.{is_answer, is_answer_op}
@@ -26,10 +27,10 @@ use Rattle.event_ports.specs.Flows.{flow_site, hands_of}
 use Rattle.event_ports.specs.Holds.{answered_on, received_on}
 use Rattle.event_ports.specs.HeldRings.{holds}
 use Rattle.event_ports.specs.Handed.{AnswersRow, CountsNone, LanesSite, hand_of, mores_of, news_of, releases_of}
-use Rattle.event_ports.specs.Lanes.{SubmitsTo, first_lane, held_of, lane_for, open_on, pair_in, reply_of}
+use Rattle.event_ports.specs.Lanes.{SubmitsTo, first_lane, held_of, lane_for, open_on, pair_in, reply_of, same_lane}
 use Rattle.event_ports.specs.Desks.{DeskSite, own_site, account_of, hand, pocket_of, Enqueues, EnqueuesAll, Pays}
 use Rattle.event_ports.proofs.Adding.{counts_own, counts_same, paid_release, paid_same}
-use Rattle.event_ports.proofs.Orders.{Notes, answered_first, each_lane, first_open, lane_same, own_flow}
+use Rattle.event_ports.proofs.Orders.{Notes, answered_first, by_lane, each_lane, first_open, lane_same, own_flow}
 use Rattle.event_ports.proofs.Refusals.{one_answer}
 use Rattle.event_ports.proofs.Refusing.{not_release}
 use Rattle.event_ports.proofs.Released.{at_lanes}
@@ -79,6 +80,14 @@ answered_row (suc n) (x ∷ xs) before after own here others notes =
 
     first_left : (l : Lane) → l ≢ Own → middle l ≡ before l
     first_left = each_lane (λ l. l ≢ Own → middle l ≡ before l) (λ ne. absurd (ne refl)) (λ j ne. refl)
+
+-- where as many are held of the own lane as in all, each came from it
+pub all_own : (xs : List Holding) → length xs ≤ length (held_of Own xs) → All (λ (x : Holding). x.lane ≡ Own) xs
+all_own [] every = All-nil (λ (x : Holding). x.lane ≡ Own)
+all_own (x ∷ xs) every =
+    let few : length (held_of Own xs) ≤ length xs = omega (arith, length-filter (λ (y : Holding). same_lane y.lane Own) xs, count_by-le-length (λ (y : Holding). same_lane y.lane Own) xs) in
+    by_lane x.lane Own (λ t. suc (length xs) ≤ length (cond t (x ∷ held_of Own xs) (held_of Own xs)) → All (λ (y : Holding). y.lane ≡ Own) (x ∷ xs))
+    (λ own all. All-cons (λ (y : Holding). y.lane ≡ Own) x xs own (all_own xs (omega (arith, all)))) (λ other all. absurd (omega (arith, all, few))) every
 
 some_there : {X : Type 0} (xs : List X) → xs ≢ [] → 0 < length xs
 some_there [] none = absurd (none refl)

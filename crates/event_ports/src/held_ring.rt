@@ -1,9 +1,8 @@
 //! What a port holds, in a ring whose number of places is fixed, so that its mask is a constant.
 
-ghost use Rattle.std.specs.Prelude.{◌≡◌, ◌+◌, ◌<◌, ◌≤◌, [], ◌∷◌, ◌++◌, length, map, drop, slice_get, take, All, option_copied, IfOk};
+ghost use Rattle.std.specs.Prelude.{◌≡◌, ◌+◌, ◌<◌, ◌≤◌, [], ◌∷◌, ◌++◌, length, map, drop, slice_get, option_copied, IfOk};
 ghost use Rattle.event_ports.specs.HeldRings.{holds, window};
 ghost use Rattle.event_ports.specs.Lanes.{holding_of};
-ghost use Rattle.event_ports.specs.declared.lane.Lane.TheVariants as lanes;
 
 use crate::lane::{Holding, Lane};
 use arrayvec::ArrayVec;
@@ -143,21 +142,6 @@ impl HeldRing {
     {
         self.first = (self.first + 1) % PLACES;
         self.len -= 1;
-    }
-
-    /// How many of the oldest came from the port's own lane, of so many, before the first that didn't.
-    #[inline(always)]
-    pub(crate) fn count_own(&self, most: usize) -> usize
-        requires { most ≤ length self.now.items }
-        ensures within { result ≤ most }
-        ensures own { All (λ x. x.lane ≡ lanes.Own) (take result self.now.items) }
-    {
-        for position in 0..most {
-            if let Lane::Flow(_) = self.places[(self.first + position) % PLACES].lane {
-                return position;
-            }
-        }
-        most
     }
 
     /// Drops so many of the oldest.

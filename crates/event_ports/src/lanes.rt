@@ -154,7 +154,7 @@ impl Lanes {
         }
     }
 
-    /// How many of so many answers may go to the own lane in a row: the oldest that are held came from it, and there is room.
+    /// How many of so many answers may go to the own lane in a row: all that is held came from it, and there is room.
     #[inline(always)]
     pub(crate) fn own_row(&self, most: usize) -> usize
         ensures within { result ≤ most }
@@ -162,8 +162,11 @@ impl Lanes {
         ensures held { result ≤ length (hand_of self.now).holding }
         ensures room { result ≤ room_left self.now.own }
     {
-        let most = most.min(self.own.known_room()).min(self.order.len());
-        self.order.count_own(most)
+        let held = self.order.len();
+        if self.own.held() < held {
+            return 0;
+        }
+        most.min(self.own.known_room()).min(held)
     }
 
     /// Answers so many of the oldest that are held, which came from the own lane. The scheduler sees it after the next `flush`.

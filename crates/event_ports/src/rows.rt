@@ -47,7 +47,7 @@ impl Desk {
     {
         let spare = self.quantum.saturating_mul(2).saturating_sub(self.pocket);
         let most = events.len().min(spare.saturating_sub(1) as usize);
-        let count = self.lanes.own_row(count_releases(events, most));
+        let count = count_releases(events, self.lanes.own_row(most));
         if count == 0 {
             return 0;
         }

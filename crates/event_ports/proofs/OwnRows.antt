@@ -1,12 +1,13 @@
--- A row of RELEASEs of what came from the own lane: the port after each of them, as a value, and so their chain of single calls.
-use Rattle.std.proofs.Common.{◌≡◌, ◌≢◌, ℕ, zero, suc, ◌+◌, ◌*◌, ◌%◌, ◌^◌, ◌<◌, ◌≤◌, true, cond, All, List, [], ◌∷◌, ◌++◌, length, map, take, drop, Some, slice_get, Ok, refl, sym, ap, ◌∙◌, subst, arith, append_assoc, append-nil, get_or-take, length-take}
+-- A row of FORWARDs and RELEASEs of what came from the own lane: the port after each of them, as a value, and so their chain of single calls.
+use Rattle.std.proofs.Common.{◌≡◌, ◌≢◌, ℕ, zero, suc, ◌+◌, ◌*◌, ◌%◌, ◌^◌, ◌<◌, ◌≤◌, ◌⊎◌, inl, inr, true, cond, All, List, [], ◌∷◌, ◌++◌, length, map, take, drop, Some, slice_get, Ok, refl, sym, ap, ◌∙◌, subst, arith, append_assoc, append-nil, get_or-take, length-take}
 use Rattle.std.proofs.lemmas.Grind.{common_steps}
 use Rattle.std.proofs.lemmas.List.{drop-drop}
 use Rattle.std.proofs.lemmas.List.Elements.{All-cons, All-nil, All-push}
 use Rattle.std.proofs.lemmas.List.Sums.{length-filter, count_by-le-length}
 use Rattle.lists.proofs.Parts.{take_next}
 use Rattle.evt_types.specs.Event.{pair_of}
-use Rattle.evt_types.specs.Operation.{is_answer, is_answer_op}
+use Rattle.lists.specs.Counts.{count}
+use Rattle.evt_types.specs.Operation.{is_answer, is_answer_op, is_release_op}
 use Rattle.evt_types.specs.declared.event.Delivery.{Delivery}
 use Rattle.evt_types.specs.declared.event.Event.{Event}
 use Rattle.evt_types.specs.declared.event.Op.{Op}
@@ -26,13 +27,14 @@ use Rattle.event_ports.specs.declared.lanes.Lanes.{Lanes}
 use Rattle.event_ports.specs.Flows.{flow_site, hands_of}
 use Rattle.event_ports.specs.Holds.{answered_on, received_on}
 use Rattle.event_ports.specs.HeldRings.{holds}
-use Rattle.event_ports.specs.Handed.{AnswersRow, CountsNone, LanesSite, hand_of, mores_of, news_of, releases_of}
+use Rattle.event_ports.specs.Handed.{AnswersRow, CountsNone, CountsOne, LanesSite, hand_of, mores_of, news_of, releases_of}
 use Rattle.event_ports.specs.Lanes.{SubmitsTo, first_lane, held_of, lane_for, open_on, pair_in, reply_of, same_lane}
 use Rattle.event_ports.specs.Desks.{DeskSite, own_site, account_of, hand, pocket_of, Enqueues, EnqueuesAll, Pays}
-use Rattle.event_ports.proofs.Adding.{counts_own, counts_same, paid_release, paid_same}
+use Rattle.event_ports.specs.Queues.{NamesQueue}
+use Rattle.event_ports.proofs.Adding.{counts_forward, counts_own, counts_same, paid_release, paid_same}
 use Rattle.event_ports.proofs.Orders.{Notes, answered_first, by_lane, each_lane, first_open, lane_same, own_flow}
 use Rattle.event_ports.proofs.Refusals.{one_answer}
-use Rattle.event_ports.proofs.Refusing.{not_release}
+use Rattle.event_ports.proofs.Refusing.{forward_alone, not_release}
 use Rattle.event_ports.proofs.Released.{at_lanes}
 
 -- the first n of these came from the own lane
@@ -117,45 +119,102 @@ lanes_step a e ends first room =
       s.5,
     )
 
--- ---- the desk after one RELEASE
+-- ---- the desk after one answer
 
--- these RELEASEs went to the own lane, and each brought a credit
-pub record ReleasesRow (es : List Event) (p q : Desk) : Type 0 where
+-- a FORWARD that names one of so many queues, or a RELEASE
+abbrev pub MayAnswer : ℕ → Event → Type 0
+MayAnswer queues e = ((e.op ≡ ops.Forward) × (e.queue < queues)) ⊎ (e.op ≡ ops.Release)
+
+-- how many credits these bring: one for each RELEASE
+abbrev pub brought : List Event → ℕ
+brought [] = 0
+brought (e ∷ es) = count (is_release_op e.op) + brought es
+
+-- these answers went to the own lane, and each RELEASE brought a credit
+pub record AnswersDesk (es : List Event) (p q : Desk) : Type 0 where
   pub site : own_site q ≡ own_site p
   pub account : account_of q ≡ account_of p
-  pub pocket : pocket_of q ≡ pocket_of p + length es
+  pub pocket : pocket_of q ≡ pocket_of p + brought es
   pub lanes : AnswersRow es p.lanes q.lanes
 
-ends_op : (e : Event) → e.op ≡ ops.Release → is_answer (reply_of e) ≡ true
-ends_op e release = ap is_answer_op release
+ends_op : (queues : ℕ) (e : Event) → MayAnswer queues e → is_answer (reply_of e) ≡ true
+ends_op queues e (inl forward) = ap is_answer_op forward.0
+ends_op queues e (inr release) = ap is_answer_op release
+
+-- it goes to the lane of the oldest
+to_first : (queues : ℕ) (e : Event) (xs : List Holding) → MayAnswer queues e → lane_for e.op xs ≡ first_lane xs
+to_first queues e xs (inl forward) = ap (λ (o : Op). lane_for o xs) forward.0
+to_first queues e xs (inr release) = ap (λ (o : Op). lane_for o xs) release
+
+not_new : (queues : ℕ) (e : Event) → MayAnswer queues e → e.op ≡ ops.New → ⊥
+not_new queues e (inl forward) new = forward_alone e.op ops.New (λ is. absurd (cc)) forward.0 new
+not_new queues e (inr release) new = not_release e.op new release
+
+names : (queues : ℕ) (e : Event) → MayAnswer queues e → NamesQueue queues e
+names queues e (inl forward) other = forward.1
+names queues e (inr release) other = absurd (other release)
+
+forward_brings : (e : Event) → e.op ≡ ops.Forward → brought (e ∷ []) ≡ 0
+forward_brings e forward = omega (arith, ap (λ (o : Op). count (is_release_op o)) forward)
+
+release_brings : (e : Event) → e.op ≡ ops.Release → brought (e ∷ []) ≡ 1
+release_brings e release = omega (arith, ap (λ (o : Op). count (is_release_op o)) release)
+
+-- a RELEASE comes before two quanta are in the pocket, and the pocket's number has room for it
+pub record HasFew (n : ℕ) (p : Desk) : Type 0 where
+  pub few : 0 < n → pocket_of p + n < 2 * (own_site p).quantum
+  pub fits : 0 < n → pocket_of p + n < 2 ^ 64
+
+pays_one : (e : Event) (p q : Desk) → MayAnswer (own_site p).queues e → HasFew (brought (e ∷ [])) p → AnswersDesk (e ∷ []) p q → Pays e.op p q
+pays_one e p q (inl forward) few r =
+    subst (λ (o : Op). Pays o p q) (sym forward.0) ((omega (arith, r.pocket, forward_brings e forward.0), (ap (λ (w : Account). w.drawn) r.account, ap (λ (w : Account). w.returned) r.account)), r.account)
+pays_one e p q (inr release) few r =
+    let one = release_brings e release in
+    let fits : pocket_of p + 1 < 2 ^ 64 = omega (arith, few.fits (omega (arith, one)), one) in
+    let small : pocket_of p + 1 < 2 * (own_site p).quantum = omega (arith, few.few (omega (arith, one)), one) in
+    subst (λ (o : Op). Pays o p q) (sym release) (record { few = λ _. (omega (arith, r.pocket, one, fits), r.account); many = λ many. absurd (omega (arith, many, small, fits)) })
 
 -- what one of them says
-one_released : (e : Event) (p q : Desk) → e.op ≡ ops.Release → first_lane (hand p).holding ≡ Some Own → pocket_of p + 1 < 2 * (own_site p).quantum → pocket_of p + 1 < 2 ^ 64
-    → ReleasesRow (e ∷ []) p q → Enqueues e p q
-one_released e p q release first few fits r = record {
+one_answered : (e : Event) (p q : Desk) → MayAnswer (own_site p).queues e → first_lane (hand p).holding ≡ Some Own → HasFew (brought (e ∷ [])) p → AnswersDesk (e ∷ []) p q → Enqueues e p q
+one_answered e p q may first few r = record {
   site = r.site;
   credit = subst (λ (w : Account). Stays (account_of p) w) (sym r.account) (record { limit = refl; parts = refl; set_shut = refl; saw_shut = λ saw. saw });
   submitted =
-      subst (λ (o : Op). SubmitsTo (lane_for o (hand p).holding) (reply_of e) (hand p) (hand q)) (sym release)
-      (subst (λ o. SubmitsTo o (reply_of e) (hand p) (hand q)) (sym first)
+      subst (λ o. SubmitsTo o (reply_of e) (hand p) (hand q)) (sym (to_first (own_site p).queues e (hand p).holding may ∙ first))
       (record {
         said_here = r.lanes.said;
         said = each_lane (λ l. l ≢ Own → (hand q).said l ≡ (hand p).said l) (λ ne. absurd (ne refl)) (λ j ne. ap (λ (f : FlowLanes). answered_on (hands_of f) j) r.lanes.flows);
         got = each_lane (λ l. (hand q).got l ≡ (hand p).got l) r.lanes.got (λ j. ap (λ (f : FlowLanes). received_on (hands_of f) j) r.lanes.flows);
-        holding = r.lanes.holding ∙ ap (λ n. drop n (hand p).holding) (sym (one_answer (reply_of e) (ends_op e release)));
-      }));
-  pays = subst (λ (o : Op). Pays o p q) (sym release) (record { few = λ _. (omega (arith, r.pocket, fits), r.account); many = λ many. absurd (omega (arith, many, few, fits)) });
-  there = λ other. absurd (other release);
-  unshut = λ new _. not_release e.op new release;
+        holding = r.lanes.holding ∙ ap (λ n. drop n (hand p).holding) (sym (one_answer (reply_of e) (ends_op (own_site p).queues e may)));
+      });
+  pays = pays_one e p q may few r;
+  there = names (own_site p).queues e may;
+  unshut = λ new _. not_new (own_site p).queues e may new;
 }
 
-brought : (n : ℕ) → n + 1 < 2 ^ 64 → (n + 1) % 2 ^ 64 ≡ n + 1
-brought n fits = omega (arith, fits)
+paid_one : (e : Event) (p : Desk) (lanes : Lanes) → MayAnswer (own_site p).queues e → HasFew (brought (e ∷ [])) p → AnswersRow (e ∷ []) p.lanes lanes
+    → IsPocket (pocket_of p + brought (e ∷ [])) ((account_of p).drawn + releases_of lanes) ((account_of p).returned + news_of lanes + mores_of lanes)
+paid_one e p lanes may few r = by_kind may
+  where
+    counts : CountsOne (reply_of e) p.lanes lanes
+    counts = counts_own {E = Unit {0}} p.lanes lanes (reply_of e) (Ok tt) r.flows r.said
 
-desk_step : (p : Desk) (e : Event) → e.op ≡ ops.Release → first_lane (hand p).holding ≡ Some Own → 0 < room_left p.lanes.own → pocket_of p + 1 < 2 ^ 64
-    → (m : Desk) × ReleasesRow (e ∷ []) p m × (room_left m.lanes.own + 1 ≡ room_left p.lanes.own)
-desk_step p e release first room fits =
-    let s = lanes_step p.lanes e (ends_op e release) first room in (
+    Paid : ℕ → Type 0
+    Paid n = IsPocket n ((account_of p).drawn + releases_of lanes) ((account_of p).returned + news_of lanes + mores_of lanes)
+
+    by_kind : MayAnswer (own_site p).queues e → Paid (pocket_of p + brought (e ∷ []))
+    by_kind (inl forward) =
+        subst Paid (omega (arith, forward_brings e forward.0))
+        (paid_same p.lanes lanes p.pocket (account_of p).drawn (account_of p).returned (counts_forward {E = Unit {0}} p.lanes lanes (reply_of e) (Ok tt) forward.0 counts) p.paid)
+    by_kind (inr release) =
+        let one = release_brings e release in
+        let fits : pocket_of p + 1 < 2 ^ 64 = omega (arith, few.fits (omega (arith, one)), one) in
+        subst Paid (omega (arith, one, fits)) (paid_release p.lanes lanes (reply_of e) p.pocket (account_of p).drawn (account_of p).returned release counts p.paid)
+
+desk_step : (p : Desk) (e : Event) → MayAnswer (own_site p).queues e → first_lane (hand p).holding ≡ Some Own → 0 < room_left p.lanes.own → HasFew (brought (e ∷ [])) p
+    → (m : Desk) × AnswersDesk (e ∷ []) p m × (room_left m.lanes.own + 1 ≡ room_left p.lanes.own)
+desk_step p e may first room few =
+    let s = lanes_step p.lanes e (ends_op (own_site p).queues e may) first room in (
       record {
         pool = p.pool;
         seat = p.seat;
@@ -165,25 +224,26 @@ desk_step p e release first room fits =
         implicit = p.implicit;
         quantum = p.quantum;
         threshold = p.threshold;
-        pocket = p.pocket + 1;
+        pocket = p.pocket + brought (e ∷ []);
         seat_of = p.seat_of;
         unset = p.unset;
         quantum_fits = p.quantum_fits;
         numbered = ap (λ (l : LanesSite). l.flows.port) s.1.site ∙ p.numbered;
-        paid =
-            subst (λ n. IsPocket n ((account_of p).drawn + releases_of s.0) ((account_of p).returned + news_of s.0 + mores_of s.0)) (brought p.pocket fits)
-            (paid_release p.lanes s.0 (reply_of e) p.pocket (account_of p).drawn (account_of p).returned release (counts_own {E = Unit {0}} p.lanes s.0 (reply_of e) (Ok tt) s.1.flows s.1.said) p.paid);
+        paid = paid_one e p s.0 may few s.1;
       },
       record { site = ap (at_lanes (own_site p)) s.1.site; account = refl; pocket = refl; lanes = s.1 },
       s.2,
     )
 
+brought_first : (e : Event) (es : List Event) → brought (e ∷ es) ≡ brought (e ∷ []) + brought es
+brought_first e es = omega arith
+
 -- the rest of a row, behind its first
-rest_row : (e : Event) (es : List Event) (p m q : Desk) → ReleasesRow (e ∷ []) p m → ReleasesRow (e ∷ es) p q → ReleasesRow es m q
+rest_row : (e : Event) (es : List Event) (p m q : Desk) → AnswersDesk (e ∷ []) p m → AnswersDesk (e ∷ es) p q → AnswersDesk es m q
 rest_row e es p m q s r = record {
   site = r.site ∙ sym s.site;
   account = r.account ∙ sym s.account;
-  pocket = omega (arith, r.pocket, s.pocket);
+  pocket = omega (arith, r.pocket, s.pocket, brought_first e es);
   lanes = record {
     site = r.lanes.site ∙ sym s.lanes.site;
     flows = r.lanes.flows ∙ sym s.lanes.flows;
@@ -194,43 +254,49 @@ rest_row e es p m q s r = record {
 }
 
 -- what a row asks for
-pub record MayRelease (es : List Event) (p : Desk) : Type 0 where
-  pub releases : All (λ (e : Event). e.op ≡ ops.Release) es
+pub record MayRow (es : List Event) (p : Desk) : Type 0 where
+  pub answers : All (λ (e : Event). MayAnswer (own_site p).queues e) es
   pub own : AreOwn (length es) (hand p).holding
   pub room : length es ≤ room_left p.lanes.own
-  pub few : pocket_of p + length es < 2 * (own_site p).quantum
-  pub fits : pocket_of p + length es < 2 ^ 64
+  pub few : HasFew (brought es) p
 
-may_rest : (e : Event) (es : List Event) (p m : Desk) → MayRelease (e ∷ es) p → ReleasesRow (e ∷ []) p m → room_left m.lanes.own + 1 ≡ room_left p.lanes.own → MayRelease es m
+may_rest : (e : Event) (es : List Event) (p m : Desk) → MayRow (e ∷ es) p → AnswersDesk (e ∷ []) p m → room_left m.lanes.own + 1 ≡ room_left p.lanes.own → MayRow es m
 may_rest e es p m may s room = record {
-  releases = λ k d lt. may.releases (suc k) d (omega (arith, lt));
+  answers = subst (λ (d : DeskSite). All (λ (x : Event). MayAnswer d.queues x) es) (sym s.site) (λ k d lt. may.answers (suc k) d (omega (arith, lt)));
   own = subst (AreOwn (length es)) (sym s.lanes.holding) (rest_own (length es) (hand p).holding may.own);
   room = omega (arith, may.room, room);
-  few = omega (arith, may.few, s.pocket, ap (λ (d : DeskSite). d.quantum) s.site);
-  fits = omega (arith, may.fits, s.pocket);
+  few = record {
+    few = λ some. omega (arith, may.few.few (omega (arith, some, brought_first e es)), s.pocket, brought_first e es, ap (λ (d : DeskSite). d.quantum) s.site);
+    fits = λ some. omega (arith, may.few.fits (omega (arith, some, brought_first e es)), s.pocket, brought_first e es);
+  };
+}
+
+first_few : (e : Event) (es : List Event) (p : Desk) → MayRow (e ∷ es) p → HasFew (brought (e ∷ [])) p
+first_few e es p may = record {
+  few = λ some. omega (arith, may.few.few (omega (arith, some, brought_first e es)), brought_first e es);
+  fits = λ some. omega (arith, may.few.fits (omega (arith, some, brought_first e es)), brought_first e es);
 }
 
 -- after each of them there is a desk
-step_of : (e : Event) (es : List Event) (p : Desk) → MayRelease (e ∷ es) p → (m : Desk) × ReleasesRow (e ∷ []) p m × (room_left m.lanes.own + 1 ≡ room_left p.lanes.own)
-step_of e es p may = desk_step p e (may.releases 0 e (omega arith)) (first_own (length es) (hand p).holding may.own) (omega (arith, may.room)) (omega (arith, may.fits))
+step_of : (e : Event) (es : List Event) (p : Desk) → MayRow (e ∷ es) p → (m : Desk) × AnswersDesk (e ∷ []) p m × (room_left m.lanes.own + 1 ≡ room_left p.lanes.own)
+step_of e es p may = desk_step p e (may.answers 0 e (omega arith)) (first_own (length es) (hand p).holding may.own) (omega (arith, may.room)) (first_few e es p may)
 
-one_of : (e : Event) (es : List Event) (p m : Desk) → MayRelease (e ∷ es) p → ReleasesRow (e ∷ []) p m → Enqueues e p m
-one_of e es p m may s =
-    one_released e p m (may.releases 0 e (omega arith)) (first_own (length es) (hand p).holding may.own) (omega (arith, may.few)) (omega (arith, may.fits)) s
+one_of : (e : Event) (es : List Event) (p m : Desk) → MayRow (e ∷ es) p → AnswersDesk (e ∷ []) p m → Enqueues e p m
+one_of e es p m may s = one_answered e p m (may.answers 0 e (omega arith)) (first_own (length es) (hand p).holding may.own) (first_few e es p may) s
 
-pub release_chain : (e : Event) (es : List Event) (p q : Desk) → MayRelease (e ∷ es) p → ReleasesRow (e ∷ es) p q → EnqueuesAll (e ∷ es) p q
-release_chain e [] p q may r = (q, one_of e [] p q may r, refl)
-release_chain e (x ∷ es) p q may r =
+pub answer_chain : (e : Event) (es : List Event) (p q : Desk) → MayRow (e ∷ es) p → AnswersDesk (e ∷ es) p q → EnqueuesAll (e ∷ es) p q
+answer_chain e [] p q may r = (q, one_of e [] p q may r, refl)
+answer_chain e (x ∷ es) p q may r =
     let s = step_of e (x ∷ es) p may in
-    (s.0, one_of e (x ∷ es) p s.0 may s.1, release_chain x es s.0 q (may_rest e (x ∷ es) p s.0 may s.1 s.2) (rest_row e (x ∷ es) p s.0 q s.1 r))
+    (s.0, one_of e (x ∷ es) p s.0 may s.1, answer_chain x es s.0 q (may_rest e (x ∷ es) p s.0 may s.1 s.2) (rest_row e (x ∷ es) p s.0 q s.1 r))
 
 -- ---- what is paid after them
 
-row_then : (e : Event) (es : List Event) (p m q : Desk) → ReleasesRow (e ∷ []) p m → ReleasesRow es m q → ReleasesRow (e ∷ es) p q
+row_then : (e : Event) (es : List Event) (p m q : Desk) → AnswersDesk (e ∷ []) p m → AnswersDesk es m q → AnswersDesk (e ∷ es) p q
 row_then e es p m q s r = record {
   site = r.site ∙ s.site;
   account = r.account ∙ s.account;
-  pocket = omega (arith, r.pocket, s.pocket);
+  pocket = omega (arith, r.pocket, s.pocket, brought_first e es);
   lanes = record {
     site = r.lanes.site ∙ s.lanes.site;
     flows = r.lanes.flows ∙ s.lanes.flows;
@@ -240,7 +306,7 @@ row_then e es p m q s r = record {
   };
 }
 
-row_desk : (es : List Event) (p : Desk) → MayRelease es p → (m : Desk) × ReleasesRow es p m
+row_desk : (es : List Event) (p : Desk) → MayRow es p → (m : Desk) × AnswersDesk es p m
 row_desk [] p may = (
   p,
   record {
@@ -260,11 +326,11 @@ same_counts es a b c r s =
     counts_same b c (ap flow_site (s.flows ∙ sym r.flows))
     (each_lane (λ l. (hand_of c).said l ≡ (hand_of b).said l) (s.said ∙ sym r.said) (λ j. ap (λ (f : FlowLanes). answered_on (hands_of f) j) (s.flows ∙ sym r.flows)))
 
-pub row_paid : (es : List Event) (p : Desk) (lanes : Lanes) → MayRelease es p → AnswersRow es p.lanes lanes
-    → IsPocket (pocket_of p + length es) ((account_of p).drawn + releases_of lanes) ((account_of p).returned + news_of lanes + mores_of lanes)
+pub row_paid : (es : List Event) (p : Desk) (lanes : Lanes) → MayRow es p → AnswersRow es p.lanes lanes
+    → IsPocket (pocket_of p + brought es) ((account_of p).drawn + releases_of lanes) ((account_of p).returned + news_of lanes + mores_of lanes)
 row_paid es p lanes may r =
     let m = row_desk es p may in
-    subst (λ (w : Account). IsPocket (pocket_of p + length es) (w.drawn + releases_of lanes) (w.returned + news_of lanes + mores_of lanes)) m.1.account
+    subst (λ (w : Account). IsPocket (pocket_of p + brought es) (w.drawn + releases_of lanes) (w.returned + news_of lanes + mores_of lanes)) m.1.account
     (subst (λ n. IsPocket n ((account_of m.0).drawn + releases_of lanes) ((account_of m.0).returned + news_of lanes + mores_of lanes)) m.1.pocket
     (paid_same m.0.lanes lanes m.0.pocket (account_of m.0).drawn (account_of m.0).returned (same_counts es p.lanes m.0.lanes lanes m.1.lanes r) m.0.paid))
 
@@ -277,6 +343,48 @@ all_fewer P a b xs within all k d lt =
 pub all_next : {X : Type 0} (P : X → Type 0) (xs : List X) (n : ℕ) (x : X) → slice_get xs n ≡ Some x → All P (take n xs) → P x → All P (take (n + 1) xs)
 all_next P xs n x at all one = subst (All P) (sym (take_next xs n x at)) (All-push P (take n xs) x all one)
 
-pub release_row : (es : List Event) (p q : Desk) → 0 < length es → MayRelease es p → ReleasesRow es p q → EnqueuesAll es p q
-release_row [] p q some may r = absurd (omega (arith, some))
-release_row (e ∷ es) p q some may r = release_chain e es p q may r
+pub answers_row : (es : List Event) (p q : Desk) → 0 < length es → MayRow es p → AnswersDesk es p q → EnqueuesAll es p q
+answers_row [] p q some may r = absurd (omega (arith, some))
+answers_row (e ∷ es) p q some may r = answer_chain e es p q may r
+
+-- RELEASEs bring as many credits as there are, and FORWARDs none
+pub releases_bring : (es : List Event) → All (λ (e : Event). e.op ≡ ops.Release) es → brought es ≡ length es
+releases_bring [] all = refl
+releases_bring (e ∷ es) all =
+    omega (arith, brought_first e es, release_brings e (all 0 e (omega arith)), releases_bring es (λ k d lt. all (suc k) d (omega (arith, lt))))
+
+pub forwards_bring : (es : List Event) (queues : ℕ) → All (λ (e : Event). (e.op ≡ ops.Forward) × (e.queue < queues)) es → brought es ≡ 0
+forwards_bring [] queues all = refl
+forwards_bring (e ∷ es) queues all =
+    omega (arith, brought_first e es, forward_brings e (all 0 e (omega arith)).0, forwards_bring es queues (λ k d lt. all (suc k) d (omega (arith, lt))))
+
+-- ---- the first of the events that were told, of no more that are held of the own lane
+
+pub counted : (n : ℕ) (es : List Event) → n ≤ length es → length (take n es) ≡ n
+counted n es within = omega (arith, length-take n es, within)
+
+-- so many answers may go to the own lane in a row
+pub record IsOwnRow (n : ℕ) (p : Desk) : Type 0 where
+  pub held : n ≤ length (hand p).holding
+  pub own : All (λ (x : Holding). x.lane ≡ Own) (take n (hand p).holding)
+  pub room : n ≤ room_left p.lanes.own
+
+module _ (p : Desk) (events : List Event) (n own : ℕ) (within : n ≤ length events) (fewer : n ≤ own) (row : IsOwnRow own p) where
+  may_row : All (λ (e : Event). MayAnswer (own_site p).queues e) (take n events) → HasFew (brought (take n events)) p → MayRow (take n events) p
+  may_row answers few = record {
+    answers = answers;
+    own = subst (λ k. AreOwn k (hand p).holding) (sym (counted n events within)) (are_own n (hand p).holding (omega (arith, fewer, row.held)) (all_fewer (λ (x : Holding). x.lane ≡ Own) n own (hand p).holding fewer row.own));
+    room = omega (arith, counted n events within, fewer, row.room);
+    few = few;
+  }
+
+  pub may_release : All (λ (e : Event). e.op ≡ ops.Release) (take n events) → pocket_of p + n < 2 * (own_site p).quantum → pocket_of p + n < 2 ^ 64 → MayRow (take n events) p
+  may_release releases few fits =
+      let all = releases_bring (take n events) releases in
+      let len = counted n events within in
+      may_row (λ k d lt. inr (releases k d lt)) (record { few = λ _. omega (arith, all, len, few); fits = λ _. omega (arith, all, len, fits) })
+
+  pub may_forward : All (λ (e : Event). (e.op ≡ ops.Forward) × (e.queue < (own_site p).queues)) (take n events) → MayRow (take n events) p
+  may_forward forwards =
+      let none = forwards_bring (take n events) (own_site p).queues forwards in
+      may_row (λ k d lt. inl (forwards k d lt)) (record { few = λ some. absurd (omega (arith, some, none)); fits = λ some. absurd (omega (arith, some, none)) })

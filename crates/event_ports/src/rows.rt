@@ -1,6 +1,6 @@
 //! Rows of events that have one operation: they are judged by their count, and gathered by one loop.
 
-ghost use Rattle.std.specs.Prelude.{◌≡◌, ◌≤◌, length, take, All};
+ghost use Rattle.std.specs.Prelude.{◌≡◌, ◌<◌, ◌≤◌, length, take, All};
 ghost use Rattle.evt_types.specs.declared.event.Event.{Event as EventValue};
 ghost use Rattle.evt_types.specs.declared.event.Op.TheVariants as ops;
 
@@ -22,6 +22,25 @@ fn count_releases(events: &[PackedEvent], most: usize) -> usize
     most
 }
 
+/// How many of so many events are FORWARDs to one of so many queues, before the first that isn't.
+#[inline(always)]
+fn count_forwards(events: &[PackedEvent], most: usize, queues: usize) -> usize
+    requires { most ≤ length events.now }
+    ensures within { result ≤ most }
+    ensures forwards { All (λ (e : EventValue). (e.op ≡ ops.Forward) × (e.queue < queues)) (take result events.now) }
+{
+    for position in 0..most {
+        let event = &events[position];
+        let Op::Forward = event.op() else {
+            return position;
+        };
+        if usize::from(event.queue()) >= queues {
+            return position;
+        }
+    }
+    most
+}
+
 impl Desk {
     ghost use Rattle.std.specs.Prelude.{◌≤◌, length, take};
     ghost use Rattle.event_ports.specs.Desks.{EnqueuesAll};
@@ -34,7 +53,8 @@ impl Desk {
     {
         match op {
             Op::Release => self.submit_releases(events),
-            Op::New | Op::Forward | Op::ForwardMore => 0,
+            Op::Forward => self.submit_forwards(events),
+            Op::New | Op::ForwardMore => 0,
         }
     }
 
@@ -53,6 +73,21 @@ impl Desk {
         }
         self.lanes.answer_row(&events[..count]);
         self.pocket += count as u64;
+        count
+    }
+
+    // The same of FORWARDs to queues of the device.
+    #[inline(always)]
+    fn submit_forwards(&mut self, events: &[PackedEvent]) -> usize
+        ensures within { result ≤ length events.now }
+        ensures taken { EnqueuesAll (take result events.now) self.old self.new }
+    {
+        let most = self.lanes.own_row(events.len());
+        let count = count_forwards(events, most, self.queues);
+        if count == 0 {
+            return 0;
+        }
+        self.lanes.answer_row(&events[..count]);
         count
     }
 }

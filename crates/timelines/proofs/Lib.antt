@@ -1,0 +1,3 @@
+pub mod Layouts
+pub mod Readings
+pub mod Texts

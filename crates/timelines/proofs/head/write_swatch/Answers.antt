@@ -1,0 +1,13 @@
+use Rattle.std.specs.Prelude.{string_bytes}
+use Rattle.timelines.proofs.Texts.{on_more}
+use Rattle.timelines.specs.Picture.{swatch}
+use Rattle.timelines.proofs.head.write_swatch.Goals as goal
+
+pub returns : goal.returns
+unfolding swatch
+returns c =
+    on_more c.write-3.result (string_bytes c.args.out.now) (string_bytes c.push_str.new.self) (string_bytes c.write-3.new.self) _ _ c.in_ok-push_str.ensures.bytes
+    (on_more c.write-3.result (string_bytes c.push_str.new.self) (string_bytes c.write.new.self) (string_bytes c.write-3.new.self) _ _ c.in_ok-write.ensures.bytes
+    (on_more c.write-3.result (string_bytes c.write.new.self) (string_bytes c.write-2.new.self) (string_bytes c.write-3.new.self) _ _ c.in_ok-write-2.ensures.bytes
+    (on_more c.write-3.result (string_bytes c.write-2.new.self) (string_bytes c.push_str-2.new.self) (string_bytes c.write-3.new.self) _ _ c.in_ok-push_str-2.ensures.bytes
+    (c.write-3.ensures.bytes))))

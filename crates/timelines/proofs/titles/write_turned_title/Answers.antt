@@ -1,0 +1,12 @@
+use Rattle.std.specs.Prelude.{string_bytes}
+use Rattle.timelines.proofs.Texts.{on_more, on_pushed}
+use Rattle.timelines.specs.Marks.{turned_title}
+use Rattle.timelines.proofs.titles.write_turned_title.Goals as goal
+
+pub returns : goal.returns
+unfolding turned_title
+returns c =
+    on_more c.push_str-2.result (string_bytes c.args.out.now) (string_bytes c.push_str.new.self) (string_bytes c.push_str-2.new.self) _ _ c.in_ok-push_str.ensures.bytes
+    (on_more c.push_str-2.result (string_bytes c.push_str.new.self) (string_bytes c.write.new.self) (string_bytes c.push_str-2.new.self) _ _ c.in_ok-write.ensures.bytes
+    (on_more c.push_str-2.result (string_bytes c.write.new.self) (string_bytes c.write-2.new.self) (string_bytes c.push_str-2.new.self) _ _ c.in_ok-write-2.ensures.bytes
+    (on_pushed c.push_str-2.result (string_bytes c.write-2.new.self) (string_bytes c.push_str-2.new.self) _ c.push_str-2.ensures.bytes)))

@@ -1,0 +1,5 @@
+pub mod Layout
+pub mod Links
+pub mod Marks
+pub mod Picture
+pub mod Readings

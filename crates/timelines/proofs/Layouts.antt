@@ -1,12 +1,12 @@
 -- Rows and tracks, one more.
-use Rattle.std.proofs.Common.{◌≡◌, ℕ, suc, ◌+◌, ◌-◌, ◌*◌, ◌<◌, ◌≤◌, List, [], ◌∷◌, ◌++◌, length, map, drop, take, get_or, refl, sym, ap, ◌∙◌, arith, add-one, append_assoc, append-nil, drop-cons}
+use Rattle.std.proofs.Common.{◌≡◌, ℕ, suc, ◌+◌, ◌-◌, ◌*◌, ◌<◌, ◌≤◌, List, [], ◌∷◌, ◌++◌, length, map, drop, take, get_or, sym, ap, ◌∙◌, arith, add-one, append_assoc, append-nil, drop-cons}
 use Rattle.std.specs.Prelude.{max, slice_index}
 use Rattle.std.specs.List.{range_with_len}
 use Rattle.std.proofs.lemmas.List.{drop_all, take_all, length-drop}
 use Rattle.evt_types.specs.declared.step.Step.{Step}
 use Rattle.std.specs.declared.alloc.Global.{Global}
 use Rattle.std.specs.declared.vec.Vec.{Vec}
-use Rattle.timelines.specs.Layout.{bottom_from, crowd, end_at, flows_of, Frame, frame_of, height, meets, rows_from, unit_of}
+use Rattle.timelines.specs.Layout.{bottom_from, crowd, end_at, flows_of, Frame, frame_of, meets, rows_from, unit_of}
 use Rattle.timelines.specs.Links.{begun, ends, rows, spots}
 use Rattle.timelines.specs.declared.layout.Row.{Row}
 use Rattle.timelines.specs.declared.links.Spot.{Spot}

@@ -1,16 +1,15 @@
 -- What is known of the steps read is what the log says, one step more.
-use Rattle.std.proofs.Common.{◌≡◌, ◌≢◌, ℕ, zero, suc, ◌+◌, ◌<◌, ◌≤◌, List, [], ◌∷◌, ◌++◌, length, map, set, get_or, take, replicate, Option, Some, None, slice_get, slice_index, cond, ⊎_elim, refl, sym, ap, ◌∙◌, subst, arith, append-nil, length-set, ◌-◌}
+use Rattle.std.proofs.Common.{◌≡◌, ◌≢◌, ℕ, zero, suc, ◌+◌, ◌<◌, ◌≤◌, List, [], ◌∷◌, ◌++◌, length, map, set, get_or, replicate, Option, Some, None, slice_get, slice_index, cond, ⊎_elim, refl, sym, ap, ◌∙◌, subst, arith, append-nil, length-set, ◌-◌}
 use Rattle.std.specs.List.{cons_option, range_with_len}
-use Rattle.std.specs.Prelude.{slice_index_or, filter_map, All}
+use Rattle.std.specs.Prelude.{slice_index_or, filter_map}
 use Rattle.std.proofs.lemmas.Bool.{cases_eq}
 use Rattle.std.proofs.lemmas.Option.{none-some, same_Some}
-use Rattle.std.proofs.lemmas.List.{length_push, length-map, map-append, map-set, replicate_more, get_or-set_same, get_or-set_other, get_or_push, get_or-replicate, get_or_past, length-replicate, ext_get_or}
+use Rattle.std.proofs.lemmas.List.{length_push, length-map, map-append, map-set, replicate_more, get_or-set_same, get_or-set_other, get_or_push, get_or-replicate, length-replicate, ext_get_or}
 use Rattle.std.proofs.lemmas.List.FromFn.{length-map-range_with_len, get_or-map-range_with_len}
 use Rattle.lists.proofs.Lists.{eqb_same, eqb_other, with_past-push}
 use Rattle.lists.specs.Lists.{with_past}
 use Rattle.transcripts.proofs.Pushes.{answer_of-same, answer_of-other, answers-some, answers-none}
 use Rattle.transcripts.specs.Transcript.{answer_of, answers}
-use Rattle.evt_types.specs.declared.step.Outcome.{Outcome}
 use Rattle.evt_types.specs.declared.step.Source.TheVariants.{New, Of}
 use Rattle.evt_types.specs.declared.step.Step.{Step}
 use Rattle.evt_types.specs.declared.step.Step.TheVariants.{Accept, Give, Done, More, Turned, Bounced, Shut}
@@ -19,7 +18,6 @@ use Rattle.std.specs.declared.vec.Vec.{Vec}
 use Rattle.timelines.specs.Links.{begins, begun, begun_in, closed_by, ender_in, enders, ends, if_row, IsPlaced, last_or, origin, origin_by, place_by, row, rows, some_spot, spot, spots}
 use Rattle.timelines.specs.Readings.{answer_more, begin_more, close_at, HasSizes, IsNew, IsNext, origin_in, spot_in}
 use Rattle.timelines.specs.declared.links.Links.{Links}
-use Rattle.timelines.specs.declared.links.Spot.{Spot}
 
 -- ---- lists in a list
 

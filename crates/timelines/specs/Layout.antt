@@ -1,5 +1,5 @@
 -- Where a picture's marks stand: rows, tracks in them, flows and their colours, and how wide a step is.
-use Rattle.std.specs.Prelude.{ℕ, ◌+◌, ◌-◌, ◌*◌, ◌/◌, ◌%◌, List, [], ◌∷◌, ◌++◌, ◌==◌, ◌&&◌, nat_lt, min, max, length, map, take, fold, count_by, slice_index_or, Option, Some, None, if◌then◌else◌}
+use Rattle.std.specs.Prelude.{ℕ, ◌+◌, ◌*◌, ◌/◌, ◌%◌, List, [], ◌∷◌, ◌++◌, ◌==◌, ◌&&◌, nat_lt, min, max, length, map, take, fold, count_by, slice_index_or, None, if◌then◌else◌}
 use Rattle.std.specs.List.{range_with_len}
 use Rattle.evt_types.specs.declared.step.Step.{Step}
 use Rattle.evt_types.specs.declared.step.Step.TheVariants.{Accept, Give, Done, More, Turned, Bounced, Shut}

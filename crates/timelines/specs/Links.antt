@@ -1,5 +1,5 @@
 -- Which steps of a log belong together: the step that a step goes back to, and the step that ends its bar.
-use Rattle.std.specs.Prelude.{ℕ, ◌<◌, ◌+◌, ◌-◌, List, [], ◌∷◌, ◌==◌, length, map, slice_get, slice_index_or, Option, Some, None, if◌then◌else◌}
+use Rattle.std.specs.Prelude.{ℕ, ◌<◌, ◌+◌, ◌-◌, List, [], ◌==◌, length, map, slice_get, slice_index_or, Option, Some, None, if◌then◌else◌}
 use Rattle.std.specs.List.{range_with_len}
 use Rattle.lists.specs.Lists.{with_past}
 use Rattle.transcripts.specs.Transcript.{answers}

@@ -1,9 +1,7 @@
 -- The marks of a picture, one for each step of a log: what its title says and what is drawn.
-use Rattle.std.specs.Prelude.{ℕ, ◌+◌, ◌-◌, ◌*◌, ◌≤◌, Bool, true, false, not, ◌&&◌, ◌==◌, nat_lt, nat_le, List, [], ◌∷◌, ◌++◌, length, map, codes, decimal, slice_get, slice_index_or, Option, Some, None, if◌then◌else◌}
-use Rattle.std.specs.List.{range_with_len}
+use Rattle.std.specs.Prelude.{ℕ, ◌+◌, ◌-◌, ◌*◌, Bool, true, false, not, ◌&&◌, ◌==◌, nat_lt, nat_le, List, [], ◌++◌, length, codes, decimal, slice_get, slice_index_or, Option, Some, None, if◌then◌else◌}
 use Rattle.evt_types.specs.Plan.{is_atomic, queue_in}
 use Rattle.evt_types.specs.declared.draft.QueueDraft.{QueueDraft}
-use Rattle.evt_types.specs.declared.event.Event.{Event}
 use Rattle.evt_types.specs.declared.step.Outcome.{Outcome}
 use Rattle.evt_types.specs.declared.step.Outcome.TheVariants.{Forwarded, Released}
 use Rattle.evt_types.specs.declared.step.Source.{Source}

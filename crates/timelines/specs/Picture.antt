@@ -1,5 +1,5 @@
 -- The whole picture of a log, byte by byte: a head, the marks in the order of the steps, and a foot.
-use Rattle.std.specs.Prelude.{ℕ, ◌+◌, ◌-◌, ◌*◌, ◌/◌, ◌==◌, nat_lt, max, List, [], ◌∷◌, ◌++◌, length, map, flat_map, codes, decimal, slice_index, if◌then◌else◌}
+use Rattle.std.specs.Prelude.{ℕ, ◌+◌, ◌-◌, ◌*◌, ◌/◌, ◌==◌, nat_lt, max, List, [], ◌++◌, length, map, flat_map, codes, decimal, slice_index, if◌then◌else◌}
 use Rattle.std.specs.List.{range_with_len}
 use Rattle.evt_types.specs.Plan.{queue_in}
 use Rattle.evt_types.specs.declared.draft.QueueDraft.{QueueDraft}

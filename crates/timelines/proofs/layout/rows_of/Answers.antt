@@ -1,5 +1,4 @@
-use Rattle.std.proofs.Common.{arith, length}
-use Rattle.timelines.proofs.Layouts.{rows_more, bottom_more, rows_end, bottom_end}
+use Rattle.timelines.proofs.Layouts.{rows_end, bottom_end}
 use Rattle.timelines.proofs.layout.rows_of.Goals as goal
 
 pub returns-clause-rows : goal.returns-clause-rows

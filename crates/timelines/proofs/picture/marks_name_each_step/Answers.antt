@@ -1,6 +1,4 @@
-use Rattle.std.proofs.Common.{◌≡◌, ℕ, length, refl}
-use Rattle.std.specs.Prelude.{slice_index_or}
-use Rattle.evt_types.specs.declared.step.Step.TheVariants.{Shut}
+use Rattle.std.proofs.Common.{length, refl}
 use Rattle.timelines.proofs.Texts.{map_same}
 use Rattle.timelines.specs.Layout.{frame_of}
 use Rattle.timelines.specs.Marks.{mark_at, mark_of}

@@ -1,7 +1,6 @@
 use Rattle.std.proofs.Common.{◌≡◌, ◌*◌, ◌++◌, ℕ, subst}
 use Rattle.std.specs.Prelude.{OnOk, codes, decimal, string_bytes}
 use Rattle.timelines.proofs.Texts.{on_more}
-use Rattle.timelines.specs.Layout.{frame_in}
 use Rattle.timelines.specs.Picture.{line_at}
 use Rattle.timelines.proofs.layout.Sheet.write_line_at.Goals as goal
 

@@ -1,5 +1,5 @@
 use Rattle.std.proofs.Common.{◌≡◌, ◌++◌, length, sym, ap, ◌∙◌, arith}
-use Rattle.std.specs.Prelude.{flat_map, map, slice_index_or, string_bytes}
+use Rattle.std.specs.Prelude.{flat_map, slice_index_or, string_bytes}
 use Rattle.std.specs.List.{range_with_len}
 use Rattle.std.proofs.lemmas.List.{get_or_default}
 use Rattle.std.proofs.lemmas.List.Folds.{flat_map-map}

@@ -1,7 +1,6 @@
 use Rattle.std.proofs.Common.{◌≡◌, ◌+◌, ◌++◌, ℕ, length, subst}
 use Rattle.std.specs.Prelude.{OnOk, codes, decimal, string_bytes}
 use Rattle.timelines.proofs.Texts.{on_more, on_pushed}
-use Rattle.timelines.specs.Layout.{frame_in, row_at}
 use Rattle.timelines.specs.Picture.{row_name, row_start, row_text}
 use Rattle.timelines.specs.declared.layout.Row.{Row}
 use Rattle.timelines.proofs.layout.Sheet.write_row.Goals as goal

@@ -1,7 +1,7 @@
 use Rattle.std.proofs.Common.{◌≡◌, ◌+◌, ◌∷◌, ◌++◌, [], length, take, sym, ap, ◌∙◌, subst}
 use Rattle.std.proofs.lemmas.List.{take_all, take_more}
 use Rattle.std.proofs.lemmas.List.Elements.{All-get_or}
-use Rattle.timelines.proofs.Readings.{Follows, follows_begun, follows_count, follows_counted, follows_ends, follows_none, follows_step}
+use Rattle.timelines.proofs.Readings.{Follows, follows_begun, follows_counted, follows_ends, follows_none, follows_step}
 use Rattle.timelines.specs.Links.{IsPlaced}
 use Rattle.timelines.proofs.links.Links.of.Goals as goal
 

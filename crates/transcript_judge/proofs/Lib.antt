@@ -1,0 +1,5 @@
+pub mod Breaches
+pub mod Fronts
+pub mod PassedOver
+pub mod Tested
+pub mod Verdicts

@@ -1,5 +1,13 @@
 pub mod Breaches
+pub mod Cuts
+pub mod Faults
+pub mod Forms
 pub mod Fronts
+pub mod Moves
 pub mod PassedOver
+pub mod Passed
+pub mod Readings
+pub mod RowLists
 pub mod Tested
 pub mod Verdicts
+pub mod Walks

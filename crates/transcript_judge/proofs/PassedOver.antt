@@ -98,7 +98,7 @@ stuck_stays p (s ∷ U) P q m n ordered all h =
     (stuck_stays p U (P ++ s ∷ []) q m n ordered all.1 (stuck_step p P s q m n ordered all.0 h))
 
 -- steps that are allowed one after another, in two parts
-two_parts : (p : Plan) (past S T : List Step) → AllowedAfter p past (S ++ T) → AllowedAfter p past S × AllowedAfter p (past ++ S) T
+pub two_parts : (p : Plan) (past S T : List Step) → AllowedAfter p past (S ++ T) → AllowedAfter p past S × AllowedAfter p (past ++ S) T
 two_parts p past [] T all = (tt, subst (λ P. AllowedAfter p P T) (sym (append-nil past)) all)
 two_parts p past (s ∷ S) T all =
     let rest = two_parts p (past ++ s ∷ []) S T all.1 in

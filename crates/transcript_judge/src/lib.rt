@@ -2,10 +2,18 @@
 //! first broke which promise. What it tells is what the definitions say, whatever the device.
 #![tactic(auto)]
 
+mod formed;
+mod judging;
 mod laws;
+mod ledger;
+mod nested;
+mod reading;
 mod rows;
+mod scans;
+mod spot;
 mod verdict;
 
+pub use judging::judge;
 pub use laws::{broken_clauses_stay_broken, fronts_are_closed, verdicts_are_one};
 pub use rows::{broken_rows, unbroken_rows};
 pub use verdict::{Clause, Verdict};

@@ -151,7 +151,7 @@ bar_text look flow x y width =
     look_text look ++ (decimal flow ++ (codes "' x='" ++ (decimal x ++ (codes "' y='" ++ (decimal y ++ (codes "' width='" ++ (decimal width ++ codes "' height='12' rx='2'/>")))))))
 
 abbrev pub label_start : ℕ → ℕ → List ℕ
-label_start x y = codes "<text class='n' x='" ++ decimal (x + 4) ++ codes "' y='" ++ decimal (y + 10) ++ codes "'>"
+label_start x y = codes "<text class='n' x='" ++ decimal (x + 5) ++ codes "' y='" ++ decimal (y + 9) ++ codes "'>"
 
 unfoldable pub number_label : ℕ → ℕ → ℕ → List ℕ
 number_label x y n = label_start x y ++ codes "#" ++ decimal n ++ codes "</text>"

@@ -28,8 +28,8 @@ opening steps width height =
 -- how what is drawn looks
 unfoldable pub shapes_style : List ℕ
 shapes_style =
-    codes "<style>\ntext{fill:#1d2126}.a{fill:#5a626c;font-size:10px}.n{font-size:10px}.b{fill:#fff}.q{fill:#eef2f7}.l{fill:#f8f8f4}\n"
-    ++ (codes ".w{fill-opacity:.3;stroke-width:1.5}.p{stroke-width:2.5}.g{stroke:#d5d9df}.s{fill:#1d2126}\n"
+    codes "<style>\ntext{fill:#1d2126}.a{fill:#5a626c;font-size:10px}.n{font-size:9px}.b{fill:#fff}.q{fill:#eef2f7}.l{fill:#f8f8f4}\n"
+    ++ (codes ".w{fill-opacity:.3;stroke-width:1.5}.p{stroke-width:2}.g{stroke:#d5d9df}.s{fill:#1d2126}\n"
     ++ (codes ".t{fill:none;stroke:#1d2126;stroke-width:2}.e{stroke:#1d2126;stroke-width:2;stroke-dasharray:2 3}\n"
     ++ codes ".o{stroke:#7a828c}.k{fill:#fff;stroke:#a0005a;stroke-width:2}.d{stroke:#a0005a;stroke-width:2.5;stroke-dasharray:5 3}\n"))
 

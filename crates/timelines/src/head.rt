@@ -37,10 +37,10 @@ fn write_shapes_style(out: &mut String) -> Result<(), AllocError>
     ensures { OnOk result (string_bytes out.new ≡ string_bytes out.old ++ pictures.shapes_style) }
 {
     out.push_str(
-        "<style>\ntext{fill:#1d2126}.a{fill:#5a626c;font-size:10px}.n{font-size:10px}.b{fill:#fff}.q{fill:#eef2f7}.l{fill:#f8f8f4}\n",
+        "<style>\ntext{fill:#1d2126}.a{fill:#5a626c;font-size:10px}.n{font-size:9px}.b{fill:#fff}.q{fill:#eef2f7}.l{fill:#f8f8f4}\n",
     )?;
     out.push_str(
-        ".w{fill-opacity:.3;stroke-width:1.5}.p{stroke-width:2.5}.g{stroke:#d5d9df}.s{fill:#1d2126}\n",
+        ".w{fill-opacity:.3;stroke-width:1.5}.p{stroke-width:2}.g{stroke:#d5d9df}.s{fill:#1d2126}\n",
     )?;
     out.push_str(
         ".t{fill:none;stroke:#1d2126;stroke-width:2}.e{stroke:#1d2126;stroke-width:2;stroke-dasharray:2 3}\n",

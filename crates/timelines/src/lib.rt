@@ -9,4 +9,4 @@ mod picture;
 mod signs;
 mod titles;
 
-pub use picture::{marks_name_each_step, timeline};
+pub use picture::{are_placed, marks_name_each_step, timeline};

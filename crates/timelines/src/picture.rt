@@ -1,6 +1,6 @@
 //! The whole picture.
 
-ghost use Rattle.std.specs.Prelude.{◌≡◌, ℕ, ◌+◌, ◌++◌, ◌<◌, ◌^◌, List, OnOk, IfOk, All, string_bytes, length, map, flat_map};
+ghost use Rattle.std.specs.Prelude.{◌≡◌, ◌↔◌, ℕ, ◌+◌, ◌++◌, ◌<◌, ◌^◌, true, List, OnOk, IfOk, All, string_bytes, length, map, flat_map};
 ghost use Rattle.std.specs.List.{range_with_len};
 ghost use Rattle.evt_types.specs.declared.draft.QueueDraft.{QueueDraft as QueueValue};
 ghost use Rattle.evt_types.specs.declared.step.Step.{Step as StepValue};
@@ -32,6 +32,33 @@ impl Sheet {
         }
         Ok(())
     }
+}
+
+/// Whether the queue and the lane that the step names are there.
+fn is_placed(queues: usize, lanes: usize, step: &Step) -> bool
+    ensures { (result ≡ true) ↔ IsPlaced queues lanes step.now }
+{
+    match step {
+        Step::Accept { queue, .. } => *queue < queues,
+        Step::Give { lane, .. } => *lane < lanes,
+        Step::Done { lane, .. } => *lane < lanes,
+        Step::More { lane, .. } => *lane < lanes,
+        Step::Turned { lane, .. } => *lane < lanes,
+        Step::Bounced { lane } => *lane < lanes,
+        Step::Shut => true,
+    }
+}
+
+/// Whether the queues and the lanes that a log names are there, which a picture of it needs.
+pub fn are_placed(queues: usize, lanes: usize, log: &[Step]) -> bool
+    ensures { (result ≡ true) ↔ All (IsPlaced queues lanes) log.now }
+{
+    for step in log {
+        if !is_placed(queues, lanes, step) {
+            return false;
+        }
+    }
+    true
 }
 
 /// The picture, in SVG, of a log of a device with these queues and so many lanes: a mark for each step, with a title that says which

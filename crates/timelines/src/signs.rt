@@ -49,7 +49,7 @@ fn write_label_start(x: u128, y: u64, out: &mut String) -> Result<(), AllocError
     requires top { y < 2 ^ 40 }
     ensures { OnOk result (string_bytes out.new ≡ string_bytes out.old ++ marks.label_start x y) }
 {
-    let (left, base) = (x + 4, y + 10);
+    let (left, base) = (x + 5, y + 9);
     write!(out, "<text class='n' x='{left}' y='{base}'>")
 }
 

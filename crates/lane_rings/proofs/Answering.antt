@@ -1,14 +1,17 @@
 -- Several deliveries are answered in a row, and the holder's end after each of the answers, as a value.
-use Rattle.std.proofs.Common.{◌≡◌, ◌∙◌, ◌+◌, ◌<◌, ◌≤◌, ℕ, suc, true, cond, All, List, [], ◌∷◌, ◌++◌, length, length-drop, drop, map, append_assoc, append-nil, refl, sym, ap, subst, arith}
+use Rattle.std.proofs.Common.{◌≡◌, ◌∙◌, ◌+◌, ◌<◌, ◌≤◌, ℕ, suc, true, false, cond, All, List, [], ◌∷◌, ◌++◌, length, length-drop, drop, map, append_assoc, append-nil, refl, sym, ap, subst, arith}
 use Rattle.std.proofs.lemmas.Grind.{common_steps}
 use Rattle.std.proofs.lemmas.List.{drop-drop, length_push}
 use Rattle.std.proofs.lemmas.List.Elements.{All-cons, All-nil}
 use Rattle.std.proofs.lemmas.List.Sums.{sum_by-append, sum_by-cons}
-use Rattle.evt_types.proofs.Additions.{answers_add_none, beside-other, extras-answer}
+use Rattle.std.proofs.lemmas.Bool.{false≢true}
+use Rattle.evt_types.proofs.Additions.{answers_add_none, beside-append, beside-other, extras-answer, extras-other}
 use Rattle.evt_types.specs.Additions.{AreBeside, extras_of}
 use Rattle.evt_types.specs.Event.{pair_of}
-use Rattle.evt_types.specs.Operation.{is_answer}
+use Rattle.evt_types.specs.Operation.{is_answer, is_answer_op, is_more_op, is_new_op}
 use Rattle.evt_types.specs.declared.event.Event.{Event}
+use Rattle.evt_types.specs.declared.event.Op.{Op}
+use Rattle.evt_types.specs.declared.event.Op.TheVariants as ops
 use Rattle.evt_types.specs.declared.event.Reply.{Reply}
 use Rattle.lane_rings.specs.Ends.{answered, answers_among, received_by, room_left, unanswered}
 use Rattle.lane_rings.specs.Identity.{far_id}
@@ -80,6 +83,35 @@ module _ (f : Far) (es : List Event) (o : Outlet Reply) (h : Held) (all : AllAns
     extras_are = sym (ap extras_of put ∙ extras_row (answered f) es some all);
     extras_few = omega arith;
     beside = subst (AreBeside (length (received_by f))) (sym put) (beside_row (length (received_by f)) (answered f) es all f.beside);
+  }
+
+-- a NEW answers nothing and adds nothing
+pub no_answer : (o : Op) → is_new_op o ≡ true → (is_answer_op o ≡ false) × (is_more_op o ≡ false)
+no_answer ops.New new = (refl, refl)
+no_answer ops.Forward new = absurd (false≢true new)
+no_answer ops.Release new = absurd (false≢true new)
+no_answer ops.ForwardMore new = absurd (false≢true new)
+
+-- the end after a NEW, where it went into the outlet
+module _ (f : Far) (e : Event) (o : Outlet Reply) (new : is_new_op e.op ≡ true) (put : put_in o ≡ answered f ++ reply_of e ∷ []) where
+  pub same_answers : answers_among (put_in o) ≡ answers_among (answered f)
+  same_answers =
+      omega (arith, ap answers_among put, sum_by-append (λ (x : Reply). cond (is_answer x) 1 0) (answered f) (reply_of e ∷ []), sum_by-cons (λ (x : Reply). cond (is_answer x) 1 0) (reply_of e) [], ap {B = ℕ} (λ b. cond b 1 0) (no_answer e.op new).0)
+
+  abbrev pub after_new : Far
+  after_new = record {
+    deliveries = f.deliveries;
+    replies = o;
+    held = f.held;
+    extras = f.extras;
+    held_is = omega (arith, same_answers, f.held_is);
+    held_are = f.held_are ∙ ap (λ n. map pair_of (drop n (received_by f))) (sym same_answers);
+    held_few = f.held_few;
+    held_room = f.held_room;
+    all_received = f.all_received;
+    extras_are = f.extras_are ∙ sym (ap extras_of put ∙ extras-other (answered f) (reply_of e) (no_answer e.op new).0 (no_answer e.op new).1);
+    extras_few = f.extras_few;
+    beside = subst (AreBeside (length (received_by f))) (sym put) (beside-append (length (received_by f)) (answered f) (reply_of e) f.beside (λ adds. absurd (false≢true (sym (no_answer e.op new).1 ∙ adds))));
   }
 
 -- one reply more is gathered, for which there is room

@@ -104,7 +104,7 @@ fn hand_first(from: &mut Intake<Delivery>, held: &mut HeldPairs, into: &mut Arra
 impl Far {
     ghost use Rattle.std.specs.Prelude.{◌≡◌, ◌≢◌, ◌<◌, ◌≤◌, ◌↔◌, ◌+◌, true, false, List, [], ◌∷◌, ◌++◌, All, length, drop, map, slice_get, IsTrue, IsFalse, OnOk, IfOk, IfErr, IfNone, MatchOption, MatchResult};
     ghost use Rattle.evt_types.specs.Additions.{more_after};
-    ghost use Rattle.evt_types.specs.Operation.{is_answer, is_more_reply, needs_held};
+    ghost use Rattle.evt_types.specs.Operation.{is_answer, is_more_reply, is_new_reply, needs_held};
     ghost use mathlib.Core.List.{IsPrefix};
     ghost use Rattle.evt_types.specs.declared.event.Event.{Event as EventValue};
     ghost use Rattle.lane_rings.specs.Ends.{received_by, seen_deliveries, next_delivery, answered, hidden_answers, answers_among, unanswered, held_list, room_left, Comes};
@@ -311,6 +311,20 @@ impl Far {
         self.replies.gather_row(events);
         self.held.skip(events.len());
         self.extras = 0;
+    }
+
+    /// As `stage`, of a NEW for which there is room.
+    #[inline(always)]
+    pub fn stage_new(&mut self, event: &PackedEvent)
+        requires new { is_new_reply (reply_of event.now) ≡ true }
+        requires room { 0 < room_left self.old }
+        ensures lane { far_id self.new ≡ far_id self.old }
+        ensures received { (received_by self.new ≡ received_by self.old) × (seen_deliveries self.new ≡ seen_deliveries self.old) }
+        ensures answered { answered self.new ≡ answered self.old ++ reply_of event.now ∷ [] }
+        ensures held { unanswered self.new ≡ unanswered self.old }
+        ensures room { room_left self.new + 1 ≡ room_left self.old }
+    {
+        self.replies.gather(Reply { event: *event });
     }
 
     // How many of the deliveries that are held the event's reply answers, and how many events are beside the oldest once it is given; or

@@ -19,7 +19,7 @@ pub(crate) struct Outlet<T> {
 }
 
 impl<T: Copy> Outlet<T> {
-    ghost use Rattle.std.specs.Prelude.{◌≡◌, ◌<◌, ◌≤◌, ◌↔◌, [], ◌∷◌, ◌++◌, length, IfOk, IsTrue, IsFalse};
+    ghost use Rattle.std.specs.Prelude.{◌≡◌, ◌+◌, ◌<◌, ◌≤◌, ◌↔◌, [], ◌∷◌, ◌++◌, length, IfOk, IsTrue, IsFalse};
     ghost use Rattle.rtrb.specs.Ring.{sent, producer_capacity, SameProducer};
     ghost use Rattle.lane_rings.specs.Outlets.{put_in, kept_back, room_of};
 
@@ -57,6 +57,7 @@ impl<T: Copy> Outlet<T> {
         requires { length self.old.batch.items < self.old.free }
         ensures ring { SameProducer self.old.ring self.new.ring }
         ensures put { put_in self.new ≡ put_in self.old ++ item ∷ [] }
+        ensures room { room_of self.new + 1 ≡ room_of self.old }
     {
         self.batch.push_reserved(item);
     }

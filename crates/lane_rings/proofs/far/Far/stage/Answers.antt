@@ -14,6 +14,8 @@ use Rattle.lane_rings.specs.Ends.{answered, answers_among, received_by}
 use Rattle.lane_rings.specs.HeldPairs.{Held}
 use Rattle.lane_rings.specs.Outlets.{put_in}
 use Rattle.lane_rings.specs.Refusal.{reply_of}
+use Rattle.lane_rings.specs.declared.far.Far.{Far}
+use Rattle.lane_rings.proofs.Answering.{after_new}
 use Rattle.lane_rings.proofs.HeldPairs.{answered_held}
 use Rattle.lane_rings.proofs.far.Far.stage.Goals as goal
 
@@ -46,36 +48,19 @@ invariant_of-self-2-clause-beside c =
     (beside-append received (answered c.args.self.now) (reply_of c.args.event.now) c.args.self.now.beside
     (λ adds. (omega (arith, (c.in_ok-ended.ensures.may_add adds).0, c.args.self.now.held_is), omega (arith, (c.in_ok-ended.ensures.may_add adds).1, c.args.self.now.extras_are))))
 
--- a NEW answers nothing and adds nothing
-no_answer : (e : Event) → is_new_op e.op ≡ true → (is_answer (reply_of e) ≡ false) × (is_more_reply (reply_of e) ≡ false)
-no_answer e new = by_op e.op new
-  where
-    by_op : (o : Op) → is_new_op o ≡ true → (is_answer_op o ≡ false) × (is_more_op o ≡ false)
-    by_op ops.New new = (refl, refl)
-    by_op ops.Forward new = absurd (false≢true new)
-    by_op ops.Release new = absurd (false≢true new)
-    by_op ops.ForwardMore new = absurd (false≢true new)
-
-none_among : (r : Reply) → is_answer r ≡ false → answers_among (r ∷ []) ≡ 0
-none_among r none = ap (λ b. 0 + cond b 1 0) none
-
 pub invariant_of-self-then-is_new : goal.invariant_of-self-then-is_new
 invariant_of-self-then-is_new c =
-    let old = c.args.self.now in
-    let reply : Reply = reply_of c.args.event.now in
-    let none = no_answer c.args.event.now (sym c.is_new-is_new.ensures ∙ c.if-is_new.true) in
-    let put : put_in c.gather.new.self ≡ answered old ++ reply ∷ [] = c.gather.ensures.put ∙ ap (λ (rs : List Reply). rs ++ reply ∷ []) c.has_room.ensures.put in
-    let count : answers_among (put_in c.gather.new.self) ≡ answers_among (answered old) + answers_among (reply ∷ []) = ap answers_among put ∙ sum_by-append (λ x. cond (is_answer x) 1 0) (answered old) (reply ∷ []) in
-    let same : answers_among (put_in c.gather.new.self) ≡ answers_among (answered old) = omega (arith, count, none_among reply none.0) in
+    let put : put_in c.gather.new.self ≡ answered c.args.self.now ++ reply_of c.args.event.now ∷ [] = c.gather.ensures.put ∙ ap (λ (rs : List Reply). rs ++ reply_of c.args.event.now ∷ []) c.has_room.ensures.put in
+    let far : Far = after_new c.args.self.now c.args.event.now c.gather.new.self (sym c.is_new-is_new.ensures ∙ c.if-is_new.true) put in
     record {
-      held_is = omega (arith, same, old.held_is);
-      held_are = old.held_are ∙ ap (λ n. map pair_of (drop n (received_by old))) (sym same);
-      held_few = old.held_few;
-      held_room = old.held_room;
-      all_received = old.all_received;
-      extras_are = old.extras_are ∙ sym (ap extras_of put ∙ extras-other (answered old) reply none.0 none.1);
-      extras_few = old.extras_few;
-      beside = subst (AreBeside (length (received_by old))) (sym put) (beside-append (length (received_by old)) (answered old) reply old.beside (λ adds. absurd (false≢true (sym none.1 ∙ adds))));
+      held_is = far.held_is;
+      held_are = far.held_are;
+      held_few = far.held_few;
+      held_room = far.held_room;
+      all_received = far.all_received;
+      extras_are = far.extras_are;
+      extras_few = far.extras_few;
+      beside = far.beside;
     }
 
 pub returns-clause-nothing_held : goal.returns-clause-nothing_held

@@ -1,13 +1,15 @@
 -- A chain of single calls: what it says in all, and how it goes on.
-use Rattle.std.proofs.Common.{◌≡◌, ℕ, zero, suc, ◌+◌, ◌-◌, ◌≤◌, List, [], ◌∷◌, ◌++◌, Some, slice_get, length, length-drop, take, drop, refl, sym, ap, ◌∙◌, subst, arith}
+use Rattle.std.proofs.Common.{◌≡◌, ℕ, zero, suc, ◌+◌, ◌-◌, ◌<◌, ◌≤◌, List, [], ◌∷◌, ◌++◌, Option, Some, None, slice_get, length, length-drop, take, drop, refl, sym, ap, ◌∙◌, subst, arith}
 use Rattle.std.proofs.Math.Seq.{take-add}
 use Rattle.std.proofs.lemmas.Grind.{common_steps}
 use Rattle.std.proofs.lemmas.List.{drop-drop}
 use Rattle.std.proofs.lemmas.List.Elements.{All-cons, All-nil}
+use Rattle.std.proofs.lemmas.Option.{slice_get_within}
 use Rattle.evt_types.specs.declared.event.Event.{Event}
 use Rattle.credit_pool.specs.Accounts.{Stays}
 use Rattle.event_ports.specs.declared.desk.Desk.{Desk}
-use Rattle.event_ports.specs.Desks.{DeskSite, own_site, account_of, hand, Enqueues, EnqueuesAll}
+use Rattle.event_answers.specs.declared.answer.Refused.{Refused}
+use Rattle.event_ports.specs.Desks.{DeskSite, own_site, account_of, hand, Enqueues, EnqueuesAll, Gathers, GathersUpTo, StopsAt}
 use Rattle.event_ports.specs.Lanes.{Hand, Rests, SubmitsAll}
 use Rattle.event_ports.specs.Queues.{AllNameQueues, NamesQueue}
 use Rattle.event_ports.proofs.Bursts.{chain_taken, rests_same}
@@ -90,3 +92,60 @@ module _ (es others rest : List Event) (m : ℕ) (left : IsLeft es others) (with
 -- all was taken where nothing is left
 pub all_chained : (es rest : List Event) (p q : Desk) → length rest ≡ 0 → EnqueuesAll (take (length es - length rest) es) p q → EnqueuesAll (take (length es) es) p q
 all_chained es rest p q none chain = subst (λ n. EnqueuesAll (take n es) p q) (omega (arith, none)) chain
+
+-- ---- events that were taken, and one that was refused
+
+get_behind : (n i : ℕ) (es : List Event) (e : Event) → slice_get (drop n es) i ≡ Some e → slice_get es (n + i) ≡ Some e
+get_behind zero i es e at =
+    let same : 0 + i ≡ i = omega arith in
+    ap (λ k. slice_get es k) same ∙ at
+get_behind (suc n) i [] e at = absurd (omega (arith, slice_get_within [] i e at))
+get_behind (suc n) i (x ∷ es) e at =
+    let one : suc n + i ≡ suc (n + i) = omega arith in
+    ap (λ k. slice_get (x ∷ es) k) one ∙ get_behind n i es e at
+
+module _ (es others rest : List Event) (m : ℕ) (left : IsLeft es others) (within : m ≤ length others) (is : rest ≡ drop m others) where
+  -- behind these a row was taken, and then it was refused
+  pub row_refused : (p q r : Desk) (x : Refused) → EnqueuesAll (take (length es - length others) es) p q → Gathers q others m (Some x) r → Gathers p es (length es - length rest) (Some x) r
+  row_refused p q r x chain row =
+      let n = length es - length others in
+      let so_many : n + m ≡ length es - length rest = omega (arith, left.within, within, ap length is, length-drop m others) in
+      let at : slice_get es (n + m) ≡ Some row.ends.0 = get_behind n m es row.ends.0 (sym (ap (λ (xs : List Event). slice_get xs m) left.last) ∙ row.ends.1) in
+      record {
+        between = row.between;
+        taken = row_chained es others rest m left within is p q row.between chain row.taken;
+        ends = (row.ends.0, subst (λ k. slice_get es k ≡ Some row.ends.0) so_many at, row.ends.2);
+      }
+
+-- where none was refused, these were taken
+pub gathered : (es : List Event) (n : ℕ) (o : Option Refused) (p q : Desk) → o ≡ None → Gathers p es n o q → EnqueuesAll (take n es) p q
+gathered es n o p q none g =
+    subst (λ (d : Desk). EnqueuesAll (take n es) p d) (sym (subst (λ (x : Option Refused). GathersUpTo x es n g.between q) none g.ends)) g.taken
+
+module _ (es : List Event) (n : ℕ) (x : Refused) (p q : Desk) (g : Gathers p es n (Some x) q) where
+  pub refused_site : own_site q ≡ own_site p
+  refused_site = g.ends.2.site ∙ chain_site (take n es) p g.between g.taken
+
+  pub refused_stays : Stays (account_of p) (account_of q)
+  refused_stays = stays_more (account_of p) (account_of g.between) (account_of q) (chain_stays (take n es) p g.between g.taken) g.ends.2.credit
+
+  pub refused_submits : SubmitsAll (take n es) (hand p) (hand q)
+  refused_submits = submits_rest (take n es) (hand p) (hand g.between) (hand q) (chain_submits (take n es) p g.between g.taken) g.ends.2.rests
+
+  pub refused_names : AllNameQueues (own_site p).queues (take n es)
+  refused_names = chain_names (take n es) p g.between g.taken
+
+  pub stops_at : StopsAt p es n x q
+  stops_at = record {
+    event = g.ends.0;
+    between = g.between;
+    is_next = g.ends.1;
+    site = chain_site (take n es) p g.between g.taken;
+    credit = chain_stays (take n es) p g.between g.taken;
+    submitted = chain_submits (take n es) p g.between g.taken;
+    there = refused_names;
+    refused = g.ends.2.why;
+  }
+
+  pub refused_within : n < length es
+  refused_within = slice_get_within es n g.ends.0 g.ends.1

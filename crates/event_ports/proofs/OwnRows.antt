@@ -1,5 +1,5 @@
 -- A row of FORWARDs and RELEASEs of what came from the own lane: the port after each of them, as a value, and so their chain of single calls.
-use Rattle.std.proofs.Common.{◌≡◌, ◌≢◌, ℕ, zero, suc, ◌+◌, ◌*◌, ◌%◌, ◌^◌, ◌<◌, ◌≤◌, ◌⊎◌, inl, inr, true, cond, All, List, [], ◌∷◌, ◌++◌, length, map, take, drop, Some, slice_get, Ok, refl, sym, ap, ◌∙◌, subst, arith, append_assoc, append-nil, get_or-take, length-take}
+use Rattle.std.proofs.Common.{◌≡◌, ◌≢◌, ℕ, zero, suc, ◌+◌, ◌*◌, ◌^◌, ◌<◌, ◌≤◌, ◌⊎◌, inl, inr, true, cond, All, List, [], ◌∷◌, ◌++◌, length, map, take, drop, Some, slice_get, Ok, refl, sym, ap, ◌∙◌, subst, arith, append_assoc, append-nil, get_or-take, length-take}
 use Rattle.std.proofs.lemmas.Grind.{common_steps}
 use Rattle.std.proofs.lemmas.List.{drop-drop}
 use Rattle.std.proofs.lemmas.List.Elements.{All-cons, All-nil, All-push}

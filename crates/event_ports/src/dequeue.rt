@@ -55,8 +55,11 @@ impl Desk {
             if others.is_empty() {
                 return (events.len(), None);
             }
-            let row = self.submit_row(event.op(), others);
+            let (row, refused) = self.submit_row(event.op(), others);
             rest = &others[row..];
+            if let Some(refused) = refused {
+                return (events.len() - rest.len(), Some(refused));
+            }
         }
         (events.len(), None)
     }

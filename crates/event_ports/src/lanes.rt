@@ -30,7 +30,7 @@ pub(crate) struct Lanes {
 }
 
 impl Lanes {
-    ghost use Rattle.std.specs.Prelude.{◌≡◌, ◌≢◌, ℕ, ◌<◌, ◌≤◌, [], ◌∷◌, All, true, length, map, take, count_by, Some, IfErr, MatchOption, MatchResult};
+    ghost use Rattle.std.specs.Prelude.{◌≡◌, ◌≢◌, ℕ, ◌+◌, ◌<◌, ◌≤◌, [], ◌∷◌, All, true, length, map, take, count_by, Some, IfErr, MatchOption, MatchResult};
     ghost use Rattle.evt_types.specs.Additions.{extras_of};
     ghost use Rattle.evt_types.specs.Operation.{costs_credit, is_answer, is_more_reply, is_new_reply};
     ghost use Rattle.evt_types.specs.declared.event.Op.TheVariants as ops;
@@ -103,6 +103,27 @@ impl Lanes {
             Op::New => self.own.stage(event),
             _ => self.add(event),
         }
+    }
+
+    /// How many NEWs more there is a free slot for, as far as that is known.
+    #[inline(always)]
+    pub(crate) fn known_room(&self) -> usize
+        ensures { result ≡ room_left self.now.own }
+    {
+        self.own.known_room()
+    }
+
+    /// As `submit`, of a NEW for which there is room.
+    #[inline(always)]
+    pub(crate) fn submit_new(&mut self, event: &PackedEvent)
+        requires new { event.now.op ≡ ops.New }
+        requires room { 0 < room_left self.old.own }
+        ensures site { lanes_site self.new ≡ lanes_site self.old }
+        ensures submitted { SubmitsTo (lane_for event.now.op (hand_of self.old).holding) (reply_of event.now) (hand_of self.old) (hand_of self.new) }
+        ensures counts { CountsOne (reply_of event.now) self.old self.new }
+        ensures room { room_left self.new.own + 1 ≡ room_left self.old.own }
+    {
+        self.own.stage_new(event);
     }
 
     // Adds an event beside the oldest delivery that is held.

@@ -5,6 +5,7 @@ ghost use Rattle.evt_types.specs.declared.event.Event.{Event as EventValue};
 ghost use Rattle.evt_types.specs.declared.event.Op.TheVariants as ops;
 
 use crate::desk::Desk;
+use event_answers::Refused;
 use evt_types::{Op, PackedEvent};
 
 /// How many of so many events are RELEASEs, before the first that isn't.
@@ -43,19 +44,47 @@ fn count_forwards(events: &[PackedEvent], most: usize, queues: usize) -> usize
 
 impl Desk {
     ghost use Rattle.std.specs.Prelude.{◌≤◌, length, take};
-    ghost use Rattle.event_ports.specs.Desks.{EnqueuesAll};
+    ghost use Rattle.event_ports.specs.Desks.{EnqueuesAll, Gathers};
 
-    // After an event of this operation was taken: submits the first of the events, as long as they make a row with it: how many.
+    // After an event of this operation was taken: submits the first of the events, as long as they make a row with it: how many, and
+    // why the next one was refused, where it was.
     #[inline(always)]
-    pub(crate) fn submit_row(&mut self, op: Op, events: &[PackedEvent]) -> usize
-        ensures within { result ≤ length events.now }
-        ensures taken { EnqueuesAll (take result events.now) self.old self.new }
+    pub(crate) fn submit_row(&mut self, op: Op, events: &[PackedEvent]) -> (usize, Option<Refused>)
+        ensures within { result.0 ≤ length events.now }
+        ensures chain { Gathers self.old events.now result.0 result.1 self.new }
     {
         match op {
-            Op::Release => self.submit_releases(events),
-            Op::Forward => self.submit_forwards(events),
-            Op::New | Op::ForwardMore => 0,
+            Op::New => self.submit_news(events),
+            Op::Forward => (self.submit_forwards(events), None),
+            Op::Release => (self.submit_releases(events), None),
+            Op::ForwardMore => (0, None),
         }
+    }
+
+    // Submits the first of the events, as long as they are NEWs to queues of the device, each after a look at the credits as `submit`
+    // has it. The others are left to `submit`, as soon as the pocket is empty or no free slot is known.
+    #[inline(always)]
+    fn submit_news(&mut self, events: &[PackedEvent]) -> (usize, Option<Refused>)
+        ensures within { result.0 ≤ length events.now }
+        ensures chain { Gathers self.old events.now result.0 result.1 self.new }
+    {
+        let known = self.lanes.known_room();
+        let most = events.len().min(self.pocket as usize).min(known);
+        for taken in 0..most {
+            let event = &events[taken];
+            let Op::New = event.op() else {
+                return (taken, None);
+            };
+            if usize::from(event.queue()) >= self.queues {
+                return (taken, None);
+            }
+            if self.shut_seen() {
+                return (taken, Some(Refused::Stopped));
+            }
+            self.lanes.submit_new(event);
+            self.pocket -= 1;
+        }
+        (most, None)
     }
 
     // Submits the first of the events, as long as they are RELEASEs of what came from the own lane: how many. The others are left to

@@ -1,10 +1,12 @@
 -- One event more was taken, and those that made a row with it, or it was refused.
-use Rattle.std.proofs.Common.{rules, ◌≡◌, ◌∙◌, ◌∷◌, ◌-◌, List, length, length-drop, drop, refl, take, arith}
+use Rattle.std.proofs.Common.{rules, ◌≡◌, ◌∙◌, ◌∷◌, ◌-◌, List, Option, Some, length, length-drop, drop, refl, subst, sym, take, arith}
+use Rattle.std.proofs.lemmas.Bool.{false≢true}
 use Rattle.std.proofs.lemmas.List.{take_all}
 use Rattle.evt_types.specs.declared.event.Event.{Event}
+use Rattle.event_answers.specs.declared.answer.Refused.{Refused}
 use Rattle.event_ports.proofs.Refusing.{same_refusal, stays_more}
-use Rattle.event_ports.specs.Desks.{account_of, hand, Enqueues, EnqueuesAll}
-use Rattle.event_ports.proofs.Chains.{IsLeft, all_chained, chain_names, chain_site, chain_stays, chain_submits, left_next, left_others, left_row, one_chained, row_chained, submits_rest}
+use Rattle.event_ports.specs.Desks.{account_of, hand, Enqueues, EnqueuesAll, Gathers}
+use Rattle.event_ports.proofs.Chains.{IsLeft, all_chained, chain_names, chain_site, chain_stays, chain_submits, gathered, left_next, left_others, left_row, one_chained, refused_names, refused_site, refused_stays, refused_submits, refused_within, row_chained, row_refused, stops_at, submits_rest}
 use Rattle.event_ports.proofs.desk.Desk.submit_packed.Goals as goal
 
 pub returns-in-Err-clause-site : goal.returns-in-Err-clause-site
@@ -152,6 +154,7 @@ pub loop-event-preserved : goal.loop-event-preserved
 loop-event-preserved c =
     let events = c.args.events.now in
     let others = c.in-Some.others.now in
+    let n = c.submit_row-row.result.0 in
     let first : c.loop-event.rest.now ≡ c.in-Some.event.now ∷ others = (search rules) in
     let one : Enqueues c.in-Some.event.now c.loop-event.self c.submit.new.self = record {
       site = c.submit.ensures.site;
@@ -164,10 +167,62 @@ loop-event-preserved c =
     let chain : EnqueuesAll (take (length events - length others) events) c.args.self.now c.submit.new.self =
     one_chained events c.loop-event.rest.now others c.in-Some.event.now c.loop-event.invariant.0 first c.args.self.now c.loop-event.self c.submit.new.self c.loop-event.invariant.1 one in
     let left : IsLeft events others = left_others events c.loop-event.rest.now others c.in-Some.event.now c.loop-event.invariant.0 first in
-    let rest = take_all (length others - c.submit_row-row.result) (drop c.submit_row-row.result others) (omega (arith, length-drop c.submit_row-row.result others)) in (
-      left_row events others _ c.submit_row-row.result left c.submit_row-row.ensures.within rest,
-      row_chained events others _ c.submit_row-row.result left c.submit_row-row.ensures.within rest c.args.self.now c.submit.new.self c.submit_row-row.new.self chain c.submit_row-row.ensures.taken,
+    let row : EnqueuesAll (take n others) c.submit.new.self c.submit_row-row.new.self =
+    gathered others n c.submit_row-row.result.1 c.submit.new.self c.submit_row-row.new.self c.in_default-refused.is c.submit_row-row.ensures.chain in
+    let rest = take_all (length others - n) (drop n others) (omega (arith, length-drop n others)) in (
+      left_row events others _ n left c.submit_row-row.ensures.within rest,
+      row_chained events others _ n left c.submit_row-row.ensures.within rest c.args.self.now c.submit.new.self c.submit_row-row.new.self chain row,
     )
+
+-- what was taken, and the event of a row that was refused
+stopped : (c : goal.In-Some-refused)
+    → Gathers c.args.self.now c.args.events.now
+    (length c.args.events.now - length (take (length c.in-Some.others.now - c.submit_row-row.result.0) (drop c.submit_row-row.result.0 c.in-Some.others.now)))
+    (Some c.in-Some-refused.refused) c.submit_row-row.new.self
+stopped c =
+    let events = c.args.events.now in
+    let others = c.in-Some.others.now in
+    let n = c.submit_row-row.result.0 in
+    let first : c.loop-event.rest.now ≡ c.in-Some.event.now ∷ others = (search rules) in
+    let one : Enqueues c.in-Some.event.now c.loop-event.self c.submit.new.self = record {
+      site = c.submit.ensures.site;
+      credit = c.submit.ensures.credit;
+      submitted = c.in_default-submit.ensures.submitted;
+      pays = c.in_default-submit.ensures.pays;
+      there = c.in_default-submit.ensures.there;
+      unshut = (search rules);
+    } in
+    let chain : EnqueuesAll (take (length events - length others) events) c.args.self.now c.submit.new.self =
+    one_chained events c.loop-event.rest.now others c.in-Some.event.now c.loop-event.invariant.0 first c.args.self.now c.loop-event.self c.submit.new.self c.loop-event.invariant.1 one in
+    let left : IsLeft events others = left_others events c.loop-event.rest.now others c.in-Some.event.now c.loop-event.invariant.0 first in
+    let row : Gathers c.submit.new.self others n (Some c.in-Some-refused.refused) c.submit_row-row.new.self =
+    subst (λ (o : Option Refused). Gathers c.submit.new.self others n o c.submit_row-row.new.self) c.in-Some-refused.is c.submit_row-row.ensures.chain in
+    let rest = take_all (length others - n) (drop n others) (omega (arith, length-drop n others)) in
+    row_refused events others _ n left c.submit_row-row.ensures.within rest c.args.self.now c.submit.new.self c.submit_row-row.new.self c.in-Some-refused.refused chain row
+
+pub returns-in-Some-refused-clause-site : goal.returns-in-Some-refused-clause-site
+returns-in-Some-refused-clause-site c = refused_site c.args.events.now _ _ c.args.self.now c.submit_row-row.new.self (stopped c)
+
+pub returns-in-Some-refused-clause-credit : goal.returns-in-Some-refused-clause-credit
+returns-in-Some-refused-clause-credit c = refused_stays c.args.events.now _ _ c.args.self.now c.submit_row-row.new.self (stopped c)
+
+pub returns-in-Some-refused-clause-all : goal.returns-in-Some-refused-clause-all
+returns-in-Some-refused-clause-all c = (
+  (λ none. absurd (false≢true (sym none))),
+  (λ all. absurd (omega (arith, all, refused_within c.args.events.now _ _ c.args.self.now c.submit_row-row.new.self (stopped c)))),
+)
+
+pub returns-in-Some-refused-clause-submitted : goal.returns-in-Some-refused-clause-submitted
+returns-in-Some-refused-clause-submitted c = refused_submits c.args.events.now _ _ c.args.self.now c.submit_row-row.new.self (stopped c)
+
+pub returns-in-Some-refused-clause-there : goal.returns-in-Some-refused-clause-there
+returns-in-Some-refused-clause-there c = refused_names c.args.events.now _ _ c.args.self.now c.submit_row-row.new.self (stopped c)
+
+pub returns-in-Some-refused-clause-refused : goal.returns-in-Some-refused-clause-refused
+returns-in-Some-refused-clause-refused c = stops_at c.args.events.now _ _ c.args.self.now c.submit_row-row.new.self (stopped c)
+
+pub returns-in-Some-refused-clause-chain : goal.returns-in-Some-refused-clause-chain
+returns-in-Some-refused-clause-chain c = stopped c
 
 pub returns-clause-site : goal.returns-clause-site
 returns-clause-site c =

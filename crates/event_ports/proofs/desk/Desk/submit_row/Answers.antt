@@ -1,0 +1,6 @@
+-- No row begins with a FORWARD_MORE.
+use Rattle.std.proofs.Common.{refl}
+use Rattle.event_ports.proofs.desk.Desk.submit_row.Goals as goal
+
+pub returns-in-ForwardMore-clause-chain : goal.returns-in-ForwardMore-clause-chain
+returns-in-ForwardMore-clause-chain c = record { between = c.args.self.now; taken = refl; ends = refl }

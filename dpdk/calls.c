@@ -39,6 +39,57 @@ static void test_refusals(void)
 	CHECK(d->flushed == 1 && d->sum == 5);
 }
 
+/* An op that DPDK doesn't have, by a port that holds an event, anywhere in a burst of any length. */
+static void test_ops(void)
+{
+	struct rte_event ev[80];
+	struct device *d = begin("event_evsched0", NULL, 1, 2, &(struct conf){.keeps = true});
+	uint16_t i, n, at;
+	event(&ev[0], NEW, 0, 1);
+	CHECK(put(d, 0, ev, 1) == 1);
+	sweep(d);
+	CHECK(get(d, 1, ev, 1) == 1);
+	for (i = 0; i < 80; i++)
+		event(&ev[i], NEW, 0, i);
+	for (n = 1; n <= 17; n += 4)
+		for (at = 0; at < n; at += 3) {
+			ev[at].op = 3;
+			CHECK(put(d, 1, ev, n) == at && rte_errno == EINVAL);
+			CHECK(by_name(d, "port_1_rx_ring_used") == at);
+			ev[at].op = NEW;
+			sweep(d);
+			while (get(d, 1, ev + 64, 16) > 0)
+				continue;
+		}
+	ev[40].op = 3;
+	CHECK(put(d, 1, ev, 80) == 40 && rte_errno == EINVAL && put(d, 1, ev, 0) == 0);
+	CHECK(by_name(d, "port_1_rx_ring_used") == 40);
+	end(d);
+}
+
+/* A port that isn't linked draws a quantum where it has no credit; one that is counts those of RELEASEs too. */
+static void test_credits(void)
+{
+	static const uint16_t bursts[] = {10, 6, 16, 1, 15, 5, 30, 64, 70};
+	struct rte_event ev[70];
+	struct device *d = begin("event_evsched0", "credit_quanta=16", 1, 2, &(struct conf){.limit = 1024});
+	uint64_t sent = 0;
+	size_t i;
+	for (i = 0; i < RTE_DIM(ev); i++)
+		event(&ev[i], NEW, 0, i);
+	for (i = 0; i < RTE_DIM(bursts); i++) {
+		sent += put(d, 0, ev, bursts[i]);
+		CHECK(by_name(d, "port_0_credits") == (16 - sent % 16) % 16);
+		while (by_name(d, "port_0_rx_ring_used") > 0)
+			sweep(d);
+		while (get(d, 1, ev, 64) > 0)
+			sweep(d);
+	}
+	CHECK(by_name(d, "port_0_rx") == sent && by_name(d, "port_1_cq_ring_used") == 0 && by_name(d, "port_1_tx") == sent);
+	CHECK(by_name(d, "port_1_credits") >= 16 && by_name(d, "port_1_credits") < 32);
+	end(d);
+}
+
 static void test_unheld(void)
 {
 	struct rte_event ev[8];
@@ -192,6 +243,8 @@ int main(int argc, char **argv)
 	if (rte_eal_init(argc, argv) < 0)
 		return 2;
 	test_refusals();
+	test_ops();
+	test_credits();
 	test_unheld();
 	test_drop();
 	test_links();

@@ -9,24 +9,32 @@ static_assert(sizeof(struct rte_event) == sizeof(struct evsched_event), "an even
 
 enum { OP_SHIFT = 32, OP_MASK = 3 };
 
-/* Whether an event may have an op that DPDK doesn't have: one that is both FORWARD and RELEASE. A burst of both kinds may, too. */
-static inline bool may_have_unknown(const struct rte_event ev[], uint64_t n)
+/* An event's op, and what lies above it. */
+static __rte_always_inline uint32_t op_of(const struct rte_event *ev)
+{
+	return (uint32_t)(ev->event >> OP_SHIFT);
+}
+
+/* Whether one of some events may have an op that DPDK doesn't have: both FORWARD and RELEASE. A burst of both kinds may, too. */
+static __rte_always_inline bool may_have_unknown(const struct rte_event ev[], uint64_t n)
 {
 	const struct rte_event *end = ev + n;
-	uint64_t any = 0;
+	uint32_t any = 0;
 #pragma GCC unroll 1
 	for (; n & 7; n--)
-		any |= (--end)->event;
-	for (; ev != end; ev += 8)
-		any |= ev[0].event | ev[1].event | ev[2].event | ev[3].event | ev[4].event | ev[5].event | ev[6].event | ev[7].event;
-	return (any >> OP_SHIFT & OP_MASK) == OP_MASK;
+		any |= op_of(--end);
+#pragma GCC unroll 1
+	for (; end != ev; end -= 8)
+		any |= op_of(end - 1) | op_of(end - 2) | op_of(end - 3) | op_of(end - 4)
+			| op_of(end - 5) | op_of(end - 6) | op_of(end - 7) | op_of(end - 8);
+	return (any & OP_MASK) == OP_MASK;
 }
 
 /* How many events come before the first one whose op DPDK doesn't have. */
 static uint16_t before_unknown(const struct rte_event ev[], uint16_t n)
 {
 	uint16_t i = 0;
-	while (i < n && (ev[i].event >> OP_SHIFT & OP_MASK) != EVSCHED_OP_FORWARD_MORE)
+	while (i < n && (op_of(&ev[i]) & OP_MASK) != EVSCHED_OP_FORWARD_MORE)
 		i++;
 	return i;
 }
@@ -54,6 +62,12 @@ static bool refuse(struct evd_port *port, uint32_t what, const char *why)
 	port->said |= what;
 	rte_errno = EINVAL;
 	return false;
+}
+
+/* Refuses an event whose op DPDK doesn't have. */
+static bool refuse_op(struct evd_port *port)
+{
+	return refuse(port, EVD_SAID_OP, "an event is refused whose op is neither NEW, FORWARD nor RELEASE");
 }
 
 /* Enqueues one event in the place of one that was refused, whose credit or place in the ring may be lacking. */
@@ -95,6 +109,8 @@ static bool answer_nothing(struct evd_port *port, const struct rte_event *ev)
 static bool deal(struct evd_port *port, const struct rte_event *ev)
 {
 	int why = evsched_errno(port->port);
+	if (ev->op == EVSCHED_OP_FORWARD_MORE)
+		return refuse_op(port);
 	if (why == EINVAL)
 		return drop(port, ev);
 	if (why == ENOENT)
@@ -118,14 +134,16 @@ static __rte_noinline uint16_t put_known(struct evd_port *port, const struct rte
 {
 	uint16_t end = before_unknown(ev, n), done = put_rest(port, ev, put(port, ev, end), end);
 	if (done == end && end < n)
-		refuse(port, EVD_SAID_OP, "an event is refused whose op is neither NEW, FORWARD nor RELEASE");
+		refuse_op(port);
 	return done;
 }
 
 /* A burst of none, or of more than the library takes at once. */
 static __rte_noinline uint16_t put_long(struct evd_port *port, const struct rte_event ev[], uint16_t n)
 {
-	return may_have_unknown(ev, n) ? put_known(port, ev, n) : put_rest(port, ev, put(port, ev, n), n);
+	if (port->is_linked && may_have_unknown(ev, n))
+		return put_known(port, ev, n);
+	return put_rest(port, ev, put(port, ev, n), n);
 }
 
 /* What is left of a burst of which the library has taken so many. */
@@ -135,33 +153,64 @@ static __rte_noinline uint16_t put_behind(struct evd_port *port, const struct rt
 	return put_rest(port, ev, done, n);
 }
 
-/* It is small where the library takes all: what else may be stands apart. */
+/* Hands the library a burst of no more than it takes at once: whether it took all. */
+static __rte_always_inline bool put_all(struct evd_port *port, const struct rte_event ev[], uint64_t *n, uint16_t *done)
+{
+	*done = evsched_enqueue_burst(port->port, (const struct evsched_event *)ev, (uint16_t)*n);
+	if (!__builtin_constant_p(*n))
+		EVSCHED_PRIV_FORGET(*n); /* or several registers keep it for what follows */
+	return likely(*done == (uint16_t)*n);
+}
+
+/* These two are small where the library takes all: what else may be stands apart. */
 static __rte_always_inline uint16_t enqueue(struct evd_port *port, const struct rte_event ev[], uint64_t n)
 {
-	uint64_t done;
+	uint16_t done;
 	if (unlikely(n - 1 >= EVSCHED_MAX_BURST))
 		return put_long(port, ev, (uint16_t)n);
 	if (unlikely(may_have_unknown(ev, n)))
 		return put_known(port, ev, (uint16_t)n);
-	done = evsched_enqueue_burst(port->port, (const struct evsched_event *)ev, (uint16_t)n);
-	if (unlikely(done != n))
-		return put_behind(port, ev, (uint16_t)done, (uint16_t)n);
+	if (!put_all(port, ev, &n, &done))
+		return put_behind(port, ev, done, (uint16_t)n);
 	note(port, n);
 	return (uint16_t)n;
 }
 
+/* The same of a port that isn't linked. It holds nothing, so all that is taken are NEWs, at a credit each; it draws more where it has none. */
+static __rte_always_inline uint16_t enqueue_new(struct evd_port *port, const struct rte_event ev[], uint64_t n)
+{
+	uint64_t pocket;
+	uint16_t done;
+	if (unlikely(n - 1 >= EVSCHED_MAX_BURST))
+		return put_long(port, ev, (uint16_t)n);
+	if (!put_all(port, ev, &n, &done))
+		return put_behind(port, ev, done, (uint16_t)n);
+	if (unlikely(__builtin_sub_overflow(port->pocket, n, &pocket)))
+		pocket = evd_pocket(port);
+	evd_write(&port->pocket, pocket);
+	evd_write(&port->sent, port->sent + n);
+	return (uint16_t)n;
+}
+
+static __rte_always_inline uint16_t enqueue_either(struct evd_port *port, const struct rte_event ev[], uint64_t n)
+{
+	return port->is_linked ? enqueue(port, ev, n) : enqueue_new(port, ev, n);
+}
+
 uint16_t evd_enqueue_burst(void *port, const struct rte_event ev[], uint16_t n)
 {
-	return enqueue(port, ev, n);
+	uint64_t all = n;
+	EVSCHED_PRIV_FORGET(all);
+	return enqueue_either(port, ev, all);
 }
 
 uint16_t evd_enqueue(void *port, const struct rte_event *ev)
 {
-	return enqueue(port, ev, 1);
+	return enqueue_either(port, ev, 1);
 }
 
-/* A dequeue of a port that releases: what it held goes into its ring, and the credits of that into its pocket. */
-static uint16_t receive_and_release(struct evd_port *port, struct evsched_event ev[], uint16_t n)
+/* A dequeue of no events, or of a port that releases: what it held goes into its ring, and the credits of that into its pocket. */
+static __rte_noinline uint16_t receive_and_release(struct evd_port *port, struct evsched_event ev[], uint16_t n)
 {
 	int held = evsched_held(port->port);
 	uint16_t got = evsched_dequeue_burst(port->port, ev, n);
@@ -176,11 +225,10 @@ static uint16_t receive_and_release(struct evd_port *port, struct evsched_event 
 static __rte_always_inline uint16_t dequeue(struct evd_port *port, struct rte_event ev[], uint16_t n)
 {
 	struct evsched_event *to = (struct evsched_event *)ev;
-	uint16_t got = unlikely(port->releases) ? receive_and_release(port, to, n) : evsched_dequeue_burst(port->port, to, n);
-	uint64_t *size = &port->sizes[(got + 3u) / 4];
-	evd_write(size, *size + 1);
-	evd_write(&port->received, port->received + got);
-	return got;
+	bool is_plain = !port->releases && n > 0;
+	uint64_t got = likely(is_plain) ? evsched_dequeue_burst(port->port, to, n) : receive_and_release(port, to, n);
+	evd_write(&port->dequeues[got], port->dequeues[got] + 1);
+	return (uint16_t)got;
 }
 
 uint16_t evd_dequeue_burst(void *port, struct rte_event ev[], uint16_t n, uint64_t ticks)

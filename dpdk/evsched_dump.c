@@ -8,8 +8,8 @@
 static void dump_port(const struct evd_port *port, FILE *to)
 {
 	fprintf(to, "port %u, of its own: enqueued %" PRIu64 ", dequeued %" PRIu64 ", credits %" PRIu64 ", dropped %" PRIu64 ", dequeues %" PRIu64
-		", of these with nothing %" PRIu64 "\n", port->number, evd_read(&port->sent), evd_read(&port->received), evd_read(&port->pocket),
-		evd_read(&port->dropped), evd_dequeues(port), evd_read(&port->sizes[0]));
+		", of these with nothing %" PRIu64 "\n", port->number, evd_read(&port->sent), evd_received(port), evd_read(&port->pocket),
+		evd_read(&port->dropped), evd_dequeues(port, 0, EVSCHED_MAX_DEPTH), evd_dequeues(port, 0, 0));
 }
 
 static void dump_device(const struct evd *device, uint32_t ports, FILE *to)

@@ -55,15 +55,15 @@ struct evd_port {
 	struct evsched_port *port; /* NULL while the device is stopped */
 	struct evd *device;
 	uint64_t sent;             /* into its ring: NEWs, FORWARDs, RELEASEs and implicit ones */
-	uint64_t received;
 	uint64_t pocket;
+	bool is_linked;            /* to a queue in this run: else it never holds an event */
 	bool releases;             /* a dequeue releases what is held */
 	bool is_set_up;
 	uint8_t number;
 	uint8_t depth;             /* of the ring from which it dequeues */
 	uint32_t said;
 	uint64_t dropped;
-	uint64_t sizes[EVD_SIZES]; /* how many dequeues gave nothing, 1 to 4 events, 5 to 8, .. */
+	uint64_t dequeues[EVSCHED_MAX_DEPTH + 1]; /* how many gave so many events */
 } __rte_cache_aligned;
 
 /* A device. */
@@ -95,20 +95,18 @@ static inline struct evd *evd_of(const struct rte_eventdev *dev)
 	return (struct evd *)dev->data->dev_private;
 }
 
-/* Who has the device's lock. */
-enum { EVD_NOBODY, EVD_SWEEP, EVD_READER };
+/* Who has the device's lock. Nobody sweeps a device that is stopped, so that is a state of it. */
+enum { EVD_STOPPED, EVD_NOBODY, EVD_SWEEP, EVD_READER };
 
-/* Takes the lock, or says who has it. */
-static inline uint8_t evd_try_lock(struct evd *device, uint8_t who)
+/* Takes the lock from where it is thought to be, or says where it is. */
+static inline bool evd_try_lock(struct evd *device, uint8_t *is, uint8_t who)
 {
-	uint8_t before = EVD_NOBODY;
-	__atomic_compare_exchange_n(&device->has_lock, &before, who, 0, __ATOMIC_ACQUIRE, __ATOMIC_RELAXED);
-	return before;
+	return __atomic_compare_exchange_n(&device->has_lock, is, who, 0, __ATOMIC_ACQUIRE, __ATOMIC_RELAXED);
 }
 
 static inline void evd_unlock(struct evd *device)
 {
-	__atomic_store_n(&device->has_lock, EVD_NOBODY, __ATOMIC_RELEASE);
+	__atomic_store_n(&device->has_lock, device->running != NULL ? EVD_NOBODY : EVD_STOPPED, __ATOMIC_RELEASE);
 }
 
 /* A port's own word, which other threads read. */
@@ -128,13 +126,23 @@ static inline uint64_t evd_pocket(const struct evd_port *port)
 	return (uint64_t)evsched_port_pocket(evsched_priv_at(port->port));
 }
 
-/* How often a port was asked for events. */
-static inline uint64_t evd_dequeues(const struct evd_port *port)
+/* How many dequeues of a port gave from so many to so many events. */
+static inline uint64_t evd_dequeues(const struct evd_port *port, uint32_t from, uint32_t to)
 {
 	uint64_t sum = 0;
-	uint32_t i;
-	for (i = 0; i < EVD_SIZES; i++)
-		sum += evd_read(&port->sizes[i]);
+	uint32_t n;
+	for (n = from; n <= to && n <= EVSCHED_MAX_DEPTH; n++)
+		sum += evd_read(&port->dequeues[n]);
+	return sum;
+}
+
+/* How many events all of its dequeues gave. */
+static inline uint64_t evd_received(const struct evd_port *port)
+{
+	uint64_t sum = 0;
+	uint32_t n;
+	for (n = 1; n <= EVSCHED_MAX_DEPTH; n++)
+		sum += n * evd_read(&port->dequeues[n]);
 	return sum;
 }
 

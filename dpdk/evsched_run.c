@@ -126,8 +126,9 @@ static void hand_out(struct evd *device, struct evsched *made, uint8_t n)
 		struct evd_port *at = &device->ports[p];
 		at->port = evsched_port(made, p);
 		at->said = 0;
-		at->sent = at->received = at->pocket = at->dropped = 0;
-		memset(at->sizes, 0, sizeof(at->sizes));
+		at->is_linked = evsched_info(made)->port[p].links != 0;
+		at->sent = at->pocket = at->dropped = 0;
+		memset(at->dequeues, 0, sizeof(at->dequeues));
 	}
 }
 
@@ -165,49 +166,55 @@ static void pass(uint32_t turn)
 		sched_yield();
 }
 
-/* Waits for the lock, to read or to stop. */
+/* Waits for the lock, to read, to start or to stop. */
 void evd_lock(struct evd *device)
 {
+	uint8_t is = EVD_NOBODY;
 	uint32_t turn = 0;
 	__atomic_fetch_add(&device->wanted, 1, __ATOMIC_RELAXED);
-	while (evd_try_lock(device, EVD_READER) != EVD_NOBODY)
-		pass(turn++);
+	while (!evd_try_lock(device, &is, EVD_READER))
+		if (is != EVD_NOBODY && is != EVD_STOPPED) {
+			pass(turn++);
+			is = EVD_NOBODY;
+		}
 	__atomic_fetch_sub(&device->wanted, 1, __ATOMIC_RELAXED);
 }
 
-/* Waits while another thread sweeps, which the service forbids, but a program may run it so: whether no reader has the lock instead. */
+/* Waits while another thread sweeps, which the service forbids, but a program may run it so: whether it has the lock then. */
 static __rte_noinline bool lock_behind(struct evd *device)
 {
+	uint8_t is = EVD_NOBODY;
 	uint32_t turn = 0;
-	uint8_t who;
-	while ((who = evd_try_lock(device, EVD_SWEEP)) == EVD_SWEEP)
+	while (!evd_try_lock(device, &is, EVD_SWEEP)) {
+		if (is != EVD_SWEEP)
+			return false;
 		pass(turn++);
-	return who == EVD_NOBODY;
+		is = EVD_NOBODY;
+	}
+	return true;
 }
 
 /* Leaves the lock free for a moment, so that who waits for it finds it so. */
-static __rte_noinline void give_way(void)
+static __rte_noinline int32_t give_way(int32_t answer)
 {
 	uint32_t turn;
 	for (turn = 0; turn < GAP; turn++)
 		rte_pause();
+	return answer;
 }
 
 /* The service's callback. It doesn't wait for readers: one that lost its processor while it waits holds no sweep up. */
 int32_t evd_sweep(void *at)
 {
 	struct evd *device = at;
-	int did = 0;
-	if (unlikely(evd_try_lock(device, EVD_SWEEP) != EVD_NOBODY) && !lock_behind(device))
+	uint8_t is = EVD_NOBODY;
+	int32_t answer;
+	if (unlikely(!evd_try_lock(device, &is, EVD_SWEEP)) && !lock_behind(device))
 		return -EAGAIN;
-	if (likely(device->running != NULL)) {
-		did = evsched_sweep(device->running);
-		device->did = did;
-	}
-	evd_unlock(device);
-	if (unlikely(__atomic_load_n(&device->wanted, __ATOMIC_RELAXED) > 0))
-		give_way();
-	return did > 0 ? 0 : -EAGAIN;
+	device->did = evsched_sweep(device->running);
+	answer = (device->did - 1) >> 31 & -EAGAIN; /* 0 where it did something */
+	__atomic_store_n(&device->has_lock, EVD_NOBODY, __ATOMIC_RELEASE);
+	return likely(__atomic_load_n(&device->wanted, __ATOMIC_RELAXED) == 0) ? answer : give_way(answer);
 }
 
 /* Gives an event to the callback that the program has registered. */

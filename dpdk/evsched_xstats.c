@@ -145,16 +145,16 @@ static uint64_t of_port_itself(const struct evd_port *port, uint32_t place)
 	case OWN_DROP: return evd_read(&port->dropped);
 	case OWN_CYCLES: return 0; /* not measured */
 	case OWN_POCKET: return evd_read(&port->pocket);
-	case OWN_CALLS: return evd_dequeues(port);
-	case OWN_ZERO: return evd_read(&port->sizes[0]);
-	default: return place - EVD_PORT_STATS + 1 < EVD_SIZES ? evd_read(&port->sizes[place - EVD_PORT_STATS + 1]) : 0;
+	case OWN_CALLS: return evd_dequeues(port, 0, EVSCHED_MAX_DEPTH);
+	case OWN_ZERO: return evd_dequeues(port, 0, 0);
+	default: return evd_dequeues(port, 4 * (place - EVD_PORT_STATS) + 1, 4 * (place - EVD_PORT_STATS) + 4);
 	}
 }
 
 static uint64_t of_port(const struct evd *device, uint32_t number, uint32_t place)
 {
 	const struct evd_port *port = &device->ports[number];
-	uint64_t sent = evd_read(&port->sent), received = evd_read(&port->received);
+	uint64_t sent = evd_read(&port->sent), received = evd_received(port);
 	struct evsched_port_stats stats;
 	uint64_t taken;
 	if (evsched_port_stats(device->running, number, &stats) < 0)

@@ -58,6 +58,7 @@ void evd_queue_def_conf(struct rte_eventdev *dev, uint8_t queue, struct rte_even
 {
 	uint32_t flows = dev->data->dev_conf.nb_event_queue_flows;
 	RTE_SET_USED(queue);
+	memset(conf, 0, sizeof(*conf)); /* which rte_event_queue_setup doesn't */
 	conf->nb_atomic_flows = least(flows, EVSCHED_MAX_ATOMIC_FLOWS);
 	conf->nb_atomic_order_sequences = least(flows, EVSCHED_MAX_ORDER_SEQUENCES);
 	conf->schedule_type = RTE_SCHED_TYPE_ATOMIC;
@@ -88,6 +89,7 @@ void evd_port_def_conf(struct rte_eventdev *dev, uint8_t port, struct rte_event_
 {
 	const struct rte_event_dev_config *device = &dev->data->dev_conf;
 	RTE_SET_USED(port);
+	memset(conf, 0, sizeof(*conf));
 	conf->new_event_threshold = evd_events_limit(dev);
 	conf->dequeue_depth = (uint16_t)least(device->nb_event_port_dequeue_depth, EVSCHED_MAX_DEPTH);
 	conf->enqueue_depth = (uint16_t)least(device->nb_event_port_enqueue_depth, EVSCHED_MAX_DEPTH);

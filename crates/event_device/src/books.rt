@@ -66,6 +66,19 @@ impl<L: StepLog> StepLog for Books<L> {
     }
 
     #[inline(always)]
+    fn push_forwards(
+        &mut self,
+        lane: usize,
+        source: usize,
+        target: usize,
+        numbers: &[u64],
+        replies: &[Reply],
+    ) {
+        self.log
+            .push_forwards(lane, source, target, numbers, replies);
+    }
+
+    #[inline(always)]
     fn push_gives(&mut self, lane: usize, queue: usize, row: &[Delivery]) {
         self.log.push_gives(lane, queue, row);
     }

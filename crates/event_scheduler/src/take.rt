@@ -14,7 +14,7 @@ ghost use Rattle.transcripts.specs.Standing.{Stands, after, kept_in, may_take, s
 ghost use Rattle.transcripts.specs.Sweep.{MayBeTaken, replies_steps};
 
 use crate::scheduler::Scheduler;
-use evt_types::Reply;
+use evt_types::{Op, Reply};
 use sched_core::{Core, Took};
 use step_log::StepLog;
 
@@ -91,7 +91,7 @@ fn take_row<L: StepLog>(
     log: &mut L,
 ) -> usize
     requires lane { lane < lanes_of core.old.shape }
-    requires room { length replies.now ≤ L.room log.old }
+    requires room { 2 * length replies.now ≤ L.room log.old }
     ensures few { result ≤ length replies.now }
     ensures may { MayBeTaken core.old (row_of lane (take result replies.now)) }
     ensures view { core.new ≡ after core.old (replies_steps core.old (row_of lane (take result replies.now))) }
@@ -100,19 +100,23 @@ fn take_row<L: StepLog>(
     ensures turned { turned_count (replies_steps core.old (row_of lane (take result replies.now))) ≡ 0 }
     ensures shape { core.new.shape ≡ core.old.shape }
     ensures kept { kept_in core.new ≡ kept_in core.old }
-    ensures room { L.room log.old ≤ L.room log.new + result }
+    ensures room { L.room log.old ≤ L.room log.new + 2 * result }
 {
     // To read the count makes known that it is within its range.
     let count = *accepted_new;
     let Some(first) = replies.first() else {
         return 0;
     };
-    if !first.event.is_new() {
-        return core.take_releases(lane, replies, log);
+    match first.event.op() {
+        Op::New => {
+            let row = core.take_news(lane, replies, log);
+            *accepted_new = count.wrapping_add(row as u64);
+            row
+        }
+        Op::Forward => core.take_forwards(lane, replies, log),
+        Op::Release => core.take_releases(lane, replies, log),
+        Op::ForwardMore => 0,
     }
-    let row = core.take_news(lane, replies, log);
-    *accepted_new = count.wrapping_add(row as u64);
-    row
 }
 
 /// Takes the oldest of these replies of the lane row by row, as long as rows are taken: how many. None is turned away.
@@ -125,12 +129,12 @@ fn take_rows<L: StepLog>(
     log: &mut L,
 ) -> usize
     requires lane { lane < lanes_of core.old.shape }
-    requires room { length replies.now ≤ L.room log.old }
+    requires room { 2 * length replies.now ≤ L.room log.old }
     ensures takes { (s : Sight) (pocket : ℕ) → pocket < 2 ^ 64 → lane < length s.taken → Takes (only lane result) result (with_core s core.old pocket accepted_new.old) (L.steps log.old) (with_core (with_taken s lane (take result replies.now)) core.new pocket accepted_new.new) (L.steps log.new) }
     ensures few { result ≤ length replies.now }
     ensures shape { core.new.shape ≡ core.old.shape }
     ensures kept { kept_in core.new ≡ kept_in core.old }
-    ensures room { L.room log.old ≤ L.room log.new + result }
+    ensures room { L.room log.old ≤ L.room log.new + 2 * result }
 {
     let mut taken = 0;
     while taken < replies.len() {

@@ -6,6 +6,7 @@ pub mod FreePins
 pub mod HandedOn
 pub mod HeldSlots
 pub mod Holds
+pub mod InTurn
 pub mod Kept
 pub mod Oldest
 pub mod Places

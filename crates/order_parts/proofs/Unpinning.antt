@@ -14,7 +14,7 @@ drop_at [] i y is = absurd (none-some y is)
 drop_at (x ∷ xs) zero y is = ap (λ z. z ∷ xs) (same_Some x y is)
 drop_at (x ∷ xs) (suc i) y is = let one : suc (i + 1) ≡ suc i + 1 = omega arith in drop_at xs i y is ∙ ap (λ n. y ∷ drop n (x ∷ xs)) one
 
-take_at : (es : List Entry) (i : ℕ) (y : Entry) → slice_get es i ≡ Some y → take (i + 1) es ≡ take i es ++ y ∷ []
+pub take_at : (es : List Entry) (i : ℕ) (y : Entry) → slice_get es i ≡ Some y → take (i + 1) es ≡ take i es ++ y ∷ []
 take_at [] i y is = absurd (none-some y is)
 take_at (x ∷ xs) zero y is = ap (λ z. z ∷ []) (same_Some x y is)
 take_at (x ∷ xs) (suc i) y is = let one : suc i + 1 ≡ suc (i + 1) = omega arith in ap (λ n. take n (x ∷ xs)) one ∙ ap (λ zs. x ∷ zs) (take_at xs i y is)

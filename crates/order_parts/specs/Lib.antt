@@ -2,6 +2,7 @@ pub mod HandedRow
 pub mod Held
 pub mod Histories
 pub mod History
+pub mod InTurn
 pub mod Orders
 pub mod Pins
 pub mod QueuePins

@@ -1,7 +1,7 @@
 -- The reorder buffers of a device's queues: one of a queue that restores no order has no places, and no room for any.
 use Rattle.std.specs.Prelude.{ℕ, ◌≡◌, ◌<◌, ◌-◌, Bool, ◌==◌, ◌||◌, List, length, nat_lt, min, slice_index_or, Option, Some, None, All, if◌then◌else◌}
 use Rattle.evt_types.specs.declared.event.Event.{Event}
-use Rattle.order_parts.specs.Reorder.{Reordering, empty, after_hand, after_add, after_resolve}
+use Rattle.order_parts.specs.Reorder.{Reordering, empty, after_hand, after_add, after_resolve, without_first}
 use Rattle.order_parts.specs.declared.all_orders.AllOrders.TheInside.{Inside}
 
 -- the buffer of a queue
@@ -42,6 +42,10 @@ added_in r place e = if is_restoring r then after_add r place e else r
 
 abbrev pub resolved_in : Reordering → ℕ → Option Event → Reordering
 resolved_in r place e = if is_restoring r then after_resolve r place e else r
+
+-- so many of the oldest places leave
+abbrev pub left_in : Reordering → ℕ → Reordering
+left_in r n = if is_restoring r then without_first r n else r
 
 -- a queue's new buffer, with room for so many
 pub record IsBuffer (n : ℕ) (o : Option Reordering) : Type 0 where

@@ -1,5 +1,5 @@
 -- The reorder buffer of an ordered queue: a place for each open number, in hand-out order.
-use Rattle.std.specs.Prelude.{ℕ, suc, ◌≡◌, ◌+◌, ◌-◌, ◌*◌, ◌%◌, ◌^◌, ◌≤◌, Bool, true, false, not, nat_lt, List, [], ◌∷◌, ◌++◌, length, map, take, drop, slice_get, slice_set, slice_index_or, Option, Some, None, option_to_list, if◌then◌else◌}
+use Rattle.std.specs.Prelude.{ℕ, zero, suc, ◌≡◌, ◌+◌, ◌-◌, ◌*◌, ◌%◌, ◌^◌, ◌≤◌, Bool, true, false, not, nat_lt, List, [], ◌∷◌, ◌++◌, length, map, take, drop, slice_get, slice_set, slice_index_or, Option, Some, None, option_to_list, if◌then◌else◌}
 use Rattle.arrayvec.specs.ArrayVec.{ArrayVec}
 use Rattle.evt_types.specs.Place.{Place}
 use Rattle.evt_types.specs.declared.event.Event.{Event}
@@ -120,6 +120,16 @@ left_plain n passed e = record { number = n; answered = true; forwards = if pass
 -- the place behind the oldest is the first
 abbrev pub without_oldest : Reordering → Reordering
 without_oldest r = record r { first = number_of r 1; places = drop 1 r.places }
+
+-- the buffer without so many of its oldest places
+abbrev pub without_first : Reordering → ℕ → Reordering
+without_first r zero = r
+without_first r (suc n) = without_first (without_oldest r) n
+
+-- there is such a place, and it is answered
+abbrev pub is_done : Option Place → Bool
+is_done None = false
+is_done (Some x) = x.answered
 
 abbrev pub after_leaving : Reordering → Option Place → Reordering
 after_leaving r None = r

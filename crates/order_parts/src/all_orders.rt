@@ -1,10 +1,13 @@
 //! The reorder buffers of a device's queues.
 
-ghost use Rattle.std.specs.Prelude.{◌≡◌, ◌<◌, ◌≤◌, ◌^◌, ◌&&◌, true, false, length, map, slice_get, slice_set, slice_index_or, sum_by, is_some, option_copied, option_map, Some, IfNone, IfOk, IfSome, IsTrue};
-ghost use Rattle.order_parts.specs.Reorder.{empty, next_number, place_at, place_or_open, is_open, kept_of, left, left_plain, oldest_answered, after_leave, open_place};
-ghost use Rattle.order_parts.specs.Orders.{IsBuffer, is_restoring, has_place, places_for, handed, added_in, resolved_in, order_at};
+ghost use Rattle.std.specs.Prelude.{◌≡◌, ◌<◌, ◌≤◌, ◌^◌, ◌&&◌, true, false, length, map, slice_get, slice_set, slice_index_or, sum_by, take, is_some, option_copied, option_map, Some, IfNone, IfOk, IfSome, IsTrue};
+ghost use Rattle.order_parts.specs.Histories.{lane_in};
+ghost use Rattle.order_parts.specs.InTurn.{AreInTurn};
+ghost use Rattle.order_parts.specs.Reorder.{empty, next_number, place_at, place_or_open, is_open, kept_of, is_done, left, left_plain, oldest_answered, after_leave, open_place};
+ghost use Rattle.order_parts.specs.Orders.{IsBuffer, is_restoring, has_place, places_for, handed, added_in, left_in, resolved_in, order_at};
 ghost use Rattle.evt_types.specs.Plan as plans;
 
+use crate::histories::Histories;
 use crate::reorder::Reorder;
 use arrayvec::ArrayVec;
 use evt_types::{MAX_EXTRAS, MAX_FORWARDS, MAX_QUEUES, Memory, Numbered, PackedEvent, QueueDraft};
@@ -192,6 +195,47 @@ impl AllOrders {
         match &mut self.queues[queue] {
             Some(order) => order.leave_plain(event),
             None => None,
+        }
+    }
+
+    /// Of the lane's oldest events, no more than so many, how many have the queue's oldest places in turn. Of a queue that restores no
+    /// order all.
+    #[inline(always)]
+    pub fn in_turn(&self, queue: usize, lanes: &Histories, lane: usize, most: usize) -> usize
+        requires there { queue < length self.now }
+        requires lane { lane < length lanes.now }
+        requires most { most ≤ length (lane_in lanes.now lane).entries }
+        ensures few { result ≤ most }
+        ensures turn { is_restoring (order_at self.now queue) ≡ true → AreInTurn queue (order_at self.now queue) (take result (lane_in lanes.now lane).entries) }
+    {
+        match &self.queues[queue] {
+            Some(order) => order.in_turn(queue, &lanes.lanes[lane], most),
+            None => most,
+        }
+    }
+
+    /// Whether the queue's place at this index, counted from the oldest, is there and answered.
+    #[inline(always)]
+    pub fn is_answered(&self, queue: usize, index: usize) -> bool
+        requires { queue < length self.now }
+        ensures { result ≡ is_done (slice_get (order_at self.now queue).places index) }
+    {
+        match &self.queues[queue] {
+            Some(order) => order.is_answered(index),
+            None => false,
+        }
+    }
+
+    /// So many of the queue's oldest places leave. A queue that restores no order has none.
+    #[inline(always)]
+    pub fn drop_oldest(&mut self, queue: usize, count: usize)
+        requires there { queue < length self.old }
+        requires some { is_restoring (order_at self.old queue) ≡ true → count ≤ length (order_at self.old queue).places }
+        ensures { self.new ≡ slice_set self.old queue (left_in (order_at self.old queue) count) }
+    {
+        match &mut self.queues[queue] {
+            Some(order) => order.drop_oldest(count),
+            None => {}
         }
     }
 

@@ -1,6 +1,6 @@
 //! The unanswered events of all lanes.
 
-ghost use Rattle.std.specs.Prelude.{◌≡◌, ℕ, take, ◌+◌, ◌<◌, ◌≤◌, ◌==◌, ◌∷◌, ◌++◌, [], count_by, length, drop, slice_get, slice_set, Some, IfOk, IsTrue, IsFalse};
+ghost use Rattle.std.specs.Prelude.{◌≡◌, ℕ, take, ◌+◌, ◌<◌, ◌≤◌, ◌==◌, ◌∷◌, ◌++◌, [], count_by, length, map, drop, slice_get, slice_set, Some, IfOk, IsTrue, IsFalse};
 ghost use Rattle.evt_types.specs.Plan.{lanes_of};
 ghost use Rattle.evt_types.specs.declared.shape.TheConstants.{MAX_DEPTH};
 ghost use Rattle.order_parts.specs.HandedRow.{AreHandedOn, IsRefused, OfFlows};
@@ -14,6 +14,7 @@ ghost use Rattle.small_set.specs.SmallSets.{Has, SameBut};
 use crate::all_pins::AllPins;
 use crate::handing::hand_each;
 use crate::history::{Entry, History};
+use arrayvec::ArrayVec;
 use evt_types::{Delivery, Memory, Shape};
 use small_set::{MAX_MEMBERS, SmallSet};
 use std::alloc::Global;
@@ -187,6 +188,17 @@ impl Histories {
         ensures { slice_get (lane_in self.now lane).entries 0 ≡ Some result }
     {
         self.lanes[lane].oldest().unwrap()
+    }
+
+    /// The numbers of so many of the lane's oldest events.
+    #[inline(always)]
+    pub fn numbers(&self, lane: usize, count: usize) -> ArrayVec<u64, 32>
+        requires there { lane < length self.now }
+        requires few { count ≤ 32 }
+        requires held { count ≤ length (lane_in self.now lane).entries }
+        ensures { result.items ≡ map (λ (y : EntryValue). y.number) (take count (lane_in self.now lane).entries) }
+    {
+        self.lanes[lane].numbers(count)
     }
 
     /// Takes out so many of the lane's oldest events, one at least.

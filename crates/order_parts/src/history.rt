@@ -1,9 +1,10 @@
 //! The events that a lane hasn't answered.
 
-ghost use Rattle.std.specs.Prelude.{◌≡◌, ◌+◌, ◌^◌, ◌<◌, ◌≤◌, ◌==◌, [], ◌∷◌, ◌++◌, count_by, length, drop, slice_get, Some, IfOk};
+ghost use Rattle.std.specs.Prelude.{◌≡◌, ◌+◌, ◌^◌, ◌<◌, ◌≤◌, ◌==◌, [], ◌∷◌, ◌++◌, count_by, length, map, take, drop, slice_get, Some, IfOk};
 ghost use Rattle.order_parts.specs.History.{entries_of};
 ghost use Rattle.order_parts.specs.declared.history.Entry.{Entry as EntryValue};
 
+use arrayvec::ArrayVec;
 use evt_types::Memory;
 use std::alloc::Global;
 use std::marker::Model;
@@ -136,6 +137,20 @@ impl History {
         ensures { slice_get self.now.entries index ≡ Some result.now }
     {
         &self.ring[(self.first + index) & self.mask]
+    }
+
+    /// The numbers of so many of the oldest entries.
+    #[inline(always)]
+    pub(crate) fn numbers(&self, count: usize) -> ArrayVec<u64, 32>
+        requires few { count ≤ 32 }
+        requires there { count ≤ length self.now.entries }
+        ensures { result.items ≡ map (λ (y : EntryValue). y.number) (take count self.now.entries) }
+    {
+        let mut numbers = ArrayVec::new();
+        for index in 0..count {
+            numbers.push(self.entry(index).number);
+        }
+        numbers
     }
 
     /// Takes so many of the oldest entries out.

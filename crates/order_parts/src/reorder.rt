@@ -1,8 +1,10 @@
 //! The reorder buffer of an ordered queue.
 
-ghost use Rattle.std.specs.Prelude.{◌≡◌, false, ◌+◌, ◌*◌, ◌%◌, ◌^◌, ◌<◌, ◌≤◌, ◌++◌, All, MatchOption, Some, length, nat_lt, option_copied, None, slice_get, slice_index_or, option_map, IfNone, IfOk, IfSome, IsTrue};
-ghost use Rattle.order_parts.specs.Reorder.{HasFew, after_add, after_hand, after_keep, after_leave, after_resolve, empty, is_open, kept_of, left, left_plain, next_number, oldest_answered, open_place, place_at, place_or_open, without_oldest, wrapped};
+ghost use Rattle.std.specs.Prelude.{◌≡◌, false, ◌+◌, ◌*◌, ◌%◌, ◌^◌, ◌<◌, ◌≤◌, ◌++◌, All, MatchOption, Some, length, nat_lt, option_copied, None, slice_get, slice_index_or, option_map, take, IfNone, IfOk, IfSome, IsTrue};
+ghost use Rattle.order_parts.specs.InTurn.{AreInTurn};
+ghost use Rattle.order_parts.specs.Reorder.{HasFew, after_add, after_hand, after_keep, after_leave, after_resolve, empty, is_done, is_open, kept_of, left, left_plain, next_number, oldest_answered, open_place, place_at, place_or_open, without_first, without_oldest, wrapped};
 
+use crate::history::History;
 use arrayvec::ArrayVec;
 use circular_buffer::HeapCircularBuffer;
 use evt_types::{MAX_EXTRAS, MAX_FORWARDS, Memory, Numbered, PackedEvent};
@@ -221,6 +223,44 @@ impl Reorder {
         *event = self.rows[MAX_FORWARDS * self.first_row];
         self.advance();
         Some((number, true))
+    }
+
+    /// Of these events, no more than so many, how many have the oldest places in turn, from the oldest on.
+    #[inline(always)]
+    pub(crate) fn in_turn(&self, queue: usize, history: &History, most: usize) -> usize
+        requires { most ≤ length history.now.entries }
+        ensures few { result ≤ most }
+        ensures turn { AreInTurn queue self.now (take result history.now.entries) }
+    {
+        for index in 0..most {
+            let entry = history.entry(index);
+            if entry.queue != queue || entry.place != self.first.wrapping_add(index as u64) {
+                return index;
+            }
+        }
+        most
+    }
+
+    /// Whether the place at this index, counted from the oldest, is there and answered.
+    #[inline(always)]
+    pub(crate) fn is_answered(&self, index: usize) -> bool
+        ensures { result ≡ is_done (slice_get self.now.places index) }
+    {
+        match self.ring.get(index) {
+            Some(handed) => handed.answered,
+            None => false,
+        }
+    }
+
+    /// So many of the oldest places leave.
+    #[inline(always)]
+    pub(crate) fn drop_oldest(&mut self, count: usize)
+        requires { count ≤ length self.old.places }
+        ensures { self.new ≡ without_first self.old count }
+    {
+        for _ in 0..count {
+            self.advance();
+        }
     }
 
     /// The oldest place leaves.

@@ -109,7 +109,7 @@ answered_length old new y oldest items =
     ap (λ (ys : List Entry). length (map unplaced ys) + 1) items ∙ (ap (λ n. n + 1) (length-map (drop 1 old.entries) unplaced ∙ length-drop 1 old.entries) ∙ (omega arith ∙ sym (length-map old.entries unplaced)))
 
 -- what the lanes have after it
-lanes_answered : (a : Inside) (i : ℕ) (old new : Entries) → i < length a.lanes → old ≡ get_or a.lanes i old → new.entries ≡ drop 1 old.entries
+pub lanes_answered : (a : Inside) (i : ℕ) (old new : Entries) → i < length a.lanes → old ≡ get_or a.lanes i old → new.entries ≡ drop 1 old.entries
     → map unanswered_in (set a.lanes i new) ≡ set (map unanswered_in a.lanes) i (drop 1 (unanswered_at (view_in a) i))
 lanes_answered a i old new h is items =
     map-set unanswered_in a.lanes i new
@@ -213,7 +213,7 @@ module _ (a : Inside) (v : View) (i : ℕ) (y : Entry) (core : IsCore a) (same :
       (sym (restores_here a y.queue core there) ∙ restoring)
 
   -- something is inside
-  some_inside : 1 ≤ a.inside
+  pub some_inside : 1 ≤ a.inside
   some_inside =
       let le : length (unanswered_in old) ≤ sum_by (λ x. length (unanswered_in x)) a.lanes = subst (λ (l : Entries). length (unanswered_in l) ≤ sum_by (λ x. length (unanswered_in x)) a.lanes) (sym is) (get_or-le-sum_by (λ x. length (unanswered_in x)) a.lanes i old h) in
       let e : sum_by (λ (xs : List Held). length xs) (map unanswered_in a.lanes) ≡ sum_by (λ x. length (unanswered_in x)) a.lanes = sum_of_map (λ (xs : List Held). length xs) unanswered_in a.lanes in

@@ -2,9 +2,11 @@ pub mod Accepting
 pub mod Added
 pub mod Adding
 pub mod Answering
+pub mod AtFront
 pub mod Cores
 pub mod Counted
 pub mod FirstOnes
+pub mod Forwarded
 pub mod Giving
 pub mod KeptLists
 pub mod LaneSets

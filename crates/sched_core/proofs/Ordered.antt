@@ -175,7 +175,7 @@ stands_written r y z k most x at differs s = stands_still r (set r.places k x) z
 pub may_resolve : (p : Plan) (depth : ℕ) (w : Waits) (r : Reordering) (y : Entry) (most : ℕ) → IsOrder p depth w r → StandsIn r y most → IsTrue (is_open (place_at r y.place))
 may_resolve p depth w r y most o s = subst (λ x. IsTrue (is_open x)) (sym (is_there p depth w r y s.index o s.stands)) (ap not s.stands.waits)
 
-resolve_is : (p : Plan) (depth : ℕ) (w : Waits) (r : Reordering) (y : Entry) (k : ℕ) (f : Option Event) → IsOrder p depth w r → (at : StandsAt r y k)
+pub resolve_is : (p : Plan) (depth : ℕ) (w : Waits) (r : Reordering) (y : Entry) (k : ℕ) (f : Option Event) → IsOrder p depth w r → (at : StandsAt r y k)
     → after_resolve r y.place f ≡ with_places r (set r.places k (resolved at.shown f))
 resolve_is p depth w r y k f o at =
     ap (λ i. with_places r (set r.places i (resolved (get_or r.places i (open_place 0)) f))) (index_is p depth w r y k o at)

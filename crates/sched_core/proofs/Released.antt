@@ -1,49 +1,49 @@
--- Events that a lane releases one after the other, of a queue that restores no order.
-use Rattle.std.proofs.Common.{◌≡◌, ◌≢◌, ℕ, zero, suc, ◌+◌, ◌-◌, ◌<◌, ◌≤◌, true, false, cond, ◌&&◌, List, [], ◌∷◌, ◌++◌, All, None, Some, Vec, Global, ap, append-nil, arith, drop, length, map, refl, set, slice_get, subst, sym, take, ◌∙◌}
+-- Events that a lane answers one after the other, each of which leaves its queue at once.
+use Rattle.std.proofs.Common.{◌≡◌, ◌≢◌, ◌⊎◌, inl, inr, ⊎_elim, ℕ, zero, suc, ◌+◌, ◌-◌, ◌<◌, ◌≤◌, ◌^◌, Bool, true, false, List, [], ◌∷◌, ◌++◌, All, None, Some, Vec, Global, ap, append-nil, arith, drop, flat_map, length, map, refl, set, get_or, slice_get, slice_index, subst, sum_by, sym, take, ◌∙◌}
 use Rattle.std.specs.Vec.{with_item, with_items}
-use Rattle.std.proofs.lemmas.Bool.{cond-false, lt-ltb}
-use Rattle.std.proofs.lemmas.List.{drop-drop, get_or-set_same, length-set, length-take, length-take-le, set-get_or, take-append-drop, with_items_is}
-use Rattle.std.proofs.lemmas.List.Elements.{All-head, All-nil, All-tail, All-take, All-weaker}
-use Rattle.std.proofs.lemmas.List.Sums.{sum_by-cons}
-use Rattle.std.proofs.lemmas.Option.{same_Some, slice_get_within}
-use Rattle.std.proofs.Math.Seq.{set-set, take-take}
-use Rattle.evt_types.specs.Plan.{Plan, is_ordered, lanes_of, queue_of}
-use Rattle.evt_types.specs.declared.event.Event.{Event}
-use Rattle.evt_types.specs.declared.event.Op.{Op}
-use Rattle.evt_types.specs.declared.event.Op.TheVariants as ops
-use Rattle.evt_types.specs.declared.event.Reply.{Reply}
+use Rattle.std.proofs.lemmas.Bool.{cases_Bool, cases_lt, cond-false, cond-true}
+use Rattle.std.proofs.lemmas.List.{drop-drop, get_or_read, get_or-set_same, length-set, length-take-le, map-set, set-get_or, take-append-drop, take-map, with_items_is}
+use Rattle.std.proofs.lemmas.List.Elements.{All-head, All-nil, All-tail}
+use Rattle.std.proofs.lemmas.Option.{none-some, same_Some, slice_get-get_or, slice_get_within}
+use Rattle.std.proofs.Math.Seq.{set-set}
+use Rattle.lists.proofs.Lists.{and-false}
+use Rattle.lists.proofs.Writes.{slice_get-drop_one}
+use Rattle.evt_types.specs.Place.{Place}
+use Rattle.evt_types.specs.Plan.{Plan, bound_of, is_ordered, kept_room, lanes_of, queue_of}
+use Rattle.evt_types.specs.declared.step.Outcome.{Outcome}
 use Rattle.evt_types.specs.declared.step.Outcome.TheVariants.{Released}
 use Rattle.evt_types.specs.declared.step.Step.{Step}
-use Rattle.evt_types.specs.declared.step.Step.TheVariants.{Done}
 use Rattle.order_parts.proofs.Roomy.{lane_is}
 use Rattle.order_parts.specs.Histories.{lane_in}
 use Rattle.order_parts.specs.History as histories
 use Rattle.order_parts.specs.History.{Entries}
-use Rattle.order_parts.specs.Orders.{is_restoring, order_at}
+use Rattle.order_parts.specs.InTurn.{AreInTurn}
+use Rattle.order_parts.specs.Orders.{is_restoring, left_in, order_at, resolved_in}
 use Rattle.order_parts.specs.Pins.{Pin, unpinned}
 use Rattle.order_parts.specs.QueuePins.{pin_in, pins_at, with_pin}
-use Rattle.order_parts.specs.Reorder.{empty}
+use Rattle.order_parts.specs.Reorder.{Reordering, after_leave, after_resolve, empty, is_done, number_of, oldest_answered, resolved, without_first, without_oldest}
 use Rattle.order_parts.specs.Unpinned.{AreHeldInTurn, IsOfQueue, without_entries, without_entry}
 use Rattle.order_parts.specs.declared.history.Entry.{Entry}
-use Rattle.sched_core.proofs.Answering.{core_answers, oldest_first, oldest_queue, resolved_orders, restores_here, view_answers}
-use Rattle.sched_core.proofs.Cores.{core_with, in_view, lane_there, queues_here, unanswered_here}
+use Rattle.parked_queue.specs.Waits.{waits_at}
+use Rattle.sched_core.proofs.Answering.{core_answers, entries_here, lanes_answered, oldest_entry, oldest_first, oldest_order, oldest_queue, resolved_orders, restores_here, some_inside}
+use Rattle.sched_core.proofs.AtFront.{bare, gone, index_at, kept_rest, leaves_now, leaving_one, next_none, staying_rest, waits_at_index}
+use Rattle.sched_core.proofs.Cores.{core_with, in_view, kept_after, lane_there, places_here, queues_here, same_parts, unanswered_here}
+use Rattle.sched_core.proofs.Forwarded.{leave_kept}
+use Rattle.sched_core.proofs.Leaving.{core_left, left_orders, with_orders}
 use Rattle.sched_core.proofs.OpenLanes.{held_here}
 use Rattle.sched_core.proofs.Pinned.{oldest_known, oldest_pinned, pins_answered}
-use Rattle.sched_core.proofs.Settling.{after_answer-plain, answer_steps-plain}
-use Rattle.sched_core.specs.Answered.{after_answer}
+use Rattle.sched_core.proofs.PlaceNumbers.{counted_on}
 use Rattle.sched_core.specs.Inner.{unplaced}
 use Rattle.sched_core.specs.OpenSlots.{IsOpened}
-use Rattle.sched_core.specs.Ordered.{ArePlaces}
+use Rattle.sched_core.specs.Ordered.{ArePlaces, IsOrder, StandsIn, added_beside, entry_at, kept_of, places_in}
 use Rattle.sched_core.specs.Pinned.{ArePins, entries_at}
-use Rattle.sched_core.specs.Rows.{IsLike, IsRelease, row_of}
-use Rattle.sched_core.specs.View.{IsCore, entries_in, unanswered_in, view_in}
+use Rattle.sched_core.specs.Rows.{LeaveInTurn, LeavesAlone}
+use Rattle.sched_core.specs.View.{IsCore, entries_in, next_in, unanswered_in, view_in, waiting_in}
 use Rattle.sched_core.specs.declared.state.Core.TheInside.{Inside}
 use Rattle.small_set.specs.declared.set.SmallSet.{SmallSet}
 use Rattle.step_log.specs.Rows.{release_steps}
-use Rattle.transcripts.specs.Standing.{View, after, may_take_by, oldest_at, steps_by, steps_of, unanswered_at}
-use Rattle.transcripts.specs.Sweep.{MayBeTaken, replies_steps}
-use Rattle.transcripts.specs.Replies.{new_count, turned_count}
-use Rattle.transcripts.specs.Transcript.{Held, is_new, is_turned}
+use Rattle.transcripts.specs.Standing.{View, accepts_from, accepts_of, after, after_done, answer_place, answered_places, entries_of, events_of, inside_of, kept_in, leaving, oldest_at, places_after, staying, unanswered_at}
+use Rattle.transcripts.specs.Transcript.{Held}
 
 -- ---- pins
 
@@ -81,6 +81,7 @@ core_extras a es core same =
 abbrev pub without : Inside → ℕ → ℕ → Vec SmallSet Global → Vec ℕ Global → List Entry → Inside
 without a l q os es ys =
     record a {
+      orders = set a.orders q (left_in (order_at a.orders q) (length ys));
       lanes = set a.lanes l (histories.entries_of (drop (length ys) (lane_in a.lanes l).entries) (lane_in a.lanes l).capacity);
       extras = es;
       pins = set a.pins q (without_entries (pins_at a.pins q) ys);
@@ -91,23 +92,51 @@ without a l q os es ys =
 pub record HasReleased (a : Inside) (l q : ℕ) (os : Vec SmallSet Global) (es : Vec ℕ Global) (ys : List Entry) : Type 0 where
   pub core : IsCore (without a l q os es ys)
   pub view : view_in (without a l q os es ys) ≡ after (view_in a) (release_steps l (length ys))
-  pub may : (rs : List Reply) → All IsRelease rs → length rs ≡ length ys → MayBeTaken (view_in a) (row_of l rs)
-  pub steps : (rs : List Reply) → All IsRelease rs → length rs ≡ length ys → replies_steps (view_in a) (row_of l rs) ≡ release_steps l (length ys)
+  pub leave : LeaveInTurn (view_in a) l q (map unplaced ys)
+  pub inside : (a.inside - length ys) + length ys ≡ a.inside
+
+-- Of an ordered queue: nothing was added beside the oldest of them, they have the oldest places in turn, and the place behind those isn't
+-- answered.
+pub record AreAtFront (a : Inside) (l q : ℕ) (ys : List Entry) : Type 0 where
+  pub alone : slice_index a.extras.items l ≡ 0
+  pub turn : AreInTurn q (order_at a.orders q) ys
+  pub next : is_done (slice_get (order_at a.orders q).places (length ys)) ≡ false
+
+-- the places of a queue that restores no order, and of another one
+left_plain : (r : Reordering) (n : ℕ) → is_restoring r ≡ false → left_in r n ≡ r
+left_plain r n plain = cond-false (is_restoring r) (without_first r n) r plain
+
+left_restoring : (r : Reordering) (n : ℕ) → is_restoring r ≡ true → left_in r n ≡ without_first r n
+left_restoring r n restoring = cond-true (is_restoring r) (without_first r n) r restoring
+
+-- one, and then others
+left_split : (r : Reordering) (n : ℕ) → left_in (left_in r 1) n ≡ left_in r (suc n)
+left_split r n = by_kind (is_restoring r) refl
+  where
+    by_kind : (b : Bool) → is_restoring r ≡ b → left_in (left_in r 1) n ≡ left_in r (suc n)
+    by_kind true restoring = ap (λ s. left_in s n) (left_restoring r 1 restoring) ∙ (left_restoring (without_oldest r) n restoring ∙ sym (left_restoring r (suc n) restoring))
+    by_kind false plain = ap (λ s. left_in s n) (left_plain r 1 plain) ∙ (left_plain r n plain ∙ sym (left_plain r (suc n) plain))
 
 -- ---- one
 
-module _ (a : Inside) (l : ℕ) (y : Entry) (os : Vec SmallSet Global) (es : Vec ℕ Global) (core : IsCore a) (lane : l < lanes_of a.shape) (oldest : slice_get (lane_in a.lanes l).entries 0 ≡ Some y) (plain : is_ordered (queue_of a.shape y.queue).kind ≡ false) (opens : IsOpened a.shape l a.open_slots.items os.items) (zero_here : es.items ≡ set a.extras.items l 0) where
+module _ (a : Inside) (l : ℕ) (y : Entry) (os : Vec SmallSet Global) (es : Vec ℕ Global) (core : IsCore a) (lane : l < lanes_of a.shape) (oldest : slice_get (lane_in a.lanes l).entries 0 ≡ Some y) (front : is_ordered (queue_of a.shape y.queue).kind ≡ true → AreAtFront a l y.queue (y ∷ [])) (opens : IsOpened a.shape l a.open_slots.items os.items) (zero_here : es.items ≡ set a.extras.items l 0) where
   there : y.queue < length a.shape.queues
   there = oldest_queue a (view_in a) l y core refl lane oldest
 
   here : l < length a.lanes
   here = lane_there a (view_in a) l core refl lane
 
-  restoring : is_restoring (order_at a.orders y.queue) ≡ false
-  restoring = restores_here a y.queue core there ∙ plain
+  abbrev r : Reordering
+  r = order_at a.orders y.queue
 
-  same_orders : resolved_orders a.orders y None ≡ a.orders
-  same_orders = ap (set a.orders y.queue) (cond-false (is_restoring (order_at a.orders y.queue)) _ (order_at a.orders y.queue) restoring) ∙ set-get_or a.orders y.queue (empty 0)
+  restoring : is_restoring r ≡ is_ordered (queue_of a.shape y.queue).kind
+  restoring = restores_here a y.queue core there
+
+  first : oldest_at (view_in a) l ≡ Some (unplaced y)
+  first = oldest_first a (view_in a) l y core refl lane oldest
+
+  in_orders : y.queue < length a.orders
+  in_orders = oldest_order a (view_in a) l y core refl lane oldest
 
   abbrev lane1 : Entries
   lane1 = histories.entries_of (drop 1 (lane_in a.lanes l).entries) (lane_in a.lanes l).capacity
@@ -115,58 +144,155 @@ module _ (a : Inside) (l : ℕ) (y : Entry) (os : Vec SmallSet Global) (es : Vec
   abbrev pins1 : List (List Pin)
   pins1 = with_pin a.pins y.queue y.slot (unpinned (pin_in a.pins y.queue y.slot))
 
+  -- it is answered, and its place, if it has one, hasn't left
+  abbrev answered : Inside
+  answered = record a { orders = resolved_orders a.orders y None; lanes = set a.lanes l lane1; extras = with_item a.extras l 0; pins = pins1; open_slots = os; inside = a.inside - 1 }
+
+  core_is : IsCore answered
+  core_is = core_answers a (view_in a) l y core refl lane oldest None (All-nil _) os pins1 false opens (omega (arith, core.few)) refl (and-false (is_restoring r))
+
+  -- of a queue that restores no order
+  module _ (plain : is_ordered (queue_of a.shape y.queue).kind ≡ false) where
+    plain_orders : set a.orders y.queue (left_in r 1) ≡ a.orders
+    plain_orders = ap (set a.orders y.queue) (left_plain r 1 (restoring ∙ plain)) ∙ set-get_or a.orders y.queue (empty 0)
+
+    plain_core : IsCore (record answered { orders = set a.orders y.queue (left_in r 1) })
+    plain_core =
+        subst (λ rs. IsCore (record answered { orders = rs }))
+        (ap (set a.orders y.queue) (cond-false (is_restoring r) (after_resolve r y.place None) r (restoring ∙ plain) ∙ sym (left_plain r 1 (restoring ∙ plain)))) core_is
+
+  -- of an ordered queue
+  module _ (ordered : is_ordered (queue_of a.shape y.queue).kind ≡ true) where
+    order : IsOrder a.shape (kept_room (queue_of a.shape y.queue)) (waits_at a.queues y.queue) r
+    order = core.places.each y.queue there
+
+    stands : StandsIn r y 0
+    stands =
+        subst (λ n. StandsIn r y n) (front ordered).alone
+        (core.places.held l 0 y (oldest_entry a.lanes l (lane_in a.lanes l) y here (lane_is a.lanes l here) oldest) ordered)
+
+    at_front : y.place ≡ number_of r 0
+    at_front = ((front ordered).turn 0 y refl).1
+
+    next : oldest_answered (drop 1 r.places) ≡ None
+    next = next_none r.places (front ordered).next
+
+    abbrev resolved_here : Place
+    resolved_here = resolved stands.stands.shown None
+
+    noted : order_at answered.orders y.queue ≡ after_resolve r y.place None
+    noted = get_or-set_same a.orders y.queue (resolved_in r y.place None) (empty 0) in_orders ∙ cond-true (is_restoring r) (after_resolve r y.place None) r (restoring ∙ ordered)
+
+    left_is : left_in r 1 ≡ without_oldest r
+    left_is = left_restoring r 1 (restoring ∙ ordered)
+
+    rest_is : set a.orders y.queue (left_in r 1) ≡ left_orders answered.orders y.queue
+    rest_is =
+        sym (set-set a.orders y.queue (resolved_in r y.place None) (after_leave (order_at answered.orders y.queue))
+        ∙ ap (set a.orders y.queue) (ap after_leave noted ∙ (gone a.shape _ _ r y order stands at_front next None ∙ sym left_is)))
+
+    ordered_core : IsCore (record answered { orders = set a.orders y.queue (left_in r 1) })
+    ordered_core =
+        let none : 0 ≡ length resolved_here.forwards = sym (ap length (append-nil stands.stands.shown.forwards ∙ bare a.shape _ _ r y order stands at_front next)) in
+        let leaves : oldest_answered (order_at answered.orders y.queue).places ≡ Some resolved_here =
+        ap (λ (s : Reordering). oldest_answered s.places) noted ∙ leaves_now a.shape _ _ r y order stands at_front next None in
+        let same : IsCore (with_orders answered (set a.orders y.queue (left_in r 1)) (answered.inside - 0) (answered.entries - 0)) =
+        core_left answered (view_in answered) y.queue resolved_here 0 core_is refl there leaves none (set a.orders y.queue (left_in r 1)) rest_is in
+        let inside : answered.inside - 0 ≡ answered.inside = omega arith in
+        let entries : answered.entries - 0 ≡ answered.entries = omega arith in
+        subst (λ m. IsCore (with_orders answered (set a.orders y.queue (left_in r 1)) answered.inside m)) entries
+        (subst (λ n. IsCore (with_orders answered (set a.orders y.queue (left_in r 1)) n (answered.entries - 0))) inside same)
+
+  -- of either
+  left_core : IsCore (record answered { orders = set a.orders y.queue (left_in r 1) })
+  left_core = ⊎_elim (λ ordered. ordered_core ordered) (λ plain. plain_core plain) (cases_Bool (is_ordered (queue_of a.shape y.queue).kind))
+
   pub one_core : IsCore (without a l y.queue os es (y ∷ []))
-  one_core =
-      core_extras (record a { lanes = set a.lanes l lane1; extras = with_item a.extras l 0; pins = pins1; open_slots = os; inside = a.inside - 1 }) es
-      (subst (λ rs. IsCore (record a { orders = rs; lanes = set a.lanes l lane1; extras = with_item a.extras l 0; pins = pins1; open_slots = os; inside = a.inside - 1 })) same_orders
-      (core_answers a (view_in a) l y core refl lane oldest None (All-nil _) os pins1 false opens (omega (arith, core.few)) refl (ap (λ b. b && false) restoring)))
-      zero_here
+  one_core = core_extras (record answered { orders = set a.orders y.queue (left_in r 1) }) es left_core zero_here
 
-  answered : after_answer (view_in a) l Released ≡ after (view_in a) (Done l Released ∷ [])
-  answered =
-      sym (after_answer-plain (view_in a) l (unplaced y) Released (oldest_first a (view_in a) l y core refl lane oldest) plain)
-      ∙ ap (after (view_in a)) (answer_steps-plain (view_in a) l (unplaced y) Released (oldest_first a (view_in a) l y core refl lane oldest) plain)
+  -- what the view has then
+  abbrev later_places : List (List Place)
+  later_places = map places_in (set a.orders y.queue (left_in r 1))
 
-  pub one_view : view_in (without a l y.queue os es (y ∷ [])) ≡ after (view_in a) (Done l Released ∷ [])
+  places_are : (o : Outcome) → places_after (view_in a) (oldest_at (view_in a) l) o ≡ later_places
+  places_are o = ap (λ h. places_after (view_in a) h o) first ∙ ⊎_elim of_ordered of_plain (cases_Bool (is_ordered (queue_of a.shape y.queue).kind))
+    where
+      of_ordered : is_ordered (queue_of a.shape y.queue).kind ≡ true → places_after (view_in a) (Some (unplaced y)) o ≡ later_places
+      of_ordered ordered =
+          cond-true (is_ordered (queue_of a.shape y.queue).kind) (set (map places_in a.orders) y.queue (staying (answered_places (view_in a) y.queue y.number o))) (map places_in a.orders) ordered
+          ∙ (ap (set (map places_in a.orders) y.queue)
+          (ap (λ ps. staying (map (answer_place y.number o) ps)) (places_here a y.queue core there)
+          ∙ (staying_rest a.shape _ _ r y (order ordered) (stands ordered) (at_front ordered) (next ordered) o ∙ sym (ap places_in (left_is ordered))))
+          ∙ sym (map-set places_in a.orders y.queue (left_in r 1)))
+
+      of_plain : is_ordered (queue_of a.shape y.queue).kind ≡ false → places_after (view_in a) (Some (unplaced y)) o ≡ later_places
+      of_plain plain =
+          cond-false (is_ordered (queue_of a.shape y.queue).kind) (set (map places_in a.orders) y.queue (staying (answered_places (view_in a) y.queue y.number o))) (map places_in a.orders) plain
+          ∙ sym (ap (map places_in) (plain_orders plain))
+
+  pub one_view : view_in (without a l y.queue os es (y ∷ [])) ≡ after_done (view_in a) l Released
   one_view =
-      ap (λ xs. record (view_in (record a { lanes = set a.lanes l lane1; pins = pins1; inside = a.inside - 1 })) { extras = xs }) zero_here
-      ∙ (ap (λ rs. view_in (record a { orders = rs; lanes = set a.lanes l lane1; extras = with_item a.extras l 0; pins = pins1; inside = a.inside - 1 })) (sym same_orders)
-      ∙ (view_answers a (view_in a) l y core refl lane oldest None (All-nil _) pins1 (a.inside - 1) a.entries ∙ answered))
+      same_parts a.shape (map waiting_in a.queues) _ (map next_in a.queues) _ later_places _ (map unanswered_in (set a.lanes l lane1)) _ es.items _ a.shut refl refl
+      (sym (places_are Released)) (lanes_answered a l (lane_in a.lanes l) lane1 here (lane_is a.lanes l here) refl) zero_here
 
-  one_steps : (e : Event) (o : Op) → o ≡ ops.Release → steps_by o (view_in a) l e ≡ Done l Released ∷ []
-  one_steps e o is =
-      ap (λ p. steps_by p (view_in a) l e) is
-      ∙ answer_steps-plain (view_in a) l (unplaced y) Released (oldest_first a (view_in a) l y core refl lane oldest) plain
+  kept_one : kept_in (after_done (view_in a) l Released) ≡ kept_in (view_in a)
+  kept_one =
+      let all = kept_after a (record a { orders = set a.orders y.queue (left_in r 1) }) y.queue (left_in r 1) refl in_orders in
+      let same : kept_of (left_in r 1).places ≡ kept_of r.places =
+      ⊎_elim
+      (λ ordered. ap (λ (s : Reordering). kept_of s.places) (left_is ordered) ∙ kept_rest a.shape _ _ r y (order ordered) (stands ordered) (at_front ordered) (next ordered))
+      (λ plain. ap (λ (s : Reordering). kept_of s.places) (left_plain r 1 (restoring ∙ plain))) (cases_Bool (is_ordered (queue_of a.shape y.queue).kind)) in
+      ap (sum_by kept_of) (places_are Released) ∙ omega (arith, all, same)
 
-  one_may : (e : Event) (o : Op) → o ≡ ops.Release → may_take_by o (view_in a) l e ≡ true
-  one_may e o is =
-      subst (λ p. may_take_by p (view_in a) l e ≡ true) (sym is)
-      (lt-ltb 0 (length (unanswered_at (view_in a) l)) (slice_get_within (unanswered_at (view_in a) l) 0 (unplaced y) (oldest_first a (view_in a) l y core refl lane oldest)))
+  -- the steps by which what a place has is accepted
+  abbrev of_place : Place → List Step
+  of_place x = accepts_from y.queue x.number x.forwards
+
+  accepts_one : (o : Outcome) → accepts_of (view_in a) (Some (unplaced y)) o ≡ accepts_from y.queue y.number (events_of o)
+  accepts_one o = ⊎_elim of_ordered of_plain (cases_Bool (is_ordered (queue_of a.shape y.queue).kind))
+    where
+      of_ordered : is_ordered (queue_of a.shape y.queue).kind ≡ true → accepts_of (view_in a) (Some (unplaced y)) o ≡ accepts_from y.queue y.number (events_of o)
+      of_ordered ordered =
+          cond-true (is_ordered (queue_of a.shape y.queue).kind) (flat_map of_place (leaving (answered_places (view_in a) y.queue y.number o))) (accepts_from y.queue y.number (events_of o)) ordered
+          ∙ (ap (flat_map of_place)
+          (ap (λ ps. leaving (map (answer_place y.number o) ps)) (places_here a y.queue core there) ∙ leaving_one a.shape _ _ r y (order ordered) (stands ordered) (at_front ordered) (next ordered) o)
+          ∙ append-nil (accepts_from y.queue y.number (events_of o)))
+
+      of_plain : is_ordered (queue_of a.shape y.queue).kind ≡ false → accepts_of (view_in a) (Some (unplaced y)) o ≡ accepts_from y.queue y.number (events_of o)
+      of_plain plain = cond-false (is_ordered (queue_of a.shape y.queue).kind) (flat_map of_place (leaving (answered_places (view_in a) y.queue y.number o))) (accepts_from y.queue y.number (events_of o)) plain
+
+  one_leaves : LeavesAlone (view_in a) l y.queue (unplaced y)
+  one_leaves =
+      record {
+        oldest = first;
+        queue = refl;
+        accepts = accepts_one;
+        done = λ o.
+            ap (λ ps. record (view_in a) { places = ps; unanswered = set (map unanswered_in a.lanes) l (drop 1 (unanswered_at (view_in a) l)); extras = set a.extras.items l 0 })
+            (places_are o ∙ sym (places_are Released));
+        kept = kept_one;
+      }
+
+  some_here : 1 ≤ a.inside
+  some_here = some_inside a (view_in a) l y core refl lane oldest
 
   pub one_released : HasReleased a l y.queue os es (y ∷ [])
-  one_released = record { core = one_core; view = one_view; may = one_taken; steps = one_logged }
-    where
-      one_taken : (rs : List Reply) → All IsRelease rs → length rs ≡ 1 → MayBeTaken (view_in a) (row_of l rs)
-      one_taken [] all is = absurd (omega (arith, is))
-      one_taken (r ∷ []) all is = (lane, one_may r.event r.event.op (All-head IsRelease r [] all), tt)
-      one_taken (r ∷ s ∷ rs) all is = absurd (omega (arith, is))
-
-      one_logged : (rs : List Reply) → All IsRelease rs → length rs ≡ 1 → replies_steps (view_in a) (row_of l rs) ≡ release_steps l 1
-      one_logged [] all is = absurd (omega (arith, is))
-      one_logged (r ∷ []) all is = append-nil (steps_of (view_in a) l r.event) ∙ one_steps r.event r.event.op (All-head IsRelease r [] all)
-      one_logged (r ∷ s ∷ rs) all is = absurd (omega (arith, is))
+  one_released = record { core = one_core; view = one_view; leave = (one_leaves, tt); inside = omega (arith, some_here) }
 
   -- and then others of the lane
   abbrev a1 : Inside
   a1 = without a l y.queue os es (y ∷ [])
+
+  pub first_order : order_at a1.orders y.queue ≡ left_in r 1
+  first_order = get_or-set_same a.orders y.queue (left_in r 1) (empty 0) in_orders
 
   pub one_more : (z : Entry) (zs : List Entry) → HasReleased a1 l y.queue os es (z ∷ zs) → HasReleased a l y.queue os es (y ∷ z ∷ zs)
   one_more z zs rest =
       record {
         core = subst IsCore joined rest.core;
         view = ap view_in (sym joined) ∙ (rest.view ∙ ap (λ v. after v (release_steps l (length (z ∷ zs)))) one_view);
-        may = more_taken;
-        steps = more_logged;
+        leave = (one_leaves, subst (λ v. LeaveInTurn v l y.queue (map unplaced (z ∷ zs))) one_view rest.leave);
+        inside = omega (arith, some_here, rest.inside);
       }
     where
       one_and : 1 + length (z ∷ zs) ≡ length (y ∷ z ∷ zs)
@@ -184,59 +310,86 @@ module _ (a : Inside) (l : ℕ) (y : Entry) (os : Vec SmallSet Global) (es : Vec
           ap (λ xs. set a1.pins y.queue (without_entries xs (z ∷ zs))) (get_or-set_same a.pins y.queue (without_entry (pins_at a.pins y.queue) y) [] (omega (arith, there, core.pins.count)))
           ∙ set-set a.pins y.queue (without_entry (pins_at a.pins y.queue) y) (without_entries (without_entry (pins_at a.pins y.queue) y) (z ∷ zs))
 
+      orders_are : set a1.orders y.queue (left_in (order_at a1.orders y.queue) (length (z ∷ zs))) ≡ set a.orders y.queue (left_in r (length (y ∷ z ∷ zs)))
+      orders_are =
+          ap (λ s. set a1.orders y.queue (left_in s (length (z ∷ zs)))) first_order
+          ∙ (set-set a.orders y.queue (left_in r 1) (left_in (left_in r 1) (length (z ∷ zs))) ∙ ap (set a.orders y.queue) (left_split r (length (z ∷ zs))))
+
       joined : without a1 l y.queue os es (z ∷ zs) ≡ without a l y.queue os es (y ∷ z ∷ zs)
       joined =
-          ap (λ ls. record a { lanes = ls; extras = es; pins = set a1.pins y.queue (without_entries (pins_at a1.pins y.queue) (z ∷ zs)); open_slots = os; inside = (a.inside - 1) - length (z ∷ zs) }) lanes_are
-          ∙ (ap (λ ps. record a { lanes = set a.lanes l (histories.entries_of (drop (length (y ∷ z ∷ zs)) (lane_in a.lanes l).entries) (lane_in a.lanes l).capacity); extras = es; pins = ps; open_slots = os; inside = (a.inside - 1) - length (z ∷ zs) }) pins_are
-          ∙ ap (λ n. record a { lanes = set a.lanes l (histories.entries_of (drop (length (y ∷ z ∷ zs)) (lane_in a.lanes l).entries) (lane_in a.lanes l).capacity); extras = es; pins = set a.pins y.queue (without_entries (pins_at a.pins y.queue) (y ∷ z ∷ zs)); open_slots = os; inside = n }) (omega arith))
+          ap (λ ls. record a1 { orders = set a1.orders y.queue (left_in (order_at a1.orders y.queue) (length (z ∷ zs))); lanes = ls; pins = set a1.pins y.queue (without_entries (pins_at a1.pins y.queue) (z ∷ zs)); inside = (a.inside - 1) - length (z ∷ zs) }) lanes_are
+          ∙ (ap (λ ps. record a1 { orders = set a1.orders y.queue (left_in (order_at a1.orders y.queue) (length (z ∷ zs))); lanes = set a.lanes l (histories.entries_of (drop (length (y ∷ z ∷ zs)) (lane_in a.lanes l).entries) (lane_in a.lanes l).capacity); pins = ps; inside = (a.inside - 1) - length (z ∷ zs) }) pins_are
+          ∙ (ap (λ rs. record a1 { orders = rs; lanes = set a.lanes l (histories.entries_of (drop (length (y ∷ z ∷ zs)) (lane_in a.lanes l).entries) (lane_in a.lanes l).capacity); pins = set a.pins y.queue (without_entries (pins_at a.pins y.queue) (y ∷ z ∷ zs)); inside = (a.inside - 1) - length (z ∷ zs) }) orders_are
+          ∙ ap (λ n. record a1 { orders = set a.orders y.queue (left_in r (length (y ∷ z ∷ zs))); lanes = set a.lanes l (histories.entries_of (drop (length (y ∷ z ∷ zs)) (lane_in a.lanes l).entries) (lane_in a.lanes l).capacity); pins = set a.pins y.queue (without_entries (pins_at a.pins y.queue) (y ∷ z ∷ zs)); inside = n }) (omega arith)))
 
-      after1 : (r : Reply) → IsRelease r → after (view_in a) (steps_of (view_in a) l r.event) ≡ view_in a1
-      after1 r is = ap (after (view_in a)) (one_steps r.event r.event.op is) ∙ sym one_view
-
-      more_taken : (rs : List Reply) → All IsRelease rs → length rs ≡ length (y ∷ z ∷ zs) → MayBeTaken (view_in a) (row_of l rs)
-      more_taken [] all is = absurd (omega (arith, is))
-      more_taken (r ∷ rs) all is = (
-        lane,
-        one_may r.event r.event.op (All-head IsRelease r rs all),
-        subst (λ v. MayBeTaken v (row_of l rs)) (sym (after1 r (All-head IsRelease r rs all))) (rest.may rs (All-tail IsRelease r rs all) (omega (arith, is))),
-      )
-
-      more_logged : (rs : List Reply) → All IsRelease rs → length rs ≡ length (y ∷ z ∷ zs) → replies_steps (view_in a) (row_of l rs) ≡ release_steps l (length (y ∷ z ∷ zs))
-      more_logged [] all is = absurd (omega (arith, is))
-      more_logged (r ∷ rs) all is =
-          ap (λ v. steps_of (view_in a) l r.event ++ replies_steps v (row_of l rs)) (after1 r (All-head IsRelease r rs all))
-          ∙ (ap (λ ss. ss ++ replies_steps (view_in a1) (row_of l rs)) (one_steps r.event r.event.op (All-head IsRelease r rs all))
-          ∙ ap (λ ss. Done l Released ∷ ss) (rest.steps rs (All-tail IsRelease r rs all) (omega (arith, is))))
-
-  first_lane : lane_in a1.lanes l ≡ lane1
+  pub first_lane : lane_in a1.lanes l ≡ lane1
   first_lane = get_or-set_same a.lanes l lane1 (histories.entries_of [] 0) here
+
+  -- they are at the front then
+  pub front_more : (z : Entry) (zs : List Entry) → is_ordered (queue_of a.shape y.queue).kind ≡ true → AreAtFront a l y.queue (y ∷ z ∷ zs) → AreAtFront a1 l y.queue (z ∷ zs)
+  front_more z zs ordered all =
+      record {
+        alone = ap (λ xs. slice_index xs l) zero_here ∙ get_or-set_same a.extras.items l 0 0 (omega (arith, lane, core.extras));
+        turn = λ k x at.
+            let old = all.turn (suc k) x at in
+            (old.0, old.1 ∙ (sym (counted_on r.first k) ∙ ap (λ s. number_of s k) (sym order_is)));
+        next = ap (λ (s : Reordering). is_done (slice_get s.places (length (z ∷ zs)))) order_is ∙ (ap is_done (slice_get-drop_one r.places (length (z ∷ zs))) ∙ all.next);
+      }
+    where
+      order_is : order_at a1.orders y.queue ≡ without_oldest r
+      order_is = first_order ∙ left_restoring r 1 (restoring ∙ ordered)
 
 -- ---- all of them
 
+-- the one behind the oldest isn't answered
+second_waits :
+    (a : Inside) (l : ℕ) (y z : Entry) (zs : List Entry) → IsCore a → l < lanes_of a.shape → (lane_in a.lanes l).entries ≡ y ∷ z ∷ zs → z.queue ≡ y.queue → is_ordered (queue_of a.shape y.queue).kind ≡ true → z.place ≡ number_of (order_at a.orders y.queue) 1
+    → is_done (slice_get (order_at a.orders y.queue).places 1) ≡ false
+second_waits a l y z zs core lane are same ordered place =
+    let here : l < length a.lanes = lane_there a (view_in a) l core refl lane in
+    let there : y.queue < length a.shape.queues = oldest_queue a (view_in a) l y core refl lane (ap (λ xs. slice_get xs 0) are) in
+    let at : entry_at (map entries_in a.lanes) l 1 ≡ Some z = ap (λ xs. slice_get xs 1) (entries_here a.lanes l (lane_in a.lanes l) here (lane_is a.lanes l here) ∙ are) in
+    let stands = core.places.held l 1 z at (subst (λ n. is_ordered (queue_of a.shape n).kind ≡ true) (sym same) ordered) in
+    waits_at_index a.shape (kept_room (queue_of a.shape y.queue)) (waits_at a.queues y.queue) (order_at a.orders y.queue) z _ 1 (core.places.each y.queue there)
+    (subst (λ n. StandsIn (order_at a.orders n) z (added_beside a.extras.items l 1)) same stands) place (omega arith)
+
 released_of : (ys : List Entry) (y : Entry) (rest : List Entry) (a : Inside) (l q : ℕ) (os : Vec SmallSet Global) (es : Vec ℕ Global) → IsCore a → l < lanes_of a.shape → (lane_in a.lanes l).entries ≡ y ∷ (ys ++ rest) → y.queue ≡ q → All (IsOfQueue q) ys
-    → is_ordered (queue_of a.shape q).kind ≡ false → IsOpened a.shape l a.open_slots.items os.items → es.items ≡ set a.extras.items l 0 → HasReleased a l q os es (y ∷ ys)
-released_of [] y rest a l q os es core lane are of all plain opens zeros =
+    → (is_ordered (queue_of a.shape y.queue).kind ≡ true → AreAtFront a l y.queue (y ∷ ys)) → IsOpened a.shape l a.open_slots.items os.items → es.items ≡ set a.extras.items l 0 → HasReleased a l q os es (y ∷ ys)
+released_of [] y rest a l q os es core lane are of all front opens zeros =
     subst (λ n. HasReleased a l n os es (y ∷ [])) of
-    (one_released a l y os es core lane (ap (λ xs. slice_get xs 0) are) (subst (λ n. is_ordered (queue_of a.shape n).kind ≡ false) (sym of) plain) opens zeros)
-released_of (z ∷ zs) y rest a l q os es core lane are of all plain opens zeros =
+    (one_released a l y os es core lane (ap (λ xs. slice_get xs 0) are) front opens zeros)
+released_of (z ∷ zs) y rest a l q os es core lane are of all front opens zeros =
     let oldest : slice_get (lane_in a.lanes l).entries 0 ≡ Some y = ap (λ xs. slice_get xs 0) are in
-    let kind : is_ordered (queue_of a.shape y.queue).kind ≡ false = subst (λ n. is_ordered (queue_of a.shape n).kind ≡ false) (sym of) plain in
     let still : z.queue ≡ y.queue = All-head (IsOfQueue q) z zs all ∙ sym of in
     let others : All (IsOfQueue y.queue) zs = subst (λ n. All (IsOfQueue n) zs) (sym of) (All-tail (IsOfQueue q) z zs all) in
-    let left : (lane_in (a1 a l y os es core lane oldest kind opens zeros).lanes l).entries ≡ z ∷ (zs ++ rest) =
-    ap (λ (x : Entries). x.entries) (first_lane a l y os es core lane oldest kind opens zeros) ∙ ap (drop 1) are in
+    let one : is_ordered (queue_of a.shape y.queue).kind ≡ true → AreAtFront a l y.queue (y ∷ []) =
+    λ ordered. record {
+      alone = (front ordered).alone;
+      turn = λ k x at. (front ordered).turn k x (within_one k x at);
+      next = second_waits a l y z (zs ++ rest) core lane are still ordered ((front ordered).turn 1 z refl).1;
+    } in
+    let left : (lane_in (a1 a l y os es core lane oldest one opens zeros).lanes l).entries ≡ z ∷ (zs ++ rest) =
+    ap (λ (x : Entries). x.entries) (first_lane a l y os es core lane oldest one opens zeros) ∙ ap (drop 1) are in
     subst (λ n. HasReleased a l n os es (y ∷ z ∷ zs)) of
-    (one_more a l y os es core lane oldest kind opens zeros z zs
-    (released_of zs z rest (a1 a l y os es core lane oldest kind opens zeros) l y.queue os es (one_core a l y os es core lane oldest kind opens zeros) lane left still others kind
+    (one_more a l y os es core lane oldest one opens zeros z zs
+    (released_of zs z rest (a1 a l y os es core lane oldest one opens zeros) l y.queue os es (one_core a l y os es core lane oldest one opens zeros) lane left still others
+    (λ ordered. subst (λ n. AreAtFront (a1 a l y os es core lane oldest one opens zeros) l n (z ∷ zs)) (sym still)
+    (front_more a l y os es core lane oldest one opens zeros z zs (subst (λ n. is_ordered (queue_of a.shape n).kind ≡ true) still ordered) (front (subst (λ n. is_ordered (queue_of a.shape n).kind ≡ true) still ordered))))
     (opened_still a.shape l a.open_slots.items os.items opens) (zeros ∙ (sym (set-set a.extras.items l 0 0) ∙ ap (λ xs. set xs l 0) (sym zeros)))))
+  where
+    within_one : (k : ℕ) (x : Entry) → slice_get (y ∷ []) k ≡ Some x → slice_get (y ∷ z ∷ zs) k ≡ Some x
+    within_one zero x at = at
+    within_one (suc k) x at = absurd (none-some x at)
 
 -- the oldest of them, so many
 pub released :
     (ws rest : List Entry) (a : Inside) (l q : ℕ) (os : Vec SmallSet Global) (es : Vec ℕ Global) → 0 < length ws → IsCore a → l < lanes_of a.shape → (lane_in a.lanes l).entries ≡ ws ++ rest → All (IsOfQueue q) ws
-    → is_ordered (queue_of a.shape q).kind ≡ false → IsOpened a.shape l a.open_slots.items os.items → es.items ≡ set a.extras.items l 0 → HasReleased a l q os es ws
-released [] rest a l q os es some core lane are all plain opens zeros = absurd (omega (arith, some))
-released (y ∷ ys) rest a l q os es some core lane are all plain opens zeros =
-    released_of ys y rest a l q os es core lane are (All-head (IsOfQueue q) y ys all) (All-tail (IsOfQueue q) y ys all) plain opens zeros
+    → (is_ordered (queue_of a.shape q).kind ≡ true → AreAtFront a l q ws) → IsOpened a.shape l a.open_slots.items os.items → es.items ≡ set a.extras.items l 0 → HasReleased a l q os es ws
+released [] rest a l q os es some core lane are all front opens zeros = absurd (omega (arith, some))
+released (y ∷ ys) rest a l q os es some core lane are all front opens zeros =
+    let of : y.queue ≡ q = All-head (IsOfQueue q) y ys all in
+    released_of ys y rest a l q os es core lane are of (All-tail (IsOfQueue q) y ys all)
+    (subst (λ n. is_ordered (queue_of a.shape n).kind ≡ true → AreAtFront a l n (y ∷ ys)) (sym of) front) opens zeros
 
 -- the oldest is among them
 pub some_released :
@@ -247,6 +400,37 @@ some_released zero most a v l q held core same lane oldest of some last =
     let first : unplaced stop.0 ≡ held = same_Some (unplaced stop.0) held (sym (oldest_first a v l stop.0 core same lane stop.1) ∙ oldest) in
     absurd (stop.2 (ap (λ (x : Held). x.queue) first ∙ of))
 some_released (suc n) most a v l q held core same lane oldest of some last = omega arith
+
+-- none was added beside the lane's oldest, as the code reads it
+pub alone_here : (a : Inside) (v : View) (l x : ℕ) → IsCore a → view_in a ≡ v → l < lanes_of v.shape → x ≡ get_or a.extras.items l x → x ≡ 0 → slice_index a.extras.items l ≡ 0
+alone_here a v l x core same lane read none =
+    let mine : l < lanes_of a.shape = subst (λ (u : View). l < lanes_of u.shape) (sym same) lane in
+    sym (get_or_read a.extras.items l x (omega (arith, mine, core.extras)) read 0) ∙ none
+
+-- its queue is there
+pub queue_known : (a : Inside) (v : View) (l q : ℕ) (held : Held) → IsCore a → view_in a ≡ v → l < lanes_of v.shape → oldest_at v l ≡ Some held → held.queue ≡ q → q < length v.shape.queues
+queue_known a v l q held core same lane oldest of =
+    let here : l < length a.lanes = lane_there a v l core same lane in
+    let first : oldest_at (view_in a) l ≡ Some held = subst (λ (u : View). oldest_at u l ≡ Some held) (sym same) oldest in
+    let there : held.queue < length a.shape.queues = oldest_known a.shape (map unanswered_in a.lanes) a.pins l held core.pins (in_view a l here) first in
+    subst (λ (u : View). q < length u.shape.queues) same (subst (λ n. n < length a.shape.queues) of there)
+
+-- how many they are, and which
+pub unanswered_count : (a : Inside) (v : View) (l : ℕ) → IsCore a → view_in a ≡ v → l < lanes_of v.shape → length (unanswered_at v l) ≡ length (lane_in a.lanes l).entries
+unanswered_count a v l core same lane = ap (λ (u : View). length (unanswered_at u l)) (sym same) ∙ held_here a l (lane_there a v l core same lane)
+
+pub unanswered_are : (a : Inside) (v : View) (l : ℕ) → IsCore a → view_in a ≡ v → l < lanes_of v.shape → unanswered_at v l ≡ map unplaced (lane_in a.lanes l).entries
+unanswered_are a v l core same lane =
+    let here : l < length a.lanes = lane_there a v l core same lane in
+    ap (λ (u : View). unanswered_at u l) (sym same) ∙ unanswered_here a l (lane_in a.lanes l) here (lane_is a.lanes l here)
+
+-- as many events as a view has
+pub held_few : (a : Inside) (v : View) (l n : ℕ) → IsCore a → view_in a ≡ v → l < lanes_of v.shape → n ≤ length (unanswered_at v l) → n ≤ length (lane_in a.lanes l).entries
+held_few a v l n core same lane few = omega (arith, few, unanswered_count a v l core same lane)
+
+-- there is room for all of them
+pub bounded : (a : Inside) (v : View) → IsCore a → view_in a ≡ v → inside_of v ≤ bound_of v.shape
+bounded a v core same = subst (λ (u : View). inside_of u ≤ bound_of u.shape) same core.within
 
 -- each slot has an event as it is answered
 pub lane_in_turn : (a : Inside) (v : View) (l q : ℕ) (held : Held) → IsCore a → view_in a ≡ v → l < lanes_of v.shape → oldest_at v l ≡ Some held → held.queue ≡ q → AreHeldInTurn q (pins_at a.pins q) (lane_in a.lanes l).entries
@@ -261,54 +445,145 @@ pub opened_in : (p : Plan) (l : ℕ) (sets : Vec SmallSet Global) (was now : Lis
 opened_in p l sets was now value len opens =
     subst (IsOpened p l sets.items) (sym (with_items_is sets now (opens.count ∙ len))) (subst (λ xs. IsOpened p l xs now) value opens)
 
+-- ---- the front, as the code sees it
+
+in_take : (n : ℕ) (xs : List Entry) (k : ℕ) (y : Entry) → slice_get (take n xs) k ≡ Some y → slice_get xs k ≡ Some y
+in_take zero xs k y at = absurd (none-some y at)
+in_take (suc n) [] k y at = at
+in_take (suc n) (x ∷ xs) zero y at = at
+in_take (suc n) (x ∷ xs) (suc k) y at = in_take n xs k y at
+
+into_take : (n : ℕ) (xs : List Entry) (k : ℕ) → k < n → slice_get (take n xs) k ≡ slice_get xs k
+into_take zero xs k lt = absurd (omega (arith, lt))
+into_take (suc n) [] k lt = refl
+into_take (suc n) (x ∷ xs) zero lt = refl
+into_take (suc n) (x ∷ xs) (suc k) lt = into_take n xs k (omega (arith, lt))
+
+-- As many events as are alike have the oldest places in turn, and one fewer is meant where the place behind them is answered.
+pub front_holds :
+    (a : Inside) (v : View) (l q n most alike turn : ℕ) (b : Bool) → IsCore a → view_in a ≡ v → l < lanes_of v.shape → q < length v.shape.queues → slice_index a.extras.items l ≡ 0 → 0 < n → n < 2 ^ 64
+    → n ≤ most → most ≤ alike → alike ≤ turn → turn ≤ length (lane_in a.lanes l).entries → (is_restoring (order_at a.orders q) ≡ true → AreInTurn q (order_at a.orders q) (take turn (lane_in a.lanes l).entries))
+    → b ≡ is_done (slice_get (order_at a.orders q).places alike) → (0 < most → most ≡ alike → b ≡ false) → is_ordered (queue_of a.shape q).kind ≡ true → AreAtFront a l q (take n (lane_in a.lanes l).entries)
+front_holds a v l q n most alike turn b core same lane there alone some small few fewer fewest held in_turn done last ordered =
+    record {
+      alone = alone;
+      turn = λ k y at. turns k y (in_take n ys k y at) (omega (arith, slice_get_within (take n ys) k y at, long, few, fewer, fewest));
+      next = ap (λ m. is_done (slice_get r.places m)) long ∙ by_end (cases_lt n turn);
+    }
+  where
+    ys : List Entry
+    ys = (lane_in a.lanes l).entries
+
+    r : Reordering
+    r = order_at a.orders q
+
+    here : l < length a.lanes
+    here = lane_there a v l core same lane
+
+    known : q < length a.shape.queues
+    known = subst (λ (u : View). q < length u.shape.queues) (sym same) there
+
+    long : length (take n ys) ≡ n
+    long = length-take-le n ys (omega (arith, few, fewer, fewest, held))
+
+    restoring : is_restoring r ≡ true
+    restoring = restores_here a q core known ∙ ordered
+
+    turned : AreInTurn q r (take turn ys)
+    turned = in_turn restoring
+
+    turns : (k : ℕ) (y : Entry) → slice_get ys k ≡ Some y → k < turn → (y.queue ≡ q) × (y.place ≡ number_of r k)
+    turns k y at lt = turned k y (into_take turn ys k lt ∙ at)
+
+    blank : Entry
+    blank = record { queue = 0; number = 0; slot = 0; place = 0 }
+
+    by_end : (n < turn) ⊎ (turn ≤ n) → is_done (slice_get r.places n) ≡ false
+    by_end (inl lt) =
+        let y : Entry = get_or ys n blank in
+        let at : slice_get ys n ≡ Some y = slice_get-get_or ys n blank (omega (arith, lt, held)) in
+        let of = turns n y at lt in
+        let entry : entry_at (map entries_in a.lanes) l n ≡ Some y = ap (λ (xs : List Entry). slice_get xs n) (entries_here a.lanes l (lane_in a.lanes l) here (lane_is a.lanes l here)) ∙ at in
+        let stands = core.places.held l n y entry (subst (λ m. is_ordered (queue_of a.shape m).kind ≡ true) (sym of.0) ordered) in
+        waits_at_index a.shape (kept_room (queue_of a.shape q)) (waits_at a.queues q) r y _ n (core.places.each q known)
+        (subst (λ m. StandsIn (order_at a.orders m) y (added_beside a.extras.items l n)) of.0 stands) of.1 small
+    by_end (inr past) =
+        let all : most ≡ alike = omega (arith, past, few, fewer, fewest) in
+        let last_one : alike ≡ n = omega (arith, past, few, fewer, fewest) in
+        ap (λ m. is_done (slice_get r.places m)) (sym last_one) ∙ (sym done ∙ last (omega (arith, some, few)) all)
+
+-- the queue has so many places
+pub enough_places :
+    (n : ℕ) (a : Inside) (v : View) (l q : ℕ) → IsCore a → view_in a ≡ v → l < lanes_of v.shape → q < length v.shape.queues → n < 2 ^ 64 → n ≤ length (lane_in a.lanes l).entries
+    → (is_ordered (queue_of a.shape q).kind ≡ true → AreAtFront a l q (take n (lane_in a.lanes l).entries)) → is_restoring (order_at a.orders q) ≡ true → n ≤ length (order_at a.orders q).places
+enough_places zero a v l q core same lane there small held front restoring = omega arith
+enough_places (suc k) a v l q core same lane there small held front restoring =
+    let ys : List Entry = (lane_in a.lanes l).entries in
+    let r : Reordering = order_at a.orders q in
+    let here : l < length a.lanes = lane_there a v l core same lane in
+    let known : q < length a.shape.queues = subst (λ (u : View). q < length u.shape.queues) (sym same) there in
+    let ordered : is_ordered (queue_of a.shape q).kind ≡ true = sym (restores_here a q core known) ∙ restoring in
+    let blank : Entry = record { queue = 0; number = 0; slot = 0; place = 0 } in
+    let y : Entry = get_or ys k blank in
+    let at : slice_get ys k ≡ Some y = slice_get-get_or ys k blank (omega (arith, held)) in
+    let of : (y.queue ≡ q) × (y.place ≡ number_of r k) = (front ordered).turn k y (into_take (suc k) ys k (omega arith) ∙ at) in
+    let entry : entry_at (map entries_in a.lanes) l k ≡ Some y = ap (λ (xs : List Entry). slice_get xs k) (entries_here a.lanes l (lane_in a.lanes l) here (lane_is a.lanes l here)) ∙ at in
+    let placed = core.places.held l k y entry (subst (λ m. is_ordered (queue_of a.shape m).kind ≡ true) (sym of.0) ordered) in
+    let stands : StandsIn r y (added_beside a.extras.items l k) = subst (λ m. StandsIn (order_at a.orders m) y (added_beside a.extras.items l k)) of.0 placed in
+    let index : stands.index ≡ k = index_at a.shape (kept_room (queue_of a.shape q)) (waits_at a.queues q) r y (added_beside a.extras.items l k) k (core.places.each q known) stands of.1 (omega (arith, small)) in
+    omega (arith, index, slice_get_within r.places stands.index stands.stands.shown stands.stands.there)
+
 -- the core, as the code leaves it
-module _ (a : Inside) (v : View) (l q n : ℕ) (os : Vec SmallSet Global) (es : Vec ℕ Global) (ls : List Entries) (ps : List (List Pin)) (core : IsCore a) (same : view_in a ≡ v) (lane : l < lanes_of v.shape) (some : 0 < n) (few : n ≤ length (unanswered_at v l)) (all : All (IsOfQueue q) (take n (lane_in a.lanes l).entries)) (plain : is_ordered (queue_of v.shape q).kind ≡ false) (opens : IsOpened a.shape l a.open_slots.items os.items) (zeros : es.items ≡ set a.extras.items l 0) (lanes : ls ≡ set a.lanes l (histories.entries_of (drop n (lane_in a.lanes l).entries) (lane_in a.lanes l).capacity)) (pins : ps ≡ set a.pins q (without_entries (pins_at a.pins q) (take n (lane_in a.lanes l).entries))) where
+module _ (a : Inside) (v : View) (l q n : ℕ) (os : Vec SmallSet Global) (rs : List Reordering) (ls : List Entries) (ps : List (List Pin)) (core : IsCore a) (same : view_in a ≡ v) (lane : l < lanes_of v.shape) (some : 0 < n) (few : n ≤ length (unanswered_at v l)) (all : All (IsOfQueue q) (take n (lane_in a.lanes l).entries)) (alone : slice_index a.extras.items l ≡ 0) (front : is_ordered (queue_of a.shape q).kind ≡ true → AreAtFront a l q (take n (lane_in a.lanes l).entries)) (opens : IsOpened a.shape l a.open_slots.items os.items) (orders : rs ≡ set a.orders q (left_in (order_at a.orders q) n)) (lanes : ls ≡ set a.lanes l (histories.entries_of (drop n (lane_in a.lanes l).entries) (lane_in a.lanes l).capacity)) (pins : ps ≡ set a.pins q (without_entries (pins_at a.pins q) (take n (lane_in a.lanes l).entries))) where
   within : n ≤ length (lane_in a.lanes l).entries
-  within = omega (arith, few, ap (λ (u : View). length (unanswered_at u l)) same, held_here a l (lane_there a v l core same lane))
+  within = held_few a v l n core same lane few
 
   long : length (take n (lane_in a.lanes l).entries) ≡ n
   long = length-take-le n (lane_in a.lanes l).entries within
 
-  rel : HasReleased a l q os es (take n (lane_in a.lanes l).entries)
+  zeros : a.extras.items ≡ set a.extras.items l 0
+  zeros = sym (set-get_or a.extras.items l 0) ∙ ap (set a.extras.items l) alone
+
+  rel : HasReleased a l q os a.extras (take n (lane_in a.lanes l).entries)
   rel =
-      released (take n (lane_in a.lanes l).entries) (drop n (lane_in a.lanes l).entries) a l q os es (omega (arith, some, long)) core (subst (λ (u : View). l < lanes_of u.shape) (sym same) lane)
-      (sym (take-append-drop n (lane_in a.lanes l).entries)) all (subst (λ (u : View). is_ordered (queue_of u.shape q).kind ≡ false) (sym same) plain) opens zeros
+      released (take n (lane_in a.lanes l).entries) (drop n (lane_in a.lanes l).entries) a l q os a.extras (omega (arith, some, long)) core (subst (λ (u : View). l < lanes_of u.shape) (sym same) lane)
+      (sym (take-append-drop n (lane_in a.lanes l).entries)) all front opens zeros
 
-  pub row_core : IsCore (record a { lanes = ls; extras = es; pins = ps; open_slots = os; inside = a.inside - n })
-  row_core =
-      subst (λ xs. IsCore (record a { lanes = xs; extras = es; pins = ps; open_slots = os; inside = a.inside - n })) (sym lanes)
-      (subst (λ xs. IsCore (record a { lanes = set a.lanes l (histories.entries_of (drop n (lane_in a.lanes l).entries) (lane_in a.lanes l).capacity); extras = es; pins = xs; open_slots = os; inside = a.inside - n })) (sym pins)
-      (subst (λ k. IsCore (record a { lanes = set a.lanes l (histories.entries_of (drop k (lane_in a.lanes l).entries) (lane_in a.lanes l).capacity); extras = es; pins = set a.pins q (without_entries (pins_at a.pins q) (take n (lane_in a.lanes l).entries)); open_slots = os; inside = a.inside - k })) long rel.core))
+  -- the same core
+  code_is : without a l q os a.extras (take n (lane_in a.lanes l).entries) ≡ record a { orders = rs; lanes = ls; pins = ps; open_slots = os; inside = a.inside - n }
+  code_is =
+      ap (λ k. record a { orders = set a.orders q (left_in (order_at a.orders q) k); lanes = set a.lanes l (histories.entries_of (drop k (lane_in a.lanes l).entries) (lane_in a.lanes l).capacity); pins = set a.pins q (without_entries (pins_at a.pins q) (take n (lane_in a.lanes l).entries)); open_slots = os; inside = a.inside - k }) long
+      ∙ (ap (λ xs. record a { orders = xs; lanes = set a.lanes l (histories.entries_of (drop n (lane_in a.lanes l).entries) (lane_in a.lanes l).capacity); pins = set a.pins q (without_entries (pins_at a.pins q) (take n (lane_in a.lanes l).entries)); open_slots = os; inside = a.inside - n }) (sym orders)
+      ∙ (ap (λ xs. record a { orders = rs; lanes = xs; pins = set a.pins q (without_entries (pins_at a.pins q) (take n (lane_in a.lanes l).entries)); open_slots = os; inside = a.inside - n }) (sym lanes)
+      ∙ ap (λ xs. record a { orders = rs; lanes = ls; pins = xs; open_slots = os; inside = a.inside - n }) (sym pins)))
 
-  pub row_view : view_in (record a { lanes = ls; extras = es; pins = ps; open_slots = os; inside = a.inside - n }) ≡ after v (release_steps l n)
-  row_view =
-      ap (λ xs. view_in (record a { lanes = xs; extras = es })) lanes
-      ∙ (sym (ap (λ k. view_in (record a { lanes = set a.lanes l (histories.entries_of (drop k (lane_in a.lanes l).entries) (lane_in a.lanes l).capacity); extras = es })) long)
-      ∙ (rel.view ∙ (ap (λ k. after (view_in a) (release_steps l k)) long ∙ ap (λ u. after u (release_steps l n)) same)))
+  pub row_core : IsCore (record a { orders = rs; lanes = ls; pins = ps; open_slots = os; inside = a.inside - n })
+  row_core = subst IsCore code_is rel.core
 
-  pub row_may : (rs : List Reply) → All IsRelease rs → length rs ≡ n → MayBeTaken v (row_of l rs)
-  row_may rs each is = subst (λ u. MayBeTaken u (row_of l rs)) same (rel.may rs each (is ∙ sym long))
+  pub row_view : view_in (record a { orders = rs; lanes = ls; pins = ps; open_slots = os; inside = a.inside - n }) ≡ after v (release_steps l n)
+  row_view = ap view_in (sym code_is) ∙ (rel.view ∙ (ap (λ k. after (view_in a) (release_steps l k)) long ∙ ap (λ u. after u (release_steps l n)) same))
 
-  pub row_logged : (rs : List Reply) → All IsRelease rs → length rs ≡ n → replies_steps v (row_of l rs) ≡ release_steps l n
-  row_logged rs each is = subst (λ u. replies_steps u (row_of l rs) ≡ release_steps l n) same (rel.steps rs each (is ∙ sym long) ∙ ap (release_steps l) long)
+  pub row_leave : LeaveInTurn v l q (take n (unanswered_at v l))
+  row_leave =
+      subst (LeaveInTurn v l q)
+      (sym (take-map unplaced n (lane_in a.lanes l).entries) ∙ ap (take n) (sym (unanswered_here a l (lane_in a.lanes l) (lane_there a v l core same lane) (lane_is a.lanes l (lane_there a v l core same lane))) ∙ ap (λ (u : View). unanswered_at u l) same))
+      (subst (λ u. LeaveInTurn u l q (map unplaced (take n (lane_in a.lanes l).entries))) same rel.leave)
 
--- ---- replies
+  -- its counts
+  counts_hold : IsCore (record a { orders = rs; lanes = ls; pins = ps; open_slots = os; inside = a.inside - n })
+      → (inside_of (view_in (record a { orders = rs; lanes = ls; pins = ps; open_slots = os; inside = a.inside - n })) + n ≡ inside_of v) × (entries_of (view_in (record a { orders = rs; lanes = ls; pins = ps; open_slots = os; inside = a.inside - n })) ≡ entries_of v)
+  counts_hold now = (
+    omega (arith, now.inside, rel.inside, long, core.inside, ap inside_of same),
+    omega (arith, now.entries, core.entries, ap entries_of same),
+  )
 
--- what is like a RELEASE is one
-pub all_release : (d : Event) (rs : List Reply) (m k n : ℕ) → d.op ≡ ops.Release → All (λ (r : Reply). IsLike d r.event) (take k (take m rs)) → k ≤ length (take m rs) → n ≤ k → All IsRelease (take n rs)
-all_release d rs m k n op like few fewer =
-    let within : k ≤ m = omega (arith, few, length-take m rs) in
-    let all : All IsRelease (take k rs) =
-    subst (All IsRelease) (take-take k m rs within) (All-weaker (λ (r : Reply). IsLike d r.event) IsRelease (λ r same. same.op ∙ op) (take k (take m rs)) like) in
-    subst (All IsRelease) (take-take n k rs fewer) (All-take IsRelease n (take k rs) all)
+  pub row_inside : inside_of (view_in (record a { orders = rs; lanes = ls; pins = ps; open_slots = os; inside = a.inside - n })) + n ≡ inside_of v
+  row_inside = (counts_hold row_core).0
 
-pub first_ones : (rs : List Reply) (m k n : ℕ) → k ≤ length (take m rs) → n ≤ k → length (take n rs) ≡ n
-first_ones rs m k n few fewer = length-take-le n rs (omega (arith, few, fewer, length-take m rs))
+  pub row_entries : entries_of (view_in (record a { orders = rs; lanes = ls; pins = ps; open_slots = os; inside = a.inside - n })) ≡ entries_of v
+  row_entries = (counts_hold row_core).1
 
-pub releases_new : (l n : ℕ) → new_count (release_steps l n) ≡ 0
-releases_new l zero = refl
-releases_new l (suc n) = omega (arith, sum_by-cons (λ (s : Step). cond (is_new s) 1 0) (Done l Released) (release_steps l n), releases_new l n)
-
-pub releases_turned : (l n : ℕ) → turned_count (release_steps l n) ≡ 0
-releases_turned l zero = refl
-releases_turned l (suc n) = omega (arith, sum_by-cons (λ (s : Step). cond (is_turned s) 1 0) (Done l Released) (release_steps l n), releases_turned l n)
+  pub row_kept : kept_in (view_in (record a { orders = rs; lanes = ls; pins = ps; open_slots = os; inside = a.inside - n })) ≡ kept_in v
+  row_kept =
+      ap kept_in row_view
+      ∙ subst (λ k. kept_in (after v (release_steps l k)) ≡ kept_in v) (length-take-le n (unanswered_at v l) few) (leave_kept (take n (unanswered_at v l)) v l q row_leave)

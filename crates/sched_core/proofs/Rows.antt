@@ -22,7 +22,7 @@ use Rattle.sched_core.proofs.Busy.{waits_is}
 use Rattle.sched_core.proofs.Cores.{accept_counts, core_accepts, fits_number, fits_queue, queue_here, view_accepts}
 use Rattle.sched_core.proofs.Settling.{after-append}
 use Rattle.sched_core.proofs.Steps.{taken_stands}
-use Rattle.sched_core.specs.Rows.{IsLike, IsNewOf, IsNewRow, row_of}
+use Rattle.sched_core.specs.Rows.{HasRoomFor, IsFor, IsLike, IsNewOf, IsNewRow, after_waiting, row_of}
 use Rattle.sched_core.specs.View.{IsCore, view_in}
 use Rattle.sched_core.specs.declared.state.Core.TheInside.{Inside}
 use Rattle.step_log.specs.Rows.{news_steps}
@@ -115,22 +115,32 @@ new_steps v l q e o new unshut is =
 abbrev pub with_news : Inside → ℕ → List Reply → Inside
 with_news a q rs = record a { queues = set a.queues q (with_replies (waits_at a.queues q) rs); inside = a.inside + length rs; entries = a.entries + length rs }
 
-pub record HasTaken (a : Inside) (l q : ℕ) (rs : List Reply) : Type 0 where
+-- NEWs of a port's own lane
+abbrev pub IsNew : Reply → Type 0
+IsNew r = r.event.op ≡ ops.New
+
+pub record AreNews (v : View) (l : ℕ) (rs : List Reply) : Type 0 where
+  pub port : l < length v.shape.ports
+  pub unshut : v.shut ≡ false
+  pub each : All IsNew rs
+
+-- their events wait, and if they are NEWs they are taken by that
+pub record HasTaken (a : Inside) (q : ℕ) (rs : List Reply) : Type 0 where
   pub core : IsCore (with_news a q rs)
-  pub view : view_in (with_news a q rs) ≡ after (view_in a) (news_steps l q rs)
-  pub may : MayBeTaken (view_in a) (row_of l rs)
-  pub steps : replies_steps (view_in a) (row_of l rs) ≡ news_steps l q rs
+  pub view : view_in (with_news a q rs) ≡ after_waiting (view_in a) q rs
+  pub may : (l : ℕ) → l < lanes_of a.shape → AreNews (view_in a) l rs → MayBeTaken (view_in a) (row_of l rs)
+  pub steps : (l : ℕ) → AreNews (view_in a) l rs → replies_steps (view_in a) (row_of l rs) ≡ news_steps l q rs
 
 none_same : (a : Inside) (q : ℕ) → with_news a q [] ≡ a
 none_same a q =
     ap (λ qs. record a { queues = qs; inside = a.inside + 0; entries = a.entries + 0 }) (ap (set a.queues q) (waits_none (waits_at a.queues q)) ∙ set-get_or a.queues q (no_waits 1 0))
     ∙ (ap (λ n. record a { inside = n; entries = a.entries + 0 }) (add-zero a.inside) ∙ ap (λ n. record a { entries = n }) (add-zero a.entries))
 
-none_taken : (a : Inside) (l q : ℕ) → IsCore a → HasTaken a l q []
-none_taken a l q core = record { core = subst IsCore (sym (none_same a q)) core; view = ap view_in (none_same a q); may = tt; steps = refl }
+none_taken : (a : Inside) (q : ℕ) → IsCore a → HasTaken a q []
+none_taken a q core = record { core = subst IsCore (sym (none_same a q)) core; view = ap view_in (none_same a q); may = λ l lane news. tt; steps = λ l news. refl }
 
 -- one, and the rest of them
-module _ (a : Inside) (l q c : ℕ) (r : Reply) (rs : List Reply) (core : IsCore a) (few : c < 4) (lane : l < lanes_of a.shape) (row : IsNewRow (view_in a) l q c (r ∷ rs)) where
+module _ (a : Inside) (q c : ℕ) (r : Reply) (rs : List Reply) (core : IsCore a) (few : c < 4) (row : HasRoomFor (view_in a) q c (r ∷ rs)) where
   abbrev e : Event
   e = r.event
 
@@ -143,8 +153,8 @@ module _ (a : Inside) (l q c : ℕ) (r : Reply) (rs : List Reply) (core : IsCore
   abbrev a1 : Inside
   a1 = record a { queues = set a.queues q w1; inside = a.inside + 1; entries = a.entries + 1 }
 
-  is : IsNewOf q c r
-  is = All-head (IsNewOf q c) r rs row.each
+  is : IsFor q c r
+  is = All-head (IsFor q c) r rs row.each
 
   h : q < length a.queues
   h = omega (arith, row.queue, core.queues)
@@ -172,21 +182,13 @@ module _ (a : Inside) (l q c : ℕ) (r : Reply) (rs : List Reply) (core : IsCore
   counts : (inside_of (view_in a1) ≡ inside_of (view_in a) + 1) × (entries_of (view_in a1) ≡ entries_of (view_in a) + 1)
   counts = accept_counts a q w w1 e (view_in a) core refl inside entries h (waits_is a.queues q h) refl sound
 
-  row1 : IsNewRow (view_in a1) l q c rs
+  row1 : HasRoomFor (view_in a1) q c rs
   row1 = record {
-    port = row.port;
     queue = row.queue;
-    unshut = row.unshut;
     inside = omega (arith, row.inside, counts.0);
     entries = omega (arith, row.entries, counts.1);
-    each = All-tail (IsNewOf q c) r rs row.each;
+    each = All-tail (IsFor q c) r rs row.each;
   }
-
-  step : steps_of (view_in a) l e ≡ Accept q e (New l) ∷ []
-  step = new_steps (view_in a) l q e e.op is.op row.unshut is.queue
-
-  after1 : after (view_in a) (steps_of (view_in a) l e) ≡ view_in a1
-  after1 = ap (after (view_in a)) step ∙ sym view1
 
   joined : with_news a1 q rs ≡ with_news a q (r ∷ rs)
   joined =
@@ -196,25 +198,56 @@ module _ (a : Inside) (l q c : ℕ) (r : Reply) (rs : List Reply) (core : IsCore
       ∙ (ap (λ n. record a { queues = set a.queues q (with_replies w (r ∷ rs)); inside = n; entries = (a.entries + 1) + length rs }) (omega arith)
       ∙ ap (λ n. record a { queues = set a.queues q (with_replies w (r ∷ rs)); inside = a.inside + suc (length rs); entries = n }) (omega arith))
 
-  one_taken : HasTaken a1 l q rs → HasTaken a l q (r ∷ rs)
+  one_taken : HasTaken a1 q rs → HasTaken a q (r ∷ rs)
   one_taken rest =
       record {
         core = subst IsCore joined rest.core;
-        view = ap view_in (sym joined) ∙ (rest.view ∙ ap (λ v. after v (news_steps l q rs)) view1);
-        may = (
+        view = ap view_in (sym joined) ∙ (rest.view ∙ ap (λ v. after_waiting v q rs) view1);
+        may = λ l lane news. (
           lane,
-          new_may (view_in a) l e e.op is.op row.port (subst (λ n. n < length a.shape.queues) (sym is.queue) row.queue) inside entries,
-          subst (λ v. MayBeTaken v (row_of l rs)) (sym after1) rest.may,
+          new_may (view_in a) l e e.op (news_op news) news.port (subst (λ n. n < length a.shape.queues) (sym is.queue) row.queue) inside entries,
+          subst (λ v. MayBeTaken v (row_of l rs)) (sym (after1 l news)) (rest.may l lane (fewer_news l news)),
         );
-        steps = ap (λ v. steps_of (view_in a) l e ++ replies_steps v (row_of l rs)) after1
-            ∙ (ap (λ ss. ss ++ replies_steps (view_in a1) (row_of l rs)) step ∙ ap (λ ss. Accept q e (New l) ∷ ss) rest.steps);
+        steps = λ l news.
+            ap (λ v. steps_of (view_in a) l e ++ replies_steps v (row_of l rs)) (after1 l news)
+            ∙ (ap (λ ss. ss ++ replies_steps (view_in a1) (row_of l rs)) (step l news) ∙ ap (λ ss. Accept q e (New l) ∷ ss) (rest.steps l (fewer_news l news)));
       }
+    where
+      news_op : {l : ℕ} → AreNews (view_in a) l (r ∷ rs) → e.op ≡ ops.New
+      news_op news = All-head IsNew r rs news.each
 
-pub news_taken : (rs : List Reply) (a : Inside) (l q c : ℕ) → IsCore a → c < 4 → l < lanes_of a.shape → IsNewRow (view_in a) l q c rs → HasTaken a l q rs
-news_taken [] a l q c core few lane row = none_taken a l q core
-news_taken (r ∷ rs) a l q c core few lane row =
-    one_taken a l q c r rs core few lane row
-    (news_taken rs (a1 a l q c r rs core few lane row) l q c (core1 a l q c r rs core few lane row) few lane (row1 a l q c r rs core few lane row))
+      fewer_news : (l : ℕ) → AreNews (view_in a) l (r ∷ rs) → AreNews (view_in a1) l rs
+      fewer_news l news = record { port = news.port; unshut = news.unshut; each = All-tail IsNew r rs news.each }
+
+      step : (l : ℕ) → AreNews (view_in a) l (r ∷ rs) → steps_of (view_in a) l e ≡ Accept q e (New l) ∷ []
+      step l news = new_steps (view_in a) l q e e.op (news_op news) news.unshut is.queue
+
+      after1 : (l : ℕ) → AreNews (view_in a) l (r ∷ rs) → after (view_in a) (steps_of (view_in a) l e) ≡ view_in a1
+      after1 l news = ap (after (view_in a)) (step l news) ∙ sym view1
+
+pub waits_taken : (rs : List Reply) (a : Inside) (q c : ℕ) → IsCore a → c < 4 → HasRoomFor (view_in a) q c rs → HasTaken a q rs
+waits_taken [] a q c core few row = none_taken a q core
+waits_taken (r ∷ rs) a q c core few row =
+    one_taken a q c r rs core few row (waits_taken rs (a1 a q c r rs core few row) q c (core1 a q c r rs core few row) few (row1 a q c r rs core few row))
+
+-- what a row of NEWs is
+pub news_room : (v : View) (l q c : ℕ) (rs : List Reply) → IsNewRow v l q c rs → HasRoomFor v q c rs
+news_room v l q c rs row =
+    record {
+      queue = row.queue;
+      inside = row.inside;
+      entries = row.entries;
+      each = All-weaker (IsNewOf q c) (IsFor q c) (λ r of. record { queue = of.queue; level = of.level }) rs row.each;
+    }
+
+pub are_news : (v : View) (l q c : ℕ) (rs : List Reply) → IsNewRow v l q c rs → AreNews v l rs
+are_news v l q c rs row = record { port = row.port; unshut = row.unshut; each = All-weaker (IsNewOf q c) IsNew (λ r of. of.op) rs row.each }
+
+pub news_taken : (rs : List Reply) (a : Inside) (l q c : ℕ) → IsCore a → c < 4 → l < lanes_of a.shape → IsNewRow (view_in a) l q c rs
+    → MayBeTaken (view_in a) (row_of l rs) × (replies_steps (view_in a) (row_of l rs) ≡ news_steps l q rs)
+news_taken rs a l q c core few lane row =
+    let taken = waits_taken rs a q c core few (news_room (view_in a) l q c rs row) in
+    (taken.may l lane (are_news (view_in a) l q c rs row), taken.steps l (are_news (view_in a) l q c rs row))
 
 pub news_shape : (l q : ℕ) (rs : List Reply) (v : View) → (after v (news_steps l q rs)).shape ≡ v.shape
 news_shape l q [] v = refl

@@ -84,7 +84,7 @@ flushed-turn v q x h e =
 
 -- ---- no place leaves any more
 
-leaving_none : (xs : List Place) → oldest_answered xs ≡ None → leaving xs ≡ []
+pub leaving_none : (xs : List Place) → oldest_answered xs ≡ None → leaving xs ≡ []
 leaving_none [] e = refl
 leaving_none (x ∷ xs) e = by_case (cases_Bool x.answered)
   where

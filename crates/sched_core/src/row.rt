@@ -1,13 +1,13 @@
 //! Replies of a lane that are taken in a row: counts are kept and the log is told once for all of them.
 
 ghost use Rattle.std.specs.Prelude.{◌≡◌, ◌+◌, ◌*◌, ◌<◌, ◌≤◌, ◌^◌, false, List, ◌++◌, length, take, All, Some, IsTrue};
-ghost use Rattle.evt_types.specs.Plan.{is_ordered, lanes_of, level_of, queue_of};
+ghost use Rattle.evt_types.specs.Plan.{lanes_of, level_of};
 ghost use Rattle.evt_types.specs.declared.event.Reply.{Reply as ReplyValue};
 ghost use Rattle.evt_types.specs.declared.step.Step.{Step as StepValue};
-ghost use Rattle.sched_core.specs.Rows.{IsLike, IsNewRow, IsRelease, row_of};
+ghost use Rattle.sched_core.specs.Rows.{HasRoomFor, IsLike, IsNewRow, LeaveInTurn, after_waiting, row_of};
 ghost use Rattle.step_log.specs.Rows.{news_steps, release_steps};
 ghost use Rattle.transcripts.specs.Replies.{new_count, turned_count};
-ghost use Rattle.transcripts.specs.Standing.{Stands, after, entries_of, kept_in, oldest_at, unanswered_at};
+ghost use Rattle.transcripts.specs.Standing.{Stands, after, entries_of, inside_of, kept_in, oldest_at, unanswered_at};
 ghost use Rattle.transcripts.specs.Sweep.{MayBeTaken, replies_steps};
 ghost use Rattle.transcripts.specs.Transcript.{Held};
 
@@ -42,6 +42,19 @@ fn like(first: &PackedEvent, replies: &[Reply]) -> usize
     replies.len()
 }
 
+/// So many, or one fewer.
+#[inline(always)]
+fn fewer(count: usize, by_one: bool) -> usize
+    ensures few { result ≤ count }
+    ensures same { 0 < result → result ≡ count → by_one ≡ false }
+{
+    if by_one {
+        count.saturating_sub(1)
+    } else {
+        count
+    }
+}
+
 impl Core {
     /// Whether so many new events of the lane may be taken for the queue, as far as there is room for them inside.
     #[inline(always)]
@@ -71,6 +84,19 @@ impl Core {
         like(first, &replies[..most])
     }
 
+    /// The events of the replies wait in the queue, one after the other.
+    #[inline(always)]
+    fn wait_row(&mut self, queue: usize, level: Level, replies: &[Reply])
+        requires some { 0 < length replies.now }
+        requires room { HasRoomFor self.old queue level.number replies.now }
+        ensures { self.new ≡ after_waiting self.old queue replies.now }
+    {
+        let count = replies.len();
+        self.queues.accept_row(queue, level, replies);
+        self.inside += count;
+        self.entries += count as u64;
+    }
+
     /// These NEWs wait in their queue, one after the other.
     #[inline(always)]
     fn accept_row<L: StepLog>(
@@ -91,10 +117,9 @@ impl Core {
         ensures logged { L.steps log.new ≡ L.steps log.old ++ replies_steps self.old (row_of lane replies.now) }
         ensures room { L.room log.old ≤ L.room log.new + length replies.now }
     {
-        let count = replies.len();
-        self.queues.accept_row(queue, level, replies);
-        self.inside += count;
-        self.entries += count as u64;
+        // The use of a field makes known what holds of each core.
+        let _ = &self.shape;
+        self.wait_row(queue, level, replies);
         log.push_news(lane, queue, replies);
     }
 
@@ -128,41 +153,51 @@ impl Core {
         count
     }
 
-    /// The lane's oldest unanswered events are released, as far as they are of the queue, which restores no order, and no more than so
-    /// many: how many.
+    /// The lane's oldest unanswered events, of the queue, are answered by replies like this one, as far as each leaves the queue's order at
+    /// once and nothing with it: how many. What they are passed on as is still to wait and to be logged.
     #[inline(always)]
-    fn release_row<L: StepLog>(
+    fn answer_row(
         &mut self,
         lane: usize,
         queue: usize,
-        most: usize,
-        log: &mut L,
+        first: &PackedEvent,
+        replies: &[Reply],
     ) -> usize
         requires lane { lane < lanes_of self.old.shape }
         requires oldest { (held : Held) × (oldest_at self.old lane ≡ Some held) × (held.queue ≡ queue) }
-        requires plain { is_ordered (queue_of self.old.shape queue).kind ≡ false }
-        requires some { 0 < most }
-        requires most { most ≤ length (unanswered_at self.old lane) }
-        requires room { most ≤ L.room log.old }
-        ensures few { result ≤ most }
-        ensures may { (replies : List ReplyValue) → All IsRelease replies → length replies ≡ result → MayBeTaken self.old (row_of lane replies) }
-        ensures steps { (replies : List ReplyValue) → All IsRelease replies → length replies ≡ result → replies_steps self.old (row_of lane replies) ≡ release_steps lane result }
+        requires most { length replies.now ≤ length (unanswered_at self.old lane) }
+        ensures few { result ≤ length replies.now }
+        ensures like { All (λ (r : ReplyValue). IsLike first.now r.event) (take result replies.now) }
+        ensures leave { LeaveInTurn self.old lane queue (take result (unanswered_at self.old lane)) }
         ensures view { self.new ≡ after self.old (release_steps lane result) }
-        ensures logged { L.steps log.new ≡ L.steps log.old ++ release_steps lane result }
+        ensures inside { inside_of self.new + result ≡ inside_of self.old }
+        ensures entries { entries_of self.new ≡ entries_of self.old }
         ensures kept { kept_in self.new ≡ kept_in self.old }
-        ensures room { L.room log.old ≤ L.room log.new + result }
     {
+        if self.extras[lane] > 0 {
+            return 0;
+        }
+        let turn = self.orders.in_turn(queue, &self.lanes, lane, replies.len());
+        // A single event is answered for less by itself.
+        if turn < 2 {
+            return 0;
+        }
+        let alike = like(first, &replies[..turn]);
+        // The place behind the last one may be answered, and would leave with it.
+        let most = fewer(alike, self.orders.is_answered(queue, alike));
+        if most < 2 {
+            return 0;
+        }
         open_slot(&mut self.open_slots, &self.shape, lane);
         let count = self.pins.unpin_oldest(queue, &self.lanes, lane, most);
+        self.orders.drop_oldest(queue, count);
         self.lanes.drop_oldest(lane, count);
-        self.extras[lane] = 0;
         self.inside -= count;
-        log.push_releases(lane, count);
         count
     }
 
-    /// Takes the oldest of the lane's replies in a row, as long as they are RELEASEs that are alike and answer events of one queue that
-    /// restores no order: how many. It may take none where `take` would take some.
+    /// Takes the oldest of the lane's replies in a row, as long as they are RELEASEs that are alike and answer events of one queue, and
+    /// nothing that was kept leaves with them: how many. It may take none where `take` would take some.
     #[inline(always)]
     pub fn take_releases<L: StepLog>(
         &mut self,
@@ -189,15 +224,64 @@ impl Core {
         if first.event.op() != Op::Release || self.lanes.is_empty(lane) {
             return 0;
         }
-        let queue = self.lanes.oldest(lane).queue;
-        if self.restores_order(queue) {
-            return 0;
-        }
         let most = self.lanes.len(lane).min(replies.len());
-        let alike = like(&first.event, &replies[..most]);
-        if alike == 0 {
+        let queue = self.lanes.oldest(lane).queue;
+        let count = self.answer_row(lane, queue, &first.event, &replies[..most]);
+        if count == 0 {
             return 0;
         }
-        self.release_row(lane, queue, alike, log)
+        log.push_releases(lane, count);
+        count
+    }
+
+    /// Whether the queue is there, and so many events may be accepted, as far as their number goes.
+    #[inline(always)]
+    fn may_pass_row(&self, queue: usize, count: usize) -> bool
+        ensures queue { IsTrue result → queue < length self.now.shape.queues }
+        ensures entries { IsTrue result → entries_of self.now + count ≤ 2 ^ 63 }
+    {
+        queue < self.queues.len() && count as u64 <= MAX_ENTRIES - self.entries
+    }
+
+    /// Takes the oldest of the lane's replies in a row, as long as they are FORWARDs that are alike and answer events of one queue, and
+    /// nothing that was kept leaves with them: how many. It may take none where `take` would take some.
+    #[inline(always)]
+    pub fn take_forwards<L: StepLog>(
+        &mut self,
+        lane: usize,
+        replies: &[Reply],
+        log: &mut L,
+    ) -> usize
+        requires lane { lane < lanes_of self.old.shape }
+        requires room { 2 * length replies.now ≤ L.room log.old }
+        ensures few { result ≤ length replies.now }
+        ensures may { MayBeTaken self.old (row_of lane (take result replies.now)) }
+        ensures view { self.new ≡ after self.old (replies_steps self.old (row_of lane (take result replies.now))) }
+        ensures logged { L.steps log.new ≡ L.steps log.old ++ replies_steps self.old (row_of lane (take result replies.now)) }
+        ensures stands { (T : List StepValue) → Stands T self.old → Stands (T ++ replies_steps self.old (row_of lane (take result replies.now))) self.new }
+        ensures accepted { new_count (replies_steps self.old (row_of lane (take result replies.now))) ≡ 0 }
+        ensures turned { turned_count (replies_steps self.old (row_of lane (take result replies.now))) ≡ 0 }
+        ensures shape { self.new.shape ≡ self.old.shape }
+        ensures kept { kept_in self.new ≡ kept_in self.old }
+        ensures room { L.room log.old ≤ L.room log.new + 2 * result }
+    {
+        let Some(first) = replies.first() else {
+            return 0;
+        };
+        let most = self.lanes.len(lane).min(replies.len()).min(32);
+        let target = usize::from(first.event.queue());
+        if first.event.op() != Op::Forward || most == 0 || !self.may_pass_row(target, most) {
+            return 0;
+        }
+        let queue = self.lanes.oldest(lane).queue;
+        let numbers = self.lanes.numbers(lane, most);
+        let count = self.answer_row(lane, queue, &first.event, &replies[..most]);
+        if count == 0 {
+            return 0;
+        }
+        let row = &replies[..count];
+        self.wait_row(target, Level::of(&first.event), row);
+        log.push_forwards(lane, queue, target, &numbers.as_slice()[..count], row);
+        count
     }
 }

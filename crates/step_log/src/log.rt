@@ -1,10 +1,10 @@
 //! What every log can do.
 
-ghost use Rattle.std.specs.Prelude.{◌≡◌, ℕ, ◌+◌, ◌-◌, ◌<◌, ◌≤◌, ◌^◌, List, [], ◌∷◌, ◌++◌, length, vec_len, vec_capacity, OnOk};
+ghost use Rattle.std.specs.Prelude.{◌≡◌, ℕ, ◌+◌, ◌-◌, ◌*◌, ◌<◌, ◌≤◌, ◌^◌, List, [], ◌∷◌, ◌++◌, length, vec_len, vec_capacity, OnOk};
 ghost use Rattle.std.proofs.Common.{rules};
 ghost use Rattle.evt_types.specs.declared.step.Step.{Step as StepValue};
 ghost use Rattle.step_log.specs.Gives.{gives_of};
-ghost use Rattle.step_log.specs.Rows.{news_steps, release_steps};
+ghost use Rattle.step_log.specs.Rows.{AreTo, forward_steps, news_steps, release_steps};
 
 use evt_types::{Delivery, Memory, Outcome, Reply, Source, Step};
 
@@ -47,6 +47,41 @@ pub trait StepLog: Drop {
             self.push_step(Step::Done {
                 lane,
                 outcome: Outcome::Released,
+            });
+        }
+    }
+
+    /// The lane passes the source's events of these numbers on as the events of the replies, one after the other, and the target accepts
+    /// each: two steps for each.
+    #[inline(always)]
+    fn push_forwards(
+        &mut self,
+        lane: usize,
+        source: usize,
+        target: usize,
+        numbers: &[u64],
+        replies: &[Reply],
+    )
+        requires pairs { length numbers.now ≡ length replies.now }
+        requires target { AreTo target replies.now }
+        requires room { 2 * length replies.now ≤ room self.old }
+        ensures steps { steps self.new ≡ steps self.old ++ forward_steps lane source numbers.now replies.now }
+        ensures room { room self.old ≤ room self.new + 2 * length replies.now }
+    {
+        for (index, reply) in replies.iter().enumerate() {
+            let event = reply.event.unpack();
+            let number = numbers[index];
+            self.push_step(Step::Done {
+                lane,
+                outcome: Outcome::Forwarded(event),
+            });
+            self.push_step(Step::Accept {
+                queue: target,
+                event,
+                source: Source::Of {
+                    queue: source,
+                    number,
+                },
             });
         }
     }

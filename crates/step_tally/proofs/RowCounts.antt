@@ -1,14 +1,15 @@
 -- What steps of one kind, one after the other, make of the counts.
-use Rattle.std.proofs.Common.{◌≡◌, ◌≢◌, ℕ, zero, suc, ◌+◌, ◌<◌, ◌≤◌, List, [], ◌∷◌, ◌++◌, add-zero, ap, append-nil, append_assoc, arith, get_or, length, refl, set, subst, sym, ◌∙◌, ◌⊎◌, inl, inr}
+use Rattle.std.proofs.Common.{◌≡◌, ◌≢◌, ℕ, zero, suc, ◌+◌, ◌*◌, ◌<◌, ◌≤◌, List, [], ◌∷◌, ◌++◌, add-zero, ap, append-nil, append_assoc, arith, get_or, length, refl, set, Some, subst, sym, ◌∙◌, ◌⊎◌, inl, inr}
 use Rattle.std.proofs.lemmas.Bool.{cases_eq}
 use Rattle.std.proofs.lemmas.List.{get_or-set_other, get_or-set_same, length-map, length-replicate, length-set}
+use Rattle.std.proofs.lemmas.List.Elements.{All-head, All-tail}
 use Rattle.std.proofs.lemmas.Option.{none-some, same_Some}
 use Rattle.evt_types.specs.declared.event.Reply.{Reply}
-use Rattle.evt_types.specs.declared.step.Outcome.TheVariants.{Released}
-use Rattle.evt_types.specs.declared.step.Source.TheVariants.{New}
+use Rattle.evt_types.specs.declared.step.Outcome.TheVariants.{Forwarded, Released}
+use Rattle.evt_types.specs.declared.step.Source.TheVariants.{New, Of}
 use Rattle.evt_types.specs.declared.step.Step.{Step}
 use Rattle.evt_types.specs.declared.step.Step.TheVariants.{Accept, Done}
-use Rattle.step_log.specs.Rows.{news_steps, release_steps}
+use Rattle.step_log.specs.Rows.{AreTo, forward_steps, news_steps, release_steps}
 use Rattle.step_tally.specs.Counts.{lane_counts}
 use Rattle.step_tally.specs.Tables.{AreCounts, queue_row}
 use Rattle.step_tally.specs.declared.counts.LaneCounts.{LaneCounts}
@@ -88,6 +89,71 @@ releases_row l (suc n) T k =
     ap (λ U. queue_row U k) (split T s (release_steps l n))
     ∙ (releases_row l n (T ++ s ∷ []) k ∙ queue_row-other T s k (λ same. none-some k same))
 
+-- ---- FORWARDs
+
+abbrev pub passed_with : QueueRow → ℕ → QueueRow
+passed_with r n = record r { counts = record r.counts { rx_forwarded = r.counts.rx_forwarded + n } }
+
+abbrev pub forwarded_with : LaneCounts → ℕ → LaneCounts
+forwarded_with c n = record c { forwarded = c.forwarded + n }
+
+abbrev done_of : ℕ → Reply → Step
+done_of l r = Done l (Forwarded r.event)
+
+abbrev accept_of : ℕ → ℕ → Reply → Step
+accept_of q n r = Accept r.event.queue r.event (Of q n)
+
+-- the steps of one, and then the others
+split_pair : (T : List Step) (s t : Step) (ss : List Step) → T ++ s ∷ t ∷ ss ≡ ((T ++ s ∷ []) ++ t ∷ []) ++ ss
+split_pair T s t ss = split T s (t ∷ ss) ∙ split (T ++ s ∷ []) t ss
+
+pub forwards_row : (l q k : ℕ) (ns : List ℕ) (rs : List Reply) (T : List Step) → length ns ≡ length rs → AreTo k rs → queue_row (T ++ forward_steps l q ns rs) k ≡ passed_with (queue_row T k) (length rs)
+forwards_row l q k [] [] T same to = ap (λ U. queue_row U k) (append-nil T) ∙ ap (λ n. record (queue_row T k) { counts = record (queue_row T k).counts { rx_forwarded = n } }) (sym (add-zero (queue_row T k).counts.rx_forwarded))
+forwards_row l q k [] (r ∷ rs) T same to = absurd (omega (arith, same))
+forwards_row l q k (n ∷ ns) [] T same to = absurd (omega (arith, same))
+forwards_row l q k (n ∷ ns) (r ∷ rs) T same to =
+    let d = done_of l r in
+    let s = accept_of q n r in
+    let here : r.event.queue ≡ k = All-head (λ (x : Reply). x.event.queue ≡ k) r rs to in
+    ap (λ U. queue_row U k) (split_pair T d s (forward_steps l q ns rs))
+    ∙ (forwards_row l q k ns rs ((T ++ d ∷ []) ++ s ∷ []) (omega (arith, same)) (All-tail (λ (x : Reply). x.event.queue ≡ k) r rs to)
+    ∙ (ap (λ x. passed_with x (length rs)) (queue_row-same (T ++ d ∷ []) s k (ap Some here))
+    ∙ (ap (λ x. passed_with (passed_with x 1) (length rs)) (queue_row-other T d k (λ none. none-some k none))
+    ∙ ap (λ m. record (queue_row T k) { counts = record (queue_row T k).counts { rx_forwarded = m } }) (omega arith))))
+
+pub forwards_row-other : (l q k : ℕ) (ns : List ℕ) (rs : List Reply) (T : List Step) (j : ℕ) → AreTo k rs → j ≢ k → queue_row (T ++ forward_steps l q ns rs) j ≡ queue_row T j
+forwards_row-other l q k [] rs T j to other = ap (λ U. queue_row U j) (append-nil T)
+forwards_row-other l q k (n ∷ ns) [] T j to other = ap (λ U. queue_row U j) (append-nil T)
+forwards_row-other l q k (n ∷ ns) (r ∷ rs) T j to other =
+    let d = done_of l r in
+    let s = accept_of q n r in
+    let here : r.event.queue ≡ k = All-head (λ (x : Reply). x.event.queue ≡ k) r rs to in
+    ap (λ U. queue_row U j) (split_pair T d s (forward_steps l q ns rs))
+    ∙ (forwards_row-other l q k ns rs ((T ++ d ∷ []) ++ s ∷ []) j (All-tail (λ (x : Reply). x.event.queue ≡ k) r rs to) other
+    ∙ (queue_row-other (T ++ d ∷ []) s j (λ is. other (sym (same_Some r.event.queue j is) ∙ here)) ∙ queue_row-other T d j (λ none. none-some j none)))
+
+pub forwards_lane : (l q : ℕ) (ns : List ℕ) (rs : List Reply) (T : List Step) → length ns ≡ length rs → lane_counts (T ++ forward_steps l q ns rs) l ≡ forwarded_with (lane_counts T l) (length rs)
+forwards_lane l q [] [] T same = ap (λ U. lane_counts U l) (append-nil T) ∙ ap (λ n. record (lane_counts T l) { forwarded = n }) (sym (add-zero (lane_counts T l).forwarded))
+forwards_lane l q [] (r ∷ rs) T same = absurd (omega (arith, same))
+forwards_lane l q (n ∷ ns) [] T same = absurd (omega (arith, same))
+forwards_lane l q (n ∷ ns) (r ∷ rs) T same =
+    let d = done_of l r in
+    let s = accept_of q n r in
+    ap (λ U. lane_counts U l) (split_pair T d s (forward_steps l q ns rs))
+    ∙ (forwards_lane l q ns rs ((T ++ d ∷ []) ++ s ∷ []) (omega (arith, same))
+    ∙ (ap (λ x. forwarded_with x (length rs)) (lane_counts-other (T ++ d ∷ []) s l (λ none. none-some l none) ∙ lane_counts-same T d l refl)
+    ∙ ap (λ m. record (lane_counts T l) { forwarded = m }) (omega arith)))
+
+pub forwards_lane-other : (l q : ℕ) (ns : List ℕ) (rs : List Reply) (T : List Step) (k : ℕ) → k ≢ l → lane_counts (T ++ forward_steps l q ns rs) k ≡ lane_counts T k
+forwards_lane-other l q [] rs T k other = ap (λ U. lane_counts U k) (append-nil T)
+forwards_lane-other l q (n ∷ ns) [] T k other = ap (λ U. lane_counts U k) (append-nil T)
+forwards_lane-other l q (n ∷ ns) (r ∷ rs) T k other =
+    let d = done_of l r in
+    let s = accept_of q n r in
+    ap (λ U. lane_counts U k) (split_pair T d s (forward_steps l q ns rs))
+    ∙ (forwards_lane-other l q ns rs ((T ++ d ∷ []) ++ s ∷ []) k other
+    ∙ (lane_counts-other (T ++ d ∷ []) s k (λ none. none-some k none) ∙ lane_counts-other T d k (λ is. other (sym (same_Some l k is)))))
+
 -- ---- tables
 
 -- another count at a place, and the others as they were
@@ -115,3 +181,9 @@ length_news l q rs = length-map rs (λ (r : Reply). Accept q r.event (New l))
 
 pub length_releases : (l n : ℕ) → length (release_steps l n) ≡ n
 length_releases l n = length-replicate n (Done l Released)
+
+pub length_forwards : (l q : ℕ) (ns : List ℕ) (rs : List Reply) → length ns ≡ length rs → length (forward_steps l q ns rs) ≡ 2 * length rs
+length_forwards l q [] [] same = refl
+length_forwards l q [] (r ∷ rs) same = absurd (omega (arith, same))
+length_forwards l q (n ∷ ns) [] same = absurd (omega (arith, same))
+length_forwards l q (n ∷ ns) (r ∷ rs) same = omega (arith, length_forwards l q ns rs (omega (arith, same)))

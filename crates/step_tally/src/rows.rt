@@ -2,7 +2,7 @@
 
 ghost use Rattle.std.specs.Prelude.{◌≡◌, List, ◌++◌, length};
 ghost use Rattle.evt_types.specs.declared.step.Step.{Step as StepValue};
-ghost use Rattle.step_log.specs.Rows.{news_steps, release_steps};
+ghost use Rattle.step_log.specs.Rows.{AreTo, forward_steps, news_steps, release_steps};
 ghost use Rattle.step_tally.specs.Counts.{lane_counts};
 ghost use Rattle.step_tally.specs.Tables.{AreCounts, queue_row};
 
@@ -61,5 +61,44 @@ pub(crate) fn count_releases<L: StepLog>(
 {
     if lane < table.len() {
         table[lane].released += count as u64;
+    }
+}
+
+/// Counts the events that were passed on last at the queue that accepted them, where the table has it.
+#[inline(always)]
+pub(crate) fn count_forwards_at_queue<L: StepLog>(
+    table: &mut [QueueRow],
+    _log: &L,
+    _lane: usize,
+    _source: usize,
+    target: usize,
+    _numbers: &[u64],
+    replies: &[Reply],
+)
+    requires { (T : List StepValue) × (L.steps _log.now ≡ T ++ forward_steps _lane _source _numbers.now replies.now) × (length _numbers.now ≡ length replies.now) × AreTo target replies.now × AreCounts (queue_row T) table.old }
+    ensures counts { AreCounts (queue_row (L.steps _log.now)) table.new }
+    ensures length { length table.new ≡ length table.old }
+{
+    if target < table.len() {
+        table[target].counts.rx_forwarded += replies.len() as u64;
+    }
+}
+
+/// Counts the events that the lane passed on last at the lane, where the table has it.
+#[inline(always)]
+pub(crate) fn count_forwards_at_lane<L: StepLog>(
+    table: &mut [LaneCounts],
+    _log: &L,
+    lane: usize,
+    _source: usize,
+    _numbers: &[u64],
+    replies: &[Reply],
+)
+    requires { (T : List StepValue) × (L.steps _log.now ≡ T ++ forward_steps lane _source _numbers.now replies.now) × (length _numbers.now ≡ length replies.now) × AreCounts (lane_counts T) table.old }
+    ensures counts { AreCounts (lane_counts (L.steps _log.now)) table.new }
+    ensures length { length table.new ≡ length table.old }
+{
+    if lane < table.len() {
+        table[lane].forwarded += replies.len() as u64;
     }
 }

@@ -5,7 +5,10 @@ ghost use Rattle.step_tally.specs.Tables.{AreTables};
 
 use crate::counts::{LaneCounts, QueueCounts};
 use crate::gives::{count_gives_at_lane, count_gives_at_queue};
-use crate::rows::{count_news_at_lane, count_news_at_queue, count_releases};
+use crate::rows::{
+    count_forwards_at_lane, count_forwards_at_queue, count_news_at_lane, count_news_at_queue,
+    count_releases,
+};
 use crate::tables::{QueueRow, count_at_lane, count_at_queue};
 use evt_types::{Delivery, MAX_LANES, MAX_PORTS, MAX_QUEUES, Reply, Step};
 use std::alloc::{AllocFailed, Global};
@@ -130,6 +133,29 @@ impl<L: StepLog> StepLog for Tally<L> {
     fn push_releases(&mut self, lane: usize, count: usize) {
         self.log.push_releases(lane, count);
         count_releases(&mut self.lanes, &self.log, lane, count);
+    }
+
+    #[inline(always)]
+    fn push_forwards(
+        &mut self,
+        lane: usize,
+        source: usize,
+        target: usize,
+        numbers: &[u64],
+        replies: &[Reply],
+    ) {
+        self.log
+            .push_forwards(lane, source, target, numbers, replies);
+        count_forwards_at_queue(
+            &mut self.queues,
+            &self.log,
+            lane,
+            source,
+            target,
+            numbers,
+            replies,
+        );
+        count_forwards_at_lane(&mut self.lanes, &self.log, lane, source, numbers, replies);
     }
 
     #[inline(always)]

@@ -1,4 +1,4 @@
-use Rattle.std.proofs.Common.{◌≡◌, ◌+◌, ◌-◌, ◌^◌, ◌≤◌, ◌<◌, ℕ, length, take}
+use Rattle.std.proofs.Common.{◌≡◌, ◌+◌, ◌*◌, ◌-◌, ◌^◌, ◌≤◌, ◌<◌, ℕ, length, take}
 use Rattle.event_scheduler.specs.Scheduler.{Sight}
 use Rattle.event_scheduler.specs.Taking.{Takes, only, with_core, with_taken}
 use Rattle.transcripts.specs.Standing.{kept_in}
@@ -12,7 +12,7 @@ invariant-loop-taken g l =
     × (l.taken ≤ length l.replies)
     × (l.core.shape ≡ l.initial.core.shape)
     × (kept_in l.core ≡ kept_in l.initial.core)
-    × (g.L.StepLog.room l.initial.log ≤ g.L.StepLog.room l.log + l.taken)
+    × (g.L.StepLog.room l.initial.log ≤ g.L.StepLog.room l.log + 2 * l.taken)
 
 abbrev pub decreases-loop-taken : goal.decreases-loop-taken
 decreases-loop-taken g l = length l.replies - l.taken

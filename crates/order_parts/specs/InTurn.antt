@@ -1,5 +1,5 @@
 -- Events of a lane that have an ordered queue's oldest places.
-use Rattle.std.specs.Prelude.{ℕ, ◌≡◌, List, Option, Some, slice_get}
+use Rattle.std.specs.Prelude.{ℕ, ◌≡◌, List, Some, slice_get}
 use Rattle.order_parts.specs.Reorder.{Reordering, number_of}
 use Rattle.order_parts.specs.declared.history.Entry.{Entry}
 

@@ -17,6 +17,7 @@ use Rattle.transcripts.proofs.AnsweredPlaces.{places_ordered}
 use Rattle.std.specs.declared.alloc.Global.{Global}
 use Rattle.std.specs.declared.vec.Vec.{Vec}
 use Rattle.transcripts.proofs.Insides.{inside_release}
+use Rattle.transcripts.proofs.Waits.{waiting-rises}
 use Rattle.transcripts.proofs.Whole.{Lawful-steps, steps-Lawful}
 use Rattle.transcripts.proofs.WholeStands.{extras_count, facts_of, places_is, shut_is, unanswered_count, unanswered_is, waiting_is}
 use Rattle.transcripts.specs.Choice.{IsOffer}
@@ -31,6 +32,7 @@ use Rattle.transcript_judge.specs.Fronts.{Breaks}
 use Rattle.transcript_judge.specs.Ledger.{releases, row, rows, view_in}
 use Rattle.transcript_judge.specs.Reading.{IsRead, to_come}
 use Rattle.transcript_judge.specs.Scans.{LeavesSlot, LetsPass}
+use Rattle.transcript_judge.specs.Waiting.{Rise}
 use Rattle.transcript_judge.specs.declared.reading.Reading.{Reading}
 use Rattle.transcript_judge.specs.declared.verdict.Clause.TheVariants.{Answers, Extras, Once, Linked, Depth, Places, Limit, Flow, Alone, Closed, Prompt}
 
@@ -81,6 +83,11 @@ more_full p P r l e h none lane some full =
 waits_is : (p : Plan) (P : List Step) (r : Reading) (q : ℕ) → IsRead p P r → to_come r ≡ [] → q < length p.queues
     → row (rows r.ledger.waiting.items) q ≡ waiting P q
 waits_is p P r q h none there = waiting_is (view_in p r.ledger) P q (stands_now p P r h none) there
+
+-- what waits stands by rising number
+pub waits_rise : (p : Plan) (P : List Step) (r : Reading) (q : ℕ) → IsRead p P r → to_come r ≡ [] → q < length p.queues
+    → Rise (row (rows r.ledger.waiting.items) q)
+waits_rise p P r q h none there = subst Rise (sym (waits_is p P r q h none there)) (waiting-rises P q)
 
 abbrev event_of : ℕ → Event → Numbered
 event_of n e = record { number = n; event = e }

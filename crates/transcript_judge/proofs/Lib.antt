@@ -7,6 +7,7 @@ pub mod Moves
 pub mod PassedOver
 pub mod Passed
 pub mod Readings
+pub mod Rising
 pub mod RowLists
 pub mod Tested
 pub mod Verdicts

@@ -2,8 +2,7 @@
 use Rattle.std.proofs.Common.{◌≡◌, ◌≢◌, ℕ, zero, suc, ◌+◌, ◌-◌, ◌<◌, Bool, true, false, List, [], ◌∷◌, ◌++◌, length, map, take, drop, set, get_or, flat_map, replicate, Some, slice_get, slice_index, ⊎_elim, refl, sym, ap, ◌∙◌, subst, arith, append_assoc}
 use Rattle.std.specs.List.{range_with_len}
 use Rattle.std.proofs.lemmas.Bool.{cases_eq, cond-true}
-use Rattle.std.proofs.lemmas.List.{length-drop, replicate_more, take_all, take_more}
-use Rattle.std.proofs.lemmas.List.Elements.{All-push}
+use Rattle.std.proofs.lemmas.List.{length-drop, replicate_more, take_all}
 use Rattle.std.proofs.lemmas.List.FromFn.{map-range_with_len_more}
 use Rattle.evt_types.specs.Place.{Place}
 use Rattle.evt_types.specs.Plan.{Plan, lanes_of, queue_of}
@@ -13,14 +12,13 @@ use Rattle.evt_types.specs.declared.event.KeptEvent.{KeptEvent}
 use Rattle.evt_types.specs.declared.step.Source.TheVariants.{Of}
 use Rattle.evt_types.specs.declared.step.Step.{Step}
 use Rattle.evt_types.specs.declared.step.Step.TheVariants.{Accept}
-use Rattle.transcripts.specs.Lawful.{keeps_order}
 use Rattle.std.proofs.lemmas.List.Sums.{take_while-cons}
 use Rattle.evt_types.specs.declared.event.Numbered.{Numbered}
 use Rattle.transcripts.specs.Standing.{View, accepts_from, leaving, places, staying, view_of}
 use Rattle.transcripts.specs.Transcript.{Held, accepted, extras, unanswered_slots, waiting}
 use Rattle.transcripts.proofs.WholeViews.{accepted_at_none, extras_at_none, places_at_none, unanswered_at_none, waiting_at_none}
 use Rattle.transcript_judge.specs.Ledger.{IsOldest, accept_of, row, rows, view_in}
-use Rattle.transcript_judge.specs.Scans.{AreOtherSlots, IsNext, LetsPass}
+use Rattle.transcript_judge.specs.Scans.{AreOtherSlots, IsNext}
 use Rattle.transcript_judge.specs.declared.ledger.Ledger.{Ledger}
 
 -- ---- items that are changed, one after the other
@@ -74,12 +72,6 @@ left_one q (z ∷ zs) ys x y D E some at here rest answered more =
     }
 
 -- ---- what is looked for
-
-pub lets_more : (p : Plan) (q : ℕ) (ws : List Numbered) (n : ℕ) (e : Event) (i : ℕ) (w : Numbered) → i < length ws → w ≡ get_or ws i w
-    → LetsPass p q (take i ws) n e → (w.number < n → keeps_order p q w.event e ≡ false) → LetsPass p q (take (i + 1) ws) n e
-lets_more p q ws n e i w lt at all here =
-    subst (λ us. LetsPass p q us n e) (sym (take_more ws i w lt ∙ ap (λ u. take i ws ++ u ∷ []) (sym at)))
-    (All-push (λ (v : Numbered). v.number < n → keeps_order p q v.event e ≡ false) (take i ws) w all here)
 
 pub slots_more : (lists : List (List Held)) (l q slot i : ℕ) → ((m : ℕ) → m < i → m ≢ l → AreOtherSlots q slot (row lists m))
     → (i ≢ l → AreOtherSlots q slot (row lists i)) → (m : ℕ) → m < i + 1 → m ≢ l → AreOtherSlots q slot (row lists m)

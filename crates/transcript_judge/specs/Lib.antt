@@ -5,3 +5,4 @@ pub mod Reading
 pub mod Rows
 pub mod Scans
 pub mod Verdicts
+pub mod Waiting

@@ -1,15 +1,16 @@
 //! What the judge holds of the steps that it has read.
 
-ghost use Rattle.std.specs.Prelude.{◌≡◌, ◌<◌, ◌^◌, [], ◌++◌, ◌==◌, IfOk, OnOk, All, filter, flat_map, length, map, not, replicate, slice_index};
+ghost use Rattle.std.specs.Prelude.{◌≡◌, ◌<◌, ◌^◌, [], ◌++◌, IfOk, OnOk, All, flat_map, length, map, replicate, slice_index};
 ghost use Rattle.evt_types.specs.Limits.{most_extras};
 ghost use Rattle.evt_types.specs.Plan.{Plan, lanes_of};
-ghost use Rattle.evt_types.specs.declared.event.Numbered.{Numbered as NumberedValue};
 ghost use Rattle.transcripts.specs.Standing.{accepts_from, accepts_of, added_of, add_to_place, after_accept, after_done, after_give, after_more, answer_place, event_in, events_of, leaving, oldest_at, slot_in, staying, view_of};
 ghost use Rattle.transcripts.specs.Transcript.{Held};
 ghost use Rattle.transcript_judge.specs.Ledger.{IsOldest, IsSized, accept_of, added_to, due_added, due_by, opened, row, rows, settled, view_in};
+ghost use Rattle.transcript_judge.specs.Waiting.{Rise};
 
-use crate::nested::{drop_first, empty_lists, push_to, replace_list};
+use crate::nested::{drop_first, empty_lists, push_to};
 use crate::spot::{HeldEvent, Spot};
+use crate::waiting::take_from;
 use evt_types::{Event, KeptEvent, Memory, Numbered, Outcome, PackedEvent, Shape};
 use std::alloc::Global;
 
@@ -23,31 +24,6 @@ pub(crate) struct Ledger {
     pub(crate) unanswered: Vec<Vec<HeldEvent>>,
     pub(crate) extras: Vec<usize>,
     pub(crate) shut: bool,
-}
-
-/// The events but the one of this number.
-fn without(alloc: Global, list: &[Numbered], number: u64) -> Result<Vec<Numbered>, Memory>
-    ensures { IfOk result (λ rest. rest.items ≡ filter (λ (w : NumberedValue). not (w.number == number)) list.now) }
-{
-    let mut rest = Vec::new(alloc);
-    for numbered in list {
-        if numbered.number != number {
-            rest.push(*numbered)?;
-        }
-    }
-    Ok(rest)
-}
-
-/// The event of the number, where it waits in the list.
-pub(crate) fn find(list: &[Numbered], number: u64) -> Option<Event>
-    ensures { result ≡ event_in list.now number }
-{
-    for numbered in list {
-        if numbered.number == number {
-            return Some(numbered.event.unpack());
-        }
-    }
-    None
 }
 
 /// The number is answered so.
@@ -260,11 +236,11 @@ impl Ledger {
         requires sized { IsSized shape.now self.old }
         requires lane { lane < lanes_of shape.now }
         requires queue { queue < length shape.now.queues }
+        requires rises { Rise (row (rows self.old.waiting.items) queue) }
         requires slot { slot ≡ slot_in (view_in shape.now self.old) queue (event_in (row (rows self.old.waiting.items) queue) number) }
         ensures { OnOk result (view_in shape.now self.new ≡ after_give (view_in shape.now self.old) lane queue number) }
     {
-        let rest = without(alloc, &self.waiting[queue], number)?;
-        replace_list(&mut self.waiting, queue, rest);
+        take_from(&mut self.waiting, queue, number);
         let is_ordered = shape.queues()[queue].kind.is_ordered();
         open_place(alloc, &mut self.places, is_ordered, queue, number)?;
         push_to(

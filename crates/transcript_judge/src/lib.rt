@@ -12,6 +12,7 @@ mod rows;
 mod scans;
 mod spot;
 mod verdict;
+mod waiting;
 
 pub use judging::judge;
 pub use laws::{broken_clauses_stay_broken, fronts_are_closed, verdicts_are_one};

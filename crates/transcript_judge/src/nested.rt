@@ -29,14 +29,6 @@ pub(crate) fn push_to<T: Drop>(
     Ok(())
 }
 
-/// Another list in place of one of the lists.
-pub(crate) fn replace_list<T: Drop>(lists: &mut Vec<Vec<T>>, place: usize, list: Vec<T>)
-    requires { place < length lists.old.items }
-    ensures { rows lists.new.items ≡ slice_set (rows lists.old.items) place list.items }
-{
-    lists[place] = list;
-}
-
 /// One of the lists, which has something, loses its first item.
 pub(crate) fn drop_first<T: Drop>(lists: &mut Vec<Vec<T>>, place: usize)
     requires place { place < length lists.old.items }

@@ -16,11 +16,12 @@ ghost use Rattle.transcript_judge.specs.Reading.{IsFollowed, IsRead, to_come};
 ghost use Rattle.transcript_judge.specs.Scans.{IsOther};
 
 use crate::formed::is_formed;
-use crate::ledger::{Ledger, find};
+use crate::ledger::Ledger;
 use crate::scans::{
     either, first_due, first_kept, is_event, is_next, is_overtaking, is_pinned, lacks_place,
 };
 use crate::verdict::Clause;
+use crate::waiting::find;
 use evt_types::{Event, KeptEvent, MAX_EXTRAS, Memory, Outcome, Shape, Source, Step};
 use std::alloc::Global;
 

@@ -1,13 +1,19 @@
-use Rattle.std.proofs.Common.{refl, sym, ap, ◌∙◌, arith}
+use Rattle.std.proofs.Common.{refl, sym, ap, ◌∙◌, subst, arith}
 use Rattle.transcripts.specs.Standing.{event_in}
-use Rattle.transcript_judge.proofs.Faults.{give_unknown}
+use Rattle.transcript_judge.proofs.Faults.{give_unknown, waits_rise}
 use Rattle.transcript_judge.proofs.Moves.{read_give}
 use Rattle.transcript_judge.proofs.Readings.{sized}
 use Rattle.transcript_judge.proofs.RowLists.{row_now}
+use Rattle.transcript_judge.specs.Waiting.{Rise}
 use Rattle.transcript_judge.proofs.reading.Reading.follow_give.Goals as goal
 
 pub index-requires : goal.index-requires
 index-requires c = let size = sized c.args.shape.now c.args.past.now c.args.self.now c.requires.read in omega (arith, size.waiting, c.requires.formed.queue)
+
+pub find-requires : goal.find-requires
+find-requires c =
+    subst Rise ((row_now c.args.self.now.ledger.waiting.items c.args.queue c.index.result.now (omega (arith, (sized c.args.shape.now c.args.past.now c.args.self.now c.requires.read).waiting, c.requires.formed.queue)) c.index.ensures) ∙ sym c.deref.ensures.value)
+    (waits_rise c.args.shape.now c.args.past.now c.args.self.now c.args.queue c.requires.read c.requires.none c.requires.formed.queue)
 
 pub returns-in_default : goal.returns-in_default
 returns-in_default c =
@@ -20,6 +26,9 @@ give_fault-requires-clause-waits c =
 
 pub give-requires-clause-sized : goal.give-requires-clause-sized
 give-requires-clause-sized c = sized c.args.shape.now c.args.past.now c.args.self.now c.requires.read
+
+pub give-requires-clause-rises : goal.give-requires-clause-rises
+give-requires-clause-rises c = waits_rise c.args.shape.now c.args.past.now c.args.self.now c.args.queue c.requires.read c.requires.none c.requires.formed.queue
 
 pub returns : goal.returns
 returns c =

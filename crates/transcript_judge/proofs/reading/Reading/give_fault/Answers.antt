@@ -1,10 +1,11 @@
 use Rattle.std.proofs.Common.{refl, sym, ap, ◌∙◌, subst, arith}
 use Rattle.evt_types.specs.Plan.{serves}
-use Rattle.transcript_judge.proofs.Faults.{give_apart, give_deep, give_offer, give_overtaking, give_placeless, give_unlinked}
+use Rattle.transcript_judge.proofs.Faults.{give_apart, give_deep, give_offer, give_overtaking, give_placeless, give_unlinked, waits_rise}
 use Rattle.transcript_judge.proofs.Readings.{sized}
 use Rattle.transcript_judge.proofs.RowLists.{row_len, row_now}
 use Rattle.transcript_judge.specs.Ledger.{rows}
 use Rattle.transcript_judge.specs.Scans.{LeavesSlot, LetsPass}
+use Rattle.transcript_judge.specs.Waiting.{Rise}
 use Rattle.transcript_judge.proofs.reading.Reading.give_fault.Goals as goal
 
 pub index-held-requires : goal.index-held-requires
@@ -25,6 +26,12 @@ pub returns-then-lacks_place : goal.returns-then-lacks_place
 returns-then-lacks_place c =
     let size = sized c.args.shape.now c.args.past.now c.args.self.now c.requires.read in
     give_placeless c.args.shape.now c.args.past.now c.args.self.now c.args.lane c.args.queue c.args.number c.args.event.now (record { read = c.requires.read; none = c.requires.none; formed = c.requires.formed; found = c.requires.waits }) (c.if-lacks_place.ensures.ordered refl) (omega (arith, c.if-lacks_place.ensures.yes refl, c.len-count.ensures, row_len c.args.self.now.ledger.places.items c.args.queue c.index-places.result.now (omega (arith, size.places, c.requires.formed.queue)) c.index-places.ensures))
+
+pub is_overtaking-requires-clause-rises : goal.is_overtaking-requires-clause-rises
+is_overtaking-requires-clause-rises c =
+    let size = sized c.args.shape.now c.args.past.now c.args.self.now c.requires.read in
+    subst Rise (row_now c.args.self.now.ledger.waiting.items c.args.queue c.index-waiting.result.now (omega (arith, size.waiting, c.requires.formed.queue)) c.index-waiting.ensures ∙ sym c.deref.ensures.value)
+    (waits_rise c.args.shape.now c.args.past.now c.args.self.now c.args.queue c.requires.read c.requires.none c.requires.formed.queue)
 
 pub returns-then-is_overtaking : goal.returns-then-is_overtaking
 returns-then-is_overtaking c =

@@ -1,0 +1,5 @@
+//! Tests of the judge of transcripts.
+#![tactic(auto)]
+
+#[cfg(test)]
+mod verdicts;

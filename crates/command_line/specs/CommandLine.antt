@@ -26,6 +26,7 @@ AreFew n = (fewest_workers ≤ n) × (n ≤ most_workers)
 
 abbrev pub HasFew : Task → Type 0
 HasFew tasks.Play = Unit {0}
+HasFew tasks.Timeline = Unit {0}
 HasFew (tasks.Run n) = AreFew n
 HasFew (tasks.Check n) = AreFew n
 

@@ -18,6 +18,20 @@ Status: 0 when the script was played, 2 for a refused command line, 3 when readi
 evsched help documents describes the document, evsched help faults what each fault means;
 the manual is evsched(1), and docs/FORMATS.md has all of it.";
 
+pub(crate) const AFTER_TIMELINE_HELP: &str =
+    "The picture is SVG, which browsers show: a row for each queue and each lane, and in it from left to right
+the steps of the log that play prints. The title of each mark, which a browser shows where the pointer
+rests, says what the step did.
+
+Example:
+  evsched example two-flows | evsched timeline > two-flows.svg
+
+Status: 0 when the picture was written, 2 for a refused command line, 3 when reading or writing failed,
+4 for a document at fault, 5 where memory ran out.
+
+evsched help documents describes the document, evsched help faults what each fault means;
+the manual is evsched(1), and docs/FORMATS.md has all of it.";
+
 pub(crate) const AFTER_RUN_HELP: &str = "Example:
   evsched example three-stages > three-stages.toml
   evsched run --workers 4 three-stages.toml
@@ -53,7 +67,7 @@ The manual is evsched(1).";
 pub(crate) const DOCUMENTS: &str =
     "A document is TOML, in at most 1,048,576 bytes. A number is a TOML integer from 0 to 4,294,967,295.
 
-The document of play
+The document of play and timeline
   limit      number, 1 to 16,384: the most events inside
   quantum    number, 1 to the limit: how many credits a port draws at a time
   sweep      number, 1 to 64: the sweep quantum

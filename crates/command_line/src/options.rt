@@ -27,6 +27,8 @@ pub enum Choice {
 pub enum Task {
     /// Its script is played.
     Play,
+    /// Its script is played, and the picture of its log is drawn.
+    Timeline,
     /// Its pipeline is run, with so many workers, from 1 to 8.
     Run { workers: u32 },
     /// Its fault is looked for, with so many workers where it is a pipeline's, from 1 to 8.

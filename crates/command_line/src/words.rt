@@ -5,8 +5,8 @@ ghost use Rattle.command_line.specs.CommandLine.{HasFewWorkers, IsStatus, no_mem
 ghost use Rattle.play_documents.specs.Numbers.{fewest_workers, most_workers};
 
 use crate::help_texts::{
-    AFTER_CHECK_HELP, AFTER_EXAMPLE_HELP, AFTER_HELP, AFTER_PLAY_HELP, AFTER_RUN_HELP, DOCUMENTS,
-    FAULTS,
+    AFTER_CHECK_HELP, AFTER_EXAMPLE_HELP, AFTER_HELP, AFTER_PLAY_HELP, AFTER_RUN_HELP,
+    AFTER_TIMELINE_HELP, DOCUMENTS, FAULTS,
 };
 use crate::options::{Choice, Task};
 use clap::error::ErrorKind;
@@ -22,6 +22,8 @@ pub(crate) const NO_MEMORY: u8 = 5;
 
 /// The subcommands.
 const PLAY: &str = "play";
+
+const TIMELINE: &str = "timeline";
 
 const RUN: &str = "run";
 
@@ -89,6 +91,15 @@ fn play_command<'a>(alloc: Global) -> Result<Command<'a>, AllocError> {
         .arg(file_word(alloc))
 }
 
+/// The subcommand that draws the log of a script.
+fn timeline_command<'a>(alloc: Global) -> Result<Command<'a>, AllocError> {
+    Command::new(alloc, TIMELINE)
+        .about("Play the script of a document, and draw its log as a picture in SVG")
+        .after_help(AFTER_TIMELINE_HELP)
+        .arg(explain_option(alloc))?
+        .arg(file_word(alloc))
+}
+
 /// The subcommand that runs a pipeline.
 fn run_command<'a>(alloc: Global) -> Result<Command<'a>, AllocError> {
     Command::new(alloc, RUN)
@@ -136,6 +147,7 @@ fn command<'a>(alloc: Global) -> Result<Command<'a>, AllocError> {
         .bin_name(NAME)?
         .subcommand_required(true)
         .subcommand(play_command(alloc)?)?
+        .subcommand(timeline_command(alloc)?)?
         .subcommand(run_command(alloc)?)?
         .subcommand(check_command(alloc)?)?
         .subcommand(example_command(alloc)?)?
@@ -215,6 +227,13 @@ fn chosen(words: &[&str], matches: &ArgMatches) -> Choice
             },
             file: file_of(words, options),
             explain: true,
+        };
+    }
+    if let Some(options) = matches.subcommand_matches(TIMELINE) {
+        return Choice::Document {
+            task: Task::Timeline,
+            file: file_of(words, options),
+            explain: options.get_flag(EXPLAIN),
         };
     }
     if let Some(options) = matches.subcommand_matches(EXAMPLE) {

@@ -54,10 +54,11 @@ pub(crate) fn write_limit_tight(source: &Source<'_>, out: &mut String) -> Result
     };
     let ports = workers.saturating_add(1);
     let least = u64::from(quantum).saturating_mul(2).saturating_mul(ports);
+    let noun = if workers == 1 { "worker" } else { "workers" };
     source.begin_at_value(TableName::Top, "limit", out)?;
     write!(
         out,
-        "`limit` is {limit}, and must be at least {least} with the quantum {quantum} and {workers} workers: 2 * {quantum} * ({workers} + 1)\n"
+        "`limit` is {limit}, and must be at least {least} with the quantum {quantum} and {workers} {noun}: 2 * {quantum} * ({workers} + 1)\n"
     )?;
     if workers > 1 {
         out.push_str("  A lower quantum or fewer workers would do too\n")

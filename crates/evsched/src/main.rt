@@ -1,5 +1,5 @@
-//! The program `evsched`: it plays the script of a document on an event device, runs the document's trace through a pipeline, or says
-//! what is wrong with the document, which stands in a file or on standard input.
+//! The program `evsched`: it plays the script of a document on an event device, or draws what happened then, runs the document's trace
+//! through a pipeline, or says what is wrong with the document, which stands in a file or on standard input.
 #![tactic(auto)]
 
 ghost use Rattle.command_line.specs.CommandLine.{HasFew};
@@ -11,7 +11,7 @@ use arrayvec::ArrayString;
 use example_documents::{EXAMPLES, example};
 use noted::Noted;
 use pipeline_app::{
-    AppFault, Choice, Task, check, choice, fault_line, play, play_explained, run_explained,
+    AppFault, Choice, Form, Task, check, choice, fault_line, play, play_as, run_explained,
     run_trace,
 };
 use progress::Progress;
@@ -117,8 +117,9 @@ fn outcome<R: AllocGlobal + Print + Eprint + Clock + Threads + Wait + Sync, I: R
 {
     let (alloc, mut writer) = (rt.alloc(), io::writer(rt));
     match task {
-        Task::Play if explain => play_explained(alloc, reader, &mut writer, why),
+        Task::Play if explain => play_as(alloc, Form::Text, reader, &mut writer, why),
         Task::Play => play(alloc, reader, &mut writer),
+        Task::Timeline => play_as(alloc, Form::Picture, reader, &mut writer, why),
         Task::Run { workers } => {
             let progress = Progress::new(rt, on_terminal);
             if explain {
@@ -146,7 +147,9 @@ fn done<R: AllocGlobal + Print + Eprint + Clock + Threads + Wait + Sync, I: Read
         Ok(()) => 0,
         Err(fault) => {
             let status = failed(rt, &fault);
-            let _ = eprint!(rt; "{why}");
+            if explain {
+                let _ = eprint!(rt; "{why}");
+            }
             status
         }
     }

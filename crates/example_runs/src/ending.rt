@@ -6,7 +6,7 @@ ghost use Rattle.command_line.specs.CommandLine.{HasFew};
 use anyhow::{Result, bail};
 use arrayvec::ArrayString;
 use pipeline_app::{
-    AppFault, Choice, OpenGate, Task, check, choice, fault_line, play, play_explained,
+    AppFault, Choice, Form, OpenGate, Task, check, choice, fault_line, play, play_as,
     run_explained, run_trace,
 };
 use std::alloc::{AllocError, Global};
@@ -118,8 +118,9 @@ pub fn ending_of<R: AllocGlobal + Threads + Wait + Sync>(
     let mut output = Vec::new(alloc);
     let mut why = String::new(alloc);
     let outcome = match task {
-        Task::Play if explain => play_explained(alloc, &mut reader, &mut output, &mut why),
+        Task::Play if explain => { play_as(alloc, Form::Text, &mut reader, &mut output, &mut why) }
         Task::Play => play(alloc, &mut reader, &mut output),
+        Task::Timeline => play_as(alloc, Form::Picture, &mut reader, &mut output, &mut why),
         Task::Run { workers } if explain => run_explained(
             rt,
             alloc,
@@ -134,5 +135,6 @@ pub fn ending_of<R: AllocGlobal + Threads + Wait + Sync>(
         }
         Task::Check { workers } => check(alloc, &mut reader, workers, &mut why),
     };
-    Ok(Ending::of(alloc, outcome, output, why.as_str())?)
+    let said = if explain { why.as_str() } else { "" };
+    Ok(Ending::of(alloc, outcome, output, said)?)
 }

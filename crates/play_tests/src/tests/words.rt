@@ -3,7 +3,7 @@
 use command_line::{Choice, Task, choice};
 
 /// The words after the program's name, what they ask for or the status to end with, and a part of what is printed.
-static LINES: [(&[&str], Result<Choice, u8>, &str); 20] = [
+static LINES: [(&[&str], Result<Choice, u8>, &str); 22] = [
     (&["play"], Ok(Choice::Play), ""),
     (&["--help"], Err(0), "Usage: evsched <COMMAND>"),
     (&["help"], Err(0), "docs/FORMATS.md"),
@@ -19,6 +19,24 @@ static LINES: [(&[&str], Result<Choice, u8>, &str); 20] = [
             task: Task::Play,
             file: Some(1),
             explain: false,
+        }),
+        "",
+    ),
+    (
+        &["timeline"],
+        Ok(Choice::Document {
+            task: Task::Timeline,
+            file: None,
+            explain: false,
+        }),
+        "",
+    ),
+    (
+        &["timeline", "--explain", "now"],
+        Ok(Choice::Document {
+            task: Task::Timeline,
+            file: Some(2),
+            explain: true,
         }),
         "",
     ),

@@ -1,28 +1,18 @@
-use Rattle.std.proofs.Common.{Result, Ok, Err, ◌≡◌, ℕ, List, All, sym, ap, subst, ◌∙◌, length, Vec, Global}
+use Rattle.std.proofs.Common.{Result, Ok, Err, ◌≡◌, All, sym, ap, subst, ◌∙◌, length, arith}
 use Rattle.std.specs.Prelude.{IfErr, IsErrAnd}
 use Rattle.command_line.specs.declared.fault.AppFault.{AppFault}
-use Rattle.event_answers.specs.declared.report.Report.{Report}
 use Rattle.evt_types.specs.Plan.{Plan}
-use Rattle.evt_types.specs.declared.step.Step.{Step}
-use Rattle.evt_types.specs.declared.draft.QueueDraft.{QueueDraft}
 use Rattle.event_device.specs.Device.{Device}
 use Rattle.play_documents.specs.Command.{IsPortThere}
-use Rattle.play_text.specs.Text.{text_of}
-use Rattle.play_text.specs.declared.answer.Answer.{Answer}
-use Rattle.pipeline_app.specs.Play.{IsEarlyFault}
+use Rattle.pipeline_app.specs.Play.{IsEarlyFault, form_of}
 use Rattle.pipeline_app.proofs.Home.{fresh_home}
-use Rattle.pipeline_app.proofs.Ranges.{report_in_range}
+use Rattle.pipeline_app.proofs.Ranges.{report_in_range, report_placed}
 use Rattle.pipeline_app.proofs.drive.run_text.Goals as goal
 
 -- what holds of an error holds of that error where it is handed on
 err_same : {X : Type 0} (P : AppFault → Type 0) (r : Result X AppFault) (e : AppFault) → IsErrAnd r (λ f. f ≡ e) → P e → IfErr r P
 err_same P (Ok x) e h p = tt
 err_same P (Err f) e h p = subst P (sym h) p
-
--- the text of the same queues, limit and answers
-text_same : (qs rs : List QueueDraft) (m n : ℕ) (given said : List Answer) (report : Report (Vec Step Global)) → qs ≡ rs → m ≡ n → given ≡ said → text_of qs m given report ≡ text_of rs n said report
-text_same qs rs m n given said report e f g =
-    ap (λ xs. text_of xs m given report) e ∙ (ap (λ k. text_of rs k given report) f ∙ ap (λ xs. text_of rs n xs report) g)
 
 pub returns-in_err-device-clause-fault : goal.returns-in_err-device-clause-fault
 returns-in_err-device-clause-fault c known = err_same (IsEarlyFault known) c.from_residual-in_err-device.result _ c.from_residual-in_err-device.ensures.1 (c.in_err-device.ensures.fault known)
@@ -37,11 +27,22 @@ pub obey_all-requires-clause-there : goal.obey_all-requires-clause-there
 obey_all-requires-clause-there c =
     rw c.deref.ensures.value (subst (λ (p : Plan). All (IsPortThere (length p.ports)) c.args.document.commands.items) (sym c.in_ok-device.ensures.fresh.plan) c.requires)
 
-pub text_of-requires : goal.text_of-requires
-text_of-requires c =
+pub made_of-requires-clause-in_range : goal.made_of-requires-clause-in_range
+made_of-requires-clause-in_range c =
     let stops = c.in_ok-report.ensures in
     let plan = ap (λ (d : Device). d.plan) c.in_ok-answers.ensures.device ∙ c.in_ok-device.ensures.fresh.plan in
     report_in_range c.args.document.shape c.deref-2.result.now c.obey_all.new.device.recorded c.in_ok-report.report.log.items plan (c.deref-2.ensures.value ∙ (c.in_ok-queues.ensures.items ∙ c.queues.ensures.value)) stops.report.log stops.report.rests.lawful.formed
+
+pub made_of-requires-clause-placed : goal.made_of-requires-clause-placed
+made_of-requires-clause-placed c =
+    let stops = c.in_ok-report.ensures in
+    let plan = ap (λ (d : Device). d.plan) c.in_ok-answers.ensures.device ∙ c.in_ok-device.ensures.fresh.plan in
+    report_placed c.args.document.shape c.deref-2.result.now c.lanes-lanes.result c.obey_all.new.device.recorded c.in_ok-report.report.log.items plan (c.deref-2.ensures.value ∙ (c.in_ok-queues.ensures.items ∙ c.queues.ensures.value)) c.lanes-lanes.ensures.value stops.report.log stops.report.rests.lawful.formed
+
+pub made_of-requires-clause-few : goal.made_of-requires-clause-few
+made_of-requires-clause-few c =
+    let queues = ap length (c.deref-2.ensures.value ∙ c.in_ok-queues.ensures.items) in
+    omega arith
 
 pub returns-clause-run : goal.returns-clause-run
 returns-clause-run c =
@@ -54,5 +55,6 @@ returns-clause-run c =
       fresh = c.in_ok-device.ensures.fresh;
       played = rw c.deref.ensures.value at c.in_ok-answers.ensures.answers;
       stopped = c.in_ok-report.ensures;
-      written = c.in_ok-text_of.ensures ∙ text_same _ _ _ _ _ _ _ queues (c.from-limit.ensures ∙ c.limit.ensures.value) c.deref-3.ensures.value;
+      written = c.in_ok-made_of.ensures c.args.document.shape queues (c.from-limit.ensures ∙ c.limit.ensures.value) c.lanes-lanes.ensures.value
+          ∙ ap (λ answers. form_of c.args.form c.args.document.shape answers c.in_ok-report.report) c.deref-3.ensures.value;
     }

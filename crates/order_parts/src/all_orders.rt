@@ -2,7 +2,7 @@
 
 ghost use Rattle.std.specs.Prelude.{◌≡◌, ◌<◌, ◌≤◌, ◌^◌, ◌&&◌, true, false, length, map, slice_get, slice_set, slice_index_or, sum_by, take, is_some, option_copied, option_map, Some, IfNone, IfOk, IfSome, IsTrue};
 ghost use Rattle.order_parts.specs.Histories.{lane_in};
-ghost use Rattle.order_parts.specs.InTurn.{AreInTurn};
+ghost use Rattle.order_parts.specs.InTurn.{AreInTurn, EndsTurn};
 ghost use Rattle.order_parts.specs.Reorder.{empty, next_number, place_at, place_or_open, is_open, kept_of, is_done, left, left_plain, oldest_answered, after_leave, open_place};
 ghost use Rattle.order_parts.specs.Orders.{IsBuffer, is_restoring, has_place, places_for, handed, added_in, left_in, resolved_in, order_at};
 ghost use Rattle.evt_types.specs.Plan as plans;
@@ -198,8 +198,8 @@ impl AllOrders {
         }
     }
 
-    /// Of the lane's oldest events, no more than so many, how many have the queue's oldest places in turn. Of a queue that restores no
-    /// order all.
+    /// Of the lane's oldest events, no more than so many, how many have the queue's oldest places in turn. Where the queue restores no
+    /// order there are no places, and it is all of them.
     #[inline(always)]
     pub fn in_turn(&self, queue: usize, lanes: &Histories, lane: usize, most: usize) -> usize
         requires there { queue < length self.now }
@@ -207,6 +207,8 @@ impl AllOrders {
         requires most { most ≤ length (lane_in lanes.now lane).entries }
         ensures few { result ≤ most }
         ensures turn { is_restoring (order_at self.now queue) ≡ true → AreInTurn queue (order_at self.now queue) (take result (lane_in lanes.now lane).entries) }
+        ensures all { is_restoring (order_at self.now queue) ≡ true → result < most → EndsTurn queue (order_at self.now queue) result (lane_in lanes.now lane).entries }
+        ensures free { is_restoring (order_at self.now queue) ≡ false → result ≡ most }
     {
         match &self.queues[queue] {
             Some(order) => order.in_turn(queue, &lanes.lanes[lane], most),

@@ -1,7 +1,7 @@
 //! The reorder buffer of an ordered queue.
 
 ghost use Rattle.std.specs.Prelude.{◌≡◌, false, ◌+◌, ◌*◌, ◌%◌, ◌^◌, ◌<◌, ◌≤◌, ◌++◌, All, MatchOption, Some, length, nat_lt, option_copied, None, slice_get, slice_index_or, option_map, take, IfNone, IfOk, IfSome, IsTrue};
-ghost use Rattle.order_parts.specs.InTurn.{AreInTurn};
+ghost use Rattle.order_parts.specs.InTurn.{AreInTurn, EndsTurn};
 ghost use Rattle.order_parts.specs.Reorder.{HasFew, after_add, after_hand, after_keep, after_leave, after_resolve, empty, is_done, is_open, kept_of, left, left_plain, next_number, oldest_answered, open_place, place_at, place_or_open, without_first, without_oldest, wrapped};
 
 use crate::history::History;
@@ -231,6 +231,7 @@ impl Reorder {
         requires { most ≤ length history.now.entries }
         ensures few { result ≤ most }
         ensures turn { AreInTurn queue self.now (take result history.now.entries) }
+        ensures all { result < most → EndsTurn queue self.now result history.now.entries }
     {
         for index in 0..most {
             let entry = history.entry(index);

@@ -52,16 +52,7 @@ pub invariant_of-self-then-is_new : goal.invariant_of-self-then-is_new
 invariant_of-self-then-is_new c =
     let put : put_in c.gather.new.self ≡ answered c.args.self.now ++ reply_of c.args.event.now ∷ [] = c.gather.ensures.put ∙ ap (λ (rs : List Reply). rs ++ reply_of c.args.event.now ∷ []) c.has_room.ensures.put in
     let far : Far = after_new c.args.self.now c.args.event.now c.gather.new.self (sym c.is_new-is_new.ensures ∙ c.if-is_new.true) put in
-    record {
-      held_is = far.held_is;
-      held_are = far.held_are;
-      held_few = far.held_few;
-      held_room = far.held_room;
-      all_received = far.all_received;
-      extras_are = far.extras_are;
-      extras_few = far.extras_few;
-      beside = far.beside;
-    }
+    record { held_is = far.held_is; held_are = far.held_are; held_few = far.held_few; held_room = far.held_room; all_received = far.all_received; extras_are = far.extras_are; extras_few = far.extras_few; beside = far.beside }
 
 pub returns-clause-nothing_held : goal.returns-clause-nothing_held
 returns-clause-nothing_held c =

@@ -160,6 +160,15 @@ ended_lanes gone lane far v b n found e lt all =
     subst Q (sym (e ∙ ap (λ o. finished_by gone lane far o v) found))
     (All-push (λ p. p.lane < length v.lanes) v.finished (past_of gone b far) all (omega (arith, found_lane lane v.held b found, lt)))
 
+-- the same of a stint whose slot was in front, by the tail that is written last
+pub ended_by : (slots lane number tail word : ℕ) (v : Seating) (b : Begun) (far : Far) (before a m n : Sitting) → before.0 ≡ v → find_lane lane v.held ≡ Some b
+    → Fronts (step slots lane 0 0 O.none) before word a → m ≡ (a.0, (lane, Some far) ∷ rest a.1)
+    → Finishes (step slots lane (256 * (number + 1) + tail) 0 O.none) m (256 * (number + 1) + tail) n → (256 * (number + 1) + tail) % 256 ≡ tail
+    → IsEnded (eqb tail 255) lane far v n
+ended_by slots lane number tail word v b far before a m n is found fronts e finishes low =
+    subst (λ x. IsEnded (eqb x 255) lane far v n) low
+    (ended slots lane (256 * (number + 1) + tail) v b far m n found (put slots lane word v b far before a m is found fronts e) finishes)
+
 pub ended_rest : (gone : Bool) (lane : ℕ) (far : Far) (v : Seating) (b : Begun) (n : Sitting) → find_lane lane v.held ≡ Some b → n.0 ≡ after_end gone lane far v
     → (n.0.parts ≡ v.parts) × (n.0.closed ≡ v.closed) × (n.0.lanes ≡ v.lanes)
 ended_rest gone lane far v b n found e =

@@ -19,14 +19,14 @@ returns-clause-far c =
     subst (λ far. Receives far c.receive.result c.receive.new.self) (c.deref_mut.ensures.value ∙ c.far.view_is)
     (record { lane = got.lane; answered_is = got.answered; received = got.received; held = got.held; next = got.next; none = got.none })
 
-pub returns-clause-lane : goal.returns-clause-lane
-returns-clause-lane c = (refl, refl)
-
 pub returns-clause-open : goal.returns-clause-open
 returns-clause-open c v is =
     let got = returns-clause-far c in
     open_still v c.args.self.now _ refl refl got.lane
     (λ goes. received_goes_on (start_in (stint_at v c.args.self.now.lane)) c.args.self.now.far c.receive.new.self c.receive.result goes got.answered_is.0 got.received) is
+
+pub returns-clause-lane : goal.returns-clause-lane
+returns-clause-lane c = (refl, refl)
 
 pub returns-clause-so_far : goal.returns-clause-so_far
 returns-clause-so_far c v is = received_more (start_in (stint_at v c.args.self.now.lane)) c.args.self.now.far c.receive.new.self c.receive.result is.goes_on (returns-clause-far c).received

@@ -15,17 +15,17 @@ returns-clause-far c =
     subst (λ far. GathersWith far (reply_of c.args.event.now) c.stage.result c.stage.new.self) (c.deref_mut.ensures.value ∙ c.far.view_is)
     (record { lane = got.lane; received = got.received; answered_is = got.answered; held = got.held; nothing_held = got.nothing_held; too_many = got.too_many; refused = got.refused })
 
-pub returns-clause-lane : goal.returns-clause-lane
-returns-clause-lane c = (refl, refl)
+pub returns-clause-received : goal.returns-clause-received
+returns-clause-received c v = ap (drop (length (start_in (stint_at v c.args.self.now.lane)).received)) (returns-clause-far c).received.0
 
 pub returns-clause-open : goal.returns-clause-open
 returns-clause-open c v is =
     let got = returns-clause-far c in
     answered_open v c.args.self.now _ (reply_of c.args.event.now) c.stage.result refl refl got.lane got.received.0 got.answered_is is
 
+pub returns-clause-lane : goal.returns-clause-lane
+returns-clause-lane c = (refl, refl)
+
 pub returns-clause-so_far : goal.returns-clause-so_far
 returns-clause-so_far c v is =
     answered_more (start_in (stint_at v c.args.self.now.lane)) c.args.self.now.far c.stage.new.self (reply_of c.args.event.now) c.stage.result is.goes_on (returns-clause-far c).answered_is
-
-pub returns-clause-received : goal.returns-clause-received
-returns-clause-received c v = ap (drop (length (start_in (stint_at v c.args.self.now.lane)).received)) (returns-clause-far c).received.0

@@ -6,7 +6,7 @@ use Rattle.flow_claims.specs.Seats.{without, past_of, finished_by, after_end}
 use Rattle.flow_claims.proofs.Held.{found_lane, found_has}
 use Rattle.flow_claims.proofs.Keeps.{fronts, finishes}
 use Rattle.flow_claims.proofs.Opened.{opened, stays_open, is_ended, ended_held, ended_ports}
-use Rattle.flow_claims.proofs.Calls.{of_within, first_slot, in_front, put, ended, ended_lanes, ended_rest}
+use Rattle.flow_claims.proofs.Calls.{of_within, first_slot, in_front, put, ended_by, ended_lanes, ended_rest}
 use Rattle.flow_claims.proofs.claims.Claims.end.Goals as goal
 
 pub load-requires : goal.load-requires
@@ -44,52 +44,40 @@ pub returns : goal.returns
 returns c =
     let v = c.args.seat.now.seat.me.0 in
     let o = opened v c.args.stint c.requires.open in
-    let lane = c.args.stint.lane in
-    let far = c.args.stint.far in
-    let gone = eqb c.args.tail 255 in
-    let slots = c.args.self.now.table.shared.table_id.slots in
-    let new : ℕ = 256 * (c.args.stint.number + 1) + c.args.tail in
-    let tail_is : new % 256 ≡ c.args.tail = ⊎_elim (λ h. omega (arith, h.0)) (λ h. omega (arith, h)) c.requires.tail in
-    let is = put slots lane c.load.result v o.begun far c.args.seat.now.seat.me c.load.new.seat.me c.exchange.new.seat.me refl o.at c.load.ensures.2 c.exchange.ensures.3 in
-    let over = ended slots lane new v o.begun far c.exchange.new.seat.me c.store.new.seat.me o.at is c.store.ensures.2 in
-    let now : c.store.new.seat.me.0 ≡ after_end gone lane far v = over.view ∙ ap (λ x. after_end (eqb x 255) lane far v) tail_is in
-    let rest = ended_rest gone lane far v o.begun c.store.new.seat.me o.at now in
+    let over = ended_by c.args.self.now.table.shared.table_id.slots c.args.stint.lane c.args.stint.number c.args.tail c.load.result v o.begun c.args.stint.far
+    c.args.seat.now.seat.me c.load.new.seat.me c.exchange.new.seat.me c.store.new.seat.me refl o.at c.load.ensures.2 c.exchange.ensures.3 c.store.ensures.2
+    (⊎_elim (λ h. omega (arith, h.0)) (λ h. omega (arith, h)) c.requires.tail) in
+    let rest = ended_rest (eqb c.args.tail 255) c.args.stint.lane c.args.stint.far v o.begun c.store.new.seat.me o.at over.view in
     record {
       seat = (c.store.ensures.0 ∙ c.exchange.ensures.0 ∙ c.load.ensures.0 ∙ c.requires.seat.0, rest.2 ∙ c.requires.seat.1);
       port = record {
         port = refl;
-        held = ended_held c.args.seat.now.port gone lane far v c.store.new.seat.me.0 o.begun o.at now c.args.seat.now.own_port;
-        all = ended_ports c.args.seat.now.port gone lane far v c.store.new.seat.me.0 o.begun o.at now;
+        held = ended_held c.args.seat.now.port (eqb c.args.tail 255) c.args.stint.lane c.args.stint.far v c.store.new.seat.me.0 o.begun o.at over.view c.args.seat.now.own_port;
+        all = ended_ports c.args.seat.now.port (eqb c.args.tail 255) c.args.stint.lane c.args.stint.far v c.store.new.seat.me.0 o.begun o.at over.view;
       };
-      ended = now;
-      piece = (past_of gone o.begun far, ap (λ x. x.finished) (now ∙ ap (λ f. finished_by gone lane far f v) o.at), is_ended gone v c.args.stint o, found_has (λ b. b.port ≡ c.args.seat.now.port) lane v.held o.begun c.args.seat.now.own_port o.at);
+      ended = over.view;
+      piece = (past_of (eqb c.args.tail 255) o.begun c.args.stint.far, ap (λ x. x.finished) (over.view ∙ ap (λ f. finished_by (eqb c.args.tail 255) c.args.stint.lane c.args.stint.far f v) o.at), is_ended (eqb c.args.tail 255) v c.args.stint o, found_has (λ b. b.port ≡ c.args.seat.now.port) c.args.stint.lane v.held o.begun c.args.seat.now.own_port o.at);
       closed = c.store.ensures.2.2;
       others = over.others;
       stay = λ other ne. stays_open v c.store.new.seat.me.0 other (over.others other.lane ne) rest.2;
       last = over.last;
       parts = rest.0;
-      reads = record { loads = ap (λ x. x.loads) (now ∙ ap (λ f. finished_by gone lane far f v) o.at); reads = ap (λ x. x.reads) (now ∙ ap (λ f. finished_by gone lane far f v) o.at) };
+      reads = record { loads = ap (λ x. x.loads) (over.view ∙ ap (λ f. finished_by (eqb c.args.tail 255) c.args.stint.lane c.args.stint.far f v) o.at); reads = ap (λ x. x.reads) (over.view ∙ ap (λ f. finished_by (eqb c.args.tail 255) c.args.stint.lane c.args.stint.far f v) o.at) };
     }
 
 pub invariant_of-seat : goal.invariant_of-seat
 invariant_of-seat c =
     let v = c.args.seat.now.seat.me.0 in
     let o = opened v c.args.stint c.requires.open in
-    let lane = c.args.stint.lane in
-    let far = c.args.stint.far in
-    let gone = eqb c.args.tail 255 in
-    let slots = c.args.self.now.table.shared.table_id.slots in
-    let new : ℕ = 256 * (c.args.stint.number + 1) + c.args.tail in
-    let tail_is : new % 256 ≡ c.args.tail = ⊎_elim (λ h. omega (arith, h.0)) (λ h. omega (arith, h)) c.requires.tail in
-    let there = of_within v.lanes lane far c.requires.open.of_lane in
-    let is = put slots lane c.load.result v o.begun far c.args.seat.now.seat.me c.load.new.seat.me c.exchange.new.seat.me refl o.at c.load.ensures.2 c.exchange.ensures.3 in
-    let over = ended slots lane new v o.begun far c.exchange.new.seat.me c.store.new.seat.me o.at is c.store.ensures.2 in
-    let now : c.store.new.seat.me.0 ≡ after_end gone lane far v = over.view ∙ ap (λ x. after_end (eqb x 255) lane far v) tail_is in
-    let rest = ended_rest gone lane far v o.begun c.store.new.seat.me o.at now in
+    let over = ended_by c.args.self.now.table.shared.table_id.slots c.args.stint.lane c.args.stint.number c.args.tail c.load.result v o.begun c.args.stint.far
+    c.args.seat.now.seat.me c.load.new.seat.me c.exchange.new.seat.me c.store.new.seat.me refl o.at c.load.ensures.2 c.exchange.ensures.3 c.store.ensures.2
+    (⊎_elim (λ h. omega (arith, h.0)) (λ h. omega (arith, h)) c.requires.tail) in
+    let there = of_within v.lanes c.args.stint.lane c.args.stint.far c.requires.open.of_lane in
+    let rest = ended_rest (eqb c.args.tail 255) c.args.stint.lane c.args.stint.far v o.begun c.store.new.seat.me o.at over.view in
     record {
       slots = over.slots;
       has_part = omega (arith, rest.0, c.args.seat.now.has_part);
       none_closed = rest.1 ∙ c.args.seat.now.none_closed;
-      lanes_exist = ended_lanes gone lane far v o.begun c.store.new.seat.me o.at now there c.args.seat.now.lanes_exist;
-      own_port = ended_held c.args.seat.now.port gone lane far v c.store.new.seat.me.0 o.begun o.at now c.args.seat.now.own_port;
+      lanes_exist = ended_lanes (eqb c.args.tail 255) c.args.stint.lane c.args.stint.far v o.begun c.store.new.seat.me o.at over.view there c.args.seat.now.lanes_exist;
+      own_port = ended_held c.args.seat.now.port (eqb c.args.tail 255) c.args.stint.lane c.args.stint.far v c.store.new.seat.me.0 o.begun o.at over.view c.args.seat.now.own_port;
     }

@@ -5,12 +5,15 @@ use Rattle.std.proofs.lemmas.Grind.{common_steps}
 use Rattle.std.proofs.lemmas.List.{drop-drop}
 use Rattle.std.proofs.lemmas.List.Elements.{All-cons, All-nil}
 use Rattle.std.proofs.lemmas.Option.{slice_get_within}
+use Rattle.std.specs.Prelude.{IsTrue}
 use Rattle.evt_types.specs.declared.event.Event.{Event}
+use Rattle.evt_types.specs.declared.event.Op.TheVariants as ops
 use Rattle.credit_pool.specs.Accounts.{Stays}
 use Rattle.event_ports.specs.declared.desk.Desk.{Desk}
 use Rattle.event_answers.specs.declared.answer.Refused.{Refused}
-use Rattle.event_ports.specs.Desks.{DeskSite, own_site, account_of, hand, Enqueues, EnqueuesAll, Gathers, GathersUpTo, StopsAt}
-use Rattle.event_ports.specs.Lanes.{Hand, Rests, SubmitsAll}
+use Rattle.event_answers.specs.declared.answer.Refused.TheVariants.{Stopped}
+use Rattle.event_ports.specs.Desks.{DeskSite, own_site, account_of, hand, Enqueues, EnqueuesAll, Gathers, GathersUpTo, Pays, Refuses, StopsAt}
+use Rattle.event_ports.specs.Lanes.{Hand, Rests, SubmitsAll, SubmitsTo, lane_for, reply_of}
 use Rattle.event_ports.specs.Queues.{AllNameQueues, NamesQueue}
 use Rattle.event_ports.proofs.Bursts.{chain_taken, rests_same}
 use Rattle.event_ports.proofs.Refusing.{rests_more, stays_more}
@@ -75,6 +78,15 @@ module _ (es rest others : List Event) (e : Event) (left : IsLeft es rest) (is :
   one_chained p q r chain one =
       subst (λ n. EnqueuesAll (take n es) p r) (sym one_fewer) (chain_taken es (length es - length rest) e p q r left_next chain one)
 
+  -- the same, where the one's clauses are known
+  pub next_taken : (p q r : Desk) → EnqueuesAll (take (length es - length rest) es) p q → own_site r ≡ own_site q → Stays (account_of q) (account_of r)
+      → SubmitsTo (lane_for e.op (hand q).holding) (reply_of e) (hand q) (hand r) → Pays e.op q r → NamesQueue (own_site q).queues e
+      → (e.op ≡ ops.New → IsTrue (account_of q).saw_shut → ⊥) → IsLeft es others × EnqueuesAll (take (length es - length others) es) p r
+  next_taken p q r chain site credit submitted pays there unshut = (
+    left_others,
+    one_chained p q r chain (record { site = site; credit = credit; submitted = submitted; pays = pays; there = there; unshut = unshut }),
+  )
+
 module _ (es others rest : List Event) (m : ℕ) (left : IsLeft es others) (within : m ≤ length others) (is : rest ≡ drop m others) where
   so_many : length es - length rest ≡ length es - length others + m
   so_many = omega (arith, left.within, within, ap length is, length-drop m others)
@@ -116,6 +128,16 @@ module _ (es others rest : List Event) (m : ℕ) (left : IsLeft es others) (with
         taken = row_chained es others rest m left within is p q row.between chain row.taken;
         ends = (row.ends.0, subst (λ k. slice_get es k ≡ Some row.ends.0) so_many at, row.ends.2);
       }
+
+-- these were taken, and the next one was refused
+pub stops_gathering : (es : List Event) (n : ℕ) (e : Event) (x : Refused) (p q r : Desk) → EnqueuesAll (take n es) p q → slice_get es n ≡ Some e
+    → own_site r ≡ own_site q → Stays (account_of q) (account_of r) → Rests (hand q) (hand r) → Refuses q e x r
+    → (IsTrue (account_of q).saw_shut → e.op ≡ ops.New → x ≡ Stopped) → Gathers p es n (Some x) r
+stops_gathering es n e x p q r chain at site credit rests why stopped = record {
+  between = q;
+  taken = chain;
+  ends = (e, at, record { site = site; credit = credit; rests = rests; why = why; stopped = stopped });
+}
 
 -- where none was refused, these were taken
 pub gathered : (es : List Event) (n : ℕ) (o : Option Refused) (p q : Desk) → o ≡ None → Gathers p es n o q → EnqueuesAll (take n es) p q

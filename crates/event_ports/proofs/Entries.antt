@@ -9,14 +9,17 @@ use mathlib.Core.Logic.{dite}
 use native.Mathlib.Decide.{ℕ_discrete}
 use Rattle.lists.proofs.Lists.{eqb_same, eqb_other, filter-push_true, filter-push_false}
 use Rattle.lane_rings.specs.Ends.{received_by, answered}
+use Rattle.flow_claims.specs.Claims.{lanes_of}
 use Rattle.flow_claims.specs.declared.claim.Stint.{Stint}
+use Rattle.flow_claims.specs.declared.claims.ClaimSeat.{ClaimSeat}
+use Rattle.flow_claims.specs.declared.claims.Claims.{Claims}
 use Rattle.flow_claims.specs.declared.seating.Past.{Past}
 use Rattle.flow_claims.specs.declared.seating.Seating.{Seating}
 use Rattle.flow_claims.specs.Open.{start_in}
 use Rattle.flow_claims.specs.Seats.{stint_at}
 use Rattle.flow_claims.specs.Stints.{received_in_all, answered_in_all}
 use Rattle.flow_claims.proofs.Opened.{stays_open}
-use Rattle.event_ports.specs.Holds.{entry_at, IsHeldAt, IsEntry, stints_at, received_past, answered_past, received_now, answered_now, extras_now, held_now, Hands, received_on, answered_on, extras_on, held_on, Same, SameBut, NoneSurrendered}
+use Rattle.event_ports.specs.Holds.{entry_at, AreFlows, IsHeldAt, IsEntry, stints_at, received_past, answered_past, received_now, answered_now, extras_now, held_now, Hands, received_on, answered_on, extras_on, held_on, Same, SameBut, NoneSurrendered}
 
 abbrev pub Stints : Type 0
 Stints = List (Option Stint)
@@ -41,6 +44,11 @@ any_default (x ∷ xs) (suc i) d e lt = any_default xs i d e (omega (arith, lt))
 -- what was read at the entry of a lane stands there
 pub place_read : (ss : Stints) (lane : ℕ) (o p : Option Stint) → o ≡ get_or ss lane o → o ≡ p → lane < length ss → entry_at ss lane ≡ p
 place_read ss lane o p read is lt = any_default ss lane None o lt ∙ sym read ∙ is
+
+-- the same of a lane that is there
+pub place_there : (claims : Claims) (seat : ClaimSeat) (ss : Stints) (links : List ℕ) (lane : ℕ) (o p : Option Stint) → AreFlows claims seat ss links
+    → lane < length (lanes_of claims) → o ≡ get_or ss lane o → o ≡ p → entry_at ss lane ≡ p
+place_there claims seat ss links lane o p are exists read is = place_read ss lane o p read is (omega (arith, are.entries, exists))
 
 -- the seat has the same of the lane
 pub moved : (links : List ℕ) (v w : Seating) (j : ℕ) (entry : Option Stint) → stint_at w j ≡ stint_at v j → w.lanes ≡ v.lanes → IsEntry links v j entry → IsEntry links w j entry

@@ -1,12 +1,9 @@
 -- What stands in the ring: before and after something is put behind the last, and before and after the first is taken.
-use Rattle.std.proofs.Common.{◌≡◌, ℕ, ◌+◌, ◌-◌, ◌%◌, ◌<◌, ◌≤◌, ◌⊎◌, List, [], ◌∷◌, ◌++◌, length, map, drop, get_or, set, slice_get, Some, refl, sym, ap, ◌∙◌, inl, inr, mod-eq_of_lt, arith, length-append, length-drop, length-set, length-take-le, get_or-drop, get_or-take}
-use native.Mathlib.Nat.{mod-eq-sub-mod, mod-add-mod}
-use Rattle.std.proofs.lemmas.Bool.{cases_lt}
-use Rattle.std.proofs.lemmas.Grind.{common_steps}
-use Rattle.std.proofs.lemmas.List.{append_assoc, same_lists, drop_more, get_or_append_left, get_or-append_right}
-use Rattle.std.proofs.lemmas.Nat.{mod_below}
+use Rattle.std.proofs.Common.{◌≡◌, ℕ, ◌+◌, ◌-◌, ◌%◌, ◌<◌, ◌≤◌, List, [], ◌∷◌, ◌++◌, length, map, drop, get_or, set, slice_get, Some, refl, sym, ap, ◌∙◌, mod-eq_of_lt, arith}
+use Rattle.std.proofs.lemmas.List.{append_assoc, drop_more}
 use Rattle.std.proofs.lemmas.Option.{slice_get_read}
 use Rattle.evt_types.specs.declared.event.Delivery.{Delivery}
+use Rattle.lane_rings.proofs.Windows.{get_or-window, length-window, window_dropped, window_none, window_pushed}
 use Rattle.event_ports.specs.HeldRings.{Held, holds, window}
 use Rattle.event_ports.specs.Ring.{in_ring, IsRing}
 use Rattle.event_ports.specs.Lanes.{holding_of}
@@ -14,68 +11,14 @@ use Rattle.event_ports.specs.declared.lane.Holding.{Holding}
 use Rattle.event_ports.specs.declared.lane.Lane.{Lane}
 use Rattle.event_ports.specs.declared.held_ring.HeldRing.TheInside.{Inside}
 
--- an index below twice the size wraps once at most
-wraps_once : (size j : ℕ) → j < size + size → ((j < size) × (j % size ≡ j)) ⊎ ((size ≤ j) × (j % size ≡ j - size))
-wraps_once size j below = elim (cases_lt j size) [
-  | inl low ↦ inl (low, mod-eq_of_lt low)
-  | inr high ↦ inr (high, mod-eq-sub-mod high ∙ mod-eq_of_lt (omega arith))
-]
-
--- nothing is in no places
-pub window_none : {X : Type 0} (k : ℕ) (xs : List X) → window k 0 xs ≡ []
-unfolding window
-window_none k xs = refl
-
-module _ {X : Type 0} (size k n : ℕ) (xs : List X) (within : k < size) (fits : n ≤ size) (length_xs : length xs ≡ size) where
-  pub length-window : length (window k n xs) ≡ n
-  unfolding window
-  length-window = length-take-le n _ (simp (length-append, length-drop) (omega (arith, length-take-le k xs (omega arith))))
-
-  -- entry i is at place (k + i) % size, which is before the ring's end or past it
-  pub get_or-window : (i : ℕ) (d : X) → i < n → get_or (window k n xs) i d ≡ get_or xs ((k + i) % size) d
-  unfolding window
-  get_or-window i d in_range =
-      let length_tail = length-drop k xs in
-      get_or-take n _ i d in_range ∙ elim (wraps_once size (k + i) (omega arith)) [
-        | inl unwrapped ↦ get_or_append_left _ _ d i (omega arith) ∙ get_or-drop k xs i d ∙ ap (λ j. get_or xs j d) (omega arith)
-        | inr wrapped ↦ get_or-append_right _ _ (size - k) i d (omega arith) (omega arith) ∙ get_or-take k xs _ d (omega arith) ∙ ap (λ j. get_or xs j d) (omega arith)
-      ]
-
-module _ {X : Type 0} (size k n : ℕ) (xs : List X) (within : k < size) (fits : n ≤ size) (length_xs : length xs ≡ size) where
-  pub window_pushed : (x : X) → n < size → window k (n + 1) (set xs ((k + n) % size) x) ≡ window k n xs ++ x ∷ []
-  window_pushed x has_room =
-      let ys = set xs ((k + n) % size) x in
-      let length_ys = length-set xs ((k + n) % size) x ∙ length_xs in
-      let length_old = length-window size k n xs within fits length_xs in
-      let length_new = length-window size k (n + 1) ys within (omega arith) length_ys in
-      let written = wraps_once size (k + n) (omega arith) in
-      same_lists _ _ (grind (arith, common_steps)) (λ i d in_range. grind (
-        arith,
-        common_steps,
-        wraps_once size (k + i) (omega arith),
-        get_or-window size k n xs within fits length_xs i d,
-        get_or-window size k (n + 1) ys within (omega arith) length_ys i d,
-      ))
-
-  pub window_dropped : (m : ℕ) → m ≤ n → drop m (window k n xs) ≡ window ((k + m) % size) (n - m) xs
-  window_dropped m some =
-      let next_within : (k + m) % size < size = mod_below (k + m) size (omega arith) in
-      let length_old = length-window size k n xs within fits length_xs in
-      let length_new = length-window size ((k + m) % size) (n - m) xs next_within (omega arith) length_xs in
-      same_lists _ _ (simp length-drop (omega arith)) (λ i d in_range. grind (
-        arith,
-        length-drop m (window k n xs),
-        get_or-drop m (window k n xs) i d,
-        mod-add-mod (k + m) size i,
-        get_or-window size k n xs within fits length_xs (m + i) d,
-        get_or-window size _ (n - m) xs next_within (omega arith) length_xs i d,
-      ))
-
-  pub window_first : (d : X) → 0 < n → window k n xs ≡ get_or xs k d ∷ drop 1 (window k n xs)
-  window_first d some =
-      let length_old = length-window size k n xs within fits length_xs in
-      drop_more _ 0 d (omega arith)
-      ∙ ap (λ x. x ∷ drop 1 (window k n xs)) (grind (arith, get_or-window size k n xs within fits length_xs 0 d, wraps_once size k))
+-- the first one
+pub window_first : {X : Type 0} (size k n : ℕ) (xs : List X) → k < size → n ≤ size → length xs ≡ size → (d : X) → 0 < n → window k n xs ≡ get_or xs k d ∷ drop 1 (window k n xs)
+window_first size k n xs within fits length_xs d some =
+    let length_old = length-window size k n xs within fits length_xs in
+    let none : k + 0 ≡ k = omega arith in
+    let here : (k + 0) % size ≡ k = ap (λ j. j % size) none ∙ mod-eq_of_lt within in
+    drop_more (window k n xs) 0 d (omega arith)
+    ∙ ap (λ x. x ∷ drop 1 (window k n xs)) (get_or-window size k n xs within fits length_xs 0 d some ∙ ap (λ j. get_or xs j d) here)
 
 -- ---- the ring of a port
 

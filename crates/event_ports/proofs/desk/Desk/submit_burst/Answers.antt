@@ -3,6 +3,7 @@ use Rattle.std.proofs.Common.{rules, ◌≡◌, ◌∙◌, ap, sym, Some, refl, 
 use Rattle.event_ports.proofs.Refusing.{same_refusal}
 use Rattle.event_ports.specs.Desks.{DeskSite, own_site, hand, Enqueues, EnqueuesAll}
 use Rattle.event_ports.specs.Queues.{AllNameQueues, NamesQueue}
+use Rattle.event_ports.proofs.Chains.{stops_gathering}
 use Rattle.event_ports.proofs.Bursts.{taken_more, chain_taken, names_more, read_next}
 use Rattle.event_ports.proofs.desk.Desk.submit_burst.Goals as goal
 
@@ -22,22 +23,10 @@ returns-in-Err-clause-refused c =
 
 pub returns-in-Err-clause-chain : goal.returns-in-Err-clause-chain
 returns-in-Err-clause-chain c =
-    let was = c.loop-taken.invariant in
-    record {
-      between = c.loop-taken.self;
-      taken = was.3;
-      ends = (
-        c.of.result,
-        (read_next c.args.events.now c.loop-taken.taken c.index-events-taken.result c.loop-taken-test.true c.index-events-taken.is ∙ ap Some (sym c.of.ensures)),
-        record {
-          site = c.submit.ensures.site;
-          credit = c.submit.ensures.credit;
-          rests = c.in-Err.ensures.submitted;
-          why = c.in-Err.ensures.refused;
-          stopped = λ saw new. same_refusal _ _ (c.in-Err.ensures.stopped saw new);
-        },
-      );
-    }
+    stops_gathering c.args.events.now _ c.of.result _ c.args.self.now c.loop-taken.self c.submit.new.self c.loop-taken.invariant.3
+    (read_next c.args.events.now c.loop-taken.taken c.index-events-taken.result c.loop-taken-test.true c.index-events-taken.is ∙ ap Some (sym c.of.ensures))
+    c.submit.ensures.site c.submit.ensures.credit c.in-Err.ensures.submitted c.in-Err.ensures.refused
+    (λ saw new. same_refusal _ _ (c.in-Err.ensures.stopped saw new))
 
 pub loop-taken-preserved : goal.loop-taken-preserved
 loop-taken-preserved c =

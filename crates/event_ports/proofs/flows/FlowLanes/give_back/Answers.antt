@@ -11,7 +11,7 @@ use Rattle.flow_claims.specs.Claims.{seating, claims_id, lanes_of}
 use Rattle.event_ports.specs.Holds.{entry_at, held_now, hidden_in, AreFlows, AreShown, Same}
 use Rattle.event_ports.proofs.Claiming.{asks_same}
 use Rattle.event_ports.specs.Looks.{HasHeld}
-use Rattle.event_ports.proofs.Entries.{Stints, hands, place_read, same_list}
+use Rattle.event_ports.proofs.Entries.{Stints, hands, place_read, place_there, same_list}
 use Rattle.event_ports.proofs.Shown.{none_set, touched_set}
 use Rattle.event_ports.proofs.Turns.{ended, left_same, same_back}
 use Rattle.event_ports.proofs.Looks.{held_less}
@@ -37,9 +37,8 @@ invariant_of-self-2 c =
 pub returns-clause-same : goal.returns-clause-same
 returns-clause-same c =
     let are = c.args.self.now.are in
-    let within : c.args.lane < length c.args.self.now.stints.items = omega (arith, are.entries, c.requires.exists) in
     let at : entry_at c.args.self.now.stints.items c.args.lane ≡ Some c.in-Some.stint =
-    place_read _ _ _ _ c.index_mut.ensures.value (sym c.take.ensures.value ∙ c.in-Some.is) within in
+    place_there _ _ _ _ c.args.lane _ _ c.args.self.now.are c.requires.exists c.index_mut.ensures.value (sym c.take.ensures.value ∙ c.in-Some.is) in
     let Over : Claims → Type 0 = λ k. EndsStint k false c.in-Some.stint c.args.self.now.seat c.give_back.new.seat in
     let none : unanswered c.in-Some.stint.far ≡ [] = sym (ap held_now at) ∙ c.requires.answered in
     let To : Option Stint → Type 0 = λ o. Same (hands (seating c.args.self.now.seat) c.args.self.now.stints.items) (hands (seating c.give_back.new.seat) (set c.args.self.now.stints.items c.args.lane o)) in
@@ -89,24 +88,16 @@ give_back-requires-clause-seat c =
 
 pub give_back-requires-clause-open : goal.give_back-requires-clause-open
 give_back-requires-clause-open c =
-    let f = c.args.self.now in
-    let within : c.args.lane < length f.stints.items = omega (arith, f.are.entries, c.requires.exists) in
-    let at : entry_at f.stints.items c.args.lane ≡ Some c.in-Some.stint = place_read _ _ _ _ c.index_mut.ensures.value (sym c.take.ensures.value ∙ c.in-Some.is) within in
-    ((f.are.each c.args.lane).held c.in-Some.stint at).open_is
+    ((c.args.self.now.are.each c.args.lane).held c.in-Some.stint
+    (place_there _ _ _ _ c.args.lane _ _ c.args.self.now.are c.requires.exists c.index_mut.ensures.value (sym c.take.ensures.value ∙ c.in-Some.is))).open_is
 
 pub give_back-requires-clause-answered : goal.give_back-requires-clause-answered
 give_back-requires-clause-answered c =
-    let f = c.args.self.now in
-    let within : c.args.lane < length f.stints.items = omega (arith, f.are.entries, c.requires.exists) in
-    let at : entry_at f.stints.items c.args.lane ≡ Some c.in-Some.stint = place_read _ _ _ _ c.index_mut.ensures.value (sym c.take.ensures.value ∙ c.in-Some.is) within in
-    sym (ap held_now at) ∙ c.requires.answered
+    sym (ap held_now (place_there _ _ _ _ c.args.lane _ _ c.args.self.now.are c.requires.exists c.index_mut.ensures.value (sym c.take.ensures.value ∙ c.in-Some.is))) ∙ c.requires.answered
 
 pub give_back-requires-clause-shown : goal.give_back-requires-clause-shown
 give_back-requires-clause-shown c =
-    let f = c.args.self.now in
-    let within : c.args.lane < length f.stints.items = omega (arith, f.are.entries, c.requires.exists) in
-    let at : entry_at f.stints.items c.args.lane ≡ Some c.in-Some.stint = place_read _ _ _ _ c.index_mut.ensures.value (sym c.take.ensures.value ∙ c.in-Some.is) within in
-    sym (ap hidden_in at) ∙ c.requires.shown
+    sym (ap hidden_in (place_there _ _ _ _ c.args.lane _ _ c.args.self.now.are c.requires.exists c.index_mut.ensures.value (sym c.take.ensures.value ∙ c.in-Some.is))) ∙ c.requires.shown
 
 pub returns-clause-left : goal.returns-clause-left
 returns-clause-left c =

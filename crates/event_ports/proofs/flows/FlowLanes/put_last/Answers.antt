@@ -6,7 +6,7 @@ use Rattle.lane_rings.specs.declared.far.Refusal.TheVariants.{Full}
 use Rattle.flow_claims.specs.declared.claim.Stint.{Stint}
 use Rattle.event_ports.specs.Holds.{HoldsLast, IsFilledBy, entry_at, held_now, hidden_in}
 use Rattle.event_ports.specs.Lanes.{reply_of}
-use Rattle.event_ports.proofs.Entries.{at_each, place_read}
+use Rattle.event_ports.proofs.Entries.{at_each, place_read, place_there}
 use Rattle.event_ports.proofs.Refusals.{full_after, last_answered, none_after}
 use Rattle.event_ports.proofs.Shown.{touched_set}
 use Rattle.event_ports.proofs.Turns.{answered_lists, turned}
@@ -32,18 +32,14 @@ unreachable-requires c =
 
 pub answer_last-requires-clause-last : goal.answer_last-requires-clause-last
 answer_last-requires-clause-last c =
-    let f = c.args.self.now in
-    let within : c.args.lane < length f.stints.items = omega (arith, f.are.entries, c.requires.exists) in
-    let at : entry_at f.stints.items c.args.lane ≡ Some c.in-Some.stint = place_read _ _ _ _ c.index_mut.ensures.value c.in-Some.is within in
-    let last : HoldsLast (Some c.in-Some.stint) = subst HoldsLast at c.requires.last in
+    let last : HoldsLast (Some c.in-Some.stint) =
+    subst HoldsLast (place_there _ _ c.args.self.now.stints.items _ c.args.lane _ (Some c.in-Some.stint) c.args.self.now.are c.requires.exists c.index_mut.ensures.value c.in-Some.is) c.requires.last in
     last.0
 
 pub answer_last-requires-clause-flushed : goal.answer_last-requires-clause-flushed
 answer_last-requires-clause-flushed c =
-    let f = c.args.self.now in
-    let within : c.args.lane < length f.stints.items = omega (arith, f.are.entries, c.requires.exists) in
-    let at : entry_at f.stints.items c.args.lane ≡ Some c.in-Some.stint = place_read _ _ _ _ c.index_mut.ensures.value c.in-Some.is within in
-    let last : HoldsLast (Some c.in-Some.stint) = subst HoldsLast at c.requires.last in
+    let last : HoldsLast (Some c.in-Some.stint) =
+    subst HoldsLast (place_there _ _ c.args.self.now.stints.items _ c.args.lane _ (Some c.in-Some.stint) c.args.self.now.are c.requires.exists c.index_mut.ensures.value c.in-Some.is) c.requires.last in
     last.1
 
 pub invariant_of-self : goal.invariant_of-self

@@ -8,7 +8,7 @@ use Rattle.flow_claims.specs.Answers.{EndsStint}
 use Rattle.flow_claims.specs.Claims.{seating}
 use Rattle.event_ports.specs.Holds.{entry_at, hidden_in, AreFlows, AreShown, Kept, NoneHidden}
 use Rattle.event_ports.specs.Looks.{HasHeld}
-use Rattle.event_ports.proofs.Entries.{hands, place_read}
+use Rattle.event_ports.proofs.Entries.{hands, place_read, place_there}
 use Rattle.event_ports.proofs.Shown.{none_set, touched_set}
 use Rattle.event_ports.proofs.Turns.{ended, all_kept, ended_but, ended_received, ended_answered, ended_left, ended_free}
 use Rattle.event_ports.proofs.Looks.{held_set}
@@ -16,19 +16,12 @@ use Rattle.event_ports.proofs.flows.FlowLanes.surrender.Goals as goal
 
 pub surrender-requires-clause-shown : goal.surrender-requires-clause-shown
 surrender-requires-clause-shown c =
-    let are = c.args.self.now.are in
-    let within : c.args.lane < length c.args.self.now.stints.items = omega (arith, are.entries, c.requires.exists) in
-    let at : entry_at c.args.self.now.stints.items c.args.lane ≡ Some c.in-Some.stint =
-    place_read _ _ _ _ c.index_mut.ensures.value (sym c.take.ensures.value ∙ c.in-Some.is) within in
-    sym (ap hidden_in at) ∙ c.requires.shown c.args.lane
+    sym (ap hidden_in (place_there _ _ _ _ c.args.lane _ _ c.args.self.now.are c.requires.exists c.index_mut.ensures.value (sym c.take.ensures.value ∙ c.in-Some.is))) ∙ c.requires.shown c.args.lane
 
 pub surrender-requires-clause-open : goal.surrender-requires-clause-open
 surrender-requires-clause-open c =
-    let are = c.args.self.now.are in
-    let within : c.args.lane < length c.args.self.now.stints.items = omega (arith, are.entries, c.requires.exists) in
-    let at : entry_at c.args.self.now.stints.items c.args.lane ≡ Some c.in-Some.stint =
-    place_read _ _ _ _ c.index_mut.ensures.value (sym c.take.ensures.value ∙ c.in-Some.is) within in
-    ((are.each c.args.lane).held c.in-Some.stint at).open_is
+    ((c.args.self.now.are.each c.args.lane).held c.in-Some.stint
+    (place_there _ _ _ _ c.args.lane _ _ c.args.self.now.are c.requires.exists c.index_mut.ensures.value (sym c.take.ensures.value ∙ c.in-Some.is))).open_is
 
 pub invariant_of-self-2 : goal.invariant_of-self-2
 invariant_of-self-2 c =

@@ -23,7 +23,9 @@ use Rattle.flow_claims.specs.Open.{IsOpen, received_so_far, answered_so_far}
 use Rattle.flow_claims.specs.Seats.{stint_at, find_lane, IsPorts}
 use Rattle.flow_claims.specs.Stints.{left_in, received_in, answered_in}
 use Rattle.flow_claims.proofs.Held.{nothing_held}
-use Rattle.event_ports.specs.Holds.{entry_at, IsHeldAt, AreFlows, stints_at, received_past, answered_past, left_past, surrendered_past, left_on, LeavesFree, received_now, answered_now, extras_now, held_now, Hands, received_on, answered_on, extras_on, Flushed, IsFilledBy, Kept, Same, SameBut, Gets, Brings, Says}
+use Rattle.lane_rings.specs.declared.hints.LaneSet.{LaneSet}
+use Rattle.event_ports.specs.Looks.{HasHeld}
+use Rattle.event_ports.specs.Holds.{entry_at, IsHeldAt, AreFlows, AreShown, stints_at, received_past, answered_past, left_past, surrendered_past, left_on, LeavesFree, received_now, answered_now, extras_now, held_now, Hands, received_on, answered_on, extras_on, Flushed, IsFilledBy, Kept, Same, SameBut, Gets, Brings, Says}
 use Rattle.event_ports.proofs.Extras.{extras_push, none_extra}
 use Rattle.event_ports.proofs.Unanswered.{left_here, left_other, surrendered, none_surrendered, others_surrendered}
 use Rattle.event_ports.proofs.Entries.{Stints, at_each, hands, each_entry, moved, free_entry, held_at_entry, past_entries, past_more, other_stints, same_but, received_here, answered_here, extras_here, held_here, all_same}
@@ -262,6 +264,14 @@ module _ (claims : Claims) (links : List ℕ) where
     answered_lists reply (Err _) is held so_far received all = turn_same (received (seating seat)) (so_far (seating seat) is) held all
 
 -- where the entry that was borrowed is written back as it was, nothing changes
+pub entries_back : (claims : Claims) (seat : ClaimSeat) (links : List ℕ) (touched : Option ℕ) (lanes : LaneSet) (ss ts : Stints) → ts ≡ ss
+    → AreFlows claims seat ss links → AreShown touched ss → HasHeld lanes ss → AreFlows claims seat ts links × AreShown touched ts × HasHeld lanes ts
+entries_back claims seat links touched lanes ss ts back are shown has_held = (
+  subst (λ (xs : Stints). AreFlows claims seat xs links) (sym back) are,
+  subst (AreShown touched) (sym back) shown,
+  subst (HasHeld lanes) (sym back) has_held,
+)
+
 pub same_back : (v : Seating) (ss ts : Stints) → ts ≡ ss → Same (hands v ss) (hands v ts)
 same_back v ss ts back =
     let same : Same (hands v ss) (hands v ss) = record { received = λ j. refl; answered_is = λ j. refl; held = λ j. refl; extras = λ j. refl; given_back = λ j. refl } in

@@ -62,14 +62,14 @@ returns-then-is_empty-clause-site c = chain_site (take (length c.args.events.now
 pub returns-then-is_empty-clause-credit : goal.returns-then-is_empty-clause-credit
 returns-then-is_empty-clause-credit c = chain_stays (take (length c.args.events.now) c.args.events.now) c.args.self.now c.submit.new.self (taken c)
 
+pub returns-then-is_empty-clause-chain : goal.returns-then-is_empty-clause-chain
+returns-then-is_empty-clause-chain c = record { between = c.submit.new.self; taken = taken c; ends = refl }
+
 pub returns-then-is_empty-clause-submitted : goal.returns-then-is_empty-clause-submitted
 returns-then-is_empty-clause-submitted c = chain_submits (take (length c.args.events.now) c.args.events.now) c.args.self.now c.submit.new.self (taken c)
 
 pub returns-then-is_empty-clause-there : goal.returns-then-is_empty-clause-there
 returns-then-is_empty-clause-there c = chain_names (take (length c.args.events.now) c.args.events.now) c.args.self.now c.submit.new.self (taken c)
-
-pub returns-then-is_empty-clause-chain : goal.returns-then-is_empty-clause-chain
-returns-then-is_empty-clause-chain c = record { between = c.submit.new.self; taken = taken c; ends = refl }
 
 pub loop-event-preserved : goal.loop-event-preserved
 loop-event-preserved c =
@@ -135,6 +135,14 @@ returns-clause-credit c =
     chain_stays (take (length c.args.events.now) c.args.events.now) c.args.self.now c.loop-event.self
     (all_chained c.args.events.now c.loop-event.rest.now c.args.self.now c.loop-event.self c.in_default.ensures.cases c.loop-event.invariant.1)
 
+pub returns-clause-chain : goal.returns-clause-chain
+returns-clause-chain c =
+    record {
+      between = c.loop-event.self;
+      taken = all_chained c.args.events.now c.loop-event.rest.now c.args.self.now c.loop-event.self c.in_default.ensures.cases c.loop-event.invariant.1;
+      ends = refl;
+    }
+
 pub returns-clause-submitted : goal.returns-clause-submitted
 returns-clause-submitted c =
     chain_submits (take (length c.args.events.now) c.args.events.now) c.args.self.now c.loop-event.self
@@ -144,11 +152,3 @@ pub returns-clause-there : goal.returns-clause-there
 returns-clause-there c =
     chain_names (take (length c.args.events.now) c.args.events.now) c.args.self.now c.loop-event.self
     (all_chained c.args.events.now c.loop-event.rest.now c.args.self.now c.loop-event.self c.in_default.ensures.cases c.loop-event.invariant.1)
-
-pub returns-clause-chain : goal.returns-clause-chain
-returns-clause-chain c =
-    record {
-      between = c.loop-event.self;
-      taken = all_chained c.args.events.now c.loop-event.rest.now c.args.self.now c.loop-event.self c.in_default.ensures.cases c.loop-event.invariant.1;
-      ends = refl;
-    }

@@ -8,14 +8,13 @@ use Rattle.lane_rings.specs.declared.far.Refusal.TheVariants.{Full}
 use Rattle.flow_claims.specs.declared.claim.Stint.{Stint}
 use Rattle.flow_claims.specs.Claims.{lanes_of, seating}
 use Rattle.event_ports.specs.Flows.{FlowSite, flow_site, hands_of}
-use Rattle.event_ports.specs.Holds.{entry_at, extras_now, held_now, AreFlows, AreShown, IsFilledBy}
-use Rattle.event_ports.specs.Looks.{HasHeld}
+use Rattle.event_ports.specs.Holds.{entry_at, extras_now, held_now, IsFilledBy}
 use Rattle.event_ports.specs.Lanes.{reply_of}
 use Rattle.event_ports.proofs.Calls.{answered_after, same_more}
 use Rattle.event_ports.proofs.Entries.{Stints, at_each, place_read, same_list}
 use Rattle.event_ports.proofs.Refusals.{all_full}
 use Rattle.event_ports.proofs.Shown.{touched_set}
-use Rattle.event_ports.proofs.Turns.{answered_lists, same_back, turned}
+use Rattle.event_ports.proofs.Turns.{entries_back, answered_lists, same_back, turned}
 use Rattle.event_ports.proofs.Looks.{held_same}
 use Rattle.event_ports.proofs.flows.FlowLanes.answer.Goals as goal
 
@@ -34,12 +33,8 @@ invariant_of-self c =
     let turned = c.turn_to.new.self in
     let within : c.args.lane < length turned.stints.items = omega (arith, turned.are.entries, c.requires.exists, ap (λ (p : FlowSite). length (lanes_of p.claims)) c.turn_to.ensures.site) in
     let back : set turned.stints.items c.args.lane c.index_mut.result.now ≡ turned.stints.items = same_list _ _ _ (place_read _ _ _ _ c.index_mut.ensures.value refl within) in
-    record {
-      are = subst (λ (ss : Stints). AreFlows (arc_value turned.claims) turned.seat ss turned.links.items) (sym back) turned.are;
-      shown = subst (AreShown turned.touched) (sym back) turned.shown;
-      placed = turned.placed;
-      has_held = subst (HasHeld turned.held) (sym back) turned.has_held;
-    }
+    let same = entries_back _ _ _ turned.touched turned.held _ _ back turned.are turned.shown turned.has_held in
+    record { are = same.0; shown = same.1; placed = turned.placed; has_held = same.2 }
 
 pub returns-in_default-clause-lists : goal.returns-in_default-clause-lists
 returns-in_default-clause-lists c =

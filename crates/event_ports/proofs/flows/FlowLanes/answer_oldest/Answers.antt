@@ -28,14 +28,14 @@ give_back-requires-clause-shown c = c.put_last.ensures.shown
 pub returns-clause-site : goal.returns-clause-site
 returns-clause-site c = c.give_back.ensures.site ∙ c.put_last.ensures.site
 
-pub returns-clause-lists : goal.returns-clause-lists
-returns-clause-lists c =
-    says_before (hands_of c.args.self.now) (hands_of c.put_last.new.self) (hands_of c.give_back.new.self) c.args.lane (reply_of c.args.event.now) c.in_ok-put_last.ensures.lists c.give_back.ensures.same
-
 pub returns-clause-idle : goal.returns-clause-idle
 returns-clause-idle c =
     idle_answered (hands_of c.args.self.now) (hands_of c.put_last.new.self) (hands_of c.give_back.new.self) c.args.lane (reply_of c.args.event.now) c.in_ok-put_last.ensures.lists c.put_last.ensures.entries
     c.give_back.ensures.same (λ none. c.give_back.ensures.left) c.give_back.ensures.elsewhere
+
+pub returns-clause-lists : goal.returns-clause-lists
+returns-clause-lists c =
+    says_before (hands_of c.args.self.now) (hands_of c.put_last.new.self) (hands_of c.give_back.new.self) c.args.lane (reply_of c.args.event.now) c.in_ok-put_last.ensures.lists c.give_back.ensures.same
 
 pub returns-then-not-holds_last-clause-asks : goal.returns-then-not-holds_last-clause-asks
 returns-then-not-holds_last-clause-asks c = c.answer_more.ensures.asks

@@ -11,9 +11,9 @@ use Rattle.flow_claims.specs.Claims.{seating, claims_id, lanes_of}
 use Rattle.event_ports.specs.Holds.{entry_at, held_now, hidden_in, AreFlows, AreShown, Same}
 use Rattle.event_ports.proofs.Claiming.{asks_same}
 use Rattle.event_ports.specs.Looks.{HasHeld}
-use Rattle.event_ports.proofs.Entries.{Stints, hands, place_read, place_there, same_list}
+use Rattle.event_ports.proofs.Entries.{hands, place_read, place_there, same_list}
 use Rattle.event_ports.proofs.Shown.{none_set, touched_set}
-use Rattle.event_ports.proofs.Turns.{ended, left_same, same_back}
+use Rattle.event_ports.proofs.Turns.{entries_back, ended, left_same, same_back}
 use Rattle.event_ports.proofs.Looks.{held_less}
 use Rattle.event_ports.proofs.flows.FlowLanes.give_back.Goals as goal
 
@@ -51,12 +51,8 @@ invariant_of-self c =
     let within : c.args.lane < length f.stints.items = omega (arith, f.are.entries, c.requires.exists) in
     let back : set f.stints.items c.args.lane c.take.new.self ≡ f.stints.items =
     ap (set f.stints.items c.args.lane) c.take.ensures.after ∙ same_list _ _ _ (place_read _ _ _ _ c.index_mut.ensures.value (sym c.take.ensures.value ∙ c.in_default.is) within) in
-    record {
-      are = subst (λ (ss : Stints). AreFlows (arc_value f.claims) f.seat ss f.links.items) (sym back) f.are;
-      shown = subst (AreShown f.touched) (sym back) f.shown;
-      placed = f.placed;
-      has_held = subst (HasHeld f.held) (sym back) f.has_held;
-    }
+    let same = entries_back _ _ _ f.touched f.held _ _ back f.are f.shown f.has_held in
+    record { are = same.0; shown = same.1; placed = f.placed; has_held = same.2 }
 
 pub returns-in_default-clause-same : goal.returns-in_default-clause-same
 returns-in_default-clause-same c =

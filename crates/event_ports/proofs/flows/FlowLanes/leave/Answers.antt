@@ -1,18 +1,16 @@
 -- A lane of which nothing is unanswered is flushed and given back; otherwise its entry is as it was.
 use Rattle.std.proofs.Common.{◌≡◌, ◌∙◌, refl, sym, ap, subst, [], None, Some, length, ◌<◌, arith, set}
 use Rattle.std.proofs.lemmas.List.{get_or-set_same, get_or-set_other}
-use Rattle.std.specs.Arc.{arc_value}
 use Rattle.std.specs.Option.{is_some}
 use Rattle.lane_rings.specs.Ends.{unanswered}
 use Rattle.flow_claims.specs.Claims.{seating}
 use Rattle.event_ports.specs.Flows.{hands_of}
-use Rattle.event_ports.specs.Holds.{entry_at, held_now, hidden_in, AreFlows, AreShown, IsDrained}
-use Rattle.event_ports.specs.Looks.{HasHeld}
+use Rattle.event_ports.specs.Holds.{entry_at, held_now, hidden_in, IsDrained}
 use Rattle.event_ports.proofs.Calls.{same_more}
 use Rattle.event_ports.proofs.Claiming.{asks_same}
 use Rattle.event_ports.proofs.Entries.{Stints, none_left, place_read, same_list}
 use Rattle.event_ports.proofs.Shown.{none_set, touched_set}
-use Rattle.event_ports.proofs.Turns.{same_back, turned, turn_same}
+use Rattle.event_ports.proofs.Turns.{entries_back, same_back, turned, turn_same}
 use Rattle.event_ports.proofs.Looks.{free_drained, held_same}
 use Rattle.event_ports.proofs.flows.FlowLanes.leave.Goals as goal
 
@@ -22,12 +20,8 @@ invariant_of-self c =
     let within : c.args.lane < length f.stints.items = omega (arith, f.are.entries, c.requires) in
     let back : set f.stints.items c.args.lane c.index_mut.result.now ≡ f.stints.items =
     same_list _ _ _ (place_read _ _ _ _ c.index_mut.ensures.value refl within) in
-    record {
-      are = subst (λ (ss : Stints). AreFlows (arc_value f.claims) f.seat ss f.links.items) (sym back) f.are;
-      shown = subst (AreShown f.touched) (sym back) f.shown;
-      placed = f.placed;
-      has_held = subst (HasHeld f.held) (sym back) f.has_held;
-    }
+    let same = entries_back _ _ _ f.touched f.held _ _ back f.are f.shown f.has_held in
+    record { are = same.0; shown = same.1; placed = f.placed; has_held = same.2 }
 
 pub returns-in_default-clause-same : goal.returns-in_default-clause-same
 returns-in_default-clause-same c =
@@ -56,12 +50,8 @@ invariant_of-self-then-held-gt0 c =
     let within : c.args.lane < length f.stints.items = omega (arith, f.are.entries, c.requires) in
     let back : set f.stints.items c.args.lane (Some c.in-Some.stint) ≡ f.stints.items =
     same_list _ _ _ (place_read _ _ _ _ c.index_mut.ensures.value c.in-Some.is within) in
-    record {
-      are = subst (λ (ss : Stints). AreFlows (arc_value f.claims) f.seat ss f.links.items) (sym back) f.are;
-      shown = subst (AreShown f.touched) (sym back) f.shown;
-      placed = f.placed;
-      has_held = subst (HasHeld f.held) (sym back) f.has_held;
-    }
+    let same = entries_back _ _ _ f.touched f.held _ _ back f.are f.shown f.has_held in
+    record { are = same.0; shown = same.1; placed = f.placed; has_held = same.2 }
 
 pub returns-then-held-gt0-clause-same : goal.returns-then-held-gt0-clause-same
 returns-then-held-gt0-clause-same c =

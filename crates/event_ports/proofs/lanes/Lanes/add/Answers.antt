@@ -15,12 +15,10 @@ use Rattle.event_ports.proofs.Refusals.{all_full}
 use Rattle.event_ports.proofs.lanes.Lanes.add.Goals as goal
 
 pub answer-requires-clause-held : goal.answer-requires-clause-held
-answer-requires-clause-held c =
-    oldest_held c.args.self.now c.in-Flow.lane (sym c.in-Some.ensures ∙ ap Some c.in-Flow.is)
+answer-requires-clause-held c = oldest_held c.args.self.now c.in-Flow.lane (sym c.in-Some.ensures ∙ ap Some c.in-Flow.is)
 
 pub answer-requires-clause-exists : goal.answer-requires-clause-exists
-answer-requires-clause-exists c =
-    oldest_there c.args.self.now c.in-Flow.lane (sym c.in-Some.ensures ∙ ap Some c.in-Flow.is)
+answer-requires-clause-exists c = oldest_there c.args.self.now c.in-Flow.lane (sym c.in-Some.ensures ∙ ap Some c.in-Flow.is)
 
 pub invariant_of-self-in-Flow-clause-ordered : goal.invariant_of-self-in-Flow-clause-ordered
 invariant_of-self-in-Flow-clause-ordered c =

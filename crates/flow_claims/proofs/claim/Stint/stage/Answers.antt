@@ -6,9 +6,6 @@ use Rattle.flow_claims.proofs.Grown.{answered_more, answered_open}
 use Rattle.lane_rings.specs.Refusal.{reply_of}
 use Rattle.flow_claims.proofs.claim.Stint.stage.Goals as goal
 
-pub invariant_of-self : goal.invariant_of-self
-invariant_of-self c = record { small = c.args.self.now.small }
-
 pub returns-clause-far : goal.returns-clause-far
 returns-clause-far c =
     let got = c.stage.ensures in
@@ -29,3 +26,6 @@ returns-clause-lane c = (refl, refl)
 pub returns-clause-so_far : goal.returns-clause-so_far
 returns-clause-so_far c v is =
     answered_more (start_in (stint_at v c.args.self.now.lane)) c.args.self.now.far c.stage.new.self (reply_of c.args.event.now) c.stage.result is.goes_on (returns-clause-far c).answered_is
+
+pub invariant_of-self : goal.invariant_of-self
+invariant_of-self c = record { small = c.args.self.now.small }

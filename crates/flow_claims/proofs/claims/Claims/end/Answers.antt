@@ -1,8 +1,8 @@
 -- A stint ends: its slot comes in front, takes the end in, and goes back.
-use Rattle.std.proofs.Common.{◌≡◌, ◌∙◌, None, ℕ, ◌*◌, ◌+◌, ◌%◌, ⊎_elim, eqb, refl, ap, subst, length, List, arith}
+use Rattle.std.proofs.Common.{◌≡◌, ◌∙◌, None, ⊎_elim, eqb, refl, ap, subst, length, List, arith}
 use Rattle.lane_rings.specs.declared.far.Far.{Far}
 use Rattle.flow_claims.specs.Lists.{IsOf}
-use Rattle.flow_claims.specs.Seats.{without, past_of, finished_by, after_end}
+use Rattle.flow_claims.specs.Seats.{without, past_of, finished_by}
 use Rattle.flow_claims.proofs.Held.{found_lane, found_has}
 use Rattle.flow_claims.proofs.Keeps.{fronts, finishes}
 use Rattle.flow_claims.proofs.Opened.{opened, stays_open, is_ended, ended_held, ended_ports}

@@ -126,14 +126,10 @@ pub returns-in-Some-refused-clause-chain : goal.returns-in-Some-refused-clause-c
 returns-in-Some-refused-clause-chain c = stopped c
 
 pub returns-clause-site : goal.returns-clause-site
-returns-clause-site c =
-    chain_site (take (length c.args.events.now) c.args.events.now) c.args.self.now c.loop-event.self
-    (all_chained c.args.events.now c.loop-event.rest.now c.args.self.now c.loop-event.self c.in_default.ensures.cases c.loop-event.invariant.1)
+returns-clause-site c = chain_site (take (length c.args.events.now) c.args.events.now) c.args.self.now c.loop-event.self (all_chained c.args.events.now c.loop-event.rest.now c.args.self.now c.loop-event.self c.in_default.ensures.cases c.loop-event.invariant.1)
 
 pub returns-clause-credit : goal.returns-clause-credit
-returns-clause-credit c =
-    chain_stays (take (length c.args.events.now) c.args.events.now) c.args.self.now c.loop-event.self
-    (all_chained c.args.events.now c.loop-event.rest.now c.args.self.now c.loop-event.self c.in_default.ensures.cases c.loop-event.invariant.1)
+returns-clause-credit c = chain_stays (take (length c.args.events.now) c.args.events.now) c.args.self.now c.loop-event.self (all_chained c.args.events.now c.loop-event.rest.now c.args.self.now c.loop-event.self c.in_default.ensures.cases c.loop-event.invariant.1)
 
 pub returns-clause-chain : goal.returns-clause-chain
 returns-clause-chain c =
@@ -144,11 +140,7 @@ returns-clause-chain c =
     }
 
 pub returns-clause-submitted : goal.returns-clause-submitted
-returns-clause-submitted c =
-    chain_submits (take (length c.args.events.now) c.args.events.now) c.args.self.now c.loop-event.self
-    (all_chained c.args.events.now c.loop-event.rest.now c.args.self.now c.loop-event.self c.in_default.ensures.cases c.loop-event.invariant.1)
+returns-clause-submitted c = chain_submits (take (length c.args.events.now) c.args.events.now) c.args.self.now c.loop-event.self (all_chained c.args.events.now c.loop-event.rest.now c.args.self.now c.loop-event.self c.in_default.ensures.cases c.loop-event.invariant.1)
 
 pub returns-clause-there : goal.returns-clause-there
-returns-clause-there c =
-    chain_names (take (length c.args.events.now) c.args.events.now) c.args.self.now c.loop-event.self
-    (all_chained c.args.events.now c.loop-event.rest.now c.args.self.now c.loop-event.self c.in_default.ensures.cases c.loop-event.invariant.1)
+returns-clause-there c = chain_names (take (length c.args.events.now) c.args.events.now) c.args.self.now c.loop-event.self (all_chained c.args.events.now c.loop-event.rest.now c.args.self.now c.loop-event.self c.in_default.ensures.cases c.loop-event.invariant.1)

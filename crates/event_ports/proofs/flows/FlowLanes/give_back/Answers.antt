@@ -19,8 +19,7 @@ use Rattle.event_ports.proofs.flows.FlowLanes.give_back.Goals as goal
 
 pub invariant_of-self-2 : goal.invariant_of-self-2
 invariant_of-self-2 c =
-    let are = c.args.self.now.are in
-    let within : c.args.lane < length c.args.self.now.stints.items = omega (arith, are.entries, c.requires.exists) in
+    let within : c.args.lane < length c.args.self.now.stints.items = omega (arith, c.args.self.now.are.entries, c.requires.exists) in
     let at : entry_at c.args.self.now.stints.items c.args.lane ≡ Some c.in-Some.stint =
     place_read _ _ _ _ c.index_mut.ensures.value (sym c.take.ensures.value ∙ c.in-Some.is) within in
     let Over : Claims → Type 0 = λ k. EndsStint k false c.in-Some.stint c.args.self.now.seat c.give_back.new.seat in
@@ -28,7 +27,7 @@ invariant_of-self-2 c =
     let Held : Option Stint → Type 0 = λ o. HasHeld c.remove.new.self (set c.args.self.now.stints.items c.args.lane o) in
     let Shown : Option Stint → Type 0 = λ o. AreShown c.args.self.now.touched (set c.args.self.now.stints.items c.args.lane o) in
     record {
-      are = subst Are (sym c.take.ensures.after) (ended _ _ c.args.self.now.seat c.give_back.new.seat _ _ c.in-Some.stint false are (subst Over c.deref.ensures c.give_back.ensures) at c.requires.exists);
+      are = subst Are (sym c.take.ensures.after) (ended _ _ c.args.self.now.seat c.give_back.new.seat _ _ c.in-Some.stint false c.args.self.now.are (subst Over c.deref.ensures c.give_back.ensures) at c.requires.exists);
       shown = subst Shown (sym c.take.ensures.after) (touched_set c.args.self.now.touched c.args.self.now.stints.items c.args.lane None within (λ other. refl) c.args.self.now.shown);
       placed = c.args.self.now.placed;
       has_held = subst Held (sym c.take.ensures.after) (held_less c.args.self.now.held c.remove.new.self c.args.self.now.stints.items c.args.lane within c.remove.ensures.others c.args.self.now.has_held);

@@ -27,26 +27,22 @@ use Rattle.parked_queue.proofs.Taking.{head_held, list_of_number_within, taken_h
 use Rattle.parked_queue.proofs.Totals.{total_without}
 
 -- one change after another
-pub changed_then : (l m k : Lists) (p x y : Parking) → IsChanged l p m x (waits_by l p) → IsChanged m x k y (waits_by m x) → IsChanged l p k y (waits_by l p)
-changed_then l m k p x y first then =
+pub changed_on : (l m k : Lists) (p x y : Parking) (u w : Waits) → IsChanged l p m x u → IsChanged m x k y w → IsChanged l p k y w
+changed_on l m k p x y u w first then =
     record {
       part = then.part;
       base = then.base ∙ first.base;
       slots = then.slots ∙ first.slots;
       but = but_then p.base (list_count p.slots) l m k first.but (subst (λ b. IsBut b (list_count p.slots) m k) first.base (subst (λ s. IsBut x.base (list_count s) m k) first.slots then.but));
-      waits = then.waits ∙ first.waits;
+      waits = then.waits;
     }
+
+pub changed_then : (l m k : Lists) (p x y : Parking) → IsChanged l p m x (waits_by l p) → IsChanged m x k y (waits_by m x) → IsChanged l p k y (waits_by l p)
+changed_then l m k p x y first then = subst (λ w. IsChanged l p k y w) first.waits (changed_on l m k p x y (waits_by l p) (waits_by m x) first then)
 
 -- a change after one that changed what waits
 pub changed_last : (l m : Lists) (p x y : Parking) (w : Waits) → IsChanged l p m x w → IsChanged m x m y (waits_by m x) → IsChanged l p m y w
-changed_last l m p x y w first then =
-    record {
-      part = then.part;
-      base = then.base ∙ first.base;
-      slots = then.slots ∙ first.slots;
-      but = but_then p.base (list_count p.slots) l m m first.but (subst (λ b. IsBut b (list_count p.slots) m m) first.base (subst (λ s. IsBut x.base (list_count s) m m) first.slots then.but));
-      waits = then.waits ∙ first.waits;
-    }
+changed_last l m p x y w first then = subst (λ u. IsChanged l p m y u) first.waits (changed_on l m m p x y w (waits_by m x) first then)
 
 module _ (l : Lists) (p : Parking) (is : IsParted l p) where
   abbrev v : Parted
@@ -288,7 +284,7 @@ module _ (l : Lists) (p : Parking) (is : IsParted l p) where
   pub number_list : (c slot i k : ℕ) → c < 4 → slot < p.slots → k ≡ list_of_number p.below c slot i → k < n
   number_list c slot i k level less list = subst (λ j. j < n) (sym list) (list_of_number_within p.below c slot i p.slots level less)
 
-  pub taken : (m : Lists) (c slot i k j count t : ℕ) (row : List ℕ) → t ≡ list_of_slot slot c → row ≡ set (row_at p.heads c) slot (number_of (slice_get (list_at m (p.base + t)) 0)) → c < 4 → slot < p.slots → IsOnlyOf v.waits c slot i → k ≡ list_of_number p.below c slot i → m ≡ with_list l (p.base + k) (filter (is_other i) (list_at l (p.base + k))) → total_of m + j ≡ total_of l
+  taken : (m : Lists) (c slot i k j count t : ℕ) (row : List ℕ) → t ≡ list_of_slot slot c → row ≡ set (row_at p.heads c) slot (number_of (slice_get (list_at m (p.base + t)) 0)) → c < 4 → slot < p.slots → IsOnlyOf v.waits c slot i → k ≡ list_of_number p.below c slot i → m ≡ with_list l (p.base + k) (filter (is_other i) (list_at l (p.base + k))) → total_of m + j ≡ total_of l
       → (j ≤ p.count) × (count + j ≡ p.count → IsChanged l p m (record p { count = count; heads = set p.heads c row }) (without_number v.waits i))
   taken m c slot i k j count t row aside noted level less only list gone fewer =
       let within : k < n = number_list c slot i k level less list in
@@ -310,3 +306,9 @@ module _ (l : Lists) (p : Parking) (is : IsParted l p) where
         omega arith,
         λ left. changed m (record p { count = count; heads = set p.heads c row }) (with_waits v (without_number v.waits i)) refl refl but holds_now (omega arith) (omega arith),
       )
+
+  -- the same where the row is read and written
+  pub taken_read : (m : Lists) (c slot i k j count t n : ℕ) (d row : List ℕ) → t ≡ list_of_slot slot c → row ≡ set (get_or p.heads c d) slot n → n ≡ number_of (slice_get (list_at m (p.base + t)) 0) → c < 4 → slot < p.slots → IsOnlyOf v.waits c slot i → k ≡ list_of_number p.below c slot i → m ≡ with_list l (p.base + k) (filter (is_other i) (list_at l (p.base + k))) → total_of m + j ≡ total_of l
+      → (j ≤ p.count) × (count + j ≡ p.count → IsChanged l p m (record p { count = count; heads = set p.heads c row }) (without_number v.waits i))
+  taken_read m c slot i k j count t n d row aside written number level less only list gone fewer =
+      taken m c slot i k j count t row aside (noted_row c slot n (number_of (slice_get (list_at m (p.base + t)) 0)) d row level written number) level less only list gone fewer

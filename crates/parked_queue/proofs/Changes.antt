@@ -52,6 +52,20 @@ module _ (old : List Node) (size free : ℕ) (cs : List Chain) (room : ℕ) (v :
   pub events_here : events_of at size c ≡ list_at v k
   events_here = ap (events_of at size) is ∙ list_seen at size cs room v view k there
 
+  -- ---- with another chain in its place, as the code writes it
+
+  viewed_as : (new : ℕ → Option Node) (count : ℕ) (x r : Chain) → count ≡ size → x ≡ r
+      → lists_in new count (slice_set cs k r) room ≡ lists_in new size (slice_set cs k x) room
+  viewed_as new count x r same made =
+      ap (λ (m : ℕ). lists_in new m (slice_set cs k r) room) same ∙ ap (λ (y : Chain). lists_in new size (slice_set cs k y) room) (sym made)
+
+  stored_as : (new : ℕ → Option Node) (count rest i : ℕ) (x r : Chain) → count ≡ size → x ≡ r → rest ≡ i
+      → IsStore new size i (slice_set cs k x) room → IsStore new count rest (slice_set cs k r) room
+  stored_as new count rest i x r same made next store =
+      subst (λ (m : ℕ). IsStore new m rest (slice_set cs k r) room) (sym same)
+      (subst (λ (y : Chain). IsStore new size rest (slice_set cs k y) room) made
+      (subst (λ (j : ℕ). IsStore new size j (slice_set cs k x) room) (sym next) store))
+
   -- ---- its first event, where there is one
 
   pub none_here : c.first ≡ c.spare → list_at v k ≡ []
@@ -111,21 +125,16 @@ module _ (old : List Node) (size free : ℕ) (cs : List Chain) (room : ℕ) (v :
         ∙ ap (λ (u : Lists). with_list u k (list_at v k ++ w ∷ [])) view
 
     pub view_come : lists_in (slice_get new) count (slice_set cs k r) room ≡ with_last v k w
-    view_come =
-        ap (λ (m : ℕ). lists_in (slice_get new) m (slice_set cs k r) room) same
-        ∙ ap (λ (x : Chain). lists_in (slice_get new) size (slice_set cs k x) room) (sym made_at)
-        ∙ view_longer
+    view_come = viewed_as (slice_get new) count longer r same made_at ∙ view_longer
 
     pub store_come : IsStore (slice_get new) count rest (slice_set cs k r) room
     store_come =
-        subst (λ (m : ℕ). IsStore (slice_get new) m rest (slice_set cs k r) room) (sym same)
-        (subst (λ (x : Chain). IsStore (slice_get new) size rest (slice_set cs k x) room) made_at
-        (subst (λ (i : ℕ). IsStore (slice_get new) size i (slice_set cs k longer) room) (sym next)
+        stored_as (slice_get new) count rest (next_of (at free)) longer r same made_at next
         (store_seen (slice_get new) size (next_of (at free)) (slice_set cs k longer) room (suc (room - suc (total_of v))) (with_last v k w) view_longer
         (omega (arith, total_last v k w lt, below, within.1))
         (omega (arith, total_last v k w lt))
         d.spacious
-        (chains_come at (slice_get new) size (suc (room - suc (total_of v))) (next_of (at free)) cs k free w there loose filled_at.filled filled_at.others short))))
+        (chains_come at (slice_get new) size (suc (room - suc (total_of v))) (next_of (at free)) cs k free w there loose filled_at.filled filled_at.others short))
 
   -- ---- the oldest event has gone
 
@@ -170,20 +179,15 @@ module _ (old : List Node) (size free : ℕ) (cs : List Chain) (room : ℕ) (v :
         ∙ ap (λ (u : Lists). with_list u k (drop 1 (list_at v k))) view
 
     pub view_gone : lists_in (slice_get new) count (slice_set cs k r) room ≡ without_first v k
-    view_gone =
-        ap (λ (m : ℕ). lists_in (slice_get new) m (slice_set cs k r) room) same
-        ∙ ap (λ (x : Chain). lists_in (slice_get new) size (slice_set cs k x) room) (sym made_first)
-        ∙ view_shorter
+    view_gone = viewed_as (slice_get new) count shorter r same made_first ∙ view_shorter
 
     pub store_gone : IsStore (slice_get new) count rest (slice_set cs k r) room
     store_gone =
-        subst (λ (m : ℕ). IsStore (slice_get new) m rest (slice_set cs k r) room) (sym same)
-        (subst (λ (x : Chain). IsStore (slice_get new) size rest (slice_set cs k x) room) made_first
-        (subst (λ (i : ℕ). IsStore (slice_get new) size i (slice_set cs k shorter) room) (sym (freed ∙ ap (λ (x : Chain). x.first) is))
+        stored_as (slice_get new) count rest whole.first shorter r same made_first (freed ∙ ap (λ (x : Chain). x.first) is)
         (store_seen (slice_get new) size whole.first (slice_set cs k shorter) room (suc (suc (room - total_of v))) (without_first v k) view_shorter
         (omega (arith, total_first v k lt some, within.0))
         one_more d.spacious
-        (chains_freed at (slice_get new) size (suc (room - total_of v)) free (slice_set cs k shorter) whole.first loose_gone linked_at.linked linked_at.others))))
+        (chains_freed at (slice_get new) size (suc (room - total_of v)) free (slice_set cs k shorter) whole.first loose_gone linked_at.linked linked_at.others))
 
   -- ---- a later event has gone
 

@@ -14,7 +14,7 @@ use Rattle.small_set.specs.declared.set.SmallSet.{SmallSet}
 use Rattle.small_set.specs.SmallSets.{SameBut}
 use Rattle.parked_queue.specs.Busy.{AreNoted}
 use Rattle.parked_queue.specs.Lists.{Lists, has_number, list_at, named_delivery, with_list, without_first}
-use Rattle.parked_queue.specs.Parkings.{IsBut, IsChanged, IsParted, waits_by}
+use Rattle.parked_queue.specs.Parkings.{IsChanged, IsParted, waits_by}
 use Rattle.parked_queue.specs.declared.level.Levels.{Levels}
 use Rattle.parked_queue.specs.declared.parking.Parking.{Parking}
 use Rattle.parked_queue.specs.Merge.{is_in}
@@ -23,9 +23,9 @@ use Rattle.parked_queue.specs.Rows.{at_level, is_at, without_all}
 use Rattle.parked_queue.specs.Waits.{AreNamed, AreWaits, IsFirstAllowed, IsOnlyOf, IsRising, Waits, is_other, slot_of, without_number, waits_at, no_waits}
 use Rattle.parked_queue.proofs.Holding.{list_if_not, list_if_parked}
 use Rattle.parked_queue.proofs.Splits.{first_least, first_split, first_there}
-use Rattle.parked_queue.proofs.Calls.{headless, level_list, list_there}
+use Rattle.parked_queue.proofs.Calls.{changed_on, headless, level_list, list_there}
 use Rattle.parked_queue.proofs.Seen.{noted_less}
-use Rattle.parked_queue.proofs.Segments.{but_none, but_then}
+use Rattle.parked_queue.proofs.Segments.{but_none}
 use Rattle.parked_queue.proofs.Without.{first_out, list_same}
 
 -- an event is in the level's own list just where it is of the level, if none of it is parked
@@ -116,17 +116,6 @@ dropped_more l m k i there is =
     ap (λ xs. with_list m k (drop 1 xs)) (dropped_at l m k (drop i (list_at l k)) there is)
     ∙ (ap (λ x. with_list x k (drop 1 (drop i (list_at l k)))) is
     ∙ (with_twice l k (drop i (list_at l k)) (drop 1 (drop i (list_at l k))) ∙ ap (with_list l k) (drop-drop 1 i (list_at l k))))
-
--- one change after another
-changed_on : (l m k : Lists) (p x y : Parking) (u w : Waits) → IsChanged l p m x u → IsChanged m x k y w → IsChanged l p k y w
-changed_on l m k p x y u w first then =
-    record {
-      part = then.part;
-      base = then.base ∙ first.base;
-      slots = then.slots ∙ first.slots;
-      but = but_then p.base (list_count p.slots) l m k first.but (subst (λ b. IsBut b (list_count p.slots) m k) first.base (subst (λ s. IsBut x.base (list_count s) m k) first.slots then.but));
-      waits = then.waits;
-    }
 
 -- the first events of the level's own list go, so many
 pub heads_gone : (l : Lists) (p : Parking) (c : ℕ) (hs rest : List Numbered) → IsParted l p → c < 4 → list_at l (p.base + c) ≡ hs ++ rest

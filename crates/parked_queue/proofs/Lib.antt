@@ -32,3 +32,4 @@ pub mod NewStores
 pub mod Walks
 pub mod LevelHeads
 pub mod LevelRows
+pub mod HeadRows

@@ -1,13 +1,16 @@
 -- The events that wait name their queue.
-use Rattle.std.proofs.Common.{◌≡◌, ℕ, zero, suc, ◌<◌, List, [], ◌∷◌, ◌++◌, filter, map, length, set, ⊎_elim, refl, sym, ap, ◌∙◌, subst}
+use Rattle.std.proofs.Common.{◌≡◌, ℕ, zero, suc, ◌<◌, List, [], ◌∷◌, ◌++◌, filter, map, length, set, Option, ⊎_elim, refl, sym, ap, ◌∙◌, subst}
 use Rattle.std.proofs.lemmas.Bool.{cases_eq}
 use Rattle.std.proofs.lemmas.List.{get_or-set_other, get_or-set_same}
 use Rattle.std.proofs.lemmas.List.Elements.{All-append, All-cons, All-contains, All-filter, All-head, All-nil, All-tail}
+use Rattle.std.specs.Option.{IfSome}
 use Rattle.evt_types.specs.declared.event.Delivery.{Delivery}
 use Rattle.evt_types.specs.declared.event.Numbered.{Numbered}
 use Rattle.small_set.specs.declared.set.SmallSet.{SmallSet}
 use Rattle.parked_queue.specs.Lists.{delivery_of, named_delivery}
 use Rattle.parked_queue.specs.Waits.{AreNamed, IsFirstAllowed, Waits, all_empty, is_other, no_waits, waits_at}
+use Rattle.parked_queue.specs.declared.first.Found.{Found}
+use Rattle.parked_queue.proofs.Options.{if_more}
 
 -- a queue is another
 pub named_set : (qs : List Waits) (q : ℕ) (w : Waits) → ((k : ℕ) → AreNamed k (waits_at qs k).waiting) → q < length qs → AreNamed q w.waiting → (k : ℕ) → AreNamed k (waits_at (set qs q w) k).waiting
@@ -46,3 +49,9 @@ named_as q (w ∷ ws) named =
 -- so does the first one
 pub first_named : (q c : ℕ) (v : Waits) (allowed : SmallSet) (w : Numbered) → AreNamed q v.waiting → IsFirstAllowed v c allowed w → w.event.queue ≡ q
 first_named q c v allowed w named first = All-contains (λ (u : Numbered). u.event.queue ≡ q) v.waiting w named first.waits
+
+pub found_named : (q c : ℕ) (v : Waits) (allowed : SmallSet) (o : Option Found) → AreNamed q v.waiting
+    → IfSome o (λ f. IsFirstAllowed v c allowed f.waiting) → IfSome o (λ f. f.waiting.event.queue ≡ q)
+found_named q c v allowed o named found =
+    if_more o (λ (f : Found). IsFirstAllowed v c allowed f.waiting) (λ (f : Found). f.waiting.event.queue ≡ q)
+    (λ (f : Found). first_named q c v allowed f.waiting named) found

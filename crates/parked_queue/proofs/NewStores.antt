@@ -15,24 +15,26 @@ use Rattle.parked_queue.proofs.Stores.{chain_made}
 use Rattle.parked_queue.proofs.Totals.{total_none}
 use Rattle.parked_queue.proofs.Views.{view_none}
 
+-- what holds of each number below one, and of that one
+up_to : (n : ℕ) (P : ℕ → Type 0) → ((i : ℕ) → i < n → P i) → P n → (i : ℕ) → i < n + 1 → P i
+up_to n P each last i lt = ⊎_elim (λ e. subst P (sym e) last) (λ ne. each i (omega (arith, lt, ne))) (cases_eq i n)
+
 -- one node more
-pub row_more : (ns : List Node) (n : ℕ) (x : Node) → AreInRow ns n → x.next ≡ n + 1 → AreInRow (ns ++ x ∷ []) (n + 1)
+row_more : (ns : List Node) (n : ℕ) (x : Node) → AreInRow ns n → x.next ≡ n + 1 → AreInRow (ns ++ x ∷ []) (n + 1)
 row_more ns n x is next =
     record {
       count = omega (arith, length_push ns x, is.count);
       each =
-          λ (i : ℕ) (lt : i < n + 1).
-          ⊎_elim
-          (λ (e : i ≡ n).
-          ap (λ (j : ℕ). next_of (slice_get (ns ++ x ∷ []) j)) (e ∙ sym is.count)
-          ∙ ap next_of (slice_get-last ns x)
-          ∙ next
-          ∙ ap (λ (j : ℕ). j + 1) (sym e))
-          (λ (ne : i ≢ n).
-          let less : i < n = omega (arith, lt, ne) in
-          ap next_of (slice_get-append_left ns (x ∷ []) i (omega (arith, less, is.count))) ∙ is.each i less)
-          (cases_eq i n);
+          up_to n (λ i. next_of (slice_get (ns ++ x ∷ []) i) ≡ i + 1)
+          (λ i less. ap next_of (slice_get-append_left ns (x ∷ []) i (omega (arith, less, is.count))) ∙ is.each i less)
+          (ap (λ (j : ℕ). next_of (slice_get (ns ++ x ∷ []) j)) (sym is.count) ∙ ap next_of (slice_get-last ns x) ∙ next);
     }
+
+pub row_none : (ns : List Node) → ns ≡ [] → AreInRow ns 0
+row_none ns none = record { count = ap length none; each = λ (i : ℕ) (lt : i < 0). absurd (omega arith) }
+
+pub row_pushed : (ns ms : List Node) (n : ℕ) (x : Node) → AreInRow ns n → ms ≡ ns ++ x ∷ [] → x.next ≡ n + 1 → AreInRow ms (n + 1)
+row_pushed ns ms n x is pushed next = subst (λ xs. AreInRow xs (n + 1)) (sym pushed) (row_more ns n x is next)
 
 -- and one chain more
 chain_last : (cs : List Chain) (c : Chain) → chain_at (cs ++ c ∷ []) (length cs) ≡ c
@@ -44,23 +46,21 @@ chain_before [] c k lt = absurd (omega arith)
 chain_before (x ∷ cs) c zero lt = refl
 chain_before (x ∷ cs) c (suc k) lt = chain_before cs c k (omega arith)
 
-pub chains_more : (cs : List Chain) (n : ℕ) (c : Chain) → AreNewChains cs n → c ≡ record { first = n; spare = n } → AreNewChains (cs ++ c ∷ []) (n + 1)
+chains_more : (cs : List Chain) (n : ℕ) (c : Chain) → AreNewChains cs n → c ≡ record { first = n; spare = n } → AreNewChains (cs ++ c ∷ []) (n + 1)
 chains_more cs n c is made =
     record {
       count = omega (arith, length_push cs c, is.count);
       each =
-          λ (k : ℕ) (lt : k < n + 1).
-          ⊎_elim
-          (λ (e : k ≡ n).
-          ap (chain_at (cs ++ c ∷ [])) (e ∙ sym is.count)
-          ∙ chain_last cs c
-          ∙ made
-          ∙ ap (λ (j : ℕ). let y : Chain = record { first = j; spare = j } in y) (sym e))
-          (λ (ne : k ≢ n).
-          let less : k < n = omega (arith, lt, ne) in
-          chain_before cs c k (omega (arith, less, is.count)) ∙ is.each k less)
-          (cases_eq k n);
+          up_to n (λ k. chain_at (cs ++ c ∷ []) k ≡ record { first = k; spare = k })
+          (λ k less. chain_before cs c k (omega (arith, less, is.count)) ∙ is.each k less)
+          (ap (chain_at (cs ++ c ∷ [])) (sym is.count) ∙ chain_last cs c ∙ made);
     }
+
+pub chains_none : (cs : List Chain) → cs ≡ [] → AreNewChains cs 0
+chains_none cs none = record { count = ap length none; each = λ (k : ℕ) (lt : k < 0). absurd (omega arith) }
+
+pub chains_pushed : (cs ds : List Chain) (n : ℕ) → AreNewChains cs n → ds ≡ cs ++ record { first = n; spare = n } ∷ [] → AreNewChains ds (n + 1)
+chains_pushed cs ds n is pushed = subst (λ xs. AreNewChains xs (n + 1)) (sym pushed) (chains_more cs n (record { first = n; spare = n }) is refl)
 
 -- ---- the nodes of the lists, and the free ones behind them
 

@@ -1,5 +1,5 @@
 -- One queue among several, and what a change of it leaves of the others.
-use Rattle.std.proofs.Common.{◌≡◌, ◌≢◌, ℕ, ◌+◌, ◌^◌, ◌<◌, ◌≤◌, inl, inr, ⊎_elim, List, length, set, get_or, sym, ap, ◌∙◌, subst, arith, ◌==◌, false}
+use Rattle.std.proofs.Common.{◌≡◌, ◌≢◌, ℕ, ◌+◌, ◌*◌, ◌^◌, ◌<◌, ◌≤◌, inl, inr, ⊎_elim, List, length, set, get_or, sym, ap, ◌∙◌, subst, arith, ◌==◌, false}
 use Rattle.std.proofs.lemmas.Bool.{cases_eq, cases_lt}
 use Rattle.std.proofs.lemmas.List.{length-map, length-set, get_or-map, get_or-set_same, get_or-set_other, get_or_default, ext_get_or}
 use Rattle.std.proofs.lemmas.List.Sums.{get_or-le-sum_by, sum_by-set}
@@ -16,7 +16,7 @@ use Rattle.parked_queue.specs.declared.level.Level.{Level}
 use Rattle.parked_queue.specs.declared.level.Levels.{Levels}
 use Rattle.parked_queue.specs.declared.parking.Parking.{Parking}
 use Rattle.parked_queue.proofs.Accepting.{total_held}
-use Rattle.parked_queue.proofs.Calls.{accepted, holds, level_list, list_is}
+use Rattle.parked_queue.proofs.Calls.{accepted, holds, level_list, list_fits, list_is, list_there}
 use Rattle.parked_queue.proofs.Firsts.{not_empty, some_of_level}
 use Rattle.parked_queue.proofs.Segments.{segment_same}
 
@@ -170,6 +170,23 @@ module _ (l : Lists) (ps : List Parking) (qs : List Waits) (q : ℕ) (are : AreP
         share = get_or-le-sum_by count_of qs q (no_waits 1 0) lt;
         small = are.small;
       }
+
+  -- the list of a level is there
+  module _ (p : Parking) (read : p ≡ get_or ps q p) (c : ℕ) (few : c < 4) where
+    pub level_there : p.base + c < length l.lists
+    level_there = let a = asked p read in list_there l p a.part c (level_list l p a.part c few)
+
+    pub level_fits : p.base + c ≤ 16640
+    level_fits = let a = asked p read in list_fits l p a.part c (level_list l p a.part c few)
+
+  -- and the lists of its slots, row by row
+  pub row_there : (p : Parking) → p ≡ get_or ps q p → (row c : ℕ) → c < 4 → row < p.slots + 1
+      → length (list_at l (p.base + 4 * row + c)) ≡ length (list_in (parted_by l p) (4 * row + c))
+  row_there p read row c few less =
+      let a = asked p read in
+      let k : p.base + 4 * row + c ≡ p.base + (4 * row + c) = omega arith in
+      let within : 4 * row + c < list_count p.slots = omega (arith, few, less) in
+      ap (λ n. length (list_at l n)) k ∙ ap length (list_is l p a.part (4 * row + c) within)
 
   -- it is another then, made of what waited in it
   module _ (m : Lists) (p x : Parking) (f : Waits → Waits) (read : p ≡ get_or ps q p) (is : IsChanged l p m x (f (waits_by l p))) where

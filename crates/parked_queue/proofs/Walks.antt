@@ -1,5 +1,6 @@
 -- What is left of a chain's path at one of its nodes.
-use Rattle.std.proofs.Common.{◌≡◌, ◌≢◌, ℕ, ◌<◌, ◌≤◌, List, [], ◌∷◌, ◌++◌, ◌==◌, length, length-append, append_assoc, map, All, false, true, Option, Some, IsSome, sym, ap, subst, ◌∙◌, arith, slice_get}
+use Rattle.std.proofs.Common.{◌≡◌, ◌≢◌, ℕ, ◌<◌, ◌≤◌, List, [], ◌∷◌, ◌++◌, ◌==◌, length, length-append, append_assoc, map, All, false, true, Option, Some, IsSome, sym, ap, subst, ◌∙◌, arith, slice_get, slice_index_or, Vec}
+use Rattle.std.specs.declared.alloc.Global.{Global}
 use Rattle.std.proofs.lemmas.List.Elements.{All-append, All-cons, All-nil}
 use Rattle.lists.proofs.Lists.{eqb_same}
 use Rattle.std.proofs.lemmas.Bool.{false≢true}
@@ -9,6 +10,7 @@ use Rattle.parked_queue.specs.Chains.{AreNodes, HasNone, IsBehind, IsChain, IsPa
 use Rattle.parked_queue.specs.Lists.{has_number, named_delivery}
 use Rattle.parked_queue.specs.declared.chain.Chain.{Chain}
 use Rattle.parked_queue.specs.declared.chain.Node.{Node}
+use Rattle.parked_queue.proofs.Nodes.{list_within, node_read}
 use Rattle.parked_queue.proofs.Paths.{front_nodes, items_append, length_items, nodes_without, path_is, path_none, path_short, path_some}
 
 -- these nodes lead from i to the last one
@@ -156,3 +158,23 @@ module _ (at : ℕ → Option Node) where
       ap (λ (xs : List Delivery). xs ++ behind) more
       ∙ append_assoc ps (named_delivery m.item ∷ []) behind
       ∙ sym (ap (λ (js : List ℕ). ps ++ map named_delivery (items at js)) whole ∙ ap (λ (ws : List Numbered). ps ++ map named_delivery ws) (item_next i m rest found))
+
+-- ---- the first one is read
+
+pub record HasRead (at : ℕ → Option Node) (last i : ℕ) (is : List ℕ) (n : Node) : Type 0 where
+  pub rest : List ℕ
+  pub whole : is ≡ i ∷ rest
+  pub found : at i ≡ Some n
+  pub left : IsLeft at last n.next rest
+
+pub left_read : (nodes : Vec Node Global) (last i : ℕ) (is : List ℕ) → IsLeft (slice_get nodes.items) last i is → i ≢ last → (n : Node)
+    → n ≡ slice_index_or nodes.items i n → HasRead (slice_get nodes.items) last i is n
+left_read nodes last i is left more n read =
+    let next = left_next (slice_get nodes.items) last i is left more in
+    let found : slice_get nodes.items i ≡ Some n = node_read nodes i n (list_within nodes i next.there) read in
+    record {
+      rest = next.rest;
+      whole = next.whole;
+      found = found;
+      left = subst (λ (o : Option Node). IsLeft (slice_get nodes.items) last (next_of o) next.rest) found next.left;
+    }

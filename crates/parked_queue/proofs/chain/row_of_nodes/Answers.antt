@@ -1,14 +1,10 @@
-use Rattle.std.proofs.Common.{ℕ, ◌+◌, ◌<◌, ap, arith, length, refl, subst, sym}
+use Rattle.std.proofs.Common.{◌+◌, arith, refl, subst}
 use Rattle.parked_queue.specs.Chains.{AreInRow}
-use Rattle.parked_queue.proofs.NewStores.{row_more}
+use Rattle.parked_queue.proofs.NewStores.{row_none, row_pushed}
 use Rattle.parked_queue.proofs.chain.row_of_nodes.Goals as goal
 
 pub loop-node-init : goal.loop-node-init
-loop-node-init c =
-    record {
-      row = record { count = ap length c.in_ok-nodes.ensures.items; each = λ (i : ℕ) (lt : i < 0). absurd (omega arith) };
-      room = c.in_ok-nodes.ensures.capacity;
-    }
+loop-node-init c = record { row = row_none _ c.in_ok-nodes.ensures.items; room = c.in_ok-nodes.ensures.capacity }
 
 pub push_reserved-requires : goal.push_reserved-requires
 push_reserved-requires c = omega (arith, c.loop-node.invariant.room, c.loop-node.invariant.row.count, c.loop-node.nodes.ok.0, c.loop-node-test.true)
@@ -16,9 +12,7 @@ push_reserved-requires c = omega (arith, c.loop-node.invariant.room, c.loop-node
 pub loop-node-preserved : goal.loop-node-preserved
 loop-node-preserved c =
     record {
-      row =
-          subst (λ ns. AreInRow ns (c.loop-node.node + 1)) (sym c.push_reserved.ensures.items)
-          (row_more c.loop-node.nodes.items c.loop-node.node _ c.loop-node.invariant.row refl);
+      row = row_pushed _ _ c.loop-node.node _ c.loop-node.invariant.row c.push_reserved.ensures.items refl;
       room = omega (arith, c.push_reserved.ensures.capacity, c.loop-node.invariant.room);
     }
 

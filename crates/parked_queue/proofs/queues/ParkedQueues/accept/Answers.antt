@@ -59,13 +59,13 @@ pub returns-then-push_event-clause-value : goal.returns-then-push_event-clause-v
 returns-then-push_event-clause-value c = waits_come c.self.inside.lists c.self.inside.queues.items c.args.self.now c.from-queue.result c.self.invariant.parkings c.self.view_is (subst (λ q. q < length c.args.self.now) (sym (c.from-queue.ensures ∙ c.queue.ensures)) c.requires.there) c.index_mut-entered.result.now c.index_mut-entered.ensures.value c.args.event.now c.of-level.result c.of-level.ensures (subst (λ q. all_waiting c.args.self.now < (waits_at c.args.self.now q).room) (sym (c.from-queue.ensures ∙ c.queue.ensures)) c.requires.room) (subst (λ q. (waits_at c.args.self.now q).next < 2 ^ 63) (sym (c.from-queue.ensures ∙ c.queue.ensures)) c.requires.numbers) c.push_event.new.self c.push_event.ensures.value
     ∙ ap (λ q. set c.args.self.now q (with_event (waits_at c.args.self.now q) c.args.event.now)) (c.from-queue.ensures ∙ c.queue.ensures)
 
-pub returns-then-push_event-clause-waits : goal.returns-then-push_event-clause-waits
-returns-then-push_event-clause-waits c = subst (λ q. AreWaits (with_event (waits_at c.args.self.now q) c.args.event.now)) (c.from-queue.ensures ∙ c.queue.ensures)
-    (sound_come c.self.inside.lists c.self.inside.queues.items c.args.self.now c.from-queue.result c.self.invariant.parkings c.self.view_is (subst (λ q. q < length c.args.self.now) (sym (c.from-queue.ensures ∙ c.queue.ensures)) c.requires.there) c.index_mut-entered.result.now c.index_mut-entered.ensures.value c.args.event.now c.of-level.result c.of-level.ensures (subst (λ q. all_waiting c.args.self.now < (waits_at c.args.self.now q).room) (sym (c.from-queue.ensures ∙ c.queue.ensures)) c.requires.room) (subst (λ q. (waits_at c.args.self.now q).next < 2 ^ 63) (sym (c.from-queue.ensures ∙ c.queue.ensures)) c.requires.numbers) c.push_event.new.self c.push_event.ensures.value)
-
 pub returns-else-push_event-clause-value : goal.returns-else-push_event-clause-value
 returns-else-push_event-clause-value c = waits_come c.self.inside.lists c.self.inside.queues.items c.args.self.now c.from-queue.result c.self.invariant.parkings c.self.view_is (subst (λ q. q < length c.args.self.now) (sym (c.from-queue.ensures ∙ c.queue.ensures)) c.requires.there) c.index_mut-entered.result.now c.index_mut-entered.ensures.value c.args.event.now c.of-level.result c.of-level.ensures (subst (λ q. all_waiting c.args.self.now < (waits_at c.args.self.now q).room) (sym (c.from-queue.ensures ∙ c.queue.ensures)) c.requires.room) (subst (λ q. (waits_at c.args.self.now q).next < 2 ^ 63) (sym (c.from-queue.ensures ∙ c.queue.ensures)) c.requires.numbers) c.push_event.new.self c.push_event.ensures.value
     ∙ ap (λ q. set c.args.self.now q (with_event (waits_at c.args.self.now q) c.args.event.now)) (c.from-queue.ensures ∙ c.queue.ensures)
+
+pub returns-then-push_event-clause-waits : goal.returns-then-push_event-clause-waits
+returns-then-push_event-clause-waits c = subst (λ q. AreWaits (with_event (waits_at c.args.self.now q) c.args.event.now)) (c.from-queue.ensures ∙ c.queue.ensures)
+    (sound_come c.self.inside.lists c.self.inside.queues.items c.args.self.now c.from-queue.result c.self.invariant.parkings c.self.view_is (subst (λ q. q < length c.args.self.now) (sym (c.from-queue.ensures ∙ c.queue.ensures)) c.requires.there) c.index_mut-entered.result.now c.index_mut-entered.ensures.value c.args.event.now c.of-level.result c.of-level.ensures (subst (λ q. all_waiting c.args.self.now < (waits_at c.args.self.now q).room) (sym (c.from-queue.ensures ∙ c.queue.ensures)) c.requires.room) (subst (λ q. (waits_at c.args.self.now q).next < 2 ^ 63) (sym (c.from-queue.ensures ∙ c.queue.ensures)) c.requires.numbers) c.push_event.new.self c.push_event.ensures.value)
 
 pub returns-else-push_event-clause-waits : goal.returns-else-push_event-clause-waits
 returns-else-push_event-clause-waits c = subst (λ q. AreWaits (with_event (waits_at c.args.self.now q) c.args.event.now)) (c.from-queue.ensures ∙ c.queue.ensures)

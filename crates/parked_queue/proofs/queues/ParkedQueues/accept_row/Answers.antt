@@ -42,13 +42,13 @@ pub returns-then-push_row-clause-value : goal.returns-then-push_row-clause-value
 returns-then-push_row-clause-value c =
     waits_entered c.args.replies.now c.self.inside.lists c.push_row.new.self c.self.inside.queues.items c.args.self.now c.args.queue (c.index_mut-entered.result.now.base + c.args.level.number) c.index_mut-entered.result.now c.push_row.ensures.value (row_entered c.args.replies.now c.self.inside.lists c.self.inside.queues.items c.args.self.now c.args.queue c.index_mut-entered.result.now c.args.level c.self.invariant.parkings c.self.view_is c.requires.there c.index_mut-entered.ensures.value c.requires.named c.requires.room c.requires.numbers)
 
-pub returns-then-push_row-clause-waits : goal.returns-then-push_row-clause-waits
-returns-then-push_row-clause-waits c =
-    row_sound c.args.replies.now c.self.inside.lists c.self.inside.queues.items c.args.self.now c.args.queue (c.index_mut-entered.result.now.base + c.args.level.number) c.index_mut-entered.result.now c.requires.there (row_entered c.args.replies.now c.self.inside.lists c.self.inside.queues.items c.args.self.now c.args.queue c.index_mut-entered.result.now c.args.level c.self.invariant.parkings c.self.view_is c.requires.there c.index_mut-entered.ensures.value c.requires.named c.requires.room c.requires.numbers)
-
 pub returns-else-push_row-clause-value : goal.returns-else-push_row-clause-value
 returns-else-push_row-clause-value c =
     waits_entered c.args.replies.now c.self.inside.lists c.push_row.new.self c.self.inside.queues.items c.args.self.now c.args.queue (c.index_mut-entered.result.now.base + c.args.level.number) c.index_mut-entered.result.now c.push_row.ensures.value (row_entered c.args.replies.now c.self.inside.lists c.self.inside.queues.items c.args.self.now c.args.queue c.index_mut-entered.result.now c.args.level c.self.invariant.parkings c.self.view_is c.requires.there c.index_mut-entered.ensures.value c.requires.named c.requires.room c.requires.numbers)
+
+pub returns-then-push_row-clause-waits : goal.returns-then-push_row-clause-waits
+returns-then-push_row-clause-waits c =
+    row_sound c.args.replies.now c.self.inside.lists c.self.inside.queues.items c.args.self.now c.args.queue (c.index_mut-entered.result.now.base + c.args.level.number) c.index_mut-entered.result.now c.requires.there (row_entered c.args.replies.now c.self.inside.lists c.self.inside.queues.items c.args.self.now c.args.queue c.index_mut-entered.result.now c.args.level c.self.invariant.parkings c.self.view_is c.requires.there c.index_mut-entered.ensures.value c.requires.named c.requires.room c.requires.numbers)
 
 pub returns-else-push_row-clause-waits : goal.returns-else-push_row-clause-waits
 returns-else-push_row-clause-waits c =

@@ -1,13 +1,10 @@
-use Rattle.std.proofs.Common.{◌≡◌, ◌+◌, ◌*◌, ◌<◌, ◌==◌, ◌∙◌, ap, arith, count_by, length, refl}
+use Rattle.std.proofs.Common.{◌≡◌, ◌+◌, ◌*◌, ◌==◌, ◌∙◌, ap, arith, count_by, refl}
 use Rattle.evt_types.specs.Plan.{level_of}
 use Rattle.evt_types.specs.declared.event.Numbered.{Numbered}
-use Rattle.parked_queue.specs.Lists.{list_at}
 use Rattle.parked_queue.specs.Parkings.{parted_by}
-use Rattle.parked_queue.specs.Parted.{list_count}
 use Rattle.parked_queue.specs.Waits.{Waits}
-use Rattle.parked_queue.proofs.Calls.{list_is}
 use Rattle.parked_queue.proofs.LevelRows.{all_counted_rows, counted, row_counted, row_fits}
-use Rattle.parked_queue.proofs.Parkings.{asked}
+use Rattle.parked_queue.proofs.Parkings.{asked, row_there}
 use Rattle.parked_queue.proofs.queues.ParkedQueues.count_at.Goals as goal
 
 pub loop-row-init : goal.loop-row-init
@@ -17,23 +14,17 @@ pub overflow_add-count : goal.overflow_add-count
 overflow_add-count c =
     let a = asked c.self.inside.lists c.self.inside.queues.items c.args.self.now c.args.queue c.self.invariant.parkings c.self.view_is c.requires c.index-asked.result.now c.index-asked.ensures in
     let v = parted_by c.self.inside.lists c.index-asked.result.now in
-    let few = c.args.level.few in
-    let k : c.index-asked.result.now.base + 4 * c.loop-row.row + c.args.level.number ≡ c.index-asked.result.now.base + (4 * c.loop-row.row + c.args.level.number) = omega arith in
-    let within : 4 * c.loop-row.row + c.args.level.number < list_count c.index-asked.result.now.slots = omega (arith, c.loop-row-test.true) in
-    let same = ap length (list_is c.self.inside.lists c.index-asked.result.now a.part (4 * c.loop-row.row + c.args.level.number) within) in
-    let fit = row_fits v a.part.parking.waits c.args.level.number few c.loop-row.row c.loop-row-test.true in
-    omega (arith, c.loop-row.invariant, c.count-count.ensures, ap (λ n. length (list_at c.self.inside.lists n)) k, a.part.count)
+    let read = row_there c.self.inside.lists c.self.inside.queues.items c.args.self.now c.args.queue c.self.invariant.parkings c.self.view_is c.requires c.index-asked.result.now c.index-asked.ensures c.loop-row.row c.args.level.number c.args.level.few c.loop-row-test.true in
+    let fit = row_fits v a.part.parking.waits c.args.level.number c.args.level.few c.loop-row.row c.loop-row-test.true in
+    omega (arith, c.loop-row.invariant, c.count-count.ensures, read, fit, a.part.count)
 
 pub loop-row-preserved : goal.loop-row-preserved
 loop-row-preserved c =
     let a = asked c.self.inside.lists c.self.inside.queues.items c.args.self.now c.args.queue c.self.invariant.parkings c.self.view_is c.requires c.index-asked.result.now c.index-asked.ensures in
     let v = parted_by c.self.inside.lists c.index-asked.result.now in
-    let few = c.args.level.few in
-    let k : c.index-asked.result.now.base + 4 * c.loop-row.row + c.args.level.number ≡ c.index-asked.result.now.base + (4 * c.loop-row.row + c.args.level.number) = omega arith in
-    let within : 4 * c.loop-row.row + c.args.level.number < list_count c.index-asked.result.now.slots = omega (arith, c.loop-row-test.true) in
-    let same = ap length (list_is c.self.inside.lists c.index-asked.result.now a.part (4 * c.loop-row.row + c.args.level.number) within) in
-    let more = row_counted v a.part.parking.waits c.args.level.number few c.loop-row.row in
-    omega (arith, c.loop-row.invariant, c.count-count.ensures, ap (λ n. length (list_at c.self.inside.lists n)) k)
+    let read = row_there c.self.inside.lists c.self.inside.queues.items c.args.self.now c.args.queue c.self.invariant.parkings c.self.view_is c.requires c.index-asked.result.now c.index-asked.ensures c.loop-row.row c.args.level.number c.args.level.few c.loop-row-test.true in
+    let more = row_counted v a.part.parking.waits c.args.level.number c.args.level.few c.loop-row.row in
+    omega (arith, c.loop-row.invariant, c.count-count.ensures, read, more)
 
 pub returns : goal.returns
 returns c =

@@ -1,9 +1,7 @@
 use Rattle.std.proofs.Common.{◌≡◌, ◌∙◌, IfNone, IfSome, arith, refl, set, subst}
 use Rattle.std.proofs.lemmas.List.{set-get_or}
 use Rattle.parked_queue.specs.Waits.{HasNoneAllowed, HasNoneOf, IsFirstAllowed, no_waits, slot_of, waits_at}
-use Rattle.parked_queue.specs.declared.first.Found.{Found}
-use Rattle.parked_queue.proofs.Named.{first_named}
-use Rattle.parked_queue.proofs.Options.{if_more}
+use Rattle.parked_queue.proofs.Named.{found_named}
 use Rattle.parked_queue.proofs.Parkings.{asked, queues_changed, sound_changed, waits_changed}
 use Rattle.parked_queue.proofs.Seen.{emptied, names_here, noted_still, noted_there}
 use Rattle.parked_queue.proofs.queues.ParkedQueues.first.Goals as goal
@@ -83,14 +81,12 @@ returns-else-is_none-clause-waits c = sound_changed c.self.inside.lists c.self.i
 
 pub returns-then-is_level_empty-clause-names : goal.returns-then-is_level_empty-clause-names
 returns-then-is_level_empty-clause-names c =
-    if_more c.first-first.result _ _
-    (λ (f : Found). first_named c.args.queue c.args.level.number (waits_at c.args.self.now c.args.queue) c.args.allowed f.waiting
-    (names_here _ c.args.self.now c.self.inside.levels.items c.self.inside.busy c.args.queue c.self.invariant.noted c.self.view_is c.requires))
+    found_named c.args.queue c.args.level.number (waits_at c.args.self.now c.args.queue) c.args.allowed c.first-first.result
+    (names_here _ c.args.self.now c.self.inside.levels.items c.self.inside.busy c.args.queue c.self.invariant.noted c.self.view_is c.requires)
     (returns-then-is_level_empty-clause-first c)
 
 pub returns-else-is_none-clause-names : goal.returns-else-is_none-clause-names
 returns-else-is_none-clause-names c =
-    if_more c.first-first.result _ _
-    (λ (f : Found). first_named c.args.queue c.args.level.number (waits_at c.args.self.now c.args.queue) c.args.allowed f.waiting
-    (names_here _ c.args.self.now c.self.inside.levels.items c.self.inside.busy c.args.queue c.self.invariant.noted c.self.view_is c.requires))
+    found_named c.args.queue c.args.level.number (waits_at c.args.self.now c.args.queue) c.args.allowed c.first-first.result
+    (names_here _ c.args.self.now c.self.inside.levels.items c.self.inside.busy c.args.queue c.self.invariant.noted c.self.view_is c.requires)
     (returns-else-is_none-clause-first c)

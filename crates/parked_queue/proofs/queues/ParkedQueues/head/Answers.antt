@@ -3,10 +3,10 @@ use Rattle.small_set.specs.SmallSets.{Has}
 use Rattle.parked_queue.specs.Marks.{marks_at}
 use Rattle.parked_queue.specs.Parkings.{parted_by}
 use Rattle.parked_queue.specs.Waits.{IsFirstAllowed, Waits, waits_at}
-use Rattle.parked_queue.proofs.Calls.{first_is, level_list, list_fits, list_there, marks_are, masked_slots}
+use Rattle.parked_queue.proofs.Calls.{first_is, level_list, marks_are, masked_slots}
 use Rattle.parked_queue.proofs.Firsts.{main_first}
 use Rattle.parked_queue.proofs.Named.{first_named}
-use Rattle.parked_queue.proofs.Parkings.{asked}
+use Rattle.parked_queue.proofs.Parkings.{asked, level_fits, level_there}
 use Rattle.parked_queue.proofs.Seen.{names_here}
 use Rattle.parked_queue.proofs.Slots.{none_marked}
 use Rattle.parked_queue.proofs.queues.ParkedQueues.head.Goals as goal
@@ -15,14 +15,10 @@ pub bounds-asked-level : goal.bounds-asked-level
 bounds-asked-level c = c.args.level.few
 
 pub overflow_add-asked : goal.overflow_add-asked
-overflow_add-asked c =
-    let a = asked c.self.inside.lists c.self.inside.queues.items c.args.self.now c.args.queue c.self.invariant.parkings c.self.view_is c.requires c.index-asked.result.now c.index-asked.ensures in
-    omega (arith, list_fits c.self.inside.lists c.index-asked.result.now a.part c.args.level.number (level_list c.self.inside.lists c.index-asked.result.now a.part c.args.level.number c.args.level.few))
+overflow_add-asked c = omega (arith, level_fits c.self.inside.lists c.self.inside.queues.items c.args.self.now c.args.queue c.self.invariant.parkings c.self.view_is c.requires c.index-asked.result.now c.index-asked.ensures c.args.level.number c.args.level.few)
 
 pub head-requires : goal.head-requires
-head-requires c =
-    let a = asked c.self.inside.lists c.self.inside.queues.items c.args.self.now c.args.queue c.self.invariant.parkings c.self.view_is c.requires c.index-asked.result.now c.index-asked.ensures in
-    list_there c.self.inside.lists c.index-asked.result.now a.part c.args.level.number (level_list c.self.inside.lists c.index-asked.result.now a.part c.args.level.number c.args.level.few)
+head-requires c = level_there c.self.inside.lists c.self.inside.queues.items c.args.self.now c.args.queue c.self.invariant.parkings c.self.view_is c.requires c.index-asked.result.now c.index-asked.ensures c.args.level.number c.args.level.few
 
 pub slot_in-slot-requires : goal.slot_in-slot-requires
 slot_in-slot-requires c = masked_slots c.self.inside.lists c.index-asked.result.now (asked c.self.inside.lists c.self.inside.queues.items c.args.self.now c.args.queue c.self.invariant.parkings c.self.view_is c.requires c.index-asked.result.now c.index-asked.ensures).part

@@ -5,25 +5,18 @@ use Rattle.std.specs.Option.{option_copied}
 use Rattle.parked_queue.specs.Marks.{marks_at}
 use Rattle.parked_queue.specs.Parkings.{parted_by}
 use Rattle.parked_queue.specs.Waits.{HasNoneAllowed}
-use Rattle.parked_queue.proofs.Calls.{first_is, level_list, list_fits, list_there, marks_are}
+use Rattle.parked_queue.proofs.Calls.{first_is, level_list, marks_are}
 use Rattle.parked_queue.proofs.Firsts.{none_is, none_left}
-use Rattle.parked_queue.proofs.Parkings.{asked}
+use Rattle.parked_queue.proofs.Parkings.{asked, level_fits, level_there}
 use Rattle.parked_queue.proofs.Slots.{none_marked}
 use Rattle.parked_queue.proofs.queues.ParkedQueues.is_blocked.Goals as goal
 use Rattle.parked_queue.proofs.queues.ParkedQueues.is_blocked.Goals.{then-not-is_empty, else-not-is_empty}
 
-pub bounds-asked-level : goal.bounds-asked-level
-bounds-asked-level c = c.args.level.few
-
 pub overflow_add-asked : goal.overflow_add-asked
-overflow_add-asked c =
-    let a = asked c.self.inside.lists c.self.inside.queues.items c.args.self.now c.args.queue c.self.invariant.parkings c.self.view_is c.requires c.index-asked.result.now c.index-asked.ensures in
-    omega (arith, list_fits c.self.inside.lists c.index-asked.result.now a.part c.args.level.number (level_list c.self.inside.lists c.index-asked.result.now a.part c.args.level.number c.args.level.few))
+overflow_add-asked c = omega (arith, level_fits c.self.inside.lists c.self.inside.queues.items c.args.self.now c.args.queue c.self.invariant.parkings c.self.view_is c.requires c.index-asked.result.now c.index-asked.ensures c.args.level.number c.args.level.few)
 
 pub head-requires : goal.head-requires
-head-requires c =
-    let a = asked c.self.inside.lists c.self.inside.queues.items c.args.self.now c.args.queue c.self.invariant.parkings c.self.view_is c.requires c.index-asked.result.now c.index-asked.ensures in
-    list_there c.self.inside.lists c.index-asked.result.now a.part c.args.level.number (level_list c.self.inside.lists c.index-asked.result.now a.part c.args.level.number c.args.level.few)
+head-requires c = level_there c.self.inside.lists c.self.inside.queues.items c.args.self.now c.args.queue c.self.invariant.parkings c.self.view_is c.requires c.index-asked.result.now c.index-asked.ensures c.args.level.number c.args.level.few
 
 pub returns-then-is_empty : goal.returns-then-is_empty
 returns-then-is_empty c e =
@@ -41,3 +34,6 @@ returns-then-is_empty c e =
 
 pub returns-else-is_empty : goal.returns-else-is_empty
 returns-else-is_empty c e = absurd (false≢true (sym c.if-is_empty.false ∙ e))
+
+pub bounds-asked-level : goal.bounds-asked-level
+bounds-asked-level c = c.args.level.few

@@ -1,11 +1,10 @@
-use Rattle.std.proofs.Common.{◌≤◌, Option, ap, arith, length, slice_get, subst, vec_len}
-use Rattle.parked_queue.specs.Chains.{next_of, path_of}
+use Rattle.std.proofs.Common.{◌≤◌, ap, arith, length, slice_get, subst, vec_len}
+use Rattle.parked_queue.specs.Chains.{path_of}
 use Rattle.parked_queue.specs.Lists.{Lists, total_of}
-use Rattle.parked_queue.specs.declared.chain.Node.{Node}
 use Rattle.parked_queue.proofs.Changes.{chain_here, events_here}
-use Rattle.parked_queue.proofs.Nodes.{node_read, list_within}
+use Rattle.parked_queue.proofs.Nodes.{list_within}
 use Rattle.parked_queue.proofs.Totals.{list_within_total}
-use Rattle.parked_queue.proofs.Walks.{IsLeft, left_next, left_none, left_whole, length_events}
+use Rattle.parked_queue.proofs.Walks.{left_next, left_none, left_read, left_whole, length_events}
 use Rattle.parked_queue.proofs.waiting.WaitingLists.count.Goals as goal
 
 pub loop-cursor-init : goal.loop-cursor-init
@@ -39,14 +38,8 @@ loop-cursor-smaller c =
 
 pub loop-cursor-preserved : goal.loop-cursor-preserved
 loop-cursor-preserved c =
-    let at = slice_get c.self.inside.nodes.items in
-    let next = left_next at c.index-chain.result.now.spare c.loop-cursor.cursor c.loop-cursor.invariant.rest c.loop-cursor.invariant.left c.loop-cursor-test.true in
-    let found = node_read c.self.inside.nodes c.loop-cursor.cursor c.index.result.now (list_within c.self.inside.nodes c.loop-cursor.cursor next.there) c.index.ensures in
-    record {
-      rest = next.rest;
-      left = subst (λ (o : Option Node). IsLeft at c.index-chain.result.now.spare (next_of o) next.rest) found next.left;
-      count = omega (arith, ap length next.whole, c.loop-cursor.invariant.count);
-    }
+    let next = left_read c.self.inside.nodes c.index-chain.result.now.spare c.loop-cursor.cursor c.loop-cursor.invariant.rest c.loop-cursor.invariant.left c.loop-cursor-test.true c.index.result.now c.index.ensures in
+    record { rest = next.rest; left = next.left; count = omega (arith, ap length next.whole, c.loop-cursor.invariant.count) }
 
 pub returns : goal.returns
 returns c =

@@ -1,12 +1,11 @@
-use Rattle.std.proofs.Common.{◌∙◌, ◌++◌, ◌∷◌, [], ℕ, List, Option, ap, append-nil, arith, length, map, refl, slice_get, subst, sym, vec_len}
+use Rattle.std.proofs.Common.{◌∙◌, ◌++◌, ◌∷◌, [], ℕ, List, ap, append-nil, arith, length, map, refl, slice_get, subst, sym, vec_len}
 use Rattle.evt_types.specs.declared.event.Delivery.{Delivery}
 use Rattle.evt_types.specs.declared.event.Numbered.{Numbered}
-use Rattle.parked_queue.specs.Chains.{items, next_of, path_of}
-use Rattle.parked_queue.specs.declared.chain.Node.{Node}
+use Rattle.parked_queue.specs.Chains.{items, path_of}
 use Rattle.parked_queue.specs.Lists.{named_delivery}
 use Rattle.parked_queue.proofs.Changes.{chain_here, events_here}
-use Rattle.parked_queue.proofs.Nodes.{node_read, list_within}
-use Rattle.parked_queue.proofs.Walks.{IsLeft, deliveries_more, left_next, left_none, left_whole, length_events}
+use Rattle.parked_queue.proofs.Nodes.{list_within}
+use Rattle.parked_queue.proofs.Walks.{deliveries_more, left_next, left_none, left_read, left_whole, length_events}
 use Rattle.parked_queue.proofs.waiting.WaitingLists.push_deliveries.Goals as goal
 
 pub loop-cursor-init : goal.loop-cursor-init
@@ -40,14 +39,12 @@ loop-cursor-smaller c =
 
 pub loop-cursor-preserved : goal.loop-cursor-preserved
 loop-cursor-preserved c =
-    let at = slice_get c.self.inside.nodes.items in
-    let next = left_next at c.index-chain.result.now.spare c.loop-cursor.cursor c.loop-cursor.invariant.rest c.loop-cursor.invariant.left c.loop-cursor-test.true in
-    let found = node_read c.self.inside.nodes c.loop-cursor.cursor c.index.result.now (list_within c.self.inside.nodes c.loop-cursor.cursor next.there) c.index.ensures in
+    let next = left_read c.self.inside.nodes c.index-chain.result.now.spare c.loop-cursor.cursor c.loop-cursor.invariant.rest c.loop-cursor.invariant.left c.loop-cursor-test.true c.index.result.now c.index.ensures in
     record {
       rest = next.rest;
-      left = subst (λ (o : Option Node). IsLeft at c.index-chain.result.now.spare (next_of o) next.rest) found next.left;
+      left = next.left;
       deliveries =
-          deliveries_more at c.loop-cursor.cursor c.index.result.now c.loop-cursor.invariant.rest next.rest c.loop-cursor.into.items c.push_reserved.new.self.items next.whole found (c.push_reserved.ensures.items ∙ ap (λ (d : Delivery). c.loop-cursor.into.items ++ d ∷ []) c.new.ensures)
+          deliveries_more (slice_get c.self.inside.nodes.items) c.loop-cursor.cursor c.index.result.now c.loop-cursor.invariant.rest next.rest c.loop-cursor.into.items c.push_reserved.new.self.items next.whole next.found (c.push_reserved.ensures.items ∙ ap (λ (d : Delivery). c.loop-cursor.into.items ++ d ∷ []) c.new.ensures)
           ∙ c.loop-cursor.invariant.deliveries;
       room = omega (arith, ap length next.whole, c.loop-cursor.invariant.room, c.push_reserved.ensures.len, c.push_reserved.ensures.capacity);
       capacity = c.push_reserved.ensures.capacity ∙ c.loop-cursor.invariant.capacity;

@@ -85,6 +85,9 @@ lane_there a v l core same h =
     let lane : l < lanes_of a.shape = subst (λ (u : View). l < lanes_of u.shape) (sym same) h in
     omega (arith, lane, core.lanes)
 
+pub limits_here : (a : Inside) (v : View) → IsCore a → view_in a ≡ v → IsWithinLimits v.shape
+limits_here a v core same = subst (λ (u : View). IsWithinLimits u.shape) same core.limits
+
 -- the view's queues are the core's
 pub queue_there : (a : Inside) (v : View) (q : ℕ) → view_in a ≡ v → q < length v.shape.queues → q < length a.shape.queues
 queue_there a v q same h = subst (λ (u : View). q < length u.shape.queues) (sym same) h

@@ -86,5 +86,10 @@ module _ (a : Inside) (v : View) (q : ℕ) (core : IsCore a) (view : view_in a �
   pub found_slot : (slot : ℕ) (w : Numbered) → slot ≡ w.event.flow % (waits_at a.queues q).slots → slot ≡ slot_at v q w
   found_slot slot w is = is ∙ (slot_in_queue a q (waits_at a.queues q) core queue_there (waits_is a.queues q queue_there) w ∙ ap (λ u. slot_at u q w) view)
 
+  -- its slot, as it was found by its flow
+  pub slot_of_flow : (t f slot : ℕ) (w u : Numbered) → slot ≡ f % (waits_at a.queues t).slots → f ≡ w.event.flow → t ≡ q → u ≡ w → slot ≡ slot_at v t u
+  slot_of_flow t f slot w u is flow queue event =
+      found_slot slot w (is ∙ (ap (λ n. f % (waits_at a.queues n).slots) queue ∙ ap (λ k. k % (waits_at a.queues q).slots) flow)) ∙ (ap (λ n. slot_at v n w) (sym queue) ∙ ap (slot_at v t) (sym event))
+
   pub found_none : (c : ℕ) (allowed : SmallSet) → HasNoneAllowed (waits_at a.queues q) c allowed → HasNoneAllowedIn v q c allowed
   found_none c allowed none = subst (λ u. HasNoneAllowedIn u q c allowed) view (none_in_view a q (waits_at a.queues q) core queue_there (waits_is a.queues q queue_there) c allowed none)

@@ -1,5 +1,5 @@
 -- Replies that answer events which leave their queue in turn: their steps, and what these make of a view.
-use Rattle.std.proofs.Common.{◌≡◌, ℕ, zero, suc, ◌+◌, ◌/◌, ◌<◌, ◌≤◌, ◌^◌, true, cond, List, [], ◌∷◌, ◌++◌, All, None, Option, Some, ap, arith, get_or, length, map, refl, set, subst, sum, sum_by, sym, take, ◌∙◌}
+use Rattle.std.proofs.Common.{◌≡◌, ℕ, zero, suc, ◌+◌, ◌/◌, ◌<◌, ◌≤◌, ◌^◌, Bool, true, false, cond, count_by, List, [], ◌∷◌, ◌++◌, All, None, Option, Some, ap, arith, get_or, length, map, refl, set, subst, sum, sum_by, sym, take, ◌∙◌}
 use Rattle.std.proofs.lemmas.Bool.{lt-ltb}
 use Rattle.std.proofs.lemmas.List.{length-map, length-set, length-take, length-take-le, take-map}
 use Rattle.std.proofs.lemmas.List.Elements.{All-head, All-tail, All-take, All-weaker}
@@ -18,6 +18,7 @@ use Rattle.evt_types.specs.declared.step.Source.TheVariants.{Of}
 use Rattle.evt_types.specs.declared.step.Step.{Step}
 use Rattle.evt_types.specs.declared.step.Step.TheVariants.{Accept, Done}
 use Rattle.order_parts.specs.declared.history.Entry.{Entry}
+use Rattle.sched_core.proofs.Rows.{IsRowTaken, row_taken}
 use Rattle.sched_core.specs.Inner.{unplaced}
 use Rattle.sched_core.specs.View.{IsCore, next_in, view_in}
 use Rattle.sched_core.specs.declared.state.Core.TheInside.{Inside}
@@ -44,11 +45,6 @@ waiting_kept (r ∷ rs) v q = waiting_kept rs (after_accept v q r.event) q
 pub waiting_shape : (rs : List Reply) (v : View) (q : ℕ) → (after_waiting v q rs).shape ≡ v.shape
 waiting_shape [] v q = refl
 waiting_shape (r ∷ rs) v q = waiting_shape rs (after_accept v q r.event) q
-
--- NEWs wait
-pub news_wait : (rs : List Reply) (v : View) (l q : ℕ) → after_waiting v q rs ≡ after v (news_steps l q rs)
-news_wait [] v l q = refl
-news_wait (r ∷ rs) v l q = news_wait rs (after_accept v q r.event) l q
 
 -- ---- RELEASEs
 
@@ -81,13 +77,16 @@ releases (h ∷ hs) v l q (r ∷ rs) lane leave all same =
           ∙ (ap (λ ss. ss ++ replies_steps (after_done v l Released) (row_of l rs)) step ∙ ap (λ ss. Done l Released ∷ ss) rest.steps);
     }
 
-pub releases_new : (l n : ℕ) → new_count (release_steps l n) ≡ 0
-releases_new l zero = refl
-releases_new l (suc n) = omega (arith, sum_by-cons (λ (s : Step). cond (is_new s) 1 0) (Done l Released) (release_steps l n), releases_new l n)
+-- none is new, and none is turned away
+releases_none : (is : Step → Bool) (l n : ℕ) → is (Done l Released) ≡ false → count_by is (release_steps l n) ≡ 0
+releases_none is l zero none = refl
+releases_none is l (suc n) none = omega (arith, sum_by-cons (λ (s : Step). cond (is s) 1 0) (Done l Released) (release_steps l n), ap {B = ℕ} (λ b. cond b 1 0) none, releases_none is l n none)
 
-pub releases_turned : (l n : ℕ) → turned_count (release_steps l n) ≡ 0
-releases_turned l zero = refl
-releases_turned l (suc n) = omega (arith, sum_by-cons (λ (s : Step). cond (is_turned s) 1 0) (Done l Released) (release_steps l n), releases_turned l n)
+releases_new : (l n : ℕ) → new_count (release_steps l n) ≡ 0
+releases_new l n = releases_none is_new l n refl
+
+releases_turned : (l n : ℕ) → turned_count (release_steps l n) ≡ 0
+releases_turned l n = releases_none is_turned l n refl
 
 -- ---- an answer and an event that comes to wait, in either order
 
@@ -189,19 +188,19 @@ forwards (h ∷ hs) v l q t (r ∷ rs) lane leave all same there in_next entries
     (in_next1 v l q t h hs r rs lane leave.0 is there in_next entries) (entries1 v l q t h hs r rs lane leave.0 is there in_next entries))
 
 -- none is new, and none is turned away
-pub forwards_new : (l q : ℕ) (ns : List ℕ) (rs : List Reply) → new_count (forward_steps l q ns rs) ≡ 0
-forwards_new l q [] rs = refl
-forwards_new l q (n ∷ ns) [] = refl
-forwards_new l q (n ∷ ns) (r ∷ rs) =
+forwards_none : (is : Step → Bool) (l q : ℕ) (ns : List ℕ) (rs : List Reply) → ((e : Event) → is (Done l (Forwarded e)) ≡ false) → ((e : Event) (n : ℕ) → is (Accept e.queue e (Of q n)) ≡ false) → count_by is (forward_steps l q ns rs) ≡ 0
+forwards_none is l q [] rs done accepts = refl
+forwards_none is l q (n ∷ ns) [] done accepts = refl
+forwards_none is l q (n ∷ ns) (r ∷ rs) done accepts =
     let accepted : Step = Accept r.event.queue r.event (Of q n) in
-    omega (arith, sum_by-cons (λ (s : Step). cond (is_new s) 1 0) (Done l (Forwarded r.event)) (accepted ∷ forward_steps l q ns rs), sum_by-cons (λ (s : Step). cond (is_new s) 1 0) accepted (forward_steps l q ns rs), forwards_new l q ns rs)
+    omega (arith, sum_by-cons (λ (s : Step). cond (is s) 1 0) (Done l (Forwarded r.event)) (accepted ∷ forward_steps l q ns rs), sum_by-cons (λ (s : Step). cond (is s) 1 0) accepted (forward_steps l q ns rs),
+    ap {B = ℕ} (λ b. cond b 1 0) (done r.event), ap {B = ℕ} (λ b. cond b 1 0) (accepts r.event n), forwards_none is l q ns rs done accepts)
 
-pub forwards_turned : (l q : ℕ) (ns : List ℕ) (rs : List Reply) → turned_count (forward_steps l q ns rs) ≡ 0
-forwards_turned l q [] rs = refl
-forwards_turned l q (n ∷ ns) [] = refl
-forwards_turned l q (n ∷ ns) (r ∷ rs) =
-    let accepted : Step = Accept r.event.queue r.event (Of q n) in
-    omega (arith, sum_by-cons (λ (s : Step). cond (is_turned s) 1 0) (Done l (Forwarded r.event)) (accepted ∷ forward_steps l q ns rs), sum_by-cons (λ (s : Step). cond (is_turned s) 1 0) accepted (forward_steps l q ns rs), forwards_turned l q ns rs)
+forwards_new : (l q : ℕ) (ns : List ℕ) (rs : List Reply) → new_count (forward_steps l q ns rs) ≡ 0
+forwards_new l q ns rs = forwards_none is_new l q ns rs (λ e. refl) (λ e n. refl)
+
+forwards_turned : (l q : ℕ) (ns : List ℕ) (rs : List Reply) → turned_count (forward_steps l q ns rs) ≡ 0
+forwards_turned l q ns rs = forwards_none is_turned l q ns rs (λ e. refl) (λ e n. refl)
 
 -- the numbers of the lane's oldest events, as the core has them and as a view has them
 pub numbers_are : (n : ℕ) (ys : List Entry) → map number_in (take n (map unplaced ys)) ≡ map (λ (y : Entry). y.number) (take n ys)
@@ -244,13 +243,12 @@ module _ (v : View) (l q n m : ℕ) (d : Event) (rs : List Reply) (few : n ≤ l
   held_count : length (take n (unanswered_at v l)) ≡ n
   held_count = length-take-le n (unanswered_at v l) (omega (arith, few, most))
 
-  pub taken_releases : l < lanes_of v.shape → LeaveInTurn v l q (take n (unanswered_at v l)) → d.op ≡ ops.Release → AreReleases v l n (take n rs)
-  taken_releases lane leave op =
+  pub taken_releases : (u : View) → l < lanes_of v.shape → LeaveInTurn v l q (take n (unanswered_at v l)) → d.op ≡ ops.Release → u ≡ after v (release_steps l n) → IsRowTaken v u l (take n rs) (release_steps l n) 0
+  taken_releases u lane leave op answered =
+      let all : AreReleases v l n (take n rs) =
       subst (λ k. AreReleases v l k (take n rs)) held_count
-      (releases (take n (unanswered_at v l)) v l q (take n rs) lane leave (all_release d (take n rs) op first_like) (first_count ∙ sym held_count))
-
-  pub taken_kept : LeaveInTurn v l q (take n (unanswered_at v l)) → kept_in (after v (release_steps l n)) ≡ kept_in v
-  taken_kept leave = subst (λ k. kept_in (after v (release_steps l k)) ≡ kept_in v) held_count (leave_kept (take n (unanswered_at v l)) v l q leave)
+      (releases (take n (unanswered_at v l)) v l q (take n rs) lane leave (all_release d (take n rs) op first_like) (first_count ∙ sym held_count)) in
+      row_taken v u l (take n rs) (release_steps l n) 0 all.may all.steps answered (releases_new l n) (releases_turned l n)
 
   -- once they are answered there is room for what they are passed on as
   pub room_for : (u : View) (t c : ℕ) → u ≡ after v (release_steps l n) → d.queue ≡ t → level_of d ≡ c → t < length v.shape.queues → inside_of u + n ≡ inside_of v → inside_of v ≤ bound_of v.shape → entries_of u ≡ entries_of v → entries_of v + m ≤ 2 ^ 63
@@ -264,23 +262,16 @@ module _ (v : View) (l q n m : ℕ) (d : Event) (rs : List Reply) (few : n ≤ l
         each = All-weaker (λ (r : Reply). IsLike d r.event) (IsFor t c) (λ r one. record { queue = one.queue ∙ queue; level = ap (λ k. k / 64) one.priority ∙ level }) (take n rs) first_like;
       }
 
-  pub record AreTaken (w : View) (ns : List ℕ) : Type 0 where
-    pub may : MayBeTaken v (row_of l (take n rs))
-    pub steps : replies_steps v (row_of l (take n rs)) ≡ forward_steps l q ns (take n rs)
-    pub view : w ≡ after v (replies_steps v (row_of l (take n rs)))
-
   pub taken_forwards : (u w : View) (t : ℕ) (ns : List ℕ) → l < lanes_of v.shape → LeaveInTurn v l q (take n (unanswered_at v l)) → d.op ≡ ops.Forward → d.queue ≡ t → t < length v.shape.queues → t < length v.next → entries_of v + m ≤ 2 ^ 63
-      → ns ≡ map number_in (take n (unanswered_at v l)) → u ≡ after v (release_steps l n) → w ≡ after_waiting u t (take n rs) → AreTaken w ns
+      → ns ≡ map number_in (take n (unanswered_at v l)) → u ≡ after v (release_steps l n) → w ≡ after_waiting u t (take n rs) → IsRowTaken v w l (take n rs) (forward_steps l q ns (take n rs)) 0
   taken_forwards u w t ns lane leave op queue there in_next room numbers answered waits =
       let hs : List Held = take n (unanswered_at v l) in
       let all : AreForwards v l q t hs (take n rs) =
       forwards hs v l q t (take n rs) lane leave (all_forward d t (take n rs) op queue first_like) (first_count ∙ sym held_count) there in_next (omega (arith, room, within, first_count)) in
-      let steps : replies_steps v (row_of l (take n rs)) ≡ forward_steps l q ns (take n rs) = all.steps ∙ ap (λ ks. forward_steps l q ks (take n rs)) (sym numbers) in
-      record {
-        may = all.may;
-        steps = steps;
-        view = waits ∙ (ap (λ x. after_waiting x t (take n rs)) (answered ∙ ap (λ k. after v (release_steps l k)) (sym held_count)) ∙ (sym all.view ∙ ap (after v) (sym all.steps)));
-      }
+      let same : forward_steps l q (map number_in hs) (take n rs) ≡ forward_steps l q ns (take n rs) = ap (λ ks. forward_steps l q ks (take n rs)) (sym numbers) in
+      row_taken v w l (take n rs) (forward_steps l q ns (take n rs)) 0 all.may (all.steps ∙ same)
+      (waits ∙ (ap (λ x. after_waiting x t (take n rs)) (answered ∙ ap (λ k. after v (release_steps l k)) (sym held_count)) ∙ (sym all.view ∙ ap (after v) same)))
+      (forwards_new l q ns (take n rs)) (forwards_turned l q ns (take n rs))
 
 -- the numbers that the core reads
 pub numbers_taken : (n m : ℕ) (ys : List Entry) → n ≤ m → take n (map (λ (y : Entry). y.number) (take m ys)) ≡ map number_in (take n (map unplaced ys))

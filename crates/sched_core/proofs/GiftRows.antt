@@ -28,7 +28,7 @@ use Rattle.parked_queue.specs.Waits.{AreNamed, IsOnlyOf, Waits, no_waits, waits_
 use Rattle.sched_core.proofs.Busy.{waits_is}
 use Rattle.sched_core.proofs.Cores.{only_event, queue_here, queue_there, waiting_here, waits_here}
 use Rattle.sched_core.proofs.FirstOnes.{found_first, found_slot, slots_within}
-use Rattle.sched_core.proofs.Giving.{core_gives, view_gives}
+use Rattle.sched_core.proofs.Giving.{given_out}
 use Rattle.sched_core.proofs.News.{slots_range}
 use Rattle.sched_core.proofs.Offers.{all_allowed, choice_is_offer, offer_in}
 use Rattle.sched_core.proofs.OpenLanes.{held_best, held_fits}
@@ -83,20 +83,9 @@ module _ (n l q c : ℕ) (lanes all : SmallSet) (only : IsOnly lanes l) (full : 
       in
       let choice = choice_in_turn v t l q c w turn (let quota = steady.quota in omega arith) offered in
       let offer : IsOffer v l q w = choice_is_offer v t l q w choice in
-      let k : l < length a.lanes = omega (arith, offer.lane, core.lanes) in
-      let y : Entry = record { queue = q; number = w.number; slot = w.event.flow % n; place = place } in
-      let held : Entries = entries_of ((lane_in a.lanes l).entries ++ y ∷ []) (lane_in a.lanes l).capacity in
-      record {
-        choice = choice;
-        core =
-            core_gives a q l u (without_number u w.number) (lane_in a.lanes l) held w y (pinned_on a.pins q y.slot l) core offer
-            h (waits_is a.queues q h) k (lane_is a.lanes l k) (waits_here a q u w h (waits_is a.queues q h) offer.waits)
-            refl (waits_without u w.number sound) refl refl refl refl slot placed refl;
-        view =
-            view_gives a q l u (without_number u w.number) (lane_in a.lanes l) held w y (pinned_on a.pins q y.slot l) core offer
-            h (waits_is a.queues q h) k (lane_is a.lanes l k) (waits_here a q u w h (waits_is a.queues q h) offer.waits)
-            refl refl (ap (λ s. record { queue = q; number = w.number; slot = s }) slot) placed;
-      }
+      let given = given_out a v l q (w.event.flow % n) place w core refl offer slot (set a.queues q (without_number u w.number)) (set a.orders q (handed (order_at a.orders q) w.number))
+      (with_entry a.lanes l (record { queue = q; number = w.number; slot = w.event.flow % n; place = place })) (pinned_on a.pins q (w.event.flow % n) l) refl (waits_without u w.number sound) refl placed refl refl in
+      record { choice = choice; core = given.core; view = given.view }
 
   -- ---- the row
 

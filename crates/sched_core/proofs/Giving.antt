@@ -2,6 +2,7 @@
 use Rattle.std.proofs.Common.{◌≡◌, ℕ, ◌+◌, ◌<◌, Bool, true, false, cond, not, ◌==◌, ◌||◌, nat_lt, List, [], ◌∷◌, ◌++◌, length, map, set, get_or, filter, Contains, IsTrue, Some, ◌⊎◌, inl, inr, refl, sym, ap, ◌∙◌, subst, arith, ◌≤◌}
 use Rattle.std.proofs.lemmas.Bool.{cases_Bool, cond-true, cond-false, lt-ltb, or_right}
 use Rattle.std.proofs.lemmas.List.{get_or_default, length-set, length-map, length_push, map-set, map_push, set-get_or}
+use Rattle.order_parts.proofs.Roomy.{lane_is}
 use Rattle.order_parts.specs.Histories.{lane_in}
 use Rattle.order_parts.specs.History.{entries_of}
 use Rattle.std.proofs.lemmas.List.Elements.{All-set}
@@ -18,7 +19,8 @@ use Rattle.order_parts.specs.Pins.{Pin, may_pin, pinned}
 use Rattle.order_parts.specs.Reorder.{Reordering, empty, after_hand, next_number, open_place}
 use Rattle.order_parts.specs.declared.history.Entry.{Entry}
 use Rattle.sched_core.proofs.Answering.{entries_here, restoring_is}
-use Rattle.sched_core.proofs.Cores.{held_sum, in_view, kept_after, next_here, next_sum, places_here, queue_here, room_set, same_parts, slots_set, unanswered_here, waiting_here, waiting_sum, waits_here_is}
+use Rattle.sched_core.proofs.Busy.{waits_is}
+use Rattle.sched_core.proofs.Cores.{held_sum, in_view, kept_after, next_here, next_sum, places_here, queue_here, room_set, same_parts, slots_set, unanswered_here, waiting_here, waiting_sum, waits_here, waits_here_is}
 use Rattle.sched_core.proofs.OrderMoves.{given_place, given_plain}
 use Rattle.sched_core.proofs.Pinned.{alone_may, pin_room, slot_within, pins_given}
 use Rattle.sched_core.specs.Inner.{IsQueueOf, unplaced}
@@ -39,15 +41,22 @@ lanes_given a l holder held y k here given =
     map-set unanswered_in a.lanes l held
     ∙ ap (set (map unanswered_in a.lanes) l) (ap (map unplaced) given ∙ (map_push unplaced holder.entries y ∙ sym (ap (λ us. us ++ unplaced y ∷ []) (unanswered_here a l holder k here))))
 
--- the lane of an offer may have one event more of the slot, and its pin can count it
-pub offer_may : (a : Inside) (v : View) (l i s : ℕ) (w : Numbered) → IsCore a → view_in a ≡ v → IsOffer v l i w → s ≡ slot_of a.shape i w.event.flow → may_pin (pin_in a.pins i s) l ≡ true
-offer_may a v l i s w core same offered slot =
-    let offer : IsOffer (view_in a) l i w = subst (λ u. IsOffer u l i w) (sym same) offered in
-    alone_may a.shape (map unanswered_in a.lanes) a.pins i s l core.pins offer.queue (λ atomic. subst (HasNoOther (view_in a) l i) (sym slot) (offer.alone atomic))
+-- the offer and the slot of its event, as the core has them
+pub offer_here : (a : Inside) (v : View) (l i : ℕ) (w : Numbered) → view_in a ≡ v → IsOffer v l i w → IsOffer (view_in a) l i w
+offer_here a v l i w same offered = subst (λ u. IsOffer u l i w) (sym same) offered
 
-pub offer_room : (a : Inside) (v : View) (l i s : ℕ) (w : Numbered) → IsCore a → view_in a ≡ v → IsOffer v l i w → s ≡ slot_of a.shape i w.event.flow → (pin_in a.pins i s).count < 64
+pub slot_here : (a : Inside) (v : View) (i s : ℕ) (w : Numbered) → view_in a ≡ v → s ≡ slot_of v.shape i w.event.flow → s ≡ slot_of a.shape i w.event.flow
+slot_here a v i s w same is = is ∙ ap (λ (u : View). slot_of u.shape i w.event.flow) (sym same)
+
+-- the lane of an offer may have one event more of the slot, and its pin can count it
+pub offer_may : (a : Inside) (v : View) (l i s : ℕ) (w : Numbered) → IsCore a → view_in a ≡ v → IsOffer v l i w → s ≡ slot_of v.shape i w.event.flow → may_pin (pin_in a.pins i s) l ≡ true
+offer_may a v l i s w core same offered slot =
+    let offer : IsOffer (view_in a) l i w = offer_here a v l i w same offered in
+    alone_may a.shape (map unanswered_in a.lanes) a.pins i s l core.pins offer.queue (λ atomic. subst (HasNoOther (view_in a) l i) (sym (slot_here a v i s w same slot)) (offer.alone atomic))
+
+pub offer_room : (a : Inside) (v : View) (l i s : ℕ) (w : Numbered) → IsCore a → view_in a ≡ v → IsOffer v l i w → s ≡ slot_of v.shape i w.event.flow → (pin_in a.pins i s).count < 64
 offer_room a v l i s w core same offered slot =
-    let offer : IsOffer (view_in a) l i w = subst (λ u. IsOffer u l i w) (sym same) offered in
+    let offer : IsOffer (view_in a) l i w = offer_here a v l i w same offered in
     pin_room a.shape (map unanswered_in a.lanes) a.pins i s l core.pins core.limits offer.queue offer.lane offer.room (offer_may a v l i s w core same offered slot)
 
 -- ---- the buffers
@@ -257,3 +266,51 @@ module _ (a : Inside) (qs ws : List Waits) (rs os : List Reordering) (ls hs : Li
   view_by_parts =
       ap (λ xs. view_in (with_parts a xs rs ls ps)) queues
       ∙ (ap (λ xs. view_in (with_parts a ws xs ls ps)) orders ∙ ap (λ xs. view_in (with_parts a ws os xs ps)) lanes)
+
+-- ---- the core that the code leaves
+
+pub record HasGiven (left : Inside) (v : View) (l q n : ℕ) : Type 0 where
+  pub core : IsCore left
+  pub view : view_in left ≡ after_give v l q n
+
+module _ (a : Inside) (v : View) (l q slot place : ℕ) (w : Numbered) (core : IsCore a) (same : view_in a ≡ v) (offered : IsOffer v l q w) (slot_is : slot ≡ slot_of v.shape q w.event.flow) where
+  abbrev old : Waits
+  old = waits_at a.queues q
+
+  abbrev new : Waits
+  new = without_number old w.number
+
+  abbrev y : Entry
+  y = record { queue = q; number = w.number; slot = slot; place = place }
+
+  abbrev holder : Entries
+  holder = lane_in a.lanes l
+
+  abbrev held : Entries
+  held = entries_of (holder.entries ++ y ∷ []) holder.capacity
+
+  offer : IsOffer (view_in a) l q w
+  offer = offer_here a v l q w same offered
+
+  h : q < length a.queues
+  h = omega (arith, offer.queue, core.queues)
+
+  k : l < length a.lanes
+  k = omega (arith, offer.lane, core.lanes)
+
+  waits : Contains old.waiting w
+  waits = waits_here a q old w h (waits_is a.queues q h) offer.waits
+
+  slot_of_event : slot ≡ slot_of a.shape q w.event.flow
+  slot_of_event = slot_here a v q slot w same slot_is
+
+  pub given_out : (qs : List Waits) (rs : List Reordering) (ls : List Entries) (ps : List (List Pin)) → qs ≡ set a.queues q new → AreWaits new → rs ≡ handed_orders a.orders q w.number → (is_restoring (order_at a.orders q) ≡ true → place ≡ next_number (order_at a.orders q))
+      → ls ≡ set a.lanes l held → ps ≡ with_pin a.pins q slot (pinned (pin_in a.pins q slot) l) → HasGiven (with_parts a qs rs ls ps) v l q w.number
+  given_out qs rs ls ps queues sound orders place_is lanes pins =
+      record {
+        core = core_by_parts a qs (set a.queues q new) rs (handed_orders a.orders q w.number) ls (set a.lanes l held) ps queues orders lanes
+            (core_gives a q l old new holder held w y ps core offer h (waits_is a.queues q h) k (lane_is a.lanes l k) waits refl sound refl refl refl refl slot_of_event place_is pins);
+        view = view_by_parts a qs (set a.queues q new) rs (handed_orders a.orders q w.number) ls (set a.lanes l held) ps queues orders lanes
+            ∙ (view_gives a q l old new holder held w y ps core offer h (waits_is a.queues q h) k (lane_is a.lanes l k) waits refl refl (ap (λ n. record { queue = q; number = w.number; slot = n }) slot_of_event) place_is
+            ∙ ap (λ u. after_give u l q w.number) same);
+      }

@@ -12,6 +12,7 @@ pub mod KeptLists
 pub mod LaneSets
 pub mod OpenLanes
 pub mod Leaving
+pub mod LeavingRows
 pub mod News
 pub mod Offers
 pub mod OpenSlots

@@ -113,10 +113,11 @@ level_more v s q c left next others here none k never = ⊎_elim (λ e. subst (H
 pub none_beside : (v : View) (s : Passed) (q : ℕ) (left : SmallSet) → IsEmpty left → HasNoneBeside v s q left → HasNone v s q
 none_beside v s q left empty none w waits m fits = none (level_of w.event) (empty (level_of w.event)) w waits refl m fits
 
-not_earlier : (v : View) (s : Passed) (q c l : ℕ) (left : SmallSet) (w : Numbered) → IsFirst left c → HasNoneBeside v s q left → IsOfferIn v s q c l w → (u : Numbered) (m : ℕ) → WaitsIn v q u → Fits v s m q u → is_earlier u w ≡ false
-not_earlier v s q c l left w least none offer u m waits fits =
+-- nothing that a lane may take is earlier than an offer of a level below which no lane may take anything
+pub not_earlier : (v : View) (s : Passed) (q c l : ℕ) (w : Numbered) → IsOfferIn v s q c l w → ((u : Numbered) (m : ℕ) → WaitsIn v q u → level_of u.event < c → ¬ Fits v s m q u) → (u : Numbered) (m : ℕ) → WaitsIn v q u → Fits v s m q u → is_earlier u w ≡ false
+not_earlier v s q c l w offer lower u m waits fits =
     false_from_ne_true (is_earlier u w) (λ earlier. ⊎_elim
-    (λ lower. let under : level_of u.event < c = subst (λ n. level_of u.event < n) offer.level (ltb-true _ _ lower) in none (level_of u.event) (λ has. let le = least.first (level_of u.event) has in omega arith) u waits refl m fits)
+    (λ less. lower u m waits (subst (λ n. level_of u.event < n) offer.level (ltb-true _ _ less)) fits)
     (λ same.
     let parts = and_parts (level_of u.event == level_of w.event) (nat_lt u.number w.number) same in
     let less : u.number < w.number = ltb-true _ _ parts.1 in
@@ -138,7 +139,12 @@ offer_made v s q c l w y lane queue event offer = (queue, subst (λ k. IsOfferIn
 pub offer_first : (v : View) (s : Passed) (q c : ℕ) (left : SmallSet) (o : Option Offer) → IsFirst left c → HasNoneBeside v s q left → IfSome o (IsOfferAt v s q c) → IfSome o (IsOfferFrom v s q)
 offer_first v s q c left None least none offer = tt
 offer_first v s q c left (Some y) least none offer =
-    let this = offer.1 in (offer.0, record { waits = this.waits; fits = this.fits; best = this.best; first = not_earlier v s q c y.lane left (numbered_in y.delivery) least none this })
+    let this = offer.1 in (offer.0, record {
+      waits = this.waits;
+      fits = this.fits;
+      best = this.best;
+      first = not_earlier v s q c y.lane (numbered_in y.delivery) this (λ u m waits under. none (level_of u.event) (λ has. let le = least.first (level_of u.event) has in omega arith) u waits refl m);
+    })
 
 -- ---- the queue
 

@@ -26,6 +26,7 @@ use Rattle.sched_core.specs.Rows.{HasRoomFor, IsFor, IsLike, IsNewOf, IsNewRow, 
 use Rattle.sched_core.specs.View.{IsCore, view_in}
 use Rattle.sched_core.specs.declared.state.Core.TheInside.{Inside}
 use Rattle.step_log.specs.Rows.{news_steps}
+use Rattle.transcripts.proofs.WholeStands.{shape_after}
 use Rattle.transcripts.specs.Replies.{new_count, turned_count}
 use Rattle.transcripts.specs.Standing.{View, Stands, after, after_accept, entries_of, inside_of, kept_in, may_take_by, steps_by, steps_of}
 use Rattle.transcripts.specs.Sweep.{MayBeTaken, replies_steps}
@@ -83,6 +84,29 @@ row_stands (r ∷ rs) v T may stands =
     subst (λ u. Stands (T ++ replies_steps v (r ∷ rs)) u) (sym (after-append v first (replies_steps w rs)))
     (subst (λ U. Stands U (after w (replies_steps w rs))) (append_assoc T first (replies_steps w rs)) (row_stands rs w (T ++ first) may.2 one))
 
+-- Replies of a lane are taken: their steps are these, by which so many new events are accepted and none is turned away.
+pub record IsRowTaken (v w : View) (l : ℕ) (rs : List Reply) (ss : List Step) (news : ℕ) : Type 0 where
+  pub may : MayBeTaken v (row_of l rs)
+  pub steps : replies_steps v (row_of l rs) ≡ ss
+  pub view : w ≡ after v (replies_steps v (row_of l rs))
+  pub stands : (T : List Step) → Stands T v → Stands (T ++ replies_steps v (row_of l rs)) w
+  pub accepted : new_count (replies_steps v (row_of l rs)) ≡ news
+  pub turned : turned_count (replies_steps v (row_of l rs)) ≡ 0
+  pub shape : w.shape ≡ v.shape
+
+pub row_taken : (v w : View) (l : ℕ) (rs : List Reply) (ss : List Step) (news : ℕ) → MayBeTaken v (row_of l rs) → replies_steps v (row_of l rs) ≡ ss → w ≡ after v ss → new_count ss ≡ news → turned_count ss ≡ 0 → IsRowTaken v w l rs ss news
+row_taken v w l rs ss news may steps ends accepted turned =
+    let view : w ≡ after v (replies_steps v (row_of l rs)) = ends ∙ ap (after v) (sym steps) in
+    record {
+      may = may;
+      steps = steps;
+      view = view;
+      stands = λ T stands. subst (Stands (T ++ replies_steps v (row_of l rs))) (sym view) (row_stands (row_of l rs) v T may stands);
+      accepted = ap new_count steps ∙ accepted;
+      turned = ap turned_count steps ∙ turned;
+      shape = ap (λ (u : View). u.shape) view ∙ shape_after v (replies_steps v (row_of l rs));
+    }
+
 -- ---- NEWs
 
 pub news_count : (l q : ℕ) (rs : List Reply) → new_count (news_steps l q rs) ≡ length rs
@@ -92,6 +116,11 @@ news_count l q (r ∷ rs) = omega (arith, sum_by-cons (λ (s : Step). cond (is_n
 pub news_turned : (l q : ℕ) (rs : List Reply) → turned_count (news_steps l q rs) ≡ 0
 news_turned l q [] = refl
 news_turned l q (r ∷ rs) = omega (arith, sum_by-cons (λ (s : Step). cond (is_turned s) 1 0) (Accept q r.event (New l)) (news_steps l q rs), news_turned l q rs)
+
+-- NEWs wait
+news_wait : (rs : List Reply) (v : View) (l q : ℕ) → after_waiting v q rs ≡ after v (news_steps l q rs)
+news_wait [] v l q = refl
+news_wait (r ∷ rs) v l q = news_wait rs (after_accept v q r.event) l q
 
 pub news_kept : (l q : ℕ) (rs : List Reply) (v : View) → kept_in (after v (news_steps l q rs)) ≡ kept_in v
 news_kept l q [] v = refl
@@ -243,12 +272,12 @@ news_room v l q c rs row =
 pub are_news : (v : View) (l q c : ℕ) (rs : List Reply) → IsNewRow v l q c rs → AreNews v l rs
 are_news v l q c rs row = record { port = row.port; unshut = row.unshut; each = All-weaker (IsNewOf q c) IsNew (λ r of. of.op) rs row.each }
 
-pub news_taken : (rs : List Reply) (a : Inside) (l q c : ℕ) → IsCore a → c < 4 → l < lanes_of a.shape → IsNewRow (view_in a) l q c rs
-    → MayBeTaken (view_in a) (row_of l rs) × (replies_steps (view_in a) (row_of l rs) ≡ news_steps l q rs)
-news_taken rs a l q c core few lane row =
-    let taken = waits_taken rs a q c core few (news_room (view_in a) l q c rs row) in
-    (taken.may l lane (are_news (view_in a) l q c rs row), taken.steps l (are_news (view_in a) l q c rs row))
-
-pub news_shape : (l q : ℕ) (rs : List Reply) (v : View) → (after v (news_steps l q rs)).shape ≡ v.shape
-news_shape l q [] v = refl
-news_shape l q (r ∷ rs) v = news_shape l q rs (after_accept v q r.event)
+pub news_taken : (rs : List Reply) (a : Inside) (v w : View) (l q c : ℕ) → IsCore a → view_in a ≡ v → c < 4 → l < lanes_of v.shape → IsNewRow v l q c rs → w ≡ after_waiting v q rs → IsRowTaken v w l rs (news_steps l q rs) (length rs)
+news_taken rs a v w l q c core same few =
+    subst (λ (u : View). l < lanes_of u.shape → IsNewRow u l q c rs → w ≡ after_waiting u q rs → IsRowTaken u w l rs (news_steps l q rs) (length rs)) same taken_here
+  where
+    taken_here : l < lanes_of a.shape → IsNewRow (view_in a) l q c rs → w ≡ after_waiting (view_in a) q rs → IsRowTaken (view_in a) w l rs (news_steps l q rs) (length rs)
+    taken_here lane row waits =
+        let taken = waits_taken rs a q c core few (news_room (view_in a) l q c rs row) in
+        row_taken (view_in a) w l rs (news_steps l q rs) (length rs) (taken.may l lane (are_news (view_in a) l q c rs row)) (taken.steps l (are_news (view_in a) l q c rs row))
+        (waits ∙ news_wait rs (view_in a) l q) (news_count l q rs) (news_turned l q rs)

@@ -12,7 +12,7 @@ use Rattle.evt_types.specs.declared.event.Delivery.{Delivery}
 use Rattle.evt_types.specs.declared.event.Numbered.{Numbered}
 use Rattle.evt_types.specs.declared.step.Step.{Step}
 use Rattle.evt_types.specs.declared.step.Step.TheVariants.{Give}
-use Rattle.sched_core.proofs.Offers.{IsOfferAt, choice_is_offer}
+use Rattle.sched_core.proofs.Offers.{IsOfferAt, choice_is_offer, not_earlier}
 use Rattle.sched_core.specs.Offered.{IsOfferIn, IsOpenLane, numbered_in}
 use Rattle.sched_core.specs.Sized.{IsSized}
 use Rattle.sched_core.specs.declared.offer.Offer.{Offer}
@@ -213,20 +213,9 @@ choice_in_turn v s l q c w turn quota offer =
       waits = offer.waits;
       fits = offer.fits;
       lane = offer.best;
-      event = not_earlier;
+      event = not_earlier v s q c l w offer turn.lower;
       queue = turn.before;
     }
-  where
-    not_earlier : (u : Numbered) (m : ℕ) → WaitsIn v q u → Fits v s m q u → is_earlier u w ≡ false
-    not_earlier u m waits fits =
-        false_from_ne_true (is_earlier u w) (λ earlier. ⊎_elim
-        (λ lower. turn.lower u m waits (subst (λ n. level_of u.event < n) offer.level (ltb-true _ _ lower)) fits)
-        (λ same.
-        let parts = and_parts (level_of u.event == level_of w.event) (nat_lt u.number w.number) same in
-        let less : u.number < w.number = ltb-true _ _ parts.1 in
-        let le : w.number ≤ u.number = offer.first u m waits (eqb-true (level_of u.event) (level_of w.event) parts.0 ∙ offer.level) fits in
-        omega arith)
-        (or_cases (nat_lt (level_of u.event) (level_of w.event)) ((level_of u.event == level_of w.event) && nat_lt u.number w.number) earlier))
 
 -- so is its offer
 pub made_in_turn : (v : View) (s : Passed) (q c : ℕ) (y : Offer) → HasTurn v s q c → HasQuota v s q → IsOfferAt v s q c y → IsChoice v s y.lane y.delivery.queue (numbered_in y.delivery)
@@ -275,16 +264,25 @@ run_more l q v s ds es w x t y d u choices choice queue event view given more =
 pub choice_given : (l q : ℕ) (v : View) (s : Passed) (d : Delivery) (u : Numbered) → IsChoice v s l d.queue (numbered_in d) → q ≡ d.queue → u ≡ numbered_in d → IsChoice v s l q u
 choice_given l q v s d u choice queue event = subst (λ n. IsChoice v s l n u) (sym queue) (subst (IsChoice v s l d.queue) (sym event) choice)
 
+pub offer_given : (l q : ℕ) (v : View) (s : Passed) (d : Delivery) (u : Numbered) → IsChoice v s l d.queue (numbered_in d) → q ≡ d.queue → u ≡ numbered_in d → IsOffer v l q u
+offer_given l q v s d u choice queue event = choice_is_offer v s l q u (choice_given l q v s d u choice queue event)
+
 -- and the first gift
-pub run_first : (l q : ℕ) (v : View) (s : Passed) (ds es : List Delivery) (x : View) (y : Passed) (d : Delivery) (u : Numbered) → IsChoice v s l d.queue (numbered_in d) → q ≡ d.queue → u ≡ numbered_in d
-    → x ≡ after v (Give l q u.number ∷ []) → y ≡ given_once s q → ds ≡ [] → es ≡ ds ++ d ∷ [] → AreChoices l v s es x y
-run_first l q v s ds es x y d u choice queue event view given none more =
-    run_more l q v s [] es v x s y d u (refl, refl) (choice_given l q v s d u choice queue event) (sym queue) (sym event) view given (more ∙ ap (λ fs. fs ++ d ∷ []) none)
+pub run_first : (l q : ℕ) (v : View) (s : Passed) (es : List Delivery) (x : View) (y : Passed) (d : Delivery) (u : Numbered) → IsChoice v s l d.queue (numbered_in d) → q ≡ d.queue → u ≡ numbered_in d
+    → x ≡ after v (Give l q u.number ∷ []) → y ≡ given_once s q → es ≡ d ∷ [] → AreChoices l v s es x y
+run_first l q v s es x y d u choice queue event view given one =
+    run_more l q v s [] es v x s y d u (refl, refl) (choice_given l q v s d u choice queue event) (sym queue) (sym event) view given one
 
 -- the turn and what the choice asks for after a gift
 pub turn_on : (l q c : ℕ) (w x : View) (t y : Passed) (u : Numbered) → IsSized w → IsOffer w l q u → HasTurn w t q c → x ≡ after w (Give l q u.number ∷ []) → y ≡ given_once t q → HasTurn x y q c
 turn_on l q c w x t y u sized offer turn view given =
     subst (λ z. HasTurn z y q c) (sym view) (subst (λ z. HasTurn (after_give w l q u.number) z q c) (sym given) (turn_after w t l q c u sized offer turn))
+
+pub turn_given : (l q c : ℕ) (v x : View) (s y : Passed) (d : Delivery) (u : Numbered) → IsChoice v s l d.queue (numbered_in d) → q ≡ d.queue → u ≡ numbered_in d → c ≡ level_of (numbered_in d).event
+    → IsSized v → x ≡ after v (Give l q u.number ∷ []) → y ≡ given_once s q → HasTurn x y q c
+turn_given l q c v x s y d u choice queue event level sized view given =
+    turn_on l q c v x s y u sized (offer_given l q v s d u choice queue event)
+    (turn_of v s l q c u (choice_given l q v s d u choice queue event) (level ∙ ap (λ (w : Numbered). level_of w.event) (sym event))) view given
 
 pub steady_on : (l q more : ℕ) (lanes : SmallSet) (w x : View) (t y : Passed) (u : Numbered) → IsSized w → IsOffer w l q u → q < length t.given → IsSteady w t l q (more + 1) lanes → x ≡ after w (Give l q u.number ∷ []) → y ≡ given_once t q
     → IsSteady x y l q more lanes

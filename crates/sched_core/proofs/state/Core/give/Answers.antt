@@ -1,7 +1,7 @@
 use Rattle.std.proofs.Common.{◌%◌, ◌++◌, ◌∷◌, [], subst, sym, ap, ◌∙◌}
 use Rattle.evt_types.specs.declared.step.Step.{Step}
 use Rattle.evt_types.specs.declared.step.Step.TheVariants.{Give}
-use Rattle.sched_core.proofs.FirstOnes.{found_slot}
+use Rattle.sched_core.proofs.FirstOnes.{slot_of_flow}
 use Rattle.sched_core.proofs.Runs.{gift_is}
 use Rattle.sched_core.specs.Offered.{numbered_in, slot_at}
 use Rattle.parked_queue.specs.Waits.{waits_at}
@@ -11,10 +11,8 @@ use Rattle.sched_core.proofs.state.Core.give.Goals as goal
 
 pub give_at-requires-clause-slot : goal.give_at-requires-clause-slot
 give_at-requires-clause-slot g c =
-    found_slot c.self.inside c.args.self.now c.args.offer.delivery.queue c.self.invariant c.self.view_is c.requires.offer.queue c.slot_of-slot.result (numbered_in c.args.offer.delivery)
-    (c.slot_of-slot.ensures.value ∙ ap (λ n. c.args.offer.flow % (waits_at c.self.inside.queues n).slots) c.queue-queue.ensures
-    ∙ ap (λ f. f % (waits_at c.self.inside.queues c.args.offer.delivery.queue).slots) c.args.offer.flow_is)
-    ∙ ap (λ n. slot_at c.args.self.now n (numbered_in c.args.offer.delivery)) (sym c.queue-queue.ensures) ∙ ap (slot_at c.args.self.now c.queue-queue.result) (sym c.numbered.ensures)
+    slot_of_flow c.self.inside c.args.self.now c.args.offer.delivery.queue c.self.invariant c.self.view_is c.requires.offer.queue c.queue-queue.result c.args.offer.flow c.slot_of-slot.result (numbered_in c.args.offer.delivery) c.numbered.result
+    c.slot_of-slot.ensures.value c.args.offer.flow_is c.queue-queue.ensures c.numbered.ensures
 
 pub returns-clause-stands : goal.returns-clause-stands
 returns-clause-stands g c T stands =

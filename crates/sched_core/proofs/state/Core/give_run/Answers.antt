@@ -6,36 +6,46 @@ use Rattle.evt_types.specs.declared.event.Numbered.{Numbered}
 use Rattle.evt_types.specs.declared.step.Step.{Step}
 use Rattle.evt_types.specs.declared.step.Step.TheVariants.{Give}
 use Rattle.parked_queue.specs.Waits.{waits_at}
-use Rattle.sched_core.proofs.FirstOnes.{found_slot}
+use Rattle.sched_core.proofs.FirstOnes.{slot_of_flow}
 use Rattle.sched_core.proofs.Offers.{choice_is_offer}
-use Rattle.sched_core.proofs.Runs.{choice_given, choices_stand, gift_is, room_given, run_first, turn_of, turn_on}
+use Rattle.sched_core.proofs.Runs.{choices_stand, gift_is, offer_given, room_given, run_first, turn_given}
 use Rattle.sched_core.specs.Offered.{numbered_in, slot_at}
 use Rattle.sched_core.specs.Runs.{AreChoices, HasTurn, gifts_of}
 use Rattle.transcripts.specs.Choice.{Passed}
 use Rattle.transcripts.specs.Standing.{View}
+use Rattle.sched_core.proofs.state.Core.give_run.Given as given
 use Rattle.sched_core.proofs.state.Core.give_run.Goals as goal
+use Rattle.sched_core.proofs.state.Core.give_run.Goals.{After-given}
 
 -- the log after the first gift
 first_logged : (l q : ℕ) (before log : List Step) (ds : List Delivery) (d : Delivery) (u : Numbered) → log ≡ before ++ Give l q u.number ∷ [] → q ≡ d.queue → u ≡ numbered_in d → ds ≡ d ∷ [] → log ≡ before ++ gifts_of l ds
 first_logged l q before log ds d u is queue event items =
     is ∙ (ap (λ (s : Step). before ++ s ∷ []) (gift_is l q u d (sym queue) event) ∙ ap (λ es. before ++ gifts_of l es) (sym items))
 
+-- what was proposed is given, and its queue and level have their turn still
+first : (g : given.Over) (c : After-given g) → AreChoices c.args.offer.lane c.args.self.now c.args.skips.now c.begin.new.run.items c.give_at.new.self c.given.new.self
+first g c =
+    run_first c.args.offer.lane c.queue-queue.result c.args.self.now c.args.skips.now c.begin.new.run.items c.give_at.new.self c.given.new.self c.args.offer.delivery c.numbered.result c.requires.choice c.queue-queue.ensures c.numbered.ensures
+    c.give_at.ensures.view c.given.ensures.value c.begin.ensures
+
+turn : (g : given.Over) (c : After-given g) → HasTurn c.give_at.new.self c.given.new.self c.queue-queue.result c.args.offer.level.number
+turn g c =
+    turn_given c.args.offer.lane c.queue-queue.result c.args.offer.level.number c.args.self.now c.give_at.new.self c.args.skips.now c.given.new.self c.args.offer.delivery c.numbered.result c.requires.choice c.queue-queue.ensures c.numbered.ensures
+    c.args.offer.level_is c.facts.ensures.sized c.give_at.ensures.view c.given.ensures.value
+
 pub give_at-requires-clause-offer : goal.give_at-requires-clause-offer
 give_at-requires-clause-offer g c =
-    choice_is_offer c.args.self.now c.args.skips.now c.args.offer.lane c.queue-queue.result c.numbered.result
-    (choice_given c.args.offer.lane c.queue-queue.result c.args.self.now c.args.skips.now c.args.offer.delivery c.numbered.result c.requires.choice c.queue-queue.ensures c.numbered.ensures)
+    offer_given c.args.offer.lane c.queue-queue.result c.args.self.now c.args.skips.now c.args.offer.delivery c.numbered.result c.requires.choice c.queue-queue.ensures c.numbered.ensures
 
 pub give_at-requires-clause-slot : goal.give_at-requires-clause-slot
 give_at-requires-clause-slot g c =
-    found_slot c.self.inside c.args.self.now c.args.offer.delivery.queue c.self.invariant c.self.view_is c.requires.choice.there c.slot_of-slot.result (numbered_in c.args.offer.delivery)
-    (c.slot_of-slot.ensures.value ∙ ap (λ n. c.args.offer.flow % (waits_at c.self.inside.queues n).slots) c.queue-queue.ensures
-    ∙ ap (λ f. f % (waits_at c.self.inside.queues c.args.offer.delivery.queue).slots) c.args.offer.flow_is)
-    ∙ ap (λ n. slot_at c.args.self.now n (numbered_in c.args.offer.delivery)) (sym c.queue-queue.ensures) ∙ ap (slot_at c.args.self.now c.queue-queue.result) (sym c.numbered.ensures)
+    slot_of_flow c.self.inside c.args.self.now c.args.offer.delivery.queue c.self.invariant c.self.view_is c.requires.choice.there c.queue-queue.result c.args.offer.flow c.slot_of-slot.result (numbered_in c.args.offer.delivery) c.numbered.result
+    c.slot_of-slot.ensures.value c.args.offer.flow_is c.queue-queue.ensures c.numbered.ensures
 
 pub returns-then-has_flow_lanes-clause-choices : goal.returns-then-has_flow_lanes-clause-choices
 returns-then-has_flow_lanes-clause-choices g c =
     subst (λ w. AreChoices c.args.offer.lane c.args.self.now c.args.skips.now c.begin.new.run.items w c.given.new.self) (sym c.close_slot.ensures)
-    (run_first c.args.offer.lane c.queue-queue.result c.args.self.now c.args.skips.now [] c.begin.new.run.items c.give_at.new.self c.given.new.self c.args.offer.delivery c.numbered.result c.requires.choice c.queue-queue.ensures c.numbered.ensures c.give_at.ensures.view c.given.ensures.value refl c.begin.ensures)
+    (first g (goal.at.returns-then-has_flow_lanes-clause-choices g c).After-given)
 
 pub returns-then-has_flow_lanes-clause-stands : goal.returns-then-has_flow_lanes-clause-stands
 returns-then-has_flow_lanes-clause-stands g c T stands =
@@ -46,30 +56,18 @@ goes_on-requires-clause-lanes g c l has = port_is_lane c.give_at.new.self.shape 
 
 pub give_more-requires-clause-turn : goal.give_more-requires-clause-turn
 give_more-requires-clause-turn g c =
-    let choice = choice_given c.args.offer.lane c.queue-queue.result c.args.self.now c.args.skips.now c.args.offer.delivery c.numbered.result c.requires.choice c.queue-queue.ensures c.numbered.ensures in
-    turn_on c.args.offer.lane c.queue-queue.result c.args.offer.level.number c.args.self.now c.give_at.new.self c.args.skips.now c.given.new.self c.numbered.result c.facts.ensures.sized
-    (choice_is_offer c.args.self.now c.args.skips.now c.args.offer.lane c.queue-queue.result c.numbered.result choice)
-    (turn_of c.args.self.now c.args.skips.now c.args.offer.lane c.queue-queue.result c.args.offer.level.number c.numbered.result choice (c.args.offer.level_is ∙ ap (λ (w : Numbered). level_of w.event) (sym c.numbered.ensures)))
-    c.give_at.ensures.view c.given.ensures.value
+    turn g (goal.at.give_more-requires-clause-turn g c).After-given
 
 pub give_more-requires-then-goes_on-clause-turn : goal.give_more-requires-then-goes_on-clause-turn
 give_more-requires-then-goes_on-clause-turn g c =
-    let choice = choice_given c.args.offer.lane c.queue-queue.result c.args.self.now c.args.skips.now c.args.offer.delivery c.numbered.result c.requires.choice c.queue-queue.ensures c.numbered.ensures in
-    turn_on c.args.offer.lane c.queue-queue.result c.args.offer.level.number c.args.self.now c.give_at.new.self c.args.skips.now c.given.new.self c.numbered.result c.facts.ensures.sized
-    (choice_is_offer c.args.self.now c.args.skips.now c.args.offer.lane c.queue-queue.result c.numbered.result choice)
-    (turn_of c.args.self.now c.args.skips.now c.args.offer.lane c.queue-queue.result c.args.offer.level.number c.numbered.result choice (c.args.offer.level_is ∙ ap (λ (w : Numbered). level_of w.event) (sym c.numbered.ensures)))
-    c.give_at.ensures.view c.given.ensures.value
+    turn g (goal.at.give_more-requires-then-goes_on-clause-turn g c).After-given
 
 pub returns-then-has_flow_lanes-clause-turn : goal.returns-then-has_flow_lanes-clause-turn
-returns-then-has_flow_lanes-clause-turn g c =
-    let choice = choice_given c.args.offer.lane c.queue-queue.result c.args.self.now c.args.skips.now c.args.offer.delivery c.numbered.result c.requires.choice c.queue-queue.ensures c.numbered.ensures in (
-      ap (λ (v : View). has_flow_lanes v.shape c.queue-queue.result) c.close_slot.ensures ∙ (sym c.has_flow_lanes.ensures ∙ c.if-has_flow_lanes.true),
-      subst (λ v. HasTurn v c.given.new.self c.queue-queue.result c.args.offer.level.number) (sym c.close_slot.ensures)
-          (turn_on c.args.offer.lane c.queue-queue.result c.args.offer.level.number c.args.self.now c.give_at.new.self c.args.skips.now c.given.new.self c.numbered.result c.facts.ensures.sized
-          (choice_is_offer c.args.self.now c.args.skips.now c.args.offer.lane c.queue-queue.result c.numbered.result choice)
-          (turn_of c.args.self.now c.args.skips.now c.args.offer.lane c.queue-queue.result c.args.offer.level.number c.numbered.result choice (c.args.offer.level_is ∙ ap (λ (w : Numbered). level_of w.event) (sym c.numbered.ensures)))
-          c.give_at.ensures.view c.given.ensures.value),
-    )
+returns-then-has_flow_lanes-clause-turn g c = (
+  ap (λ (v : View). has_flow_lanes v.shape c.queue-queue.result) c.close_slot.ensures ∙ (sym c.has_flow_lanes.ensures ∙ c.if-has_flow_lanes.true),
+  subst (λ v. HasTurn v c.given.new.self c.queue-queue.result c.args.offer.level.number) (sym c.close_slot.ensures)
+      (turn g (goal.at.returns-then-has_flow_lanes-clause-turn g c).After-given),
+)
 
 pub give_more-requires-clause-room : goal.give_more-requires-clause-room
 give_more-requires-clause-room g c =
@@ -78,7 +76,7 @@ give_more-requires-clause-room g c =
 
 pub returns-then-count-eq0-clause-choices : goal.returns-then-count-eq0-clause-choices
 returns-then-count-eq0-clause-choices g c =
-    run_first c.args.offer.lane c.queue-queue.result c.args.self.now c.args.skips.now [] c.begin.new.run.items c.give_at.new.self c.given.new.self c.args.offer.delivery c.numbered.result c.requires.choice c.queue-queue.ensures c.numbered.ensures c.give_at.ensures.view c.given.ensures.value refl c.begin.ensures
+    first g (goal.at.returns-then-count-eq0-clause-choices g c).After-given
 
 pub returns-then-count-eq0-clause-stands : goal.returns-then-count-eq0-clause-stands
 returns-then-count-eq0-clause-stands g c T stands =
@@ -86,7 +84,7 @@ returns-then-count-eq0-clause-stands g c T stands =
 
 pub returns-else-goes_on-clause-choices : goal.returns-else-goes_on-clause-choices
 returns-else-goes_on-clause-choices g c =
-    run_first c.args.offer.lane c.queue-queue.result c.args.self.now c.args.skips.now [] c.begin.new.run.items c.give_at.new.self c.given.new.self c.args.offer.delivery c.numbered.result c.requires.choice c.queue-queue.ensures c.numbered.ensures c.give_at.ensures.view c.given.ensures.value refl c.begin.ensures
+    first g (goal.at.returns-else-goes_on-clause-choices g c).After-given
 
 pub returns-else-goes_on-clause-stands : goal.returns-else-goes_on-clause-stands
 returns-else-goes_on-clause-stands g c T stands =
@@ -94,7 +92,7 @@ returns-else-goes_on-clause-stands g c T stands =
 
 pub returns-then-is_only-clause-choices : goal.returns-then-is_only-clause-choices
 returns-then-is_only-clause-choices g c = c.give_more.ensures.choices c.args.self.now c.args.skips.now
-    (run_first c.args.offer.lane c.queue-queue.result c.args.self.now c.args.skips.now [] c.begin.new.run.items c.give_at.new.self c.given.new.self c.args.offer.delivery c.numbered.result c.requires.choice c.queue-queue.ensures c.numbered.ensures c.give_at.ensures.view c.given.ensures.value refl c.begin.ensures)
+    (first g (goal.at.returns-then-is_only-clause-choices g c).After-given)
 
 pub returns-then-is_only-clause-stands : goal.returns-then-is_only-clause-stands
 returns-then-is_only-clause-stands g c T stands =
@@ -106,7 +104,7 @@ returns-then-is_only-clause-logged g c = c.give_more.ensures.logged (g.L.StepLog
 
 pub returns-then-goes_on-clause-choices : goal.returns-then-goes_on-clause-choices
 returns-then-goes_on-clause-choices g c = c.give_more-then-goes_on.ensures.choices c.args.self.now c.args.skips.now
-    (run_first c.args.offer.lane c.queue-queue.result c.args.self.now c.args.skips.now [] c.begin.new.run.items c.give_at.new.self c.given.new.self c.args.offer.delivery c.numbered.result c.requires.choice c.queue-queue.ensures c.numbered.ensures c.give_at.ensures.view c.given.ensures.value refl c.begin.ensures)
+    (first g (goal.at.returns-then-goes_on-clause-choices g c).After-given)
 
 pub returns-then-goes_on-clause-stands : goal.returns-then-goes_on-clause-stands
 returns-then-goes_on-clause-stands g c T stands =

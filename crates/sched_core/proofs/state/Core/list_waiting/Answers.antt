@@ -1,7 +1,7 @@
 use Rattle.std.proofs.Common.{◌<◌, ◌++◌, length, subst, sym, ap, ◌∙◌, arith, map}
 use Rattle.transcripts.specs.Standing.{View, waiting_at}
 use Rattle.transcripts.proofs.WholeStands.{waiting_is}
-use Rattle.sched_core.proofs.Cores.{waiting_here}
+use Rattle.sched_core.proofs.Cores.{queue_there, waiting_here}
 use Rattle.sched_core.proofs.Busy.{waits_is}
 use Rattle.parked_queue.specs.Waits.{waits_at}
 use Rattle.parked_queue.specs.Lists.{delivery_of}
@@ -9,7 +9,7 @@ use Rattle.sched_core.proofs.state.Core.list_waiting.Goals as goal
 
 pub returns-clause-listed : goal.returns-clause-listed
 returns-clause-listed c =
-    let there = subst (λ (v : View). c.args.queue < length v.shape.queues) (sym c.self.view_is) c.requires.queue in
+    let there = queue_there c.self.inside c.args.self.now c.args.queue c.self.view_is c.requires.queue in
     let within : c.args.queue < length c.self.inside.queues = omega (arith, c.self.invariant.queues) in
     c.list_waiting.ensures.listed
     ∙ ap (λ ws. c.args.into.now.items ++ map (delivery_of c.args.queue) ws)

@@ -5,6 +5,7 @@ use Rattle.sched_core.proofs.News.{slots_range}
 use Rattle.sched_core.proofs.Offers.{all_allowed, offer_in}
 use Rattle.sched_core.proofs.OpenLanes.{held_best, held_fits}
 use Rattle.transcripts.specs.Standing.{View}
+use Rattle.sched_core.proofs.Cores.{limits_here}
 use Rattle.sched_core.proofs.state.Core.next_in_run.Goals as goal
 
 pub returns-then-goes_to-clause-slot : goal.returns-then-goes_to-clause-slot
@@ -14,7 +15,7 @@ returns-then-goes_to-clause-slot c =
 pub returns-then-goes_to-clause-offer : goal.returns-then-goes_to-clause-offer
 returns-then-goes_to-clause-offer c s are =
     let v : View = c.args.self.now in
-    let limits : IsWithinLimits v.shape = subst (λ (u : View). IsWithinLimits u.shape) c.self.view_is c.self.invariant.limits in
+    let limits = limits_here c.self.inside v c.self.invariant c.self.view_is in
     let few = (slots_range v.shape c.args.queue limits c.requires.there).1 in
     let found = c.in_ok-found.found in
     offer_in v s c.args.queue c.args.level.number c.args.lane found.slot c.below.result found.waiting

@@ -8,6 +8,7 @@ use Rattle.sched_core.proofs.Offers.{all_allowed, offer_in, offer_made}
 use Rattle.sched_core.proofs.Runs.{made_in_turn}
 use Rattle.std.specs.Option.{IfSome}
 use Rattle.sched_core.specs.Runs.{IsTurn}
+use Rattle.sched_core.proofs.Cores.{limits_here}
 use Rattle.sched_core.proofs.state.Core.offer_at.Goals as goal
 
 pub flow_for-requires-clause-slot : goal.flow_for-requires-clause-slot
@@ -21,7 +22,7 @@ returns c =
     let level = c.in_ok-queue.field-0.level.number in
     let told : IsTurn v s c.in_ok-queue.field-0 = subst (λ o. IfSome o (IsTurn v s)) c.in_ok-queue.was c.requires in
     let turn = told.1 in
-    let limits : IsWithinLimits v.shape = subst (λ (u : View). IsWithinLimits u.shape) c.self.view_is c.self.invariant.limits in
+    let limits = limits_here c.self.inside v c.self.invariant c.self.view_is in
     let few = (slots_range v.shape q limits turn.there).1 in
     let found = c.in_ok-found.found in
     let lane = c.in_ok-lane.lane in

@@ -3,6 +3,7 @@ use Rattle.evt_types.specs.Fault.{IsWithinLimits}
 use Rattle.transcripts.specs.Standing.{View}
 use Rattle.sched_core.proofs.FirstOnes.{found_first, found_slot, slots_within}
 use Rattle.sched_core.proofs.Offers.{offer_in, offer_made}
+use Rattle.sched_core.proofs.Cores.{limits_here}
 use Rattle.sched_core.proofs.state.Core.offer_at_head.Goals as goal
 
 pub lane_for-requires-clause-slot : goal.lane_for-requires-clause-slot
@@ -11,7 +12,7 @@ lane_for-requires-clause-slot c = let waits = c.in_ok-found.ensures.waits in ome
 pub returns : goal.returns
 returns c =
     let v : View = c.args.self.now in
-    let limits : IsWithinLimits v.shape = subst (λ (u : View). IsWithinLimits u.shape) c.self.view_is c.self.invariant.limits in
+    let limits = limits_here c.self.inside v c.self.invariant c.self.view_is in
     let found = c.in_ok-found.found in
     offer_made v c.args.skips.now c.args.queue c.args.level.number c.in_ok-lane.lane found.waiting c.of.result c.of.ensures.lane (c.of.ensures.queue ∙ c.in_ok-found.ensures.names) c.of.ensures.event
     (offer_in v c.args.skips.now c.args.queue c.args.level.number c.in_ok-lane.lane found.slot c.args.allowed found.waiting c.requires.allowed (slots_within v c.args.queue limits c.requires.queue)

@@ -7,6 +7,7 @@ use Rattle.sched_core.proofs.Offers.{allowed_rest, none_in, offer_in, offer_made
 use Rattle.sched_core.specs.Offered.{AreOpenLanes, FitsSlot}
 use Rattle.sched_core.specs.View.{view_in, IsCore}
 use Rattle.sched_core.specs.declared.state.Core.TheInside.{Inside}
+use Rattle.sched_core.proofs.Cores.{limits_here}
 use Rattle.sched_core.proofs.state.Core.offer_behind.Goals as goal
 
 pub invariant_of-self : goal.invariant_of-self
@@ -27,7 +28,7 @@ returns-in-Some-lane_for-clause-offer c =
     let lane = c.in-Some-lane_for.lane in
     let a : Inside = c.self.inside in
     let view : view_in a ≡ v = c.self.view_is ∙ c.loop-found.invariant.0 in
-    let limits : IsWithinLimits v.shape = subst (λ (u : View). IsWithinLimits u.shape) view c.self.invariant.limits in
+    let limits = limits_here c.self.inside v c.self.invariant view in
     let now : view_in (with_queues a c.first.new.self) ≡ v = ap (λ qs. view_in (with_queues a qs)) c.in-Some.ensures.same ∙ view in
     offer_made v s q c.args.level.number lane found.waiting c.of.result c.of.ensures.lane (c.of.ensures.queue ∙ c.in-Some.ensures.names) c.of.ensures.event
     (offer_in v s q c.args.level.number lane found.slot c.loop-found.left found.waiting c.loop-found.invariant.1 (slots_within v q limits c.requires.queue)
@@ -53,6 +54,6 @@ returns-clause-none c =
     let v : View = c.args.self.now in
     let a : Inside = c.self.inside in
     let view : view_in a ≡ v = c.self.view_is ∙ c.loop-found.invariant.0 in
-    let limits : IsWithinLimits v.shape = subst (λ (u : View). IsWithinLimits u.shape) view c.self.invariant.limits in
+    let limits = limits_here c.self.inside v c.self.invariant view in
     none_in v c.args.skips.now c.args.queue c.args.level.number c.loop-found.left c.loop-found.invariant.1 (slots_within v c.args.queue limits c.requires.queue)
     (found_none a v c.args.queue c.self.invariant view c.requires.queue c.args.level.number c.loop-found.left c.in_default.ensures.none)

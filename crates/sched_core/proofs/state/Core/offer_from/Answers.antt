@@ -8,7 +8,19 @@ use Rattle.sched_core.specs.Offered.{AreOpenLanes, HasAllowed, HasNoneIn, IsOffe
 use Rattle.sched_core.proofs.FirstOnes.{found_none, levels_here, slots_within}
 use Rattle.sched_core.proofs.Offers.{IsOfferAt, level_more, none_beside, none_either, none_in, offer_first, some_here}
 use Rattle.sched_core.proofs.OpenLanes.{none_open}
+use Rattle.sched_core.proofs.Cores.{limits_here}
 use Rattle.sched_core.proofs.state.Core.offer_from.Goals as goal
+use Rattle.sched_core.proofs.state.Core.offer_from.Goals.{After-is_blocked}
+
+-- where one level alone is left, there is none of the queue if there is none of the level
+only_level : (c : After-is_blocked) → HasNoneIn c.args.self.now c.args.skips.now c.args.queue c.in_ok-level.level.number → HasNone c.args.self.now c.args.skips.now c.args.queue
+only_level c none =
+    let v : View = c.args.self.now in
+    let s = c.args.skips.now in
+    let q = c.args.queue in
+    none_beside v s q (members c.pop.new.self) (c.is_empty-2.ensures.0 c.if-is_empty-2.true)
+    (level_more v s q c.in_ok-level.level.number (members c.levels-others.result) (members c.pop.new.self) c.in_ok-level.ensures.others none
+    (levels_here c.self.inside v s q c.levels-others.result c.self.view_is c.levels-others.ensures))
 
 pub returns-then-not-has_flow_lanes-clause-none : goal.returns-then-not-has_flow_lanes-clause-none
 returns-then-not-has_flow_lanes-clause-none c =
@@ -29,28 +41,19 @@ returns-then-is_some-clause-offer c =
 pub returns-then-is_blocked-clause-none : goal.returns-then-is_blocked-clause-none
 returns-then-is_blocked-clause-none c =
     let v : View = c.args.self.now in
-    let s = c.args.skips.now in
     let q = c.args.queue in
     let level = c.in_ok-level.level.number in
     let allowed = c.allowed_at-allowed.result in
-    let limits : IsWithinLimits v.shape = subst (λ (u : View). IsWithinLimits u.shape) c.self.view_is c.self.invariant.limits in
-    none_beside v s q (members c.pop.new.self) (c.is_empty-2.ensures.0 c.if-is_empty-2.true)
-    (level_more v s q level (members c.levels-others.result) (members c.pop.new.self) c.in_ok-level.ensures.others
-    (none_in v s q level allowed c.allowed_at-allowed.ensures.allowed (slots_within v q limits c.requires)
+    let limits = limits_here c.self.inside v c.self.invariant c.self.view_is in
+    only_level (goal.at.returns-then-is_blocked-clause-none c).After-is_blocked
+    (none_in v c.args.skips.now q level allowed c.allowed_at-allowed.ensures.allowed (slots_within v q limits c.requires)
     (found_none c.self-2.inside v q c.self-2.invariant (c.self-2.view_is ∙ c.allowed_at-allowed.ensures.same) c.requires level allowed (c.is_blocked.ensures c.if-is_blocked.true)))
-    (levels_here c.self.inside v s q c.levels-others.result c.self.view_is c.levels-others.ensures))
 
 pub returns-in_err-offer-clause-none : goal.returns-in_err-offer-clause-none
 returns-in_err-offer-clause-none c =
-    let v : View = c.args.self.now in
-    let s = c.args.skips.now in
-    let q = c.args.queue in
-    let level = c.in_ok-level.level.number in
-    none_either c.from_residual-in_err-offer.result (HasNone v s q)
-    (none_beside v s q (members c.pop.new.self) (c.is_empty-2.ensures.0 c.if-is_empty-2.true)
-    (level_more v s q level (members c.levels-others.result) (members c.pop.new.self) c.in_ok-level.ensures.others
-    (subst (λ u. HasNoneIn u s q level) c.allowed_at-allowed.ensures.same c.in_err-offer.ensures.none)
-    (levels_here c.self.inside v s q c.levels-others.result c.self.view_is c.levels-others.ensures)))
+    none_either c.from_residual-in_err-offer.result (HasNone c.args.self.now c.args.skips.now c.args.queue)
+    (only_level (goal.at.returns-in_err-offer-clause-none c).After-is_blocked
+    (subst (λ u. HasNoneIn u c.args.skips.now c.args.queue c.in_ok-level.level.number) c.allowed_at-allowed.ensures.same c.in_err-offer.ensures.none))
 
 pub returns-in_err-offer-2-clause-none : goal.returns-in_err-offer-2-clause-none
 returns-in_err-offer-2-clause-none c =

@@ -5,6 +5,7 @@ use Rattle.transcripts.specs.Standing.{View}
 use Rattle.sched_core.proofs.FirstOnes.{found_none, slots_within}
 use Rattle.sched_core.proofs.Offers.{none_in, some_here}
 use Rattle.sched_core.specs.Offered.{AreOpenLanes, HasAllowed, HasNoneIn, IsOfferIn, numbered_in, slot_at}
+use Rattle.sched_core.proofs.Cores.{limits_here}
 use Rattle.sched_core.proofs.state.Core.offer_in.Goals as goal
 
 pub returns-then-is_empty-clause-none : goal.returns-then-is_empty-clause-none
@@ -17,7 +18,7 @@ returns-then-is_blocked-clause-none c =
     let v : View = c.allowed-allowed.new.self in
     let same = c.allowed-allowed.ensures.same in
     let there : c.args.queue < length v.shape.queues = subst (λ (u : View). c.args.queue < length u.shape.queues) (sym same) c.requires.queue in
-    let limits : IsWithinLimits v.shape = subst (λ (u : View). IsWithinLimits u.shape) c.self.view_is c.self.invariant.limits in
+    let limits = limits_here c.self.inside v c.self.invariant c.self.view_is in
     subst (λ u. HasNoneIn u c.args.skips.now c.args.queue c.args.level.number) same
     (none_in v c.args.skips.now c.args.queue c.args.level.number c.allowed-allowed.result (subst (λ u. HasAllowed u c.args.skips.now c.args.queue c.allowed-allowed.result) (sym same) c.allowed-allowed.ensures.allowed) (slots_within v c.args.queue limits there)
     (found_none c.self.inside v c.args.queue c.self.invariant c.self.view_is there c.args.level.number c.allowed-allowed.result (c.is_blocked.ensures c.if-is_blocked.true)))

@@ -6,6 +6,7 @@ use Rattle.transcripts.specs.Standing.{View}
 use Rattle.transcripts.specs.Choice.{HasNoChoice, HasNone}
 use Rattle.sched_core.proofs.Offers.{IsOfferFrom, busy_queues, idle_queues, none_here, offer_keeps, offers, others_there, queue_passed, served_offer, some_here}
 use Rattle.sched_core.specs.Service.{IsServedFirst}
+use Rattle.sched_core.proofs.Cores.{limits_here}
 use Rattle.sched_core.proofs.state.Core.propose.Goals as goal
 
 pub returns-then-is_some-clause-choice : goal.returns-then-is_some-clause-choice
@@ -67,7 +68,7 @@ first_served-requires c q has = subst (λ (u : View). q < length u.shape.queues)
 
 pub has_quota-requires : goal.has_quota-requires
 has_quota-requires c =
-    let limits : IsWithinLimits c.args.self.now.shape = subst (λ (u : View). IsWithinLimits u.shape) c.self.view_is c.self.invariant.limits in
+    let limits = limits_here c.self.inside c.args.self.now c.self.invariant c.self.view_is in
     omega (arith, c.loop-queue.invariant.1 c.in-Some.queue c.in-Some.ensures.first.there, limits.queue_count)
 
 pub offer_from-offer-requires : goal.offer_from-offer-requires

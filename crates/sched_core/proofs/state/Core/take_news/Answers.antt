@@ -1,26 +1,28 @@
-use Rattle.std.proofs.Common.{◌++◌, ap, subst, sym, take, ◌∙◌}
-use Rattle.std.proofs.lemmas.List.{length-take-le}
-use Rattle.transcripts.specs.Replies.{new_count, turned_count}
-use Rattle.transcripts.specs.Standing.{View, Stands, after, kept_in}
-use Rattle.transcripts.specs.Sweep.{replies_steps}
-use Rattle.sched_core.proofs.Rows.{news_count, news_kept, news_shape, news_turned, row_stands}
-use Rattle.sched_core.specs.Rows.{row_of}
+use Rattle.std.proofs.Common.{ap, arith, take, ◌∙◌}
+use Rattle.std.proofs.lemmas.List.{length-take, length-take-le}
+use Rattle.transcripts.specs.Standing.{after, kept_in}
+use Rattle.step_log.specs.Rows.{news_steps}
+use Rattle.sched_core.proofs.Rows.{news_count, news_kept, news_turned, row_taken}
 use Rattle.sched_core.proofs.state.Core.take_news.Goals as goal
 
-pub returns-clause-stands : goal.returns-clause-stands
-returns-clause-stands g c T stands =
-    let row = row_of c.args.lane (take c.news-count.result c.args.replies.now) in
-    subst (Stands (T ++ replies_steps c.args.self.now row)) (sym c.accept_row.ensures.view) (row_stands row c.args.self.now T c.accept_row.ensures.may stands)
-
-pub returns-clause-accepted : goal.returns-clause-accepted
-returns-clause-accepted g c = ap new_count c.accept_row.ensures.steps ∙ (news_count c.args.lane c.from-queue.result (take c.news-count.result c.args.replies.now) ∙ length-take-le c.news-count.result c.args.replies.now c.news-count.ensures.few)
-
-pub returns-clause-turned : goal.returns-clause-turned
-returns-clause-turned g c = ap turned_count c.accept_row.ensures.steps ∙ news_turned c.args.lane c.from-queue.result (take c.news-count.result c.args.replies.now)
-
-pub returns-clause-shape : goal.returns-clause-shape
-returns-clause-shape g c =
-    ap (λ (v : View). v.shape) (c.accept_row.ensures.view ∙ ap (after c.args.self.now) c.accept_row.ensures.steps) ∙ news_shape c.args.lane c.from-queue.result (take c.news-count.result c.args.replies.now) c.args.self.now
-
-pub returns-clause-kept : goal.returns-clause-kept
-returns-clause-kept g c = ap kept_in (c.accept_row.ensures.view ∙ ap (after c.args.self.now) c.accept_row.ensures.steps) ∙ news_kept c.args.lane c.from-queue.result (take c.news-count.result c.args.replies.now) c.args.self.now
+pub returns : goal.returns
+returns g c =
+    let n = c.news-count.result in
+    let q = c.from-queue.result in
+    let rs = take n c.args.replies.now in
+    let accepted = c.accept_row.ensures in
+    let ends = accepted.view ∙ ap (after c.args.self.now) accepted.steps in
+    let now = row_taken c.args.self.now c.accept_row.new.self c.args.lane rs (news_steps c.args.lane q rs) n accepted.may accepted.steps ends
+    (news_count c.args.lane q rs ∙ length-take-le n c.args.replies.now c.news-count.ensures.few) (news_turned c.args.lane q rs) in
+    record {
+      few = c.news-count.ensures.few;
+      may = now.may;
+      view = now.view;
+      logged = accepted.logged;
+      stands = now.stands;
+      accepted = now.accepted;
+      turned = now.turned;
+      shape = now.shape;
+      kept = ap kept_in ends ∙ news_kept c.args.lane q rs c.args.self.now;
+      room = omega (arith, accepted.room, length-take n c.args.replies.now);
+    }

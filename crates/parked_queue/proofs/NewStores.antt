@@ -1,5 +1,5 @@
 -- The store and its chains before any event has come.
-use Rattle.std.proofs.Common.{◌≡◌, ◌≢◌, ℕ, zero, suc, ◌+◌, ◌<◌, ◌≤◌, nat_lt, cond, List, [], ◌∷◌, ◌++◌, length, Option, IsSome, Vec, refl, sym, ap, subst, ◌∙◌, arith, slice_get, vec_len, ⊎_elim}
+use Rattle.std.proofs.Common.{◌≡◌, ℕ, zero, suc, ◌+◌, ◌<◌, ◌≤◌, nat_lt, cond, List, [], ◌∷◌, ◌++◌, length, Option, IsSome, Vec, refl, sym, ap, subst, ◌∙◌, arith, slice_get, vec_len, ⊎_elim}
 use Rattle.std.proofs.lemmas.Bool.{cases_eq, cond-false, cond-true, le-ltb, lt-ltb}
 use Rattle.std.proofs.lemmas.List.{length_push}
 use Rattle.lists.proofs.Lists.{slice_get-append_left, slice_get-last}

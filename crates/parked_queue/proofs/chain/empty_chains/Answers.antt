@@ -1,4 +1,4 @@
-use Rattle.std.proofs.Common.{◌+◌, arith, subst}
+use Rattle.std.proofs.Common.{arith, subst}
 use Rattle.parked_queue.specs.Chains.{AreNewChains}
 use Rattle.parked_queue.proofs.NewStores.{chains_none, chains_pushed}
 use Rattle.parked_queue.proofs.chain.empty_chains.Goals as goal

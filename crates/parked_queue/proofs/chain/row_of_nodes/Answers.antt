@@ -1,4 +1,4 @@
-use Rattle.std.proofs.Common.{◌+◌, arith, refl, subst}
+use Rattle.std.proofs.Common.{arith, refl, subst}
 use Rattle.parked_queue.specs.Chains.{AreInRow}
 use Rattle.parked_queue.proofs.NewStores.{row_none, row_pushed}
 use Rattle.parked_queue.proofs.chain.row_of_nodes.Goals as goal

@@ -9,7 +9,7 @@ use Rattle.lists.proofs.Lists.{eqb_other, filter-all}
 use Rattle.lists.proofs.Sums.{sum_changed, sum_same}
 use Rattle.transcripts.proofs.ByLane.{sum_zero}
 use Rattle.transcripts.proofs.Facts.{Facts, Facts-none, Facts-push, AllowedAfter_keeps}
-use Rattle.transcripts.proofs.Pushes.{accepted_in-other, accepted-some, accepted-none, given_of-other, hand-some, hand-none, length-unanswered}
+use Rattle.transcripts.proofs.Pushes.{accepted_in-other, accepted_in-same, accepted-some, accepted-none, given_of-other, hand-some, hand-none, length-unanswered}
 use Rattle.transcripts.proofs.Waits.{waiting-none, waiting-gives, waiting-accepts, waiting-rises}
 use Rattle.transcripts.proofs.Whole.{steps-Lawful}
 use Rattle.transcripts.specs.Allowed.{Allowed}
@@ -112,23 +112,21 @@ waits_none q = refl
 waits_still : (P : List Step) (s : Step) (q : ℕ) → accepted_in q s ≡ None → given_of q s ≡ None → Waits P q → Waits (P ++ s ∷ []) q
 waits_still P s q h k waits = omega (arith, ap length (accepted-none P q s h), ap length (hand-none P q s k), ap length (waiting-none P q s h k))
 
-waits_accept : (p : Plan) (P : List Step) (r : ℕ) (e : Event) (c : Source) (q : ℕ) → Facts p P → Waits P q → Waits (P ++ Accept r e c ∷ []) q
-waits_accept p P r e c q f waits = ⊎_elim here (λ other. waits_still P s q (accepted_in-other q r e c other) refl waits) (cases_eq r q)
-  where
-    s : Step
-    s = Accept r e c
+accept_waits : (p : Plan) (P : List Step) (q : ℕ) (e : Event) (c : Source) → Facts p P → Waits P q → Waits (P ++ Accept q e c ∷ []) q
+accept_waits p P q e c f waits =
+    omega (
+      arith,
+      ap length (accepted-some P q (Accept q e c) e (accepted_in-same q e c)),
+      length_push (accepted P q) e,
+      ap length (hand-none P q (Accept q e c) refl),
+      ap length (waiting-accepts P q (Accept q e c) e (f.given q) (accepted_in-same q e c) refl),
+      length_push (waiting P q) (record { number = length (accepted P q); event = e }),
+    )
 
-    here : r ≡ q → Waits (P ++ s ∷ []) q
-    here same =
-        let is = cond-true (r == q) (Some e) None (eq-eqb r q same) in
-        omega (
-          arith,
-          ap length (accepted-some P q s e is),
-          length_push (accepted P q) e,
-          ap length (hand-none P q s refl),
-          ap length (waiting-accepts P q s e (f.given q) is refl),
-          length_push (waiting P q) (record { number = length (accepted P q); event = e }),
-        )
+waits_accept : (p : Plan) (P : List Step) (r : ℕ) (e : Event) (c : Source) (q : ℕ) → Facts p P → Waits P q → Waits (P ++ Accept r e c ∷ []) q
+waits_accept p P r e c q f waits =
+    ⊎_elim (λ same. subst (λ k. Waits (P ++ Accept k e c ∷ []) q) (sym same) (accept_waits p P q e c f waits))
+    (λ other. waits_still P (Accept r e c) q (accepted_in-other q r e c other) refl waits) (cases_eq r q)
 
 waits_give : (p : Plan) (P : List Step) (l r n q : ℕ) → Allowed p P (Give l r n) → Waits P q → Waits (P ++ Give l r n ∷ []) q
 waits_give p P l r n q a waits = ⊎_elim here (λ other. waits_still P s q refl (given_of-other l q r n other) waits) (cases_eq r q)

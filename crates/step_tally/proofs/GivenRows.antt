@@ -39,11 +39,17 @@ queue_row-gives T l q (d ∷ ds) =
     ∙ (ap (λ r. row_given r l (length ds)) (queue_row-same T (give_of l q d) q refl)
     ∙ (given_more (queue_row T q) l q d.number (length ds) ∙ ap (row_given (queue_row T q) l) (omega arith))))
 
+-- what no single Give changes, a row of them leaves
+unchanged_by_gives : {X : Type 0} (f : List Step → ℕ → X) (T : List Step) (l q k : ℕ) (ds : List Delivery)
+    → ((U : List Step) (d : Delivery) → f (U ++ give_of l q d ∷ []) k ≡ f U k) → f (T ++ gives_of l q ds) k ≡ f T k
+unchanged_by_gives f T l q k [] each = ap (λ U. f U k) (append-nil T)
+unchanged_by_gives f T l q k (d ∷ ds) each =
+    ap (λ U. f U k) (sym (append_assoc T (give_of l q d ∷ []) (gives_of l q ds)))
+    ∙ (unchanged_by_gives f (T ++ give_of l q d ∷ []) l q k ds each ∙ each T d)
+
 queue_row-gives_other : (T : List Step) (l q k : ℕ) (ds : List Delivery) → k ≢ q → queue_row (T ++ gives_of l q ds) k ≡ queue_row T k
-queue_row-gives_other T l q k [] other = ap (λ U. queue_row U k) (append-nil T)
-queue_row-gives_other T l q k (d ∷ ds) other =
-    ap (λ U. queue_row U k) (sym (append_assoc T (give_of l q d ∷ []) (gives_of l q ds)))
-    ∙ (queue_row-gives_other (T ++ give_of l q d ∷ []) l q k ds other ∙ queue_row-other T (give_of l q d) k (λ e. other (sym (same_Some q k e))))
+queue_row-gives_other T l q k ds other =
+    unchanged_by_gives queue_row T l q k ds (λ U d. queue_row-other U (give_of l q d) k (λ e. other (sym (same_Some q k e))))
 
 pub queues_there : (T : List Step) (l q : ℕ) (ds : List Delivery) (table : List QueueRow) (x : QueueRow) → AreCounts (queue_row T) table → x ≡ row_given (queue_row T q) l (length ds)
     → AreCounts (queue_row (T ++ gives_of l q ds)) (slice_set table q x)
@@ -65,16 +71,14 @@ lane_counts-gives T l q (d ∷ ds) =
     ∙ same_lane refl (omega arith) refl refl refl refl refl))
 
 lane_counts-gives_other : (T : List Step) (l q k : ℕ) (ds : List Delivery) → k ≢ l → lane_counts (T ++ gives_of l q ds) k ≡ lane_counts T k
-lane_counts-gives_other T l q k [] other = ap (λ U. lane_counts U k) (append-nil T)
-lane_counts-gives_other T l q k (d ∷ ds) other =
-    ap (λ U. lane_counts U k) (sym (append_assoc T (give_of l q d ∷ []) (gives_of l q ds)))
-    ∙ (lane_counts-gives_other (T ++ give_of l q d ∷ []) l q k ds other ∙ lane_counts-other T (give_of l q d) k (λ e. other (sym (same_Some l k e))))
+lane_counts-gives_other T l q k ds other =
+    unchanged_by_gives lane_counts T l q k ds (λ U d. lane_counts-other U (give_of l q d) k (λ e. other (sym (same_Some l k e))))
+
+pub lanes_beyond : (T : List Step) (l q : ℕ) (ds : List Delivery) (table : List LaneCounts) → AreCounts (lane_counts T) table → length table ≤ l → AreCounts (lane_counts (T ++ gives_of l q ds)) table
+lanes_beyond T l q ds table h beyond =
+    AreCounts-same (lane_counts T) (lane_counts (T ++ gives_of l q ds)) table h (λ k lt. lane_counts-gives_other T l q k ds (λ e. absurd (let same : k ≡ l = e in omega arith)))
 
 pub lanes_there : (T : List Step) (l q : ℕ) (ds : List Delivery) (table : List LaneCounts) (x : LaneCounts) → AreCounts (lane_counts T) table → x ≡ record (lane_counts T l) { tx = (lane_counts T l).tx + length ds }
     → AreCounts (lane_counts (T ++ gives_of l q ds)) (slice_set table l x)
 lanes_there T l q ds table x h is =
     AreCounts-set (lane_counts T) (lane_counts (T ++ gives_of l q ds)) table l x h (is ∙ sym (lane_counts-gives T l q ds)) (λ k other. lane_counts-gives_other T l q k ds other)
-
-pub lanes_beyond : (T : List Step) (l q : ℕ) (ds : List Delivery) (table : List LaneCounts) → AreCounts (lane_counts T) table → length table ≤ l → AreCounts (lane_counts (T ++ gives_of l q ds)) table
-lanes_beyond T l q ds table h beyond =
-    AreCounts-same (lane_counts T) (lane_counts (T ++ gives_of l q ds)) table h (λ k lt. lane_counts-gives_other T l q k ds (λ e. absurd (let same : k ≡ l = e in omega arith)))

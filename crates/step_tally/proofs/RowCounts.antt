@@ -32,6 +32,14 @@ split T s ss = sym (append_assoc T (s ∷ []) ss)
 
 -- ---- NEWs
 
+-- what no single NEW changes, a row of them leaves
+unchanged_by_news : {X : Type 0} (f : List Step → ℕ → X) (l q : ℕ) (rs : List Reply) (T : List Step) (k : ℕ)
+    → ((U : List Step) (r : Reply) → f (U ++ Accept q r.event (New l) ∷ []) k ≡ f U k) → f (T ++ news_steps l q rs) k ≡ f T k
+unchanged_by_news f l q [] T k each = ap (λ U. f U k) (append-nil T)
+unchanged_by_news f l q (r ∷ rs) T k each =
+    ap (λ U. f U k) (split T (Accept q r.event (New l)) (news_steps l q rs))
+    ∙ (unchanged_by_news f l q rs (T ++ Accept q r.event (New l) ∷ []) k each ∙ each T r)
+
 pub news_row : (l q : ℕ) (rs : List Reply) (T : List Step) → queue_row (T ++ news_steps l q rs) q ≡ row_with (queue_row T q) (length rs)
 news_row l q [] T = ap (λ U. queue_row U q) (append-nil T) ∙ ap (λ n. record (queue_row T q) { counts = record (queue_row T q).counts { rx_new = n } }) (sym (add-zero (queue_row T q).counts.rx_new))
 news_row l q (r ∷ rs) T =
@@ -42,11 +50,8 @@ news_row l q (r ∷ rs) T =
     ∙ ap (λ n. record (queue_row T q) { counts = record (queue_row T q).counts { rx_new = n } }) (omega arith)))
 
 pub news_row-other : (l q : ℕ) (rs : List Reply) (T : List Step) (k : ℕ) → k ≢ q → queue_row (T ++ news_steps l q rs) k ≡ queue_row T k
-news_row-other l q [] T k other = ap (λ U. queue_row U k) (append-nil T)
-news_row-other l q (r ∷ rs) T k other =
-    let s = Accept q r.event (New l) in
-    ap (λ U. queue_row U k) (split T s (news_steps l q rs))
-    ∙ (news_row-other l q rs (T ++ s ∷ []) k other ∙ queue_row-other T s k (λ same. other (sym (same_Some q k same))))
+news_row-other l q rs T k other =
+    unchanged_by_news queue_row l q rs T k (λ U r. queue_row-other U (Accept q r.event (New l)) k (λ same. other (sym (same_Some q k same))))
 
 pub news_lane : (l q : ℕ) (rs : List Reply) (T : List Step) → lane_counts (T ++ news_steps l q rs) l ≡ new_with (lane_counts T l) (length rs)
 news_lane l q [] T = ap (λ U. lane_counts U l) (append-nil T) ∙ ap (λ n. record (lane_counts T l) { rx_new = n }) (sym (add-zero (lane_counts T l).rx_new))
@@ -58,11 +63,8 @@ news_lane l q (r ∷ rs) T =
     ∙ ap (λ n. record (lane_counts T l) { rx_new = n }) (omega arith)))
 
 pub news_lane-other : (l q : ℕ) (rs : List Reply) (T : List Step) (k : ℕ) → k ≢ l → lane_counts (T ++ news_steps l q rs) k ≡ lane_counts T k
-news_lane-other l q [] T k other = ap (λ U. lane_counts U k) (append-nil T)
-news_lane-other l q (r ∷ rs) T k other =
-    let s = Accept q r.event (New l) in
-    ap (λ U. lane_counts U k) (split T s (news_steps l q rs))
-    ∙ (news_lane-other l q rs (T ++ s ∷ []) k other ∙ lane_counts-other T s k (λ same. other (sym (same_Some l k same))))
+news_lane-other l q rs T k other =
+    unchanged_by_news lane_counts l q rs T k (λ U r. lane_counts-other U (Accept q r.event (New l)) k (λ same. other (sym (same_Some l k same))))
 
 -- ---- releases
 

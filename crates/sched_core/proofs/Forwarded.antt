@@ -23,7 +23,7 @@ use Rattle.sched_core.specs.Inner.{unplaced}
 use Rattle.sched_core.specs.View.{IsCore, next_in, view_in}
 use Rattle.sched_core.specs.declared.state.Core.TheInside.{Inside}
 use Rattle.sched_core.specs.Rows.{HasRoomFor, IsFor, IsForwardTo, IsLike, IsRelease, LeaveInTurn, LeavesAlone, after_waiting, row_of}
-use Rattle.step_log.specs.Rows.{AreTo, forward_steps, news_steps, release_steps}
+use Rattle.step_log.specs.Rows.{AreTo, forward_steps, release_steps}
 use Rattle.transcripts.specs.Replies.{new_count, turned_count}
 use Rattle.transcripts.specs.Standing.{View, accepts_of, after, after_accept, after_done, entries_of, inside_of, kept_in, may_answer, may_take_by, next_at, oldest_at, places_after, steps_by, steps_of, unanswered_at}
 use Rattle.transcripts.specs.Sweep.{MayBeTaken, replies_steps}
@@ -193,8 +193,14 @@ forwards_none is l q [] rs done accepts = refl
 forwards_none is l q (n ∷ ns) [] done accepts = refl
 forwards_none is l q (n ∷ ns) (r ∷ rs) done accepts =
     let accepted : Step = Accept r.event.queue r.event (Of q n) in
-    omega (arith, sum_by-cons (λ (s : Step). cond (is s) 1 0) (Done l (Forwarded r.event)) (accepted ∷ forward_steps l q ns rs), sum_by-cons (λ (s : Step). cond (is s) 1 0) accepted (forward_steps l q ns rs),
-    ap {B = ℕ} (λ b. cond b 1 0) (done r.event), ap {B = ℕ} (λ b. cond b 1 0) (accepts r.event n), forwards_none is l q ns rs done accepts)
+    omega (
+      arith,
+      sum_by-cons (λ (s : Step). cond (is s) 1 0) (Done l (Forwarded r.event)) (accepted ∷ forward_steps l q ns rs),
+      sum_by-cons (λ (s : Step). cond (is s) 1 0) accepted (forward_steps l q ns rs),
+      ap {B = ℕ} (λ b. cond b 1 0) (done r.event),
+      ap {B = ℕ} (λ b. cond b 1 0) (accepts r.event n),
+      forwards_none is l q ns rs done accepts,
+    )
 
 forwards_new : (l q : ℕ) (ns : List ℕ) (rs : List Reply) → new_count (forward_steps l q ns rs) ≡ 0
 forwards_new l q ns rs = forwards_none is_new l q ns rs (λ e. refl) (λ e n. refl)

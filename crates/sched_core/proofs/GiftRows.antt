@@ -12,9 +12,7 @@ use Rattle.evt_types.specs.declared.event.Event.{Event}
 use Rattle.evt_types.specs.declared.event.Delivery.{Delivery}
 use Rattle.evt_types.specs.declared.event.Numbered.{Numbered}
 use Rattle.evt_types.specs.declared.step.Step.TheVariants.{Give}
-use Rattle.order_parts.proofs.Roomy.{lane_is}
-use Rattle.order_parts.specs.Histories.{lane_in}
-use Rattle.order_parts.specs.History.{Entries, entries_of}
+use Rattle.order_parts.specs.History.{Entries}
 use Rattle.order_parts.specs.Orders.{handed, is_restoring, order_at}
 use Rattle.order_parts.specs.Pins.{Pin, may_pin}
 use Rattle.order_parts.specs.QueuePins.{pin_in}
@@ -26,7 +24,7 @@ use Rattle.parked_queue.specs.Lists.{named_delivery}
 use Rattle.parked_queue.specs.Rows.{at_level, is_at, without_all}
 use Rattle.parked_queue.specs.Waits.{AreNamed, IsOnlyOf, Waits, no_waits, waits_at, without_number}
 use Rattle.sched_core.proofs.Busy.{waits_is}
-use Rattle.sched_core.proofs.Cores.{only_event, queue_here, queue_there, waiting_here, waits_here}
+use Rattle.sched_core.proofs.Cores.{only_event, queue_here, queue_there, waiting_here}
 use Rattle.sched_core.proofs.FirstOnes.{found_first, found_slot, slots_within}
 use Rattle.sched_core.proofs.Giving.{given_out}
 use Rattle.sched_core.proofs.News.{slots_range}

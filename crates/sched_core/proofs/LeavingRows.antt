@@ -1,51 +1,35 @@
 -- A row of the lane's oldest events that leaves its queue: as the code finds it, and the core that it leaves.
-use Rattle.std.proofs.Common.{◌≡◌, ◌≢◌, ◌⊎◌, inl, inr, ⊎_elim, ℕ, zero, suc, ◌+◌, ◌-◌, ◌<◌, ◌≤◌, ◌^◌, Bool, true, false, List, [], ◌∷◌, ◌++◌, All, None, Some, Vec, Global, ap, append-nil, arith, drop, flat_map, length, map, refl, set, get_or, slice_get, slice_index, subst, sum_by, sym, take, ◌∙◌}
-use Rattle.std.specs.Vec.{with_item, with_items}
-use Rattle.std.proofs.lemmas.Bool.{cases_Bool, cases_lt, cond-false, cond-true}
-use Rattle.std.proofs.lemmas.List.{drop-drop, get_or_read, get_or-set_same, length-set, length-take, length-take-le, map-set, set-get_or, take-append-drop, take-map, with_items_is}
-use Rattle.std.proofs.lemmas.List.Elements.{All-head, All-nil, All-tail}
-use Rattle.std.proofs.lemmas.Option.{none-some, same_Some, slice_get-get_or, slice_get_within}
-use Rattle.std.proofs.Math.Seq.{set-set}
-use Rattle.lists.proofs.Lists.{and-false}
-use Rattle.lists.proofs.Writes.{slice_get-drop_one}
-use Rattle.evt_types.specs.Place.{Place}
-use Rattle.evt_types.specs.Plan.{Plan, bound_of, is_ordered, kept_room, lanes_of, queue_of}
-use Rattle.evt_types.specs.declared.event.Reply.{Reply}
-use Rattle.evt_types.specs.declared.step.Outcome.{Outcome}
-use Rattle.evt_types.specs.declared.step.Outcome.TheVariants.{Released}
-use Rattle.evt_types.specs.declared.step.Step.{Step}
+use Rattle.std.proofs.Common.{◌≡◌, ◌⊎◌, inl, inr, ℕ, zero, suc, ◌+◌, ◌-◌, ◌<◌, ◌≤◌, ◌^◌, Bool, true, false, List, [], ◌∷◌, All, Some, Vec, Global, ap, arith, drop, length, map, refl, set, get_or, slice_get, slice_index, subst, sym, take, ◌∙◌}
+use Rattle.std.proofs.lemmas.Bool.{cases_lt}
+use Rattle.std.proofs.lemmas.List.{length-take-le, set-get_or, take-append-drop, take-map}
+use Rattle.std.proofs.lemmas.Option.{none-some, slice_get-get_or, slice_get_within}
+use Rattle.evt_types.specs.Plan.{is_ordered, kept_room, lanes_of, queue_of}
 use Rattle.order_parts.proofs.Roomy.{lane_is}
 use Rattle.order_parts.specs.Histories.{lane_in}
 use Rattle.order_parts.specs.History as histories
 use Rattle.order_parts.specs.History.{Entries}
 use Rattle.order_parts.specs.InTurn.{AreInTurn}
-use Rattle.order_parts.specs.Orders.{is_restoring, left_in, order_at, resolved_in}
-use Rattle.order_parts.specs.Pins.{Pin, unpinned}
-use Rattle.order_parts.specs.QueuePins.{pin_in, pins_at, with_pin}
-use Rattle.order_parts.specs.Reorder.{Reordering, after_leave, after_resolve, empty, is_done, number_of, oldest_answered, resolved, without_first, without_oldest}
-use Rattle.order_parts.specs.Unpinned.{AreHeldInTurn, IsOfQueue, without_entries, without_entry}
+use Rattle.order_parts.specs.Orders.{is_restoring, left_in, order_at}
+use Rattle.order_parts.specs.Pins.{Pin}
+use Rattle.order_parts.specs.QueuePins.{pins_at}
+use Rattle.order_parts.specs.Reorder.{Reordering, is_done, number_of}
+use Rattle.order_parts.specs.Unpinned.{IsOfQueue, without_entries}
 use Rattle.order_parts.specs.declared.history.Entry.{Entry}
 use Rattle.parked_queue.specs.Waits.{waits_at}
-use Rattle.sched_core.proofs.Answering.{core_answers, entries_here, lanes_answered, oldest_entry, oldest_first, oldest_order, oldest_queue, resolved_orders, restores_here, some_inside}
-use Rattle.sched_core.proofs.AtFront.{bare, gone, index_at, kept_rest, leaves_now, leaving_one, next_none, staying_rest, waits_at_index}
-use Rattle.sched_core.proofs.Cores.{core_with, in_view, kept_after, lane_there, places_here, queue_there, queues_here, same_parts, unanswered_here}
+use Rattle.sched_core.proofs.Answering.{entries_here, restores_here}
+use Rattle.sched_core.proofs.AtFront.{index_at, waits_at_index}
+use Rattle.sched_core.proofs.Cores.{lane_there, queue_there}
 use Rattle.sched_core.proofs.Forwarded.{leave_kept}
-use Rattle.sched_core.proofs.Leaving.{core_left, left_orders, with_orders}
-use Rattle.sched_core.proofs.OpenLanes.{held_here}
-use Rattle.sched_core.proofs.Pinned.{oldest_known, oldest_pinned, pins_answered}
-use Rattle.sched_core.proofs.PlaceNumbers.{counted_on}
 use Rattle.sched_core.proofs.Released.{AreAtFront, HasReleased, held_few, released, unanswered_are, without}
 use Rattle.sched_core.specs.Inner.{unplaced}
 use Rattle.sched_core.specs.OpenSlots.{IsOpened}
-use Rattle.sched_core.specs.Ordered.{ArePlaces, IsOrder, StandsIn, added_beside, entry_at, kept_of, places_in}
-use Rattle.sched_core.specs.Pinned.{ArePins, entries_at}
-use Rattle.sched_core.specs.Rows.{LeaveInTurn, LeavesAlone}
-use Rattle.sched_core.specs.View.{IsCore, entries_in, next_in, unanswered_in, view_in, waiting_in}
+use Rattle.sched_core.specs.Ordered.{StandsIn, added_beside, entry_at}
+use Rattle.sched_core.specs.Rows.{LeaveInTurn}
+use Rattle.sched_core.specs.View.{IsCore, entries_in, view_in}
 use Rattle.sched_core.specs.declared.state.Core.TheInside.{Inside}
 use Rattle.small_set.specs.declared.set.SmallSet.{SmallSet}
 use Rattle.step_log.specs.Rows.{release_steps}
-use Rattle.transcripts.specs.Standing.{View, accepts_from, accepts_of, after, after_done, answer_place, answered_places, entries_of, events_of, inside_of, kept_in, leaving, oldest_at, places_after, staying, unanswered_at}
-use Rattle.transcripts.specs.Transcript.{Held}
+use Rattle.transcripts.specs.Standing.{View, after, entries_of, inside_of, kept_in, unanswered_at}
 
 -- ---- the front, as the code sees it
 

@@ -139,12 +139,15 @@ offer_made v s q c l w y lane queue event offer = (queue, subst (λ k. IsOfferIn
 pub offer_first : (v : View) (s : Passed) (q c : ℕ) (left : SmallSet) (o : Option Offer) → IsFirst left c → HasNoneBeside v s q left → IfSome o (IsOfferAt v s q c) → IfSome o (IsOfferFrom v s q)
 offer_first v s q c left None least none offer = tt
 offer_first v s q c left (Some y) least none offer =
-    let this = offer.1 in (offer.0, record {
-      waits = this.waits;
-      fits = this.fits;
-      best = this.best;
-      first = not_earlier v s q c y.lane (numbered_in y.delivery) this (λ u m waits under. none (level_of u.event) (λ has. let le = least.first (level_of u.event) has in omega arith) u waits refl m);
-    })
+    let this = offer.1 in (
+      offer.0,
+      record {
+        waits = this.waits;
+        fits = this.fits;
+        best = this.best;
+        first = not_earlier v s q c y.lane (numbered_in y.delivery) this (λ u m waits under. none (level_of u.event) (λ has. let le = least.first (level_of u.event) has in omega arith) u waits refl m);
+      },
+    )
 
 -- ---- the queue
 

@@ -1,10 +1,10 @@
 -- Events that a lane answers one after the other, each of which leaves its queue at once.
-use Rattle.std.proofs.Common.{◌≡◌, ◌≢◌, ◌⊎◌, inl, inr, ⊎_elim, ℕ, zero, suc, ◌+◌, ◌-◌, ◌<◌, ◌≤◌, ◌^◌, Bool, true, false, List, [], ◌∷◌, ◌++◌, All, None, Some, Vec, Global, ap, append-nil, arith, drop, flat_map, length, map, refl, set, get_or, slice_get, slice_index, subst, sum_by, sym, take, ◌∙◌}
+use Rattle.std.proofs.Common.{◌≡◌, ◌≢◌, ◌⊎◌, ⊎_elim, ℕ, zero, suc, ◌+◌, ◌-◌, ◌<◌, ◌≤◌, Bool, true, false, List, [], ◌∷◌, ◌++◌, All, None, Some, Vec, Global, ap, append-nil, arith, drop, flat_map, length, map, refl, set, get_or, slice_get, slice_index, subst, sum_by, sym, take, ◌∙◌}
 use Rattle.std.specs.Vec.{with_item, with_items}
-use Rattle.std.proofs.lemmas.Bool.{cases_Bool, cases_lt, cond-false, cond-true}
-use Rattle.std.proofs.lemmas.List.{drop-drop, get_or_read, get_or-set_same, length-set, length-take, length-take-le, map-set, set-get_or, take-append-drop, take-map, with_items_is}
+use Rattle.std.proofs.lemmas.Bool.{cases_Bool, cond-false, cond-true}
+use Rattle.std.proofs.lemmas.List.{drop-drop, get_or_read, get_or-set_same, length-set, length-take, map-set, set-get_or, with_items_is}
 use Rattle.std.proofs.lemmas.List.Elements.{All-head, All-nil, All-tail}
-use Rattle.std.proofs.lemmas.Option.{none-some, same_Some, slice_get-get_or, slice_get_within}
+use Rattle.std.proofs.lemmas.Option.{none-some, same_Some}
 use Rattle.std.proofs.Math.Seq.{set-set}
 use Rattle.lists.proofs.Lists.{and-false}
 use Rattle.lists.proofs.Writes.{slice_get-drop_one}
@@ -27,9 +27,8 @@ use Rattle.order_parts.specs.Unpinned.{AreHeldInTurn, IsOfQueue, without_entries
 use Rattle.order_parts.specs.declared.history.Entry.{Entry}
 use Rattle.parked_queue.specs.Waits.{waits_at}
 use Rattle.sched_core.proofs.Answering.{core_answers, entries_here, lanes_answered, oldest_entry, oldest_first, oldest_order, oldest_queue, resolved_orders, restores_here, some_inside}
-use Rattle.sched_core.proofs.AtFront.{bare, gone, index_at, kept_rest, leaves_now, leaving_one, next_none, staying_rest, waits_at_index}
+use Rattle.sched_core.proofs.AtFront.{bare, gone, kept_rest, leaves_now, leaving_one, next_none, staying_rest, waits_at_index}
 use Rattle.sched_core.proofs.Cores.{core_with, in_view, kept_after, lane_there, places_here, queues_here, same_parts, unanswered_here}
-use Rattle.sched_core.proofs.Forwarded.{leave_kept}
 use Rattle.sched_core.proofs.Leaving.{core_left, left_orders, with_orders}
 use Rattle.sched_core.proofs.OpenLanes.{held_here}
 use Rattle.sched_core.proofs.Pinned.{oldest_known, oldest_pinned, pins_answered}

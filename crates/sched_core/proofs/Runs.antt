@@ -1,6 +1,6 @@
 -- A run of gifts: what a gift leaves of the choice, and the choices one after another.
-use Rattle.std.proofs.Common.{◌≡◌, ◌≢◌, ℕ, ◌<◌, ◌≤◌, ◌+◌, ◌-◌, drop, take, Bool, true, false, cond, not, nat_lt, ◌&&◌, ◌||◌, ◌==◌, List, [], ◌∷◌, ◌++◌, length, filter, set, get_or, All, Contains, inl, inr, ⊎_elim, refl, sym, ap, ◌∙◌, subst, append_assoc, append-nil, arith, eqb-true}
-use Rattle.std.proofs.lemmas.Bool.{and_parts, or_cases, cases_eq, false≢true, false_from_ne_true, ltb-true, lt-ltb}
+use Rattle.std.proofs.Common.{◌≡◌, ◌≢◌, ℕ, ◌<◌, ◌≤◌, ◌+◌, ◌-◌, drop, take, Bool, true, false, cond, not, nat_lt, ◌&&◌, ◌||◌, ◌==◌, List, [], ◌∷◌, ◌++◌, length, filter, set, get_or, All, Contains, inl, inr, ⊎_elim, refl, sym, ap, ◌∙◌, subst, append_assoc, append-nil, arith}
+use Rattle.std.proofs.lemmas.Bool.{cases_eq, false≢true, lt-ltb}
 use Rattle.std.proofs.lemmas.Grind.{get_or-set_at}
 use Rattle.std.proofs.lemmas.List.{get_or-set_other, get_or-set_same, length-append, length-drop, length_push, map-append, map_push, set-get_or, set-set, take_all}
 use Rattle.std.proofs.Math.Seq.{drop-append_seam}
@@ -20,7 +20,7 @@ use Rattle.sched_core.specs.Runs.{AreChoices, AreGiven, GoesOn, IsSteady, HasTur
 use Rattle.small_set.specs.declared.set.SmallSet.{SmallSet}
 use Rattle.step_log.specs.Gives.{gives_of}
 use Rattle.transcripts.proofs.WholeStands.{stands_give}
-use Rattle.transcripts.specs.Choice.{Passed, Fits, HasNoOther, HasNone, HasQuota, IsChoice, IsOffer, IsServedBefore, WaitsIn, is_earlier}
+use Rattle.transcripts.specs.Choice.{Passed, Fits, HasNoOther, HasNone, HasQuota, IsChoice, IsOffer, IsServedBefore, WaitsIn}
 use Rattle.transcripts.specs.Standing.{View, Stands, after, after_give, event_in, places_at, slot_in, unanswered_at, waiting_at}
 use Rattle.transcripts.specs.Transcript.{Held}
 

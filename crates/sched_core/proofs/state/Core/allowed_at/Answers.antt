@@ -1,5 +1,4 @@
-use Rattle.std.proofs.Common.{subst, arith}
-use Rattle.evt_types.specs.Fault.{IsWithinLimits}
+use Rattle.std.proofs.Common.{arith}
 use Rattle.transcripts.specs.Standing.{View}
 use Rattle.sched_core.proofs.News.{slots_range}
 use Rattle.sched_core.proofs.Offers.{all_allowed}

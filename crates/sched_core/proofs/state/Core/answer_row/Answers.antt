@@ -1,5 +1,4 @@
-use Rattle.std.proofs.Common.{◌≡◌, ◌-◌, ◌<◌, ◌≤◌, true, arith, length, slice_index, take}
-use Rattle.evt_types.specs.Plan.{is_ordered, queue_of}
+use Rattle.std.proofs.Common.{◌≡◌, ◌-◌, ◌<◌, ◌≤◌, arith, length, slice_index}
 use Rattle.order_parts.specs.Histories.{lane_in}
 use Rattle.std.proofs.lemmas.List.{length-take}
 use Rattle.std.specs.Vec.{with_items}

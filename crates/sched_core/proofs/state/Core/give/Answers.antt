@@ -1,10 +1,9 @@
-use Rattle.std.proofs.Common.{◌%◌, ◌++◌, ◌∷◌, [], subst, sym, ap, ◌∙◌}
+use Rattle.std.proofs.Common.{◌++◌, ◌∷◌, [], subst, sym, ap, ◌∙◌}
 use Rattle.evt_types.specs.declared.step.Step.{Step}
 use Rattle.evt_types.specs.declared.step.Step.TheVariants.{Give}
 use Rattle.sched_core.proofs.FirstOnes.{slot_of_flow}
 use Rattle.sched_core.proofs.Runs.{gift_is}
-use Rattle.sched_core.specs.Offered.{numbered_in, slot_at}
-use Rattle.parked_queue.specs.Waits.{waits_at}
+use Rattle.sched_core.specs.Offered.{numbered_in}
 use Rattle.transcripts.proofs.WholeStands.{stands_give, offer_is_accepted}
 use Rattle.transcripts.specs.Standing.{Stands, after}
 use Rattle.sched_core.proofs.state.Core.give.Goals as goal

@@ -1,13 +1,10 @@
-use Rattle.std.proofs.Common.{ℕ, List, Option, Some, None, [], ◌∷◌, ◌++◌, ◌<◌, ◌%◌, ◌∙◌, ap, refl, slice_index, subst, sym}
+use Rattle.std.proofs.Common.{ℕ, List, Option, Some, None, [], ◌∷◌, ◌++◌, ◌<◌, ◌∙◌, ap, refl, slice_index, subst, sym}
 use Rattle.std.proofs.lemmas.Bool.{ltb-true}
 use Rattle.std.specs.Option.{IfSome}
-use Rattle.evt_types.specs.Plan.{level_of}
-use Rattle.evt_types.specs.declared.event.Numbered.{Numbered}
-use Rattle.parked_queue.specs.Waits.{waits_at}
 use Rattle.sched_core.proofs.FirstOnes.{slot_of_flow}
-use Rattle.sched_core.proofs.Offers.{IsOfferAt, choice_is_offer}
+use Rattle.sched_core.proofs.Offers.{IsOfferAt}
 use Rattle.sched_core.proofs.Runs.{choices_stand, made_in_turn, offer_given, run_first, turn_given}
-use Rattle.sched_core.specs.Offered.{numbered_in, slot_at}
+use Rattle.sched_core.specs.Offered.{numbered_in}
 use Rattle.sched_core.specs.Runs.{HasTurn, gifts_of}
 use Rattle.sched_core.specs.declared.offer.Offer.{Offer}
 use Rattle.evt_types.specs.declared.step.Step.{Step}

@@ -1,15 +1,14 @@
-use Rattle.std.proofs.Common.{◌≡◌, ℕ, List, [], ◌∷◌, ◌++◌, ◌<◌, ◌%◌, ◌∙◌, ap, arith, length, refl, slice_index, subst, sym}
+use Rattle.std.proofs.Common.{◌≡◌, ℕ, List, [], ◌∷◌, ◌++◌, ◌<◌, ◌∙◌, ap, arith, length, slice_index, subst, sym}
 use Rattle.evt_types.proofs.FlowLanes.{port_is_lane}
 use Rattle.evt_types.specs.Plan.{Plan, has_flow_lanes, lanes_of, level_of}
 use Rattle.evt_types.specs.declared.event.Delivery.{Delivery}
 use Rattle.evt_types.specs.declared.event.Numbered.{Numbered}
 use Rattle.evt_types.specs.declared.step.Step.{Step}
 use Rattle.evt_types.specs.declared.step.Step.TheVariants.{Give}
-use Rattle.parked_queue.specs.Waits.{waits_at}
 use Rattle.sched_core.proofs.FirstOnes.{slot_of_flow}
 use Rattle.sched_core.proofs.Offers.{choice_is_offer}
 use Rattle.sched_core.proofs.Runs.{choices_stand, gift_is, offer_given, room_given, run_first, turn_given}
-use Rattle.sched_core.specs.Offered.{numbered_in, slot_at}
+use Rattle.sched_core.specs.Offered.{numbered_in}
 use Rattle.sched_core.specs.Runs.{AreChoices, HasTurn, gifts_of}
 use Rattle.transcripts.specs.Choice.{Passed}
 use Rattle.transcripts.specs.Standing.{View}

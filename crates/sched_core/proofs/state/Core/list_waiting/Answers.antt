@@ -1,4 +1,4 @@
-use Rattle.std.proofs.Common.{◌<◌, ◌++◌, length, subst, sym, ap, ◌∙◌, arith, map}
+use Rattle.std.proofs.Common.{◌<◌, ◌++◌, length, sym, ap, ◌∙◌, arith, map}
 use Rattle.transcripts.specs.Standing.{View, waiting_at}
 use Rattle.transcripts.proofs.WholeStands.{waiting_is}
 use Rattle.sched_core.proofs.Cores.{queue_there, waiting_here}

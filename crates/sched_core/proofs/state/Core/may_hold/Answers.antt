@@ -1,4 +1,4 @@
-use Rattle.std.proofs.Common.{◌≡◌, ◌<◌, ◌↔◌, true, length, map, IsTrue, sym, ◌∙◌, subst}
+use Rattle.std.proofs.Common.{◌≡◌, ◌↔◌, true, map, IsTrue, sym, ◌∙◌, subst}
 use Rattle.transcripts.specs.Choice.{HasNoOther}
 use Rattle.evt_types.specs.Plan.{queue_of, is_atomic}
 use Rattle.transcripts.specs.Standing.{View}

@@ -1,5 +1,4 @@
-use Rattle.std.proofs.Common.{Some, subst, arith}
-use Rattle.evt_types.specs.Fault.{IsWithinLimits}
+use Rattle.std.proofs.Common.{Some, arith}
 use Rattle.sched_core.proofs.FirstOnes.{found_first, found_slot, slots_within}
 use Rattle.sched_core.proofs.News.{slots_range}
 use Rattle.sched_core.proofs.Offers.{all_allowed, offer_in}

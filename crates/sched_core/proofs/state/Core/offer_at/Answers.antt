@@ -1,6 +1,5 @@
 use Rattle.std.proofs.Common.{◌<◌, slice_index, sym, ◌∙◌, subst, ap, arith}
 use Rattle.std.proofs.lemmas.Bool.{ltb-true}
-use Rattle.evt_types.specs.Fault.{IsWithinLimits}
 use Rattle.transcripts.specs.Standing.{View}
 use Rattle.sched_core.proofs.FirstOnes.{found_first, found_slot, slots_within}
 use Rattle.sched_core.proofs.News.{slots_range}

@@ -1,5 +1,4 @@
-use Rattle.std.proofs.Common.{subst, ◌∙◌, arith}
-use Rattle.evt_types.specs.Fault.{IsWithinLimits}
+use Rattle.std.proofs.Common.{◌∙◌, arith}
 use Rattle.transcripts.specs.Standing.{View}
 use Rattle.sched_core.proofs.FirstOnes.{found_first, found_slot, slots_within}
 use Rattle.sched_core.proofs.Offers.{offer_in, offer_made}

@@ -1,6 +1,5 @@
 use Rattle.std.proofs.Common.{◌≡◌, ◌<◌, length, Some, sym, ◌∙◌, subst}
 use Rattle.std.specs.Option.{IfSome}
-use Rattle.evt_types.specs.Fault.{IsWithinLimits}
 use Rattle.transcripts.specs.Choice.{HasNone}
 use Rattle.transcripts.specs.Standing.{View}
 use Rattle.parked_queue.specs.LevelSets.{members}

@@ -1,6 +1,5 @@
 use Rattle.std.proofs.Common.{◌≡◌, ◌<◌, ◌∙◌, length, subst, sym}
 use Rattle.std.specs.Option.{IfNone, IfSome}
-use Rattle.evt_types.specs.Fault.{IsWithinLimits}
 use Rattle.transcripts.specs.Standing.{View}
 use Rattle.sched_core.proofs.FirstOnes.{found_none, slots_within}
 use Rattle.sched_core.proofs.Offers.{none_in, some_here}

@@ -1,7 +1,6 @@
 use Rattle.std.proofs.Common.{◌≡◌, ◌<◌, length, slice_index, refl, sym, ap, ◌∙◌, subst, arith}
 use Rattle.std.proofs.lemmas.Bool.{false≢true, lt-ltb, ltb-true}
 use Rattle.std.specs.Option.{IfSome}
-use Rattle.evt_types.specs.Fault.{IsWithinLimits}
 use Rattle.transcripts.specs.Standing.{View}
 use Rattle.transcripts.specs.Choice.{HasNoChoice, HasNone}
 use Rattle.sched_core.proofs.Offers.{IsOfferFrom, busy_queues, idle_queues, none_here, offer_keeps, offers, others_there, queue_passed, served_offer, some_here}

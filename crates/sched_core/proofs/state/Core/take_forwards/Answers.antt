@@ -1,6 +1,5 @@
-use Rattle.std.proofs.Common.{rules, ◌≡◌, ℕ, ◌+◌, ◌<◌, ◌≤◌, ◌^◌, List, ◌++◌, ap, arith, length, map, refl, sym, take, ◌∙◌}
+use Rattle.std.proofs.Common.{rules, ◌≡◌, ◌+◌, ◌<◌, ◌≤◌, List, ◌++◌, ap, arith, length, map, refl, sym, take, ◌∙◌}
 use Rattle.std.proofs.lemmas.List.{length-map, length-take, length-take-le}
-use Rattle.evt_types.specs.declared.event.Reply.{Reply}
 use Rattle.order_parts.specs.Histories.{lane_in}
 use Rattle.step_log.specs.Rows.{forward_steps}
 use Rattle.sched_core.proofs.Answering.{oldest_first}
@@ -8,7 +7,7 @@ use Rattle.sched_core.proofs.Forwarded.{all_to, first_count, first_like, next_th
 use Rattle.sched_core.proofs.Released.{bounded, replies_held, unanswered_are}
 use Rattle.sched_core.proofs.Rows.{IsRowTaken}
 use Rattle.sched_core.specs.Inner.{unplaced}
-use Rattle.transcripts.specs.Standing.{entries_of, kept_in, unanswered_at}
+use Rattle.transcripts.specs.Standing.{kept_in, unanswered_at}
 use Rattle.transcripts.specs.Transcript.{Held}
 use Rattle.sched_core.proofs.state.Core.take_forwards.Given as given
 use Rattle.sched_core.proofs.state.Core.take_forwards.Goals as goal

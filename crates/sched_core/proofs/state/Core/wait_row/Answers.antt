@@ -3,7 +3,7 @@ use Rattle.evt_types.specs.Plan.{level_of}
 use Rattle.evt_types.specs.declared.event.Reply.{Reply}
 use Rattle.std.proofs.lemmas.List.Elements.{All-weaker}
 use Rattle.parked_queue.specs.Waits.{waits_at}
-use Rattle.transcripts.specs.Standing.{View, entries_of}
+use Rattle.transcripts.specs.Standing.{entries_of}
 use Rattle.sched_core.proofs.Busy.{waits_is}
 use Rattle.sched_core.proofs.Cores.{fits_number, queue_there}
 use Rattle.sched_core.proofs.Rows.{HasTaken, waits_taken}

@@ -132,14 +132,4 @@ returns-clause-own_first c =
 pub returns-clause-drained_flows : goal.returns-clause-drained_flows
 returns-clause-drained_flows c few room =
     c.receive_flows.ensures.drained
-    (omega (
-      arith,
-      few,
-      room,
-      c.min-most.ensures,
-      c.capacity.ensures.capacity,
-      c.len.ensures.len,
-      c.note.ensures.room,
-      ap (λ (p : LanesSite). p.depth) c.receive_flows.ensures.site,
-      arrives_length _ (hand_of c.args.self.now) (hand_of c.receive_flows.new.self) _ (both c),
-    ))
+    (omega (arith, few, room, c.min-most.ensures, c.capacity.ensures.capacity, c.len.ensures.len, c.note.ensures.room, ap (λ (p : LanesSite). p.depth) c.receive_flows.ensures.site, arrives_length _ (hand_of c.args.self.now) (hand_of c.receive_flows.new.self) _ (both c)))

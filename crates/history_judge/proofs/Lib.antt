@@ -1,0 +1,4 @@
+pub mod Fits
+pub mod Held
+pub mod Impossible
+pub mod Moments

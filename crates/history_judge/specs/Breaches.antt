@@ -1,0 +1,52 @@
+-- What no run of a device of the shape fits.
+use Rattle.std.specs.Prelude.{ℕ, ◌≡◌, ◌≢◌, ◌<◌, true, false, ◌&&◌, Bool, List, nat_lt, length, Option, Some, None, slice_get}
+use Rattle.evt_types.specs.Plan.{Plan, queue_of, is_atomic, serves, slot_of}
+use Rattle.evt_types.specs.declared.event.Event.{Event}
+use Rattle.history_judge.specs.Histories.{IsHeldAt}
+use Rattle.history_judge.specs.declared.breach.Breach.{Breach}
+use Rattle.history_judge.specs.declared.breach.Breach.TheVariants.{Unlinked, Together}
+use Rattle.history_judge.specs.declared.seen.Deed.TheVariants.{Got}
+use Rattle.history_judge.specs.declared.seen.Seen.{Seen}
+
+-- whether the event's queue is there, and the lane serves its slot
+abbrev pub may_get : Plan → ℕ → Event → Bool
+may_get p l e = nat_lt e.queue (length p.queues) && serves p l e.queue (slot_of p e.queue e.flow)
+
+-- the port got an event that its lane isn't given
+pub record IsUnlinked (p : Plan) (hs : List Seen) (i : ℕ) : Type 0 where
+  pub seen : Seen
+  pub entry : slice_get hs i ≡ Some seen
+  pub event : Event
+  pub got : seen.deed ≡ Got event
+  pub refused : may_get p seen.port event ≡ false
+
+-- the two events are of one slot of an atomic queue
+pub record AreOfOneSlot (p : Plan) (e f : Event) : Type 0 where
+  pub atomic : is_atomic (queue_of p e.queue).kind ≡ true
+  pub queue : e.queue ≡ f.queue
+  pub slot : slot_of p e.queue e.flow ≡ slot_of p f.queue f.flow
+
+-- at one time two ports hold events of one slot of an atomic queue
+pub record IsTogether (p : Plan) (hs : List Seen) (i j : ℕ) : Type 0 where
+  pub time : ℕ
+  pub one : Seen
+  pub other : Seen
+  pub one_held : IsHeldAt hs i time one
+  pub other_held : IsHeldAt hs j time other
+  pub one_port : one.port < length p.ports
+  pub other_port : other.port < length p.ports
+  pub apart : one.port ≢ other.port
+  pub one_event : Event
+  pub other_event : Event
+  pub one_got : one.deed ≡ Got one_event
+  pub other_got : other.deed ≡ Got other_event
+  pub same : AreOfOneSlot p one_event other_event
+
+abbrev pub IsBreach : Plan → List Seen → Breach → Type 0
+IsBreach p hs (Unlinked i) = IsUnlinked p hs i
+IsBreach p hs (Together i j) = IsTogether p hs i j
+
+-- what is answered: a breach that it has, or that it has none
+abbrev pub IsAnswer : Plan → List Seen → Option Breach → Type 0
+IsAnswer p hs None = (b : Breach) → ¬ IsBreach p hs b
+IsAnswer p hs (Some b) = IsBreach p hs b

@@ -1,0 +1,10 @@
+//! What no device can have done.
+
+/// Why no run of a device fits what was seen; entries are named by their places in it.
+#[derive(Clone, Copy, Debug, PartialEq, Eq)]
+pub enum Breach {
+    /// A port got an event of a queue that isn't there, or of one that it isn't linked to.
+    Unlinked { at: usize },
+    /// Two ports held events of one slot of an atomic queue at the same time.
+    Together { at: usize, other: usize },
+}

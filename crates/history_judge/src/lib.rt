@@ -1,0 +1,11 @@
+//! Judges what an application sees of any event device: for each port its enqueues and dequeues, an entry for each event, with the
+//! times before and after the call. What it calls broken is broken in every run of a device that fits what was seen.
+#![tactic(auto)]
+
+mod breach;
+mod laws;
+mod seen;
+
+pub use breach::Breach;
+pub use laws::breaches_are_impossible;
+pub use seen::{Deed, Seen};

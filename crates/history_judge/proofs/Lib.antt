@@ -1,4 +1,10 @@
+pub mod AnswerTimes
 pub mod Fits
+pub mod Followed
 pub mod Held
+pub mod Holdings
 pub mod Impossible
+pub mod InOrder
 pub mod Moments
+pub mod RisingTimes
+pub mod Watched

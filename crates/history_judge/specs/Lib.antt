@@ -1,2 +1,5 @@
 pub mod Breaches
+pub mod Entries
 pub mod Histories
+pub mod Holds
+pub mod Watching

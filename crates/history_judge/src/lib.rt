@@ -3,9 +3,17 @@
 #![tactic(auto)]
 
 mod breach;
+mod entries;
+mod fault;
+mod holds;
+mod judging;
 mod laws;
 mod seen;
+mod times;
+mod watch;
 
 pub use breach::Breach;
+pub use fault::HistoryFault;
+pub use judging::judge_history;
 pub use laws::breaches_are_impossible;
 pub use seen::{Deed, Seen};

@@ -2,8 +2,8 @@
 # SPDX-License-Identifier: BSD-3-Clause
 """Says how many devices (evsched_shards.h) and machines a load wants, from what was measured of one device and how the load falls on flows.
 
-    scale_model.py plan LOAD FLOWS --device RATE --worker RATE --flow RATE [--half RATE] [--keeps SHARE] [--processors N] [--others N]
-                                   [--full SHARE]
+    scale_model.py plan LOAD FLOWS --device RATE --worker RATE --flow RATE [--half RATE] [--keeps SHARE] [--serves own|all]
+                                   [--processors N] [--others N] [--full SHARE]
     scale_model.py check TABLE
 
 All rates and the load are events a second. `plan` prints, device by device, what they pass, and what is wanted:
@@ -14,7 +14,8 @@ All rates and the load are events a second. `plan` prints, device by device, wha
     --flow       what it passes where all events are of one flow of an atomic queue, with as many workers
     --half       what it passes where one flow has half of them: by default what lies between the two
     --worker     what one worker passes, with what it does with an event
-    --keeps      what share of its rate a device keeps where NEWs are dealt to several, and these run on the same machine: 1 by default
+    --keeps      what share of its rate a device keeps where NEWs are dealt evenly to several on the same machine: 1 by default
+    --serves     whether each device has workers of its own, or each worker serves all
     --processors of a machine, 16 by default, and --others of these that do something else, 0 by default
     --full       how full a processor may be, 0.7 by default
 
@@ -94,18 +95,29 @@ class Device:
         return 1 / (before + (behind - before) * (hottest - low) / (high - low))
 
 
-def passed(flows, devices, device, keeps):
-    """What so many devices pass: the one whose share costs most is full first. Where others have a part of the load it keeps so much."""
+def kept(costs, at, keeps, serves, each):
+    """What share of its rate a device keeps, of so many on a machine, whose shares of the load cost so much. A worker that serves all asks
+    each in turn, whatever it has; where each has workers of its own, it loses by the others only while these are busy."""
+    first = at - at % each
+    others = [min(1, cost / costs[at]) for it, cost in enumerate(costs[first : first + each], first) if it != at]
+    if not others:
+        return 1
+    return keeps if serves == "all" else 1 - (1 - keeps) * sum(others) / len(others)
+
+
+def passed(flows, devices, device, keeps, serves, each):
+    """What so many devices pass, so many of them on each machine: the one whose share costs most is full first."""
     sums, hottest = shares(flows, devices), [0.0] * devices
     for flow, share in flows.items():
         at = hashed(flow) * devices >> 32
         hottest[at] = max(hottest[at], share)
-    return min(device.rate(hot / sum) * (keeps if sum < 1 else 1) / sum for hot, sum in zip(hottest, sums) if sum > 0)
+    costs = [sum / device.rate(hot / sum) if sum > 0 else 0 for hot, sum in zip(hottest, sums)]
+    return min(kept(costs, at, keeps, serves, each) / cost for at, cost in enumerate(costs) if cost > 0)
 
 
 def fits(given, flows, machines, devices):
     """Workers of each machine, where so many machines of so many devices carry the load; else None. A device's number says its machine."""
-    if given.load > given.full * passed(flows, machines * devices, given.one, given.keeps):
+    if given.load > given.full * passed(flows, machines * devices, given.one, given.keeps, given.serves, devices):
         return None
     each = shares(flows, machines * devices)
     busiest = max(sum(each[at * devices : (at + 1) * devices]) for at in range(machines))
@@ -130,7 +142,7 @@ def plan(given):
     print(f"{len(flows):,} flows, of which the largest has {largest:.1%} of the load")
     print(f"{'devices':>7} {'busiest has':>11} {'they pass':>13}")
     for devices in (1, 2, 3, 4, 6, 8, 12, 16, 24, 32):
-        print(f"{devices:7} {max(shares(flows, devices)):11.1%} {passed(flows, devices, given.one, given.keeps):13,.0f}")
+        print(f"{devices:7} {max(shares(flows, devices)):11.1%} {passed(flows, devices, given.one, given.keeps, given.serves, devices):13,.0f}")
     if given.load * largest > given.full * given.flow:
         sys.exit("no number of devices carries it: the largest flow alone is more than one passes, so it is to become several")
     found = wanted(given, flows)
@@ -163,11 +175,11 @@ def check(given):
         one = rows[processors, kind.replace("serves", "one-of")]
         if min(*rates.values(), *one.values()) <= 0:
             sys.exit("a row passed nothing")
-        device = Device(one["uniform"], one["half"], one["one"])
-        keeps = rates["uniform"] / passed(kinds["uniform"], devices[processors, kind], device, 1)
+        device, count_of, serves = Device(one["uniform"], one["half"], one["one"]), devices[processors, kind], kind.removeprefix("serves-")
+        keeps = rates["uniform"] / passed(kinds["uniform"], count_of, device, 1, serves, count_of)
         print(f"{processors:10} {kind:10} {'uniform':8} {rates['uniform']:12,.0f} a device keeps {keeps:.2f} of its rate")
         for flows in ("half", "one"):
-            foretold = passed(kinds[flows], devices[processors, kind], device, keeps)
+            foretold = passed(kinds[flows], count_of, device, keeps, serves, count_of)
             print(f"{processors:10} {kind:10} {flows:8} {rates[flows]:12,.0f} {foretold:12,.0f} {rates[flows] / foretold:6.2f}")
             worst, count = max(worst, abs(rates[flows] / foretold - 1)), count + 1
     if not count:
@@ -182,6 +194,7 @@ def main():
     it.set_defaults(call=plan)
     it.add_argument("load", type=float)
     it.add_argument("flows")
+    it.add_argument("--serves", choices=("own", "all"), default="own")
     for name in ("--device", "--worker", "--flow"):
         it.add_argument(name, type=float, required=True)
     for name, default in (("--half", None), ("--keeps", 1.0), ("--full", 0.7)):

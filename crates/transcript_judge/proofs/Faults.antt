@@ -17,7 +17,6 @@ use Rattle.transcripts.proofs.AnsweredPlaces.{places_ordered}
 use Rattle.std.specs.declared.alloc.Global.{Global}
 use Rattle.std.specs.declared.vec.Vec.{Vec}
 use Rattle.transcripts.proofs.Insides.{inside_release}
-use Rattle.transcripts.proofs.Waits.{waiting-rises}
 use Rattle.transcripts.proofs.Whole.{Lawful-steps, steps-Lawful}
 use Rattle.transcripts.proofs.WholeStands.{extras_count, facts_of, places_is, shut_is, unanswered_count, unanswered_is, waiting_is}
 use Rattle.transcripts.specs.Choice.{IsOffer}
@@ -32,7 +31,7 @@ use Rattle.transcript_judge.specs.Fronts.{Breaks}
 use Rattle.transcript_judge.specs.Ledger.{releases, row, rows, view_in}
 use Rattle.transcript_judge.specs.Reading.{IsRead, to_come}
 use Rattle.transcript_judge.specs.Scans.{LeavesSlot, LetsPass}
-use Rattle.transcript_judge.specs.Waiting.{Rise}
+use Rattle.transcript_judge.specs.Waiting.{events_in}
 use Rattle.transcript_judge.specs.declared.reading.Reading.{Reading}
 use Rattle.transcript_judge.specs.declared.verdict.Clause.TheVariants.{Answers, Extras, Once, Linked, Depth, Places, Limit, Flow, Alone, Closed, Prompt}
 
@@ -81,13 +80,8 @@ more_full p P r l e h none lane some full =
 -- ---- a Give
 
 waits_is : (p : Plan) (P : List Step) (r : Reading) (q : ℕ) → IsRead p P r → to_come r ≡ [] → q < length p.queues
-    → row (rows r.ledger.waiting.items) q ≡ waiting P q
+    → row (events_in r.ledger.waiting.items) q ≡ waiting P q
 waits_is p P r q h none there = waiting_is (view_in p r.ledger) P q (stands_now p P r h none) there
-
--- what waits stands by rising number
-pub waits_rise : (p : Plan) (P : List Step) (r : Reading) (q : ℕ) → IsRead p P r → to_come r ≡ [] → q < length p.queues
-    → Rise (row (rows r.ledger.waiting.items) q)
-waits_rise p P r q h none there = subst Rise (sym (waits_is p P r q h none there)) (waiting-rises P q)
 
 abbrev event_of : ℕ → Event → Numbered
 event_of n e = record { number = n; event = e }
@@ -109,12 +103,12 @@ found_in (w ∷ ws) n e is = by_case (cases_Bool (w.number == n)) (found_in ws n
         contains_next w (record { number = n; event = e }) ws (rest (sym (cond-false (w.number == n) (Some w.event) (event_in ws n) other) ∙ is))
 
 pub waits_here : (p : Plan) (P : List Step) (r : Reading) (q n : ℕ) (e : Event) → IsRead p P r → to_come r ≡ [] → q < length p.queues
-    → event_in (row (rows r.ledger.waiting.items) q) n ≡ Some e → Contains (waiting P q) (record { number = n; event = e })
+    → event_in (row (events_in r.ledger.waiting.items) q) n ≡ Some e → Contains (waiting P q) (record { number = n; event = e })
 waits_here p P r q n e h none there found =
     found_in (waiting P q) n e (subst (λ ws. event_in ws n ≡ Some e) (waits_is p P r q h none there) found)
 
 pub give_unknown : (p : Plan) (P : List Step) (r : Reading) (l q n : ℕ) → IsRead p P r → to_come r ≡ [] → q < length p.queues
-    → event_in (row (rows r.ledger.waiting.items) q) n ≡ None → Breaks Once p (P ++ Give l q n ∷ [])
+    → event_in (row (events_in r.ledger.waiting.items) q) n ≡ None → Breaks Once p (P ++ Give l q n ∷ [])
 give_unknown p P r l q n h none there missing =
     gives_unknown p P l q n (subst (λ ws. event_in ws n ≡ None) (waits_is p P r q h none there) missing)
 
@@ -123,7 +117,7 @@ pub record Waits (p : Plan) (P : List Step) (r : Reading) (l q n : ℕ) (e : Eve
   pub read : IsRead p P r
   pub none : to_come r ≡ []
   pub formed : IsHandOver p l q
-  pub found : event_in (row (rows r.ledger.waiting.items) q) n ≡ Some e
+  pub found : event_in (row (events_in r.ledger.waiting.items) q) n ≡ Some e
 
 waits : (p : Plan) (P : List Step) (r : Reading) (l q n : ℕ) (e : Event) → Waits p P r l q n e → Contains (waiting P q) (record { number = n; event = e })
 waits p P r l q n e w = waits_here p P r q n e w.read w.none w.formed.queue w.found
@@ -150,7 +144,7 @@ give_placeless p P r l q n e w ordered full =
     (omega (arith, full, places_count p P r q w.read w.none w.formed.queue ordered))
 
 pub give_overtaking : (p : Plan) (P : List Step) (r : Reading) (l q n : ℕ) (e : Event) → Waits p P r l q n e
-    → ¬ LetsPass p q (row (rows r.ledger.waiting.items) q) n e → Breaks Flow p (P ++ Give l q n ∷ [])
+    → ¬ LetsPass p q (row (events_in r.ledger.waiting.items) q) n e → Breaks Flow p (P ++ Give l q n ∷ [])
 give_overtaking p P r l q n e w stopped =
     gives_overtaking p P l q (record { number = n; event = e }) (lawful_now p P r w.read w.none) (waits p P r l q n e w)
     (subst (λ ws. ¬ LetsPass p q ws n e) (waits_is p P r q w.read w.none w.formed.queue) stopped)
@@ -173,13 +167,13 @@ give_apart p P r l q n e w atomic taken =
 pub give_offer : (p : Plan) (P : List Step) (r : Reading) (l q n : ℕ) (e : Event) → Waits p P r l q n e → serves p l q (slot_of p q e.flow) ≡ true
     → length (row (rows r.ledger.unanswered.items) l) < depth_of p l
     → (is_ordered (queue_of p q).kind ≡ true → length (row (rows r.ledger.places.items) q) < (queue_of p q).order)
-    → LetsPass p q (row (rows r.ledger.waiting.items) q) n e
+    → LetsPass p q (row (events_in r.ledger.waiting.items) q) n e
     → (is_atomic (queue_of p q).kind ≡ true → LeavesSlot (rows r.ledger.unanswered.items) l q (slot_of p q e.flow))
     → IsOffer (view_in p r.ledger) l q (record { number = n; event = e })
 give_offer p P r l q n e w linked room places flow alone = record {
   queue = w.formed.queue;
   lane = w.formed.lane;
-  waits = found_in (row (rows r.ledger.waiting.items) q) n e w.found;
+  waits = found_in (row (events_in r.ledger.waiting.items) q) n e w.found;
   linked = linked;
   room = room;
   alone = alone;

@@ -3,6 +3,8 @@ pub mod Cuts
 pub mod Faults
 pub mod Forms
 pub mod Fronts
+pub mod HeldEvents
+pub mod KeyLists
 pub mod Moves
 pub mod PassedOver
 pub mod Passed
@@ -10,5 +12,6 @@ pub mod Readings
 pub mod Rising
 pub mod RowLists
 pub mod Tested
+pub mod Trees
 pub mod Verdicts
 pub mod Walks

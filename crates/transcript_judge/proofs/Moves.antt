@@ -27,6 +27,7 @@ use Rattle.transcript_judge.proofs.Readings.{inside_now, lawful_now, numbers_sta
 use Rattle.transcript_judge.specs.Ledger.{accept_of, row, rows, view_in}
 use Rattle.transcript_judge.specs.Reading.{AreOfOne, IsRead, to_come}
 use Rattle.transcript_judge.specs.Scans.{IsNext}
+use Rattle.transcript_judge.specs.Waiting.{kinds_in, kinds_of, nexts_in}
 use Rattle.transcript_judge.specs.declared.ledger.Ledger.{Ledger}
 use Rattle.transcript_judge.specs.declared.reading.Reading.{Reading}
 
@@ -37,13 +38,13 @@ index_le [] q most all = omega arith
 index_le (n ∷ ns) zero most all = All-head (λ m. m ≤ most) n ns all
 index_le (n ∷ ns) (suc q) most all = index_le ns q most (All-tail (λ m. m ≤ most) n ns all)
 
-pub numbers_rise : (p : Plan) (P : List Step) (s : Step) (old new : Ledger) (q : ℕ) (e : Event) → All (λ n. n ≤ length P) old.next.items
-    → view_in p new ≡ after_accept (view_in p old) q e → All (λ n. n ≤ length (P ++ s ∷ [])) new.next.items
+pub numbers_rise : (p : Plan) (P : List Step) (s : Step) (old new : Ledger) (q : ℕ) (e : Event) → All (λ n. n ≤ length P) (nexts_in old.waiting.items)
+    → view_in p new ≡ after_accept (view_in p old) q e → All (λ n. n ≤ length (P ++ s ∷ [])) (nexts_in new.waiting.items)
 numbers_rise p P s old new q e all is =
-    let low : slice_index old.next.items q ≤ length P = index_le old.next.items q (length P) all in
+    let low : slice_index (nexts_in old.waiting.items) q ≤ length P = index_le (nexts_in old.waiting.items) q (length P) all in
     subst (All (λ n. n ≤ length (P ++ s ∷ []))) (sym (ap (λ (v : View). v.next) is))
-    (All-set (λ n. n ≤ length (P ++ s ∷ [])) old.next.items q (slice_index old.next.items q + 1) (omega (arith, low, length_push P s))
-    (numbers_stay P s old.next.items all))
+    (All-set (λ n. n ≤ length (P ++ s ∷ [])) (nexts_in old.waiting.items) q (slice_index (nexts_in old.waiting.items) q + 1) (omega (arith, low, length_push P s))
+    (numbers_stay P s (nexts_in old.waiting.items) all))
 
 pub numbers_same : (P : List Step) (s : Step) (old new : List ℕ) → All (λ n. n ≤ length P) old → new ≡ old → All (λ n. n ≤ length (P ++ s ∷ [])) new
 numbers_same P s old new all is = subst (All (λ n. n ≤ length (P ++ s ∷ []))) (sym is) (numbers_stay P s old all)
@@ -57,14 +58,15 @@ same_within r t due taken within = omega (arith, taken, ap (λ d. length d.items
 
 -- ---- nothing is read yet
 
-pub read_start : (p : Plan) (r : Reading) → view_in p r.ledger ≡ view_of p [] → r.due.items ≡ [] → r.taken ≡ 0 → r.inside ≡ 0 → IsRead p [] r
+pub read_start : (p : Plan) (r : Reading) → view_in p r.ledger ≡ view_of p [] → kinds_in r.ledger.waiting.items ≡ kinds_of p → r.due.items ≡ [] → r.taken ≡ 0 → r.inside ≡ 0 → IsRead p [] r
 unfolding view_of
-read_start p r view due taken inside = record {
+read_start p r view kinds due taken inside = record {
   stands = subst (λ D. Stands ([] ++ D) (after (view_in p r.ledger) D)) (sym none) (subst (Stands []) (sym view) (stands_none p));
   only = λ U lawful. subst (λ D. IsPrefix D U) (sym none) (U, refl);
   count = omega (arith, inside);
   numbers = subst (All (λ n. n ≤ 0)) (sym (ap (λ (v : View). v.next) view))
       (All-map (λ n. n ≤ 0) (λ q. length (accepted [] q)) (queues p) (λ k d lt. omega (arith, ap length (accepted_at_none (get_or (queues p) k d)))));
+  kinds = kinds;
   within = omega (arith, taken);
   one = subst (AreOfOne p) (sym nothing) (of_none p);
 }
@@ -78,12 +80,12 @@ read_start p r view due taken inside = record {
 -- ---- steps that lead no Accepts
 
 pub read_new : (p : Plan) (P : List Step) (r t : Reading) (q : ℕ) (e : Event) (l : ℕ) → IsRead p P r → to_come r ≡ [] → IsNewEntry p q e l
-    → r.ledger.shut ≡ false → r.inside < bound_of p → view_in p t.ledger ≡ after_accept (view_in p r.ledger) q e → t.due ≡ r.due → t.taken ≡ r.taken
+    → r.ledger.shut ≡ false → r.inside < bound_of p → view_in p t.ledger ≡ after_accept (view_in p r.ledger) q e → kinds_in t.ledger.waiting.items ≡ kinds_in r.ledger.waiting.items → t.due ≡ r.due → t.taken ≡ r.taken
     → t.inside ≡ r.inside + 1 → IsRead p (P ++ Accept q e (New l) ∷ []) t
-read_new p P r t q e l h none formed unshut room view due taken inside =
+read_new p P r t q e l h none formed unshut room view kinds due taken inside =
     read_alone p P s t (same_to_come r t due taken ∙ none) (subst (Stands (P ++ s ∷ [])) (sym view) stands)
     (omega (arith, h.count, inside, count_by-push is_release P s, count_by-push is_new P s, count_by-push is_more P s))
-    (numbers_rise p P s r.ledger t.ledger q e h.numbers view) (same_within r t due taken h.within)
+    (numbers_rise p P s r.ledger t.ledger q e h.numbers view) (kinds ∙ h.kinds) (same_within r t due taken h.within)
   where
     s : Step
     s = Accept q e (New l)
@@ -101,14 +103,14 @@ read_new p P r t q e l h none formed unshut room view due taken inside =
         (omega (arith, inside_is v P before, inside_now p P r h none, room)))
 
 pub read_give : (p : Plan) (P : List Step) (r t : Reading) (l q : ℕ) (w : Numbered) → IsRead p P r → to_come r ≡ []
-    → IsOffer (view_in p r.ledger) l q w → view_in p t.ledger ≡ after_give (view_in p r.ledger) l q w.number → t.due ≡ r.due → t.taken ≡ r.taken
+    → IsOffer (view_in p r.ledger) l q w → view_in p t.ledger ≡ after_give (view_in p r.ledger) l q w.number → kinds_in t.ledger.waiting.items ≡ kinds_in r.ledger.waiting.items → t.due ≡ r.due → t.taken ≡ r.taken
     → t.inside ≡ r.inside → IsRead p (P ++ Give l q w.number ∷ []) t
-read_give p P r t l q w h none offer view due taken inside =
+read_give p P r t l q w h none offer view kinds due taken inside =
     let s : Step = Give l q w.number in
     read_alone p P s t (same_to_come r t due taken ∙ none)
     (subst (Stands (P ++ s ∷ [])) (sym view) (stands_give (view_in p r.ledger) P l q w (stands_now p P r h none) offer))
     (omega (arith, h.count, inside, count_by-push is_release P s, count_by-push is_new P s, count_by-push is_more P s))
-    (numbers_same P s r.ledger.next.items t.ledger.next.items h.numbers (ap (λ (v : View). v.next) view)) (same_within r t due taken h.within)
+    (numbers_same P s (nexts_in r.ledger.waiting.items) (nexts_in t.ledger.waiting.items) h.numbers (ap (λ (v : View). v.next) view)) (kinds ∙ h.kinds) (same_within r t due taken h.within)
 
 pub read_turned : (p : Plan) (P : List Step) (r : Reading) (l : ℕ) (e : Event) → IsRead p P r → to_come r ≡ [] → IsTurnedAway p l e → r.ledger.shut ≡ true
     → IsRead p (P ++ Turned l e ∷ []) r
@@ -117,23 +119,23 @@ read_turned p P r l e h none formed shut =
     read_alone p P s r none
     (stands_turned (view_in p r.ledger) P l e (stands_now p P r h none) formed.lane formed.operation shut formed.queue)
     (omega (arith, h.count, count_by-push is_release P s, count_by-push is_new P s, count_by-push is_more P s))
-    (numbers_stay P s r.ledger.next.items h.numbers) h.within
+    (numbers_stay P s (nexts_in r.ledger.waiting.items) h.numbers) h.kinds h.within
 
 pub read_bounced : (p : Plan) (P : List Step) (r : Reading) (l : ℕ) → IsRead p P r → to_come r ≡ [] → l < lanes_of p → IsRead p (P ++ Bounced l ∷ []) r
 read_bounced p P r l h none lane =
     let s : Step = Bounced l in
     read_alone p P s r none (stands_bounced (view_in p r.ledger) P l (stands_now p P r h none) lane)
     (omega (arith, h.count, count_by-push is_release P s, count_by-push is_new P s, count_by-push is_more P s))
-    (numbers_stay P s r.ledger.next.items h.numbers) h.within
+    (numbers_stay P s (nexts_in r.ledger.waiting.items) h.numbers) h.kinds h.within
 
 pub read_shut : (p : Plan) (P : List Step) (r t : Reading) → IsRead p P r → to_come r ≡ [] → r.ledger.shut ≡ false
-    → view_in p t.ledger ≡ record (view_in p r.ledger) { shut = true } → t.due ≡ r.due → t.taken ≡ r.taken → t.inside ≡ r.inside
+    → view_in p t.ledger ≡ record (view_in p r.ledger) { shut = true } → kinds_in t.ledger.waiting.items ≡ kinds_in r.ledger.waiting.items → t.due ≡ r.due → t.taken ≡ r.taken → t.inside ≡ r.inside
     → IsRead p (P ++ Shut ∷ []) t
-read_shut p P r t h none unshut view due taken inside =
+read_shut p P r t h none unshut view kinds due taken inside =
     read_alone p P Shut t (same_to_come r t due taken ∙ none)
     (subst (Stands (P ++ Shut ∷ [])) (sym view) (stands_shut (view_in p r.ledger) P unshut (stands_now p P r h none)))
     (omega (arith, h.count, inside, count_by-push is_release P Shut, count_by-push is_new P Shut, count_by-push is_more P Shut))
-    (numbers_same P Shut r.ledger.next.items t.ledger.next.items h.numbers (ap (λ (v : View). v.next) view)) (same_within r t due taken h.within)
+    (numbers_same P Shut (nexts_in r.ledger.waiting.items) (nexts_in t.ledger.waiting.items) h.numbers (ap (λ (v : View). v.next) view)) (kinds ∙ h.kinds) (same_within r t due taken h.within)
 
 -- ---- what is due is of one queue
 
@@ -178,14 +180,15 @@ oldest_some v l some = slice_get-some (unanswered_at v l) 0 some
 
 pub read_done : (p : Plan) (P : List Step) (r t : Reading) (l : ℕ) (o : Outcome) → IsRead p P r → to_come r ≡ [] → l < lanes_of p → IsOutcome p o
     → 0 < length (row (rows r.ledger.unanswered.items) l) → view_in p t.ledger ≡ after_done (view_in p r.ledger) l o
+    → kinds_in t.ledger.waiting.items ≡ kinds_in r.ledger.waiting.items
     → map accept_of t.due.items ≡ accepts_of (view_in p r.ledger) (oldest_at (view_in p r.ledger) l) o → t.taken ≡ 0
     → t.inside + cond (is_release (Done l o)) 1 0 ≡ r.inside → IsRead p (P ++ Done l o ∷ []) t
-read_done p P r t l o h none lane formed some view due taken inside =
+read_done p P r t l o h none lane formed some view kinds due taken inside =
     read_led p P s D t coming
     (subst (λ u. Stands (P ++ s ∷ D) (after u D)) (sym view) stands)
     (answer_led p P D l o formed (lawful_now p P r h none) (subst (All (λ u. is_from_of u ≡ true)) due (all_from t.due.items)) lawful)
     (omega (arith, h.count, inside, count_by-push is_release P s, count_by-push is_new P s, count_by-push is_more P s))
-    (numbers_same P s r.ledger.next.items t.ledger.next.items h.numbers (ap (λ (u : View). u.next) view)) (omega (arith, taken))
+    (numbers_same P s (nexts_in r.ledger.waiting.items) (nexts_in t.ledger.waiting.items) h.numbers (ap (λ (u : View). u.next) view)) (kinds ∙ h.kinds) (omega (arith, taken))
     (subst (λ k. AreOfOne p (drop k t.due.items)) (sym taken) one)
   where
     s : Step
@@ -218,14 +221,15 @@ read_done p P r t l o h none lane formed some view due taken inside =
 pub read_more : (p : Plan) (P : List Step) (r t : Reading) (l : ℕ) (e : Event) → IsRead p P r → to_come r ≡ [] → l < lanes_of p → IsAddition p e
     → 0 < length (row (rows r.ledger.unanswered.items) l) → slice_index r.ledger.extras.items l < most_extras → r.inside < bound_of p
     → view_in p t.ledger ≡ after_more (view_in p r.ledger) l e
+    → kinds_in t.ledger.waiting.items ≡ kinds_in r.ledger.waiting.items
     → map accept_of t.due.items ≡ added_of (view_in p r.ledger) (oldest_at (view_in p r.ledger) l) e → t.taken ≡ 0
     → t.inside ≡ r.inside + 1 → IsRead p (P ++ More l e ∷ []) t
-read_more p P r t l e h none lane formed some few room view due taken inside =
+read_more p P r t l e h none lane formed some few room view kinds due taken inside =
     read_led p P s D t coming
     (subst (λ u. Stands (P ++ s ∷ D) (after u D)) (sym view) stands)
     (more_led p P D l e formed (lawful_now p P r h none) (subst (All (λ u. is_from_of u ≡ true)) due (all_from t.due.items)) lawful)
     (omega (arith, h.count, inside, count_by-push is_release P s, count_by-push is_new P s, count_by-push is_more P s))
-    (numbers_same P s r.ledger.next.items t.ledger.next.items h.numbers (ap (λ (u : View). u.next) view)) (omega (arith, taken))
+    (numbers_same P s (nexts_in r.ledger.waiting.items) (nexts_in t.ledger.waiting.items) h.numbers (ap (λ (u : View). u.next) view)) (kinds ∙ h.kinds) (omega (arith, taken))
     (subst (λ k. AreOfOne p (drop k t.due.items)) (sym taken) one)
   where
     s : Step
@@ -269,12 +273,12 @@ of_rest p ks h = record {
 }
 
 pub read_passed : (p : Plan) (P : List Step) (r t : Reading) (q : ℕ) (e : Event) (i n : ℕ) → IsRead p P r → IsForwardEntry p q e i
-    → IsNext (to_come r) (Accept e.queue e (Of i n)) → view_in p t.ledger ≡ after_accept (view_in p r.ledger) q e → t.due ≡ r.due
+    → IsNext (to_come r) (Accept e.queue e (Of i n)) → view_in p t.ledger ≡ after_accept (view_in p r.ledger) q e → kinds_in t.ledger.waiting.items ≡ kinds_in r.ledger.waiting.items → t.due ≡ r.due
     → t.taken ≡ r.taken + 1 → t.inside ≡ r.inside → IsRead p (P ++ Accept q e (Of i n) ∷ []) t
-read_passed p P r t q e i n h formed next view due taken inside =
+read_passed p P r t q e i n h formed next view kinds due taken inside =
     read_taken p P s next.0 r t h old new stands inside
     (omega (arith, count_by-push is_release P s)) (omega (arith, count_by-push is_new P s)) (omega (arith, count_by-push is_more P s))
-    (numbers_rise p P s r.ledger t.ledger q e h.numbers view)
+    (numbers_rise p P s r.ledger t.ledger q e h.numbers view) (kinds ∙ h.kinds)
     (omega (arith, taken, ap (λ d. length d.items) due, h.within, ap length old, length-map (drop r.taken r.due.items) accept_of, length-drop r.taken r.due.items))
     (subst (AreOfOne p) (sym rest) (of_rest p (drop r.taken r.due.items) h.one))
   where

@@ -18,6 +18,7 @@ use Rattle.transcript_judge.proofs.RowLists.{length-rows}
 use Rattle.transcript_judge.specs.Fronts.{Breaks}
 use Rattle.transcript_judge.specs.Ledger.{IsSized, accept_of, row, rows, view_in}
 use Rattle.transcript_judge.specs.Reading.{AreOfOne, IsRead, to_come}
+use Rattle.transcript_judge.specs.Waiting.{Waits, kinds_in, kinds_of, nexts_in}
 use Rattle.transcript_judge.specs.Verdicts.{IsBrokenAt, IsRunning}
 use Rattle.transcript_judge.specs.declared.reading.Reading.{Reading}
 use Rattle.transcript_judge.specs.declared.verdict.Clause.{Clause}
@@ -78,8 +79,7 @@ view_sizes p T = record {
 
 pub sized : (p : Plan) (P : List Step) (r : Reading) → IsRead p P r → IsSized p r.ledger
 sized p P r h = record {
-  waiting = sym (length-rows r.ledger.waiting.items) ∙ (sym keep.waiting ∙ has.waiting);
-  next = sym keep.next ∙ has.next;
+  waiting = sym (length-map r.ledger.waiting.items (λ (w : Waits). w.events)) ∙ (sym keep.waiting ∙ has.waiting);
   places = sym (length-rows r.ledger.places.items) ∙ (sym (ap length keep.places) ∙ has.places);
   unanswered = sym (length-rows r.ledger.unanswered.items) ∙ (sym (ap length keep.unanswered) ∙ has.unanswered);
   extras = sym (ap length keep.extras) ∙ has.extras;
@@ -105,14 +105,15 @@ sized p P r h = record {
 pub read_taken : (p : Plan) (P : List Step) (s : Step) (D : List Step) (r t : Reading) → IsRead p P r → to_come r ≡ s ∷ D → to_come t ≡ D
     → Stands ((P ++ s ∷ []) ++ D) (after (view_in p t.ledger) D) → t.inside ≡ r.inside → release_count (P ++ s ∷ []) ≡ release_count P
     → new_count (P ++ s ∷ []) ≡ new_count P → more_count (P ++ s ∷ []) ≡ more_count P
-    → All (λ n. n ≤ length (P ++ s ∷ [])) t.ledger.next.items → t.taken ≤ length t.due.items → AreOfOne p (drop t.taken t.due.items) → IsRead p (P ++ s ∷ []) t
-read_taken p P s D r t h old new stands inside releases news mores numbers within one = record {
+    → All (λ n. n ≤ length (P ++ s ∷ [])) (nexts_in t.ledger.waiting.items) → kinds_in t.ledger.waiting.items ≡ kinds_of p → t.taken ≤ length t.due.items → AreOfOne p (drop t.taken t.due.items) → IsRead p (P ++ s ∷ []) t
+read_taken p P s D r t h old new stands inside releases news mores numbers kinds within one = record {
   stands = subst (λ E. Stands ((P ++ s ∷ []) ++ E) (after (view_in p t.ledger) E)) (sym new) stands;
   only = λ U lawful.
       let whole : IsPrefix (s ∷ D) (s ∷ U) = subst (λ E. IsPrefix E (s ∷ U)) old (h.only (s ∷ U) (subst (Lawful p) (append_assoc P (s ∷ []) U) lawful)) in
       subst (λ E. IsPrefix E U) (sym new) (whole.0, ap (drop 1) whole.1);
   count = omega (arith, h.count, inside, releases, news, mores);
   numbers = numbers;
+  kinds = kinds;
   within = within;
   one = one;
 }
@@ -121,13 +122,14 @@ read_taken p P s D r t h old new stands inside releases news mores numbers withi
 pub read_led : (p : Plan) (P : List Step) (s : Step) (D : List Step) (t : Reading) → to_come t ≡ D → Stands (P ++ s ∷ D) (after (view_in p t.ledger) D)
     → ((U : List Step) → Lawful p ((P ++ s ∷ []) ++ U) → IsPrefix D U)
     → t.inside + release_count (P ++ s ∷ []) ≡ new_count (P ++ s ∷ []) + more_count (P ++ s ∷ [])
-    → All (λ n. n ≤ length (P ++ s ∷ [])) t.ledger.next.items → t.taken ≤ length t.due.items → AreOfOne p (drop t.taken t.due.items) → IsRead p (P ++ s ∷ []) t
-read_led p P s D t new stands only count numbers within one = record {
+    → All (λ n. n ≤ length (P ++ s ∷ [])) (nexts_in t.ledger.waiting.items) → kinds_in t.ledger.waiting.items ≡ kinds_of p → t.taken ≤ length t.due.items → AreOfOne p (drop t.taken t.due.items) → IsRead p (P ++ s ∷ []) t
+read_led p P s D t new stands only count numbers kinds within one = record {
   stands = subst (λ E. Stands ((P ++ s ∷ []) ++ E) (after (view_in p t.ledger) E)) (sym new)
       (subst (λ T. Stands T (after (view_in p t.ledger) D)) (sym (append_assoc P (s ∷ []) D)) stands);
   only = λ U lawful. subst (λ E. IsPrefix E U) (sym new) (only U lawful);
   count = count;
   numbers = numbers;
+  kinds = kinds;
   within = within;
   one = one;
 }
@@ -141,9 +143,9 @@ of_none p = record { queue = 0; same = All-nil (λ (k : KeptEvent). k.queue ≡ 
 -- a step that leads none
 pub read_alone : (p : Plan) (P : List Step) (s : Step) (t : Reading) → to_come t ≡ [] → Stands (P ++ s ∷ []) (view_in p t.ledger)
     → t.inside + release_count (P ++ s ∷ []) ≡ new_count (P ++ s ∷ []) + more_count (P ++ s ∷ [])
-    → All (λ n. n ≤ length (P ++ s ∷ [])) t.ledger.next.items → t.taken ≤ length t.due.items → IsRead p (P ++ s ∷ []) t
-read_alone p P s t none stands count numbers within =
-    read_led p P s [] t none stands (λ U lawful. (U, refl)) count numbers within
+    → All (λ n. n ≤ length (P ++ s ∷ [])) (nexts_in t.ledger.waiting.items) → kinds_in t.ledger.waiting.items ≡ kinds_of p → t.taken ≤ length t.due.items → IsRead p (P ++ s ∷ []) t
+read_alone p P s t none stands count numbers kinds within =
+    read_led p P s [] t none stands (λ U lawful. (U, refl)) count numbers kinds within
     (subst (AreOfOne p) (sym (none_due (drop t.taken t.due.items) none)) (of_none p))
 
 -- numbers that stay, and one that rises

@@ -19,6 +19,7 @@ use Rattle.transcripts.specs.Transcript.{Held, accepted, extras, unanswered_slot
 use Rattle.transcripts.proofs.WholeViews.{accepted_at_none, extras_at_none, places_at_none, unanswered_at_none, waiting_at_none}
 use Rattle.transcript_judge.specs.Ledger.{IsOldest, accept_of, row, rows, view_in}
 use Rattle.transcript_judge.specs.Scans.{AreOtherSlots, IsNext}
+use Rattle.transcript_judge.specs.Waiting.{events_in, kinds_in, nexts_in, no_waits}
 use Rattle.transcript_judge.specs.declared.ledger.Ledger.{Ledger}
 
 -- ---- items that are changed, one after the other
@@ -139,14 +140,26 @@ same_view : (p : Plan) (w w' : List (List Numbered)) (n n' : List ℕ) (r r' : L
     (record { shape = p; waiting = w'; next = n'; places = r'; unanswered = u'; extras = m'; shut = b' })
 same_view p w w' n n' r r' u u' m m' b b' e f g h i j = cc
 
-pub view_none : (p : Plan) (l : Ledger) → rows l.waiting.items ≡ replicate (length p.queues) [] → l.next.items ≡ replicate (length p.queues) 0
+no_events : (qs : List QueueDraft) → events_in (map (λ (d : QueueDraft). no_waits d.kind) qs) ≡ replicate (length qs) []
+no_events [] = refl
+no_events (q ∷ qs) = ap (λ ws. [] ∷ ws) (no_events qs)
+
+no_nexts : (qs : List QueueDraft) → nexts_in (map (λ (d : QueueDraft). no_waits d.kind) qs) ≡ replicate (length qs) 0
+no_nexts [] = refl
+no_nexts (q ∷ qs) = ap (λ ns. 0 ∷ ns) (no_nexts qs)
+
+pub no_kinds : (qs : List QueueDraft) → kinds_in (map (λ (d : QueueDraft). no_waits d.kind) qs) ≡ map (λ (d : QueueDraft). d.kind) qs
+no_kinds [] = refl
+no_kinds (q ∷ qs) = ap (λ ks. q.kind ∷ ks) (no_kinds qs)
+
+pub view_none : (p : Plan) (l : Ledger) → l.waiting.items ≡ map (λ (d : QueueDraft). no_waits d.kind) p.queues
     → rows l.places.items ≡ replicate (length p.queues) [] → rows l.unanswered.items ≡ replicate (lanes_of p) []
     → l.extras.items ≡ replicate (lanes_of p) 0 → l.shut ≡ false → view_in p l ≡ view_of p []
 unfolding view_of
-view_none p l waits next none held added unshut =
+view_none p l waits none held added unshut =
     same_view p _ _ _ _ _ _ _ _ _ _ _ _
-    (waits ∙ sym (const_range (waiting []) [] waiting_at_none (length p.queues)))
-    (next ∙ sym (const_range (λ q. length (accepted [] q)) 0 (λ q. ap length (accepted_at_none q)) (length p.queues)))
+    (ap events_in waits ∙ (no_events p.queues ∙ sym (const_range (waiting []) [] waiting_at_none (length p.queues))))
+    (ap nexts_in waits ∙ (no_nexts p.queues ∙ sym (const_range (λ q. length (accepted [] q)) 0 (λ q. ap length (accepted_at_none q)) (length p.queues))))
     (none ∙ sym (const_range (places p []) [] (places_at_none p) (length p.queues)))
     (held ∙ sym (const_range (unanswered_slots p []) [] (unanswered_at_none p) (lanes_of p)))
     (added ∙ sym (const_range (λ l. length (extras [] l)) 0 (λ l. ap length (extras_at_none l)) (lanes_of p)))

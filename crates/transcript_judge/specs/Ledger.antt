@@ -13,6 +13,7 @@ use Rattle.std.specs.declared.alloc.Global.{Global}
 use Rattle.std.specs.declared.vec.Vec.{Vec}
 use Rattle.transcripts.specs.Standing.{View, accepts_from, add_to_place, answer_place, events_of, leaving, staying}
 use Rattle.transcripts.specs.Transcript.{Held}
+use Rattle.transcript_judge.specs.Waiting.{events_in, nexts_in}
 use Rattle.transcript_judge.specs.declared.ledger.Ledger.{Ledger}
 
 -- lists that stand in a list; one that isn't there is empty
@@ -26,8 +27,8 @@ abbrev pub view_in : Plan → Ledger → View
 view_in p l =
     record {
       shape = p;
-      waiting = rows l.waiting.items;
-      next = l.next.items;
+      waiting = events_in l.waiting.items;
+      next = nexts_in l.waiting.items;
       places = rows l.places.items;
       unanswered = rows l.unanswered.items;
       extras = l.extras.items;
@@ -37,7 +38,6 @@ view_in p l =
 -- it has a list or a count for each queue and each lane
 pub record IsSized (p : Plan) (l : Ledger) : Type 0 where
   pub waiting : length l.waiting.items ≡ length p.queues
-  pub next : length l.next.items ≡ length p.queues
   pub places : length l.places.items ≡ length p.queues
   pub unanswered : length l.unanswered.items ≡ lanes_of p
   pub extras : length l.extras.items ≡ lanes_of p

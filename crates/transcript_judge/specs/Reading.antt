@@ -8,6 +8,7 @@ use Rattle.transcripts.specs.Replies.{more_count, new_count, release_count}
 use Rattle.transcripts.specs.Standing.{Stands, after}
 use Rattle.transcript_judge.specs.Fronts.{Breaks}
 use Rattle.transcript_judge.specs.Ledger.{accept_of, view_in}
+use Rattle.transcript_judge.specs.Waiting.{kinds_in, kinds_of, nexts_in}
 use Rattle.transcript_judge.specs.declared.reading.Reading.{Reading}
 use Rattle.transcript_judge.specs.declared.verdict.Clause.{Clause}
 
@@ -27,7 +28,8 @@ pub record IsRead (p : Plan) (P : List Step) (r : Reading) : Type 0 where
   pub stands : Stands (P ++ to_come r) (after (view_in p r.ledger) (to_come r))
   pub only : (U : List Step) → Lawful p (P ++ U) → IsPrefix (to_come r) U
   pub count : r.inside + release_count P ≡ new_count P + more_count P
-  pub numbers : All (λ n. n ≤ length P) r.ledger.next.items
+  pub numbers : All (λ n. n ≤ length P) (nexts_in r.ledger.waiting.items)
+  pub kinds : kinds_in r.ledger.waiting.items ≡ kinds_of p
   pub within : r.taken ≤ length r.due.items
   pub one : AreOfOne p (drop r.taken r.due.items)
 

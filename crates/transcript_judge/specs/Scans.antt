@@ -14,10 +14,6 @@ use Rattle.transcript_judge.specs.Ledger.{row}
 abbrev pub LetsPass : Plan → ℕ → List Numbered → ℕ → Event → Type 0
 LetsPass p q ws n e = All (λ (v : Numbered). v.number < n → keeps_order p q v.event e ≡ false) ws
 
--- none of these keeps its order with the event
-abbrev pub KeepNone : Plan → ℕ → List Numbered → Event → Type 0
-KeepNone p q ws e = All (λ (v : Numbered). keeps_order p q v.event e ≡ false) ws
-
 -- nothing of the slot of the queue is held
 abbrev pub AreOtherSlots : ℕ → ℕ → List Held → Type 0
 AreOtherSlots q slot held = All (λ (y : Held). y.queue ≡ q → y.slot ≢ slot) held

@@ -6,20 +6,19 @@ ghost use Rattle.evt_types.specs.Plan.{Plan, lanes_of};
 ghost use Rattle.transcripts.specs.Standing.{accepts_from, accepts_of, added_of, add_to_place, after_accept, after_done, after_give, after_more, answer_place, event_in, events_of, leaving, oldest_at, slot_in, staying, view_of};
 ghost use Rattle.transcripts.specs.Transcript.{Held};
 ghost use Rattle.transcript_judge.specs.Ledger.{IsOldest, IsSized, accept_of, added_to, due_added, due_by, opened, row, rows, settled, view_in};
-ghost use Rattle.transcript_judge.specs.Waiting.{Rise};
+ghost use Rattle.transcript_judge.specs.Waiting.{events_in, kinds_in, kinds_of, nexts_in};
 
 use crate::nested::{drop_first, empty_lists, push_to};
 use crate::spot::{HeldEvent, Spot};
-use crate::waiting::take_from;
-use evt_types::{Event, KeptEvent, Memory, Numbered, Outcome, PackedEvent, Shape};
+use crate::waiting::{Waiting, accept_in, none_waiting, take_from};
+use evt_types::{Event, KeptEvent, Memory, Outcome, Shape};
 use std::alloc::Global;
 
-/// For each queue the events that wait, how many it accepted, and of an ordered one the open places; for each lane what it hasn't
+/// For each queue what waits, and of an ordered one the open places; for each lane what it hasn't
 /// answered, and how many events were added beside the oldest of it; and whether Shut was read.
 #[derive(Drop)]
 pub(crate) struct Ledger {
-    pub(crate) waiting: Vec<Vec<Numbered>>,
-    pub(crate) next: Vec<u64>,
+    pub(crate) waiting: Vec<Waiting>,
     pub(crate) places: Vec<Vec<Spot>>,
     pub(crate) unanswered: Vec<Vec<HeldEvent>>,
     pub(crate) extras: Vec<usize>,
@@ -179,13 +178,6 @@ fn add_beside(
     }
 }
 
-/// So many numbers, each 0.
-fn first_numbers(alloc: Global, count: usize) -> Result<Vec<u64>, Memory>
-    ensures { IfOk result (λ counts. counts.items ≡ replicate count 0) }
-{
-    vec![in alloc; 0; count]
-}
-
 /// So many counts, each 0.
 fn no_counts(alloc: Global, count: usize) -> Result<Vec<usize>, Memory>
     ensures { IfOk result (λ counts. counts.items ≡ replicate count 0) }
@@ -196,12 +188,12 @@ fn no_counts(alloc: Global, count: usize) -> Result<Vec<usize>, Memory>
 impl Ledger {
     /// Nothing is read yet.
     pub(crate) fn new(alloc: Global, shape: &Shape) -> Result<Ledger, Memory>
-        ensures { IfOk result (λ l. view_in shape.now l ≡ view_of shape.now []) }
+        ensures view { IfOk result (λ l. view_in shape.now l ≡ view_of shape.now []) }
+        ensures kinds { IfOk result (λ l. kinds_in l.waiting.items ≡ kinds_of shape.now) }
     {
         let (queues, lanes) = (shape.queues().len(), shape.lanes());
         Ok(Ledger {
-            waiting: empty_lists(alloc, queues)?,
-            next: first_numbers(alloc, queues)?,
+            waiting: none_waiting(alloc, shape.queues())?,
             places: empty_lists(alloc, queues)?,
             unanswered: empty_lists(alloc, lanes)?,
             extras: no_counts(alloc, lanes)?,
@@ -211,16 +203,12 @@ impl Ledger {
 
     /// The queue accepts the event.
     pub(crate) fn enter(&mut self, queue: usize, event: &Event) -> Result<(), Memory>
-        requires waiting { queue < length self.old.waiting.items }
-        requires next { queue < length self.old.next.items }
-        requires few { slice_index self.old.next.items queue < 2 ^ 63 }
-        ensures { OnOk result ((p : Plan) → view_in p self.new ≡ after_accept (view_in p self.old) queue event.now) }
+        requires queue { queue < length self.old.waiting.items }
+        requires few { slice_index (nexts_in self.old.waiting.items) queue < 2 ^ 63 }
+        ensures view { OnOk result ((p : Plan) → view_in p self.new ≡ after_accept (view_in p self.old) queue event.now) }
+        ensures kinds { OnOk result (kinds_in self.new.waiting.items ≡ kinds_in self.old.waiting.items) }
     {
-        let number = self.next[queue];
-        let event = PackedEvent::of(event);
-        push_to(&mut self.waiting, queue, Numbered { number, event })?;
-        self.next[queue] = number + 1;
-        Ok(())
+        accept_in(&mut self.waiting, queue, event)
     }
 
     /// The lane is given the event of this number, which waits and falls into this slot.
@@ -236,9 +224,9 @@ impl Ledger {
         requires sized { IsSized shape.now self.old }
         requires lane { lane < lanes_of shape.now }
         requires queue { queue < length shape.now.queues }
-        requires rises { Rise (row (rows self.old.waiting.items) queue) }
-        requires slot { slot ≡ slot_in (view_in shape.now self.old) queue (event_in (row (rows self.old.waiting.items) queue) number) }
-        ensures { OnOk result (view_in shape.now self.new ≡ after_give (view_in shape.now self.old) lane queue number) }
+        requires slot { slot ≡ slot_in (view_in shape.now self.old) queue (event_in (row (events_in self.old.waiting.items) queue) number) }
+        ensures view { OnOk result (view_in shape.now self.new ≡ after_give (view_in shape.now self.old) lane queue number) }
+        ensures kinds { OnOk result (kinds_in self.new.waiting.items ≡ kinds_in self.old.waiting.items) }
     {
         take_from(&mut self.waiting, queue, number);
         let is_ordered = shape.queues()[queue].kind.is_ordered();
@@ -274,6 +262,7 @@ impl Ledger {
         requires queues { All (λ (h : Held). h.queue < length shape.now.queues) (row (rows self.old.unanswered.items) lane) }
         requires none { due.old.items ≡ [] }
         ensures view { OnOk result (view_in shape.now self.new ≡ after_done (view_in shape.now self.old) lane outcome.now) }
+        ensures kinds { OnOk result (kinds_in self.new.waiting.items ≡ kinds_in self.old.waiting.items) }
         ensures due { OnOk result (map accept_of due.new.items ≡ accepts_of (view_in shape.now self.old) (oldest_at (view_in shape.now self.old) lane) outcome.now) }
     {
         let (queue, number) = self.oldest(lane);
@@ -299,6 +288,7 @@ impl Ledger {
         requires few { slice_index self.old.extras.items lane < most_extras }
         requires none { due.old.items ≡ [] }
         ensures view { OnOk result (view_in shape.now self.new ≡ after_more (view_in shape.now self.old) lane event.now) }
+        ensures kinds { OnOk result (kinds_in self.new.waiting.items ≡ kinds_in self.old.waiting.items) }
         ensures due { OnOk result (map accept_of due.new.items ≡ added_of (view_in shape.now self.old) (oldest_at (view_in shape.now self.old) lane) event.now) }
     {
         let (queue, number) = self.oldest(lane);

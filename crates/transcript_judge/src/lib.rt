@@ -2,8 +2,10 @@
 //! first broke which promise. What it tells is what the definitions say, whatever the device.
 #![tactic(auto)]
 
+mod by_number;
 mod formed;
 mod judging;
+mod keys;
 mod laws;
 mod ledger;
 mod nested;

@@ -14,14 +14,12 @@ ghost use Rattle.transcript_judge.specs.Fronts.{Breaks};
 ghost use Rattle.transcript_judge.specs.Ledger.{releases, row, rows, view_in};
 ghost use Rattle.transcript_judge.specs.Reading.{IsFollowed, IsRead, to_come};
 ghost use Rattle.transcript_judge.specs.Scans.{IsOther};
+ghost use Rattle.transcript_judge.specs.Waiting.{events_in};
 
 use crate::formed::is_formed;
 use crate::ledger::Ledger;
-use crate::scans::{
-    either, first_due, first_kept, is_event, is_next, is_overtaking, is_pinned, lacks_place,
-};
+use crate::scans::{either, first_due, first_kept, is_event, is_next, is_pinned, lacks_place};
 use crate::verdict::Clause;
-use crate::waiting::find;
 use evt_types::{Event, KeptEvent, MAX_EXTRAS, Memory, Outcome, Shape, Source, Step};
 use std::alloc::Global;
 
@@ -123,7 +121,7 @@ impl Reading {
         requires read { IsRead shape.now past.now self.now }
         requires none { to_come self.now ≡ [] }
         requires formed { IsHandOver shape.now lane queue }
-        requires waits { event_in (row (rows self.now.ledger.waiting.items) queue) number ≡ Some event.now }
+        requires waits { event_in (row (events_in self.now.ledger.waiting.items) queue) number ≡ Some event.now }
         ensures { MatchOption result (IsOffer (view_in shape.now self.now.ledger) lane queue (record { number = number; event = event.now })) (λ c. Breaks c shape.now (past.now ++ steps.Give lane queue number ∷ [])) }
     {
         let slot = shape.slot_of(queue, event.flow);
@@ -140,7 +138,7 @@ impl Reading {
             return Some(Clause::Places);
         }
         let waiting = &self.ledger.waiting[queue];
-        if is_overtaking(shape, queue, waiting, number, event) {
+        if waiting.is_overtaking(number, event) {
             return Some(Clause::Flow);
         }
         if is_pinned(shape, &self.ledger.unanswered, lane, queue, slot) {
@@ -164,7 +162,7 @@ impl Reading {
         requires formed { IsHandOver shape.now lane queue }
         ensures { IfOk result (λ c. IsFollowed shape.now past.now (steps.Give lane queue number) c self.new) }
     {
-        let Some(event) = find(&self.ledger.waiting[queue], number) else {
+        let Some(event) = self.ledger.waiting[queue].find(number) else {
             return Ok(Some(Clause::Once));
         };
         if let Some(clause) = self.give_fault(shape, past, lane, queue, number, &event) {

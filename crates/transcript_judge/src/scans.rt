@@ -4,57 +4,11 @@ ghost use Rattle.std.specs.Prelude.{◌≡◌, ◌≢◌, ◌<◌, ◌≤◌, �
 ghost use Rattle.evt_types.specs.Plan.{is_atomic, is_ordered, queue_of};
 ghost use Rattle.evt_types.specs.declared.step.Source.TheVariants as sources;
 ghost use Rattle.evt_types.specs.declared.step.Step.TheVariants as steps;
-ghost use Rattle.transcripts.specs.Lawful as lawful;
 ghost use Rattle.transcript_judge.specs.Ledger.{accept_of, rows};
-ghost use Rattle.transcript_judge.specs.Scans.{AreOtherSlots, KeepNone, LeavesSlot, LetsPass, IsNext, IsOther, kept_in_due, kept_in_spots, or_else};
-ghost use Rattle.transcript_judge.specs.Waiting.{Rise};
+ghost use Rattle.transcript_judge.specs.Scans.{AreOtherSlots, LeavesSlot, IsNext, IsOther, kept_in_due, kept_in_spots, or_else};
 
 use crate::spot::{HeldEvent, Spot};
-use crate::waiting::count_below;
-use evt_types::{Event, KeptEvent, Numbered, Shape};
-
-/// Whether two events of the queue keep their order.
-fn keeps_order(shape: &Shape, queue: usize, first: &Event, second: &Event) -> bool
-    requires { queue < length shape.now.queues }
-    ensures { result ≡ lawful.keeps_order shape.now queue first.now second.now }
-{
-    let kind = shape.queues()[queue].kind;
-    if first.level() != second.level() {
-        return false;
-    }
-    kind.is_ordered() || (kind.is_atomic() && first.flow == second.flow)
-}
-
-/// Whether one of these keeps its order with the event.
-fn keeps_any(shape: &Shape, queue: usize, waiting: &[Numbered], event: &Event) -> bool
-    requires { queue < length shape.now.queues }
-    ensures none { result ≡ false → KeepNone shape.now queue waiting.now event.now }
-    ensures some { result ≡ true → ¬ KeepNone shape.now queue waiting.now event.now }
-{
-    for numbered in waiting {
-        if keeps_order(shape, queue, &numbered.event.unpack(), event) {
-            return true;
-        }
-    }
-    false
-}
-
-/// Whether an event that waits, of a lower number, has to be given before this one.
-pub(crate) fn is_overtaking(
-    shape: &Shape,
-    queue: usize,
-    waiting: &[Numbered],
-    number: u64,
-    event: &Event,
-) -> bool
-    requires queue { queue < length shape.now.queues }
-    requires rises { Rise waiting.now }
-    ensures none { result ≡ false → LetsPass shape.now queue waiting.now number event.now }
-    ensures some { result ≡ true → ¬ LetsPass shape.now queue waiting.now number event.now }
-{
-    let count = count_below(waiting, number);
-    keeps_any(shape, queue, &waiting[..count], event)
-}
+use evt_types::{Event, KeptEvent, Shape};
 
 /// Whether one of what is held is of the slot of the queue.
 fn has_slot(held: &[HeldEvent], queue: usize, slot: usize) -> bool

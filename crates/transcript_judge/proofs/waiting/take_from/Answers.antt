@@ -1,15 +1,13 @@
-use Rattle.std.proofs.Common.{◌==◌, filter, not, set, sym, ap, ◌∙◌, subst}
-use Rattle.evt_types.specs.declared.event.Numbered.{Numbered}
-use Rattle.transcript_judge.proofs.RowLists.{row_now, rows_set}
-use Rattle.transcript_judge.specs.Ledger.{rows}
-use Rattle.transcript_judge.specs.Waiting.{Rise}
+use Rattle.std.proofs.Common.{ap}
+use Rattle.transcript_judge.proofs.RowLists.{kinds_set, nexts_set, taken_events}
+use Rattle.transcript_judge.specs.Waiting.{Waits}
 use Rattle.transcript_judge.proofs.waiting.take_from.Goals as goal
 
-pub take_out-requires : goal.take_out-requires
-take_out-requires c = subst Rise (row_now c.args.lists.now.items c.args.queue c.index_mut.result.now c.requires.queue c.index_mut.ensures.value) c.requires.rises
+pub returns-clause-events : goal.returns-clause-events
+returns-clause-events c = taken_events c.args.waiting.now.items c.args.queue c.take.new.self c.index_mut.result.now c.args.number c.requires c.index_mut.ensures.value c.take.ensures
 
-pub returns : goal.returns
-returns c =
-    let here = row_now c.args.lists.now.items c.args.queue c.index_mut.result.now c.requires.queue c.index_mut.ensures.value in
-    rows_set c.args.lists.now.items c.args.queue c.take_out.new.list
-    ∙ ap (set (rows c.args.lists.now.items) c.args.queue) (c.take_out.ensures ∙ ap (filter (λ (w : Numbered). not (w.number == c.args.number))) (sym here))
+pub returns-clause-next : goal.returns-clause-next
+returns-clause-next c = nexts_set c.args.waiting.now.items c.args.queue c.take.new.self c.index_mut.result.now c.requires c.index_mut.ensures.value (ap (λ (w : Waits). w.next) c.take.ensures)
+
+pub returns-clause-kinds : goal.returns-clause-kinds
+returns-clause-kinds c = kinds_set c.args.waiting.now.items c.args.queue c.take.new.self c.index_mut.result.now c.requires c.index_mut.ensures.value (ap (λ (w : Waits). w.kind) c.take.ensures)

@@ -25,5 +25,5 @@ overflow_sub-self c = omega (arith, c.released.ensures, released_le c.args.shape
 pub returns : goal.returns
 returns c =
     read_done c.args.shape.now c.args.past.now c.args.self.now _ c.args.lane c.args.outcome.now c.requires.read c.requires.none c.requires.lane c.requires.formed (some_row c.args.shape.now c.args.past.now c.args.self.now c.args.lane c.index-held.result.now c.is_empty.result c.requires.read c.requires.lane c.index-held.ensures c.is_empty.ensures c.if-is_empty.false)
-    c.in_ok-answer.ensures.view c.in_ok-answer.ensures.due refl
+    c.in_ok-answer.ensures.view c.in_ok-answer.ensures.kinds c.in_ok-answer.ensures.due refl
     (omega (arith, c.released.ensures, releases_is c.args.lane c.args.outcome.now, released_le c.args.shape.now c.args.past.now c.args.self.now c.args.lane c.args.outcome.now c.requires.read c.requires.none c.requires.lane (some_row c.args.shape.now c.args.past.now c.args.self.now c.args.lane c.index-held.result.now c.is_empty.result c.requires.read c.requires.lane c.index-held.ensures c.is_empty.ensures c.if-is_empty.false)))

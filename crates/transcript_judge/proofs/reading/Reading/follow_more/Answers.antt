@@ -36,4 +36,4 @@ returns c =
     let size = sized c.args.shape.now c.args.past.now c.args.self.now c.requires.read in
     read_more c.args.shape.now c.args.past.now c.args.self.now _ c.args.lane c.args.event.now c.requires.read c.requires.none c.requires.lane c.requires.formed (some_row c.args.shape.now c.args.past.now c.args.self.now c.args.lane c.index-held.result.now c.is_empty.result c.requires.read c.requires.lane c.index-held.ensures c.is_empty.ensures c.if-is_empty.false)
     (omega (arith, c.if-index-ge-MAX_EXTRAS.false, c.index.ensures, number_at c.args.self.now.ledger.extras.items c.args.lane c.index.result.now (omega (arith, size.extras, c.requires.lane)))) (omega (arith, c.if-self-bound.false, c.bound.ensures.value))
-    c.in_ok-add.ensures.view c.in_ok-add.ensures.due refl refl
+    c.in_ok-add.ensures.view c.in_ok-add.ensures.kinds c.in_ok-add.ensures.due refl refl

@@ -10,13 +10,10 @@ returns-then-self c = new_closed c.args.shape.now c.args.past.now c.args.self.no
 pub returns-then-self-bound : goal.returns-then-self-bound
 returns-then-self-bound c = new_full c.args.shape.now c.args.past.now c.args.self.now c.args.queue c.args.event.now c.args.lane c.requires.read c.requires.none c.requires.formed (omega (arith, c.if-self-bound.true, c.bound.ensures.value))
 
-pub enter-requires-clause-waiting : goal.enter-requires-clause-waiting
-enter-requires-clause-waiting c = let size = sized c.args.shape.now c.args.past.now c.args.self.now c.requires.read in omega (arith, size.waiting, c.requires.formed.entry.queue)
-
-pub enter-requires-clause-next : goal.enter-requires-clause-next
-enter-requires-clause-next c = let size = sized c.args.shape.now c.args.past.now c.args.self.now c.requires.read in omega (arith, size.next, c.requires.formed.entry.queue)
+pub enter-requires-clause-queue : goal.enter-requires-clause-queue
+enter-requires-clause-queue c = let size = sized c.args.shape.now c.args.past.now c.args.self.now c.requires.read in omega (arith, size.waiting, c.requires.formed.entry.queue)
 
 pub returns : goal.returns
 returns c =
     read_new c.args.shape.now c.args.past.now c.args.self.now _ c.args.queue c.args.event.now c.args.lane c.requires.read c.requires.none c.requires.formed c.if-self.false
-    (omega (arith, c.if-self-bound.false, c.bound.ensures.value)) (c.in_ok-enter.ensures c.args.shape.now) refl refl refl
+    (omega (arith, c.if-self-bound.false, c.bound.ensures.value)) (c.in_ok-enter.ensures.view c.args.shape.now) c.in_ok-enter.ensures.kinds refl refl refl

@@ -7,4 +7,4 @@ pub returns-then-self : goal.returns-then-self
 returns-then-self c = shut_again c.args.shape.now c.args.past.now c.args.self.now c.requires.read c.requires.none c.if-self.true
 
 pub returns : goal.returns
-returns c = read_shut c.args.shape.now c.args.past.now c.args.self.now _ c.requires.read c.requires.none c.if-self.false refl refl refl refl
+returns c = read_shut c.args.shape.now c.args.past.now c.args.self.now _ c.requires.read c.requires.none c.if-self.false refl refl refl refl refl

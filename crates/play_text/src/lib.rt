@@ -10,4 +10,5 @@ mod words;
 
 pub use answer::Answer;
 pub use event_answers::{Behind, Held, Refused, Report, Swept, Undelivered, Untaken};
+pub use log_lines::{Counts, write_step};
 pub use text::text_of;

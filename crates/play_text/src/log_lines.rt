@@ -45,7 +45,7 @@ fn write_done(queues: &[QueueDraft], outcome: &Outcome, out: &mut String) -> Res
 }
 
 /// The line of a step; `number` is that of an accepted event.
-fn write_step(
+pub fn write_step(
     queues: &[QueueDraft],
     number: u64,
     step: &Step,
@@ -82,13 +82,14 @@ fn write_step(
 }
 
 /// How many events each queue has accepted, as far as a log was read.
-#[derive(Drop)]
-struct Counts {
-    accepted: Vec<u64>,
+#[derive(Debug, Drop)]
+pub struct Counts {
+    pub accepted: Vec<u64>,
 }
 
 impl Counts {
-    fn none(alloc: Global, queues: usize) -> Result<Counts, AllocError>
+    /// Those of a log of which nothing was read.
+    pub fn none(alloc: Global, queues: usize) -> Result<Counts, AllocError>
         ensures { IfOk result (λ counts. counts.accepted.items ≡ replicate queues 0) }
     {
         Ok(Counts {
@@ -97,7 +98,7 @@ impl Counts {
     }
 
     /// The number of the event that the step accepts, if it accepts one. Counts it.
-    fn count(&mut self, step: &Step) -> u64
+    pub fn count(&mut self, step: &Step) -> u64
         requires there { texts.IsInRange (length self.old.accepted.items) step.now }
         requires fits { (q : ℕ) → slice_index self.old.accepted.items q + 1 < 2 ^ 64 }
         ensures number { result ≡ texts.count_of self.old.accepted.items step.now }

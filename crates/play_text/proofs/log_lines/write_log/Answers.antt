@@ -3,7 +3,7 @@ use Rattle.std.proofs.lemmas.List.{length-take, take_more}
 use Rattle.std.proofs.lemmas.List.Elements.{All-get_or}
 use Rattle.evt_types.specs.declared.step.Step.{Step}
 use Rattle.play_text.specs.Text as texts
-use Rattle.play_text.proofs.Counts.{Counts-none, Counts-step, Counts-number, Counts-fits, lines-step}
+use Rattle.play_text.proofs.Counted.{Counts-none, Counts-step, Counts-number, Counts-fits, lines-step}
 use Rattle.play_text.proofs.log_lines.write_log.Goals as goal
 
 pub loop-step-init : goal.loop-step-init

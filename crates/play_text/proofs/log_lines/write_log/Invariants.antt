@@ -1,7 +1,7 @@
 use Rattle.std.proofs.Common.{◌≡◌, ◌++◌, [], take, drop, length}
 use Rattle.std.specs.Prelude.{string_bytes}
 use Rattle.play_text.specs.Text.{lines_after}
-use Rattle.play_text.proofs.Counts.{Counts}
+use Rattle.play_text.proofs.Counted.{Counts}
 use Rattle.play_text.proofs.log_lines.write_log.Given as goal
 
 abbrev pub invariant-loop-step : goal.invariant-loop-step

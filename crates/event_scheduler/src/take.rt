@@ -81,8 +81,8 @@ fn take_each<L: StepLog>(
 }
 
 /// Takes the oldest of these replies of the lane in a row, and counts the NEWs, which are accepted: how many. It may take none where some
-/// may be taken.
-#[inline(always)]
+/// may be taken. It isn't inlined, so that the code by which a single reply is taken stays small.
+#[inline(never)]
 fn take_row<L: StepLog>(
     core: &mut Core,
     accepted_new: &mut u64,
@@ -119,7 +119,8 @@ fn take_row<L: StepLog>(
     }
 }
 
-/// Takes the oldest of these replies of the lane row by row, as long as rows are taken: how many. None is turned away.
+/// Takes the oldest of these replies of the lane row by row, as long as rows are taken and more than one is left: how many. None is turned
+/// away.
 #[inline(always)]
 fn take_rows<L: StepLog>(
     core: &mut Core,
@@ -137,7 +138,7 @@ fn take_rows<L: StepLog>(
     ensures room { L.room log.old ≤ L.room log.new + 2 * result }
 {
     let mut taken = 0;
-    while taken < replies.len() {
+    while replies.len() - taken > 1 {
         // To read the count makes known that it is within its range.
         let _accepted_new = *accepted_new;
         let row = take_row(core, accepted_new, lane, &replies[taken..], log);
@@ -149,10 +150,10 @@ fn take_rows<L: StepLog>(
     taken
 }
 
-/// Takes several replies of the lane, oldest first, up to the first that may not be taken: how many. The first ones go in rows, as long as
-/// rows are taken, and then one by one. It isn't inlined, so that the code by which a single reply is taken stays small.
-#[inline(never)]
-fn take_many<L: StepLog>(
+/// Takes these replies of the lane, oldest first, up to the first that may not be taken: how many. The first ones go in rows, as long as
+/// rows are taken, and then one by one.
+#[inline(always)]
+fn take_run<L: StepLog>(
     core: &mut Core,
     pocket: &mut u64,
     accepted_new: &mut u64,
@@ -172,31 +173,6 @@ fn take_many<L: StepLog>(
     let _pocket = *pocket;
     let rows = take_rows(core, accepted_new, lane, replies, log);
     rows + take_each(core, pocket, accepted_new, lane, &replies[rows..], log)
-}
-
-/// Takes these replies of the lane, oldest first, up to the first that may not be taken: how many.
-#[inline(always)]
-fn take_run<L: StepLog>(
-    core: &mut Core,
-    pocket: &mut u64,
-    accepted_new: &mut u64,
-    lane: usize,
-    replies: &[Reply],
-    log: &mut L,
-) -> usize
-    requires lane { lane < lanes_of core.old.shape }
-    requires room { kept_in core.old + 2 * length replies.now ≤ L.room log.old }
-    ensures takes { (s : Sight) → lane < length s.taken → Takes (only lane result) result (with_core s core.old pocket.old accepted_new.old) (L.steps log.old) (with_core (with_taken s lane (take result replies.now)) core.new pocket.new accepted_new.new) (L.steps log.new) }
-    ensures few { result ≤ length replies.now }
-    ensures refused { result < length replies.now → (reply : ReplyValue) × (slice_get replies.now result ≡ Some reply) × (may_take core.new lane reply.event ≡ false) }
-    ensures shape { core.new.shape ≡ core.old.shape }
-    ensures room { L.room log.old + kept_in core.new ≤ L.room log.new + kept_in core.old + 2 * result }
-{
-    if replies.len() > 1 {
-        take_many(core, pocket, accepted_new, lane, replies, log)
-    } else {
-        take_each(core, pocket, accepted_new, lane, replies, log)
-    }
 }
 
 impl Scheduler {

@@ -291,31 +291,9 @@ steady_on l q more lanes w x t y u sized offer within steady view given =
 
 -- ---- what goes on with a run, before it is counted and logged
 
--- one event more of the queue, after so many
-pub times_more : (s : Passed) (q n : ℕ) → q < length s.given → given_times s q (n + 1) ≡ given_once (given_times s q n) q
-times_more s q n within =
-    ap (λ gs. record s { given = gs })
-    (ap (set s.given q) (omega (arith, get_or-set_at s.given q q (get_or s.given q 0 + n) 0 refl within))
-    ∙ sym (set-set s.given q (get_or s.given q 0 + n) (get_or (set s.given q (get_or s.given q 0 + n)) q 0 + 1)))
-
+-- none given
 pub times_none : (s : Passed) (q : ℕ) → given_times s q 0 ≡ s
 times_none s q = ap (λ gs. record s { given = gs }) (ap (set s.given q) (omega arith) ∙ set-get_or s.given q 0)
-
--- nothing is given
-pub none_given : (l q most : ℕ) (v : View) (s : Passed) → AreGiven l q most v s [] v
-none_given l q most v s = record { choices = (refl, times_none s q); named = All-nil (λ (d : Delivery). d.queue ≡ q); few = omega arith; shape = refl }
-
--- a gift more
-pub given_push : (l q most : ℕ) (v : View) (s : Passed) (ds : List Delivery) (w x : View) (d : Delivery) (u : Numbered) → q < length s.given → AreGiven l q most v s ds w → length ds < most
-    → IsChoice w (given_times s q (length ds)) l q u → d.queue ≡ q → numbered_in d ≡ u → x ≡ after w (Give l q u.number ∷ []) → x.shape ≡ w.shape → AreGiven l q most v s (ds ++ d ∷ []) x
-given_push l q most v s ds w x d u within given less choice queue event view shape =
-    let more : length (ds ++ d ∷ []) ≡ length ds + 1 = length_push ds d in
-    record {
-      choices = run_more l q v s ds (ds ++ d ∷ []) w x (given_times s q (length ds)) (given_times s q (length (ds ++ d ∷ []))) d u given.choices choice queue event view (ap (given_times s q) more ∙ times_more s q (length ds) within) refl;
-      named = All-push (λ (e : Delivery). e.queue ≡ q) ds d given.named queue;
-      few = omega (arith, less, more);
-      shape = shape ∙ given.shape;
-    }
 
 -- choices after others
 pub choices_append : (l : ℕ) (v : View) (s : Passed) (ds es : List Delivery) (w x : View) (t y : Passed) → AreChoices l v s ds w t → AreChoices l w t es x y → AreChoices l v s (ds ++ es) x y

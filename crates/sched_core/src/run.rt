@@ -1,13 +1,12 @@
 //! Events are given in a run: one after another of one queue and level, to one lane.
 
-ghost use Rattle.std.specs.Prelude.{◌≡◌, ℕ, ◌+◌, ◌<◌, ◌≤◌, false, List, ◌∷◌, [], ◌++◌, length, slice_index, IfSome, IsTrue};
+ghost use Rattle.std.specs.Prelude.{◌≡◌, ◌+◌, ◌<◌, ◌≤◌, false, List, ◌∷◌, [], ◌++◌, length, slice_index, IfSome, IsTrue};
 ghost use Rattle.evt_types.specs.Plan.{has_flow_lanes, lanes_of};
 ghost use Rattle.evt_types.specs.declared.shape.TheConstants.{MAX_QUEUES};
 ghost use Rattle.evt_types.specs.declared.step.Step.{Step as StepValue};
-ghost use Rattle.sched_core.specs.Offered.{AreOpenLanes, IsOfferIn, IsOnly, MayHold, numbered_in, slot_at};
-ghost use Rattle.sched_core.specs.Runs.{AreChoices, GoesOn, IsSteady, IsTurn, HasTurn, gifts_of};
-ghost use Rattle.small_set.specs.SmallSets.{Has};
-ghost use Rattle.transcripts.specs.Choice.{IsBetterLane, IsChoice, Passed};
+ghost use Rattle.sched_core.specs.Offered.{AreOpenLanes, IsOnly, numbered_in};
+ghost use Rattle.sched_core.specs.Runs.{AreChoices, IsSteady, IsTurn, HasTurn, gifts_of};
+ghost use Rattle.transcripts.specs.Choice.{IsChoice, Passed};
 ghost use Rattle.transcripts.specs.Standing.{Stands, View};
 
 use crate::offer::{Offer, numbered};
@@ -15,23 +14,13 @@ use crate::skips::Skips;
 use crate::state::Core;
 use crate::turn::Turn;
 use arrayvec::ArrayVec;
-use evt_types::{Delivery, Numbered};
-use parked_queue::{Found, Level};
-use small_set::{MAX_MEMBERS, SmallSet};
+use evt_types::Delivery;
+use parked_queue::Level;
+use small_set::SmallSet;
 use step_log::StepLog;
 
 /// The most events that a run gives.
 pub const MAX_RUN: usize = 32;
-
-/// What was found, as it is delivered.
-#[inline(always)]
-fn delivery_of(found: &Found) -> Delivery
-    ensures queue { result.queue ≡ found.now.waiting.event.queue }
-    ensures event { numbered_in result ≡ found.now.waiting }
-{
-    let Numbered { number, event } = found.waiting;
-    Delivery::new(event, number)
-}
 
 /// A run begins. One event is written over another at once, where to clear the run would write its place twice.
 #[inline(always)]
@@ -72,110 +61,8 @@ impl Core {
         self.orders.places_for(queue, room.min(quota))
     }
 
-    /// Whether the next event of the slot goes to the lane: it may hold the slot, and of these open lanes it is the best one.
-    #[inline(always)]
-    fn goes_to(&self, lane: usize, queue: usize, slot: usize, lanes: SmallSet) -> bool
-        requires queue { queue < length self.now.shape.queues }
-        requires lanes { (l : ℕ) → Has lanes l → l < lanes_of self.now.shape }
-        ensures fits { IsTrue result → MayHold self.now lanes queue slot lane }
-        ensures best { IsTrue result → (m : ℕ) → MayHold self.now lanes queue slot m → ¬ IsBetterLane self.now m lane }
-    {
-        self.port_for(queue, slot, lanes) == Some(lane)
-    }
-
-    /// The event of the queue and level that is given next, where that is quick to see and it goes to this lane of the open ones.
-    #[inline(always)]
-    fn next_in_run(&self, queue: usize, level: Level, lane: usize, lanes: SmallSet) -> Option<Found>
-        requires there { queue < length self.now.shape.queues }
-        requires ports { has_flow_lanes self.now.shape queue ≡ false }
-        requires lanes { (l : ℕ) → Has lanes l → l < lanes_of self.now.shape }
-        ensures offer { IfSome result (λ f. (s : Passed) → AreOpenLanes self.now s queue lanes → IsOfferIn self.now s queue level.number lane f.waiting) }
-        ensures slot { IfSome result (λ f. f.slot ≡ slot_at self.now queue f.waiting) }
-        ensures names { IfSome result (λ f. f.waiting.event.queue ≡ queue) }
-    {
-        let found = self
-            .queues
-            .head(queue, level, SmallSet::below(MAX_MEMBERS))?;
-        if self.goes_to(lane, queue, found.slot, lanes) {
-            Some(found)
-        } else {
-            None
-        }
-    }
-
-    /// A hint: whether a run goes on where several lanes are open. Mostly the next event goes to another lane, so this is asked before any
-    /// count is. Not inlined: else what it read would be taken up by the loop behind it, at a cost for each event.
-    #[inline(never)]
-    fn goes_on(&self, queue: usize, level: Level, lane: usize, lanes: SmallSet) -> bool
-        requires there { queue < length self.now.shape.queues }
-        requires ports { has_flow_lanes self.now.shape queue ≡ false }
-        requires lanes { (l : ℕ) → Has lanes l → l < lanes_of self.now.shape }
-    {
-        self.next_in_run(queue, level, lane, lanes).is_some()
-    }
-
-    /// Hands out what is chosen next, one by one, as long as that is an event of this queue and level for this lane and is quick to see.
-    /// Nothing is logged or counted yet.
-    #[inline(always)]
-    fn hand_each(
-        &mut self,
-        lane: usize,
-        queue: usize,
-        level: Level,
-        lanes: SmallSet,
-        bound: usize,
-        skips: &Skips,
-        run: &mut ArrayVec<Delivery, 32>,
-    )
-        requires turn { HasTurn self.old skips.now queue level.number }
-        requires ports { has_flow_lanes self.old.shape queue ≡ false }
-        requires steady { IsSteady self.old skips.now lane queue bound lanes }
-        requires counts { length skips.now.given ≡ MAX_QUEUES }
-        requires room { length run.old.items + bound ≤ 32 }
-        ensures { GoesOn lane queue bound self.old skips.now run.old.items self.new run.new.items }
-    {
-        for _ in 0..bound {
-            self.facts();
-            let Some(found) = self.next_in_run(queue, level, lane, lanes) else {
-                return;
-            };
-            self.hand_out(lane, queue, &found.waiting, level, found.slot);
-            run.push(delivery_of(&found));
-        }
-    }
-
-    /// Hands out what is chosen next, where the lane is the only open one as a row.
-    #[inline(always)]
-    fn hand_more(
-        &mut self,
-        lane: usize,
-        queue: usize,
-        level: Level,
-        lanes: SmallSet,
-        alone: bool,
-        bound: usize,
-        skips: &Skips,
-        run: &mut ArrayVec<Delivery, 32>,
-    )
-        requires turn { HasTurn self.old skips.now queue level.number }
-        requires ports { has_flow_lanes self.old.shape queue ≡ false }
-        requires steady { IsSteady self.old skips.now lane queue bound lanes }
-        requires alone { IsTrue alone → IsOnly lanes lane }
-        requires lane { lane < lanes_of self.old.shape }
-        requires counts { length skips.now.given ≡ MAX_QUEUES }
-        requires room { length run.old.items + bound ≤ 32 }
-        ensures { GoesOn lane queue bound self.old skips.now run.old.items self.new run.new.items }
-    {
-        if alone {
-            self.hand_row(lane, queue, level, lanes, bound, skips, run);
-        } else {
-            self.hand_each(lane, queue, level, lanes, bound, skips, run);
-        }
-    }
-
-    /// Goes on with a run: gives what is chosen next, one by one, as long as that is an event of this queue and level for this lane and is
-    /// quick to see. Which lanes are open doesn't change before a count is full. Each caller says for itself whether the lane is the only
-    /// open one, so that there is a loop for either.
+    /// Goes on with a run: gives what is chosen next to the only open lane, as a row, as long as that is an event of this queue and level
+    /// and is quick to see. Which lanes are open doesn't change before a count is full.
     #[inline(always)]
     fn give_more<L: StepLog>(
         &mut self,
@@ -183,7 +70,6 @@ impl Core {
         queue: usize,
         level: Level,
         lanes: SmallSet,
-        alone: bool,
         most: usize,
         skips: &mut Skips,
         run: &mut ArrayVec<Delivery, 32>,
@@ -193,7 +79,7 @@ impl Core {
         requires ports { has_flow_lanes self.old.shape queue ≡ false }
         requires lane { lane < lanes_of self.old.shape }
         requires lanes { AreOpenLanes self.old skips.old queue lanes }
-        requires alone { IsTrue alone → IsOnly lanes lane }
+        requires alone { IsOnly lanes lane }
         requires quota { slice_index skips.old.given queue ≤ self.old.shape.sweep }
         requires room { self.old.shape.sweep ≤ L.room log.old + slice_index skips.old.given queue }
         ensures choices { (v : View) (s : Passed) → AreChoices lane v s run.old.items self.old skips.old → AreChoices lane v s run.new.items self.new skips.new }
@@ -206,14 +92,14 @@ impl Core {
         let start = run.len();
         let bound = steady.min(most).min(MAX_RUN - start);
         self.facts();
-        self.hand_more(lane, queue, level, lanes, alone, bound, skips, run);
+        self.hand_row(lane, queue, level, lanes, bound, skips, run);
         let row = &run.as_slice()[start..];
         log.push_gives(lane, queue, row);
         skips.given_row(queue, row.len());
     }
 
-    /// Gives what was proposed, and then what is chosen after it, one by one, as long as that is an event of the same queue and level for
-    /// the same lane and is quick to see: no more than `most`, and than `MAX_RUN`. `run` then has just these, in their order, and the
+    /// Gives what was proposed, and then, where no other lane is open, what is chosen after it, as long as that is an event of the same
+    /// queue and level and is quick to see: no more than `most`, and than `MAX_RUN`. `run` then has just these, in their order, and the
     /// log their steps; they count as given in what the sweep passes over. Whose turn it is then, where that speeds the next choice.
     #[inline(always)]
     pub fn give_run<L: StepLog>(
@@ -266,9 +152,7 @@ impl Core {
         }
         let lanes = self.open_lanes(queue, skips);
         if is_only(lanes, lane) {
-            self.give_more(lane, queue, level, lanes, true, most - 1, skips, run, log);
-        } else if self.goes_on(queue, level, lane, lanes) {
-            self.give_more(lane, queue, level, lanes, false, most - 1, skips, run, log);
+            self.give_more(lane, queue, level, lanes, most - 1, skips, run, log);
         }
         None
     }

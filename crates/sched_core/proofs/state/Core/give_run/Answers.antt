@@ -50,16 +50,9 @@ pub returns-then-has_flow_lanes-clause-stands : goal.returns-then-has_flow_lanes
 returns-then-has_flow_lanes-clause-stands g c T stands =
     choices_stand c.args.offer.lane c.args.self.now c.args.skips.now c.begin.new.run.items c.close_slot.new.self c.given.new.self T (returns-then-has_flow_lanes-clause-choices g c) stands
 
-pub goes_on-requires-clause-lanes : goal.goes_on-requires-clause-lanes
-goes_on-requires-clause-lanes g c l has = port_is_lane c.give_at.new.self.shape l ((c.open_lanes-lanes.ensures l).0 has).lane
-
 pub give_more-requires-clause-turn : goal.give_more-requires-clause-turn
 give_more-requires-clause-turn g c =
     turn g (goal.at.give_more-requires-clause-turn g c).After-given
-
-pub give_more-requires-then-goes_on-clause-turn : goal.give_more-requires-then-goes_on-clause-turn
-give_more-requires-then-goes_on-clause-turn g c =
-    turn g (goal.at.give_more-requires-then-goes_on-clause-turn g c).After-given
 
 pub returns-then-has_flow_lanes-clause-turn : goal.returns-then-has_flow_lanes-clause-turn
 returns-then-has_flow_lanes-clause-turn g c = (
@@ -81,13 +74,13 @@ pub returns-then-count-eq0-clause-stands : goal.returns-then-count-eq0-clause-st
 returns-then-count-eq0-clause-stands g c T stands =
     choices_stand c.args.offer.lane c.args.self.now c.args.skips.now c.begin.new.run.items c.give_at.new.self c.given.new.self T (returns-then-count-eq0-clause-choices g c) stands
 
-pub returns-else-goes_on-clause-choices : goal.returns-else-goes_on-clause-choices
-returns-else-goes_on-clause-choices g c =
-    first g (goal.at.returns-else-goes_on-clause-choices g c).After-given
+pub returns-else-is_only-clause-choices : goal.returns-else-is_only-clause-choices
+returns-else-is_only-clause-choices g c =
+    first g (goal.at.returns-else-is_only-clause-choices g c).After-given
 
-pub returns-else-goes_on-clause-stands : goal.returns-else-goes_on-clause-stands
-returns-else-goes_on-clause-stands g c T stands =
-    choices_stand c.args.offer.lane c.args.self.now c.args.skips.now c.begin.new.run.items c.give_at.new.self c.given.new.self T (returns-else-goes_on-clause-choices g c) stands
+pub returns-else-is_only-clause-stands : goal.returns-else-is_only-clause-stands
+returns-else-is_only-clause-stands g c T stands =
+    choices_stand c.args.offer.lane c.args.self.now c.args.skips.now c.begin.new.run.items c.give_at.new.self c.given.new.self T (returns-else-is_only-clause-choices g c) stands
 
 pub returns-then-is_only-clause-choices : goal.returns-then-is_only-clause-choices
 returns-then-is_only-clause-choices g c = c.give_more.ensures.choices c.args.self.now c.args.skips.now
@@ -99,18 +92,6 @@ returns-then-is_only-clause-stands g c T stands =
 
 pub returns-then-is_only-clause-logged : goal.returns-then-is_only-clause-logged
 returns-then-is_only-clause-logged g c = c.give_more.ensures.logged (g.L.StepLog.steps c.args.log.now)
-    (first_logged c.args.offer.lane c.queue-queue.result (g.L.StepLog.steps c.args.log.now) (g.L.StepLog.steps c.give_at.new.log) c.begin.new.run.items c.args.offer.delivery c.numbered.result c.give_at.ensures.logged c.queue-queue.ensures c.numbered.ensures c.begin.ensures)
-
-pub returns-then-goes_on-clause-choices : goal.returns-then-goes_on-clause-choices
-returns-then-goes_on-clause-choices g c = c.give_more-then-goes_on.ensures.choices c.args.self.now c.args.skips.now
-    (first g (goal.at.returns-then-goes_on-clause-choices g c).After-given)
-
-pub returns-then-goes_on-clause-stands : goal.returns-then-goes_on-clause-stands
-returns-then-goes_on-clause-stands g c T stands =
-    choices_stand c.args.offer.lane c.args.self.now c.args.skips.now c.give_more-then-goes_on.new.run.items c.give_more-then-goes_on.new.self c.give_more-then-goes_on.new.skips T (returns-then-goes_on-clause-choices g c) stands
-
-pub returns-then-goes_on-clause-logged : goal.returns-then-goes_on-clause-logged
-returns-then-goes_on-clause-logged g c = c.give_more-then-goes_on.ensures.logged (g.L.StepLog.steps c.args.log.now)
     (first_logged c.args.offer.lane c.queue-queue.result (g.L.StepLog.steps c.args.log.now) (g.L.StepLog.steps c.give_at.new.log) c.begin.new.run.items c.args.offer.delivery c.numbered.result c.give_at.ensures.logged c.queue-queue.ensures c.numbered.ensures c.begin.ensures)
 
 pub slot_of-slot-requires : goal.slot_of-slot-requires

@@ -3,7 +3,7 @@ use Rattle.std.proofs.lemmas.List.{length-drop, length-set}
 use Rattle.event_scheduler.specs.Scheduler.{taken_at}
 use Rattle.event_scheduler.specs.Taking.{with_taken}
 use Rattle.event_scheduler.proofs.Rows.{next_row, rest_is, slice_behind}
-use Rattle.event_scheduler.proofs.take.take_many.Goals as goal
+use Rattle.event_scheduler.proofs.take.take_run.Goals as goal
 
 pub returns-clause-takes : goal.returns-clause-takes
 returns-clause-takes g c s within =

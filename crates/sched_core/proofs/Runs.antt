@@ -2,9 +2,9 @@
 use Rattle.std.proofs.Common.{◌≡◌, ◌≢◌, ℕ, ◌<◌, ◌≤◌, ◌+◌, ◌-◌, drop, take, Bool, true, false, cond, not, nat_lt, ◌&&◌, ◌||◌, ◌==◌, List, [], ◌∷◌, ◌++◌, length, filter, set, get_or, All, Contains, inl, inr, ⊎_elim, refl, sym, ap, ◌∙◌, subst, append_assoc, append-nil, arith}
 use Rattle.std.proofs.lemmas.Bool.{cases_eq, false≢true, lt-ltb}
 use Rattle.std.proofs.lemmas.Grind.{get_or-set_at}
-use Rattle.std.proofs.lemmas.List.{get_or-set_other, get_or-set_same, length-append, length-drop, length_push, map-append, map_push, set-get_or, set-set, take_all}
+use Rattle.std.proofs.lemmas.List.{get_or-set_other, get_or-set_same, length-append, length-drop, map-append, map_push, set-get_or, take_all}
 use Rattle.std.proofs.Math.Seq.{drop-append_seam}
-use Rattle.std.proofs.lemmas.List.Elements.{All-head, All-nil, All-push, All-tail, All-contains, All-contains_itself, All-filter}
+use Rattle.std.proofs.lemmas.List.Elements.{All-head, All-tail, All-contains, All-contains_itself, All-filter}
 use Rattle.lists.proofs.Lists.{All-front}
 use Rattle.evt_types.specs.Place.{Place}
 use Rattle.evt_types.specs.Plan.{Plan, depth_of, level_of, queue_of, is_ordered}
@@ -16,7 +16,7 @@ use Rattle.sched_core.proofs.Offers.{IsOfferAt, choice_is_offer, not_earlier}
 use Rattle.sched_core.specs.Offered.{IsOfferIn, IsOpenLane, numbered_in}
 use Rattle.sched_core.specs.Sized.{IsSized}
 use Rattle.sched_core.specs.declared.offer.Offer.{Offer}
-use Rattle.sched_core.specs.Runs.{AreChoices, AreGiven, GoesOn, IsSteady, HasTurn, gift_of, gifts_of, given_once, given_times}
+use Rattle.sched_core.specs.Runs.{AreChoices, GoesOn, IsSteady, HasTurn, gift_of, gifts_of, given_once, given_times}
 use Rattle.small_set.specs.declared.set.SmallSet.{SmallSet}
 use Rattle.step_log.specs.Gives.{gives_of}
 use Rattle.transcripts.proofs.WholeStands.{stands_give}

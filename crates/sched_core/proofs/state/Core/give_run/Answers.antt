@@ -1,5 +1,4 @@
 use Rattle.std.proofs.Common.{◌≡◌, ℕ, List, [], ◌∷◌, ◌++◌, ◌<◌, ◌∙◌, ap, arith, length, slice_index, subst, sym}
-use Rattle.evt_types.proofs.FlowLanes.{port_is_lane}
 use Rattle.evt_types.specs.Plan.{Plan, has_flow_lanes, lanes_of, level_of}
 use Rattle.evt_types.specs.declared.event.Delivery.{Delivery}
 use Rattle.evt_types.specs.declared.event.Numbered.{Numbered}

@@ -108,6 +108,22 @@ row_took rs s l v w p n k came log longer within fits_p fits_n may view logged t
 pub rest_is : (k : ℕ) (rs : List Reply) → take (length rs - k) (drop k rs) ≡ drop k rs
 rest_is k rs = take_all (length rs - k) (drop k rs) (omega (arith, length-drop k rs))
 
+-- none of them taken
+pub none_taken : (s : Sight) (l p m : ℕ) (rs : List Reply) (v : View) (log : List Step) → l < length s.taken → Takes (only l 0) 0 (with_core s v p m) log (with_core (with_taken s l (take 0 rs)) v p m) log
+none_taken s l p m rs v log within =
+    subst (λ (x : Sight). Takes (only l 0) 0 (with_core s v p m) log (with_core x v p m) log) (sym (run_none s l within)) (takes_none (only l 0) (with_core s v p m) log)
+
+-- the same taking, by what its count, its core, its count of NEWs and its log are
+pub taken_as :
+    (s : Sight) (l k n p m q r : ℕ) (rs : List Reply) (v u w : View) (log longer more : List Step) → k ≡ n → u ≡ w → q ≡ r → longer ≡ more
+    → Takes (only l n) n (with_core s v p m) log (with_core (with_taken s l (take n rs)) w p r) more
+    → Takes (only l k) k (with_core s v p m) log (with_core (with_taken s l (take k rs)) u p q) longer
+taken_as s l k n p m q r rs v u w log longer more count core news steps h =
+    subst (λ x. Takes (only l k) k (with_core s v p m) log (with_core (with_taken s l (take k rs)) u p q) x) (sym steps)
+    (subst (λ x. Takes (only l k) k (with_core s v p m) log (with_core (with_taken s l (take k rs)) u p x) more) (sym news)
+    (subst (λ (x : View). Takes (only l k) k (with_core s v p m) log (with_core (with_taken s l (take k rs)) x p r) more) (sym core)
+    (subst (λ j. Takes (only l j) j (with_core s v p m) log (with_core (with_taken s l (take j rs)) w p r) more) (sym count) h)))
+
 -- some replies of a lane, and some of those behind them
 pub next_row :
     (s : Sight) (l k n : ℕ) (rs : List Reply) (v u w : View) (p m q later r more : ℕ) (log mid longer : List Step) → l < length s.taken → n ≤ length (take (length rs - k) (drop k rs))

@@ -81,8 +81,8 @@ fn take_each<L: StepLog>(
 }
 
 /// Takes the oldest of these replies of the lane in a row, and counts the NEWs, which are accepted: how many. It may take none where some
-/// may be taken. It isn't inlined, so that the code by which a single reply is taken stays small.
-#[inline(never)]
+/// may be taken.
+#[inline(always)]
 fn take_row<L: StepLog>(
     core: &mut Core,
     accepted_new: &mut u64,
@@ -120,8 +120,8 @@ fn take_row<L: StepLog>(
 }
 
 /// Takes the oldest of these replies of the lane row by row, as long as rows are taken and more than one is left: how many. None is turned
-/// away.
-#[inline(always)]
+/// away. It isn't inlined, so that the code by which a single reply is taken stays small.
+#[inline(never)]
 fn take_rows<L: StepLog>(
     core: &mut Core,
     accepted_new: &mut u64,
@@ -171,7 +171,11 @@ fn take_run<L: StepLog>(
 {
     // To read the count makes known that it is within its range.
     let _pocket = *pocket;
-    let rows = take_rows(core, accepted_new, lane, replies, log);
+    let rows = if replies.len() > 1 {
+        take_rows(core, accepted_new, lane, replies, log)
+    } else {
+        0
+    };
     rows + take_each(core, pocket, accepted_new, lane, &replies[rows..], log)
 }
 

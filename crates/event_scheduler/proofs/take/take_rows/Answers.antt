@@ -1,16 +1,12 @@
-use Rattle.std.proofs.Common.{rules, ◌≡◌, ◌+◌, ap, arith, length, refl, subst, sym, take, ◌∙◌}
+use Rattle.std.proofs.Common.{rules, ◌≡◌, ◌+◌, ap, arith, length, refl, subst, take, ◌∙◌}
 use Rattle.std.proofs.lemmas.List.{length-drop}
-use Rattle.event_scheduler.specs.Scheduler.{Sight}
 use Rattle.event_scheduler.specs.Taking.{Takes, only, with_core, with_taken}
-use Rattle.event_scheduler.proofs.Rows.{rest_is, row_behind}
-use Rattle.event_scheduler.proofs.Taking.{run_none, takes_none}
+use Rattle.event_scheduler.proofs.Rows.{none_taken, rest_is, row_behind}
 use Rattle.event_scheduler.proofs.take.take_rows.Goals as goal
 
 pub loop-taken-init : goal.loop-taken-init
 loop-taken-init g c = (
-  λ s pocket fits within.
-      subst (λ (x : Sight). Takes (only c.args.lane 0) 0 (with_core s c.args.core.now pocket c.args.accepted_new.now) (g.L.StepLog.steps c.args.log.now) (with_core x c.args.core.now pocket c.args.accepted_new.now) (g.L.StepLog.steps c.args.log.now))
-      (sym (run_none s c.args.lane within)) (takes_none (only c.args.lane 0) (with_core s c.args.core.now pocket c.args.accepted_new.now) (g.L.StepLog.steps c.args.log.now)),
+  λ s pocket fits within. none_taken s c.args.lane pocket c.args.accepted_new.now c.args.replies.now c.args.core.now (g.L.StepLog.steps c.args.log.now) within,
   omega arith,
   refl,
   refl,

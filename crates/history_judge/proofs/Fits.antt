@@ -89,7 +89,7 @@ few_answers hs l t n rs are (suc i) k within first few =
 -- ---- the replies of a run
 
 -- the reply that a move submits is the one of its place, at the end
-submitted_at : (p : Plan) (hs : List Seen) (moves : List Move) (v : World) (clock : ℕ → ℕ) (i : ℕ) (s : Seen) (r : Reply) → Explains p hs moves v clock
+pub submitted_at : (p : Plan) (hs : List Seen) (moves : List Move) (v : World) (clock : ℕ → ℕ) (i : ℕ) (s : Seen) (r : Reply) → Explains p hs moves v clock
     → (was : WasSent hs moves clock i s r) → slice_get (v.submitted s.port) (sent_before hs s.port i) ≡ Some r
 submitted_at p hs moves v clock i s r x was =
     ap (λ rs. slice_get rs (sent_before hs s.port i)) (sym front.1)

@@ -1,10 +1,15 @@
+pub mod Accepted
 pub mod AnswerTimes
+pub mod Answered
+pub mod ByKeys
 pub mod Fits
 pub mod Followed
 pub mod Held
 pub mod Holdings
 pub mod Impossible
 pub mod InOrder
+pub mod Lefts
 pub mod Moments
 pub mod RisingTimes
+pub mod Unsent
 pub mod Watched

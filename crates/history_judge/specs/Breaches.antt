@@ -1,10 +1,11 @@
 -- What no run of a device of the shape fits.
 use Rattle.std.specs.Prelude.{ℕ, ◌≡◌, ◌≢◌, ◌<◌, true, false, ◌&&◌, Bool, List, nat_lt, length, Option, Some, None, slice_get}
-use Rattle.evt_types.specs.Plan.{Plan, queue_of, is_atomic, serves, slot_of}
+use Rattle.evt_types.specs.Plan.{Plan, queue_of, is_atomic, is_flows, serves, slot_of}
 use Rattle.evt_types.specs.declared.event.Event.{Event}
 use Rattle.history_judge.specs.Histories.{IsHeldAt}
+use Rattle.history_judge.specs.Values.{IsExcess}
 use Rattle.history_judge.specs.declared.breach.Breach.{Breach}
-use Rattle.history_judge.specs.declared.breach.Breach.TheVariants.{Unlinked, Together}
+use Rattle.history_judge.specs.declared.breach.Breach.TheVariants.{Unlinked, Together, Unsent}
 use Rattle.history_judge.specs.declared.seen.Deed.TheVariants.{Got}
 use Rattle.history_judge.specs.declared.seen.Seen.{Seen}
 
@@ -42,9 +43,15 @@ pub record IsTogether (p : Plan) (hs : List Seen) (i j : ℕ) : Type 0 where
   pub other_got : other.deed ≡ Got other_event
   pub same : AreOfOneSlot p one_event other_event
 
+-- A value of events was got more often than it was sent. No lane but the ports' own has any events, so that each enqueue is an entry.
+pub record IsUnsent (p : Plan) (hs : List Seen) (i : ℕ) : Type 0 where
+  pub ports : is_flows p.serving ≡ false
+  pub excess : IsExcess hs i
+
 abbrev pub IsBreach : Plan → List Seen → Breach → Type 0
 IsBreach p hs (Unlinked i) = IsUnlinked p hs i
 IsBreach p hs (Together i j) = IsTogether p hs i j
+IsBreach p hs (Unsent i) = IsUnsent p hs i
 
 -- what is answered: a breach that it has, or that it has none
 abbrev pub IsAnswer : Plan → List Seen → Option Breach → Type 0

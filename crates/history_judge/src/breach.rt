@@ -7,4 +7,6 @@ pub enum Breach {
     Unlinked { at: usize },
     /// Two ports held events of one slot of an atomic queue at the same time.
     Together { at: usize, other: usize },
+    /// A port got an event that nobody enqueued, or one that came more often than it was enqueued.
+    Unsent { at: usize },
 }

@@ -10,6 +10,7 @@ use crate::fault::HistoryFault;
 use crate::holds::{first_unlinked, port_count};
 use crate::seen::Seen;
 use crate::times::answer_times;
+use crate::values::first_excess;
 use crate::watch::first_together;
 use evt_types::{Serving, Shape};
 use std::alloc::Global;
@@ -49,6 +50,9 @@ pub fn judge_history(
     refuse(alloc, shape, history)?;
     if let Some(at) = first_unlinked(shape, history) {
         return Ok(Some(Breach::Unlinked { at }));
+    }
+    if let Some(at) = first_excess(alloc, history)? {
+        return Ok(Some(Breach::Unsent { at }));
     }
     let _limits = shape.limit();
     let times = answer_times(alloc, port_count(shape), history)?;

@@ -10,6 +10,7 @@ mod judging;
 mod laws;
 mod seen;
 mod times;
+mod values;
 mod watch;
 
 pub use breach::Breach;

@@ -1,12 +1,23 @@
-use Rattle.std.proofs.Common.{subst, sym}
+use Rattle.std.proofs.Common.{rules, ℕ, IfNone, IfSome, subst, sym}
+use Rattle.std.proofs.lemmas.Bool.{false_from_ne_true}
+use Rattle.evt_types.specs.Plan.{is_flows}
+use Rattle.history_judge.proofs.Answered.{answered}
 use Rattle.history_judge.specs.Entries.{IsUnknown}
 use Rattle.history_judge.specs.Holds.{AreTimes}
+use Rattle.history_judge.specs.Values.{IsExcess}
 use Rattle.history_judge.specs.Watching.{IsFit}
 use Rattle.history_judge.specs.declared.fault.HistoryFault.TheVariants as faults
 use Rattle.history_judge.proofs.judging.judge_history.Goals as goal
 
 pub first_unlinked-requires : goal.first_unlinked-requires
 first_unlinked-requires c = λ i bad. c.in_ok-refuse.ensures.fit (faults.Port i) bad
+
+pub returns-in-Some-2-clause-answer : goal.returns-in-Some-2-clause-answer
+returns-in-Some-2-clause-answer c =
+    record {
+      ports = false_from_ne_true (is_flows c.args.shape.now.serving) (c.in_ok-refuse.ensures.fit faults.Flows);
+      excess = subst (λ o. IfSome o (IsExcess c.args.history.now)) c.in-Some-2.is c.in_ok-at.ensures.some;
+    }
 
 pub answer_times-requires : goal.answer_times-requires
 answer_times-requires c =
@@ -23,3 +34,9 @@ first_together-requires c =
       linked = c.in_default.ensures.none;
       noted = subst (λ n. AreTimes n c.args.history.now c.in_ok-times.times.items) c.port_count.ensures c.in_ok-times.ensures;
     })
+
+pub returns-clause-answer : goal.returns-clause-answer
+returns-clause-answer c =
+    answered c.args.shape.now c.args.history.now c.in_ok-found.found c.map.result c.in_default.ensures.none
+    (subst (λ o. IfNone o ((i : ℕ) → ¬ IsExcess c.args.history.now i)) c.in_default-2.is c.in_ok-at.ensures.none)
+    c.in_ok-found.ensures.some c.in_ok-found.ensures.none _ (λ x b post. search rules) c.map.ensures.cases

@@ -90,7 +90,7 @@ pub record HoldsEvent (p : Plan) (w : World) (l : ℕ) (e : Event) : Type 0 wher
   pub is : IsPairOf p w.log pair e
 
 -- what was got by then is among what was received by then
-got_by : (p : Plan) (hs : List Seen) (moves : List Move) (v : World) (clock : ℕ → ℕ) (i t : ℕ) (s : Seen) (e : Event) → Explains p hs moves v clock
+pub got_by : (p : Plan) (hs : List Seen) (moves : List Move) (v : World) (clock : ℕ → ℕ) (i t : ℕ) (s : Seen) (e : Event) → Explains p hs moves v clock
     → WasGot hs moves v clock i s e → s.ended ≤ t → got_before hs s.port i < (after_moves moves (made_by clock t (length moves))).received s.port
 got_by p hs moves v clock i t s e x was since =
     omega (

@@ -10,6 +10,7 @@ pub mod Impossible
 pub mod InOrder
 pub mod Lefts
 pub mod Moments
+pub mod Overfull
 pub mod RisingTimes
 pub mod Unsent
 pub mod Watched

@@ -130,7 +130,7 @@ together_self p hs i b =
 
 -- ---- counts
 
-counts_on : (hs : List Seen) (got : List ℕ) (i l : ℕ) (s : Seen) → slice_get hs i ≡ Some s → s.port < length got → get_or got s.port 0 ≡ got_before hs s.port i
+pub counts_on : (hs : List Seen) (got : List ℕ) (i l : ℕ) (s : Seen) → slice_get hs i ≡ Some s → s.port < length got → get_or got s.port 0 ≡ got_before hs s.port i
     → get_or got l 0 ≡ got_before hs l i → get_or (counted got s) l 0 ≡ got_before hs l (i + 1)
 counts_on hs got i l s at port here there = ⊎_elim same other (cases_eq l s.port)
   where

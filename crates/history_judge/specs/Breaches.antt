@@ -1,11 +1,11 @@
 -- What no run of a device of the shape fits.
-use Rattle.std.specs.Prelude.{ℕ, ◌≡◌, ◌≢◌, ◌<◌, true, false, ◌&&◌, Bool, List, nat_lt, length, Option, Some, None, slice_get}
-use Rattle.evt_types.specs.Plan.{Plan, queue_of, is_atomic, is_flows, serves, slot_of}
+use Rattle.std.specs.Prelude.{ℕ, ◌≡◌, ◌≢◌, ◌+◌, ◌<◌, true, false, ◌&&◌, Bool, List, nat_lt, length, Option, Some, None, slice_get}
+use Rattle.evt_types.specs.Plan.{Plan, depth_of, queue_of, is_atomic, is_flows, serves, slot_of}
 use Rattle.evt_types.specs.declared.event.Event.{Event}
-use Rattle.history_judge.specs.Histories.{IsHeldAt}
+use Rattle.history_judge.specs.Histories.{IsHeldAt, answers_begun, gets, got_before}
 use Rattle.history_judge.specs.Values.{IsExcess}
 use Rattle.history_judge.specs.declared.breach.Breach.{Breach}
-use Rattle.history_judge.specs.declared.breach.Breach.TheVariants.{Unlinked, Together, Unsent}
+use Rattle.history_judge.specs.declared.breach.Breach.TheVariants.{Unlinked, Together, Unsent, Overfull}
 use Rattle.history_judge.specs.declared.seen.Deed.TheVariants.{Got}
 use Rattle.history_judge.specs.declared.seen.Seen.{Seen}
 
@@ -48,10 +48,19 @@ pub record IsUnsent (p : Plan) (hs : List Seen) (i : ℕ) : Type 0 where
   pub ports : is_flows p.serving ≡ false
   pub excess : IsExcess hs i
 
+-- Of the events that the port got, up to and with the i-th entry, more than its depth are in its hand for certain when that entry ends.
+pub record IsOverfull (p : Plan) (hs : List Seen) (i : ℕ) : Type 0 where
+  pub seen : Seen
+  pub entry : slice_get hs i ≡ Some seen
+  pub port : seen.port < length p.ports
+  pub got : gets seen.deed ≡ true
+  pub more : depth_of p seen.port + answers_begun hs seen.port seen.ended < got_before hs seen.port i + 1
+
 abbrev pub IsBreach : Plan → List Seen → Breach → Type 0
 IsBreach p hs (Unlinked i) = IsUnlinked p hs i
 IsBreach p hs (Together i j) = IsTogether p hs i j
 IsBreach p hs (Unsent i) = IsUnsent p hs i
+IsBreach p hs (Overfull i) = IsOverfull p hs i
 
 -- what is answered: a breach that it has, or that it has none
 abbrev pub IsAnswer : Plan → List Seen → Option Breach → Type 0

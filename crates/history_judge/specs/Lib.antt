@@ -1,4 +1,5 @@
 pub mod Breaches
+pub mod Depths
 pub mod Entries
 pub mod Histories
 pub mod Holds

@@ -5,6 +5,7 @@ ghost use Rattle.history_judge.specs.Breaches.{IsAnswer};
 ghost use Rattle.history_judge.specs.Entries.{IsRefused};
 
 use crate::breach::Breach;
+use crate::depths::first_overfull;
 use crate::entries::{first_misplaced, first_unknown, first_unsorted};
 use crate::fault::HistoryFault;
 use crate::holds::{first_unlinked, port_count};
@@ -56,6 +57,9 @@ pub fn judge_history(
     }
     let _limits = shape.limit();
     let times = answer_times(alloc, port_count(shape), history)?;
+    if let Some(at) = first_overfull(alloc, shape, history, &times)? {
+        return Ok(Some(Breach::Overfull { at }));
+    }
     let found = first_together(alloc, shape, history, &times)?;
     Ok(found.map(|(at, other)| Breach::Together { at, other }))
 }

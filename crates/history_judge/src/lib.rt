@@ -3,6 +3,7 @@
 #![tactic(auto)]
 
 mod breach;
+mod depths;
 mod entries;
 mod fault;
 mod holds;

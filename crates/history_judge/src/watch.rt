@@ -20,7 +20,7 @@ pub(crate) struct Watch {
 }
 
 /// So many counts of nothing.
-fn no_counts(alloc: Global, count: usize) -> Result<Vec<usize>, Memory>
+pub(crate) fn no_counts(alloc: Global, count: usize) -> Result<Vec<usize>, Memory>
     ensures { IfOk result (λ v. v.items ≡ replicate count 0) }
 {
     let counts = vec![in alloc; 0; count]?;
@@ -36,7 +36,7 @@ fn no_holds(alloc: Global, count: usize) -> Result<Vec<Option<Hold>>, Memory>
 }
 
 /// Whether what ends then, or never, ends after the time.
-fn ends_after(time: u64, until: Option<u64>) -> bool
+pub(crate) fn ends_after(time: u64, until: Option<u64>) -> bool
     ensures { result ≡ specs.ends_after time until }
 {
     match until {
@@ -87,6 +87,19 @@ fn longer_of(kept: &Option<Hold>, hold: Hold) -> Hold
     }
 }
 
+/// How many events the entry's port got before it; the entry is counted.
+pub(crate) fn count_got(got: &mut Vec<usize>, seen: &Seen) -> usize
+    requires port { seen.now.port < length got.old.items }
+    requires few { slice_index_or got.old.items seen.now.port 0 < 2 ^ 64 - 1 }
+    ensures before { result ≡ slice_index_or got.old.items seen.now.port 0 }
+    ensures counted { got.new.items ≡ counted got.old.items seen.now }
+{
+    let before = got[seen.port];
+    let more = usize::from(matches!(seen.deed, Deed::Got(_)));
+    got[seen.port] = before + more;
+    before
+}
+
 impl Watch {
     /// It went through nothing.
     pub(crate) fn new(alloc: Global, shape: &Shape, history: &[Seen]) -> Result<Watch, Memory>
@@ -105,10 +118,7 @@ impl Watch {
         ensures got { self.new.got.items ≡ counted self.old.got.items seen.now }
         ensures latest { self.new.latest ≡ self.old.latest }
     {
-        let before = self.got[seen.port];
-        let more = usize::from(matches!(seen.deed, Deed::Got(_)));
-        self.got[seen.port] = before + more;
-        before
+        count_got(&mut self.got, seen)
     }
 
     /// Goes through the next entry; where its port holds an event together with another port, of one slot, the place of the other's

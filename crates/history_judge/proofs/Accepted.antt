@@ -146,6 +146,16 @@ gives_few p c T lawful = count_by_keys (λ m n. m == n) eqb_is eqb_same queue_gi
           count_agree (λ s. (queue_entered s == q) && accepts c s) (λ s. some_is c (accepted_in q s)) T (accepts_here c q),
         )
 
+-- a queue's events are among all that were accepted
+pub queue_few : (c : Event → Bool) (T : List Step) (q : ℕ) → count_by c (accepted T q) ≤ count_by (accepts c) T
+unfolding accepted
+queue_few c T q =
+    omega (
+      arith,
+      count_filter_map c (accepted_in q) T,
+      count_le (λ s. some_is c (accepted_in q s)) (accepts c) T (λ s is. (and_parts (queue_entered s == q) (accepts c s) (accepts_here c q s ∙ is)).1),
+    )
+
 -- ---- what was accepted of what was passed on
 
 abbrev enters_new : (Event → Bool) → Step → Bool

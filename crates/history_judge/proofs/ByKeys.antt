@@ -1,7 +1,7 @@
 -- Counts of the items of lists, key by key.
-use Rattle.std.specs.Prelude.{ℕ, ◌≡◌, ◌≢◌, ◌+◌, ◌<◌, ◌≤◌, Bool, true, false, cond, ◌&&◌, List, [], ◌∷◌, ◌++◌, ◌==◌, count_by, sum_by, filter_map, AllPairs, Option, Some, None, if◌then◌else◌, ◌⊎◌}
+use Rattle.std.specs.Prelude.{ℕ, ◌≡◌, ◌≢◌, ◌+◌, ◌<◌, ◌≤◌, Bool, true, false, cond, ◌&&◌, List, [], ◌∷◌, ◌++◌, ◌==◌, count_by, sum_by, filter_map, AllPairs, Option, Some, None, slice_get, if◌then◌else◌, ◌⊎◌}
 use Rattle.std.specs.List.{cons_option}
-use Rattle.std.proofs.Common.{refl, sym, ap, ◌∙◌, arith, inl, inr, ⊎_elim}
+use Rattle.std.proofs.Common.{zero, suc, refl, sym, ap, ◌∙◌, arith, inl, inr, ⊎_elim}
 use Rattle.std.proofs.lemmas.Bool.{and_from, and_parts, cases_Bool, cond-true, cond-false}
 use Rattle.std.proofs.lemmas.List.Elements.{All-weaker}
 use Rattle.lists.proofs.Lists.{All-differs, eqb_other, eqb_same}
@@ -58,6 +58,12 @@ pub count_filter_map : {X Y : Type 0} (p : Y → Bool) (h : X → Option Y) (xs 
 count_filter_map p h [] = refl
 count_filter_map p h (x ∷ xs) =
     omega (arith, count_option p (h x) (filter_map h xs), count_by-cons (λ y. some_is p (h y)) x xs, count_filter_map p h xs)
+
+-- one that stands there is counted
+pub one_counted : {X : Type 0} (p : X → Bool) (xs : List X) (k : ℕ) → some_is p (slice_get xs k) ≡ true → 1 ≤ count_by p xs
+one_counted p [] k is = cc
+one_counted p (x ∷ xs) zero is = omega (arith, count_by-cons p x xs, cond-true {A = ℕ} (p x) 1 0 is)
+one_counted p (x ∷ xs) (suc k) is = omega (arith, count_by-cons p x xs, one_counted p xs k is)
 
 -- ---- an item that is counted
 

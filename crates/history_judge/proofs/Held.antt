@@ -1,5 +1,5 @@
 -- What an entry that was got tells of a run that fits: its pair, its slot, and that it is in hand while it isn't answered.
-use Rattle.std.specs.Prelude.{ℕ, ◌≡◌, ◌+◌, ◌-◌, ◌<◌, ◌≤◌, true, List, ◌++◌, length, take, drop, All, count_by, filter_map, Some, slice_get}
+use Rattle.std.specs.Prelude.{ℕ, ◌≡◌, ◌+◌, ◌-◌, ◌<◌, ◌≤◌, List, length, take, drop, All, count_by, filter_map, Some, slice_get}
 use Rattle.std.proofs.Common.{refl, sym, ap, ◌∙◌, subst, arith, get_or, get_or-drop, get_or-take, length-drop, length-take}
 use Rattle.std.proofs.lemmas.List.Elements.{All-weaker, filter_map-append}
 use Rattle.std.proofs.lemmas.Option.{get_or_from_slice_get, slice_get_read, slice_get_within}
@@ -21,8 +21,8 @@ use Rattle.world_laws.proofs.Consistent.{consistent_end, consistent_none, consis
 use Rattle.world_laws.proofs.Worlds.{at_lane-same}
 use Rattle.world_laws.specs.World.{World, IsConsistent, Move, Receives, after_moves, empty, in_hand}
 use Rattle.history_judge.proofs.Fits.{answers_few}
-use Rattle.history_judge.proofs.Moments.{Grows, grows_to_end, grows_to_moment, made_by, made_early, moment_moves}
-use Rattle.history_judge.specs.Histories.{Explains, IsHeldAt, IsSameBut, WasDone, WasGot, answers_begun, got_before}
+use Rattle.history_judge.proofs.Moments.{grows_to_end, grows_to_moment, made_by, made_early, moment_moves}
+use Rattle.history_judge.specs.Histories.{Explains, IsHeldAt, IsSameBut, WasDone, WasGot, got_before}
 use Rattle.history_judge.specs.declared.seen.Deed.TheVariants.{Got}
 use Rattle.history_judge.specs.declared.seen.Seen.{Seen}
 
@@ -41,7 +41,7 @@ entries_formed p T q formed =
     by_step : (s : Step) → IsFormed p s → (e : Event) → accepted_in q s ≡ Some e → IsEntry p q e
     by_step s is e at = let accept = accepted_in_is q s e at in formed_entry p q e accept.0 (subst (IsFormed p) accept.1 is)
 
-event_stays : (P T : List Step) (q n : ℕ) (e : Event) → IsPrefix P T → n < length (accepted P q) → event_at T q n ≡ Some e → event_at P q n ≡ Some e
+pub event_stays : (P T : List Step) (q n : ℕ) (e : Event) → IsPrefix P T → n < length (accepted P q) → event_at T q n ≡ Some e → event_at P q n ≡ Some e
 unfolding accepted
 event_stays P T q n e front within at =
     sym (slice_get-append_left (filter_map (accepted_in q) P) (filter_map (accepted_in q) front.0) n within)
@@ -105,15 +105,18 @@ got_by p hs moves v clock i t s e x was since =
     early =
         omega (arith, made_early clock t (length moves) was.move (slice_get_within moves was.move (Receives s.port) was.made) (omega (arith, was.time.ended, since)))
 
--- an entry that is held is in its port's hand, in each run that fits
-pub held_in_hand : (p : Plan) (hs : List Seen) (moves : List Move) (v : World) (clock : ℕ → ℕ) (i t : ℕ) (s : Seen) (e : Event) → Explains p hs moves v clock
-    → IsHeldAt hs i t s → s.port < length p.ports → s.deed ≡ Got e → HoldsEvent p (after_moves moves (made_by clock t (length moves))) s.port e
-held_in_hand p hs moves v clock i t s e x held port got =
+-- the pair was given in the world with this number, and is of an event that was accepted
+pub record IsGivenIn (w : World) (l n : ℕ) (pair : ℕ × ℕ) : Type 0 where
+  pub given : slice_get (out w.log l) n ≡ Some pair
+  pub accepted : pair.1 < length (accepted w.log pair.0)
+
+pub given_by : (p : Plan) (hs : List Seen) (moves : List Move) (v : World) (clock : ℕ → ℕ) (i t : ℕ) (s : Seen) (e : Event) → Explains p hs moves v clock
+    → (was : WasGot hs moves v clock i s e) → s.ended ≤ t → IsGivenIn (after_moves moves (made_by clock t (length moves))) s.port (got_before hs s.port i) was.pair
+given_by p hs moves v clock i t s e x was since =
     record {
-      place = got_before hs s.port i - count_by is_answer (now.submitted s.port);
-      pair = was.pair;
-      there = slice_get_part (out now.log s.port) (count_by is_answer (now.submitted s.port)) (now.received s.port) (got_before hs s.port i) was.pair given (omega (arith, held.unanswered, answers_few p hs moves v clock s.port t x port)) received;
-      is = pair_of_got p now.log v.log was.pair e was.event (consistent_end p empty v moves x.run (consistent_none p)).lawful front accepted_now was.accepted was.same;
+      given = given;
+      accepted =
+          All-slice_get (HasEvent now.log) (out now.log s.port) (got_before hs s.port i) was.pair (out_is_accepted p now.log s.port (facts_of p now.log consistent.lawful)) given;
     }
   where
     now : World
@@ -121,6 +124,28 @@ held_in_hand p hs moves v clock i t s e x held port got =
 
     consistent : IsConsistent p now
     consistent = consistent_run p empty v moves x.run (consistent_none p) (made_by clock t (length moves))
+
+    front : IsPrefix now.log v.log
+    front = (grows_to_end p v moves (made_by clock t (length moves)) x.run).log
+
+    given : slice_get (out now.log s.port) (got_before hs s.port i) ≡ Some was.pair
+    given =
+        sym (slice_get-append_left (out now.log s.port) (out front.0 s.port) (got_before hs s.port i) (omega (arith, got_by p hs moves v clock i t s e x was since, consistent.received s.port)))
+        ∙ (ap (λ xs. slice_get xs (got_before hs s.port i)) (sym (out-append now.log front.0 s.port) ∙ ap (λ T. out T s.port) front.1) ∙ was.received)
+
+-- an entry that is held is in its port's hand, in each run that fits
+pub held_in_hand : (p : Plan) (hs : List Seen) (moves : List Move) (v : World) (clock : ℕ → ℕ) (i t : ℕ) (s : Seen) (e : Event) → Explains p hs moves v clock
+    → IsHeldAt hs i t s → s.port < length p.ports → s.deed ≡ Got e → HoldsEvent p (after_moves moves (made_by clock t (length moves))) s.port e
+held_in_hand p hs moves v clock i t s e x held port got =
+    record {
+      place = got_before hs s.port i - count_by is_answer (now.submitted s.port);
+      pair = was.pair;
+      there = slice_get_part (out now.log s.port) (count_by is_answer (now.submitted s.port)) (now.received s.port) (got_before hs s.port i) was.pair is_given.given (omega (arith, held.unanswered, answers_few p hs moves v clock s.port t x port)) received;
+      is = pair_of_got p now.log v.log was.pair e was.event (consistent_end p empty v moves x.run (consistent_none p)).lawful front is_given.accepted was.accepted was.same;
+    }
+  where
+    now : World
+    now = after_moves moves (made_by clock t (length moves))
 
     was : WasGot hs moves v clock i s e
     was = subst (WasDone hs moves v clock i s) got (x.each i s held.entry)
@@ -131,11 +156,5 @@ held_in_hand p hs moves v clock i t s e x held port got =
     received : got_before hs s.port i < now.received s.port
     received = got_by p hs moves v clock i t s e x was held.since
 
-    given : slice_get (out now.log s.port) (got_before hs s.port i) ≡ Some was.pair
-    given =
-        sym (slice_get-append_left (out now.log s.port) (out front.0 s.port) (got_before hs s.port i) (omega (arith, received, consistent.received s.port)))
-        ∙ (ap (λ xs. slice_get xs (got_before hs s.port i)) (sym (out-append now.log front.0 s.port) ∙ ap (λ T. out T s.port) front.1) ∙ was.received)
-
-    accepted_now : was.pair.1 < length (accepted now.log was.pair.0)
-    accepted_now =
-        All-slice_get (HasEvent now.log) (out now.log s.port) (got_before hs s.port i) was.pair (out_is_accepted p now.log s.port (facts_of p now.log consistent.lawful)) given
+    is_given : IsGivenIn now s.port (got_before hs s.port i) was.pair
+    is_given = given_by p hs moves v clock i t s e x was held.since

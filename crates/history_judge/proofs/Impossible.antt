@@ -18,11 +18,12 @@ use Rattle.world_laws.specs.World.{World, Move, after_moves, empty, in_hand}
 use Rattle.history_judge.proofs.Held.{HoldsEvent, IsPairOf, held_in_hand, pair_of_got}
 use Rattle.history_judge.proofs.Moments.{made_by}
 use Rattle.history_judge.proofs.Overfull.{overfull_fits_none}
+use Rattle.history_judge.proofs.Premature.{early_fits_none}
 use Rattle.history_judge.proofs.Unsent.{unsent_fits_none}
 use Rattle.history_judge.specs.Breaches.{AreOfOneSlot, IsBreach, IsTogether, IsUnlinked, may_get}
 use Rattle.history_judge.specs.Histories.{Explains, IsImpossible, WasDone, WasGot, got_before}
 use Rattle.history_judge.specs.declared.breach.Breach.{Breach}
-use Rattle.history_judge.specs.declared.breach.Breach.TheVariants.{Unlinked, Together, Unsent, Overfull}
+use Rattle.history_judge.specs.declared.breach.Breach.TheVariants.{Unlinked, Together, Unsent, Early, Overfull}
 use Rattle.history_judge.specs.declared.seen.Seen.{Seen}
 
 -- ---- what a port may get
@@ -91,4 +92,5 @@ pub breach_fits_none : (p : Plan) (hs : List Seen) (b : Breach) → IsBreach p h
 breach_fits_none p hs (Unlinked i) b = unlinked_fits_none p hs i b
 breach_fits_none p hs (Together i j) b = together_fits_none p hs i j b
 breach_fits_none p hs (Unsent i) b = unsent_fits_none p hs i b
+breach_fits_none p hs (Early i) b = early_fits_none p hs i b
 breach_fits_none p hs (Overfull i) b = overfull_fits_none p hs i b

@@ -38,7 +38,7 @@ pub is_at_value : (e f : Event) → is_at (value_cmp (value_of e)) (value_of f) 
 is_at_value e f =
     eq_field e.flow f.flow _ _ (eq_field e.sub_type f.sub_type _ _ (eq_field e.event_type f.event_type _ _ (eq_field e.queue f.queue _ _ (eq_field e.priority f.priority _ _ (eq_number e.payload f.payload)))))
 
-same_self : (e : Event) → is_same_but e e ≡ true
+pub same_self : (e : Event) → is_same_but e e ≡ true
 same_self e =
     and_from (e.flow == e.flow) _ (eqb_same e.flow) (and_from (e.sub_type == e.sub_type) _ (eqb_same e.sub_type)
     (and_from (e.event_type == e.event_type) _ (eqb_same e.event_type) (and_from (e.queue == e.queue) _ (eqb_same e.queue)

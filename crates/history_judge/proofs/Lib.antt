@@ -1,6 +1,7 @@
 pub mod Accepted
 pub mod AnswerTimes
 pub mod Answered
+pub mod Begun
 pub mod ByKeys
 pub mod Fits
 pub mod Followed
@@ -11,6 +12,7 @@ pub mod InOrder
 pub mod Lefts
 pub mod Moments
 pub mod Overfull
+pub mod Premature
 pub mod RisingTimes
 pub mod Unsent
 pub mod Watched

@@ -1,5 +1,5 @@
 -- What a port holds at the end of a call: more than its depth fits no run; and how the judge finds it.
-use Rattle.std.specs.Prelude.{ℕ, ◌≡◌, ◌+◌, ◌-◌, ◌<◌, ◌≤◌, Bool, true, false, cond, ◌&&◌, List, length, nat_le, Some, slice_get}
+use Rattle.std.specs.Prelude.{ℕ, ◌≡◌, ◌+◌, ◌-◌, ◌<◌, ◌≤◌, true, false, cond, ◌&&◌, List, length, nat_le, Some, slice_get}
 use Rattle.std.proofs.Common.{refl, sym, ap, ◌∙◌, arith, subst, get_or, replicate}
 use Rattle.std.proofs.lemmas.Bool.{and_from, and_parts, false≢true, le-leb, leb-true}
 use Rattle.std.proofs.lemmas.List.{get_or-replicate, length-replicate, length-set, take_all}
@@ -7,12 +7,11 @@ use Rattle.std.proofs.lemmas.Option.{same_Some, slice_get_within}
 use Rattle.std.specs.declared.alloc.Global.{Global}
 use Rattle.std.specs.declared.vec.Vec.{Vec}
 use Rattle.evt_types.specs.Plan.{Plan, depth_of}
-use Rattle.evt_types.specs.declared.event.Event.{Event}
 use Rattle.transcripts.proofs.Pushes.{length-unanswered}
 use Rattle.transcripts.specs.Lawful.{HasRoom}
 use Rattle.world_laws.proofs.Consistent.{consistent_none, consistent_run}
 use Rattle.world_laws.proofs.Said.{answers_few as taken_few}
-use Rattle.world_laws.specs.World.{World, IsConsistent, Move, after_moves, empty}
+use Rattle.world_laws.specs.World.{World, IsConsistent, after_moves, empty}
 use Rattle.history_judge.proofs.Fits.{answers_few}
 use Rattle.history_judge.proofs.Held.{got_by}
 use Rattle.history_judge.proofs.Holdings.{port_there}
@@ -22,7 +21,7 @@ use Rattle.history_judge.proofs.RisingTimes.{begun_are_past, not_past, times_ris
 use Rattle.history_judge.proofs.Watched.{counts_on}
 use Rattle.history_judge.specs.Breaches.{IsOverfull}
 use Rattle.history_judge.specs.Depths.{AreCounted, exceeds}
-use Rattle.history_judge.specs.Histories.{Explains, IsImpossible, WasDone, answers_begun, gets, got_before}
+use Rattle.history_judge.specs.Histories.{IsImpossible, WasDone, answers_begun, gets, got_before}
 use Rattle.history_judge.specs.Holds.{answer_times, ends_after, until_in}
 use Rattle.history_judge.specs.Watching.{IsFit, counted}
 use Rattle.history_judge.specs.declared.seen.Deed.{Deed}

@@ -19,6 +19,7 @@ use Rattle.lists.proofs.Lists.{eqb_is, eqb_other, eqb_same, filter_map-none, sli
 use Rattle.lists.proofs.Parts.{count_by-front, count_by-push, take_next}
 use Rattle.lists.proofs.Sums.{sum_of_map}
 use Rattle.transcripts.proofs.Account.{HasLane, formed_lanes}
+use Rattle.transcripts.specs.Lawful.{Lawful}
 use Rattle.transcripts.specs.Replies.{Said, replies_in, said, said_by, said_in}
 use Rattle.transcripts.specs.Transcript.{out}
 use Rattle.world_laws.proofs.Consistent.{consistent_end, consistent_none}
@@ -34,7 +35,7 @@ use Rattle.history_judge.specs.declared.seen.Deed.TheVariants.{Sent, Got}
 use Rattle.history_judge.specs.declared.seen.Seen.{Seen}
 
 -- events that agree are of the same values
-same_value : (d e f : Event) → IsSameBut e f → is_same_but d e ≡ is_same_but d f
+pub same_value : (d e f : Event) → IsSameBut e f → is_same_but d e ≡ is_same_but d f
 same_value d e f same =
     λ i. (d.flow == same.flow i) && ((d.sub_type == same.sub_type i) && ((d.event_type == same.event_type i) && ((d.queue == same.queue i) && ((d.priority == same.priority i) && (d.payload == same.payload i)))))
 
@@ -52,13 +53,66 @@ gets_some e (Sent r) is = absurd (false≢true is)
 gets_some e (Got f) is = refl
 
 -- a reply with an event of the value
-abbrev brings : Event → Reply → Bool
+abbrev pub brings : Event → Reply → Bool
 brings e r = not (is_release_reply r) && is_same_but e r.event
 
 -- where no flows have lanes of their own, each lane is a port's
 few_lanes : (p : Plan) → is_flows p.serving ≡ false → lanes_of p ≤ length p.ports
 unfolding lanes_of flow_lanes
 few_lanes p plain = omega (arith, ap length (cond-false (is_flows p.serving) (lanes_by_slot p.queues) [] plain))
+
+-- what is said of a reply
+pub said_brings : (e : Event) (r : Reply) → is_said (is_same_but e) (said r) ≡ brings e r
+said_brings e r = by_op r.event.op
+  where
+    by_op : (o : Op) → is_said (is_same_but e) (said_by o r.event) ≡ (not (is_release_op o) && is_same_but e r.event)
+    by_op ops.New = refl
+    by_op ops.Forward = refl
+    by_op ops.Release = refl
+    by_op ops.ForwardMore = refl
+
+-- what a consistent world's lane said of the value is no more than was submitted
+pub said_few : (p : Plan) (w : World) (l : ℕ) (e : Event) → IsConsistent p w → count_by (is_said (is_same_but e)) (replies_in w.log l) ≤ count_by (brings e) (w.submitted l)
+said_few p w l e c =
+    omega (
+      arith,
+      count_by-front (is_said (is_same_but e)) (replies_in w.log l) (c.taken l).0 (map said (w.submitted l)) (c.taken l).1,
+      sum_of_map (λ (y : Said). cond {A = ℕ} (is_said (is_same_but e) y) 1 0) said (w.submitted l),
+      count_agree (λ r. is_said (is_same_but e) (said r)) (brings e) (w.submitted l) (said_brings e),
+    )
+
+-- a lane that is no port's says nothing
+pub silent : (p : Plan) (T : List Step) (l : ℕ) → Lawful p T → lanes_of p ≤ l → replies_in T l ≡ []
+unfolding replies_in
+silent p T l lawful past = filter_map-none (said_in l) T (All-weaker (HasLane p) (λ s. said_in l s ≡ None) by_step T (formed_lanes p T lawful.formed))
+  where
+    other : (m : ℕ) → m < lanes_of p → (m == l) ≡ false
+    other m lt = eqb_other m l (λ same. omega (arith, lt, past, same))
+
+    by_step : (s : Step) → HasLane p s → said_in l s ≡ None
+    by_step (Accept q f (New m)) there = cond-false (m == l) _ None (other m there)
+    by_step (Accept q f (Of r n)) there = refl
+    by_step (Give m q n) there = refl
+    by_step (Done m (Forwarded f)) there = cond-false (m == l) _ None (other m there)
+    by_step (Done m Released) there = cond-false (m == l) _ None (other m there)
+    by_step (More m f) there = cond-false (m == l) _ None (other m there)
+    by_step (Turned m f) there = cond-false (m == l) _ None (other m there)
+    by_step (Bounced m) there = refl
+    by_step Shut there = refl
+
+-- in all, where each lane is a port's, and of each port no more was said than some entries tell of
+pub says_few : (p : Plan) (T : List Step) (hs : List Seen) (e : Event) (tells : Deed → Seen → Bool) → Lawful p T → is_flows p.serving ≡ false
+    → ((l : ℕ) → l < length p.ports → count_by (is_said (is_same_but e)) (replies_in T l) ≤ count_by (λ (s : Seen). (s.port == l) && tells s.deed s) hs)
+    → count_by (says (is_same_but e)) T ≤ count_by (λ (s : Seen). tells s.deed s) hs
+says_few p T hs e tells lawful plain by_port =
+    count_by_keys (λ m n. m == n) eqb_is eqb_same lane_saying (λ (s : Seen). s.port) (says (is_same_but e)) (λ (s : Seen). tells s.deed s) T hs by_lane
+  where
+    by_lane : (l : ℕ) → count_by (λ s. (lane_saying s == l) && says (is_same_but e) s) T ≤ count_by (λ (s : Seen). (s.port == l) && tells s.deed s) hs
+    by_lane l =
+        ⊎_elim
+        (λ port. omega (arith, replies_counted (is_same_but e) T l, by_port l port))
+        (λ past. omega (arith, replies_counted (is_same_but e) T l, ap (count_by (is_said (is_same_but e))) (silent p T l lawful (omega (arith, past, few_lanes p plain)))))
+        (cases_lt l (length p.ports))
 
 module _ (p : Plan) (hs : List Seen) (moves : List Move) (v : World) (clock : ℕ → ℕ) (x : Explains p hs moves v clock) (e : Event) where
   -- the pair is of an event of the value
@@ -182,23 +236,11 @@ module _ (p : Plan) (hs : List Seen) (moves : List Move) (v : World) (clock : �
         count_by-front pair_is (take (got_before hs l i) (out v.log l)) (drop (got_before hs l i) (out v.log l)) (out v.log l) (take-append-drop (got_before hs l i) (out v.log l)),
       )
 
-  -- what is said of a reply
-  said_brings : (r : Reply) → is_said (is_same_but e) (said r) ≡ brings e r
-  said_brings r = by_op r.event.op
-    where
-      by_op : (o : Op) → is_said (is_same_but e) (said_by o r.event) ≡ (not (is_release_op o) && is_same_but e r.event)
-      by_op ops.New = refl
-      by_op ops.Forward = refl
-      by_op ops.Release = refl
-      by_op ops.ForwardMore = refl
-
   sent_by_port : (l : ℕ) → l < length p.ports → count_by (is_said (is_same_but e)) (replies_in v.log l) ≤ count_by (sent_here e l) hs
   sent_by_port l port =
       omega (
         arith,
-        count_by-front (is_said (is_same_but e)) (replies_in v.log l) (consistent.taken l).0 (map said (v.submitted l)) (consistent.taken l).1,
-        sum_of_map (λ (y : Said). cond {A = ℕ} (is_said (is_same_but e) y) 1 0) said (v.submitted l),
-        count_agree (λ r. is_said (is_same_but e) (said r)) (brings e) (v.submitted l) said_brings,
+        said_few p v l e consistent,
         sent_few l (length hs) (omega arith),
         ap (count_by (brings e)) whole,
         ap (count_by (sent_here e l)) (take_all (length hs) hs (omega arith)),
@@ -206,32 +248,6 @@ module _ (p : Plan) (hs : List Seen) (moves : List Move) (v : World) (clock : �
     where
       whole : take (sent_before hs l (length hs)) (v.submitted l) ≡ v.submitted l
       whole = take_all (sent_before hs l (length hs)) (v.submitted l) (omega (arith, x.submitted l port, ap (count_by (is_sent l)) (take_all (length hs) hs (omega arith))))
-
-  -- a lane that is no port's says nothing
-  silent : (l : ℕ) → lanes_of p ≤ l → replies_in v.log l ≡ []
-  unfolding replies_in
-  silent l past = filter_map-none (said_in l) v.log (All-weaker (HasLane p) (λ s. said_in l s ≡ None) by_step v.log (formed_lanes p v.log consistent.lawful.formed))
-    where
-      other : (m : ℕ) → m < lanes_of p → (m == l) ≡ false
-      other m lt = eqb_other m l (λ same. omega (arith, lt, past, same))
-
-      by_step : (s : Step) → HasLane p s → said_in l s ≡ None
-      by_step (Accept q f (New m)) there = cond-false (m == l) _ None (other m there)
-      by_step (Accept q f (Of r n)) there = refl
-      by_step (Give m q n) there = refl
-      by_step (Done m (Forwarded f)) there = cond-false (m == l) _ None (other m there)
-      by_step (Done m Released) there = cond-false (m == l) _ None (other m there)
-      by_step (More m f) there = cond-false (m == l) _ None (other m there)
-      by_step (Turned m f) there = cond-false (m == l) _ None (other m there)
-      by_step (Bounced m) there = refl
-      by_step Shut there = refl
-
-  sent_by_lane : is_flows p.serving ≡ false → (l : ℕ) → count_by (λ s. (lane_saying s == l) && says (is_same_but e) s) v.log ≤ count_by (sent_here e l) hs
-  sent_by_lane plain l =
-      ⊎_elim
-      (λ port. omega (arith, replies_counted (is_same_but e) v.log l, sent_by_port l port))
-      (λ past. omega (arith, replies_counted (is_same_but e) v.log l, ap (count_by (is_said (is_same_but e))) (silent l (omega (arith, past, few_lanes p plain)))))
-      (cases_lt l (length p.ports))
 
   -- no more are got than sent
   got_as_sent : is_flows p.serving ≡ false → (i : ℕ) → i ≤ length hs → times_got hs e i ≤ times_sent hs e
@@ -242,8 +258,7 @@ module _ (p : Plan) (hs : List Seen) (moves : List Move) (v : World) (clock : �
             (λ l. got_by_lane i l within),
         gives_few p (is_same_but e) v.log consistent.lawful,
         accepts_few p (is_same_but e) v.log consistent.lawful,
-        count_by_keys (λ m n. m == n) eqb_is eqb_same lane_saying (λ (s : Seen). s.port) (says (is_same_but e)) (λ (s : Seen). sends_value e s.deed) v.log hs
-            (sent_by_lane plain),
+        says_few p v.log hs e (λ d s. sends_value e d) consistent.lawful plain sent_by_port,
       )
 
 pub unsent_fits_none : (p : Plan) (hs : List Seen) (i : ℕ) → IsUnsent p hs i → IsImpossible p hs

@@ -3,9 +3,9 @@ use Rattle.std.specs.Prelude.{ℕ, ◌≡◌, ◌≢◌, ◌+◌, ◌<◌, true,
 use Rattle.evt_types.specs.Plan.{Plan, depth_of, queue_of, is_atomic, is_flows, serves, slot_of}
 use Rattle.evt_types.specs.declared.event.Event.{Event}
 use Rattle.history_judge.specs.Histories.{IsHeldAt, answers_begun, gets, got_before}
-use Rattle.history_judge.specs.Values.{IsExcess}
+use Rattle.history_judge.specs.Values.{IsExcess, IsPremature}
 use Rattle.history_judge.specs.declared.breach.Breach.{Breach}
-use Rattle.history_judge.specs.declared.breach.Breach.TheVariants.{Unlinked, Together, Unsent, Overfull}
+use Rattle.history_judge.specs.declared.breach.Breach.TheVariants.{Unlinked, Together, Unsent, Early, Overfull}
 use Rattle.history_judge.specs.declared.seen.Deed.TheVariants.{Got}
 use Rattle.history_judge.specs.declared.seen.Seen.{Seen}
 
@@ -48,6 +48,11 @@ pub record IsUnsent (p : Plan) (hs : List Seen) (i : ℕ) : Type 0 where
   pub ports : is_flows p.serving ≡ false
   pub excess : IsExcess hs i
 
+-- An event was got before any of its value was sent.
+pub record IsEarly (p : Plan) (hs : List Seen) (i : ℕ) : Type 0 where
+  pub ports : is_flows p.serving ≡ false
+  pub premature : IsPremature hs i
+
 -- Of the events that the port got, up to and with the i-th entry, more than its depth are in its hand for certain when that entry ends.
 pub record IsOverfull (p : Plan) (hs : List Seen) (i : ℕ) : Type 0 where
   pub seen : Seen
@@ -60,6 +65,7 @@ abbrev pub IsBreach : Plan → List Seen → Breach → Type 0
 IsBreach p hs (Unlinked i) = IsUnlinked p hs i
 IsBreach p hs (Together i j) = IsTogether p hs i j
 IsBreach p hs (Unsent i) = IsUnsent p hs i
+IsBreach p hs (Early i) = IsEarly p hs i
 IsBreach p hs (Overfull i) = IsOverfull p hs i
 
 -- what is answered: a breach that it has, or that it has none

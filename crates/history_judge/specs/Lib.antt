@@ -1,3 +1,4 @@
+pub mod Begins
 pub mod Breaches
 pub mod Depths
 pub mod Entries

@@ -1,5 +1,5 @@
 -- Events of one value: they agree in all fields that a device keeps.
-use Rattle.std.specs.Prelude.{ℕ, ◌≡◌, ◌+◌, ◌<◌, Bool, false, not, ◌&&◌, List, ◌==◌, count_by, take, Some, slice_get}
+use Rattle.std.specs.Prelude.{ℕ, ◌≡◌, ◌+◌, ◌<◌, Bool, false, not, ◌&&◌, List, ◌==◌, nat_le, count_by, take, Some, slice_get}
 use Rattle.evt_types.specs.Operation.{is_release_reply}
 use Rattle.evt_types.specs.declared.event.Event.{Event}
 use Rattle.history_judge.specs.declared.seen.Deed.{Deed}
@@ -28,6 +28,18 @@ times_sent hs e = count_by (λ (s : Seen). sends_value e s.deed) hs
 -- how often they were dequeued in its first entries
 abbrev pub times_got : List Seen → Event → ℕ → ℕ
 times_got hs e i = count_by (λ (s : Seen). gets_value e s.deed) (take i hs)
+
+-- how often events of e's value were enqueued by calls that began by t
+abbrev pub times_begun : List Seen → Event → ℕ → ℕ
+times_begun hs e t = count_by (λ (s : Seen). sends_value e s.deed && nat_le s.began t) hs
+
+-- the i-th entry got an event, and when it ended no call had begun that enqueued one of its value
+pub record IsPremature (hs : List Seen) (i : ℕ) : Type 0 where
+  pub seen : Seen
+  pub entry : slice_get hs i ≡ Some seen
+  pub event : Event
+  pub got : seen.deed ≡ Got event
+  pub none : times_begun hs event seen.ended ≡ 0
 
 -- with the i-th entry an event of a value was got more often than such events were sent in the whole history
 pub record IsExcess (hs : List Seen) (i : ℕ) : Type 0 where

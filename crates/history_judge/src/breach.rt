@@ -9,6 +9,8 @@ pub enum Breach {
     Together { at: usize, other: usize },
     /// A port got an event that nobody enqueued, or one that came more often than it was enqueued.
     Unsent { at: usize },
+    /// A port got an event before anyone began to enqueue one of its value.
+    Early { at: usize },
     /// A port held more events than its depth.
     Overfull { at: usize },
 }

@@ -6,6 +6,7 @@ ghost use Rattle.history_judge.specs.Entries.{IsRefused};
 
 use crate::breach::Breach;
 use crate::depths::first_overfull;
+use crate::early::first_premature;
 use crate::entries::{first_misplaced, first_unknown, first_unsorted};
 use crate::fault::HistoryFault;
 use crate::holds::{first_unlinked, port_count};
@@ -38,7 +39,7 @@ fn refuse(alloc: Global, shape: &Shape, history: &[Seen]) -> Result<(), HistoryF
 }
 
 /// What no run of a device of the shape can have done, if something that was seen is so. The entries stand in the order of their ends.
-/// It goes through them a few times, whatever their number.
+/// It goes through them a few times, whatever their number, and finds values in trees.
 pub fn judge_history(
     alloc: Global,
     shape: &Shape,
@@ -54,6 +55,9 @@ pub fn judge_history(
     }
     if let Some(at) = first_excess(alloc, history)? {
         return Ok(Some(Breach::Unsent { at }));
+    }
+    if let Some(at) = first_premature(alloc, history)? {
+        return Ok(Some(Breach::Early { at }));
     }
     let _limits = shape.limit();
     let times = answer_times(alloc, port_count(shape), history)?;

@@ -4,6 +4,7 @@
 
 mod breach;
 mod depths;
+mod early;
 mod entries;
 mod fault;
 mod holds;

@@ -26,7 +26,7 @@ pub(crate) struct Value {
 type Left = BTreeMap<Value, usize>;
 
 /// Its value.
-fn value_of(event: &Event) -> Value
+pub(crate) fn value_of(event: &Event) -> Value
     ensures { result ≡ specs.value_of event.now }
 {
     Value {

@@ -1,11 +1,11 @@
 use Rattle.std.proofs.Common.{rules, ℕ, IfNone, IfSome, subst, sym}
 use Rattle.std.proofs.lemmas.Bool.{false_from_ne_true}
 use Rattle.evt_types.specs.Plan.{is_flows}
-use Rattle.history_judge.proofs.Answered.{answered}
+use Rattle.history_judge.proofs.Answered.{answered, fit}
 use Rattle.history_judge.specs.Breaches.{IsOverfull}
 use Rattle.history_judge.specs.Entries.{IsUnknown}
 use Rattle.history_judge.specs.Holds.{AreTimes}
-use Rattle.history_judge.specs.Values.{IsExcess}
+use Rattle.history_judge.specs.Values.{IsExcess, IsPremature}
 use Rattle.history_judge.specs.Watching.{IsFit}
 use Rattle.history_judge.specs.declared.fault.HistoryFault.TheVariants as faults
 use Rattle.history_judge.proofs.judging.judge_history.Goals as goal
@@ -20,6 +20,13 @@ returns-in-Some-2-clause-answer c =
       excess = subst (λ o. IfSome o (IsExcess c.args.history.now)) c.in-Some-2.is c.in_ok-at.ensures.some;
     }
 
+pub returns-in-Some-3-clause-answer : goal.returns-in-Some-3-clause-answer
+returns-in-Some-3-clause-answer c =
+    record {
+      ports = false_from_ne_true (is_flows c.args.shape.now.serving) (c.in_ok-refuse.ensures.fit faults.Flows);
+      premature = subst (λ o. IfSome o (IsPremature c.args.history.now)) c.in-Some-3.is c.in_ok-at-2.ensures.some;
+    }
+
 pub answer_times-requires : goal.answer_times-requires
 answer_times-requires c =
     λ i bad. c.in_ok-refuse.ensures.fit (faults.Port i) (subst (λ n. IsUnknown n c.args.history.now i) c.port_count.ensures bad)
@@ -27,33 +34,22 @@ answer_times-requires c =
 pub first_overfull-requires : goal.first_overfull-requires
 first_overfull-requires c =
     subst (IsFit c.args.shape.now c.args.history.now) (sym c.deref.ensures.value)
-    (record {
-      within = c.limit-limits.ensures.within;
-      known = λ i bad. c.in_ok-refuse.ensures.fit (faults.Port i) bad;
-      ordered = λ i bad. c.in_ok-refuse.ensures.fit (faults.Order i) bad;
-      sorted = λ i bad. c.in_ok-refuse.ensures.fit (faults.Unsorted i) bad;
-      linked = c.in_default.ensures.none;
-      noted = subst (λ n. AreTimes n c.args.history.now c.in_ok-times.times.items) c.port_count.ensures c.in_ok-times.ensures;
-    })
+    (fit c.args.shape.now c.args.history.now c.in_ok-times.times.items c.limit-limits.ensures.within c.in_ok-refuse.ensures.fit c.in_default.ensures.none
+    (subst (λ n. AreTimes n c.args.history.now c.in_ok-times.times.items) c.port_count.ensures c.in_ok-times.ensures))
 
-pub returns-in-Some-3-clause-answer : goal.returns-in-Some-3-clause-answer
-returns-in-Some-3-clause-answer c = subst (λ o. IfSome o (IsOverfull c.args.shape.now c.args.history.now)) c.in-Some-3.is c.in_ok-at-2.ensures.some
+pub returns-in-Some-4-clause-answer : goal.returns-in-Some-4-clause-answer
+returns-in-Some-4-clause-answer c = subst (λ o. IfSome o (IsOverfull c.args.shape.now c.args.history.now)) c.in-Some-4.is c.in_ok-at-3.ensures.some
 
 pub first_together-requires : goal.first_together-requires
 first_together-requires c =
     subst (IsFit c.args.shape.now c.args.history.now) (sym c.deref-2.ensures.value)
-    (record {
-      within = c.limit-limits.ensures.within;
-      known = λ i bad. c.in_ok-refuse.ensures.fit (faults.Port i) bad;
-      ordered = λ i bad. c.in_ok-refuse.ensures.fit (faults.Order i) bad;
-      sorted = λ i bad. c.in_ok-refuse.ensures.fit (faults.Unsorted i) bad;
-      linked = c.in_default.ensures.none;
-      noted = subst (λ n. AreTimes n c.args.history.now c.in_ok-times.times.items) c.port_count.ensures c.in_ok-times.ensures;
-    })
+    (fit c.args.shape.now c.args.history.now c.in_ok-times.times.items c.limit-limits.ensures.within c.in_ok-refuse.ensures.fit c.in_default.ensures.none
+    (subst (λ n. AreTimes n c.args.history.now c.in_ok-times.times.items) c.port_count.ensures c.in_ok-times.ensures))
 
 pub returns-clause-answer : goal.returns-clause-answer
 returns-clause-answer c =
     answered c.args.shape.now c.args.history.now c.in_ok-found.found c.map.result c.in_default.ensures.none
     (subst (λ o. IfNone o ((i : ℕ) → ¬ IsExcess c.args.history.now i)) c.in_default-2.is c.in_ok-at.ensures.none)
-    (subst (λ o. IfNone o ((i : ℕ) → ¬ IsOverfull c.args.shape.now c.args.history.now i)) c.in_default-3.is c.in_ok-at-2.ensures.none)
+    (subst (λ o. IfNone o ((i : ℕ) → ¬ IsPremature c.args.history.now i)) c.in_default-3.is c.in_ok-at-2.ensures.none)
+    (subst (λ o. IfNone o ((i : ℕ) → ¬ IsOverfull c.args.shape.now c.args.history.now i)) c.in_default-4.is c.in_ok-at-3.ensures.none)
     c.in_ok-found.ensures.some c.in_ok-found.ensures.none _ (λ x b post. search rules) c.map.ensures.cases

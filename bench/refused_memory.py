@@ -1,6 +1,6 @@
 #!/usr/bin/env python3
-"""Refuses each allocation of `evsched play`, `timeline`, `run` and `--help` in turn, the first, then the second, until a run meets no
-refusal. Each run must end by itself, with status 5, the line for want of memory and nothing on standard output, or, where it can do
+"""Refuses each allocation of `evsched play`, `timeline`, `judge`, `run` and `--help` in turn, the first, then the second, until a run meets
+no refusal. Each run must end by itself, with status 5, the line for want of memory and nothing on standard output, or, where it can do
 without what was refused, as it ends with ample memory. Then it does the same with tests that make again whatever was refused: each must
 pass all the same. Their names are read from the sources, and nothing is run where one that is wanted isn't there or isn't built.
 
@@ -100,6 +100,7 @@ RUNS = (
     ("play of ordered-release", ["play"], *example("ordered-release")),
     ("play of several-forwards", ["play"], *example("several-forwards")),
     ("timeline of ordered-release", ["timeline"], example("ordered-release")[0], (TOP / "docs/pictures/ordered-release.svg").read_text()),
+    ("judge of ordered-release", ["judge", str(TOP / "examples/ordered-release.toml")], example("ordered-release")[1], "lawful\n"),
     ("run of three-stages by ports", RUN, *example("three-stages")),
     ("run of three-stages by flow lanes", RUN, *example("three-stages", 'serving = "flows"\n')),
     ("run of dropping-stages by flow lanes", RUN, *example("dropping-stages")),

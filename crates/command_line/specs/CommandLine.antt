@@ -2,7 +2,7 @@
 use Rattle.std.specs.Prelude.{◌≡◌, ◌≤◌, ℕ, ◌⊎◌}
 use Rattle.play_documents.specs.Numbers.{fewest_workers, most_workers}
 use Rattle.command_line.specs.declared.options.Choice.{Choice}
-use Rattle.command_line.specs.declared.options.Choice.TheVariants.{Play, Run, Document, Example}
+use Rattle.command_line.specs.declared.options.Choice.TheVariants.{Play, Run, Document, Judge, Example}
 use Rattle.command_line.specs.declared.options.Task.{Task}
 use Rattle.command_line.specs.declared.options.Task.TheVariants as tasks
 
@@ -27,11 +27,12 @@ AreFew n = (fewest_workers ≤ n) × (n ≤ most_workers)
 abbrev pub HasFew : Task → Type 0
 HasFew tasks.Play = Unit {0}
 HasFew tasks.Timeline = Unit {0}
-HasFew (tasks.Run n) = AreFew n
+HasFew (tasks.Run n quiet) = AreFew n
 HasFew (tasks.Check n) = AreFew n
 
 abbrev pub HasFewWorkers : Choice → Type 0
 HasFewWorkers Play = Unit {0}
 HasFewWorkers (Run n) = AreFew n
 HasFewWorkers (Document task file explain) = HasFew task
+HasFewWorkers (Judge document log) = Unit {0}
 HasFewWorkers (Example name) = Unit {0}

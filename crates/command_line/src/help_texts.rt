@@ -55,6 +55,21 @@ at fault, 5 where memory ran out.
 evsched help documents describes the documents, evsched help faults what each fault means;
 the manual is evsched(1), and docs/FORMATS.md has all of it.";
 
+pub(crate) const AFTER_JUDGE_HELP: &str =
+    "It prints lawful where the log keeps each promise of docs/DEFINITIONS.md, running where it can still be gone
+on with so that it does, and else the line of LOG in which a step first broke a promise, that promise by
+its name and in words, and the step.
+
+Example:
+  evsched play first-event.toml > first-event.out
+  evsched judge first-event.toml first-event.out
+
+Status: 0 for lawful and running, 7 for broken, 2 for a refused command line, 3 when reading or writing
+failed, 4 for a document or a log at fault, 5 where memory ran out.
+
+evsched help documents describes the document, evsched help faults what each fault means;
+the manual is evsched(1), and docs/JUDGE.md says how a log is recorded and judged.";
+
 pub(crate) const AFTER_EXAMPLE_HELP: &str = "Example:
   evsched example
   evsched example two-flows | evsched play
@@ -149,4 +164,9 @@ evsched: document: NAME (status 4), in the order in which they are looked for, e
   LimitTight       run: the limit is less than          Cure: a higher limit, a lower quantum or fewer workers.
                      2 * quantum * (workers + 1)
   BadCommand N     line N of the script is no command   Cure: one space between words, and ports of the document.
-  BadTrace N       line N of the trace is no event      Cure: FLOW PRIO PAYLOAD, with one space between them.";
+  BadTrace N       line N of the trace is no event      Cure: FLOW PRIO PAYLOAD, with one space between them.
+
+evsched: log: NAME (status 4), of judge
+  NoLog            no line says log                     Cure: give it all that play printed.
+  BadLine N        line N is none that play prints      Cure: see that the document is the one that was played, and
+                     there                                that nothing was changed or cut off.";

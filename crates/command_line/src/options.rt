@@ -16,6 +16,11 @@ pub enum Choice {
         file: Option<usize>,
         explain: bool,
     },
+    /// To judge a log, by the document in a file.
+    Judge {
+        document: Option<usize>,
+        log: Option<usize>,
+    },
     /// To print the example that the word of this number names, or without one the names of all.
     Example {
         name: Option<usize>,
@@ -29,8 +34,8 @@ pub enum Task {
     Play,
     /// Its script is played, and the picture of its log is drawn.
     Timeline,
-    /// Its pipeline is run, with so many workers, from 1 to 8.
-    Run { workers: u32 },
+    /// Its pipeline is run, with so many workers, from 1 to 8; how far the run has come isn't shown where `quiet`.
+    Run { workers: u32, quiet: bool },
     /// Its fault is looked for, with so many workers where it is a pipeline's, from 1 to 8.
     Check { workers: u32 },
 }

@@ -5,8 +5,8 @@ ghost use Rattle.command_line.specs.CommandLine.{HasFewWorkers, IsStatus, no_mem
 ghost use Rattle.play_documents.specs.Numbers.{fewest_workers, most_workers};
 
 use crate::help_texts::{
-    AFTER_CHECK_HELP, AFTER_EXAMPLE_HELP, AFTER_HELP, AFTER_PLAY_HELP, AFTER_RUN_HELP,
-    AFTER_TIMELINE_HELP, DOCUMENTS, FAULTS,
+    AFTER_CHECK_HELP, AFTER_EXAMPLE_HELP, AFTER_HELP, AFTER_JUDGE_HELP, AFTER_PLAY_HELP,
+    AFTER_RUN_HELP, AFTER_TIMELINE_HELP, DOCUMENTS, FAULTS,
 };
 use crate::options::{Choice, Task};
 use clap::error::ErrorKind;
@@ -29,6 +29,8 @@ const RUN: &str = "run";
 
 const CHECK: &str = "check";
 
+const JUDGE: &str = "judge";
+
 const EXAMPLE: &str = "example";
 
 /// The option that says how many workers serve the stages.
@@ -37,10 +39,18 @@ const WORKERS: &str = "workers";
 /// The option that has a fault explained.
 const EXPLAIN: &str = "explain";
 
+/// The option that shows nothing of a run while it goes on.
+const QUIET: &str = "quiet";
+
 /// The file of a document, and the name of an example.
 const FILE: &str = "FILE";
 
 const EXAMPLE_NAME: &str = "NAME";
+
+/// The files that a log is judged by, and that it stands in.
+const DOCUMENT: &str = "DOCUMENT";
+
+const LOG: &str = "LOG";
 
 /// The word for standard input in place of a file.
 const STANDARD_INPUT: &str = "-";
@@ -77,6 +87,14 @@ fn explain_option<'a>(alloc: Global) -> Arg<'a> {
         .help("Say below a document's fault where it is and why")
 }
 
+/// The option that shows nothing of a run while it goes on.
+fn quiet_option<'a>(alloc: Global) -> Arg<'a> {
+    Arg::new(alloc, QUIET)
+        .long(QUIET)
+        .action(ArgAction::SetTrue)
+        .help("Show nothing of the run while it goes on, also on a terminal")
+}
+
 /// The file of a document.
 fn file_word<'a>(alloc: Global) -> Arg<'a> {
     Arg::new(alloc, FILE).help("The document; standard input where it is left out or is -")
@@ -109,6 +127,7 @@ fn run_command<'a>(alloc: Global) -> Result<Command<'a>, AllocError> {
         .after_help(AFTER_RUN_HELP)
         .arg(workers_option(alloc))?
         .arg(explain_option(alloc))?
+        .arg(quiet_option(alloc))?
         .arg(file_word(alloc))
 }
 
@@ -119,6 +138,21 @@ fn check_command<'a>(alloc: Global) -> Result<Command<'a>, AllocError> {
         .after_help(AFTER_CHECK_HELP)
         .arg(workers_option(alloc))?
         .arg(file_word(alloc))
+}
+
+/// The subcommand that judges a log.
+fn judge_command<'a>(alloc: Global) -> Result<Command<'a>, AllocError> {
+    let document = Arg::new(alloc, DOCUMENT)
+        .required(true)
+        .help("The document that was played");
+    let log = Arg::new(alloc, LOG).help(
+        "What play printed; standard input where it is left out or is -",
+    );
+    Command::new(alloc, JUDGE)
+        .about("Judge the log that play printed: say in which line it first breaks which promise")
+        .after_help(AFTER_JUDGE_HELP)
+        .arg(document)?
+        .arg(log)
 }
 
 /// The subcommand that prints an example.
@@ -150,6 +184,7 @@ fn command<'a>(alloc: Global) -> Result<Command<'a>, AllocError> {
         .subcommand(timeline_command(alloc)?)?
         .subcommand(run_command(alloc)?)?
         .subcommand(check_command(alloc)?)?
+        .subcommand(judge_command(alloc)?)?
         .subcommand(example_command(alloc)?)?
         .subcommand(topic(alloc, "documents", DOCUMENTS))?
         .subcommand(topic(alloc, "faults", FAULTS))
@@ -172,13 +207,18 @@ fn place_of(words: &[&str], options: &ArgMatches, id: &str) -> Option<usize> {
     words.iter().position(|word| *word == value)
 }
 
-/// The word that names the file of a document; none for standard input.
-fn file_of(words: &[&str], options: &ArgMatches) -> Option<usize> {
-    if options.get_str(FILE) == Some(STANDARD_INPUT) {
+/// The word that names the file at this id; none for standard input.
+fn file_at(words: &[&str], options: &ArgMatches, id: &str) -> Option<usize> {
+    if options.get_str(id) == Some(STANDARD_INPUT) {
         None
     } else {
-        place_of(words, options, FILE)
+        place_of(words, options, id)
     }
+}
+
+/// The word that names the file of a document; none for standard input.
+fn file_of(words: &[&str], options: &ArgMatches) -> Option<usize> {
+    file_at(words, options, FILE)
 }
 
 /// The playing of a script.
@@ -197,14 +237,14 @@ fn play_choice(file: Option<usize>, explain: bool) -> Choice
 }
 
 /// The run of a pipeline.
-fn run_choice(workers: u32, file: Option<usize>, explain: bool) -> Choice
+fn run_choice(workers: u32, file: Option<usize>, explain: bool, quiet: bool) -> Choice
     requires { (fewest_workers ≤ workers) × (workers ≤ most_workers) }
     ensures workers { HasFewWorkers result }
 {
-    if file.is_none() && !explain {
+    if file.is_none() && !explain && !quiet {
         return Choice::Run { workers };
     }
-    let task = Task::Run { workers };
+    let task = Task::Run { workers, quiet };
     Choice::Document {
         task,
         file,
@@ -218,7 +258,8 @@ fn chosen(words: &[&str], matches: &ArgMatches) -> Choice
 {
     if let Some(options) = matches.subcommand_matches(RUN) {
         let workers = workers(options);
-        return run_choice(workers, file_of(words, options), options.get_flag(EXPLAIN));
+        let (explain, quiet) = (options.get_flag(EXPLAIN), options.get_flag(QUIET));
+        return run_choice(workers, file_of(words, options), explain, quiet);
     }
     if let Some(options) = matches.subcommand_matches(CHECK) {
         return Choice::Document {
@@ -234,6 +275,12 @@ fn chosen(words: &[&str], matches: &ArgMatches) -> Choice
             task: Task::Timeline,
             file: file_of(words, options),
             explain: options.get_flag(EXPLAIN),
+        };
+    }
+    if let Some(options) = matches.subcommand_matches(JUDGE) {
+        return Choice::Judge {
+            document: place_of(words, options, DOCUMENT),
+            log: file_at(words, options, LOG),
         };
     }
     if let Some(options) = matches.subcommand_matches(EXAMPLE) {

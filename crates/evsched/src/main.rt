@@ -1,14 +1,17 @@
 //! The program `evsched`: it plays the script of a document on an event device, or draws what happened then, runs the document's trace
-//! through a pipeline, or says what is wrong with the document, which stands in a file or on standard input.
+//! through a pipeline, or says what is wrong with the document, which stands in a file or on standard input. It judges logs, too.
 #![tactic(auto)]
 
 ghost use Rattle.command_line.specs.CommandLine.{HasFew};
 
+mod judging;
 mod noted;
 mod progress;
+mod terminals;
 
 use arrayvec::ArrayString;
 use example_documents::{EXAMPLES, example};
+use judging::judged_with_file;
 use noted::Noted;
 use pipeline_app::{
     AppFault, Choice, Form, Task, check, choice, fault_line, play, play_as, run_explained,
@@ -23,17 +26,18 @@ use std::sync::Wait;
 use std::thread::Threads;
 use std::time::Clock;
 use std::{env, io};
+use terminals::Terminals;
 
 /// The status after a command line that is refused.
 const REFUSED: u8 = 2;
 
 /// Prints a line on standard error.
-fn complain(rt: &impl Eprint, line: &str) {
+pub(crate) fn complain(rt: &impl Eprint, line: &str) {
     let _ = eprintln!(rt; "{line}");
 }
 
 /// Prints the line of a fault, and gives its status.
-fn failed(rt: &impl Eprint, fault: &AppFault) -> u8 {
+pub(crate) fn failed(rt: &impl Eprint, fault: &AppFault) -> u8 {
     let mut line = ArrayString::new();
     let status = fault_line(fault, &mut line);
     complain(rt, line.as_str());
@@ -53,7 +57,7 @@ fn explained(rt: &(impl Print + Eprint), status: u8, text: &str) -> u8 {
 }
 
 /// Prints a text on standard output, and gives the status.
-fn printed(rt: &(impl Print + Eprint), text: &str) -> u8 {
+pub(crate) fn printed(rt: &(impl Print + Eprint), text: &str) -> u8 {
     match print!(rt; "{text}") {
         Ok(()) => 0,
         Err(_) => failed(rt, &AppFault::Write),
@@ -97,20 +101,13 @@ fn args<R: AllocGlobal + Env + Eprint>(rt: &R) -> Result<Vec<String>, u8> {
     }
 }
 
-/// Which of the standard streams are a terminal.
-#[derive(Clone, Copy)]
-struct Terminals {
-    input: bool,
-    error: bool,
-}
-
 /// Does the task with the document that the reader gives. Where its fault is to be explained, `why` says where it is and why.
 fn outcome<R: AllocGlobal + Print + Eprint + Clock + Threads + Wait + Sync, I: Read>(
     rt: &R,
     task: Task,
     explain: bool,
     reader: &mut I,
-    on_terminal: bool,
+    terminals: Terminals,
     why: &mut String,
 ) -> Result<(), AppFault>
     requires { HasFew task }
@@ -120,13 +117,15 @@ fn outcome<R: AllocGlobal + Print + Eprint + Clock + Threads + Wait + Sync, I: R
         Task::Play if explain => play_as(alloc, Form::Text, reader, &mut writer, why),
         Task::Play => play(alloc, reader, &mut writer),
         Task::Timeline => play_as(alloc, Form::Picture, reader, &mut writer, why),
-        Task::Run { workers } => {
-            let progress = Progress::new(rt, on_terminal);
-            if explain {
+        Task::Run { workers, quiet } => {
+            let progress = Progress::new(rt, terminals, quiet);
+            let outcome = if explain {
                 run_explained(rt, alloc, reader, workers, &progress, &mut writer, why)
             } else {
                 run_trace(rt, alloc, reader, workers, &progress, &mut writer)
-            }
+            };
+            progress.end();
+            outcome
         }
         Task::Check { workers } => check(alloc, reader, workers, why),
     }
@@ -138,12 +137,12 @@ fn done<R: AllocGlobal + Print + Eprint + Clock + Threads + Wait + Sync, I: Read
     task: Task,
     explain: bool,
     reader: &mut I,
-    on_terminal: bool,
+    terminals: Terminals,
 ) -> u8
     requires { HasFew task }
 {
     let mut why = String::new(rt.alloc());
-    match outcome(rt, task, explain, reader, on_terminal, &mut why) {
+    match outcome(rt, task, explain, reader, terminals, &mut why) {
         Ok(()) => 0,
         Err(fault) => {
             let status = failed(rt, &fault);
@@ -156,7 +155,7 @@ fn done<R: AllocGlobal + Print + Eprint + Clock + Threads + Wait + Sync, I: Read
 }
 
 /// Prints the line of a failing read, and below it the file and the cause.
-fn unreadable(rt: &impl Eprint, file: &str, cause: &io::Error) -> u8 {
+pub(crate) fn unreadable(rt: &impl Eprint, file: &str, cause: &io::Error) -> u8 {
     let status = failed(rt, &AppFault::Read);
     let _ = eprintln!(rt; "  {file}: {cause}");
     status
@@ -168,14 +167,18 @@ fn done_with_file<R: AllocGlobal + Files + Print + Eprint + Clock + Threads + Wa
     task: Task,
     explain: bool,
     file: &str,
-    on_terminal: bool,
+    terminals: Terminals,
 ) -> u8
     requires { HasFew task }
 {
     match File::open(rt, file) {
         Ok(opened) => {
             let mut reader = Noted::new(opened);
-            let status = done(rt, task, explain, &mut reader, on_terminal);
+            let terminals = Terminals {
+                input: false,
+                ..terminals
+            };
+            let status = done(rt, task, explain, &mut reader, terminals);
             if let Some(cause) = reader.cause() {
                 let _ = eprintln!(rt; "  {file}: {cause}");
             }
@@ -200,7 +203,7 @@ fn done_with_input<R: AllocGlobal + Input + Print + Eprint + Clock + Threads + W
             "evsched: reading a document from standard input, to its end (Ctrl-D); evsched --help says more",
         );
     }
-    done(rt, task, explain, &mut rt.reader(), terminals.error)
+    done(rt, task, explain, &mut rt.reader(), terminals)
 }
 
 /// Does what the words after the program's name ask for, and gives the status.
@@ -212,7 +215,13 @@ fn run<R: AllocGlobal + Files + Input + Print + Eprint + Clock + Threads + Wait 
     let mut text = String::new(rt.alloc());
     match choice(rt.alloc(), words, &mut text) {
         Ok(Choice::Play) => done_with_input(rt, Task::Play, false, terminals),
-        Ok(Choice::Run { workers }) => done_with_input(rt, Task::Run { workers }, false, terminals),
+        Ok(Choice::Run { workers }) => {
+            let task = Task::Run {
+                workers,
+                quiet: false,
+            };
+            done_with_input(rt, task, false, terminals)
+        }
         Ok(
             Choice::Document {
                 task,
@@ -220,9 +229,14 @@ fn run<R: AllocGlobal + Files + Input + Print + Eprint + Clock + Threads + Wait 
                 explain,
             },
         ) => match file.and_then(|word| words.get(word)) {
-            Some(file) => done_with_file(rt, task, explain, file, terminals.error),
+            Some(file) => done_with_file(rt, task, explain, file, terminals),
             None => done_with_input(rt, task, explain, terminals),
         },
+        Ok(Choice::Judge { document, log }) => {
+            let document = document.and_then(|word| words.get(word));
+            let log = log.and_then(|word| words.get(word));
+            judged_with_file(rt, document.unwrap_or(&""), log.copied(), terminals.input)
+        }
         Ok(Choice::Example { name }) => match name.and_then(|word| words.get(word)) {
             Some(name) => shown(rt, name),
             None => listed(rt),
@@ -245,6 +259,7 @@ fn main(rt: HostRuntime) -> ExitCode {
         Ok(words) => {
             let terminals = Terminals {
                 input: rt.stdin().is_terminal(),
+                output: rt.stdout().is_terminal(),
                 error: rt.stderr().is_terminal(),
             };
             ExitCode::from(run(&rt, &words, terminals))

@@ -1,52 +1,180 @@
 //! The progress of a run, shown while it goes on.
 
-use pipeline_app::Gate;
+use crate::terminals::Terminals;
+use pipeline_app::{Gate, Phase};
+use std::fmt;
 use std::sync::atomic::{AtomicU64, Ordering};
 use std::time::{Clock, Instant};
 
-/// Shows on standard error how far a run has come: a line each second.
+/// After how long the line is written anew, in microseconds.
+const EACH: u64 = 200_000;
+
+/// The microseconds of a second.
+const SECOND: u64 = 1_000_000;
+
+/// Takes the line away: it goes to its beginning and clears it.
+const CLEAR: &str = "\r\x1b[K";
+
+/// The thousands, from the highest that a number may have.
+const THOUSANDS: [u64; 7] = [
+    1_000_000_000_000_000_000,
+    1_000_000_000_000_000,
+    1_000_000_000_000,
+    1_000_000_000,
+    1_000_000,
+    1_000,
+    1,
+];
+
+/// A number with a comma before each three digits.
+#[derive(Clone, Copy)]
+struct Grouped(u64);
+
+impl fmt::Display for Grouped {
+    fn fmt<W: fmt::Write>(&self, f: &mut fmt::Formatter<W>) -> fmt::Result {
+        let mut begun = false;
+        for thousand in THOUSANDS {
+            let group = self.0.checked_div(thousand).unwrap_or(0) % 1000;
+            if begun {
+                write!(f, ",{group:03}")?;
+            } else if group > 0 || thousand == 1 {
+                write!(f, "{group}")?;
+                begun = true;
+            }
+        }
+        Ok(())
+    }
+}
+
+/// How many a second, by the million where there are so many.
+#[derive(Clone, Copy)]
+struct Rate(u64);
+
+impl fmt::Display for Rate {
+    fn fmt<W: fmt::Write>(&self, f: &mut fmt::Formatter<W>) -> fmt::Result {
+        if self.0 < 1_000_000 {
+            return write!(f, "{} a second", Grouped(self.0));
+        }
+        let tenths = self.0 / 100_000;
+        write!(
+            f,
+            "{}.{} million a second",
+            Grouped(tenths / 10),
+            tenths % 10
+        )
+    }
+}
+
+/// So many in so many microseconds: how many a second.
+fn rate(count: u64, lasted: u64) -> Rate {
+    Rate(
+        count
+            .saturating_mul(SECOND)
+            .checked_div(lasted)
+            .unwrap_or(0),
+    )
+}
+
+/// Shows on standard error what a run is at and how far it has come: one line, written anew five times a second. It is taken away in the
+/// end, and before the run's text is written where that goes to a terminal too.
 #[derive(Drop)]
 pub struct Progress<'a, R> {
     rt: &'a R,
+    terminals: Terminals,
     /// When the run began; `None` shows nothing.
     began: Option<Instant>,
-    /// The last second of the run that a line was shown in.
+    /// How many events the trace has.
+    events: AtomicU64,
+    /// When the trace's run began, in microseconds of the whole run.
+    from: AtomicU64,
+    /// When the line was written last, likewise.
     shown: AtomicU64,
 }
 
 impl<'a, R: Clock + Eprint> Progress<'a, R> {
-    /// The progress of a run that begins now, which is shown where `on_terminal`.
-    pub fn new(rt: &'a R, on_terminal: bool) -> Progress<'a, R> {
-        let began = if on_terminal {
+    /// The progress of a run that begins now, which is shown where standard error is a terminal and the run isn't `quiet`.
+    pub fn new(rt: &'a R, terminals: Terminals, quiet: bool) -> Progress<'a, R> {
+        let began = if terminals.error && !quiet {
             Instant::now(rt).ok()
         } else {
             None
         };
         Progress {
             rt,
+            terminals,
             began,
+            events: AtomicU64::new(0),
+            from: AtomicU64::new(0),
             shown: AtomicU64::new(0),
         }
     }
 
-    /// The second of the run that it is, where none was shown in it yet. A clock that fails shows nothing.
-    fn new_second(&self) -> Option<u64> {
-        let second = self.began?.elapsed(self.rt).ok()?.as_secs();
-        if second > self.shown.load(Ordering::SeqCst) {
-            Some(second)
-        } else {
-            None
+    /// How many microseconds the run has lasted, where it is shown. A clock that fails shows nothing.
+    fn now(&self) -> Option<u64> {
+        let elapsed = self.began?.elapsed(self.rt).ok()?;
+        let nanoseconds = u64::from(elapsed.subsec_nanos());
+        Some(
+            elapsed
+                .as_secs()
+                .saturating_mul(SECOND)
+                .saturating_add(nanoseconds / 1_000),
+        )
+    }
+
+    /// Writes this in place of the line, where it is shown.
+    fn write(&self, line: &str) {
+        if self.began.is_some() {
+            let _ = eprint!(self.rt; "{CLEAR}{line}");
         }
+    }
+
+    /// Takes the line away, where there is one.
+    pub fn end(&self) {
+        self.write("");
+    }
+
+    /// Writes the line of so many accepted events.
+    fn show(&self, now: u64, accepted: u64) {
+        let events = self.events.load(Ordering::SeqCst);
+        let lasted = now.saturating_sub(self.from.load(Ordering::SeqCst));
+        let share = accepted
+            .saturating_mul(100)
+            .checked_div(events)
+            .unwrap_or(100);
+        let _ = eprint!(self.rt;
+            "{CLEAR}accepted {} of {}, {share} %, {}",
+            Grouped(accepted),
+            Grouped(events),
+            rate(accepted, lasted)
+        );
     }
 }
 
 impl<R: Clock + Eprint + Sync> Gate for Progress<'_, R> {
     fn enter(&self, _worker: usize, _payload: u64) {}
 
-    fn swept(&self, accepted: u64, inside: usize) {
-        if let Some(second) = self.new_second() {
-            self.shown.store(second, Ordering::SeqCst);
-            let _ = eprintln!(self.rt; "accepted {accepted} inside {inside}");
+    fn swept(&self, accepted: u64, _inside: usize) {
+        if let Some(now) = self.now() {
+            if now.saturating_sub(self.shown.load(Ordering::SeqCst)) >= EACH {
+                self.shown.store(now, Ordering::SeqCst);
+                self.show(now, accepted);
+            }
+        }
+    }
+
+    fn begins(&self, phase: Phase) {
+        match phase {
+            // What is typed, or what the run prints, would stand behind it in the same line.
+            Phase::Reading if self.terminals.input => {}
+            Phase::Writing if self.terminals.output => self.end(),
+            Phase::Reading => self.write("reading"),
+            Phase::Running { events } => {
+                self.events.store(events as u64, Ordering::SeqCst);
+                self.from.store(self.now().unwrap_or(0), Ordering::SeqCst);
+                self.write("running");
+            }
+            Phase::Checking => self.write("checking"),
+            Phase::Writing => self.write("writing"),
         }
     }
 }

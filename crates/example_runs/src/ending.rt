@@ -3,16 +3,24 @@
 ghost use Rattle.std.specs.Prelude.{IfOk};
 ghost use Rattle.command_line.specs.CommandLine.{HasFew};
 
-use anyhow::{Result, bail};
+use anyhow::{Context, Result, bail};
 use arrayvec::ArrayString;
+use judge_app::{JudgeFault, judge_log, status_of};
 use pipeline_app::{
     AppFault, Choice, Form, OpenGate, Task, check, choice, fault_line, play, play_as,
     run_explained, run_trace,
 };
 use std::alloc::{AllocError, Global};
-use std::fmt;
+use std::rt::Files;
 use std::sync::Wait;
 use std::thread::Threads;
+use std::{fmt, fs};
+
+/// The status after a log that breaks a promise, which is printed on standard output.
+const BROKEN: u8 = 7;
+
+/// The status after a log at fault.
+const BAD_LOG: u8 = 4;
 
 /// How a run of the program ended.
 #[derive(Drop)]
@@ -51,12 +59,35 @@ impl Ending {
         })
     }
 
-    /// Whether the run ended with this status and printed this, and nothing else: on standard output with status 0, and on standard
-    /// error with any other.
+    /// The ending of the judging of a log by a document.
+    fn of_judging(alloc: Global, document: &[u8], log: &[u8]) -> Result<Ending, AllocError> {
+        let fault = match judge_log(alloc, document, log) {
+            Ok(judged) => {
+                return Ok(Ending {
+                    status: status_of(&judged.verdict),
+                    output: judged.text.into_bytes(),
+                    complaint: String::new(alloc),
+                });
+            }
+            Err(JudgeFault::Document(fault)) => AppFault::Document(fault),
+            Err(JudgeFault::Memory) => AppFault::Memory,
+            Err(fault) => {
+                return Ok(Ending {
+                    status: BAD_LOG,
+                    output: Vec::new(alloc),
+                    complaint: format!(in alloc; "evsched: {fault}\n")?,
+                });
+            }
+        };
+        Ending::of(alloc, Err(fault), Vec::new(alloc), "")
+    }
+
+    /// Whether the run ended with this status and printed this, and nothing else: on standard output with status 0 and that of a broken
+    /// log, and on standard error with any other.
     pub fn is(&self, status: u8, printed: &[u8]) -> bool {
         let output = self.output.as_slice();
         let complaint = self.complaint.as_bytes();
-        let is_printed = if status == 0 {
+        let is_printed = if status == 0 || status == BROKEN {
             output == printed && complaint.is_empty()
         } else {
             complaint == printed && output.is_empty()
@@ -83,6 +114,20 @@ impl fmt::Display for Ending {
     }
 }
 
+/// The file that the words name as the document of a log on standard input, where they ask that it be judged.
+fn judged_by<'a>(alloc: Global, words: &[&'a str]) -> Option<&'a str> {
+    let mut text = String::new(alloc);
+    match choice(alloc, words, &mut text) {
+        Ok(
+            Choice::Judge {
+                document: Some(word),
+                log: None,
+            },
+        ) => words.get(word).copied(),
+        _ => None,
+    }
+}
+
 /// What the words after the program's name ask to be done with a document on standard input, and whether its fault is explained.
 fn task_of(alloc: Global, words: &[&str]) -> Result<(Task, bool)>
     ensures { IfOk result (λ t. HasFew t.0) }
@@ -90,7 +135,13 @@ fn task_of(alloc: Global, words: &[&str]) -> Result<(Task, bool)>
     let mut text = String::new(alloc);
     match choice(alloc, words, &mut text) {
         Ok(Choice::Play) => Ok((Task::Play, false)),
-        Ok(Choice::Run { workers }) => Ok((Task::Run { workers }, false)),
+        Ok(Choice::Run { workers }) => {
+            let task = Task::Run {
+                workers,
+                quiet: false,
+            };
+            Ok((task, false))
+        }
         Ok(
             Choice::Document {
                 task,
@@ -98,21 +149,25 @@ fn task_of(alloc: Global, words: &[&str]) -> Result<(Task, bool)>
                 explain,
             },
         ) => Ok((task, explain)),
-        Ok(Choice::Document { .. } | Choice::Example { .. }) => {
+        Ok(Choice::Document { .. } | Choice::Judge { .. } | Choice::Example { .. }) => {
             bail!("the index has words that ask for another document")
         }
         Err(_) => bail!("the index has words that ask for no run: {text}"),
     }
 }
 
-/// Does what the words after the program's name ask for, with the document on standard input.
-pub fn ending_of<R: AllocGlobal + Threads + Wait + Sync>(
+/// Does what the words after the program's name ask for, with the document or the log on standard input.
+pub fn ending_of<R: AllocGlobal + Files + Threads + Wait + Sync>(
     rt: &R,
     words: &str,
     document: &[u8],
 ) -> Result<Ending> {
     let alloc = rt.alloc();
     let words: Vec<&str> = words.split(' ').collect(alloc)?;
+    if let Some(file) = judged_by(alloc, &words) {
+        let judging = fs::read(rt, file).context("the document of a log can't be read")?;
+        return Ok(Ending::of_judging(alloc, &judging, document)?);
+    }
     let (task, explain) = task_of(alloc, &words)?;
     let mut reader = document;
     let mut output = Vec::new(alloc);
@@ -121,7 +176,7 @@ pub fn ending_of<R: AllocGlobal + Threads + Wait + Sync>(
         Task::Play if explain => { play_as(alloc, Form::Text, &mut reader, &mut output, &mut why) }
         Task::Play => play(alloc, &mut reader, &mut output),
         Task::Timeline => play_as(alloc, Form::Picture, &mut reader, &mut output, &mut why),
-        Task::Run { workers } if explain => run_explained(
+        Task::Run { workers, .. } if explain => run_explained(
             rt,
             alloc,
             &mut reader,
@@ -130,7 +185,7 @@ pub fn ending_of<R: AllocGlobal + Threads + Wait + Sync>(
             &mut output,
             &mut why,
         ),
-        Task::Run { workers } => {
+        Task::Run { workers, .. } => {
             run_trace(rt, alloc, &mut reader, workers, &OpenGate, &mut output)
         }
         Task::Check { workers } => check(alloc, &mut reader, workers, &mut why),

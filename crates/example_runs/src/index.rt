@@ -3,9 +3,9 @@
 /// A run that a line of the index names.
 #[derive(Clone, Copy)]
 pub struct Entry<'a> {
-    /// The file of the document, which stands on standard input.
+    /// The file of the document, or of a log, which stands on standard input.
     pub document: &'a str,
-    /// The file of what is printed: by a run with status 0 on standard output, by any other on standard error.
+    /// The file of what is printed: by a run with status 0 or 7 on standard output, by any other on standard error.
     pub printed: &'a str,
     /// The status that the run ends with.
     pub status: u8,

@@ -12,5 +12,5 @@ pub use checking::check;
 pub use command_line::{AppFault, Choice, Task, choice, fault_line};
 pub use drive::{play, play_as};
 pub use form::Form;
-pub use pipeline_threads::{Gate, OpenGate};
+pub use pipeline_threads::{Gate, OpenGate, Phase};
 pub use run::{pipeline_text, run_explained, run_trace};

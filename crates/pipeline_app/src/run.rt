@@ -14,7 +14,7 @@ use document_checks::explain_run;
 use event_device::StepLog;
 use evt_types::{Serving, Step};
 use pipeline_laws::{AcceptedLog, answers_are_due, write_accepted, write_run};
-use pipeline_threads::{Gate, RunFault, run_pipeline};
+use pipeline_threads::{Gate, Phase, RunFault, run_pipeline};
 use run_documents::{Pipeline, read_pipeline};
 use std::alloc::{AllocError, Global};
 use std::io::{Read, Write};
@@ -73,10 +73,13 @@ fn ports_text<R: Threads + Wait + Sync, G: Gate>(
         trace,
     } = pipeline;
     let log = AcceptedLog::new(alloc);
+    let events = trace.len();
+    gate.begins(Phase::Running { events });
     let report = match run_pipeline(rt, alloc, log, shape, &actions, &trace, most, gate) {
         Ok(report) => report,
         Err(fault) => return Err(run_fault(fault)),
     };
+    gate.begins(Phase::Checking);
     Ok(accepted_text(alloc, actions.len(), &report.log)?)
 }
 
@@ -102,10 +105,13 @@ fn flows_text<R: Threads + Wait + Sync, G: Gate>(
     let queues = shape.queues().len();
     let lanes = shape.lanes();
     let log: Vec<Step> = Vec::new(alloc);
+    let events = trace.len();
+    gate.begins(Phase::Running { events });
     let report = match run_pipeline(rt, alloc, log, shape, &actions, &trace, most, gate) {
         Ok(report) => report,
         Err(fault) => return Err(run_fault(fault)),
     };
+    gate.begins(Phase::Checking);
     let due = answers_are_due(alloc, queues, lanes, &actions, &report.log)?;
     if !due {
         return Err(AppFault::Strayed(report.log));
@@ -162,6 +168,7 @@ fn ran_text<R: Threads + Wait + Sync, I: Read, G: Gate>(
     ensures fault { IfErr result (IsEarlyFault workers (I.remaining reader.old)) }
     ensures reads { HasRead (I.remaining reader.old) (I.remaining reader.new) result }
 {
+    gate.begins(Phase::Reading);
     let bytes = read_all(alloc, reader)?;
     document_text(rt, alloc, &bytes, workers, gate)
 }
@@ -180,6 +187,7 @@ fn explained_text<R: Threads + Wait + Sync, I: Read, G: Gate>(
     ensures fault { IfErr result (IsEarlyFault workers (I.remaining reader.old)) }
     ensures reads { HasRead (I.remaining reader.old) (I.remaining reader.new) result }
 {
+    gate.begins(Phase::Reading);
     let bytes = match read_all(alloc, reader) {
         Ok(bytes) => bytes,
         Err(fault) => {
@@ -216,6 +224,7 @@ pub fn run_trace<R: Threads + Wait + Sync, I: Read, W: Write, G: Gate>(
     ensures reads { HasRead (I.remaining reader.old) (I.remaining reader.new) result }
 {
     let text = ran_text(rt, alloc, reader, workers, gate)?;
+    gate.begins(Phase::Writing);
     write_text(writer, text.as_bytes())
 }
 
@@ -236,5 +245,6 @@ pub fn run_explained<R: Threads + Wait + Sync, I: Read, W: Write, G: Gate>(
     ensures reads { HasRead (I.remaining reader.old) (I.remaining reader.new) result }
 {
     let text = explained_text(rt, alloc, reader, workers, gate, why)?;
+    gate.begins(Phase::Writing);
     write_text(writer, text.as_bytes())
 }

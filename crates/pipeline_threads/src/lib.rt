@@ -14,5 +14,5 @@ mod threads;
 mod worker;
 
 pub use fault::RunFault;
-pub use gate::{Gate, OpenGate};
+pub use gate::{Gate, OpenGate, Phase};
 pub use run::run_pipeline;

@@ -3,7 +3,7 @@
 use command_line::{Choice, Task, choice};
 
 /// The words after the program's name, what they ask for or the status to end with, and a part of what is printed.
-static LINES: [(&[&str], Result<Choice, u8>, &str); 22] = [
+static LINES: [(&[&str], Result<Choice, u8>, &str); 26] = [
     (&["play"], Ok(Choice::Play), ""),
     (&["--help"], Err(0), "Usage: evsched <COMMAND>"),
     (&["help"], Err(0), "docs/FORMATS.md"),
@@ -52,12 +52,44 @@ static LINES: [(&[&str], Result<Choice, u8>, &str); 22] = [
     (
         &["run", "--explain", "now"],
         Ok(Choice::Document {
-            task: Task::Run { workers: 2 },
+            task: Task::Run {
+                workers: 2,
+                quiet: false,
+            },
             file: Some(2),
             explain: true,
         }),
         "",
     ),
+    (
+        &["run", "--quiet", "--workers", "3"],
+        Ok(Choice::Document {
+            task: Task::Run {
+                workers: 3,
+                quiet: true,
+            },
+            file: None,
+            explain: false,
+        }),
+        "",
+    ),
+    (
+        &["judge", "script"],
+        Ok(Choice::Judge {
+            document: Some(1),
+            log: None,
+        }),
+        "",
+    ),
+    (
+        &["judge", "script", "log"],
+        Ok(Choice::Judge {
+            document: Some(1),
+            log: Some(2),
+        }),
+        "",
+    ),
+    (&["judge"], Err(2), "DOCUMENT"),
     (
         &["example", "two-flows"],
         Ok(Choice::Example { name: Some(1) }),

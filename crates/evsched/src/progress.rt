@@ -66,7 +66,7 @@ impl fmt::Display for Rate {
 }
 
 /// So many in so many microseconds: how many a second.
-fn rate(count: u64, lasted: u64) -> Rate {
+fn rate_of(count: u64, lasted: u64) -> Rate {
     Rate(
         count
             .saturating_mul(SECOND)
@@ -145,7 +145,7 @@ impl<'a, R: Clock + Eprint> Progress<'a, R> {
             "{CLEAR}accepted {} of {}, {share} %, {}",
             Grouped(accepted),
             Grouped(events),
-            rate(accepted, lasted)
+            rate_of(accepted, lasted)
         );
     }
 }

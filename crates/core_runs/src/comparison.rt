@@ -10,7 +10,7 @@ use evt_types::{Kind, MAX_EXTRAS, Serving};
 use std::alloc::Global;
 
 /// How many seeds a device is run with.
-const SEEDS: u64 = 20;
+const SEEDS: u64 = 50;
 /// How many turns a run has.
 const TURNS: usize = 800;
 /// How often a thing happens at least in the runs of a device, if they are worth the comparison.

@@ -1,7 +1,6 @@
 -- A core after a row of events is handed to a lane: that what holds of each core holds of it, and that each event was the choice.
 use Rattle.std.proofs.Common.{◌≡◌, ◌↔◌, ℕ, ◌+◌, ◌<◌, ◌≤◌, ◌%◌, append_assoc, drop, take, eqb-true, true, false, List, [], ◌∷◌, ◌++◌, length, map, set, get_or, All, Contains, IsTrue, Some, inl, inr, refl, sym, ap, ◌∙◌, subst, arith}
 use Rattle.std.proofs.lemmas.Grind.{get_or-set_at}
-use Rattle.std.proofs.Math.Seq.{take-append-add}
 use Rattle.std.specs.List.{take-map}
 use Rattle.std.proofs.lemmas.List.{get_or-set_same, length-map, length-set, set-get_or, set-set, take-append-drop}
 use Rattle.std.proofs.lemmas.List.Elements.{All-contains_itself, All-filter, All-head, All-map, All-tail, filter_passes}
@@ -202,10 +201,12 @@ heads_only a q c hs rest core there whole =
         let one = only_event a q u w core h (waits_is a.queues q h) (subst (λ ws. Contains ws w) (sym (waiting_here a q u h (waits_is a.queues q h))) has) k d lt same in
         (ap level_of one ∙ eqb-true (level_of w.event) c here, ap (λ (e : Event). e.flow % u.slots) one)
 
--- the run, cut behind the events that were handed out
-pub cut_run : (run longer cut : List Delivery) (heads : List Numbered) (start count : ℕ) → longer ≡ run ++ map named_delivery heads → start ≡ length run → cut ≡ take (start + count) longer → cut ≡ run ++ map named_delivery (take count heads)
-cut_run run longer cut heads start count whole from is =
-    is ∙ (ap (λ k. take (k + count) longer) from ∙ (ap (take (length run + count)) whole ∙ (take-append-add run (map named_delivery heads) count ∙ ap (λ ds. run ++ ds) (take-map named_delivery count heads))))
+-- the run, and what is left of it where it is cut behind the events that were handed out
+pub row_begun : (run longer : List Delivery) (heads : List Numbered) → run ≡ [] → longer ≡ run ++ map named_delivery heads → longer ≡ map named_delivery heads
+row_begun run longer heads none whole = whole ∙ ap (λ ds. ds ++ map named_delivery heads) none
+
+pub cut_row : (longer cut : List Delivery) (heads : List Numbered) (count : ℕ) → longer ≡ map named_delivery heads → cut ≡ take count longer → cut ≡ map named_delivery (take count heads)
+cut_row longer cut heads count whole is = is ∙ (ap (take count) whole ∙ take-map named_delivery count heads)
 
 pub cut_heads : (all : List Numbered) (heads rest : List Numbered) (count : ℕ) → all ≡ heads ++ rest → all ≡ take count heads ++ (drop count heads ++ rest)
 cut_heads all heads rest count whole = whole ∙ (ap (λ ws. ws ++ rest) (sym (take-append-drop count heads)) ∙ append_assoc (take count heads) (drop count heads) rest)

@@ -1,5 +1,5 @@
 -- Events that a lane answers one after the other, each of which leaves its queue at once.
-use Rattle.std.proofs.Common.{◌≡◌, ◌≢◌, ◌⊎◌, ⊎_elim, ℕ, zero, suc, ◌+◌, ◌-◌, ◌<◌, ◌≤◌, Bool, true, false, List, [], ◌∷◌, ◌++◌, All, None, Some, Vec, Global, ap, append-nil, arith, drop, flat_map, length, map, refl, set, get_or, slice_get, slice_index, subst, sum_by, sym, take, ◌∙◌}
+use Rattle.std.proofs.Common.{◌≡◌, ◌≢◌, ⊎_elim, ℕ, zero, suc, ◌+◌, ◌-◌, ◌<◌, ◌≤◌, Bool, true, false, List, [], ◌∷◌, ◌++◌, All, None, Some, Vec, Global, ap, append-nil, arith, drop, flat_map, length, map, refl, set, get_or, slice_get, slice_index, subst, sum_by, sym, take, ◌∙◌}
 use Rattle.std.specs.Vec.{with_item, with_items}
 use Rattle.std.proofs.lemmas.Bool.{cases_Bool, cond-false, cond-true}
 use Rattle.std.proofs.lemmas.List.{drop-drop, get_or_read, get_or-set_same, length-set, length-take, map-set, set-get_or, with_items_is}
@@ -42,7 +42,7 @@ use Rattle.sched_core.specs.View.{IsCore, entries_in, next_in, unanswered_in, vi
 use Rattle.sched_core.specs.declared.state.Core.TheInside.{Inside}
 use Rattle.small_set.specs.declared.set.SmallSet.{SmallSet}
 use Rattle.step_log.specs.Rows.{release_steps}
-use Rattle.transcripts.specs.Standing.{View, accepts_from, accepts_of, after, after_done, answer_place, answered_places, entries_of, events_of, inside_of, kept_in, leaving, oldest_at, places_after, staying, unanswered_at}
+use Rattle.transcripts.specs.Standing.{View, accepts_from, accepts_of, after, after_done, answer_place, answered_places, events_of, inside_of, kept_in, leaving, oldest_at, places_after, staying, unanswered_at}
 use Rattle.transcripts.specs.Transcript.{Held}
 
 -- ---- pins

@@ -1,9 +1,8 @@
 -- A run of gifts: what a gift leaves of the choice, and the choices one after another.
-use Rattle.std.proofs.Common.{◌≡◌, ◌≢◌, ℕ, ◌<◌, ◌≤◌, ◌+◌, ◌-◌, drop, take, Bool, true, false, cond, not, nat_lt, ◌&&◌, ◌||◌, ◌==◌, List, [], ◌∷◌, ◌++◌, length, filter, set, get_or, All, Contains, inl, inr, ⊎_elim, refl, sym, ap, ◌∙◌, subst, append_assoc, append-nil, arith}
+use Rattle.std.proofs.Common.{◌≡◌, ◌≢◌, ℕ, ◌<◌, ◌≤◌, ◌+◌, Bool, true, false, cond, not, nat_lt, ◌&&◌, ◌||◌, ◌==◌, List, [], ◌∷◌, ◌++◌, length, filter, set, get_or, All, Contains, inl, inr, ⊎_elim, refl, sym, ap, ◌∙◌, subst, append_assoc, append-nil, arith}
 use Rattle.std.proofs.lemmas.Bool.{cases_eq, false≢true, lt-ltb}
 use Rattle.std.proofs.lemmas.Grind.{get_or-set_at}
-use Rattle.std.proofs.lemmas.List.{get_or-set_other, get_or-set_same, length-append, length-drop, map-append, map_push, set-get_or, take_all}
-use Rattle.std.proofs.Math.Seq.{drop-append_seam}
+use Rattle.std.proofs.lemmas.List.{get_or-set_other, get_or-set_same, length-append, map_push, set-get_or}
 use Rattle.std.proofs.lemmas.List.Elements.{All-head, All-tail, All-contains, All-contains_itself, All-filter}
 use Rattle.lists.proofs.Lists.{All-front}
 use Rattle.evt_types.specs.Place.{Place}
@@ -16,7 +15,7 @@ use Rattle.sched_core.proofs.Offers.{IsOfferAt, choice_is_offer, not_earlier}
 use Rattle.sched_core.specs.Offered.{IsOfferIn, IsOpenLane, numbered_in}
 use Rattle.sched_core.specs.Sized.{IsSized}
 use Rattle.sched_core.specs.declared.offer.Offer.{Offer}
-use Rattle.sched_core.specs.Runs.{AreChoices, GoesOn, IsSteady, HasTurn, gift_of, gifts_of, given_once, given_times}
+use Rattle.sched_core.specs.Runs.{AreChoices, AreGiven, IsSteady, HasTurn, gift_of, gifts_of, given_once, given_times}
 use Rattle.small_set.specs.declared.set.SmallSet.{SmallSet}
 use Rattle.step_log.specs.Gives.{gives_of}
 use Rattle.transcripts.proofs.WholeStands.{stands_give}
@@ -295,36 +294,11 @@ steady_on l q more lanes w x t y u sized offer within steady view given =
 pub times_none : (s : Passed) (q : ℕ) → given_times s q 0 ≡ s
 times_none s q = ap (λ gs. record s { given = gs }) (ap (set s.given q) (omega arith) ∙ set-get_or s.given q 0)
 
--- choices after others
-pub choices_append : (l : ℕ) (v : View) (s : Passed) (ds es : List Delivery) (w x : View) (t y : Passed) → AreChoices l v s ds w t → AreChoices l w t es x y → AreChoices l v s (ds ++ es) x y
-choices_append l v s [] es w x t y h more = subst (λ u. AreChoices l u s es x y) h.0 (subst (λ u. AreChoices l w u es x y) h.1 more)
-choices_append l v s (d ∷ ds) es w x t y h more = (h.0, choices_append l (after v (gift_of l d ∷ [])) (given_once s d.queue) ds es w x t y h.1 more)
-
 -- events of one queue, as a row of steps
 pub gives_are : (l q : ℕ) (ds : List Delivery) → All (λ (d : Delivery). d.queue ≡ q) ds → gives_of l q ds ≡ gifts_of l ds
 gives_are l q [] named = refl
 gives_are l q (d ∷ ds) named = ap (λ n. Give l n d.number ∷ gives_of l q ds) (sym (All-head (λ (e : Delivery). e.queue ≡ q) d ds named)) ∙ ap (λ ss. gift_of l d ∷ ss) (gives_are l q ds (All-tail (λ (e : Delivery). e.queue ≡ q) d ds named))
 
--- what is behind the first events of a run that has gone on
-pub rest_is : (run longer items ds : List Delivery) (n : ℕ) → longer ≡ run ++ ds → n ≡ length run → items ≡ longer → take (length items - n) (drop n items) ≡ ds
-rest_is run longer items ds n whole start same =
-    take_all (length items - n) (drop n items) (omega (arith, length-drop n items))
-    ∙ (ap (drop n) same ∙ (ap (λ k. drop k longer) start ∙ (ap (drop (length run)) whole ∙ drop-append_seam run ds)))
-
--- a run that goes on: what was given by then, and what now
-pub goes_on_choices : (l q most : ℕ) (v : View) (s t : Passed) (run longer rest : List Delivery) (w : View) → (on : GoesOn l q most v s run w longer) → rest ≡ on.0 → t ≡ given_times s q (length rest)
-    → (u : View) (p : Passed) → AreChoices l u p run v s → AreChoices l u p longer w t
-goes_on_choices l q most v s t run longer rest w on is count u p choices =
-    subst (λ es. AreChoices l u p es w t) (sym on.1)
-    (subst (λ x. AreChoices l u p (run ++ on.0) w x) (sym (count ∙ ap (λ (es : List Delivery). given_times s q (length es)) is))
-    (choices_append l u p run on.0 v w s (given_times s q (length on.0)) choices on.2.choices))
-
-pub goes_on_logged : (l q most : ℕ) (v : View) (s : Passed) (run longer rest : List Delivery) (w : View) (log later : List Step) → (on : GoesOn l q most v s run w longer) → rest ≡ on.0 → later ≡ log ++ gives_of l q rest
-    → (before : List Step) → log ≡ before ++ gifts_of l run → later ≡ before ++ gifts_of l longer
-goes_on_logged l q most v s run longer rest w log later on is pushed before logged =
-    pushed
-    ∙ (ap (λ ss. ss ++ gives_of l q rest) logged
-    ∙ (ap (λ es. before ++ gifts_of l run ++ gives_of l q es) is
-    ∙ (ap (λ ss. before ++ gifts_of l run ++ ss) (gives_are l q on.0 on.2.named)
-    ∙ (append_assoc before (gifts_of l run) (gifts_of l on.0)
-    ∙ (ap (λ ss. before ++ ss) (sym (map-append (gift_of l) run on.0)) ∙ ap (λ es. before ++ gifts_of l es) (sym on.1))))))
+-- a row of the queue's events, as it is logged
+pub row_logged : (l q most : ℕ) (v : View) (s : Passed) (ds : List Delivery) (w : View) (log later : List Step) → AreGiven l q most v s ds w → later ≡ log ++ gives_of l q ds → later ≡ log ++ gifts_of l ds
+row_logged l q most v s ds w log later given pushed = pushed ∙ ap (λ ss. log ++ ss) (gives_are l q ds given.named)

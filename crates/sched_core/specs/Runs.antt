@@ -1,5 +1,5 @@
 -- A run: choices that follow each other, all for one lane (own; Software Eventdev, "Scheduling Quanta").
-use Rattle.std.specs.Prelude.{ℕ, ◌≡◌, ◌+◌, ◌<◌, ◌≤◌, true, List, [], ◌∷◌, ◌++◌, length, map, slice_index, slice_set, All}
+use Rattle.std.specs.Prelude.{ℕ, ◌≡◌, ◌+◌, ◌<◌, ◌≤◌, true, List, [], ◌∷◌, length, map, slice_index, slice_set, All}
 use Rattle.evt_types.specs.declared.event.Delivery.{Delivery}
 use Rattle.evt_types.specs.declared.step.Step.{Step}
 use Rattle.evt_types.specs.declared.step.Step.TheVariants.{Give}
@@ -37,10 +37,6 @@ pub record AreGiven (l q most : ℕ) (v : View) (s : Passed) (ds : List Delivery
   pub named : All (λ (d : Delivery). d.queue ≡ q) ds
   pub few : length ds ≤ most
   pub shape : w.shape ≡ v.shape
-
--- by them a run goes on
-abbrev pub GoesOn : ℕ → ℕ → ℕ → View → Passed → List Delivery → View → List Delivery → Type 0
-GoesOn l q most v s run w longer = (ds : List Delivery) × (longer ≡ run ++ ds) × AreGiven l q most v s ds w
 
 -- ---- how a run goes on
 

@@ -1,6 +1,6 @@
 //! Where one lane is open, the first events of a queue and level are handed to it as a row.
 
-ghost use Rattle.std.specs.Prelude.{◌≡◌, ℕ, ◌+◌, ◌<◌, ◌≤◌, true, false, length, take, IsTrue};
+ghost use Rattle.std.specs.Prelude.{◌≡◌, ℕ, ◌+◌, ◌<◌, ◌≤◌, [], true, false, length, take, IsTrue};
 ghost use Rattle.evt_types.specs.Plan.{has_flow_lanes, lanes_of};
 ghost use Rattle.evt_types.specs.declared.shape.TheConstants.{MAX_DEPTH, MAX_QUEUES};
 ghost use Rattle.order_parts.specs.Histories.{lane_in};
@@ -9,7 +9,7 @@ ghost use Rattle.order_parts.specs.Pins.{may_pin};
 ghost use Rattle.order_parts.specs.QueuePins.{pin_in};
 ghost use Rattle.sched_core.specs.Offered.{IsOnly};
 ghost use Rattle.sched_core.specs.GiftRows.{AreHanded};
-ghost use Rattle.sched_core.specs.Runs.{GoesOn, HasTurn, IsSteady};
+ghost use Rattle.sched_core.specs.Runs.{AreGiven, HasTurn, IsSteady};
 
 use crate::skips::Skips;
 use crate::state::Core;
@@ -66,8 +66,8 @@ fn hand_all(
 }
 
 impl Core {
-    /// Hands out what is chosen next to the only open lane, as a row, as long as that is an event of this queue and level and is quick to
-    /// see. Nothing is logged or counted yet.
+    /// Hands the first events of the queue's level to the only open lane, as a row, each of which is the choice then, as far as they are quick
+    /// to see. Nothing is logged or counted yet.
     #[inline(always)]
     pub(crate) fn hand_row(
         &mut self,
@@ -85,12 +85,12 @@ impl Core {
         requires alone { IsOnly _lanes lane }
         requires lane { lane < lanes_of self.old.shape }
         requires counts { length _skips.now.given ≡ MAX_QUEUES }
-        requires room { length run.old.items + bound ≤ 32 }
-        ensures { GoesOn lane queue bound self.old _skips.now run.old.items self.new run.new.items }
+        requires room { bound ≤ 32 }
+        requires none { run.old.items ≡ [] }
+        ensures { AreGiven lane queue bound self.old _skips.now run.new.items self.new }
     {
         // To make the set of all slots makes known that there is one.
         let _ = SmallSet::below(MAX_MEMBERS);
-        let start = run.len();
         self.queues.push_heads(queue, level, bound, run);
         let count = hand_all(
             self.queues.slots(queue),
@@ -99,10 +99,9 @@ impl Core {
             &mut self.lanes,
             lane,
             queue,
-            &run.as_slice()[start..],
+            run.as_slice(),
         );
-        run.truncate(start + count);
-        self.queues
-            .remove_row(queue, level, &run.as_slice()[start..]);
+        run.truncate(count);
+        self.queues.remove_row(queue, level, run.as_slice());
     }
 }

@@ -6,8 +6,8 @@ ghost use Rattle.evt_types.specs.declared.shape.TheConstants.{MAX_QUEUES};
 ghost use Rattle.evt_types.specs.declared.step.Step.{Step as StepValue};
 ghost use Rattle.sched_core.specs.Offered.{AreOpenLanes, IsOnly, numbered_in};
 ghost use Rattle.sched_core.specs.Runs.{AreChoices, IsSteady, IsTurn, HasTurn, gifts_of};
-ghost use Rattle.transcripts.specs.Choice.{IsChoice, Passed};
-ghost use Rattle.transcripts.specs.Standing.{Stands, View};
+ghost use Rattle.transcripts.specs.Choice.{IsChoice};
+ghost use Rattle.transcripts.specs.Standing.{Stands};
 
 use crate::offer::{Offer, numbered};
 use crate::skips::Skips;
@@ -61,10 +61,10 @@ impl Core {
         self.orders.places_for(queue, room.min(quota))
     }
 
-    /// Goes on with a run: gives what is chosen next to the only open lane, as a row, as long as that is an event of this queue and level
-    /// and is quick to see. Which lanes are open doesn't change before a count is full.
+    /// Gives the first events of the queue's level to the only open lane as a row, each of which is the choice then, as far as they are quick
+    /// to see: which lanes are open doesn't change before a count is full.
     #[inline(always)]
-    fn give_more<L: StepLog>(
+    fn give_row<L: StepLog>(
         &mut self,
         lane: usize,
         queue: usize,
@@ -82,20 +82,118 @@ impl Core {
         requires alone { IsOnly lanes lane }
         requires quota { slice_index skips.old.given queue ≤ self.old.shape.sweep }
         requires room { self.old.shape.sweep ≤ L.room log.old + slice_index skips.old.given queue }
-        ensures choices { (v : View) (s : Passed) → AreChoices lane v s run.old.items self.old skips.old → AreChoices lane v s run.new.items self.new skips.new }
-        ensures logged { (before : List StepValue) → L.steps log.old ≡ before ++ gifts_of lane run.old.items → L.steps log.new ≡ before ++ gifts_of lane run.new.items }
-        ensures few { (length run.old.items ≤ length run.new.items) × (length run.new.items ≤ length run.old.items + most) }
+        requires none { run.old.items ≡ [] }
+        ensures choices { AreChoices lane self.old skips.old run.new.items self.new skips.new }
+        ensures logged { L.steps log.new ≡ L.steps log.old ++ gifts_of lane run.new.items }
+        ensures few { length run.new.items ≤ most }
         ensures shape { self.new.shape ≡ self.old.shape }
-        ensures room { L.room log.old + length run.old.items ≤ L.room log.new + length run.new.items }
+        ensures room { L.room log.old ≤ L.room log.new + length run.new.items }
     {
         let steady = self.steady_for(queue, lane, skips);
-        let start = run.len();
-        let bound = steady.min(most).min(MAX_RUN - start);
+        let bound = steady.min(most).min(MAX_RUN);
         self.facts();
         self.hand_row(lane, queue, level, lanes, bound, skips, run);
-        let row = &run.as_slice()[start..];
+        let row = run.as_slice();
         log.push_gives(lane, queue, row);
         skips.given_row(queue, row.len());
+    }
+
+    /// The lanes that are open to the queue, where its events may be given as a row to this one: several wait, none is set aside, and no
+    /// other port's lane is open.
+    #[inline(always)]
+    fn lanes_for_row(
+        &self,
+        lane: usize,
+        queue: usize,
+        level: Level,
+        skips: &Skips,
+    ) -> Option<SmallSet>
+        requires { queue < length self.now.shape.queues }
+        ensures ports { IfSome result (λ lanes. has_flow_lanes self.now.shape queue ≡ false) }
+        ensures open { IfSome result (AreOpenLanes self.now skips.now queue) }
+        ensures alone { IfSome result (λ lanes. IsOnly lanes lane) }
+    {
+        self.facts();
+        // With flow lanes the next event mostly goes to another lane. While events are set aside each is chosen by itself.
+        if self.has_flow_lanes(queue)
+            || self.queues.count(queue) < 2
+            || !self.queues.parked_slots(queue, level).is_empty()
+        {
+            return None;
+        }
+        let lanes = self.open_lanes(queue, skips);
+        if is_only(lanes, lane) {
+            Some(lanes)
+        } else {
+            None
+        }
+    }
+
+    /// Gives what was proposed and what is chosen after it as a row, where that may be: whether it did. Else nothing has changed.
+    #[inline(always)]
+    fn gives_row<L: StepLog>(
+        &mut self,
+        offer: &Offer,
+        most: usize,
+        skips: &mut Skips,
+        run: &mut ArrayVec<Delivery, 32>,
+        log: &mut L,
+    ) -> bool
+        requires choice { IsChoice self.old skips.old offer.now.lane offer.now.delivery.queue (numbered_in offer.now.delivery) }
+        requires room { self.old.shape.sweep ≤ L.room log.old + slice_index skips.old.given offer.now.delivery.queue }
+        ensures choices { IsTrue result → AreChoices offer.now.lane self.old skips.old run.new.items self.new skips.new }
+        ensures some { IsTrue result → 0 < length run.new.items }
+        ensures few { IsTrue result → length run.new.items ≤ most }
+        ensures logged { IsTrue result → L.steps log.new ≡ L.steps log.old ++ gifts_of offer.now.lane run.new.items }
+        ensures shape { self.new.shape ≡ self.old.shape }
+        ensures room { IsTrue result → L.room log.old ≤ L.room log.new + length run.new.items }
+        ensures same { result ≡ false → (self.new ≡ self.old) × (skips.new ≡ skips.old) × (L.steps log.new ≡ L.steps log.old) × (L.room log.old ≤ L.room log.new) }
+    {
+        let (lane, level) = (offer.lane, offer.level);
+        let queue = offer.delivery.queue();
+        let Some(lanes) = self.lanes_for_row(lane, queue, level, skips) else {
+            return false;
+        };
+        run.clear();
+        self.give_row(lane, queue, level, lanes, most, skips, run, log);
+        !run.is_empty()
+    }
+
+    /// Gives what was proposed, as a run of one event.
+    #[inline(always)]
+    fn give_one<L: StepLog>(
+        &mut self,
+        offer: Offer,
+        skips: &mut Skips,
+        run: &mut ArrayVec<Delivery, 32>,
+        log: &mut L,
+    ) -> Option<Turn>
+        requires choice { IsChoice self.old skips.old offer.lane offer.delivery.queue (numbered_in offer.delivery) }
+        requires room { 0 < L.room log.old }
+        ensures choices { AreChoices offer.lane self.old skips.old run.new.items self.new skips.new }
+        ensures one { length run.new.items ≡ 1 }
+        ensures logged { L.steps log.new ≡ L.steps log.old ++ gifts_of offer.lane run.new.items }
+        ensures shape { self.new.shape ≡ self.old.shape }
+        ensures room { L.room log.old ≤ L.room log.new + length run.new.items }
+        ensures turn { IfSome result (IsTurn self.new skips.new) }
+    {
+        let Offer {
+            lane,
+            delivery,
+            level,
+            flow,
+        } = offer;
+        let queue = delivery.queue();
+        self.facts();
+        let slot = self.queues.slot_of(queue, flow);
+        begin(run, delivery);
+        self.give_at(lane, queue, &numbered(&delivery), level, slot, log);
+        skips.given(queue);
+        if !self.has_flow_lanes(queue) {
+            return None;
+        }
+        self.close_slot(lane);
+        Some(Turn { queue, level })
     }
 
     /// Gives what was proposed, and then, where no other lane is open, what is chosen after it, as long as that is an event of the same
@@ -121,39 +219,13 @@ impl Core {
         ensures room { L.room log.old ≤ L.room log.new + length run.new.items }
         ensures turn { IfSome result (IsTurn self.new skips.new) }
     {
-        let Offer {
-            lane,
-            delivery,
-            level,
-            flow,
-        } = offer;
-        let queue = delivery.queue();
-        self.facts();
         if most == 0 {
             run.clear();
             return None;
         }
-        let slot = self.queues.slot_of(queue, flow);
-        begin(run, delivery);
-        self.give_at(lane, queue, &numbered(&delivery), level, slot, log);
-        skips.given(queue);
-        // With flow lanes the next event mostly goes to another lane.
-        if self.has_flow_lanes(queue) {
-            self.close_slot(lane);
-            return Some(Turn { queue, level });
-        }
-        // Mostly the run ends here where its lane is full, or nothing is left of the queue. While events are set aside each is chosen by
-        // itself.
-        if self.queues.count(queue) == 0
-            || self.lanes.room(lane) == 0
-            || !self.queues.parked_slots(queue, level).is_empty()
-        {
+        if self.gives_row(&offer, most, skips, run, log) {
             return None;
         }
-        let lanes = self.open_lanes(queue, skips);
-        if is_only(lanes, lane) {
-            self.give_more(lane, queue, level, lanes, most - 1, skips, run, log);
-        }
-        None
+        self.give_one(offer, skips, run, log)
     }
 }

@@ -1,4 +1,4 @@
-use Rattle.std.proofs.Common.{◌≡◌, ◌-◌, ◌<◌, ◌%◌, ◌++◌, All, List, ap, arith, drop, length, map, set, subst, sym, take, ◌∙◌}
+use Rattle.std.proofs.Common.{◌≡◌, ◌<◌, ◌%◌, ◌++◌, All, List, ap, arith, drop, length, map, set, subst, sym, take, ◌∙◌}
 use Rattle.std.proofs.lemmas.List.{length-map, length-take}
 use Rattle.std.proofs.lemmas.List.Elements.{All-take}
 use Rattle.std.specs.List.{take-map}
@@ -10,8 +10,7 @@ use Rattle.parked_queue.specs.Rows.{at_level, without_all}
 use Rattle.parked_queue.specs.Waits.{IsOnlyOf, Waits, waits_at}
 use Rattle.sched_core.proofs.Cores.{queue_there}
 use Rattle.sched_core.proofs.Pinned.{pin_room_for}
-use Rattle.sched_core.proofs.GiftRows.{cut_heads, cut_run, heads_only, row_done, with_parts}
-use Rattle.sched_core.proofs.Runs.{rest_is}
+use Rattle.sched_core.proofs.GiftRows.{cut_heads, cut_row, heads_only, row_begun, row_done, with_parts}
 use Rattle.sched_core.specs.GiftRows.{AreHanded}
 use Rattle.sched_core.specs.Runs.{AreGiven, IsSteady}
 use Rattle.sched_core.specs.View.{IsCore, unanswered_in, view_in}
@@ -21,14 +20,11 @@ use Rattle.sched_core.proofs.state.Core.hand_row.Goals.{After-as_slice-2}
 
 -- ---- what holds once the run has the events that were handed out
 
-cut : (c : After-as_slice-2) → c.truncate.new.self.items ≡ c.args.run.now.items ++ map named_delivery (take c.hand_all-count.result c.push_heads.ensures.heads)
-cut c =
-    let heads = c.push_heads.ensures in
-    cut_run c.args.run.now.items c.push_heads.new.into.items c.truncate.new.self.items heads.heads c.len-start.result c.hand_all-count.result heads.longer_is c.len-start.ensures.value c.truncate.ensures.items
+begun : (c : After-as_slice-2) → c.push_heads.new.into.items ≡ map named_delivery c.push_heads.ensures.heads
+begun c = row_begun c.args.run.now.items c.push_heads.new.into.items c.push_heads.ensures.heads c.requires.none c.push_heads.ensures.longer_is
 
-row : (c : After-as_slice-2) → take (length c.as_slice-2.result.now - c.len-start.result) (drop c.len-start.result c.as_slice-2.result.now) ≡ map named_delivery (take c.hand_all-count.result c.push_heads.ensures.heads)
-row c =
-    rest_is c.args.run.now.items c.truncate.new.self.items c.as_slice-2.result.now (map named_delivery (take c.hand_all-count.result c.push_heads.ensures.heads)) c.len-start.result (cut c) c.len-start.ensures.value c.as_slice-2.ensures.value
+row : (c : After-as_slice-2) → c.as_slice-2.result.now ≡ map named_delivery (take c.hand_all-count.result c.push_heads.ensures.heads)
+row c = c.as_slice-2.ensures.value ∙ cut_row c.push_heads.new.into.items c.truncate.new.self.items c.push_heads.ensures.heads c.hand_all-count.result (begun c) c.truncate.ensures.items
 
 whole : (c : After-as_slice-2) → at_level c.args.level.number (waits_at c.self.inside.queues c.args.queue) ≡ take c.hand_all-count.result c.push_heads.ensures.heads ++ (drop c.hand_all-count.result c.push_heads.ensures.heads ++ c.push_heads.ensures.rest)
 whole c =
@@ -40,15 +36,14 @@ handed : (c : After-as_slice-2)
 handed c =
     let a = c.self.inside in
     let q = c.args.queue in
-    let heads = c.push_heads.ensures in
     let count = c.hand_all-count.result in
-    let first = rest_is c.args.run.now.items c.push_heads.new.into.items c.as_slice.result.now (map named_delivery heads.heads) c.len-start.result heads.longer_is c.len-start.ensures.value c.as_slice.ensures.value in
-    subst (λ (ds : List Delivery). AreHanded (waits_at a.queues q).slots c.args.lane q a.orders a.pins a.lanes ds c.hand_all-count.new.orders c.hand_all-count.new.pins c.hand_all-count.new.lanes) (ap (take count) first ∙ take-map named_delivery count heads.heads)
-    (subst (λ n. AreHanded n c.args.lane q a.orders a.pins a.lanes (take count (take (length c.as_slice.result.now - c.len-start.result) (drop c.len-start.result c.as_slice.result.now))) c.hand_all-count.new.orders c.hand_all-count.new.pins c.hand_all-count.new.lanes) c.slots.ensures c.hand_all-count.ensures.handed)
+    subst (λ (ds : List Delivery). AreHanded (waits_at a.queues q).slots c.args.lane q a.orders a.pins a.lanes ds c.hand_all-count.new.orders c.hand_all-count.new.pins c.hand_all-count.new.lanes)
+    (ap (take count) (c.as_slice.ensures.value ∙ begun c) ∙ take-map named_delivery count c.push_heads.ensures.heads)
+    (subst (λ n. AreHanded n c.args.lane q a.orders a.pins a.lanes (take count c.as_slice.result.now) c.hand_all-count.new.orders c.hand_all-count.new.pins c.hand_all-count.new.lanes) c.slots.ensures c.hand_all-count.ensures.handed)
 
 -- the core that it leaves, with these queues
 done : (c : After-as_slice-2) (qs : List Waits)
-    → qs ≡ set c.self.inside.queues c.args.queue (without_all (waits_at c.self.inside.queues c.args.queue) (take (length c.as_slice-2.result.now - c.len-start.result) (drop c.len-start.result c.as_slice-2.result.now)))
+    → qs ≡ set c.self.inside.queues c.args.queue (without_all (waits_at c.self.inside.queues c.args.queue) c.as_slice-2.result.now)
     → IsCore (with_parts c.self.inside qs c.hand_all-count.new.orders c.hand_all-count.new.pins c.hand_all-count.new.lanes)
     × AreGiven c.args.lane c.args.queue c.args.bound c.args.self.now c.args._skips.now (map named_delivery (take c.hand_all-count.result c.push_heads.ensures.heads))
     (view_in (with_parts c.self.inside qs c.hand_all-count.new.orders c.hand_all-count.new.pins c.hand_all-count.new.lanes))
@@ -69,7 +64,7 @@ pub hand_all-count-requires-clause-counts : goal.hand_all-count-requires-clause-
 hand_all-count-requires-clause-counts c slot may =
     let a = c.self.inside in
     let heads = c.push_heads.ensures in
-    let first = rest_is c.args.run.now.items c.push_heads.new.into.items c.as_slice.result.now (map named_delivery heads.heads) c.len-start.result heads.longer_is c.len-start.ensures.value c.as_slice.ensures.value in
+    let first = c.as_slice.ensures.value ∙ row_begun c.args.run.now.items c.push_heads.new.into.items heads.heads c.requires.none heads.longer_is in
     let there : c.args.queue < length a.shape.queues = queue_there a c.args.self.now c.args.queue c.self.view_is c.requires.turn.there in
     let lane : c.args.lane < lanes_of a.shape = subst (λ (v : View). c.args.lane < lanes_of v.shape) (sym c.self.view_is) c.requires.lane in
     let steady = subst (λ v. IsSteady v c.args._skips.now c.args.lane c.args.queue c.args.bound c.args._lanes) (sym c.self.view_is) c.requires.steady in
@@ -100,4 +95,7 @@ invariant_of-self c = (done (goal.at.invariant_of-self c).After-as_slice-2 c.rem
 pub returns : goal.returns
 returns c =
     let at = (goal.at.returns c).After-as_slice-2 in
-    (map named_delivery (take c.hand_all-count.result c.push_heads.ensures.heads), cut at, (done at c.remove_row.new.self c.remove_row.ensures).1)
+    let a = c.self.inside in
+    subst (λ ds. AreGiven c.args.lane c.args.queue c.args.bound c.args.self.now c.args._skips.now ds (view_in (with_parts a c.remove_row.new.self c.hand_all-count.new.orders c.hand_all-count.new.pins c.hand_all-count.new.lanes)))
+    (sym (cut_row c.push_heads.new.into.items c.truncate.new.self.items c.push_heads.ensures.heads c.hand_all-count.result (begun at) c.truncate.ensures.items))
+    (done at c.remove_row.new.self c.remove_row.ensures).1

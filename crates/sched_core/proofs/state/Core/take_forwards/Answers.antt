@@ -1,4 +1,4 @@
-use Rattle.std.proofs.Common.{rules, ◌≡◌, ◌+◌, ◌<◌, ◌≤◌, List, ◌++◌, ap, arith, length, map, refl, sym, take, ◌∙◌}
+use Rattle.std.proofs.Common.{rules, ◌≡◌, ◌<◌, ◌≤◌, List, ◌++◌, ap, arith, length, map, refl, sym, take, ◌∙◌}
 use Rattle.std.proofs.lemmas.List.{length-map, length-take, length-take-le}
 use Rattle.order_parts.specs.Histories.{lane_in}
 use Rattle.step_log.specs.Rows.{forward_steps}

@@ -2,11 +2,12 @@
 # SPDX-License-Identifier: BSD-3-Clause
 """Draws the pictures of docs/pictures that show figures, of the tables of docs/SPEED.md.
 
-    plot.py            writes speed-one-thread.svg and speed-threads.svg
+    plot.py            writes speed-one-thread.svg, speed-threads.svg and speed-workers.svg
     plot.py --check    says whether those that stand there are of the tables as they are; the status is 1 where one isn't
 
 In each picture a description has all of its numbers in words, for who can't see it.
 """
+import itertools
 import pathlib
 import re
 import sys
@@ -20,6 +21,8 @@ WORKERS_BURST, PRODUCERS_BURST = "16", "16"
 NAMES = ("event_sw", "this device")
 # Where the bars begin, how far it is from one group of them to the next, and the room for a number behind a bar.
 TITLES, GROUP, NUMBERS = 104, 42, 40
+# Where the lines' field lies: from the left, from above, and how large it is.
+FIELD = {"left": 56, "top": 92, "width": 520, "height": 220}
 STYLE = """.back { fill: #ffffff; }
 .theirs { fill: #9aa3af; }
 .ours { fill: #2f6fb0; }
@@ -118,11 +121,63 @@ def threads():
                    list(kinds.items()), {"width": 780, "labels": 88, "one scale": True})
 
 
+def workers_tables():
+    """The workers of the rows of the tables of pipelines, and for each line of the picture its name, kind and millions a second."""
+    text = (TOP / "docs/SPEED.md").read_text().split("\n## Pipelines\n", 1)[1].split("\n## ", 1)[0]
+    rows = [[cell.strip() for cell in line.strip("|").split("|")] for line in text.splitlines() if re.match(r"\| \d", line)]
+    singly, bursts = rows[:len(rows) // 2], rows[len(rows) // 2:]
+    column = lambda table, place: [float(cells[place].replace(",", "")) / 1e6 for cells in table]
+    lines = [("by ports, up to 32 at once", "ours", column(bursts, 2)), ("by ports, one by one", "ours dashed", column(singly, 2)),
+             ("by flow lanes, up to 32", "theirs", column(bursts, 4)), ("by flow lanes, one by one", "theirs dashed", column(singly, 4))]
+    return [cells[0] for cells in singly], lines
+
+
+def apart(places):
+    """Heights for words behind the ends of lines, so that none lies on another."""
+    found = {}
+    for place in sorted(range(len(places)), key=lambda i: places[i]):
+        found[place] = max(places[place], max(found.values(), default=0) + 17)
+    return [found[place] for place in range(len(places))]
+
+
+def lines_of(workers, lines):
+    """A line for each name, over as many workers as each place of the axis says, with its name behind its end."""
+    most = max(max(values) for _, _, values in lines)
+    across = [FIELD["left"] + round(i * FIELD["width"] / (len(workers) - 1)) for i in range(len(workers))]
+    low = FIELD["top"] + FIELD["height"]
+    high = lambda value: low - round(value / most * FIELD["height"])
+    out = [f'<path class="axis" d="M{FIELD["left"]} {FIELD["top"]}V{low}H{across[-1]}" fill="none"/>']
+    out += [f'<text x="{x}" y="{low + 20}" text-anchor="middle">{count}</text>' for x, count in zip(across, workers)]
+    out += [f'<text x="{FIELD["left"] - 8}" y="{high(value) + 4}" text-anchor="end">{shown(value)}</text>' for value in (0, most)]
+    for (name, kind, values), word in zip(lines, apart([high(values[-1]) for _, _, values in lines])):
+        places = [(x, high(value)) for x, value in zip(across, values)]
+        out.append(f'<polyline class="{kind} line" points="{" ".join(f"{x},{y}" for x, y in places)}"/>')
+        out += [f'<circle class="{kind.split()[0]}" cx="{x}" cy="{y}" r="4"/>' for x, y in places]
+        out.append(f'<text x="{across[-1] + 12}" y="{word + 4}">{escape(name)}</text>')
+    return out
+
+
+def by_workers():
+    """What a pipeline's threads pass, as lines over the number of workers."""
+    workers, lines = workers_tables()
+    title, what = "What a pipeline's threads pass, by workers", "Millions of events a second, three stages, on four processors: more is better."
+    words = "; ".join(f"{name}: " + ", ".join(f"{count} {shown(value)}" for count, value in zip(workers, values)) for name, _, values in lines)
+    extra = ".line { fill: none; stroke-width: 2.5; }\n.theirs.line { stroke: #9aa3af; }\n.ours.line { stroke: #2f6fb0; }\n.dashed { stroke-dasharray: 6 4; }"
+    height = FIELD["top"] + FIELD["height"] + 40
+    return "\n".join([
+        f'<svg xmlns="http://www.w3.org/2000/svg" viewBox="0 0 780 {height}" width="780" height="{height}" '
+        'role="img" aria-labelledby="title desc" font-family="Helvetica, Arial, sans-serif" font-size="13">',
+        f'<title id="title">{escape(title)}</title>', f'<desc id="desc">{escape(what)} By workers, {escape(words)}.</desc>',
+        f"<style>\n{STYLE}\n{extra}\n</style>", f'<rect class="back" width="780" height="{height}" rx="8"/>',
+        f'<text x="16" y="26" font-size="15">{escape(title)}</text>', f'<text x="16" y="46">{escape(what)}</text>',
+        *lines_of(workers, lines), "</svg>"]) + "\n"
+
+
 def main():
     if sys.argv[1:] not in ([], ["--check"]):
         sys.exit(__doc__)
     failed = False
-    for name, text in (("speed-one-thread.svg", one_thread()), ("speed-threads.svg", threads())):
+    for name, text in (("speed-one-thread.svg", one_thread()), ("speed-threads.svg", threads()), ("speed-workers.svg", by_workers())):
         file = PICTURES / name
         if not sys.argv[1:]:
             file.write_text(text)

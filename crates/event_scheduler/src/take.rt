@@ -18,6 +18,9 @@ use evt_types::{Op, Reply};
 use sched_core::{Core, Took};
 use step_log::StepLog;
 
+/// Fewer replies than these cost less one by one than in rows.
+const FEWEST: usize = 4;
+
 /// Takes the lane's reply, and counts what became of a NEW: it was accepted, or turned away, which leaves its credit to the scheduler.
 #[inline(always)]
 fn take_one<L: StepLog>(
@@ -150,8 +153,8 @@ fn take_rows<L: StepLog>(
     taken
 }
 
-/// Takes these replies of the lane, oldest first, up to the first that may not be taken: how many. The first ones go in rows, as long as
-/// rows are taken, and then one by one.
+/// Takes these replies of the lane, oldest first, up to the first that may not be taken: how many. Where there are enough the first ones
+/// go in rows, as long as rows are taken, and then one by one.
 #[inline(always)]
 fn take_run<L: StepLog>(
     core: &mut Core,
@@ -171,7 +174,7 @@ fn take_run<L: StepLog>(
 {
     // To read the count makes known that it is within its range.
     let _pocket = *pocket;
-    let rows = if replies.len() > 1 {
+    let rows = if replies.len() >= FEWEST {
         take_rows(core, accepted_new, lane, replies, log)
     } else {
         0

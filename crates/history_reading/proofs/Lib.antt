@@ -1,0 +1,4 @@
+pub mod Deeds
+pub mod Events
+pub mod Numbers
+pub mod Readings

@@ -3,7 +3,7 @@
 use crate::noted::Noted;
 use crate::{complain, failed, printed, unreadable};
 use command_line::{AppFault, read_all};
-use judge_app::{JudgeFault, judge_log, status_of};
+use judge_app::{JudgeFault, judge_text, status_of};
 use std::alloc::Global;
 use std::fs::File;
 use std::io;
@@ -28,7 +28,7 @@ fn refused(rt: &impl Eprint, fault: JudgeFault) -> u8 {
     match fault {
         JudgeFault::Document(fault) => failed(rt, &AppFault::Document(fault)),
         JudgeFault::Memory => failed(rt, &AppFault::Memory),
-        JudgeFault::NoLog | JudgeFault::BadLine(_) => {
+        fault => {
             let _ = eprintln!(rt; "evsched: {fault}");
             BAD_LOG
         }
@@ -42,9 +42,9 @@ fn judged<R: AllocGlobal + Print + Eprint, I: Read>(rt: &R, document: &[u8], log
         Ok(log) => log,
         Err(fault) => return failed(rt, &fault),
     };
-    match judge_log(alloc, document, &log) {
+    match judge_text(alloc, document, &log) {
         Ok(judged) => match printed(rt, judged.text.as_str()) {
-            0 => status_of(&judged.verdict),
+            0 => status_of(&judged.finding),
             status => status,
         },
         Err(fault) => refused(rt, fault),

@@ -5,7 +5,7 @@ ghost use Rattle.command_line.specs.CommandLine.{HasFew};
 
 use anyhow::{Context, Result, bail};
 use arrayvec::ArrayString;
-use judge_app::{JudgeFault, judge_log, status_of};
+use judge_app::{JudgeFault, judge_text, status_of};
 use pipeline_app::{
     AppFault, Choice, Form, OpenGate, Task, check, choice, fault_line, play, play_as,
     run_explained, run_trace,
@@ -61,10 +61,10 @@ impl Ending {
 
     /// The ending of the judging of a log by a document.
     fn of_judging(alloc: Global, document: &[u8], log: &[u8]) -> Result<Ending, AllocError> {
-        let fault = match judge_log(alloc, document, log) {
+        let fault = match judge_text(alloc, document, log) {
             Ok(judged) => {
                 return Ok(Ending {
-                    status: status_of(&judged.verdict),
+                    status: status_of(&judged.finding),
                     output: judged.text.into_bytes(),
                     complaint: String::new(alloc),
                 });

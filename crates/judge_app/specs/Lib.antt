@@ -1,3 +1,4 @@
+pub mod Breaches
 pub mod Faults
 pub mod Judged
 pub mod Verdicts

@@ -1,5 +1,5 @@
 -- What is printed of a verdict.
-use Rattle.std.specs.Prelude.{ℕ, ◌+◌, List, ◌++◌, take, codes, decimal}
+use Rattle.std.specs.Prelude.{ℕ, ◌+◌, List, ◌++◌, take, codes, decimal, Some, None}
 use Rattle.evt_types.specs.declared.draft.QueueDraft.{QueueDraft}
 use Rattle.evt_types.specs.declared.step.Step.{Step}
 use Rattle.play_text.specs.Text.{number_after, step_line}
@@ -7,6 +7,8 @@ use Rattle.transcript_judge.specs.declared.verdict.Clause.{Clause}
 use Rattle.transcript_judge.specs.declared.verdict.Clause.TheVariants.{Formed, Answers, Extras, Once, Linked, Depth, Places, Limit, Flow, Alone, Order, Origin, Closed, Prompt}
 use Rattle.transcript_judge.specs.declared.verdict.Verdict.{Verdict}
 use Rattle.transcript_judge.specs.declared.verdict.Verdict.TheVariants.{Lawful, Running, Broken}
+use Rattle.judge_app.specs.declared.judged.Finding.{Finding}
+use Rattle.judge_app.specs.declared.judged.Finding.TheVariants.{Log, History}
 
 -- the clause's name, and what it says
 abbrev pub clause_text : Clause → List ℕ
@@ -44,3 +46,8 @@ abbrev pub verdict_status : Verdict → ℕ
 verdict_status Lawful = 0
 verdict_status Running = 0
 verdict_status (Broken k c s) = 7
+
+abbrev pub finding_status : Finding → ℕ
+finding_status (Log v) = verdict_status v
+finding_status (History None) = 0
+finding_status (History (Some b)) = 7

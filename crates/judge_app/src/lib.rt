@@ -1,9 +1,12 @@
-//! The work of `evsched judge`: the log that `play` printed is judged, by the configuration of a document.
+//! The work of `evsched judge`, by the configuration of a document: the log that `play` printed is judged, or a history, what an
+//! application saw of an event device.
 #![tactic(auto)]
 
+mod breaches;
+mod entries;
 mod fault;
 mod judged;
 mod words;
 
 pub use fault::JudgeFault;
-pub use judged::{Judged, judge_log, status_of};
+pub use judged::{Finding, Judged, judge_text, status_of};

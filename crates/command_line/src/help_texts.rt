@@ -60,15 +60,19 @@ pub(crate) const AFTER_JUDGE_HELP: &str =
 on with so that it does, and else the line of LOG in which a step first broke a promise, that promise by
 its name and in words, and the step.
 
+A text that begins with a brace is judged as a history, which examples/c/history.h writes: what a program
+saw of any event device. It prints no breach where no promise is broken for certain, and else the line of
+LOG with which one is, that promise by its name and in words, and the lines that show it.
+
 Example:
   evsched play first-event.toml > first-event.out
   evsched judge first-event.toml first-event.out
 
-Status: 0 for lawful and running, 7 for broken, 2 for a refused command line, 3 when reading or writing
-failed, 4 for a document or a log at fault, 5 where memory ran out.
+Status: 0 for lawful, running and no breach, 7 for broken, 2 for a refused command line, 3 when reading
+or writing failed, 4 for a document, a log or a history at fault, 5 where memory ran out.
 
 evsched help documents describes the document, evsched help faults what each fault means;
-the manual is evsched(1), and docs/JUDGE.md says how a log is recorded and judged.";
+the manual is evsched(1), and docs/JUDGE.md says how both are recorded and judged.";
 
 pub(crate) const AFTER_EXAMPLE_HELP: &str = "Example:
   evsched example
@@ -169,4 +173,12 @@ evsched: document: NAME (status 4), in the order in which they are looked for, e
 evsched: log: NAME (status 4), of judge
   NoLog            no line says log                     Cure: give it all that play printed.
   BadLine N        line N is none that play prints      Cure: see that the document is the one that was played, and
-                     there                                that nothing was changed or cut off.";
+                     there                                that nothing was changed or cut off.
+
+evsched: history: NAME (status 4), of judge
+  BadEntry N       line N is no entry                   Cure: write it with examples/c/history.h.
+  FlowLanes        the device has flow lanes            Cure: judge one whose ports serve the queues.
+  NoPort N         line N is of a port that isn't there Cure: see that the document is that of the device.
+  Unsorted N       line N ended before one above it     Cure: sort the lines by the time at which they ended.
+  Overlap N        line N was seen before the call of   Cure: take one clock for all threads, and one thread
+                     its port above it ended              for each port.";

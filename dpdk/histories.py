@@ -1,28 +1,37 @@
 #!/usr/bin/python3
 # SPDX-License-Identifier: BSD-3-Clause
-"""Judges copies of a history, each of which was changed in one place, and says what was found of each.
+"""Judges copies of a history, each of which is changed in one way, and prints what is said of each.
 
     dpdk/histories.py EVSCHED DOCUMENT HISTORY [KIND..]
 
-HISTORY is one that history.c recorded, in which no breach is. The status is 1 where a change isn't found that the judge can see, or something
-is found of one that it can't. Of each kind below the place is chosen about the middle of the history.
+HISTORY is one of history.c's, of 20,000 events or more, in which there is no breach; without KIND it is changed in all ways below, most of
+them about its middle. The status is 1 where a change isn't found that the judge can see, or something else is found.
 """
 import re
 import subprocess
 import sys
+from collections import defaultdict
+from typing import NamedTuple
 
-ENTRY = re.compile(rb'\{"port":(\d+),"began":(\d+),"ended":(\d+),"(sent|got)":"([a-z-]+)","queue":(\d+),"flow":(\d+),(.*),"payload":(\d+)\}\n')
+LINE = re.compile(rb'\{"port":(\d+),"began":(\d+),"ended":(\d+),"(\w+)":"([\w-]+)","queue":(\d+),"flow":(\d+),(.*),"payload":(\d+)\}\n')
 
 
-class Entry:
-    def __init__(self, line):
-        port, began, ended, self.deed, self.op, queue, flow, self.rest, payload = ENTRY.fullmatch(line).groups()
-        self.port, self.began, self.ended = int(port), int(began), int(ended)
-        self.queue, self.flow, self.payload = int(queue), int(flow), int(payload)
+class Entry(NamedTuple):
+    port: int
+    began: int
+    ended: int
+    deed: bytes
+    op: bytes
+    queue: int
+    flow: int
+    rest: bytes
+    payload: int
 
     def line(self):
-        return b'{"port":%d,"began":%d,"ended":%d,"%s":"%s","queue":%d,"flow":%d,%s,"payload":%d}\n' % (
-            self.port, self.began, self.ended, self.deed, self.op, self.queue, self.flow, self.rest, self.payload)
+        return b'{"port":%d,"began":%d,"ended":%d,"%s":"%s","queue":%d,"flow":%d,%s,"payload":%d}\n' % self
+
+    def changed(self, **fields):
+        return [self._replace(**fields).line()]
 
     def is_got(self):
         return self.deed == b"got"
@@ -30,127 +39,148 @@ class Entry:
     def is_answer(self):
         return self.deed == b"sent" and self.op in (b"forward", b"release")
 
+    def is_event(self):
+        return self.is_got() or self.op != b"release"
+
     def value(self):
         return self.queue, self.flow, self.payload
 
 
-def at_middle(entries, fits):
-    """The place of the first entry of the second half that fits."""
-    return next(i for i in range(len(entries) // 2, len(entries)) if fits(entries[i]))
+def read_entry(line):
+    port, began, ended, deed, op, queue, flow, rest, payload = LINE.fullmatch(line).groups()
+    return Entry(int(port), int(began), int(ended), deed, op, int(queue), int(flow), rest, int(payload))
 
 
-def holds(entries):
-    """For each place of a dequeued event when the call began that answered it, None where none did."""
-    answers, until, count = {}, {}, {}
+def second_half(entries):
+    return ((i, entries[i]) for i in range(len(entries) // 2, len(entries)))
+
+
+def middle(entries, fits=Entry.is_got):
+    """The first entry of the second half that fits, and its place."""
+    return next((i, e) for i, e in second_half(entries) if fits(e))
+
+
+def last_port(entries):
+    return max(e.port for e in entries)
+
+
+def sent_times(entries):
+    """For each event when the call began that enqueued it."""
+    return {e.value(): e.began for e in entries if e.is_event() and not e.is_got()}
+
+
+def answer_times(entries):
+    """For each place of a dequeued event when the call began that answered it, or None."""
+    times, until, count = defaultdict(list), {}, defaultdict(int)
     for entry in entries:
         if entry.is_answer():
-            answers.setdefault(entry.port, []).append(entry.began)
-    for i, entry in enumerate(entries):
+            times[entry.port].append(entry.began)
+    for place, entry in enumerate(entries):
         if entry.is_got():
-            number = count.get(entry.port, 0)
-            count[entry.port] = number + 1
-            times = answers.get(entry.port, [])
-            until[i] = times[number] if number < len(times) else None
+            number = count[entry.port]
+            count[entry.port] += 1
+            until[place] = times[entry.port][number] if number < len(times[entry.port]) else None
     return until
 
 
+# Each of these gives, for the places of the lines that it changes, what stands there then.
+
+
 def exchanged(entries):
-    """Two dequeues of one flow exchange their events, of which the second wasn't enqueued yet when the first ended."""
-    first = at_middle(entries, Entry.is_got)
-    one = entries[first]
-    sent = {e.value(): e.began for e in entries if e.deed == b"sent" and e.op != b"release"}
-    other = next(e for e in entries[first:] if e.is_got() and (e.queue, e.flow) == (one.queue, one.flow) and sent[e.value()] > one.ended)
-    one.payload, other.payload = other.payload, one.payload
+    """Two dequeues exchange their events of one flow; when the first one ended that of the second wasn't enqueued yet."""
+    sent = sent_times(entries)
+    place, one = middle(entries)
+    other_place, other = middle(entries, lambda e: e.is_got() and (e.queue, e.flow) == (one.queue, one.flow) and sent[e.value()] > one.ended)
+    return {place: one.changed(payload=other.payload), other_place: other.changed(payload=one.payload)}
 
 
 def doubled(entries):
     """A dequeue brings an event twice."""
-    place = at_middle(entries, Entry.is_got)
-    entries.insert(place, Entry(entries[place].line()))
+    place, entry = middle(entries)
+    return {place: 2 * [entry.line()]}
 
 
 def replaced(entries):
-    """A dequeue brings an event that nobody enqueued in the place of one that was."""
-    entries[at_middle(entries, Entry.is_got)].payload = 1 << 63
+    """A dequeue brings an event that nobody enqueued, in the place of one that was."""
+    place, entry = middle(entries)
+    return {place: entry.changed(payload=1 << 63)}
 
 
 def misled(entries):
     """The last port gets an event of the first queue, to which it isn't linked."""
-    last = max(e.port for e in entries)
-    entries[at_middle(entries, lambda e: e.port == last and e.is_got())].queue = 0
+    last = last_port(entries)
+    place, entry = middle(entries, lambda e: e.is_got() and e.port == last)
+    return {place: entry.changed(queue=0)}
 
 
 def shared(entries):
-    """Two workers hold events of an atomic queue, of one flow: that of the second gets the first one's, where it was enqueued, too."""
-    until, held = holds(entries), {}
-
-    def is_held(place, time):
-        return until[place] is None or until[place] > time
-
+    """Of two events of the atomic first queue that two ports held at the same time the second has the first one's flow, also when it was sent."""
+    until, held = answer_times(entries), {}
     for place, entry in enumerate(entries):
         if not entry.is_got() or entry.queue != 0:
             continue
         for other in held.values():
             one = entries[other]
-            if place > len(entries) // 2 and one.port != entry.port and one.flow != entry.flow \
-                    and is_held(other, entry.ended) and is_held(place, entry.ended):
-                for each in [e for e in entries if e.value() == entry.value() and e is not entry] + [entry]:
-                    each.flow = one.flow
-                return
+            if one.port != entry.port and one.flow != entry.flow and all(until[i] is None or until[i] > entry.ended for i in (other, place)):
+                return {i: e.changed(flow=one.flow) for i, e in enumerate(entries) if e.is_event() and e.value() == entry.value()}
         held[entry.port] = place
     raise StopIteration
 
 
 def unanswered(entries):
-    """The last port's releases are missing, so that it holds more and more."""
-    last = max(e.port for e in entries)
-    entries[:] = [e for e in entries if not (e.port == last and e.op == b"release" and e.deed == b"sent")]
+    """Nothing releases what the last port dequeues."""
+    last = last_port(entries)
+    return {i: [] for i, e in enumerate(entries) if e.port == last and e.is_answer()}
 
 
 def lost(entries):
     """An event never comes."""
-    del entries[at_middle(entries, Entry.is_got)]
+    return {middle(entries)[0]: []}
 
 
 def overtaken(entries):
-    """Two events of one flow that a port dequeued exchange their places, where both were enqueued before."""
-    sent = {e.value(): e.began for e in entries if e.deed == b"sent" and e.op != b"release"}
-    last = {}
-    for entry in entries[len(entries) // 2:]:
+    """Two events of a flow that one port dequeued, both enqueued before, came in the other order."""
+    sent, last = sent_times(entries), {}
+    for place, entry in second_half(entries):
         if entry.is_got():
-            before = last.get((entry.port, entry.queue, entry.flow))
-            if before and sent[entry.value()] < before.began:
-                before.payload, entry.payload = entry.payload, before.payload
-                return
-            last[entry.port, entry.queue, entry.flow] = entry
+            key = entry.port, entry.queue, entry.flow
+            before = last.get(key)
+            if before is not None and sent[entry.value()] < entries[before].began:
+                return {before: entries[before].changed(payload=entry.payload), place: entry.changed(payload=entries[before].payload)}
+            last[key] = place
     raise StopIteration
 
 
-# What the judge is to say first: where the change is none that it can see, that there is no breach.
+# What is said first of each; nothing says that an event must come, and the order of a flow isn't judged.
 KINDS = {
-    "exchanged": (exchanged, "Early"), "doubled": (doubled, "Unsent"), "replaced": (replaced, "Unsent"), "misled": (misled, "Unlinked"),
-    "shared": (shared, "Together"), "unanswered": (unanswered, "Overfull"), "lost": (lost, None), "overtaken": (overtaken, None),
+    exchanged: "broken at line [0-9]+: Early: .*", doubled: "broken at line [0-9]+: Unsent: .*", replaced: "broken at line [0-9]+: Unsent: .*",
+    misled: "broken at line [0-9]+: Unlinked: .*", shared: "broken at line [0-9]+: Together: .*",
+    unanswered: "broken at line [0-9]+: Overfull: .*", lost: "no breach", overtaken: "no breach",
 }
 
 
-def judged(evsched, document, lines):
-    answer = subprocess.run([evsched, "judge", document], input=b"".join(lines), stdout=subprocess.PIPE, stderr=subprocess.STDOUT, check=False)
+def judged(evsched, document, text):
+    answer = subprocess.run([evsched, "judge", document], input=text, stdout=subprocess.PIPE, stderr=subprocess.STDOUT, check=False)
     return answer.stdout.decode().split("\n", 1)[0]
 
 
 def main():
-    evsched, document, history, *kinds = sys.argv[1:]
+    evsched, document, history, *names = sys.argv[1:]
     with open(history, "rb") as file:
         lines = file.readlines()
+    entries = [read_entry(line) for line in lines]
     wrong = 0
-    for kind in kinds or KINDS:
-        change, expected = KINDS[kind]
-        entries = [Entry(line) for line in lines]
-        change(entries)
-        said = judged(evsched, document, [e.line() for e in entries])
-        is_so = said == "no breach" if expected is None else re.match(rf"broken at line \d+: {expected}: ", said)
+    for change, expected in KINDS.items():
+        if names and change.__name__ not in names:
+            continue
+        try:
+            changes = change(entries)
+            said = judged(evsched, document, b"".join(each for i, line in enumerate(lines) for each in changes.get(i, [line])))
+        except StopIteration:
+            said = "there is no place for it"
+        is_so = re.fullmatch(expected, said)
         wrong += not is_so
-        print(f"{kind}: {said}" if is_so else f"{kind}: NOT {expected or 'left alone'}: {said}")
+        print(f"    {change.__name__}: {said}" + ("" if is_so else f" -- NOT {expected}"))
     return wrong > 0
 
 

@@ -371,7 +371,9 @@ static char **begin(int argc, char **argv)
 #else
 	int of_eal = rte_eal_init(argc, argv), id;
 	char **words = argv + of_eal + 2;
-	if (of_eal < 0 || argc != of_eal + 7)
+	if (of_eal < 0)
+		fail("EAL doesn't start, or a device doesn't load");
+	if (argc != of_eal + 7)
 		fail("usage: history EAL'S WORDS -- DEVICE STAGES WORKERS EVENTS DOCUMENT HISTORY");
 	if ((id = rte_event_dev_get_dev_id(words[-1])) < 0)
 		fail("there is no such device");

@@ -1,5 +1,5 @@
 -- A worker's burst: what it receives, and what it answered.
-use Rattle.std.proofs.Common.{◌≡◌, ◌≢◌, ℕ, zero, suc, ◌+◌, ◌<◌, Bool, true, false, List, [], ◌∷◌, ◌++◌, length, map, take, drop, All, Option, Some, get_or, refl, sym, ap, subst, ◌∙◌, arith, append-nil}
+use Rattle.std.proofs.Common.{◌≡◌, ◌≢◌, ℕ, zero, suc, ◌+◌, ◌<◌, Bool, true, false, List, [], ◌∷◌, ◌++◌, length, map, take, drop, All, Option, Some, None, get_or, refl, sym, ap, subst, ◌∙◌, arith, append-nil}
 use Rattle.std.proofs.lemmas.Bool.{false≢true}
 use Rattle.std.proofs.lemmas.List.{append_assoc, length-map, map-append, nil_from_length, take_more}
 use Rattle.std.proofs.lemmas.List.Elements.{All-head, All-map, All-nil, All-push, All-tail}
@@ -20,7 +20,7 @@ use Rattle.evt_types.specs.declared.event.Reply.{Reply}
 use Rattle.lists.specs.Lists.{has}
 use Rattle.pipeline_laws.specs.Promises.{said_to}
 use Rattle.pipeline_laws.specs.declared.stage.Action.{Action}
-use Rattle.pipeline_threads.specs.Ports.{AreDue, HasNoNews, HasWorked, IsDue, Owes}
+use Rattle.pipeline_threads.specs.Ports.{AreDue, HasCounted, HasNoNews, HasWorked, IsDue, Owes}
 use Rattle.transcripts.specs.Replies.{Said, said}
 
 -- ---- what a port receives
@@ -76,6 +76,23 @@ own_deliveries [] h = refl
 own_deliveries ((l, d) ∷ came) h =
     ap (λ (m : Lane). from_lane Own ((m, d) ∷ came)) (All-head (λ (a : Arrival). a.0 ≡ Own) (l, d) came h)
     ∙ ap (λ ds. d ∷ ds) (own_deliveries came (All-tail (λ (a : Arrival). a.0 ≡ Own) (l, d) came h))
+
+-- what a dequeue brings such a port is what it receives there
+pub received_more : (linked : List ℕ) (n : ℕ) (h k : Hand) (ds : List Delivery) → linked ≡ [] → Dequeues linked n h k ds → k.got Own ≡ h.got Own ++ ds
+received_more linked n h k ds none d =
+    let came = d.arrived.arrived in
+    d.arrived.got Own
+    ∙ (ap (λ xs. xs ++ from_lane Own came) (d.released.got Own)
+    ∙ ap (λ xs. h.got Own ++ xs) (own_deliveries came (all_from_own linked came d.arrived.linked none) ∙ sym d.arrived.deliveries))
+
+-- what is submitted changes nothing of it
+submits_got : (o : Option Lane) (r : Reply) (h k : Hand) → SubmitsTo o r h k → k.got Own ≡ h.got Own
+submits_got None r h k s = absurd s
+submits_got (Some l) r h k s = s.got Own
+
+pub submitted_got : (es : List Event) (h k : Hand) → SubmitsAll es h k → k.got Own ≡ h.got Own
+submitted_got [] h k s = s.got Own
+submitted_got (e ∷ es) h k s = submitted_got es s.0 k s.2 ∙ submits_got (lane_for e.op h.holding) (reply_of e) h s.0 s.1
 
 -- ---- what it owes
 
@@ -207,5 +224,5 @@ due_count actions (d ∷ ds) [] due = absurd due
 due_count actions (d ∷ ds) (e ∷ es) due = ap suc (due_count actions ds es due.1)
 
 -- at every moment a worker's answers are due
-pub owes_worked : (actions : List Action) (p : Port) (ds : List Delivery) → Owes actions (links p) ds (hand p) → HasWorked actions p
-owes_worked actions p ds o = record { worker = λ none. (map (said_to actions) ds, o.due none); no_news = o.no_news }
+pub owes_worked : (actions : List Action) (p : Port) (ds : List Delivery) → Owes actions (links p) ds (hand p) → HasCounted p → HasWorked actions p
+owes_worked actions p ds o counted = record { worker = λ none. (map (said_to actions) ds, o.due none); no_news = o.no_news; counted = counted }

@@ -1,5 +1,6 @@
 pub mod Answering
 pub mod Bringing
+pub mod Counting
 pub mod Reports
 pub mod Runs
 pub mod Submitting

@@ -47,7 +47,7 @@ no_flows : (p : Plan) → p.serving ≡ Ports → flow_lanes p ≡ []
 unfolding flow_lanes
 no_flows p e = rw e refl
 
-no_links : (p : Plan) (n : ℕ) → p.serving ≡ Ports → flow_links p n ≡ []
+pub no_links : (p : Plan) (n : ℕ) → p.serving ≡ Ports → flow_links p n ≡ []
 unfolding linked_places
 no_links p n e = rw (no_flows p e) refl
 
@@ -62,9 +62,14 @@ own_lanes p e = omega (arith, ap length (no_flows p e))
 abbrev pub AreOwn : (ℕ → Rest) → List Port → Type 0
 AreOwn rest ports = All (λ (p : Port). (rest (number_of p)).received ≡ (hand p).got Own) ports × All (λ (p : Port). (rest (number_of p)).answered ≡ (hand p).said Own) ports
 
+-- each port but the first worked
+pub worked : (actions : List Action) (trace : List Entry) (l : ℕ) (x : Port) → 0 < l → IsPromised actions trace l x → HasWorked actions x
+worked actions trace zero x some h = absurd (omega (arith, some))
+worked actions trace (suc l) x some h = h
+
 module _ (actions : List Action) (trace : List Entry) (rest : ℕ → Rest) (r : Parts) (ports : List Port) (at_home : r.ports ≡ map Some ports) (own : AreOwn rest ports) where
   -- the lists of a lane are those of its port
-  own_lists : (l : ℕ) (b : IsBack actions trace l r) → lists_at rest l ≡ lists_of b.port
+  pub own_lists : (l : ℕ) (b : IsBack actions trace l r) → lists_at rest l ≡ lists_of b.port
   own_lists l b =
       let number : number_of b.port ≡ l = ap (λ (s : PortSite). s.number) b.site in
       let here : slice_get ports l ≡ Some b.port = there_in_all ports l b.port (ap (λ homes. slice_get homes l) (sym at_home) ∙ b.at_home) in
@@ -77,11 +82,6 @@ module _ (actions : List Action) (trace : List Entry) (rest : ℕ → Rest) (r :
   pub kept_producer : IsBack actions trace 0 r → IsProducer trace (lists_at rest 0)
   kept_producer b = subst (IsProducer trace) (sym (own_lists 0 b)) b.promised
 
-  -- each other port worked
-  worked : (l : ℕ) (x : Port) → 0 < l → IsPromised actions trace l x → HasWorked actions x
-  worked zero x some h = absurd (omega (arith, some))
-  worked (suc l) x some h = h
-
   module _ (back : (n : ℕ) → n < length (device_of r).plan.ports → IsBack actions trace n r) where
     -- all promises are kept where the ports' own lanes are all the lanes
     pub kept_promises : (device_of r).plan.serving ≡ Ports → 0 < length (device_of r).plan.ports → KeepPromises (device_of r).plan actions trace (lists_at rest)
@@ -91,7 +91,7 @@ module _ (actions : List Action) (trace : List Entry) (rest : ℕ → Rest) (r :
           workers = λ l some low.
               let b = back l (omega (arith, low, own_lanes (device_of r).plan serving)) in
               let alone : links b.port ≡ [] = ap (λ (s : PortSite). s.links) b.site ∙ no_links (device_of r).plan l serving in
-              subst (IsWorker actions) (sym (own_lists l b)) ((worked l b.port some b.promised).worker alone);
+              subst (IsWorker actions) (sym (own_lists l b)) ((worked actions trace l b.port some b.promised).worker alone);
         }
 
     -- no other lane got a NEW: of its own no worker's, and no flow lane
@@ -106,7 +106,7 @@ module _ (actions : List Action) (trace : List Entry) (rest : ℕ → Rest) (r :
         worker : l < count → All (λ (r : Reply). is_new_reply r ≡ false) (rest l).answered
         worker lt =
             let b = back l lt in
-            subst (λ (a : PortLists). All (λ (r : Reply). is_new_reply r ≡ false) a.submitted) (sym (own_lists l b)) (worked l b.port some b.promised).no_news
+            subst (λ (a : PortLists). All (λ (r : Reply). is_new_reply r ≡ false) a.submitted) (sym (own_lists l b)) (worked actions trace l b.port some b.promised).no_news
 
         flow : count ≤ l → All (λ (r : Reply). is_new_reply r ≡ false) (rest l).answered
         flow le =

@@ -1,5 +1,6 @@
 -- Runs of a device's ports: of none of them, and of one more, whose thread is joined.
-use Rattle.std.proofs.Common.{◌≡◌, ◌≢◌, ℕ, ◌+◌, ◌<◌, ◌≤◌, inl, inr, Some, None, Bool, List, length, set, sym, ap, subst, ◌∙◌, arith}
+use Rattle.std.proofs.Common.{◌≡◌, ◌≢◌, ℕ, ◌+◌, ◌<◌, ◌≤◌, inl, inr, Some, None, Bool, List, [], ◌∷◌, ◌++◌, length, get_or, set, sym, ap, subst, ◌∙◌, arith}
+use Rattle.std.proofs.lemmas.List.{get_or_append_left, get_or_push, length_push}
 use Rattle.std.specs.Prelude.{Option, slice_get}
 use Rattle.std.proofs.Math.Nat.{eq-or-lt_of_le}
 use Rattle.event_ports.specs.declared.port.Port.{Port}
@@ -9,7 +10,9 @@ use Rattle.event_device.specs.Start.{IsFresh}
 use Rattle.evt_types.specs.Plan.{Plan}
 use Rattle.lists.proofs.Lists.{All-slice_get, slice_get-some}
 use Rattle.lists.proofs.Writes.{slice_get-set_other}
-use Rattle.event_ports.specs.Ports.{pocket_of}
+use Rattle.event_ports.specs.Counts.{no_counts}
+use Rattle.event_ports.specs.Lanes.{IsEmptyHand}
+use Rattle.event_ports.specs.Ports.{counts_of, hand, pocket_of}
 use Rattle.event_device.specs.Device.{IsPortOf, PortSite, number_of, port_site}
 use Rattle.event_device.specs.Lent.{ComesBack, IsAway, Keeps, Leaves, Shuts, ShutsBy}
 use Rattle.event_device.specs.Parts.{Parts, device_of}
@@ -17,7 +20,10 @@ use Rattle.event_device.specs.declared.control.Control.{Control}
 use Rattle.pipeline_laws.specs.declared.stage.Action.{Action}
 use Rattle.pipeline_laws.specs.declared.stage.Entry.{Entry}
 use Rattle.pipeline_threads.specs.Ports.{IsIdle, IsPromised, Returns}
-use Rattle.pipeline_threads.specs.Run.{AreIdle, HasRun, IsBack, IsDone}
+use Rattle.pipeline_threads.specs.declared.promise.Worked.{Worked}
+use Rattle.pipeline_threads.specs.Run.{AreIdle, ArePortWorks, HasRun, IsBack, IsDone, IsPortWork}
+use Rattle.run_counts.specs.Looking.{HasLooked}
+use Rattle.run_counts.specs.declared.looks.PortWork.{PortWork}
 
 -- ---- none of them
 
@@ -41,8 +47,9 @@ pub fresh_idle : (p : Plan) (r : Parts) → IsFresh p r → AreIdle (length p.po
 fresh_idle p r fresh n low =
     let count : length fresh.ports ≡ length p.ports = port_count (device_of r) fresh.ports (length (device_of r).plan.ports) fresh.ports_are ∙ ap (λ (x : Plan). length x.ports) fresh.plan in
     let here = slice_get-some fresh.ports n (omega (arith, low, count)) in
-    let empty = All-slice_get (λ x. IsIdle x × (pocket_of x ≡ 0)) fresh.ports n here.0 fresh.empty here.1 in
-    (here.0, ap (λ homes. slice_get homes n) fresh.at_home ∙ in_home fresh.ports n here.0 here.1, empty.0)
+    let empty = All-slice_get (λ x. IsEmptyHand (hand x) × (pocket_of x ≡ 0)) fresh.ports n here.0 fresh.empty here.1 in
+    let counted = All-slice_get (λ x. counts_of x ≡ no_counts) fresh.ports n here.0 fresh.uncounted here.1 in
+    (here.0, ap (λ homes. slice_get homes n) fresh.at_home ∙ in_home fresh.ports n here.0 here.1, (empty.0, counted))
 
 -- an idle port is at home
 pub none_away : (count n : ℕ) (r : Parts) → AreIdle count r → n < count → IsAway n r → ⊥
@@ -58,7 +65,10 @@ module _ (n : ℕ) (r s : Parts) (port : Port) (leaves : Leaves n port r s) wher
       let there = idle k (omega (arith, low, lower)) in
       (there.0, ap (λ (x : Parts). slice_get x.ports k) leaves.away ∙ (slice_get-set_other r.ports n k None (λ same. omega (arith, lower, same)) ∙ there.1), there.2)
 
-  module _ (actions : List Action) (trace : List Entry) (m : Parts) (run : HasRun actions trace n s m) (back : Port) (returns : Returns actions trace port back) where
+  module _ (actions : List Action) (trace : List Entry) (m : Parts) (run : HasRun actions trace n s m) (worked : Worked) (returns : Returns actions trace port worked) where
+    abbrev back : Port
+    back = worked.port
+
     same_number : number_of back ≡ number_of port
     same_number = ap (λ (x : PortSite). x.number) returns.site
 
@@ -81,9 +91,48 @@ module _ (n : ℕ) (r s : Parts) (port : Port) (leaves : Leaves n port r s) wher
         ap (slice_get m.ports) number
         ∙ (run.others n (omega arith) ∙ (ap (λ (x : Parts). slice_get x.ports n) leaves.away ∙ read_here r.ports n None (Some port) leaves.was_home))
 
+    -- once it is at home
+    abbrev homes : List (Option Port)
+    homes = set m.ports n (Some back)
+
+    at_home : (q : Parts) → ComesBack back m q → q ≡ record m { ports = homes }
+    at_home q comes = comes.at_home ∙ ap (λ k. record m { ports = set m.ports k (Some back) }) number
+
+    home_here : slice_get homes n ≡ Some (Some back)
+    home_here = read_here m.ports n (Some back) None (ap (slice_get m.ports) (sym number) ∙ still_empty)
+
+    elsewhere : (k : ℕ) → k ≢ n → slice_get homes k ≡ slice_get m.ports k
+    elsewhere k other = slice_get-set_other m.ports n k (Some back) other
+
+    -- what was counted of it, and of those before it
+    pub works_more : (count : ℕ) (q : Parts) (works : List PortWork) (w : PortWork) → count ≡ n + 1 → ComesBack back m q → ArePortWorks n m works → w.port ≡ number_of back → w.counts ≡ counts_of back
+        → w.looks ≡ worked.looks → ArePortWorks count q (works ++ w ∷ [])
+    works_more count q works w count_is comes was port counts looks =
+        subst (λ (x : Parts). ArePortWorks count x (works ++ w ∷ [])) (sym (at_home q comes))
+        (record {
+          count_is = omega (arith, length_push works w, was.count_is, count_is);
+          each = λ k d other low home. elim (eq-or-lt_of_le (omega (arith, low, count_is))) [ inl same ↦ here k d other same home | inr lower ↦ before k d other lower home ];
+        })
+      where
+        here : (k : ℕ) (d : PortWork) (other : Port) → k ≡ n → slice_get homes k ≡ Some (Some other) → IsPortWork k other (get_or (works ++ w ∷ []) k d)
+        here k d other same home =
+            let is : back ≡ other = cc (home_here, ap (slice_get homes) (sym same) ∙ home) in
+            let last : get_or (works ++ w ∷ []) k d ≡ w = get_or_push works w d k (was.count_is ∙ sym same) in
+            subst (λ x. IsPortWork k other x) (sym last)
+            (record {
+              port = port ∙ (number ∙ sym same);
+              counts = counts ∙ ap counts_of is;
+              looked = subst (λ x. HasLooked no_counts x w.looks) (sym counts) (subst (λ x. HasLooked no_counts (counts_of back) x) (sym looks) returns.looked);
+            })
+
+        before : (k : ℕ) (d : PortWork) (other : Port) → k < n → slice_get homes k ≡ Some (Some other) → IsPortWork k other (get_or (works ++ w ∷ []) k d)
+        before k d other low home =
+            subst (λ x. IsPortWork k other x) (sym (get_or_append_left works (w ∷ []) d k (omega (arith, low, was.count_is))))
+            (was.each k d other low (sym (elsewhere k (λ same. omega (arith, low, same))) ∙ home))
+
     pub one_more : (count : ℕ) (q : Parts) → count ≡ n + 1 → ComesBack back m q → HasRun actions trace count r q
     one_more count q count_is comes =
-        subst (HasRun actions trace count r) (sym at_home)
+        subst (HasRun actions trace count r) (sym (at_home q comes))
         (record {
           device = device;
           back = λ k low. elim (eq-or-lt_of_le (most k low)) [ inl same ↦ here k same | inr lower ↦ before k lower ];
@@ -91,17 +140,8 @@ module _ (n : ℕ) (r s : Parts) (port : Port) (leaves : Leaves n port r s) wher
           done = run.done;
         })
       where
-        homes : List (Option Port)
-        homes = set m.ports n (Some back)
-
-        at_home : q ≡ record m { ports = homes }
-        at_home = comes.at_home ∙ ap (λ k. record m { ports = set m.ports k (Some back) }) number
-
         most : (k : ℕ) → k < count → k ≤ n
         most k low = omega (arith, low, count_is)
-
-        elsewhere : (k : ℕ) → k ≢ n → slice_get homes k ≡ slice_get m.ports k
-        elsewhere k other = slice_get-set_other m.ports n k (Some back) other
 
         left : (k : ℕ) → k ≢ n → slice_get s.ports k ≡ slice_get r.ports k
         left k other = ap (λ (x : Parts). slice_get x.ports k) leaves.away ∙ slice_get-set_other r.ports n k None other
@@ -111,7 +151,7 @@ module _ (n : ℕ) (r s : Parts) (port : Port) (leaves : Leaves n port r s) wher
             subst (λ i. IsBack actions trace i (record m { ports = homes })) (sym same)
             (record {
               port = back;
-              at_home = read_here m.ports n (Some back) None (ap (slice_get m.ports) (sym number) ∙ still_empty);
+              at_home = home_here;
               site = back_of.1 ∙ ap (port_site (device_of m)) number;
               promised = subst (λ i. IsPromised actions trace i back) leaves.number returns.promised;
             })

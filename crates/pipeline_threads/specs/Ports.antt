@@ -1,8 +1,9 @@
 -- What the threads of a pipeline do with their ports, and what each promises of the port that it returns.
 use Rattle.std.specs.Prelude.{◌≡◌, ℕ, zero, suc, true, false, List, [], ◌++◌, length, map, take, All}
 use Rattle.std.specs.List.{AllZip}
+use Rattle.event_ports.specs.Counts.{no_counts, plus}
 use Rattle.event_ports.specs.Lanes.{Hand, IsEmptyHand, SubmitsAll, reply_of}
-use Rattle.event_ports.specs.Ports.{hand, links}
+use Rattle.event_ports.specs.Ports.{counts_of, hand, links}
 use Rattle.event_ports.specs.declared.lane.Holding.{Holding}
 use Rattle.event_ports.specs.declared.lane.Lane.TheVariants.{Own}
 use Rattle.event_ports.specs.declared.port.Port.{Port}
@@ -14,6 +15,8 @@ use Rattle.evt_types.specs.declared.event.Reply.{Reply}
 use Rattle.pipeline_laws.specs.Promises.{IsProducer, IsWorker, PortLists, said_to}
 use Rattle.pipeline_laws.specs.declared.stage.Action.{Action}
 use Rattle.pipeline_laws.specs.declared.stage.Entry.{Entry}
+use Rattle.pipeline_threads.specs.declared.promise.Worked.{Worked}
+use Rattle.run_counts.specs.Looking.{HasLooked}
 use Rattle.transcripts.specs.Replies.{said}
 
 -- what the port submitted to its own lane, and what it received from it
@@ -29,7 +32,11 @@ lists_of p = record { submitted = submitted_by p; received = received_by p }
 
 -- nothing was done with it
 abbrev pub IsIdle : Port → Type 0
-IsIdle p = IsEmptyHand (hand p)
+IsIdle p = IsEmptyHand (hand p) × (counts_of p ≡ no_counts)
+
+-- it counted what it received from its own lane, where it has no other
+abbrev pub HasCounted : Port → Type 0
+HasCounted p = links p ≡ [] → (counts_of p).dequeued ≡ plus 0 (length (received_by p))
 
 -- no NEW was submitted to the port's own lane
 abbrev pub HasNoNews : Hand → Type 0
@@ -63,17 +70,20 @@ SubmitsFront es h k = (n : ℕ) × SubmitsAll (take n es) h k
 -- ---- promises
 
 -- It submitted no NEW; where it has its own lane alone, what it submitted are the answers due to the first events that it received, in
--- order.
+-- order, and it counted what it received.
 pub record HasWorked (actions : List Action) (p : Port) : Type 0 where
   pub worker : links p ≡ [] → IsWorker actions (lists_of p)
   pub no_news : HasNoNews (hand p)
+  pub counted : HasCounted p
 
 -- what the thread of the port of this number promises: port 0's is the producer, each other's a worker
 abbrev pub IsPromised : List Action → List Entry → ℕ → Port → Type 0
 IsPromised actions trace zero p = IsProducer trace (lists_of p)
 IsPromised actions trace (suc n) p = HasWorked actions p
 
--- the port that a thread returns is the one that it was given, and it did with it as it promised
-pub record Returns (actions : List Action) (trace : List Entry) (start back : Port) : Type 0 where
-  pub site : site_of back ≡ site_of start
-  pub promised : IsPromised actions trace (number_of start) back
+-- the port that a thread returns is the one that it was given, it did with it as it promised, and what its looks found is what the port
+-- counted as dequeued
+pub record Returns (actions : List Action) (trace : List Entry) (start : Port) (back : Worked) : Type 0 where
+  pub site : site_of back.port ≡ site_of start
+  pub promised : IsPromised actions trace (number_of start) back.port
+  pub looked : HasLooked no_counts (counts_of back.port) back.looks

@@ -15,4 +15,5 @@ mod worker;
 
 pub use fault::RunFault;
 pub use gate::{Gate, OpenGate, Phase};
-pub use run::run_pipeline;
+pub use run::{run_counted, run_pipeline};
+pub use run_counts::{Looks, PortWork, ThreadWork};

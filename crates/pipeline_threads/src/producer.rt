@@ -4,6 +4,7 @@ ghost use Rattle.std.specs.Prelude.{◌≡◌};
 ghost use Rattle.pipeline_laws.specs.Worked as worked;
 ghost use Rattle.pipeline_laws.specs.Promises.{IsProducer};
 ghost use Rattle.event_device.specs.Device.{site_of};
+ghost use Rattle.event_ports.specs.Ports.{counts_of};
 ghost use Rattle.pipeline_threads.specs.Ports.{IsIdle, lists_of};
 
 use crate::submit::submit_all;
@@ -32,6 +33,7 @@ fn new_event(entry: &Entry) -> Event
 pub(crate) fn produce<R: Wait>(rt: &R, trace: &[Entry], port: Port) -> Port
     requires { IsIdle port }
     ensures site { site_of result ≡ site_of port }
+    ensures dequeued { (counts_of result).dequeued ≡ (counts_of port).dequeued }
     ensures producer { IsProducer trace.now (lists_of result) }
 {
     let mut port = port;

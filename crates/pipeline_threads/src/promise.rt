@@ -2,8 +2,16 @@
 
 use event_device::Port;
 use pipeline_laws::{Action, Entry};
+use run_counts::Looks;
 use std::snapshot::Snapshot;
 use std::thread::Promise;
+
+/// A port that its thread is done with, and how often that looked for events.
+#[derive(Drop)]
+pub(crate) struct Worked {
+    pub(crate) port: Port,
+    pub(crate) looks: Looks,
+}
 
 /// A thread's promise: of the port that it is given, the stages' actions and the trace.
 #[derive(Drop)]
@@ -13,7 +21,7 @@ pub(crate) struct Returned<'a> {
     pub(crate) trace: &'a [Entry],
 }
 
-impl<'a> Promise<Port> for Returned<'a> {
+impl<'a> Promise<Worked> for Returned<'a> {
     ghost use Rattle.pipeline_threads.specs.Ports.{Returns};
 
     ghost kept_by = { λ p r. Returns p.actions.now p.trace.now p.start.value r };

@@ -6,6 +6,7 @@ ghost use Rattle.evt_types.specs.Plan.{port_of};
 ghost use Rattle.evt_types.specs.declared.draft.Serving.TheVariants.{Ports};
 ghost use Rattle.pipeline_laws.specs.Pipeline.{IsProper};
 ghost use Rattle.pipeline_laws.specs.Worked.{AnswersAreDue, IsFinished, IsStaged, new_event, newcomers};
+ghost use Rattle.pipeline_threads.specs.Run.{AreWorks};
 ghost use Rattle.transcripts.specs.Lawful.{IsPrefix, Lawful};
 ghost use Rattle.transcripts.specs.Laws.{AddsNone};
 
@@ -15,6 +16,7 @@ use crate::threads::run_threads;
 use event_device::{Device, Report, StepLog};
 use evt_types::Shape;
 use pipeline_laws::{Action, Entry};
+use run_counts::ThreadWork;
 use std::alloc::Global;
 use std::sync::Wait;
 use std::thread::Threads;
@@ -66,15 +68,41 @@ pub fn run_pipeline<R: Threads + Wait + Sync, G: Gate, L: StepLog>(
     ensures newcomers { IfOk result (λ report. IsPrefix (newcomers (L.steps report.log)) (map new_event trace.now)) }
     ensures finished { IfOk result (λ report. IsFinished shape trace.now (L.steps report.log)) }
 {
+    let (report, _) = run_counted(rt, alloc, log, shape, actions, trace, most, gate)?;
+    Ok(report)
+}
+
+/// The same, and what was counted of its threads.
+pub fn run_counted<R: Threads + Wait + Sync, G: Gate, L: StepLog>(
+    rt: &R,
+    alloc: Global,
+    log: L,
+    shape: Shape,
+    actions: &[Action],
+    trace: &[Entry],
+    most: usize,
+    gate: &G,
+) -> Result<(Report<L>, ThreadWork), RunFault>
+    requires empty { L.steps log ≡ [] }
+    requires staged { IsStaged shape actions.now }
+    requires proper { All IsProper actions.now }
+    requires workers { 1 < length shape.ports }
+    requires producer { (port_of shape 0).links ≡ [] }
+    ensures lawful { IfOk result (λ r. Lawful shape (L.steps r.0.log)) }
+    ensures answers { shape.serving ≡ Ports → IfOk result (λ r. AddsNone (L.steps r.0.log) × AnswersAreDue actions.now (L.steps r.0.log)) }
+    ensures newcomers { IfOk result (λ r. IsPrefix (newcomers (L.steps r.0.log)) (map new_event trace.now)) }
+    ensures finished { IfOk result (λ r. IsFinished shape trace.now (L.steps r.0.log)) }
+    ensures works { IfOk result (λ r. AreWorks shape (L.steps r.0.log) r.1.ports.items) }
+{
     let _ = shape.limit();
     let steps = STAGE_STEPS
         .saturating_mul(actions.len())
         .saturating_mul(trace.len());
     let ports = shape.ports().len();
     let device = make_device(alloc, log, shape, steps)?;
-    let device = run_threads(rt, gate, actions, trace, most, device, ports)?;
+    let (device, work) = run_threads(rt, gate, actions, trace, most, device, ports)?;
     match device.stop() {
-        Ok(report) => Ok(report),
+        Ok(report) => Ok((report, work)),
         Err((_, device)) => {
             drop(device);
             Err(RunFault::Memory)

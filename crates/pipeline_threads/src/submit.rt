@@ -2,7 +2,7 @@
 
 ghost use Rattle.std.specs.Prelude.{◌≡◌, IsTrue};
 ghost use Rattle.event_ports.specs.Lanes.{SubmitsAll};
-ghost use Rattle.event_ports.specs.Ports.{hand};
+ghost use Rattle.event_ports.specs.Ports.{counts_of, hand};
 ghost use Rattle.event_device.specs.Device.{site_of};
 ghost use Rattle.pipeline_threads.specs.Ports.{SubmitsFront};
 
@@ -17,6 +17,7 @@ pub(crate) fn submit_all<R: Wait>(rt: &R, port: &mut Port, events: &[Event]) -> 
     ensures site { site_of port.new ≡ site_of port.old }
     ensures all { IsTrue result → SubmitsAll events.now (hand port.old) (hand port.new) }
     ensures front { SubmitsFront events.now (hand port.old) (hand port.new) }
+    ensures dequeued { (counts_of port.new).dequeued ≡ (counts_of port.old).dequeued }
 {
     let mut patience = Patience::new();
     let mut sent = 0;

@@ -1,20 +1,25 @@
 //! The threads of a pipeline.
 
-ghost use Rattle.std.specs.Prelude.{◌≡◌, ◌≤◌, All, IfOk, OnOk, Some, None, length, slice_get};
+ghost use Rattle.std.specs.Prelude.{◌≡◌, ◌≤◌, [], All, IfOk, OnOk, Some, None, length, slice_get};
 ghost use Rattle.pipeline_laws.specs.Pipeline.{IsProper};
 ghost use Rattle.event_device.specs.Device.{IsPortOf, number_of};
 ghost use Rattle.event_device.specs.Lent.{ComesBack};
+ghost use Rattle.event_ports.specs.Ports.{counts_of};
+ghost use Rattle.evt_types.specs.declared.shape.TheConstants.{MAX_PORTS};
 ghost use Rattle.event_device.specs.Parts.{device_of};
 ghost use Rattle.pipeline_threads.specs.Ports.{IsIdle, Returns};
-ghost use Rattle.pipeline_threads.specs.Run.{AreIdle, HasRun};
+ghost use Rattle.pipeline_threads.specs.Run.{AreIdle, ArePortWorks, HasRun};
 
 use crate::gate::Gate;
 use crate::producer::produce;
-use crate::promise::Returned;
+use crate::promise::{Returned, Worked};
 use crate::sweeps::sweep_all;
 use crate::worker::work;
+use arrayvec::ArrayVec;
 use event_device::{Device, Memory, Port, StepLog};
+use evt_types::MAX_PORTS;
 use pipeline_laws::{Action, Entry};
+use run_counts::{Looks, PortWork, ThreadWork};
 use std::alloc::AllocError;
 use std::snapshot::Snapshot;
 use std::sync::Wait;
@@ -29,14 +34,18 @@ fn run_port<R: Wait, G: Gate>(
     trace: &[Entry],
     most: usize,
     port: Port,
-) -> Port
+) -> Worked
     requires actions { All IsProper actions.now }
     requires few { length actions.now ≤ 255 }
     requires idle { IsIdle port }
     ensures { Returns actions.now trace.now port result }
 {
     if port.number() == 0 {
-        produce(rt, trace, port)
+        let port = produce(rt, trace, port);
+        Worked {
+            port,
+            looks: Looks::none(),
+        }
     } else {
         work(rt, gate, actions, most, port)
     }
@@ -54,9 +63,22 @@ fn put_home<L: StepLog>(device: &mut Device<L>, port: Port)
     };
 }
 
-/// Starts a thread for the last of so many ports, runs the ports before it and joins that thread. Once all have a thread this one
-/// sweeps, and shuts the device at the end. Where a thread can't be started or memory runs out the device is shut and the threads are
-/// joined.
+/// What was counted of a port and of its thread.
+fn work_of(back: &Worked) -> PortWork
+    ensures port { result.port ≡ number_of back.now.port }
+    ensures counts { result.counts ≡ counts_of back.now.port }
+    ensures looks { result.looks ≡ back.now.looks }
+{
+    PortWork {
+        port: back.port.number(),
+        counts: back.port.counts(),
+        looks: back.looks,
+    }
+}
+
+/// Starts a thread for the last of so many ports, runs the ports before it and joins that thread; adds what was counted of each, by
+/// number, and answers how often the scheduler swept. Once all have a thread this one sweeps, and shuts the device at the end. Where a
+/// thread can't be started or memory runs out the device is shut and the threads are joined.
 fn run_ports<'s, E, R: Threads + Wait + Sync, G: Gate, L: StepLog>(
     rt: &'s R,
     scope: &Scope<'s, E>,
@@ -65,12 +87,16 @@ fn run_ports<'s, E, R: Threads + Wait + Sync, G: Gate, L: StepLog>(
     trace: &'s [Entry],
     most: usize,
     device: &mut Device<L>,
+    works: &mut ArrayVec<PortWork, MAX_PORTS>,
     count: usize,
-) -> Result<(), Memory>
+) -> Result<u64, Memory>
     requires actions { All IsProper actions.now }
     requires few { length actions.now ≤ 255 }
     requires idle { AreIdle count device.old }
-    ensures { OnOk result (HasRun actions.now trace.now count device.old device.new) }
+    requires fits { count ≤ MAX_PORTS }
+    requires none { works.old.items ≡ [] }
+    ensures ran { OnOk result (HasRun actions.now trace.now count device.old device.new) }
+    ensures works { OnOk result (ArePortWorks count device.new works.new.items) }
 {
     if count == 0 {
         let swept = sweep_all(rt, gate, device, trace);
@@ -85,7 +111,7 @@ fn run_ports<'s, E, R: Threads + Wait + Sync, G: Gate, L: StepLog>(
         actions,
         trace,
     };
-    let job = move || -> Port
+    let job = move || -> Worked
         requires { (All IsProper actions.now) × (length actions.now ≤ 255) × IsIdle port }
         ensures { Returns actions.entry.now trace.entry.now port result }
     { run_port(rt, gate, actions, trace, most, port) };
@@ -98,18 +124,29 @@ fn run_ports<'s, E, R: Threads + Wait + Sync, G: Gate, L: StepLog>(
             return Err(AllocError);
         }
     };
-    let ran = run_ports(rt, scope, gate, actions, trace, most, device, count - 1);
-    let port = thread.join(rt);
-    let Ok(()) = ran else {
-        drop(port);
+    let ran = run_ports(
+        rt,
+        scope,
+        gate,
+        actions,
+        trace,
+        most,
+        device,
+        works,
+        count - 1,
+    );
+    let back = thread.join(rt);
+    let Ok(sweeps) = ran else {
+        drop(back);
         return Err(AllocError);
     };
-    put_home(device, port);
-    Ok(())
+    works.push(work_of(&back));
+    put_home(device, back.port);
+    Ok(sweeps)
 }
 
-/// Runs the trace through the pipeline: each of so many ports in a thread of its own, the scheduler in this one. A worker dequeues at
-/// most `most` events at once.
+/// Runs the trace through the pipeline: each of so many ports in a thread of its own, the scheduler in this one; and what was counted of
+/// them. A worker dequeues at most `most` events at once.
 pub(crate) fn run_threads<R: Threads + Wait + Sync, G: Gate, L: StepLog>(
     rt: &R,
     gate: &G,
@@ -118,22 +155,36 @@ pub(crate) fn run_threads<R: Threads + Wait + Sync, G: Gate, L: StepLog>(
     most: usize,
     device: Device<L>,
     count: usize,
-) -> Result<Device<L>, Memory>
+) -> Result<(Device<L>, ThreadWork), Memory>
     requires actions { All IsProper actions.now }
     requires few { length actions.now ≤ 255 }
     requires idle { AreIdle count device }
-    ensures { IfOk result (HasRun actions.now trace.now count device) }
+    requires fits { count ≤ MAX_PORTS }
+    ensures ran { IfOk result (λ r. HasRun actions.now trace.now count device r.0) }
+    ensures works { IfOk result (λ r. ArePortWorks count r.0 r.1.ports.items) }
 {
     thread::scope(
         thread::scope_env(),
         rt,
-        |scope| -> Result<Device<L>, Memory>
-            requires { (All IsProper actions.now) × (length actions.now ≤ 255) × AreIdle count device }
-            ensures { IfOk result (HasRun actions.entry.now trace.entry.now count device) }
+        |scope| -> Result<(Device<L>, ThreadWork), Memory>
+            requires { (All IsProper actions.now) × (length actions.now ≤ 255) × AreIdle count device × (count ≤ MAX_PORTS) }
+            ensures { IfOk result (λ r. HasRun actions.entry.now trace.entry.now count device r.0 × ArePortWorks count r.0 r.1.ports.items) }
         {
             let mut device = device;
-            match run_ports(rt, scope, gate, actions, trace, most, &mut device, count) {
-                Ok(()) => Ok(device),
+            let mut ports = ArrayVec::new();
+            let ran = run_ports(
+                rt,
+                scope,
+                gate,
+                actions,
+                trace,
+                most,
+                &mut device,
+                &mut ports,
+                count,
+            );
+            match ran {
+                Ok(sweeps) => Ok((device, ThreadWork { ports, sweeps })),
                 Err(memory) => {
                     drop(device);
                     Err(memory)

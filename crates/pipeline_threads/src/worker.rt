@@ -1,21 +1,26 @@
 //! A worker: it carries out the stages' actions on the events that it receives.
 
-ghost use Rattle.std.specs.Prelude.{◌≡◌, ◌≤◌, true, All, IsTrue, length};
+ghost use Rattle.std.specs.Prelude.{ℕ, ◌≡◌, ◌≤◌, true, All, IsTrue, length};
+ghost use Rattle.event_ports.specs.Counts.{no_counts, plus};
 ghost use Rattle.event_ports.specs.Lanes.{reply_of};
+ghost use Rattle.event_ports.specs.Ports.{counts_of};
 ghost use Rattle.event_device.specs.Device.{site_of};
 ghost use Rattle.evt_types.specs.Operation.{is_answer_op};
 ghost use Rattle.pipeline_laws.specs.Pipeline.{IsProper};
 ghost use Rattle.pipeline_laws.specs.Promises.{said_to};
-ghost use Rattle.pipeline_threads.specs.Ports.{AreDue, HasWorked, IsEven, IsIdle};
+ghost use Rattle.pipeline_threads.specs.Ports.{AreDue, HasCounted, HasWorked, IsEven, IsIdle};
+ghost use Rattle.run_counts.specs.Looking.{HasLooked, looked};
 ghost use Rattle.transcripts.specs.Replies.{said};
 
 use crate::gate::Gate;
 use crate::patience::Patience;
+use crate::promise::Worked;
 use crate::submit::submit_all;
 use arrayvec::ArrayVec;
 use event_device::Port;
 use evt_types::{Delivery, Event, Outcome};
 use pipeline_laws::{Action, answer};
+use run_counts::Looks;
 use std::sync::Wait;
 
 /// How many events a worker may dequeue at once.
@@ -83,7 +88,7 @@ fn answer_each<G: Gate>(
     }
 }
 
-/// Dequeues a burst of at most so many events, of what has come, and answers all of it: whether the worker is to go on.
+/// Dequeues a burst of at most so many events, of what has come, counts that look, and answers all of it: whether the worker is to go on.
 fn turn<R: Wait, G: Gate>(
     rt: &R,
     gate: &G,
@@ -92,18 +97,22 @@ fn turn<R: Wait, G: Gate>(
     port: &mut Port,
     burst: &mut Burst,
     patience: &mut Patience,
+    looks: &mut Looks,
 ) -> bool
     requires actions { All IsProper actions.now }
     requires few { length actions.now ≤ 255 }
     requires fits { most ≤ MAX_BURST }
     requires even { IsEven actions.now port.old }
+    requires counted { HasCounted port.old }
     ensures site { site_of port.new ≡ site_of port.old }
     ensures even { IsTrue result → IsEven actions.now port.new }
     ensures worked { HasWorked actions.now port.new }
+    ensures looked { (came : ℕ) × (looks.new ≡ looked came looks.old) × ((counts_of port.new).dequeued ≡ plus (counts_of port.old).dequeued came) }
 {
     let Ok(came) = port.dequeue_burst(most, &mut burst.deliveries) else {
         unreachable!()
     };
+    looks.count(came);
     if came == 0 {
         patience.wait();
         return !port.shut_seen();
@@ -119,24 +128,26 @@ fn turn<R: Wait, G: Gate>(
     submit_all(rt, port, &burst.answers)
 }
 
-/// Receives and answers events, in bursts of at most so many, until the device is shut.
+/// Receives and answers events, in bursts of at most so many, until the device is shut, and counts its looks for them.
 pub(crate) fn work<R: Wait, G: Gate>(
     rt: &R,
     gate: &G,
     actions: &[Action],
     most: usize,
     port: Port,
-) -> Port
+) -> Worked
     requires actions { All IsProper actions.now }
     requires few { length actions.now ≤ 255 }
     requires idle { IsIdle port }
-    ensures site { site_of result ≡ site_of port }
-    ensures worked { HasWorked actions.now result }
+    ensures site { site_of result.port ≡ site_of port }
+    ensures worked { HasWorked actions.now result.port }
+    ensures looked { HasLooked no_counts (counts_of result.port) result.looks }
 {
     let mut port = port;
     let most = nearest(most);
     let mut burst = Burst::new();
     let mut patience = Patience::new();
+    let mut looks = Looks::none();
     for _ in rt.forever() {
         if !turn(
             rt,
@@ -146,8 +157,9 @@ pub(crate) fn work<R: Wait, G: Gate>(
             &mut port,
             &mut burst,
             &mut patience,
+            &mut looks,
         ) {
-            return port;
+            return Worked { port, looks };
         }
     }
     unreachable!()

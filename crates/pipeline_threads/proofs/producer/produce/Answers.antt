@@ -5,7 +5,7 @@ use Rattle.pipeline_threads.proofs.Bringing.{brought_front, brought_one, brought
 use Rattle.pipeline_threads.proofs.producer.produce.Goals as goal
 
 pub loop-entry-init : goal.loop-entry-init
-loop-entry-init g c = (refl, idle_brought c.args.trace.now (hand c.args.port) c.requires)
+loop-entry-init g c = (refl, idle_brought c.args.trace.now (hand c.args.port) c.requires.0, refl)
 
 pub returns-then-not-submit_all-clause-producer : goal.returns-then-not-submit_all-clause-producer
 returns-then-not-submit_all-clause-producer g c =
@@ -20,4 +20,5 @@ loop-entry-preserved g c = (
   c.submit_all.ensures.site ∙ c.loop-entry.invariant.0,
   brought_one c.args.trace.now c.loop-entry.entry-index c.entry-item.result c.new_event.result c.loop-entry.port c.submit_all.new.port c.new_event.ensures c.loop-entry-test.true c.entry-item.is c.loop-entry.invariant.1
       (c.submit_all.ensures.all c.if-not-submit_all.false),
+  c.submit_all.ensures.dequeued ∙ c.loop-entry.invariant.2,
 )

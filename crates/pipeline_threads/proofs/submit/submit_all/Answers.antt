@@ -1,7 +1,9 @@
 use Rattle.std.proofs.Common.{◌+◌, take, ap, ◌∙◌}
 use Rattle.std.specs.Option.{is_some}
 use Rattle.event_device.proofs.Keeping.{same_site}
-use Rattle.event_ports.specs.Ports.{hand}
+use Rattle.event_ports.specs.Ports.{counts_of, hand}
+use Rattle.event_ports.specs.declared.counts.PortCounts.{PortCounts}
+use Rattle.pipeline_threads.proofs.Counting.{burst_dequeued}
 use Rattle.pipeline_threads.proofs.Submitting.{all_before, burst_last, burst_then}
 use Rattle.pipeline_threads.proofs.submit.submit_all.Goals as goal
 
@@ -29,6 +31,16 @@ returns-then-shut_seen-clause-front g c =
       all_before (take (c.loop.sent + burst.result.0) c.args.events.now) (hand c.args.port.now) (hand burst.new.self) (hand c.shut_seen.new.self) more.1 c.shut_seen.ensures.same.0,
     )
 
+pub returns-in-None-end-clause-dequeued : goal.returns-in-None-end-clause-dequeued
+returns-in-None-end-clause-dequeued g c =
+    let burst = c.enqueue_burst-taken in
+    burst_dequeued burst.result.0 burst.result.1 (counts_of c.loop.port) (counts_of burst.new.self) burst.ensures.counted ∙ c.loop.invariant.5
+
+pub returns-then-shut_seen-clause-dequeued : goal.returns-then-shut_seen-clause-dequeued
+returns-then-shut_seen-clause-dequeued g c =
+    let burst = c.enqueue_burst-taken in
+    ap (λ (x : PortCounts). x.dequeued) c.shut_seen.ensures.counted ∙ (burst_dequeued burst.result.0 burst.result.1 (counts_of c.loop.port) (counts_of burst.new.self) burst.ensures.counted ∙ c.loop.invariant.5)
+
 pub returns-in-Some-Stopped : goal.returns-in-Some-Stopped
 returns-in-Some-Stopped g c =
     let was = c.loop.invariant in
@@ -40,6 +52,7 @@ returns-in-Some-Stopped g c =
         c.loop.sent + burst.result.0,
         (burst_then c.args.events.now c.loop.sent burst.result.0 (hand c.args.port.now) (hand c.loop.port) (hand burst.new.self) was.3 burst.ensures.count was.4 burst.ensures.submitted).1,
       );
+      dequeued = burst_dequeued burst.result.0 burst.result.1 (counts_of c.loop.port) (counts_of burst.new.self) burst.ensures.counted ∙ was.5;
     }
 
 pub loop-preserved : goal.loop-preserved
@@ -52,4 +65,5 @@ loop-preserved g c =
       same_site burst.new.self c.shut_seen.new.self c.shut_seen.ensures.site c.shut_seen.ensures.credit ∙ (same_site c.loop.port burst.new.self burst.ensures.site burst.ensures.credit ∙ was.2),
       more.0,
       all_before (take (c.loop.sent + burst.result.0) c.args.events.now) (hand c.args.port.now) (hand burst.new.self) (hand c.shut_seen.new.self) more.1 c.shut_seen.ensures.same.0,
+      ap (λ (x : PortCounts). x.dequeued) c.shut_seen.ensures.counted ∙ (burst_dequeued burst.result.0 burst.result.1 (counts_of c.loop.port) (counts_of burst.new.self) burst.ensures.counted ∙ was.5),
     )

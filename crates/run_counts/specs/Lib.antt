@@ -1,0 +1,3 @@
+pub mod CountsText
+pub mod Looking
+pub mod Waiting

@@ -34,8 +34,15 @@ pub enum Task {
     Play,
     /// Its script is played, and the picture of its log is drawn.
     Timeline,
-    /// Its pipeline is run, with so many workers, from 1 to 8; how far the run has come isn't shown where `quiet`.
-    Run { workers: u32, quiet: bool },
+    /// Its pipeline is run, with so many workers, from 1 to 8; how far the run has come isn't shown where `quiet`, and what was counted of
+    /// it is where `stats`.
+    Run {
+        workers: u32,
+        quiet: bool,
+        stats: bool,
+    },
     /// Its fault is looked for, with so many workers where it is a pipeline's, from 1 to 8.
-    Check { workers: u32 },
+    Check {
+        workers: u32,
+    },
 }

@@ -42,6 +42,9 @@ const EXPLAIN: &str = "explain";
 /// The option that shows nothing of a run while it goes on.
 const QUIET: &str = "quiet";
 
+/// The option that shows what was counted of a run.
+const STATS: &str = "stats";
+
 /// The file of a document, and the name of an example.
 const FILE: &str = "FILE";
 
@@ -95,6 +98,14 @@ fn quiet_option<'a>(alloc: Global) -> Arg<'a> {
         .help("Show nothing of the run while it goes on, also on a terminal")
 }
 
+/// The option that shows what was counted of a run.
+fn stats_option<'a>(alloc: Global) -> Arg<'a> {
+    Arg::new(alloc, STATS)
+        .long(STATS)
+        .action(ArgAction::SetTrue)
+        .help("Print after the run what was counted, on standard error")
+}
+
 /// The file of a document.
 fn file_word<'a>(alloc: Global) -> Arg<'a> {
     Arg::new(alloc, FILE).help("The document; standard input where it is left out or is -")
@@ -128,6 +139,7 @@ fn run_command<'a>(alloc: Global) -> Result<Command<'a>, AllocError> {
         .arg(workers_option(alloc))?
         .arg(explain_option(alloc))?
         .arg(quiet_option(alloc))?
+        .arg(stats_option(alloc))?
         .arg(file_word(alloc))
 }
 
@@ -237,14 +249,18 @@ fn play_choice(file: Option<usize>, explain: bool) -> Choice
 }
 
 /// The run of a pipeline.
-fn run_choice(workers: u32, file: Option<usize>, explain: bool, quiet: bool) -> Choice
+fn run_choice(workers: u32, file: Option<usize>, explain: bool, quiet: bool, stats: bool) -> Choice
     requires { (fewest_workers ≤ workers) × (workers ≤ most_workers) }
     ensures workers { HasFewWorkers result }
 {
-    if file.is_none() && !explain && !quiet {
+    if file.is_none() && !explain && !quiet && !stats {
         return Choice::Run { workers };
     }
-    let task = Task::Run { workers, quiet };
+    let task = Task::Run {
+        workers,
+        quiet,
+        stats,
+    };
     Choice::Document {
         task,
         file,
@@ -259,7 +275,8 @@ fn chosen(words: &[&str], matches: &ArgMatches) -> Choice
     if let Some(options) = matches.subcommand_matches(RUN) {
         let workers = workers(options);
         let (explain, quiet) = (options.get_flag(EXPLAIN), options.get_flag(QUIET));
-        return run_choice(workers, file_of(words, options), explain, quiet);
+        let stats = options.get_flag(STATS);
+        return run_choice(workers, file_of(words, options), explain, quiet, stats);
     }
     if let Some(options) = matches.subcommand_matches(CHECK) {
         return Choice::Document {

@@ -2,6 +2,7 @@
 //! through a pipeline, or says what is wrong with the document, which stands in a file or on standard input. It judges logs, too.
 #![tactic(auto)]
 
+ghost use Rattle.std.specs.Prelude.{◌≤◌};
 ghost use Rattle.command_line.specs.CommandLine.{HasFew};
 
 mod judging;
@@ -15,7 +16,7 @@ use judging::judged_with_file;
 use noted::Noted;
 use pipeline_app::{
     AppFault, Choice, Form, Task, check, choice, fault_line, play, play_as, run_explained,
-    run_trace,
+    run_trace, run_with_counts,
 };
 use progress::Progress;
 use std::fs::File;
@@ -101,6 +102,29 @@ fn args<R: AllocGlobal + Env + Eprint>(rt: &R) -> Result<Vec<String>, u8> {
     }
 }
 
+/// Runs the document's trace, and prints what was counted of the run below what the run printed.
+fn run_with_stats<R: AllocGlobal + Print + Eprint + Clock + Threads + Wait + Sync, I: Read>(
+    rt: &R,
+    workers: u32,
+    reader: &mut I,
+    progress: &Progress<'_, R>,
+    why: &mut String,
+) -> Result<(), AppFault>
+    requires { (1 ≤ workers) × (workers ≤ 8) }
+{
+    let (alloc, mut writer) = (rt.alloc(), io::writer(rt));
+    let ran = run_with_counts(rt, alloc, reader, workers, progress, &mut writer, why);
+    progress.end();
+    let stats = ran?;
+    let ports = &stats.counts.threads.ports;
+    let handled = ports
+        .iter()
+        .fold(0u64, |sum, port| sum.saturating_add(port.counts.dequeued));
+    progress.show_rates(handled);
+    let _ = eprint!(rt; "{}", stats.text);
+    Ok(())
+}
+
 /// Does the task with the document that the reader gives. Where its fault is to be explained, `why` says where it is and why.
 fn outcome<R: AllocGlobal + Print + Eprint + Clock + Threads + Wait + Sync, I: Read>(
     rt: &R,
@@ -117,8 +141,20 @@ fn outcome<R: AllocGlobal + Print + Eprint + Clock + Threads + Wait + Sync, I: R
         Task::Play if explain => play_as(alloc, Form::Text, reader, &mut writer, why),
         Task::Play => play(alloc, reader, &mut writer),
         Task::Timeline => play_as(alloc, Form::Picture, reader, &mut writer, why),
-        Task::Run { workers, quiet } => {
-            let progress = Progress::new(rt, terminals, quiet);
+        Task::Run {
+            workers,
+            quiet,
+            stats: true,
+        } => {
+            let progress = Progress::new(rt, terminals, quiet, true);
+            run_with_stats(rt, workers, reader, &progress, why)
+        }
+        Task::Run {
+            workers,
+            quiet,
+            stats: false,
+        } => {
+            let progress = Progress::new(rt, terminals, quiet, false);
             let outcome = if explain {
                 run_explained(rt, alloc, reader, workers, &progress, &mut writer, why)
             } else {
@@ -219,6 +255,7 @@ fn run<R: AllocGlobal + Files + Input + Print + Eprint + Clock + Threads + Wait 
             let task = Task::Run {
                 workers,
                 quiet: false,
+                stats: false,
             };
             done_with_input(rt, task, false, terminals)
         }

@@ -81,20 +81,26 @@ fn rate_of(count: u64, lasted: u64) -> Rate {
 pub struct Progress<'a, R> {
     rt: &'a R,
     terminals: Terminals,
-    /// When the run began; `None` shows nothing.
+    /// Whether the line is written.
+    is_shown: bool,
+    /// When the run began; `None` where nobody asks.
     began: Option<Instant>,
     /// How many events the trace has.
     events: AtomicU64,
     /// When the trace's run began, in microseconds of the whole run.
     from: AtomicU64,
+    /// When it ended, likewise.
+    to: AtomicU64,
     /// When the line was written last, likewise.
     shown: AtomicU64,
 }
 
 impl<'a, R: Clock + Eprint> Progress<'a, R> {
-    /// The progress of a run that begins now, which is shown where standard error is a terminal and the run isn't `quiet`.
-    pub fn new(rt: &'a R, terminals: Terminals, quiet: bool) -> Progress<'a, R> {
-        let began = if terminals.error && !quiet {
+    /// The progress of a run that begins now, which is shown where standard error is a terminal and the run isn't `quiet`, and timed there
+    /// or where `is_timed`.
+    pub fn new(rt: &'a R, terminals: Terminals, quiet: bool, is_timed: bool) -> Progress<'a, R> {
+        let is_shown = terminals.error && !quiet;
+        let began = if is_shown || is_timed {
             Instant::now(rt).ok()
         } else {
             None
@@ -102,14 +108,16 @@ impl<'a, R: Clock + Eprint> Progress<'a, R> {
         Progress {
             rt,
             terminals,
+            is_shown,
             began,
             events: AtomicU64::new(0),
             from: AtomicU64::new(0),
+            to: AtomicU64::new(0),
             shown: AtomicU64::new(0),
         }
     }
 
-    /// How many microseconds the run has lasted, where it is shown. A clock that fails shows nothing.
+    /// How many microseconds the run has lasted, where it is timed. A clock that fails shows nothing.
     fn now(&self) -> Option<u64> {
         let elapsed = self.began?.elapsed(self.rt).ok()?;
         let nanoseconds = u64::from(elapsed.subsec_nanos());
@@ -123,7 +131,7 @@ impl<'a, R: Clock + Eprint> Progress<'a, R> {
 
     /// Writes this in place of the line, where it is shown.
     fn write(&self, line: &str) {
-        if self.began.is_some() {
+        if self.is_shown {
             let _ = eprint!(self.rt; "{CLEAR}{line}");
         }
     }
@@ -131,6 +139,20 @@ impl<'a, R: Clock + Eprint> Progress<'a, R> {
     /// Takes the line away, where there is one.
     pub fn end(&self) {
         self.write("");
+    }
+
+    /// Prints how long the trace's run lasted, and how many events a second its queues accepted as new and its workers, so many,
+    /// handled.
+    pub fn show_rates(&self, handled: u64) {
+        let from = self.from.load(Ordering::SeqCst);
+        let lasted = self.to.load(Ordering::SeqCst).saturating_sub(from);
+        let _ = eprintln!(self.rt;
+            "time: {}.{:06} s, accepted {}, handled {}",
+            lasted / SECOND,
+            lasted % SECOND,
+            rate_of(self.events.load(Ordering::SeqCst), lasted),
+            rate_of(handled, lasted)
+        );
     }
 
     /// Writes the line of so many accepted events.
@@ -154,6 +176,9 @@ impl<R: Clock + Eprint + Sync> Gate for Progress<'_, R> {
     fn enter(&self, _worker: usize, _payload: u64) {}
 
     fn swept(&self, accepted: u64, _inside: usize) {
+        if !self.is_shown {
+            return;
+        }
         if let Some(now) = self.now() {
             if now.saturating_sub(self.shown.load(Ordering::SeqCst)) >= EACH {
                 self.shown.store(now, Ordering::SeqCst);
@@ -173,7 +198,10 @@ impl<R: Clock + Eprint + Sync> Gate for Progress<'_, R> {
                 self.from.store(self.now().unwrap_or(0), Ordering::SeqCst);
                 self.write("running");
             }
-            Phase::Checking => self.write("checking"),
+            Phase::Checking => {
+                self.to.store(self.now().unwrap_or(0), Ordering::SeqCst);
+                self.write("checking");
+            }
             Phase::Writing => self.write("writing"),
         }
     }

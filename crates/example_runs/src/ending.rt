@@ -139,6 +139,7 @@ fn task_of(alloc: Global, words: &[&str]) -> Result<(Task, bool)>
             let task = Task::Run {
                 workers,
                 quiet: false,
+                stats: false,
             };
             Ok((task, false))
         }

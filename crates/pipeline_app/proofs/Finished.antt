@@ -10,7 +10,12 @@ use Rattle.pipeline_laws.specs.declared.stage.Action.{Action}
 use Rattle.pipeline_laws.specs.declared.stage.Entry.{Entry}
 use Rattle.transcripts.specs.Lawful.{IsPrefix, Lawful}
 use Rattle.transcripts.specs.Laws.{AddsNone}
-use Rattle.pipeline_app.specs.Runs.{Strays}
+use Rattle.pipeline_app.specs.Runs.{AreRunCounts, Strays}
+use Rattle.pipeline_threads.specs.Run.{AreWorks}
+use Rattle.run_counts.specs.Waiting.{AreWorksOf}
+use Rattle.run_counts.specs.declared.looks.ThreadWork.{ThreadWork}
+use Rattle.run_counts.specs.declared.text.Counts.{Counts}
+use Rattle.run_documents.specs.Pipelines.{Planned}
 
 -- the same actions and the same log
 due_same : (actions others : List Action) (T U : List Step) → actions ≡ others → T ≡ U → AddsNone T × AnswersAreDue actions T → AddsNone U × AnswersAreDue others U
@@ -36,4 +41,19 @@ finished_stray p actions others trace entries T V flows a e v lawful news finish
       newcomers = subst (λ ts. IsPrefix (newcomers T) (map new_event ts)) e news;
       finished = subst (λ ts. IsFinished p ts T) e finished;
       strayed = λ due. strayed (due_same actions others T V (sym a) (sym v) due);
+    }
+
+-- the counts of a finished log are those of a run
+pub finished_counts : (p : Planned) (others : List Action) (entries : List Entry) (T V : List Step) (n : ℕ) (c : Counts) (threads : ThreadWork) → n ≡ length p.plan.queues → others ≡ p.actions
+    → entries ≡ p.trace → V ≡ T → Lawful p.plan T → AddsNone V × AnswersAreDue others V → IsPrefix (newcomers T) (map new_event entries) → IsFinished p.plan entries T → AreWorksOf T n c.queues.items
+    → c.threads ≡ threads → AreWorks p.plan T threads.ports.items → AreRunCounts p c
+finished_counts p others entries T V n c threads count a e v lawful answers news finished queues same ports =
+    let due = due_same others p.actions V T a v answers in
+    record {
+      log = T;
+      lawful = lawful;
+      worked = record { answers = due.1; adds_none = due.0; newcomers = subst (λ ts. IsPrefix (newcomers T) (map new_event ts)) e news };
+      finished = subst (λ ts. IsFinished p.plan ts T) e finished;
+      queues = subst (λ k. AreWorksOf T k c.queues.items) count queues;
+      ports = subst (λ (t : ThreadWork). AreWorks p.plan T t.ports.items) (sym same) ports;
     }

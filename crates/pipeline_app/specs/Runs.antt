@@ -6,13 +6,16 @@ use Rattle.evt_types.specs.declared.draft.Serving.TheVariants.{Flows}
 use Rattle.evt_types.specs.declared.step.Step.{Step}
 use Rattle.pipeline_laws.specs.Pipeline.{IsProper}
 use Rattle.pipeline_laws.specs.RunText.{plain_text}
-use Rattle.pipeline_laws.specs.Worked.{AnswersAreDue, IsFinished, IsStaged, new_event, newcomers}
+use Rattle.pipeline_laws.specs.Worked.{AnswersAreDue, IsFinished, IsStaged, IsWorked, new_event, newcomers}
 use Rattle.pipeline_threads.specs.declared.fault.RunFault.{RunFault}
 use Rattle.pipeline_threads.specs.declared.fault.RunFault.TheVariants as runs
 use Rattle.command_line.specs.Output.{AppendsPrefix}
 use Rattle.command_line.specs.declared.fault.AppFault.{AppFault}
 use Rattle.command_line.specs.declared.fault.AppFault.TheVariants as app
 use Rattle.play_documents.specs.Document.{IsNamedDoc}
+use Rattle.pipeline_threads.specs.Run.{AreWorks}
+use Rattle.run_counts.specs.Waiting.{AreWorksOf}
+use Rattle.run_counts.specs.declared.text.Counts.{Counts}
 use Rattle.run_documents.specs.Pipelines.{Planned, pipeline_of}
 use Rattle.transcripts.specs.Lawful.{IsPrefix, Lawful}
 use Rattle.transcripts.specs.Laws.{AddsNone}
@@ -82,6 +85,23 @@ pub record IsRunnable (p : Planned) : Type 0 where
   pub few : length p.actions ≤ 255
   pub workers : 1 < length p.plan.ports
   pub producer : (port_of p.plan 0).links ≡ []
+
+-- These are the counts of a run of it. To the end of a lawful log, in which each answer is its stage's action, the whole trace went in and
+-- came out; of each stage's queue they say how many events it accepted, gave and had waiting at most, and of each port what its thread's
+-- looks found, and what that log gave to it.
+pub record AreRunCounts (p : Planned) (c : Counts) : Type 0 where
+  pub log : List Step
+  pub lawful : Lawful p.plan log
+  pub worked : IsWorked p.actions p.trace log
+  pub finished : IsFinished p.plan p.trace log
+  pub queues : AreWorksOf log (length p.plan.queues) c.queues.items
+  pub ports : AreWorks p.plan log c.threads.ports.items
+
+-- so are these of a run of the document
+pub record HasCounts (workers : ℕ) (known : Option (List ℕ)) (c : Counts) : Type 0 where
+  pub said : Planned
+  pub counts : AreRunCounts said c
+  pub document : IfSome known (λ input. pipeline_of workers input ≡ Ok said)
 
 -- which faults its run ends with: a stray with the log that strays
 abbrev pub IsRunFault : Planned → AppFault → Type 0

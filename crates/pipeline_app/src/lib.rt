@@ -3,6 +3,7 @@
 #![tactic(auto)]
 
 mod checking;
+mod counted;
 mod drive;
 mod form;
 mod obey;
@@ -10,6 +11,7 @@ mod run;
 
 pub use checking::check;
 pub use command_line::{AppFault, Choice, Task, choice, fault_line};
+pub use counted::{RunStats, run_with_counts};
 pub use drive::{play, play_as};
 pub use form::Form;
 pub use pipeline_threads::{Gate, OpenGate, Phase};

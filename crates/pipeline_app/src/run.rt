@@ -23,10 +23,10 @@ use std::thread::Threads;
 
 /// How many events a worker of a document's run dequeues at once. With more, one that waits at the gate for another worker could have
 /// claimed what that one is to work on.
-const ONE: usize = 1;
+pub(crate) const ONE: usize = 1;
 
 /// The text of a finished log of so many stages, which keeps every step.
-fn log_text(alloc: Global, stages: usize, log: &[Step]) -> Result<String, AllocError>
+pub(crate) fn log_text(alloc: Global, stages: usize, log: &[Step]) -> Result<String, AllocError>
     ensures { IfOk result (λ text. string_bytes text ≡ run_text stages (logged log.now)) }
 {
     let mut text = String::new(alloc);
@@ -35,7 +35,11 @@ fn log_text(alloc: Global, stages: usize, log: &[Step]) -> Result<String, AllocE
 }
 
 /// The text of a finished log of so many stages, which keeps what was accepted.
-fn accepted_text(alloc: Global, stages: usize, log: &AcceptedLog) -> Result<String, AllocError>
+pub(crate) fn accepted_text(
+    alloc: Global,
+    stages: usize,
+    log: &AcceptedLog,
+) -> Result<String, AllocError>
     ensures { IfOk result (λ text. string_bytes text ≡ run_text stages (logged (⟦<AcceptedLog as StepLog>⟧.steps log.now))) }
 {
     let mut text = String::new(alloc);
@@ -44,7 +48,7 @@ fn accepted_text(alloc: Global, stages: usize, log: &AcceptedLog) -> Result<Stri
 }
 
 /// The fault of a run that came to no end.
-fn run_fault(fault: RunFault) -> AppFault
+pub(crate) fn run_fault(fault: RunFault) -> AppFault
     ensures { result ≡ run_fault fault }
 {
     match fault {

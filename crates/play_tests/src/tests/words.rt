@@ -3,7 +3,7 @@
 use command_line::{Choice, Task, choice};
 
 /// The words after the program's name, what they ask for or the status to end with, and a part of what is printed.
-static LINES: [(&[&str], Result<Choice, u8>, &str); 26] = [
+static LINES: [(&[&str], Result<Choice, u8>, &str); 27] = [
     (&["play"], Ok(Choice::Play), ""),
     (&["--help"], Err(0), "Usage: evsched <COMMAND>"),
     (&["help"], Err(0), "docs/FORMATS.md"),
@@ -55,6 +55,7 @@ static LINES: [(&[&str], Result<Choice, u8>, &str); 26] = [
             task: Task::Run {
                 workers: 2,
                 quiet: false,
+                stats: false,
             },
             file: Some(2),
             explain: true,
@@ -67,6 +68,20 @@ static LINES: [(&[&str], Result<Choice, u8>, &str); 26] = [
             task: Task::Run {
                 workers: 3,
                 quiet: true,
+                stats: false,
+            },
+            file: None,
+            explain: false,
+        }),
+        "",
+    ),
+    (
+        &["run", "--stats", "-"],
+        Ok(Choice::Document {
+            task: Task::Run {
+                workers: 2,
+                quiet: false,
+                stats: true,
             },
             file: None,
             explain: false,

@@ -149,6 +149,10 @@ impl Core {
         ensures room { IsTrue result → L.room log.old ≤ L.room log.new + length run.new.items }
         ensures same { result ≡ false → (self.new ≡ self.old) × (skips.new ≡ skips.old) × (L.steps log.new ≡ L.steps log.old) × (L.room log.old ≤ L.room log.new) }
     {
+        // A row of one event costs more than that event by itself.
+        if most < 2 {
+            return false;
+        }
         let (lane, level) = (offer.lane, offer.level);
         let queue = offer.delivery.queue();
         let Some(lanes) = self.lanes_for_row(lane, queue, level, skips) else {

@@ -101,6 +101,7 @@ RUNS = (
     ("play of several-forwards", ["play"], *example("several-forwards")),
     ("timeline of ordered-release", ["timeline"], example("ordered-release")[0], (TOP / "docs/pictures/ordered-release.svg").read_text()),
     ("judge of ordered-release", ["judge", str(TOP / "examples/ordered-release.toml")], example("ordered-release")[1], "lawful\n"),
+    ("judge of a history", ["judge", str(TOP / "examples/one-flow-two-ports.toml")], (TOP / "examples/judged/seen.jsonl").read_text(), "no breach\n"),
     ("run of three-stages by ports", RUN, *example("three-stages")),
     ("run of three-stages by flow lanes", RUN, *example("three-stages", 'serving = "flows"\n')),
     ("run of dropping-stages by flow lanes", RUN, *example("dropping-stages")),

@@ -18,8 +18,8 @@ use example_documents::{EXAMPLES, example};
 use judging::judged_with_file;
 use noted::Noted;
 use pipeline_app::{
-    AppFault, Choice, Form, Task, check, choice, fault_line, play, play_as, run_explained,
-    run_trace, run_with_counts,
+    AppFault, Choice, Form, RunStats, Task, check, choice, fault_line, play, play_as,
+    run_explained, run_trace, run_with_counts,
 };
 use progress::Progress;
 use std::fs::File;
@@ -119,10 +119,12 @@ fn run_with_stats<R: AllocGlobal + Print + Eprint + Clock + Threads + Wait + Syn
 ) -> Result<(), AppFault>
     requires { (1 ≤ workers) × (workers ≤ 8) }
 {
-    let (alloc, mut writer) = (rt.alloc(), io::writer(rt));
-    let ran = run_with_counts(rt, alloc, reader, workers, progress, &mut writer, why);
-    progress.end();
-    let stats = ran?;
+    let (alloc, mut writer) = (rt.alloc(), progress.noting(io::writer(rt)));
+    let stats = progress.during(
+        || -> Result<RunStats, AppFault>
+            requires { (1 ≤ workers) × (workers ≤ 8) }
+        { run_with_counts(rt, alloc, reader, workers, progress, &mut writer, why) },
+    )?;
     let ports = &stats.counts.threads.ports;
     let handled = ports
         .iter()
@@ -162,13 +164,18 @@ fn outcome<R: AllocGlobal + Print + Eprint + Clock + Threads + Wait + Sync, I: R
             stats: false,
         } => {
             let progress = Progress::new(rt, terminals, quiet, false);
-            let outcome = if explain {
-                run_explained(rt, alloc, reader, workers, &progress, &mut writer, why)
-            } else {
-                run_trace(rt, alloc, reader, workers, &progress, &mut writer)
-            };
-            progress.end();
-            outcome
+            let mut writer = progress.noting(writer);
+            progress.during(
+                || -> Result<(), AppFault>
+                    requires { (1 ≤ workers) × (workers ≤ 8) }
+                {
+                    if explain {
+                        run_explained(rt, alloc, reader, workers, &progress, &mut writer, why)
+                    } else {
+                        run_trace(rt, alloc, reader, workers, &progress, &mut writer)
+                    }
+                },
+            )
         }
         Task::Check { workers } => check(alloc, reader, workers, why),
     }

@@ -2,7 +2,7 @@
 use Rattle.std.specs.Prelude.{◌≡◌, ◌≤◌, ℕ, ◌⊎◌}
 use Rattle.play_documents.specs.Numbers.{fewest_workers, most_workers}
 use Rattle.command_line.specs.declared.options.Choice.{Choice}
-use Rattle.command_line.specs.declared.options.Choice.TheVariants.{Play, Run, Document, Judge, Example}
+use Rattle.command_line.specs.declared.options.Choice.TheVariants.{Play, Run, Document, Drawing, Judge, Example}
 use Rattle.command_line.specs.declared.options.Task.{Task}
 use Rattle.command_line.specs.declared.options.Task.TheVariants as tasks
 
@@ -34,5 +34,6 @@ abbrev pub HasFewWorkers : Choice → Type 0
 HasFewWorkers Play = Unit {0}
 HasFewWorkers (Run n) = AreFew n
 HasFewWorkers (Document task file explain) = HasFew task
+HasFewWorkers (Drawing document log explain) = Unit {0}
 HasFewWorkers (Judge document log) = Unit {0}
 HasFewWorkers (Example name) = Unit {0}

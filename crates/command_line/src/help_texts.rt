@@ -23,11 +23,16 @@ pub(crate) const AFTER_TIMELINE_HELP: &str =
 the steps of the log that play prints. The title of each mark, which a browser shows where the pointer
 rests, says what the step did.
 
+With LOG the script isn't played: what is drawn is the log in LOG, from its line log to the line report or
+to the end, in the rows of the document's queues and lanes.
+
 Example:
   evsched example two-flows | evsched timeline > two-flows.svg
+  evsched play first-event.toml > first-event.out
+  evsched timeline first-event.toml first-event.out > first-event.svg
 
 Status: 0 when the picture was written, 2 for a refused command line, 3 when reading or writing failed,
-4 for a document at fault, 5 where memory ran out.
+4 for a document or a log at fault, 5 where memory ran out.
 
 evsched help documents describes the document, evsched help faults what each fault means;
 the manual is evsched(1), and docs/FORMATS.md has all of it.";
@@ -170,10 +175,12 @@ evsched: document: NAME (status 4), in the order in which they are looked for, e
   BadCommand N     line N of the script is no command   Cure: one space between words, and ports of the document.
   BadTrace N       line N of the trace is no event      Cure: FLOW PRIO PAYLOAD, with one space between them.
 
-evsched: log: NAME (status 4), of judge
+evsched: log: NAME (status 4), of judge and timeline
   NoLog            no line says log                     Cure: give it all that play printed.
   BadLine N        line N is none that play prints      Cure: see that the document is the one that was played, and
                      there                                that nothing was changed or cut off.
+  NoLane N         timeline: line N is the first that   Cure: see that the document is the one that was played.
+                     names a lane that isn't there
 
 evsched: history: NAME (status 4), of judge
   BadEntry N       line N is no entry                   Cure: write it with examples/c/history.h.

@@ -16,6 +16,12 @@ pub enum Choice {
         file: Option<usize>,
         explain: bool,
     },
+    /// To draw a log, by the configuration of a document, and to explain the document's fault where `explain`.
+    Drawing {
+        document: Option<usize>,
+        log: Option<usize>,
+        explain: bool,
+    },
     /// To judge a log, by the document in a file.
     Judge {
         document: Option<usize>,

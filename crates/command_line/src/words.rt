@@ -120,13 +120,17 @@ fn play_command<'a>(alloc: Global) -> Result<Command<'a>, AllocError> {
         .arg(file_word(alloc))
 }
 
-/// The subcommand that draws the log of a script.
+/// The subcommand that draws the log of a script, or one that is given.
 fn timeline_command<'a>(alloc: Global) -> Result<Command<'a>, AllocError> {
+    let log = Arg::new(alloc, LOG).help(
+        "A log to be drawn, as play prints it, and no script is played; - is standard input",
+    );
     Command::new(alloc, TIMELINE)
-        .about("Play the script of a document, and draw its log as a picture in SVG")
+        .about("Draw the log of a document's script, or one that was printed, as a picture in SVG")
         .after_help(AFTER_TIMELINE_HELP)
         .arg(explain_option(alloc))?
-        .arg(file_word(alloc))
+        .arg(file_word(alloc))?
+        .arg(log)
 }
 
 /// The subcommand that runs a pipeline.
@@ -268,6 +272,27 @@ fn run_choice(workers: u32, file: Option<usize>, explain: bool, quiet: bool, sta
     }
 }
 
+/// The drawing of a script's log, or of one that is given.
+fn timeline_choice(words: &[&str], options: &ArgMatches) -> Choice
+    ensures workers { HasFewWorkers result }
+{
+    let file = file_of(words, options);
+    let explain = options.get_flag(EXPLAIN);
+    if options.get_str(LOG).is_some() {
+        return Choice::Drawing {
+            document: file,
+            log: file_at(words, options, LOG),
+            explain,
+        };
+    }
+    let task = Task::Timeline;
+    Choice::Document {
+        task,
+        file,
+        explain,
+    }
+}
+
 /// What the words ask for that clap has accepted.
 fn chosen(words: &[&str], matches: &ArgMatches) -> Choice
     ensures workers { HasFewWorkers result }
@@ -288,11 +313,7 @@ fn chosen(words: &[&str], matches: &ArgMatches) -> Choice
         };
     }
     if let Some(options) = matches.subcommand_matches(TIMELINE) {
-        return Choice::Document {
-            task: Task::Timeline,
-            file: file_of(words, options),
-            explain: options.get_flag(EXPLAIN),
-        };
+        return timeline_choice(words, options);
     }
     if let Some(options) = matches.subcommand_matches(JUDGE) {
         return Choice::Judge {

@@ -5,18 +5,21 @@
 ghost use Rattle.std.specs.Prelude.{◌≤◌};
 ghost use Rattle.command_line.specs.CommandLine.{HasFew};
 
+mod drawing;
 mod judging;
 mod noted;
 mod progress;
 mod terminals;
+mod texts;
 
 use arrayvec::ArrayString;
+use drawing::drawn_with_files;
 use example_documents::{EXAMPLES, example};
 use judging::judged_with_file;
 use noted::Noted;
 use pipeline_app::{
-    AppFault, Choice, Form, Task, check, choice, fault_line, play, play_as, run_explained,
-    run_trace, run_with_counts,
+    AppFault, Choice, Form, RunStats, Task, check, choice, fault_line, play, play_as,
+    run_explained, run_trace, run_with_counts,
 };
 use progress::Progress;
 use std::fs::File;
@@ -28,9 +31,13 @@ use std::thread::Threads;
 use std::time::Clock;
 use std::{env, io};
 use terminals::Terminals;
+use texts::await_document;
 
 /// The status after a command line that is refused.
-const REFUSED: u8 = 2;
+pub(crate) const REFUSED: u8 = 2;
+
+/// The status after a log at fault.
+pub(crate) const BAD_LOG: u8 = 4;
 
 /// Prints a line on standard error.
 pub(crate) fn complain(rt: &impl Eprint, line: &str) {
@@ -112,10 +119,12 @@ fn run_with_stats<R: AllocGlobal + Print + Eprint + Clock + Threads + Wait + Syn
 ) -> Result<(), AppFault>
     requires { (1 ≤ workers) × (workers ≤ 8) }
 {
-    let (alloc, mut writer) = (rt.alloc(), io::writer(rt));
-    let ran = run_with_counts(rt, alloc, reader, workers, progress, &mut writer, why);
-    progress.end();
-    let stats = ran?;
+    let (alloc, mut writer) = (rt.alloc(), progress.noting(io::writer(rt)));
+    let stats = progress.during(
+        || -> Result<RunStats, AppFault>
+            requires { (1 ≤ workers) × (workers ≤ 8) }
+        { run_with_counts(rt, alloc, reader, workers, progress, &mut writer, why) },
+    )?;
     let ports = &stats.counts.threads.ports;
     let handled = ports
         .iter()
@@ -155,13 +164,18 @@ fn outcome<R: AllocGlobal + Print + Eprint + Clock + Threads + Wait + Sync, I: R
             stats: false,
         } => {
             let progress = Progress::new(rt, terminals, quiet, false);
-            let outcome = if explain {
-                run_explained(rt, alloc, reader, workers, &progress, &mut writer, why)
-            } else {
-                run_trace(rt, alloc, reader, workers, &progress, &mut writer)
-            };
-            progress.end();
-            outcome
+            let mut writer = progress.noting(writer);
+            progress.during(
+                || -> Result<(), AppFault>
+                    requires { (1 ≤ workers) × (workers ≤ 8) }
+                {
+                    if explain {
+                        run_explained(rt, alloc, reader, workers, &progress, &mut writer, why)
+                    } else {
+                        run_trace(rt, alloc, reader, workers, &progress, &mut writer)
+                    }
+                },
+            )
         }
         Task::Check { workers } => check(alloc, reader, workers, why),
     }
@@ -233,12 +247,7 @@ fn done_with_input<R: AllocGlobal + Input + Print + Eprint + Clock + Threads + W
 ) -> u8
     requires { HasFew task }
 {
-    if terminals.input {
-        complain(
-            rt,
-            "evsched: reading a document from standard input, to its end (Ctrl-D); evsched --help says more",
-        );
-    }
+    await_document(rt, terminals.input);
     done(rt, task, explain, &mut rt.reader(), terminals)
 }
 
@@ -269,6 +278,17 @@ fn run<R: AllocGlobal + Files + Input + Print + Eprint + Clock + Threads + Wait 
             Some(file) => done_with_file(rt, task, explain, file, terminals),
             None => done_with_input(rt, task, explain, terminals),
         },
+        Ok(
+            Choice::Drawing {
+                document,
+                log,
+                explain,
+            },
+        ) => {
+            let document = document.and_then(|word| words.get(word)).copied();
+            let log = log.and_then(|word| words.get(word)).copied();
+            drawn_with_files(rt, document, log, explain, terminals.input)
+        }
         Ok(Choice::Judge { document, log }) => {
             let document = document.and_then(|word| words.get(word));
             let log = log.and_then(|word| words.get(word));

@@ -6,6 +6,7 @@ ghost use Rattle.command_line.specs.CommandLine.{HasFew};
 use anyhow::{Context, Result, bail};
 use arrayvec::ArrayString;
 use judge_app::{JudgeFault, judge_text, status_of};
+use log_pictures::{PictureFault, picture_of_log};
 use pipeline_app::{
     AppFault, Choice, Form, OpenGate, Task, check, choice, fault_line, play, play_as,
     run_explained, run_trace,
@@ -71,15 +72,29 @@ impl Ending {
             }
             Err(JudgeFault::Document(fault)) => AppFault::Document(fault),
             Err(JudgeFault::Memory) => AppFault::Memory,
-            Err(fault) => {
-                return Ok(Ending {
-                    status: BAD_LOG,
-                    output: Vec::new(alloc),
-                    complaint: format!(in alloc; "evsched: {fault}\n")?,
-                });
-            }
+            Err(fault) => return Ending::of_log_fault(alloc, &fault),
         };
         Ending::of(alloc, Err(fault), Vec::new(alloc), "")
+    }
+
+    /// The ending of the drawing of a log by a document.
+    fn of_drawing(alloc: Global, document: &[u8], log: &[u8]) -> Result<Ending, AllocError> {
+        let fault = match picture_of_log(alloc, document, log) {
+            Ok(picture) => return Ending::of(alloc, Ok(()), picture.into_bytes(), ""),
+            Err(PictureFault::Document(fault)) => AppFault::Document(fault),
+            Err(PictureFault::Memory) => AppFault::Memory,
+            Err(fault) => return Ending::of_log_fault(alloc, &fault),
+        };
+        Ending::of(alloc, Err(fault), Vec::new(alloc), "")
+    }
+
+    /// The ending of a run whose log has this fault.
+    fn of_log_fault<F: fmt::Display>(alloc: Global, fault: &F) -> Result<Ending, AllocError> {
+        Ok(Ending {
+            status: BAD_LOG,
+            output: Vec::new(alloc),
+            complaint: format!(in alloc; "evsched: {fault}\n")?,
+        })
     }
 
     /// Whether the run ended with this status and printed this, and nothing else: on standard output with status 0 and that of a broken
@@ -114,18 +129,33 @@ impl fmt::Display for Ending {
     }
 }
 
-/// The file that the words name as the document of a log on standard input, where they ask that it be judged.
-fn judged_by<'a>(alloc: Global, words: &[&'a str]) -> Option<&'a str> {
+/// What the words ask to be done with a log on standard input.
+#[derive(Clone, Copy)]
+enum LogTask {
+    Judge,
+    Draw,
+}
+
+/// What is done with a log on standard input, where the words ask for that, and the file that they name as its document.
+fn log_task<'a>(alloc: Global, words: &[&'a str]) -> Option<(LogTask, &'a str)> {
     let mut text = String::new(alloc);
-    match choice(alloc, words, &mut text) {
+    let (task, word) = match choice(alloc, words, &mut text) {
         Ok(
             Choice::Judge {
                 document: Some(word),
                 log: None,
             },
-        ) => words.get(word).copied(),
-        _ => None,
-    }
+        ) => (LogTask::Judge, word),
+        Ok(
+            Choice::Drawing {
+                document: Some(word),
+                log: None,
+                explain: false,
+            },
+        ) => (LogTask::Draw, word),
+        _ => return None,
+    };
+    Some((task, words.get(word).copied()?))
 }
 
 /// What the words after the program's name ask to be done with a document on standard input, and whether its fault is explained.
@@ -150,9 +180,12 @@ fn task_of(alloc: Global, words: &[&str]) -> Result<(Task, bool)>
                 explain,
             },
         ) => Ok((task, explain)),
-        Ok(Choice::Document { .. } | Choice::Judge { .. } | Choice::Example { .. }) => {
-            bail!("the index has words that ask for another document")
-        }
+        Ok(
+            Choice::Document { .. }
+            | Choice::Drawing { .. }
+            | Choice::Judge { .. }
+            | Choice::Example { .. },
+        ) => bail!("the index has words that ask for another document"),
         Err(_) => bail!("the index has words that ask for no run: {text}"),
     }
 }
@@ -165,9 +198,12 @@ pub fn ending_of<R: AllocGlobal + Files + Threads + Wait + Sync>(
 ) -> Result<Ending> {
     let alloc = rt.alloc();
     let words: Vec<&str> = words.split(' ').collect(alloc)?;
-    if let Some(file) = judged_by(alloc, &words) {
-        let judging = fs::read(rt, file).context("the document of a log can't be read")?;
-        return Ok(Ending::of_judging(alloc, &judging, document)?);
+    if let Some((task, file)) = log_task(alloc, &words) {
+        let by = fs::read(rt, file).context("the document of a log can't be read")?;
+        return Ok(match task {
+            LogTask::Judge => Ending::of_judging(alloc, &by, document)?,
+            LogTask::Draw => Ending::of_drawing(alloc, &by, document)?,
+        });
     }
     let (task, explain) = task_of(alloc, &words)?;
     let mut reader = document;

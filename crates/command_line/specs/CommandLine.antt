@@ -25,9 +25,9 @@ abbrev pub AreFew : ℕ → Type 0
 AreFew n = (fewest_workers ≤ n) × (n ≤ most_workers)
 
 abbrev pub HasFew : Task → Type 0
-HasFew tasks.Play = Unit {0}
+HasFew (tasks.Play json) = Unit {0}
 HasFew tasks.Timeline = Unit {0}
-HasFew (tasks.Run n quiet stats) = AreFew n
+HasFew (tasks.Run n quiet stats json) = AreFew n
 HasFew (tasks.Check n) = AreFew n
 
 abbrev pub HasFewWorkers : Choice → Type 0

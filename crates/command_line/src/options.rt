@@ -36,16 +36,19 @@ pub enum Choice {
 /// What is done with a document.
 #[derive(Clone, Copy, Debug, PartialEq, Eq)]
 pub enum Task {
-    /// Its script is played.
-    Play,
+    /// Its script is played, and what happened is printed as JSON where `json`.
+    Play {
+        json: bool,
+    },
     /// Its script is played, and the picture of its log is drawn.
     Timeline,
     /// Its pipeline is run, with so many workers, from 1 to 8; how far the run has come isn't shown where `quiet`, and what was counted of
-    /// it is where `stats`.
+    /// it is where `stats`, as JSON where `json`.
     Run {
         workers: u32,
         quiet: bool,
         stats: bool,
+        json: bool,
     },
     /// Its fault is looked for, with so many workers where it is a pipeline's, from 1 to 8.
     Check {

@@ -45,6 +45,9 @@ const QUIET: &str = "quiet";
 /// The option that shows what was counted of a run.
 const STATS: &str = "stats";
 
+/// The option that prints JSON.
+const JSON: &str = "json";
+
 /// The file of a document, and the name of an example.
 const FILE: &str = "FILE";
 
@@ -106,6 +109,14 @@ fn stats_option<'a>(alloc: Global) -> Arg<'a> {
         .help("Print after the run what was counted, on standard error")
 }
 
+/// The option that prints JSON.
+fn json_option<'a>(alloc: Global, help: &'a str) -> Arg<'a> {
+    Arg::new(alloc, JSON)
+        .long(JSON)
+        .action(ArgAction::SetTrue)
+        .help(help)
+}
+
 /// The file of a document.
 fn file_word<'a>(alloc: Global) -> Arg<'a> {
     Arg::new(alloc, FILE).help("The document; standard input where it is left out or is -")
@@ -117,6 +128,7 @@ fn play_command<'a>(alloc: Global) -> Result<Command<'a>, AllocError> {
         .about("Play the script of a document, and print what happened")
         .after_help(AFTER_PLAY_HELP)
         .arg(explain_option(alloc))?
+        .arg(json_option(alloc, "Print JSON, one object a line, in place of the text"))?
         .arg(file_word(alloc))
 }
 
@@ -144,6 +156,10 @@ fn run_command<'a>(alloc: Global) -> Result<Command<'a>, AllocError> {
         .arg(explain_option(alloc))?
         .arg(quiet_option(alloc))?
         .arg(stats_option(alloc))?
+        .arg(json_option(
+            alloc,
+            "Print what was counted as JSON, one object a line; implies --stats",
+        ))?
         .arg(file_word(alloc))
 }
 
@@ -238,13 +254,13 @@ fn file_of(words: &[&str], options: &ArgMatches) -> Option<usize> {
 }
 
 /// The playing of a script.
-fn play_choice(file: Option<usize>, explain: bool) -> Choice
+fn play_choice(file: Option<usize>, explain: bool, json: bool) -> Choice
     ensures workers { HasFewWorkers result }
 {
-    if file.is_none() && !explain {
+    if file.is_none() && !explain && !json {
         return Choice::Play;
     }
-    let task = Task::Play;
+    let task = Task::Play { json };
     Choice::Document {
         task,
         file,
@@ -253,17 +269,25 @@ fn play_choice(file: Option<usize>, explain: bool) -> Choice
 }
 
 /// The run of a pipeline.
-fn run_choice(workers: u32, file: Option<usize>, explain: bool, quiet: bool, stats: bool) -> Choice
+fn run_choice(
+    workers: u32,
+    file: Option<usize>,
+    explain: bool,
+    quiet: bool,
+    stats: bool,
+    json: bool,
+) -> Choice
     requires { (fewest_workers ≤ workers) × (workers ≤ most_workers) }
     ensures workers { HasFewWorkers result }
 {
-    if file.is_none() && !explain && !quiet && !stats {
+    if file.is_none() && !explain && !quiet && !stats && !json {
         return Choice::Run { workers };
     }
     let task = Task::Run {
         workers,
         quiet,
-        stats,
+        stats: stats || json,
+        json,
     };
     Choice::Document {
         task,
@@ -300,8 +324,9 @@ fn chosen(words: &[&str], matches: &ArgMatches) -> Choice
     if let Some(options) = matches.subcommand_matches(RUN) {
         let workers = workers(options);
         let (explain, quiet) = (options.get_flag(EXPLAIN), options.get_flag(QUIET));
-        let stats = options.get_flag(STATS);
-        return run_choice(workers, file_of(words, options), explain, quiet, stats);
+        let (stats, json) = (options.get_flag(STATS), options.get_flag(JSON));
+        let file = file_of(words, options);
+        return run_choice(workers, file, explain, quiet, stats, json);
     }
     if let Some(options) = matches.subcommand_matches(CHECK) {
         return Choice::Document {
@@ -327,7 +352,10 @@ fn chosen(words: &[&str], matches: &ArgMatches) -> Choice
         };
     }
     match matches.subcommand_matches(PLAY) {
-        Some(options) => play_choice(file_of(words, options), options.get_flag(EXPLAIN)),
+        Some(options) => {
+            let (explain, json) = (options.get_flag(EXPLAIN), options.get_flag(JSON));
+            play_choice(file_of(words, options), explain, json)
+        }
         None => Choice::Play,
     }
 }

@@ -18,7 +18,7 @@ use example_documents::{EXAMPLES, example};
 use judging::judged_with_file;
 use noted::Noted;
 use pipeline_app::{
-    AppFault, Choice, Form, RunStats, Task, check, choice, fault_line, play, play_as,
+    AppFault, Choice, Form, RunStats, StatsForm, Task, check, choice, fault_line, play, play_as,
     run_explained, run_trace, run_with_counts,
 };
 use progress::Progress;
@@ -109,10 +109,20 @@ fn args<R: AllocGlobal + Env + Eprint>(rt: &R) -> Result<Vec<String>, u8> {
     }
 }
 
+/// The form of what was counted: JSON where `json`.
+fn form_of(json: bool) -> StatsForm {
+    if json {
+        StatsForm::Json
+    } else {
+        StatsForm::Text
+    }
+}
+
 /// Runs the document's trace, and prints what was counted of the run below what the run printed.
 fn run_with_stats<R: AllocGlobal + Print + Eprint + Clock + Threads + Wait + Sync, I: Read>(
     rt: &R,
     workers: u32,
+    form: StatsForm,
     reader: &mut I,
     progress: &Progress<'_, R>,
     why: &mut String,
@@ -123,15 +133,40 @@ fn run_with_stats<R: AllocGlobal + Print + Eprint + Clock + Threads + Wait + Syn
     let stats = progress.during(
         || -> Result<RunStats, AppFault>
             requires { (1 ≤ workers) × (workers ≤ 8) }
-        { run_with_counts(rt, alloc, reader, workers, progress, &mut writer, why) },
+        { run_with_counts(rt, alloc, reader, workers, form, progress, &mut writer, why) },
     )?;
     let ports = &stats.counts.threads.ports;
     let handled = ports
         .iter()
         .fold(0u64, |sum, port| sum.saturating_add(port.counts.dequeued));
-    progress.show_rates(handled);
+    progress.show_rates(handled, form);
     let _ = eprint!(rt; "{}", stats.text);
     Ok(())
+}
+
+/// Runs the document's trace. Where its fault is to be explained, `why` says where it is and why.
+fn run_alone<R: AllocGlobal + Print + Eprint + Clock + Threads + Wait + Sync, I: Read>(
+    rt: &R,
+    workers: u32,
+    explain: bool,
+    reader: &mut I,
+    progress: &Progress<'_, R>,
+    why: &mut String,
+) -> Result<(), AppFault>
+    requires { (1 ≤ workers) × (workers ≤ 8) }
+{
+    let (alloc, mut writer) = (rt.alloc(), progress.noting(io::writer(rt)));
+    progress.during(
+        || -> Result<(), AppFault>
+            requires { (1 ≤ workers) × (workers ≤ 8) }
+        {
+            if explain {
+                run_explained(rt, alloc, reader, workers, progress, &mut writer, why)
+            } else {
+                run_trace(rt, alloc, reader, workers, progress, &mut writer)
+            }
+        },
+    )
 }
 
 /// Does the task with the document that the reader gives. Where its fault is to be explained, `why` says where it is and why.
@@ -147,35 +182,27 @@ fn outcome<R: AllocGlobal + Print + Eprint + Clock + Threads + Wait + Sync, I: R
 {
     let (alloc, mut writer) = (rt.alloc(), io::writer(rt));
     match task {
-        Task::Play if explain => play_as(alloc, Form::Text, reader, &mut writer, why),
-        Task::Play => play(alloc, reader, &mut writer),
+        Task::Play { json: true } => play_as(alloc, Form::Json, reader, &mut writer, why),
+        Task::Play { .. } if explain => play_as(alloc, Form::Text, reader, &mut writer, why),
+        Task::Play { .. } => play(alloc, reader, &mut writer),
         Task::Timeline => play_as(alloc, Form::Picture, reader, &mut writer, why),
         Task::Run {
             workers,
             quiet,
             stats: true,
+            json,
         } => {
             let progress = Progress::new(rt, terminals, quiet, true);
-            run_with_stats(rt, workers, reader, &progress, why)
+            run_with_stats(rt, workers, form_of(json), reader, &progress, why)
         }
         Task::Run {
             workers,
             quiet,
             stats: false,
+            ..
         } => {
             let progress = Progress::new(rt, terminals, quiet, false);
-            let mut writer = progress.noting(writer);
-            progress.during(
-                || -> Result<(), AppFault>
-                    requires { (1 ≤ workers) × (workers ≤ 8) }
-                {
-                    if explain {
-                        run_explained(rt, alloc, reader, workers, &progress, &mut writer, why)
-                    } else {
-                        run_trace(rt, alloc, reader, workers, &progress, &mut writer)
-                    }
-                },
-            )
+            run_alone(rt, workers, explain, reader, &progress, why)
         }
         Task::Check { workers } => check(alloc, reader, workers, why),
     }
@@ -259,12 +286,13 @@ fn run<R: AllocGlobal + Files + Input + Print + Eprint + Clock + Threads + Wait 
 ) -> u8 {
     let mut text = String::new(rt.alloc());
     match choice(rt.alloc(), words, &mut text) {
-        Ok(Choice::Play) => done_with_input(rt, Task::Play, false, terminals),
+        Ok(Choice::Play) => done_with_input(rt, Task::Play { json: false }, false, terminals),
         Ok(Choice::Run { workers }) => {
             let task = Task::Run {
                 workers,
                 quiet: false,
                 stats: false,
+                json: false,
             };
             done_with_input(rt, task, false, terminals)
         }

@@ -1,7 +1,7 @@
 //! The progress of a run, shown while it goes on.
 
 use crate::terminals::Terminals;
-use pipeline_app::{Gate, Phase};
+use pipeline_app::{Gate, Phase, StatsForm};
 use std::io::Write;
 use std::sync::atomic::{AtomicBool, AtomicU64, Ordering};
 use std::sync::{Mutex, Wait};
@@ -88,13 +88,16 @@ fn share_of(count: u64, all: u64) -> u64 {
 }
 
 /// So many in so many microseconds: how many a second.
+fn per_second(count: u64, lasted: u64) -> u64 {
+    count
+        .saturating_mul(SECOND)
+        .checked_div(lasted)
+        .unwrap_or(0)
+}
+
+/// The same, to be shown.
 fn rate_of(count: u64, lasted: u64) -> Rate {
-    Rate(
-        count
-            .saturating_mul(SECOND)
-            .checked_div(lasted)
-            .unwrap_or(0),
-    )
+    Rate(per_second(count, lasted))
 }
 
 /// What the line tells of.
@@ -202,16 +205,24 @@ impl<'a, R: Clock + Eprint> Progress<'a, R> {
 
     /// Prints how long the trace's run lasted, and how many events a second its queues accepted as new and its workers, so many,
     /// handled.
-    pub fn show_rates(&self, handled: u64) {
+    pub fn show_rates(&self, handled: u64, form: StatsForm) {
         let from = self.from.load(Ordering::SeqCst);
         let lasted = self.to.load(Ordering::SeqCst).saturating_sub(from);
-        let _ = eprintln!(self.rt;
-            "time: {}.{:06} s, accepted {}, handled {}",
-            lasted / SECOND,
-            lasted % SECOND,
-            rate_of(self.events.load(Ordering::SeqCst), lasted),
-            rate_of(handled, lasted)
-        );
+        let accepted = self.events.load(Ordering::SeqCst);
+        let _ = match form {
+            StatsForm::Text => eprintln!(self.rt;
+                "time: {}.{:06} s, accepted {}, handled {}",
+                lasted / SECOND,
+                lasted % SECOND,
+                rate_of(accepted, lasted),
+                rate_of(handled, lasted)
+            ),
+            StatsForm::Json => eprintln!(self.rt;
+                "{{\"accepted\":{accepted},\"accepted_a_second\":{},\"handled\":{handled},\"handled_a_second\":{},\"microseconds\":{lasted},\"stats\":\"time\"}}",
+                per_second(accepted, lasted),
+                per_second(handled, lasted)
+            ),
+        };
     }
 
     /// Writes how many events were accepted.

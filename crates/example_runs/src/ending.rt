@@ -164,12 +164,13 @@ fn task_of(alloc: Global, words: &[&str]) -> Result<(Task, bool)>
 {
     let mut text = String::new(alloc);
     match choice(alloc, words, &mut text) {
-        Ok(Choice::Play) => Ok((Task::Play, false)),
+        Ok(Choice::Play) => Ok((Task::Play { json: false }, false)),
         Ok(Choice::Run { workers }) => {
             let task = Task::Run {
                 workers,
                 quiet: false,
                 stats: false,
+                json: false,
             };
             Ok((task, false))
         }
@@ -210,8 +211,13 @@ pub fn ending_of<R: AllocGlobal + Files + Threads + Wait + Sync>(
     let mut output = Vec::new(alloc);
     let mut why = String::new(alloc);
     let outcome = match task {
-        Task::Play if explain => { play_as(alloc, Form::Text, &mut reader, &mut output, &mut why) }
-        Task::Play => play(alloc, &mut reader, &mut output),
+        Task::Play { json: true } => {
+            play_as(alloc, Form::Json, &mut reader, &mut output, &mut why)
+        }
+        Task::Play { .. } if explain => {
+            play_as(alloc, Form::Text, &mut reader, &mut output, &mut why)
+        }
+        Task::Play { .. } => play(alloc, &mut reader, &mut output),
         Task::Timeline => play_as(alloc, Form::Picture, &mut reader, &mut output, &mut why),
         Task::Run { workers, .. } if explain => run_explained(
             rt,

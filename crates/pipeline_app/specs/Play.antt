@@ -1,4 +1,4 @@
--- What the program writes: the run of a script, as text or as a picture of its log.
+-- What the program writes: the run of a script, as text, as JSON or as a picture of its log.
 use Rattle.std.specs.Prelude.{ℕ, ◌≡◌, List, Option, Ok, Err, IfSome}
 use Rattle.std.specs.declared.alloc.Global.{Global}
 use Rattle.std.specs.declared.vec.Vec.{Vec}
@@ -15,12 +15,13 @@ use Rattle.command_line.specs.declared.fault.AppFault.{AppFault}
 use Rattle.command_line.specs.declared.fault.AppFault.TheVariants as app
 use Rattle.play_documents.specs.Command.{Line}
 use Rattle.play_documents.specs.Document.{Planned, IsNamedDoc, document_of}
+use Rattle.json_lines.specs.Lines.{json_text}
 use Rattle.play_text.specs.Text.{text_of}
 use Rattle.play_text.specs.declared.answer.Answer.{Answer}
 use Rattle.timelines.specs.Picture.{picture}
 use Rattle.pipeline_app.specs.Commands.{ArePlayed}
 use Rattle.pipeline_app.specs.declared.form.Form.{Form}
-use Rattle.pipeline_app.specs.declared.form.Form.TheVariants.{Text, Picture}
+use Rattle.pipeline_app.specs.declared.form.Form.TheVariants.{Text, Json, Picture}
 
 -- ---- what is made of a run, of the device's configuration, the commands' answers and the report of the stop
 
@@ -31,12 +32,17 @@ Making = Plan → List Answer → Report (Vec Step Global) → List ℕ
 abbrev pub run_form : Making
 run_form p answers report = text_of p.queues p.limit answers report
 
+-- the same as JSON, one object a line
+abbrev pub json_form : Making
+json_form p answers report = json_text p.queues p.limit answers report
+
 -- the picture of the log, with a row for each queue and each lane
 abbrev pub picture_form : Making
 picture_form p answers report = picture p.queues (lanes_of p) report.log.items
 
 abbrev pub form_of : Form → Making
 form_of Text = run_form
+form_of Json = json_form
 form_of Picture = picture_form
 
 -- ---- runs

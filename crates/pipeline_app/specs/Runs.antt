@@ -14,6 +14,10 @@ use Rattle.command_line.specs.declared.fault.AppFault.{AppFault}
 use Rattle.command_line.specs.declared.fault.AppFault.TheVariants as app
 use Rattle.play_documents.specs.Document.{IsNamedDoc}
 use Rattle.pipeline_threads.specs.Run.{AreWorks}
+use Rattle.pipeline_app.specs.declared.counted.StatsForm.{StatsForm}
+use Rattle.pipeline_app.specs.declared.counted.StatsForm.TheVariants.{Text, Json}
+use Rattle.run_counts.specs.CountsJson.{counts_json}
+use Rattle.run_counts.specs.CountsText.{counts_text}
 use Rattle.run_counts.specs.Waiting.{AreWorksOf}
 use Rattle.run_counts.specs.declared.text.Counts.{Counts}
 use Rattle.run_documents.specs.Pipelines.{Planned, pipeline_of}
@@ -115,3 +119,8 @@ IsRunFault p (app.Strayed log) = Strays p log.items
 abbrev pub run_fault : RunFault → AppFault
 run_fault runs.Memory = app.Memory
 run_fault runs.NoSeat = app.NoSeat
+
+-- what is said of what was counted
+abbrev pub stats_text : StatsForm → Counts → List ℕ
+stats_text Text c = counts_text c
+stats_text Json c = counts_json c

@@ -4,8 +4,7 @@ ghost use Rattle.std.specs.Prelude.{◌≡◌, ◌≤◌, IfOk, IfErr, string_by
 ghost use Rattle.evt_types.specs.declared.draft.Serving.TheVariants.{Flows, Ports};
 ghost use Rattle.pipeline_laws.specs.RunText.{plain_text};
 ghost use Rattle.command_line.specs.Input.{HasRead};
-ghost use Rattle.pipeline_app.specs.Runs.{AfterFault, AreRunCounts, HasCounts, HasText, IsEarlyFault, IsFaultOf, IsRunFault, IsRunnable, WritesText};
-ghost use Rattle.run_counts.specs.CountsText.{counts_text};
+ghost use Rattle.pipeline_app.specs.Runs.{AfterFault, AreRunCounts, HasCounts, HasText, IsEarlyFault, IsFaultOf, IsRunFault, IsRunnable, WritesText, stats_text};
 ghost use Rattle.run_documents.specs.Pipelines.{planned_of};
 
 use crate::checking::explain_input;
@@ -15,7 +14,7 @@ use document_checks::explain_run;
 use evt_types::{Serving, Step};
 use pipeline_laws::{AcceptedLog, answers_are_due};
 use pipeline_threads::{Gate, Phase, run_counted};
-use run_counts::{Counts, Waits, counts_of, write_counts};
+use run_counts::{Counts, Waits, counts_of, write_counts, write_counts_json};
 use run_documents::{Pipeline, read_pipeline};
 use std::alloc::{AllocError, Global};
 use std::io::{Read, Write};
@@ -152,32 +151,45 @@ fn counted_text<R: Threads + Wait + Sync, I: Read, G: Gate>(
     result
 }
 
+/// How what was counted of a run is said.
+#[derive(Clone, Copy, Debug, PartialEq, Eq)]
+pub enum StatsForm {
+    /// In words, a line of each queue, of each port, and of the sweeps.
+    Text,
+    /// As JSON, in as many lines with an object each.
+    Json,
+}
+
 /// What was counted of a run.
 #[derive(Drop)]
 pub struct RunStats {
     /// Of each queue how many events came, were given and waited at most, of each port what it enqueued, dequeued and was refused, and how
     /// often its worker looked for events, and how often the scheduler swept.
     pub counts: Counts,
-    /// The same in words.
+    /// The same in the form that was asked for.
     pub text: String,
 }
 
-/// What was counted, and its text.
-fn stats_of(alloc: Global, counts: Counts) -> Result<RunStats, AllocError>
+/// What was counted, and what is said of it in this form.
+fn stats_of(alloc: Global, form: StatsForm, counts: Counts) -> Result<RunStats, AllocError>
     ensures counts { IfOk result (λ stats. stats.counts ≡ counts) }
-    ensures text { IfOk result (λ stats. string_bytes stats.text ≡ counts_text counts) }
+    ensures text { IfOk result (λ stats. string_bytes stats.text ≡ stats_text form counts) }
 {
     let mut text = String::new(alloc);
-    write_counts(&counts, &mut text)?;
+    match form {
+        StatsForm::Text => write_counts(&counts, &mut text)?,
+        StatsForm::Json => write_counts_json(alloc, &counts, &mut text)?,
+    }
     Ok(RunStats { counts, text })
 }
 
-/// Does what `run_explained` does, and gives what was counted of the run.
+/// Does what `run_explained` does, and gives what was counted of the run, in this form.
 pub fn run_with_counts<R: Threads + Wait + Sync, I: Read, W: Write, G: Gate>(
     rt: &R,
     alloc: Global,
     reader: &mut I,
     workers: u32,
+    form: StatsForm,
     gate: &G,
     writer: &mut W,
     why: &mut String,
@@ -185,13 +197,13 @@ pub fn run_with_counts<R: Threads + Wait + Sync, I: Read, W: Write, G: Gate>(
     requires { (1 ≤ workers) × (workers ≤ 8) }
     ensures ok { IfOk result (λ _. WritesText workers (I.remaining reader.old) (W.contents writer.old) (W.contents writer.new)) }
     ensures counts { IfOk result (λ stats. HasCounts workers (I.remaining reader.old) stats.counts) }
-    ensures stats { IfOk result (λ stats. string_bytes stats.text ≡ counts_text stats.counts) }
+    ensures stats { IfOk result (λ stats. string_bytes stats.text ≡ stats_text form stats.counts) }
     ensures err { IfErr result (AfterFault workers (I.remaining reader.old) (W.contents writer.old) (W.contents writer.new)) }
     ensures fault { IfErr result (IsFaultOf workers (I.remaining reader.old)) }
     ensures reads { HasRead (I.remaining reader.old) (I.remaining reader.new) result }
 {
     let (text, counts) = counted_text(rt, alloc, reader, workers, gate, why)?;
-    let stats = stats_of(alloc, counts)?;
+    let stats = stats_of(alloc, form, counts)?;
     gate.begins(Phase::Writing);
     write_text(writer, text.as_bytes())?;
     Ok(stats)

@@ -1,4 +1,4 @@
-//! What is made of a run: the text of all that happened, or the picture of its log.
+//! What is made of a run: the text of all that happened, the same as JSON, or the picture of its log.
 
 ghost use Rattle.std.specs.Prelude.{◌≡◌, ◌+◌, ◌<◌, ◌^◌, All, IfOk, length, string_bytes};
 ghost use Rattle.evt_types.specs.Plan.{Plan, lanes_of};
@@ -8,6 +8,7 @@ ghost use Rattle.pipeline_app.specs.Play.{form_of};
 
 use event_answers::Report;
 use evt_types::QueueDraft;
+use json_lines::json_of;
 use play_text::{Answer, text_of};
 use std::alloc::{AllocError, Global};
 use timelines::timeline;
@@ -17,6 +18,8 @@ use timelines::timeline;
 pub enum Form {
     /// The text of the answers, the log and the report.
     Text,
+    /// The same as JSON, one object a line.
+    Json,
     /// The picture of the log, in SVG.
     Picture,
 }
@@ -38,6 +41,7 @@ pub(crate) fn made_of(
 {
     match form {
         Form::Text => text_of(alloc, queues, limit, answers, report),
+        Form::Json => json_of(alloc, queues, limit, answers, report),
         Form::Picture => timeline(alloc, queues, lanes, &report.log),
     }
 }

@@ -11,7 +11,7 @@ mod run;
 
 pub use checking::check;
 pub use command_line::{AppFault, Choice, Task, choice, fault_line};
-pub use counted::{RunStats, run_with_counts};
+pub use counted::{RunStats, StatsForm, run_with_counts};
 pub use drive::{play, play_as};
 pub use form::Form;
 pub use pipeline_threads::{Gate, OpenGate, Phase};

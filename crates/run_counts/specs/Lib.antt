@@ -1,3 +1,4 @@
 pub mod CountsText
 pub mod Looking
 pub mod Waiting
+pub mod CountsJson

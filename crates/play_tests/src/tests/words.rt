@@ -3,7 +3,7 @@
 use command_line::{Choice, Task, choice};
 
 /// The words after the program's name, what they ask for or the status to end with, and a part of what is printed.
-static LINES: [(&[&str], Result<Choice, u8>, &str); 27] = [
+static LINES: [(&[&str], Result<Choice, u8>, &str); 30] = [
     (&["play"], Ok(Choice::Play), ""),
     (&["--help"], Err(0), "Usage: evsched <COMMAND>"),
     (&["help"], Err(0), "docs/FORMATS.md"),
@@ -16,7 +16,7 @@ static LINES: [(&[&str], Result<Choice, u8>, &str); 27] = [
     (
         &["play", "now"],
         Ok(Choice::Document {
-            task: Task::Play,
+            task: Task::Play { json: false },
             file: Some(1),
             explain: false,
         }),
@@ -56,6 +56,7 @@ static LINES: [(&[&str], Result<Choice, u8>, &str); 27] = [
                 workers: 2,
                 quiet: false,
                 stats: false,
+                json: false,
             },
             file: Some(2),
             explain: true,
@@ -69,6 +70,7 @@ static LINES: [(&[&str], Result<Choice, u8>, &str); 27] = [
                 workers: 3,
                 quiet: true,
                 stats: false,
+                json: false,
             },
             file: None,
             explain: false,
@@ -82,9 +84,42 @@ static LINES: [(&[&str], Result<Choice, u8>, &str); 27] = [
                 workers: 2,
                 quiet: false,
                 stats: true,
+                json: false,
             },
             file: None,
             explain: false,
+        }),
+        "",
+    ),
+    (
+        &["run", "--json"],
+        Ok(Choice::Document {
+            task: Task::Run {
+                workers: 2,
+                quiet: false,
+                stats: true,
+                json: true,
+            },
+            file: None,
+            explain: false,
+        }),
+        "",
+    ),
+    (
+        &["play", "--json"],
+        Ok(Choice::Document {
+            task: Task::Play { json: true },
+            file: None,
+            explain: false,
+        }),
+        "",
+    ),
+    (
+        &["play", "--explain", "--json", "now"],
+        Ok(Choice::Document {
+            task: Task::Play { json: true },
+            file: Some(3),
+            explain: true,
         }),
         "",
     ),

@@ -1,0 +1,12 @@
+//! A played script as JSON, one object a line: what its calls answered, the transcript, and what is left in the device.
+#![tactic(auto)]
+
+mod answers;
+mod lines;
+mod log;
+mod objects;
+mod report;
+#[cfg(test)]
+mod tests;
+
+pub use lines::json_of;

@@ -6,7 +6,5 @@ mod lines;
 mod log;
 mod objects;
 mod report;
-#[cfg(test)]
-mod tests;
 
 pub use lines::json_of;

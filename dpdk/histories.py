@@ -113,15 +113,29 @@ def misled(entries):
     return {place: entry.changed(queue=0)}
 
 
+def enqueued(entries):
+    """For each event of the first queue, to which the producer brings them all, the place of its enqueue; and for each flow these places."""
+    places, flows = {}, defaultdict(list)
+    for place, entry in enumerate(entries):
+        if entry.is_event() and not entry.is_got() and entry.queue == 0:
+            places[entry.value()] = place
+            flows[entry.flow].append(place)
+    return places, flows
+
+
 def shared(entries):
-    """Of two events of the atomic first queue that two ports held at the same time the second has the first one's flow, also when it was sent."""
+    """Of two events of the atomic first queue that two ports held at the same time the second has the first one's flow, also when it was
+    sent; of that flow it is the one that comes next."""
     until, held = answer_times(entries), {}
+    places, flows = enqueued(entries)
     for place, entry in enumerate(entries):
         if not entry.is_got() or entry.queue != 0:
             continue
         for other in held.values():
             one = entries[other]
-            if one.port != entry.port and one.flow != entry.flow and all(until[i] is None or until[i] > entry.ended for i in (other, place)):
+            first, second = places[one.value()], places[entry.value()]
+            is_next = first < second and not any(first < i < second for i in flows[one.flow])
+            if is_next and one.port != entry.port and one.flow != entry.flow and all(until[i] is None or until[i] > entry.ended for i in (other, place)):
                 return {i: e.changed(flow=one.flow) for i, e in enumerate(entries) if e.is_event() and e.value() == entry.value()}
         held[entry.port] = place
     raise StopIteration
@@ -139,11 +153,11 @@ def lost(entries):
 
 
 def overtaken(entries):
-    """Two events of a flow that one port dequeued, both enqueued before, came in the other order."""
+    """Two events of a flow that one port dequeued from the first queue, both enqueued before, came in the other order."""
     sent, last = sent_times(entries), {}
     for place, entry in second_half(entries):
-        if entry.is_got():
-            key = entry.port, entry.queue, entry.flow
+        if entry.is_got() and entry.queue == 0:
+            key = entry.port, entry.flow
             before = last.get(key)
             if before is not None and sent[entry.value()] < entries[before].began:
                 return {before: entries[before].changed(payload=entry.payload), place: entry.changed(payload=entries[before].payload)}
@@ -151,11 +165,12 @@ def overtaken(entries):
     raise StopIteration
 
 
-# What is said first of each; nothing says that an event must come, and the order of a flow isn't judged.
+# What is said first of each; nothing says that an event must come.
 KINDS = {
     exchanged: "broken at line [0-9]+: Early: .*", doubled: "broken at line [0-9]+: Unsent: .*", replaced: "broken at line [0-9]+: Unsent: .*",
     misled: "broken at line [0-9]+: Unlinked: .*", shared: "broken at line [0-9]+: Together: .*",
-    unanswered: "broken at line [0-9]+: Overfull: .*", lost: "no breach", overtaken: "no breach",
+    unanswered: "broken at line [0-9]+: Overfull: .*", lost: "no breach",
+    overtaken: "broken at line [0-9]+: Overtaken: .*",
 }
 
 

@@ -2,8 +2,9 @@
 use Rattle.std.specs.Prelude.{ℕ, ◌≡◌, ◌+◌, ◌≤◌, Bool, true, false, cond, ◌&&◌, List, [], ◌∷◌, ◌++◌, ◌==◌, length, count_by, Option, Some, None, slice_get, ◌⊎◌}
 use Rattle.std.specs.List.{cons_option}
 use Rattle.std.proofs.Common.{zero, suc, refl, sym, ap, ◌∙◌, subst, arith, inl, inr, ⊎_elim}
-use Rattle.std.proofs.lemmas.Bool.{and_from, and_left, and_parts, and_right, cases_Bool, cond-true}
+use Rattle.std.proofs.lemmas.Bool.{and_from, and_left, and_parts, and_right, cases_Bool, cond-true, false≢true}
 use Rattle.std.proofs.lemmas.List.{take_all}
+use Rattle.evt_types.specs.Operation.{is_new_op}
 use Rattle.evt_types.specs.Plan.{Plan}
 use Rattle.evt_types.specs.declared.event.Event.{Event}
 use Rattle.evt_types.specs.declared.event.Numbered.{Numbered}
@@ -12,7 +13,7 @@ use Rattle.evt_types.specs.declared.step.Source.TheVariants.{New, Of}
 use Rattle.evt_types.specs.declared.step.Step.{Step}
 use Rattle.evt_types.specs.declared.step.Step.TheVariants.{Accept, Give, Done, More, Turned, Bounced, Shut}
 use Rattle.lists.proofs.Lists.{eqb_is, eqb_same}
-use Rattle.lists.proofs.Parts.{count_by-cons, count_by-front}
+use Rattle.lists.proofs.Parts.{count_by-append, count_by-cons, count_by-front}
 use Rattle.lists.specs.Lists.{with_past}
 use Rattle.transcripts.specs.Lawful.{GivesOnce, HasOrigin, Lawful}
 use Rattle.transcripts.specs.Replies.{Said, replies_in, said_in}
@@ -223,18 +224,15 @@ sent_few c past (s ∷ T) =
     one (Bounced l) = omega arith
     one Shut = omega arith
 
-passed_few : (p : Plan) (c : Event → Bool) (T : List Step) → Lawful p T → count_by (enters_of c) T ≤ count_by (passes c) T
+passed_few : (c : Event → Bool) (T : List Step) → HasOrigin T → count_by (enters_of c) T ≤ count_by (passes c) T
 unfolding taken forwards sent
-passed_few p c T lawful =
+passed_few c T origin =
     omega (
       arith,
       count_by_keys same_pair same_pair_is same_pair_self source_of (λ (y : (ℕ × ℕ) × Event). y.0) (enters_of c) (λ (y : (ℕ × ℕ) × Event). c y.1) T (sent T) each,
       sent_few c [] T,
     )
   where
-    origin : HasOrigin T
-    origin = subst HasOrigin (take_all (length T) T (omega arith)) (lawful.origin (length T) (omega arith))
-
     each : (x : ℕ × ℕ) → count_by (λ s. same_pair (source_of s) x && enters_of c s) T ≤ count_by (λ (y : (ℕ × ℕ) × Event). same_pair y.0 x && c y.1) (sent T)
     each x =
         omega (
@@ -277,13 +275,56 @@ says_by c (Turned l e) = omega arith
 says_by c (Bounced l) = omega arith
 says_by c Shut = omega arith
 
-pub accepts_few : (p : Plan) (c : Event → Bool) (T : List Step) → Lawful p T → count_by (accepts c) T ≤ count_by (says c) T
-accepts_few p c T lawful =
+pub has_origin : (p : Plan) (T : List Step) → Lawful p T → HasOrigin T
+has_origin p T lawful = subst HasOrigin (take_all (length T) T (omega arith)) (lawful.origin (length T) (omega arith))
+
+pub accepts_few : (c : Event → Bool) (T : List Step) → HasOrigin T → count_by (accepts c) T ≤ count_by (says c) T
+accepts_few c T origin =
     omega (
       arith,
       counts_split (enters_new c) (enters_of c) (accepts c) T (enters_by c),
-      passed_few p c T lawful,
+      passed_few c T origin,
       counts_join (enters_new c) (passes c) (says c) T (says_by c),
+    )
+
+-- a NEW with an event of the class is taken
+abbrev pub says_new : (Event → Bool) → Step → Bool
+says_new c (Accept q e (New l)) = c e
+says_new c (Turned l e) = c e
+says_new c s = false
+
+says_as_new : (c : Event → Bool) (s : Step) → cond {A = ℕ} (says_new c s) 1 0 + cond {A = ℕ} (passes c s) 1 0 ≤ cond {A = ℕ} (says c s) 1 0
+says_as_new c (Accept q e (New l)) = omega arith
+says_as_new c (Accept q e (Of r n)) = omega arith
+says_as_new c (Give l q n) = omega arith
+says_as_new c (Done l (Forwarded e)) = omega arith
+says_as_new c (Done l Released) = omega arith
+says_as_new c (More l e) = omega arith
+says_as_new c (Turned l e) = omega arith
+says_as_new c (Bounced l) = omega arith
+says_as_new c Shut = omega arith
+
+enters_said : (c : Event → Bool) (s : Step) → enters_new c s ≡ true → says_new c s ≡ true
+enters_said c (Accept q e (New l)) is = is
+enters_said c (Accept q e (Of r n)) is = cc
+enters_said c (Give l q n) is = cc
+enters_said c (Done l o) is = cc
+enters_said c (More l e) is = cc
+enters_said c (Turned l e) is = cc
+enters_said c (Bounced l) is = cc
+enters_said c Shut is = cc
+
+-- what is accepted later isn't what was said as new before
+pub accepted_later : (c : Event → Bool) (P R : List Step) → HasOrigin (P ++ R) → count_by (says_new c) P + count_by (accepts c) R ≤ count_by (says c) (P ++ R)
+accepted_later c P R origin =
+    omega (
+      arith,
+      counts_split (enters_new c) (enters_of c) (accepts c) R (enters_by c),
+      passed_few c (P ++ R) origin,
+      count_by-append (enters_of c) P R,
+      count_le (enters_new c) (says_new c) R (enters_said c),
+      count_by-append (says_new c) P R,
+      counts_join (says_new c) (passes c) (says c) (P ++ R) (says_as_new c),
     )
 
 -- ---- lane by lane
@@ -335,3 +376,27 @@ unfolding replies_in
 replies_counted c T l =
     count_agree (λ s. (lane_saying s == l) && says c s) (λ s. some_is (is_said c) (said_in l s)) T (said_here c l)
     ∙ sym (count_filter_map (is_said c) (said_in l) T)
+
+-- whether a NEW with an event of the class is said
+abbrev pub is_said_new : (Event → Bool) → Said → Bool
+is_said_new c x = is_new_op x.op && some_is c x.event
+
+said_new_here : (c : Event → Bool) (l : ℕ) (s : Step) → some_is (is_said_new c) (said_in l s) ≡ true → says_new c s ≡ true
+said_new_here c l (Accept q e (New m)) is = (and_parts (m == l) (c e) (sym (some_if (is_said_new c) (m == l) _) ∙ is)).1
+said_new_here c l (Accept q e (Of r n)) is = cc
+said_new_here c l (Give m q n) is = cc
+said_new_here c l (Done m (Forwarded e)) is = absurd (false≢true (sym (and_right (m == l) false refl) ∙ (sym (some_if (is_said_new c) (m == l) _) ∙ is)))
+said_new_here c l (Done m Released) is = absurd (false≢true (sym (and_right (m == l) false refl) ∙ (sym (some_if (is_said_new c) (m == l) _) ∙ is)))
+said_new_here c l (More m e) is = absurd (false≢true (sym (and_right (m == l) false refl) ∙ (sym (some_if (is_said_new c) (m == l) _) ∙ is)))
+said_new_here c l (Turned m e) is = (and_parts (m == l) (c e) (sym (some_if (is_said_new c) (m == l) _) ∙ is)).1
+said_new_here c l (Bounced m) is = cc
+said_new_here c l Shut is = cc
+
+pub new_counted : (c : Event → Bool) (T : List Step) (l : ℕ) → count_by (is_said_new c) (replies_in T l) ≤ count_by (says_new c) T
+unfolding replies_in
+new_counted c T l =
+    omega (
+      arith,
+      count_filter_map (is_said_new c) (said_in l) T,
+      count_le (λ s. some_is (is_said_new c) (said_in l s)) (says_new c) T (said_new_here c l),
+    )

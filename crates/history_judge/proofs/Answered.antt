@@ -6,13 +6,13 @@ use Rattle.std.specs.declared.alloc.Global.{Global}
 use Rattle.std.specs.declared.vec.Vec.{Vec}
 use Rattle.evt_types.specs.Fault.{IsWithinLimits}
 use Rattle.evt_types.specs.Plan.{Plan}
-use Rattle.history_judge.specs.Breaches.{IsAnswer, IsBreach, IsOverfull, IsTogether, IsUnlinked}
+use Rattle.history_judge.specs.Breaches.{IsAnswer, IsBreach, IsOverfull, IsOvertaken, IsTogether, IsUnlinked}
 use Rattle.history_judge.specs.Entries.{IsRefused}
 use Rattle.history_judge.specs.Holds.{AreTimes}
 use Rattle.history_judge.specs.Values.{IsExcess, IsPremature}
 use Rattle.history_judge.specs.Watching.{IsFit}
 use Rattle.history_judge.specs.declared.breach.Breach.{Breach}
-use Rattle.history_judge.specs.declared.breach.Breach.TheVariants.{Unlinked, Together, Unsent, Early, Overfull}
+use Rattle.history_judge.specs.declared.breach.Breach.TheVariants.{Unlinked, Together, Unsent, Early, Overtaken, Overfull}
 use Rattle.history_judge.specs.declared.fault.HistoryFault.{HistoryFault}
 use Rattle.history_judge.specs.declared.fault.HistoryFault.TheVariants as faults
 use Rattle.history_judge.specs.declared.seen.Seen.{Seen}
@@ -30,16 +30,17 @@ fit p hs times within judged linked noted =
 
 -- events of two ports that are held together, or no breach at all
 pub answered : (p : Plan) (hs : List Seen) (found : Option (ℕ × ℕ)) (r : Option Breach) → ((i : ℕ) → ¬ IsUnlinked p hs i) → ((i : ℕ) → ¬ IsExcess hs i) → ((i : ℕ) → ¬ IsPremature hs i)
-    → ((i : ℕ) → ¬ IsOverfull p hs i)
+    → ((i j : ℕ) → ¬ IsOvertaken p hs i j) → ((i : ℕ) → ¬ IsOverfull p hs i)
     → IfSome found (λ x. IsTogether p hs x.0 x.1) → IfNone found ((i j : ℕ) → ¬ IsTogether p hs i j)
     → (Post : ℕ × ℕ → Breach → Type 0) → ((x : ℕ × ℕ) (b : Breach) → Post x b → b ≡ Together x.0 x.1) → MatchOption found (r ≡ None) (λ x. IsSomeAnd r (Post x)) → IsAnswer p hs r
-answered p hs None r linked sent timely fits held apart Post tells is = subst (IsAnswer p hs) (sym is) none
+answered p hs None r linked sent timely kept fits held apart Post tells is = subst (IsAnswer p hs) (sym is) none
   where
     none : (b : Breach) → ¬ IsBreach p hs b
     none (Unlinked i) bad = linked i bad
     none (Together i j) bad = apart i j bad
     none (Unsent i) bad = sent i bad.excess
     none (Early i) bad = timely i bad.premature
+    none (Overtaken i j) bad = kept i j bad
     none (Overfull i) bad = fits i bad
-answered p hs (Some x) (Some b) linked sent timely fits held apart Post tells is = subst (IsBreach p hs) (sym (tells x b is)) held
-answered p hs (Some x) None linked sent timely fits held apart Post tells is = absurd is
+answered p hs (Some x) (Some b) linked sent timely kept fits held apart Post tells is = subst (IsBreach p hs) (sym (tells x b is)) held
+answered p hs (Some x) None linked sent timely kept fits held apart Post tells is = absurd is

@@ -3,7 +3,7 @@ use Rattle.std.specs.Prelude.{ℕ, ◌≡◌, ◌≢◌, ◌<◌, true, List, []
 use Rattle.std.proofs.Common.{sym, ap, ◌∙◌, subst, arith, append-nil}
 use Rattle.std.proofs.lemmas.Bool.{and_from, both_ways, lt-ltb}
 use Rattle.std.proofs.lemmas.List.{take_all}
-use Rattle.evt_types.specs.Plan.{Plan, queue_of, is_atomic, serves, slot_of}
+use Rattle.evt_types.specs.Plan.{Plan, serves, slot_of}
 use Rattle.evt_types.specs.declared.event.Event.{Event}
 use Rattle.lists.proofs.Lists.{All-slice_get, All-unmap}
 use Rattle.transcripts.proofs.Facts.{out_is_accepted}
@@ -14,16 +14,17 @@ use Rattle.transcripts.specs.Transcript.{accepted, held_at, out, slot_at}
 use Rattle.world_laws.proofs.Consistent.{consistent_end, consistent_none, consistent_run}
 use Rattle.world_laws.proofs.Hands.{held_alone}
 use Rattle.world_laws.specs.Order.{IsHeldAlone, held_in}
-use Rattle.world_laws.specs.World.{World, Move, after_moves, empty, in_hand}
+use Rattle.world_laws.specs.World.{World, after_moves, empty, in_hand}
 use Rattle.history_judge.proofs.Held.{HoldsEvent, IsPairOf, held_in_hand, pair_of_got}
 use Rattle.history_judge.proofs.Moments.{made_by}
 use Rattle.history_judge.proofs.Overfull.{overfull_fits_none}
+use Rattle.history_judge.proofs.Overtaken.{overtaken_fits_none}
 use Rattle.history_judge.proofs.Premature.{early_fits_none}
 use Rattle.history_judge.proofs.Unsent.{unsent_fits_none}
 use Rattle.history_judge.specs.Breaches.{AreOfOneSlot, IsBreach, IsTogether, IsUnlinked, may_get}
-use Rattle.history_judge.specs.Histories.{Explains, IsImpossible, WasDone, WasGot, got_before}
+use Rattle.history_judge.specs.Histories.{IsImpossible, WasDone, WasGot, got_before}
 use Rattle.history_judge.specs.declared.breach.Breach.{Breach}
-use Rattle.history_judge.specs.declared.breach.Breach.TheVariants.{Unlinked, Together, Unsent, Early, Overfull}
+use Rattle.history_judge.specs.declared.breach.Breach.TheVariants.{Unlinked, Together, Unsent, Early, Overtaken, Overfull}
 use Rattle.history_judge.specs.declared.seen.Seen.{Seen}
 
 -- ---- what a port may get
@@ -93,4 +94,5 @@ breach_fits_none p hs (Unlinked i) b = unlinked_fits_none p hs i b
 breach_fits_none p hs (Together i j) b = together_fits_none p hs i j b
 breach_fits_none p hs (Unsent i) b = unsent_fits_none p hs i b
 breach_fits_none p hs (Early i) b = early_fits_none p hs i b
+breach_fits_none p hs (Overtaken i j) b = overtaken_fits_none p hs i j b
 breach_fits_none p hs (Overfull i) b = overfull_fits_none p hs i b

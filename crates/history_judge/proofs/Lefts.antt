@@ -3,7 +3,7 @@ use Rattle.std.specs.Prelude.{ℕ, ◌≡◌, ◌+◌, ◌<◌, Bool, true, fals
 use Rattle.std.specs.BTreeMap.{BTreeMap, Updates, get, is_at}
 use Rattle.std.specs.Option.{unwrap_or}
 use Rattle.std.specs.Ordering.{MatchOrdering, is_eq, nat_cmp, ordering_then}
-use Rattle.std.proofs.Common.{refl, sym, ap, ◌∙◌, arith, ◌-◌, Ordering, Less, Equal, Greater}
+use Rattle.std.proofs.Common.{refl, sym, ap, ◌∙◌, arith, Ordering, Less, Equal, Greater}
 use Rattle.std.proofs.lemmas.Bool.{and_from, cond-true}
 use Rattle.std.proofs.lemmas.Cmp.{ranked}
 use Rattle.std.proofs.lemmas.Option.{slice_get_within}
@@ -17,7 +17,7 @@ use Rattle.history_judge.specs.declared.values.Value.{Value}
 
 -- ---- equal keys
 
-eq_number : (n m : ℕ) → is_eq (nat_cmp n m) ≡ (m == n)
+pub eq_number : (n m : ℕ) → is_eq (nat_cmp n m) ≡ (m == n)
 eq_number n m = by_case (nat_cmp n m) (ranked n m (nat_cmp n m) refl)
   where
     by_case : (r : Ordering) → MatchOrdering r (n < m) (n ≡ m) (m < n) → is_eq r ≡ (m == n)
@@ -31,7 +31,7 @@ eq_then Equal o = refl
 eq_then Greater o = refl
 
 -- one field more
-eq_field : (n m : ℕ) (o : Ordering) (b : Bool) → is_eq o ≡ b → is_eq (ordering_then (nat_cmp n m) o) ≡ ((m == n) && b)
+pub eq_field : (n m : ℕ) (o : Ordering) (b : Bool) → is_eq o ≡ b → is_eq (ordering_then (nat_cmp n m) o) ≡ ((m == n) && b)
 eq_field n m o b rest = eq_then (nat_cmp n m) o ∙ (ap (λ a. a && is_eq o) (eq_number n m) ∙ ap (λ a. (m == n) && a) rest)
 
 pub is_at_value : (e f : Event) → is_at (value_cmp (value_of e)) (value_of f) ≡ is_same_but f e

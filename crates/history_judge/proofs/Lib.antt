@@ -11,7 +11,11 @@ pub mod Impossible
 pub mod InOrder
 pub mod Lefts
 pub mod Moments
+pub mod Numbers
 pub mod Overfull
+pub mod Overtaken
+pub mod Overtaking
+pub mod Precedence
 pub mod Premature
 pub mod RisingTimes
 pub mod Unsent

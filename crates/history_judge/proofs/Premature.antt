@@ -8,7 +8,7 @@ use Rattle.transcripts.specs.Replies.{replies_in}
 use Rattle.transcripts.specs.Transcript.{accepted}
 use Rattle.world_laws.proofs.Consistent.{consistent_none, consistent_run}
 use Rattle.world_laws.specs.World.{World, IsConsistent, after_moves, empty}
-use Rattle.history_judge.proofs.Accepted.{accepts_few, is_of, is_said, queue_few}
+use Rattle.history_judge.proofs.Accepted.{accepts_few, has_origin, is_of, is_said, queue_few}
 use Rattle.history_judge.proofs.ByKeys.{one_counted, some_is}
 use Rattle.history_judge.proofs.Fits.{Tells, submitted_few}
 use Rattle.history_judge.proofs.Held.{IsGivenIn, event_stays, given_by}
@@ -28,8 +28,8 @@ early_fits_none p hs i b moves v clock x =
       b.premature.none,
       one_counted (is_same_but e) (accepted now.log was.pair.0) was.pair.1 there,
       queue_few (is_same_but e) now.log was.pair.0,
-      accepts_few p (is_same_but e) now.log consistent.lawful,
-      says_few p now.log hs e (λ d u. sends_value e d && nat_le u.began s.ended) consistent.lawful b.ports by_port,
+      accepts_few (is_same_but e) now.log (has_origin p now.log consistent.lawful),
+      says_few p now.log hs e (λ d u. sends_value e d && nat_le u.began s.ended) consistent.lawful.formed b.ports by_port,
     )
   where
     s : Seen

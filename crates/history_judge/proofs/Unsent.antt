@@ -1,5 +1,5 @@
 -- In a run that fits what was seen no more events of one value are got than were sent.
-use Rattle.std.specs.Prelude.{ℕ, ◌≡◌, ◌+◌, ◌<◌, ◌≤◌, Bool, true, false, not, cond, ◌&&◌, List, [], ◌==◌, length, map, take, drop, count_by, Some, None, slice_get, ◌⊎◌}
+use Rattle.std.specs.Prelude.{ℕ, ◌≡◌, ◌+◌, ◌<◌, ◌≤◌, Bool, true, false, not, cond, ◌&&◌, List, [], ◌==◌, length, map, take, drop, All, count_by, Some, None, slice_get}
 use Rattle.std.proofs.Common.{zero, suc, refl, sym, ap, ◌∙◌, subst, arith, add-one, ⊎_elim}
 use Rattle.std.proofs.lemmas.Bool.{and_from, and_parts, cases_Bool, cases_lt, cond-true, cond-false, false≢true}
 use Rattle.std.proofs.lemmas.List.{take_all, take-append-drop}
@@ -19,12 +19,12 @@ use Rattle.lists.proofs.Lists.{eqb_is, eqb_other, eqb_same, filter_map-none, sli
 use Rattle.lists.proofs.Parts.{count_by-front, count_by-push, take_next}
 use Rattle.lists.proofs.Sums.{sum_of_map}
 use Rattle.transcripts.proofs.Account.{HasLane, formed_lanes}
-use Rattle.transcripts.specs.Lawful.{Lawful}
+use Rattle.transcripts.specs.Lawful.{IsFormed}
 use Rattle.transcripts.specs.Replies.{Said, replies_in, said, said_by, said_in}
 use Rattle.transcripts.specs.Transcript.{out}
 use Rattle.world_laws.proofs.Consistent.{consistent_end, consistent_none}
 use Rattle.world_laws.specs.World.{World, IsConsistent, Move, empty}
-use Rattle.history_judge.proofs.Accepted.{accepts_few, gives, gives_few, is_of, is_said, lane_given, lane_saying, out_counted, replies_counted, says}
+use Rattle.history_judge.proofs.Accepted.{accepts_few, gives, gives_few, has_origin, is_of, is_said, lane_given, lane_saying, out_counted, replies_counted, says}
 use Rattle.history_judge.proofs.ByKeys.{count_agree, count_by_keys, some_is}
 use Rattle.history_judge.proofs.Fits.{count_more, submitted_at}
 use Rattle.history_judge.specs.Breaches.{IsUnsent}
@@ -42,10 +42,10 @@ same_value d e f same =
 -- ---- a port's entries
 
 -- the port got, or sent, an event of the value
-abbrev got_here : Event → ℕ → Seen → Bool
+abbrev pub got_here : Event → ℕ → Seen → Bool
 got_here e l s = (s.port == l) && gets_value e s.deed
 
-abbrev sent_here : Event → ℕ → Seen → Bool
+abbrev pub sent_here : Event → ℕ → Seen → Bool
 sent_here e l s = (s.port == l) && sends_value e s.deed
 
 gets_some : (e : Event) (d : Deed) → gets_value e d ≡ true → gets d ≡ true
@@ -82,9 +82,9 @@ said_few p w l e c =
     )
 
 -- a lane that is no port's says nothing
-pub silent : (p : Plan) (T : List Step) (l : ℕ) → Lawful p T → lanes_of p ≤ l → replies_in T l ≡ []
+pub silent : (p : Plan) (T : List Step) (l : ℕ) → All (IsFormed p) T → lanes_of p ≤ l → replies_in T l ≡ []
 unfolding replies_in
-silent p T l lawful past = filter_map-none (said_in l) T (All-weaker (HasLane p) (λ s. said_in l s ≡ None) by_step T (formed_lanes p T lawful.formed))
+silent p T l formed past = filter_map-none (said_in l) T (All-weaker (HasLane p) (λ s. said_in l s ≡ None) by_step T (formed_lanes p T formed))
   where
     other : (m : ℕ) → m < lanes_of p → (m == l) ≡ false
     other m lt = eqb_other m l (λ same. omega (arith, lt, past, same))
@@ -101,17 +101,17 @@ silent p T l lawful past = filter_map-none (said_in l) T (All-weaker (HasLane p)
     by_step Shut there = refl
 
 -- in all, where each lane is a port's, and of each port no more was said than some entries tell of
-pub says_few : (p : Plan) (T : List Step) (hs : List Seen) (e : Event) (tells : Deed → Seen → Bool) → Lawful p T → is_flows p.serving ≡ false
+pub says_few : (p : Plan) (T : List Step) (hs : List Seen) (e : Event) (tells : Deed → Seen → Bool) → All (IsFormed p) T → is_flows p.serving ≡ false
     → ((l : ℕ) → l < length p.ports → count_by (is_said (is_same_but e)) (replies_in T l) ≤ count_by (λ (s : Seen). (s.port == l) && tells s.deed s) hs)
     → count_by (says (is_same_but e)) T ≤ count_by (λ (s : Seen). tells s.deed s) hs
-says_few p T hs e tells lawful plain by_port =
+says_few p T hs e tells formed plain by_port =
     count_by_keys (λ m n. m == n) eqb_is eqb_same lane_saying (λ (s : Seen). s.port) (says (is_same_but e)) (λ (s : Seen). tells s.deed s) T hs by_lane
   where
     by_lane : (l : ℕ) → count_by (λ s. (lane_saying s == l) && says (is_same_but e) s) T ≤ count_by (λ (s : Seen). (s.port == l) && tells s.deed s) hs
     by_lane l =
         ⊎_elim
         (λ port. omega (arith, replies_counted (is_same_but e) T l, by_port l port))
-        (λ past. omega (arith, replies_counted (is_same_but e) T l, ap (count_by (is_said (is_same_but e))) (silent p T l lawful (omega (arith, past, few_lanes p plain)))))
+        (λ past. omega (arith, replies_counted (is_same_but e) T l, ap (count_by (is_said (is_same_but e))) (silent p T l formed (omega (arith, past, few_lanes p plain)))))
         (cases_lt l (length p.ports))
 
 module _ (p : Plan) (hs : List Seen) (moves : List Move) (v : World) (clock : ℕ → ℕ) (x : Explains p hs moves v clock) (e : Event) where
@@ -179,7 +179,7 @@ module _ (p : Plan) (hs : List Seen) (moves : List Move) (v : World) (clock : �
 
   -- ---- what a port sent
 
-  sent_few : (l i : ℕ) → i ≤ length hs → count_by (brings e) (take (sent_before hs l i) (v.submitted l)) ≤ count_by (sent_here e l) (take i hs)
+  pub sent_few : (l i : ℕ) → i ≤ length hs → count_by (brings e) (take (sent_before hs l i) (v.submitted l)) ≤ count_by (sent_here e l) (take i hs)
   sent_few l zero within = omega arith
   sent_few l (suc i) within =
       let entry : (s : Seen) × (slice_get hs i ≡ Some s) = slice_get-some hs i (omega (arith, within)) in
@@ -236,7 +236,7 @@ module _ (p : Plan) (hs : List Seen) (moves : List Move) (v : World) (clock : �
         count_by-front pair_is (take (got_before hs l i) (out v.log l)) (drop (got_before hs l i) (out v.log l)) (out v.log l) (take-append-drop (got_before hs l i) (out v.log l)),
       )
 
-  sent_by_port : (l : ℕ) → l < length p.ports → count_by (is_said (is_same_but e)) (replies_in v.log l) ≤ count_by (sent_here e l) hs
+  pub sent_by_port : (l : ℕ) → l < length p.ports → count_by (is_said (is_same_but e)) (replies_in v.log l) ≤ count_by (sent_here e l) hs
   sent_by_port l port =
       omega (
         arith,
@@ -257,8 +257,8 @@ module _ (p : Plan) (hs : List Seen) (moves : List Move) (v : World) (clock : �
         count_by_keys (λ m n. m == n) eqb_is eqb_same (λ (s : Seen). s.port) lane_given (λ (s : Seen). gets_value e s.deed) (gives (is_same_but e) v.log) (take i hs) v.log
             (λ l. got_by_lane i l within),
         gives_few p (is_same_but e) v.log consistent.lawful,
-        accepts_few p (is_same_but e) v.log consistent.lawful,
-        says_few p v.log hs e (λ d s. sends_value e d) consistent.lawful plain sent_by_port,
+        accepts_few (is_same_but e) v.log (has_origin p v.log consistent.lawful),
+        says_few p v.log hs e (λ d s. sends_value e d) consistent.lawful.formed plain sent_by_port,
       )
 
 pub unsent_fits_none : (p : Plan) (hs : List Seen) (i : ℕ) → IsUnsent p hs i → IsImpossible p hs

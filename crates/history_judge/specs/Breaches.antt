@@ -1,12 +1,14 @@
 -- What no run of a device of the shape fits.
-use Rattle.std.specs.Prelude.{ℕ, ◌≡◌, ◌≢◌, ◌+◌, ◌<◌, true, false, ◌&&◌, Bool, List, nat_lt, length, Option, Some, None, slice_get}
-use Rattle.evt_types.specs.Plan.{Plan, depth_of, queue_of, is_atomic, is_flows, serves, slot_of}
+use Rattle.std.specs.Prelude.{ℕ, ◌≡◌, ◌≢◌, ◌+◌, ◌<◌, true, false, ◌&&◌, Bool, List, nat_lt, length, Option, Some, None, slice_get, ◌⊎◌}
+use Rattle.evt_types.specs.Operation.{is_new_reply}
+use Rattle.evt_types.specs.Plan.{Plan, depth_of, level_of, queue_of, is_atomic, is_flows, serves, slot_of}
 use Rattle.evt_types.specs.declared.event.Event.{Event}
+use Rattle.evt_types.specs.declared.event.Reply.{Reply}
 use Rattle.history_judge.specs.Histories.{IsHeldAt, answers_begun, gets, got_before}
-use Rattle.history_judge.specs.Values.{IsExcess, IsPremature}
+use Rattle.history_judge.specs.Values.{IsExcess, IsPremature, gets_value, times_sent}
 use Rattle.history_judge.specs.declared.breach.Breach.{Breach}
-use Rattle.history_judge.specs.declared.breach.Breach.TheVariants.{Unlinked, Together, Unsent, Early, Overfull}
-use Rattle.history_judge.specs.declared.seen.Deed.TheVariants.{Got}
+use Rattle.history_judge.specs.declared.breach.Breach.TheVariants.{Unlinked, Together, Unsent, Early, Overtaken, Overfull}
+use Rattle.history_judge.specs.declared.seen.Deed.TheVariants.{Got, Sent}
 use Rattle.history_judge.specs.declared.seen.Seen.{Seen}
 
 -- whether the event's queue is there, and the lane serves its slot
@@ -53,6 +55,40 @@ pub record IsEarly (p : Plan) (hs : List Seen) (i : ℕ) : Type 0 where
   pub ports : is_flows p.serving ≡ false
   pub premature : IsPremature hs i
 
+-- the entry got an event of a value that was sent once in the whole history, by a NEW
+pub record IsOnlyOne (hs : List Seen) (i : ℕ) : Type 0 where
+  pub place : ℕ
+  pub sender : Seen
+  pub enqueued : slice_get hs place ≡ Some sender
+  pub reply : Reply
+  pub sent : sender.deed ≡ Sent reply
+  pub new : is_new_reply reply ≡ true
+  pub once : times_sent hs reply.event ≡ 1
+  pub getter : Seen
+  pub dequeued : slice_get hs i ≡ Some getter
+  pub got : gets_value reply.event getter.deed ≡ true
+
+-- the two events are of one flow and level of an atomic queue
+pub record AreOfOneFlow (p : Plan) (e f : Event) : Type 0 where
+  pub atomic : is_atomic (queue_of p e.queue).kind ≡ true
+  pub queue : e.queue ≡ f.queue
+  pub flow : e.flow ≡ f.flow
+  pub level : level_of e ≡ level_of f
+
+-- the j-th entry's event was got before that of the i-th: before it by the same port, or by a call that ended before the other's began
+abbrev pub WasGotBefore : ℕ → Seen → ℕ → Seen → Type 0
+WasGotBefore j u i s = ((u.port ≡ s.port) × (j < i)) ⊎ (u.ended < s.began)
+
+-- A port enqueued two events of one flow and level of an atomic queue, and the other, which it enqueued later, was got first.
+pub record IsOvertaken (p : Plan) (hs : List Seen) (i j : ℕ) : Type 0 where
+  pub ports : is_flows p.serving ≡ false
+  pub one : IsOnlyOne hs i
+  pub other : IsOnlyOne hs j
+  pub sender : one.sender.port ≡ other.sender.port
+  pub later : one.place < other.place
+  pub same : AreOfOneFlow p one.reply.event other.reply.event
+  pub before : WasGotBefore j other.getter i one.getter
+
 -- Of the events that the port got, up to and with the i-th entry, more than its depth are in its hand for certain when that entry ends.
 pub record IsOverfull (p : Plan) (hs : List Seen) (i : ℕ) : Type 0 where
   pub seen : Seen
@@ -66,6 +102,7 @@ IsBreach p hs (Unlinked i) = IsUnlinked p hs i
 IsBreach p hs (Together i j) = IsTogether p hs i j
 IsBreach p hs (Unsent i) = IsUnsent p hs i
 IsBreach p hs (Early i) = IsEarly p hs i
+IsBreach p hs (Overtaken i j) = IsOvertaken p hs i j
 IsBreach p hs (Overfull i) = IsOverfull p hs i
 
 -- what is answered: a breach that it has, or that it has none

@@ -5,5 +5,6 @@ pub mod Entries
 pub mod Histories
 pub mod Holds
 pub mod Left
+pub mod Streams
 pub mod Values
 pub mod Watching

@@ -11,6 +11,8 @@ pub enum Breach {
     Unsent { at: usize },
     /// A port got an event before anyone began to enqueue one of its value.
     Early { at: usize },
+    /// Of two events of one flow and level that a port enqueued to an atomic queue the later one was dequeued first, by the other entry.
+    Overtaken { at: usize, other: usize },
     /// A port held more events than its depth.
     Overfull { at: usize },
 }

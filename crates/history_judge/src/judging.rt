@@ -10,6 +10,7 @@ use crate::early::first_premature;
 use crate::entries::{first_misplaced, first_unknown, first_unsorted};
 use crate::fault::HistoryFault;
 use crate::holds::{first_unlinked, port_count};
+use crate::order::first_overtaken;
 use crate::seen::Seen;
 use crate::times::answer_times;
 use crate::values::first_excess;
@@ -58,6 +59,9 @@ pub fn judge_history(
     }
     if let Some(at) = first_premature(alloc, history)? {
         return Ok(Some(Breach::Early { at }));
+    }
+    if let Some((at, other)) = first_overtaken(alloc, shape, history)? {
+        return Ok(Some(Breach::Overtaken { at, other }));
     }
     let _limits = shape.limit();
     let times = answer_times(alloc, port_count(shape), history)?;

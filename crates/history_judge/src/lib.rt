@@ -10,6 +10,7 @@ mod fault;
 mod holds;
 mod judging;
 mod laws;
+mod order;
 mod seen;
 mod times;
 mod values;

@@ -23,7 +23,7 @@ pub(crate) struct Value {
 }
 
 /// How many events of each value were sent and not got yet; where there is none, the value may be missing.
-type Left = BTreeMap<Value, usize>;
+pub(crate) type Left = BTreeMap<Value, usize>;
 
 /// Its value.
 pub(crate) fn value_of(event: &Event) -> Value
@@ -40,7 +40,7 @@ pub(crate) fn value_of(event: &Event) -> Value
 }
 
 /// How many of the event's value are left.
-fn count_left(left: &Left, event: &Event) -> usize
+pub(crate) fn count_left(left: &Left, event: &Event) -> usize
     ensures { result ≡ left_for left.now event.now }
 {
     match left.get(&value_of(event)) {
@@ -74,7 +74,7 @@ fn note_sent(left: &mut Left, seen: &Seen) -> Result<(), Memory>
 }
 
 /// How many events of each value were sent.
-fn all_sent(alloc: Global, history: &[Seen]) -> Result<Left, Memory>
+pub(crate) fn all_sent(alloc: Global, history: &[Seen]) -> Result<Left, Memory>
     ensures { IfOk result (λ left. AreAllSent history.now left) }
 {
     let mut left = BTreeMap::new(alloc);

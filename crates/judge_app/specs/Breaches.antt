@@ -3,7 +3,7 @@ use Rattle.std.specs.Prelude.{ℕ, ◌+◌, List, [], ◌++◌, length, nat_lt, 
 use Rattle.evt_types.specs.Plan.{Plan, depth_of}
 use Rattle.evt_types.specs.declared.event.Event.{Event}
 use Rattle.history_judge.specs.declared.breach.Breach.{Breach}
-use Rattle.history_judge.specs.declared.breach.Breach.TheVariants.{Unlinked, Together, Unsent, Early, Overfull}
+use Rattle.history_judge.specs.declared.breach.Breach.TheVariants.{Unlinked, Together, Unsent, Early, Overtaken, Overfull}
 use Rattle.history_judge.specs.declared.seen.Deed.{Deed}
 use Rattle.history_judge.specs.declared.seen.Deed.TheVariants.{Sent, Got}
 use Rattle.history_judge.specs.declared.seen.Seen.{Seen}
@@ -15,6 +15,7 @@ abbrev pub name_text : Breach → List ℕ
 name_text (Unlinked i) = codes "Unlinked"
 name_text (Unsent i) = codes "Unsent"
 name_text (Early i) = codes "Early"
+name_text (Overtaken i j) = codes "Overtaken"
 name_text (Overfull i) = codes "Overfull"
 name_text (Together i j) = codes "Together"
 
@@ -23,6 +24,7 @@ abbrev pub place_of : Breach → ℕ
 place_of (Unlinked i) = i
 place_of (Unsent i) = i
 place_of (Early i) = i
+place_of (Overtaken i j) = i
 place_of (Overfull i) = i
 place_of (Together i j) = i
 
@@ -52,6 +54,13 @@ abbrev pub of_entry : (Seen → List ℕ) → Option Seen → List ℕ
 of_entry f None = []
 of_entry f (Some s) = f s
 
+-- the port of the entry at j, of an event that was enqueued later and got before
+abbrev pub overtaker_text : ℕ → Seen → List ℕ
+overtaker_text j u = codes "port " ++ decimal u.port ++ codes " had got that of line " ++ decimal (j + 1) ++ codes ", which was enqueued later"
+
+abbrev pub overtaker_at : List Seen → ℕ → List ℕ
+overtaker_at hs j = of_entry (overtaker_text j) (slice_get hs j)
+
 -- the port of the entry at j
 abbrev pub holder_text : ℕ → Seen → List ℕ
 holder_text j u = codes "port " ++ decimal u.port ++ codes " held that of line " ++ decimal (j + 1)
@@ -64,6 +73,7 @@ abbrev pub why_text : Plan → List Seen → Breach → Seen → List ℕ
 why_text p hs (Unlinked i) s = codes "it is not linked to that queue"
 why_text p hs (Unsent i) s = codes "more such events were dequeued up to here than were enqueued in all"
 why_text p hs (Early i) s = codes "no call that enqueued such an event had begun"
+why_text p hs (Overtaken i j) s = overtaker_at hs j
 why_text p hs (Overfull i) s = depth_text (depth_at p s.port)
 why_text p hs (Together i j) s = other_text hs j
 
@@ -85,6 +95,7 @@ abbrev pub other_line : List Seen → Breach → List ℕ
 other_line hs (Unlinked i) = []
 other_line hs (Unsent i) = []
 other_line hs (Early i) = []
+other_line hs (Overtaken i j) = entry_line hs j
 other_line hs (Overfull i) = []
 other_line hs (Together i j) = entry_line hs j
 

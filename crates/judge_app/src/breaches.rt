@@ -16,6 +16,7 @@ fn name_of(breach: Breach) -> &'static str
         Breach::Unlinked { .. } => "Unlinked",
         Breach::Unsent { .. } => "Unsent",
         Breach::Early { .. } => "Early",
+        Breach::Overtaken { .. } => "Overtaken",
         Breach::Overfull { .. } => "Overfull",
         Breach::Together { .. } => "Together",
     }
@@ -29,6 +30,7 @@ fn place_of(breach: Breach) -> usize
         Breach::Unlinked { at }
         | Breach::Unsent { at }
         | Breach::Early { at }
+        | Breach::Overtaken { at, .. }
         | Breach::Overfull { at }
         | Breach::Together { at, .. } => at,
     }
@@ -83,6 +85,26 @@ fn write_got(port: usize, event: &Event, out: &mut String) -> Result<(), AllocEr
     out.push_str(": ")
 }
 
+/// Writes which port got the other event, and in which line.
+fn write_overtaker(other: &Seen, at: usize, out: &mut String) -> Result<(), AllocError>
+    ensures { OnOk result (string_bytes out.new ≡ string_bytes out.old ++ texts.overtaker_text at other.now) }
+{
+    let line = at as u128 + 1;
+    write!(out, "port {}", other.port)?;
+    write!(out, " had got that of line {line}")?;
+    out.push_str(", which was enqueued later")
+}
+
+/// The same of the entry at that place, if there is one.
+fn write_overtaker_at(history: &[Seen], at: usize, out: &mut String) -> Result<(), AllocError>
+    ensures { OnOk result (string_bytes out.new ≡ string_bytes out.old ++ texts.overtaker_at history.now at) }
+{
+    match history.get(at) {
+        Some(other) => write_overtaker(other, at, out),
+        None => Ok(()),
+    }
+}
+
 /// Writes which port held the other event, and in which line that one was dequeued.
 fn write_holder(other: &Seen, at: usize, out: &mut String) -> Result<(), AllocError>
     ensures { OnOk result (string_bytes out.new ≡ string_bytes out.old ++ texts.holder_text at other.now) }
@@ -124,6 +146,7 @@ fn write_why(
             "more such events were dequeued up to here than were enqueued in all",
         ),
         Breach::Early { .. } => out.push_str("no call that enqueued such an event had begun"),
+        Breach::Overtaken { other, .. } => write_overtaker_at(history, other, out),
         Breach::Overfull { .. } => write_depth(depth_at(shape, seen.port), out),
         Breach::Together { other, .. } => write_other(history, other, out),
     }
@@ -176,7 +199,9 @@ fn write_other_line(history: &[Seen], breach: Breach, out: &mut String) -> Resul
     ensures { OnOk result (string_bytes out.new ≡ string_bytes out.old ++ texts.other_line history.now breach) }
 {
     match breach {
-        Breach::Together { other, .. } => write_line(history, other, out),
+        Breach::Overtaken { other, .. } | Breach::Together { other, .. } => {
+            write_line(history, other, out)
+        }
         Breach::Unlinked { .. }
         | Breach::Unsent { .. }
         | Breach::Early { .. }

@@ -8,6 +8,7 @@ ghost use Rattle.command_line.specs.CommandLine.{HasFew};
 mod drawing;
 mod judging;
 mod noted;
+mod piped;
 mod progress;
 mod terminals;
 mod texts;
@@ -17,6 +18,7 @@ use drawing::drawn_with_files;
 use example_documents::{EXAMPLES, example};
 use judging::judged_with_file;
 use noted::Noted;
+use piped::Piped;
 use pipeline_app::{
     AppFault, Choice, Form, RunStats, StatsForm, Task, check, choice, fault_line, play, play_as,
     run_explained, run_trace, run_with_counts,
@@ -27,6 +29,7 @@ use std::io::{IsTerminal, Read};
 use std::process::ExitCode;
 use std::rt::{Env, Files};
 use std::sync::Wait;
+use std::sync::atomic::{AtomicBool, Ordering};
 use std::thread::Threads;
 use std::time::Clock;
 use std::{env, io};
@@ -38,6 +41,9 @@ pub(crate) const REFUSED: u8 = 2;
 
 /// The status after a log at fault.
 pub(crate) const BAD_LOG: u8 = 4;
+
+/// The status after a write that failed.
+const UNWRITTEN: u8 = 3;
 
 /// Prints a line on standard error.
 pub(crate) fn complain(rt: &impl Eprint, line: &str) {
@@ -64,11 +70,21 @@ fn explained(rt: &(impl Print + Eprint), status: u8, text: &str) -> u8 {
     }
 }
 
+/// Gives the status of a write that failed, and prints its line, but for a pipe from which nobody reads any more: then there is nobody to
+/// tell.
+fn unwritten(rt: &impl Eprint, is_closed: bool) -> u8 {
+    if is_closed {
+        UNWRITTEN
+    } else {
+        failed(rt, &AppFault::Write)
+    }
+}
+
 /// Prints a text on standard output, and gives the status.
 pub(crate) fn printed(rt: &(impl Print + Eprint), text: &str) -> u8 {
     match print!(rt; "{text}") {
         Ok(()) => 0,
-        Err(_) => failed(rt, &AppFault::Write),
+        Err(error) => unwritten(rt, error.kind() == io::ErrorKind::BrokenPipe),
     }
 }
 
@@ -88,8 +104,8 @@ fn shown(rt: &(impl Print + Eprint), name: &str) -> u8 {
 /// Prints the names of the examples, each with the command that takes it.
 fn listed(rt: &(impl Print + Eprint)) -> u8 {
     for (name, command) in &EXAMPLES {
-        if print!(rt; "{name}  (evsched {command})\n").is_err() {
-            return failed(rt, &AppFault::Write);
+        if let Err(error) = print!(rt; "{name}  (evsched {command})\n") {
+            return unwritten(rt, error.kind() == io::ErrorKind::BrokenPipe);
         }
     }
     0
@@ -125,11 +141,13 @@ fn run_with_stats<R: AllocGlobal + Print + Eprint + Clock + Threads + Wait + Syn
     form: StatsForm,
     reader: &mut I,
     progress: &Progress<'_, R>,
+    closed: &AtomicBool,
     why: &mut String,
 ) -> Result<(), AppFault>
     requires { (1 ≤ workers) × (workers ≤ 8) }
 {
-    let (alloc, mut writer) = (rt.alloc(), progress.noting(io::writer(rt)));
+    let alloc = rt.alloc();
+    let mut writer = progress.noting(Piped::new(io::writer(rt), closed));
     let stats = progress.during(
         || -> Result<RunStats, AppFault>
             requires { (1 ≤ workers) × (workers ≤ 8) }
@@ -151,11 +169,13 @@ fn run_alone<R: AllocGlobal + Print + Eprint + Clock + Threads + Wait + Sync, I:
     explain: bool,
     reader: &mut I,
     progress: &Progress<'_, R>,
+    closed: &AtomicBool,
     why: &mut String,
 ) -> Result<(), AppFault>
     requires { (1 ≤ workers) × (workers ≤ 8) }
 {
-    let (alloc, mut writer) = (rt.alloc(), progress.noting(io::writer(rt)));
+    let alloc = rt.alloc();
+    let mut writer = progress.noting(Piped::new(io::writer(rt), closed));
     progress.during(
         || -> Result<(), AppFault>
             requires { (1 ≤ workers) × (workers ≤ 8) }
@@ -169,18 +189,20 @@ fn run_alone<R: AllocGlobal + Print + Eprint + Clock + Threads + Wait + Sync, I:
     )
 }
 
-/// Does the task with the document that the reader gives. Where its fault is to be explained, `why` says where it is and why.
+/// Does the task with the document that the reader gives. Where its fault is to be explained, `why` says where it is and why; `closed` says
+/// whether standard output is a pipe from which nobody reads any more.
 fn outcome<R: AllocGlobal + Print + Eprint + Clock + Threads + Wait + Sync, I: Read>(
     rt: &R,
     task: Task,
     explain: bool,
     reader: &mut I,
     terminals: Terminals,
+    closed: &AtomicBool,
     why: &mut String,
 ) -> Result<(), AppFault>
     requires { HasFew task }
 {
-    let (alloc, mut writer) = (rt.alloc(), io::writer(rt));
+    let (alloc, mut writer) = (rt.alloc(), Piped::new(io::writer(rt), closed));
     match task {
         Task::Play { json: true } => play_as(alloc, Form::Json, reader, &mut writer, why),
         Task::Play { .. } if explain => play_as(alloc, Form::Text, reader, &mut writer, why),
@@ -193,7 +215,7 @@ fn outcome<R: AllocGlobal + Print + Eprint + Clock + Threads + Wait + Sync, I: R
             json,
         } => {
             let progress = Progress::new(rt, terminals, quiet, true);
-            run_with_stats(rt, workers, form_of(json), reader, &progress, why)
+            run_with_stats(rt, workers, form_of(json), reader, &progress, closed, why)
         }
         Task::Run {
             workers,
@@ -202,7 +224,7 @@ fn outcome<R: AllocGlobal + Print + Eprint + Clock + Threads + Wait + Sync, I: R
             ..
         } => {
             let progress = Progress::new(rt, terminals, quiet, false);
-            run_alone(rt, workers, explain, reader, &progress, why)
+            run_alone(rt, workers, explain, reader, &progress, closed, why)
         }
         Task::Check { workers } => check(alloc, reader, workers, why),
     }
@@ -219,8 +241,10 @@ fn done<R: AllocGlobal + Print + Eprint + Clock + Threads + Wait + Sync, I: Read
     requires { HasFew task }
 {
     let mut why = String::new(rt.alloc());
-    match outcome(rt, task, explain, reader, terminals, &mut why) {
+    let closed = AtomicBool::new(false);
+    match outcome(rt, task, explain, reader, terminals, &closed, &mut why) {
         Ok(()) => 0,
+        Err(AppFault::Write) => unwritten(rt, closed.load(Ordering::SeqCst)),
         Err(fault) => {
             let status = failed(rt, &fault);
             if explain {

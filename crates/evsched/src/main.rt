@@ -157,7 +157,7 @@ fn run_with_stats<R: AllocGlobal + Print + Eprint + Clock + Threads + Wait + Syn
     let handled = ports
         .iter()
         .fold(0u64, |sum, port| sum.saturating_add(port.counts.dequeued));
-    progress.show_rates(handled, form);
+    progress.show_rates(alloc, handled, form)?;
     let _ = eprint!(rt; "{}", stats.text);
     Ok(())
 }

@@ -2,6 +2,8 @@
 
 use crate::terminals::Terminals;
 use pipeline_app::{Gate, Phase, StatsForm};
+use serde_json::json;
+use std::alloc::{AllocError, Global};
 use std::io::Write;
 use std::sync::atomic::{AtomicBool, AtomicU64, Ordering};
 use std::sync::{Mutex, Wait};
@@ -93,6 +95,19 @@ fn per_second(count: u64, lasted: u64) -> u64 {
         .saturating_mul(SECOND)
         .checked_div(lasted)
         .unwrap_or(0)
+}
+
+/// So many accepted and handled in so many microseconds, and how many a second, as JSON.
+fn json_of(alloc: Global, accepted: u64, handled: u64, lasted: u64) -> Result<String, AllocError> {
+    json!(in alloc; {
+        "accepted": accepted,
+        "accepted_a_second": per_second(accepted, lasted),
+        "handled": handled,
+        "handled_a_second": per_second(handled, lasted),
+        "microseconds": lasted,
+        "stats": "time",
+    })?
+    .to_string(alloc)
 }
 
 /// The same, to be shown.
@@ -205,7 +220,12 @@ impl<'a, R: Clock + Eprint> Progress<'a, R> {
 
     /// Prints how long the trace's run lasted, and how many events a second its queues accepted as new and its workers, so many,
     /// handled.
-    pub fn show_rates(&self, handled: u64, form: StatsForm) {
+    pub fn show_rates(
+        &self,
+        alloc: Global,
+        handled: u64,
+        form: StatsForm,
+    ) -> Result<(), AllocError> {
         let from = self.from.load(Ordering::SeqCst);
         let lasted = self.to.load(Ordering::SeqCst).saturating_sub(from);
         let accepted = self.events.load(Ordering::SeqCst);
@@ -217,12 +237,12 @@ impl<'a, R: Clock + Eprint> Progress<'a, R> {
                 rate_of(accepted, lasted),
                 rate_of(handled, lasted)
             ),
-            StatsForm::Json => eprintln!(self.rt;
-                "{{\"accepted\":{accepted},\"accepted_a_second\":{},\"handled\":{handled},\"handled_a_second\":{},\"microseconds\":{lasted},\"stats\":\"time\"}}",
-                per_second(accepted, lasted),
-                per_second(handled, lasted)
-            ),
+            StatsForm::Json => {
+                let rates = json_of(alloc, accepted, handled, lasted)?;
+                eprintln!(self.rt; "{rates}")
+            }
         };
+        Ok(())
     }
 
     /// Writes how many events were accepted.

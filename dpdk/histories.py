@@ -4,8 +4,8 @@
 
     dpdk/histories.py EVSCHED DOCUMENT HISTORY [KIND..]
 
-HISTORY is one of history.c's, of 20,000 events or more, in which there is no breach; without KIND it is changed in all ways below, most of
-them about its middle. The status is 1 where a change isn't found that the judge can see, or something else is found.
+HISTORY is one of history.c's, of 20,000 events or more, in which there is no breach; without KIND it is changed in all ways below that its
+queues' kinds allow, mostly about its middle. The status is 1 where a change isn't found that the judge can see, or something else is found.
 """
 import re
 import subprocess
@@ -69,18 +69,18 @@ def sent_times(entries):
     return {e.value(): e.began for e in entries if e.is_event() and not e.is_got()}
 
 
-def answer_times(entries):
-    """For each place of a dequeued event when the call began that answered it, or None."""
-    times, until, count = defaultdict(list), {}, defaultdict(int)
-    for entry in entries:
+def answers(entries):
+    """For each place of a dequeued event the place of its answer, or None."""
+    places, found, count = defaultdict(list), {}, defaultdict(int)
+    for place, entry in enumerate(entries):
         if entry.is_answer():
-            times[entry.port].append(entry.began)
+            places[entry.port].append(place)
     for place, entry in enumerate(entries):
         if entry.is_got():
             number = count[entry.port]
             count[entry.port] += 1
-            until[place] = times[entry.port][number] if number < len(times[entry.port]) else None
-    return until
+            found[place] = places[entry.port][number] if number < len(places[entry.port]) else None
+    return found
 
 
 # Each of these gives, for the places of the lines that it changes, what stands there then.
@@ -126,7 +126,7 @@ def enqueued(entries):
 def shared(entries):
     """Of two events of the atomic first queue that two ports held at the same time the second has the first one's flow, also when it was
     sent; of that flow it is the one that comes next."""
-    until, held = answer_times(entries), {}
+    answered, held = answers(entries), {}
     places, flows = enqueued(entries)
     for place, entry in enumerate(entries):
         if not entry.is_got() or entry.queue != 0:
@@ -135,7 +135,7 @@ def shared(entries):
             one = entries[other]
             first, second = places[one.value()], places[entry.value()]
             is_next = first < second and not any(first < i < second for i in flows[one.flow])
-            if is_next and one.port != entry.port and one.flow != entry.flow and all(until[i] is None or until[i] > entry.ended for i in (other, place)):
+            if is_next and one.port != entry.port and one.flow != entry.flow and all(answered[i] is None or entries[answered[i]].began > entry.ended for i in (other, place)):
                 return {i: e.changed(flow=one.flow) for i, e in enumerate(entries) if e.is_event() and e.value() == entry.value()}
         held[entry.port] = place
     raise StopIteration
@@ -148,15 +148,17 @@ def unanswered(entries):
 
 
 def lost(entries):
-    """An event never comes."""
-    return {middle(entries)[0]: []}
+    """An event never comes to the last port, so that it isn't released."""
+    last = last_port(entries)
+    place = middle(entries, lambda e: e.is_got() and e.port == last)[0]
+    return {i: [] for i in (place, answers(entries)[place]) if i is not None}
 
 
-def overtaken(entries):
-    """Two events of a flow that one port dequeued from the first queue, both enqueued before, came in the other order."""
+def in_other_order(entries, queue):
+    """Two events of a flow that one port dequeued from the queue, both enqueued before, came in the other order."""
     sent, last = sent_times(entries), {}
     for place, entry in second_half(entries):
-        if entry.is_got() and entry.queue == 0:
+        if entry.is_got() and entry.queue == queue:
             key = entry.port, entry.flow
             before = last.get(key)
             if before is not None and sent[entry.value()] < entries[before].began:
@@ -165,12 +167,29 @@ def overtaken(entries):
     raise StopIteration
 
 
+def overtaken(entries):
+    """So did two events that were brought in."""
+    return in_other_order(entries, 0)
+
+
+def reordered(entries):
+    """So did what two events of the first queue were forwarded as."""
+    return in_other_order(entries, 1)
+
+
 # What is said first of each; nothing says that an event must come.
 KINDS = {
     exchanged: "broken at line [0-9]+: Early: .*", doubled: "broken at line [0-9]+: Unsent: .*", replaced: "broken at line [0-9]+: Unsent: .*",
     misled: "broken at line [0-9]+: Unlinked: .*", shared: "broken at line [0-9]+: Together: .*",
     unanswered: "broken at line [0-9]+: Overfull: .*", lost: "no breach",
-    overtaken: "broken at line [0-9]+: Overtaken: .*",
+    overtaken: "broken at line [0-9]+: Overtaken: .*", reordered: "broken at line [0-9]+: Reordered: .*",
+}
+
+
+# Of these the queues must be of certain kinds.
+NEEDS = {
+    shared: lambda kinds: kinds[0] == "atomic", overtaken: lambda kinds: kinds[0] == "atomic",
+    reordered: lambda kinds: kinds[0] != "parallel" and kinds[1] == "atomic",
 }
 
 
@@ -184,9 +203,11 @@ def main():
     with open(history, "rb") as file:
         lines = file.readlines()
     entries = [read_entry(line) for line in lines]
+    with open(document, encoding="utf-8") as file:
+        kinds = re.findall(r'^kind = "(\w+)"', file.read(), re.MULTILINE)
     wrong = 0
     for change, expected in KINDS.items():
-        if names and change.__name__ not in names:
+        if names and change.__name__ not in names or not NEEDS.get(change, lambda _: True)(kinds):
             continue
         try:
             changes = change(entries)

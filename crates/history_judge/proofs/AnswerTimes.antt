@@ -1,6 +1,6 @@
 -- The lists of the times at which answers began, as they are made.
-use Rattle.std.specs.Prelude.{ℕ, ◌≡◌, ◌≢◌, ◌+◌, ◌<◌, ◌≤◌, Bool, true, false, cond, ◌&&◌, List, [], ◌∷◌, ◌++◌, ◌==◌, length, map, take, filter, Some, slice_get, ◌⊎◌}
-use Rattle.std.proofs.Common.{refl, sym, ap, ◌∙◌, arith, subst, inl, inr, ⊎_elim, set, get_or, append-nil, length-append}
+use Rattle.std.specs.Prelude.{ℕ, ◌≡◌, ◌≢◌, ◌+◌, ◌<◌, true, false, List, [], ◌∷◌, ◌++◌, ◌==◌, length, map, take, filter, Some, slice_get, ◌⊎◌}
+use Rattle.std.proofs.Common.{refl, sym, ap, ◌∙◌, arith, inl, inr, ⊎_elim, set, get_or, length-append}
 use Rattle.std.proofs.lemmas.Bool.{and_from, and_left, and_right, cases_Bool, cases_eq, cases_lt, cond-false, cond-true}
 use Rattle.std.proofs.lemmas.List.{get_or-map, get_or_append_left, get_or_push, get_or-set_other, get_or-set_same, length-map, length-set, map-append, map-set}
 use Rattle.std.specs.declared.alloc.Global.{Global}
@@ -8,7 +8,7 @@ use Rattle.std.specs.declared.vec.Vec.{Vec}
 use Rattle.lists.proofs.Lists.{eqb_other, eqb_same, filter-push_false, filter-push_true}
 use Rattle.lists.proofs.Parts.{take_next}
 use Rattle.history_judge.specs.Histories.{answers, is_answered}
-use Rattle.history_judge.specs.Holds.{AreTimes, answer_times, is_answer_entry, noted, row, rows}
+use Rattle.history_judge.specs.Holds.{AreTimes, answer_times, noted, row, rows}
 use Rattle.history_judge.specs.declared.seen.Seen.{Seen}
 
 length-rows : (lists : List (Vec ℕ Global)) → length (rows lists) ≡ length lists

@@ -24,10 +24,10 @@ use Rattle.history_judge.specs.declared.seen.Seen.{Seen}
 pub count_more : {X : Type 0} (p : X → Bool) (xs : List X) (i : ℕ) (x : X) → slice_get xs i ≡ Some x → count_by p (take (i + 1) xs) ≡ count_by p (take i xs) + cond (p x) 1 0
 count_more p xs i x at = ap (count_by p) (take_next xs i x at) ∙ count_by-push p (take i xs) x
 
-count_yes : {X : Type 0} (p : X → Bool) (xs : List X) (i : ℕ) (x : X) → slice_get xs i ≡ Some x → p x ≡ true → count_by p (take (i + 1) xs) ≡ count_by p (take i xs) + 1
+pub count_yes : {X : Type 0} (p : X → Bool) (xs : List X) (i : ℕ) (x : X) → slice_get xs i ≡ Some x → p x ≡ true → count_by p (take (i + 1) xs) ≡ count_by p (take i xs) + 1
 count_yes p xs i x at passes = omega (arith, count_more p xs i x at, cond-true {A = ℕ} (p x) 1 0 passes)
 
-count_no : {X : Type 0} (p : X → Bool) (xs : List X) (i : ℕ) (x : X) → slice_get xs i ≡ Some x → p x ≡ false → count_by p (take (i + 1) xs) ≡ count_by p (take i xs)
+pub count_no : {X : Type 0} (p : X → Bool) (xs : List X) (i : ℕ) (x : X) → slice_get xs i ≡ Some x → p x ≡ false → count_by p (take (i + 1) xs) ≡ count_by p (take i xs)
 count_no p xs i x at fails = omega (arith, count_more p xs i x at, cond-false {A = ℕ} (p x) 1 0 fails)
 
 count_grows : {X : Type 0} (p : X → Bool) (xs : List X) (i : ℕ) (x : X) → slice_get xs i ≡ Some x → count_by p (take i xs) ≤ count_by p (take (i + 1) xs)

@@ -1,19 +1,17 @@
 -- Holds of entries: two entries are held together exactly where their holds are of one cell and of two ports and meet.
-use Rattle.std.specs.Prelude.{ℕ, ◌≡◌, ◌≢◌, ◌+◌, ◌*◌, ◌<◌, ◌≤◌, ◌%◌, Bool, true, false, not, cond, List, length, All, nat_lt, Option, Some, None, slice_get, ◌⊎◌}
-use Rattle.std.proofs.Common.{refl, sym, ap, ◌∙◌, arith, subst, inl, inr, ⊎_elim}
-use Rattle.std.proofs.lemmas.Bool.{and_parts, both_ways, cases_Bool, cases_lt, cond-true, false≢true, false_from_ne_true, ltb-true, not-false, not-true, true_from_ne_false}
+use Rattle.std.specs.Prelude.{ℕ, ◌≡◌, ◌≢◌, ◌+◌, ◌*◌, ◌<◌, ◌≤◌, ◌%◌, true, false, List, length, nat_lt, Some, slice_get}
+use Rattle.std.proofs.Common.{refl, sym, ap, ◌∙◌, arith, subst, ⊎_elim}
+use Rattle.std.proofs.lemmas.Bool.{and_parts, both_ways, cases_lt, cond-true, false≢true, false_from_ne_true, ltb-true, not-false, not-true, true_from_ne_false}
 use Rattle.std.proofs.lemmas.Nat.{mod_below}
 use Rattle.std.proofs.lemmas.Option.{same_Some, slice_get_within}
 use Rattle.evt_types.specs.Fault.{IsBetween, IsWithinLimits}
 use Rattle.evt_types.specs.Limits.{most_slots}
-use Rattle.evt_types.specs.Plan.{Plan, flow_lanes, is_atomic, lanes_of, queue_of, serves, slot_of}
-use Rattle.evt_types.specs.declared.draft.QueueDraft.{QueueDraft}
+use Rattle.evt_types.specs.Plan.{Plan, is_atomic, lanes_of, queue_of, serves, slot_of}
 use Rattle.evt_types.specs.declared.event.Event.{Event}
 use Rattle.evt_types.specs.declared.event.Kind.TheVariants.{Parallel}
-use Rattle.history_judge.proofs.RisingTimes.{Rises, begun_are_past, not_past, times_rise, to_come}
-use Rattle.history_judge.specs.Breaches.{AreOfOneSlot, IsTogether, IsUnlinked, may_get}
-use Rattle.history_judge.specs.Entries.{IsOutOfOrder, IsUnknown}
-use Rattle.history_judge.specs.Histories.{IsHeldAt, answers_begun, gets, got_before}
+use Rattle.history_judge.proofs.RisingTimes.{begun_are_past, not_past, times_rise, to_come}
+use Rattle.history_judge.specs.Breaches.{IsTogether, IsUnlinked, may_get}
+use Rattle.history_judge.specs.Histories.{IsHeldAt, gets, got_before}
 use Rattle.history_judge.specs.Holds.{IsHoldOf, answer_times, cell_of, ends_after, got_badly, got_wrongly}
 use Rattle.history_judge.specs.Watching.{IsFit}
 use Rattle.history_judge.specs.declared.holds.Hold.{Hold}

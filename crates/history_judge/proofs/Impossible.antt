@@ -15,16 +15,18 @@ use Rattle.world_laws.proofs.Consistent.{consistent_end, consistent_none, consis
 use Rattle.world_laws.proofs.Hands.{held_alone}
 use Rattle.world_laws.specs.Order.{IsHeldAlone, held_in}
 use Rattle.world_laws.specs.World.{World, after_moves, empty, in_hand}
+use Rattle.history_judge.proofs.Crowded.{crowded_fits_none}
 use Rattle.history_judge.proofs.Held.{HoldsEvent, IsPairOf, held_in_hand, pair_of_got}
 use Rattle.history_judge.proofs.Moments.{made_by}
 use Rattle.history_judge.proofs.Overfull.{overfull_fits_none}
 use Rattle.history_judge.proofs.Overtaken.{overtaken_fits_none}
 use Rattle.history_judge.proofs.Premature.{early_fits_none}
+use Rattle.history_judge.proofs.Reordered.{reordered_fits_none}
 use Rattle.history_judge.proofs.Unsent.{unsent_fits_none}
 use Rattle.history_judge.specs.Breaches.{AreOfOneSlot, IsBreach, IsTogether, IsUnlinked, may_get}
 use Rattle.history_judge.specs.Histories.{IsImpossible, WasDone, WasGot, got_before}
 use Rattle.history_judge.specs.declared.breach.Breach.{Breach}
-use Rattle.history_judge.specs.declared.breach.Breach.TheVariants.{Unlinked, Together, Unsent, Early, Overtaken, Overfull}
+use Rattle.history_judge.specs.declared.breach.Breach.TheVariants.{Unlinked, Together, Unsent, Early, Overtaken, Reordered, Overfull, Crowded}
 use Rattle.history_judge.specs.declared.seen.Seen.{Seen}
 
 -- ---- what a port may get
@@ -95,4 +97,6 @@ breach_fits_none p hs (Together i j) b = together_fits_none p hs i j b
 breach_fits_none p hs (Unsent i) b = unsent_fits_none p hs i b
 breach_fits_none p hs (Early i) b = early_fits_none p hs i b
 breach_fits_none p hs (Overtaken i j) b = overtaken_fits_none p hs i j b
+breach_fits_none p hs (Reordered i j) b = reordered_fits_none p hs i j b
 breach_fits_none p hs (Overfull i) b = overfull_fits_none p hs i b
+breach_fits_none p hs (Crowded i) b = crowded_fits_none p hs i b

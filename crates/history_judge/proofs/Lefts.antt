@@ -25,7 +25,7 @@ eq_number n m = by_case (nat_cmp n m) (ranked n m (nat_cmp n m) refl)
     by_case Equal same = sym (ap (λ k. k == n) (sym same) ∙ eqb_same n)
     by_case Greater lt = sym (eqb_other m n (λ same. omega (arith, lt, same)))
 
-eq_then : (r o : Ordering) → is_eq (ordering_then r o) ≡ (is_eq r && is_eq o)
+pub eq_then : (r o : Ordering) → is_eq (ordering_then r o) ≡ (is_eq r && is_eq o)
 eq_then Less o = refl
 eq_then Equal o = refl
 eq_then Greater o = refl

@@ -33,7 +33,7 @@ use Rattle.history_judge.proofs.Lefts.{same_self}
 use Rattle.history_judge.proofs.Unsent.{brings, said_brings, same_value, says_few, sent_by_port, sent_few, sent_here}
 use Rattle.history_judge.specs.Breaches.{IsOnlyOne}
 use Rattle.history_judge.specs.Histories.{Explains, IsSameBut, WasDone, WasSent, is_sent, sends, sent_before}
-use Rattle.history_judge.specs.Values.{is_same_but, sends_value}
+use Rattle.history_judge.specs.Values.{is_same_but, sends_value, times_sent}
 use Rattle.history_judge.specs.declared.seen.Seen.{Seen}
 
 -- ---- events of one value
@@ -83,7 +83,7 @@ pub count_part : {X : Type 0} (f : X → Bool) (xs : List X) (i : ℕ) → count
 count_part f xs i = count_by-front f (take i xs) (drop i xs) xs (take-append-drop i xs)
 
 -- two that pass are counted
-two_counted : {X : Type 0} (f : X → Bool) (xs : List X) (i j : ℕ) (x y : X) → i < j → slice_get xs i ≡ Some x → slice_get xs j ≡ Some y → f x ≡ true → f y ≡ true → 2 ≤ count_by f xs
+pub two_counted : {X : Type 0} (f : X → Bool) (xs : List X) (i j : ℕ) (x y : X) → i < j → slice_get xs i ≡ Some x → slice_get xs j ≡ Some y → f x ≡ true → f y ≡ true → 2 ≤ count_by f xs
 two_counted f xs i j x y lt at there one other =
     omega (
       arith,
@@ -104,6 +104,17 @@ one_key true true c apart = absurd (false≢true (sym (apart refl)))
 one_key true false c apart = omega arith
 one_key false true c apart = omega arith
 one_key false false c apart = omega arith
+
+-- what was sent once, by one port, no other sent
+pub sent_by_one : (hs : List Seen) (e : Event) (l m : ℕ) → times_sent hs e ≡ 1 → 1 ≤ count_by (sent_here e l) hs → m ≢ l → count_by (sent_here e m) hs ≡ 0
+sent_by_one hs e l m once here differs =
+    omega (
+      arith,
+      once,
+      here,
+      counts_join (sent_here e m) (sent_here e l) (λ (s : Seen). sends_value e s.deed) hs
+          (λ (s : Seen). one_key (s.port == m) (s.port == l) (sends_value e s.deed) (λ is. eqb_other s.port l (λ same. differs (sym (eqb_is s.port m is) ∙ same)))),
+    )
 
 -- ---- a list that is cut
 
@@ -157,7 +168,7 @@ prefix_take xs ys front = ap (take (length xs)) (sym front.1) ∙ take-append_se
 
 -- ---- two NEWs of one port
 
-module _ (p : Plan) (hs : List Seen) (moves : List Move) (v : World) (clock : ℕ → ℕ) (x : Explains p hs moves v clock) (i j : ℕ) (one : IsOnlyOne hs i) (other : IsOnlyOne hs j)
+module _ (p : Plan) (hs : List Seen) (moves : List Move) (v : World) (clock : ℕ → ℕ) (x : Explains p hs moves v clock) (i j : ℕ) (one : IsOnlyOne is_new_reply hs i) (other : IsOnlyOne is_new_reply hs j)
     (plain : is_flows p.serving ≡ false) (sender : one.sender.port ≡ other.sender.port) (later : one.place < other.place) where
   abbrev pub l : ℕ
   l = one.sender.port
@@ -175,10 +186,10 @@ module _ (p : Plan) (hs : List Seen) (moves : List Move) (v : World) (clock : �
   was_one = subst (WasDone hs moves v clock one.place one.sender) one.sent (x.each one.place one.sender one.enqueued)
 
   one_sends : sends_value d one.sender.deed ≡ true
-  one_sends = ap (sends_value d) one.sent ∙ new_brings one.reply d one.new (same_self d)
+  one_sends = ap (sends_value d) one.sent ∙ new_brings one.reply d one.kind (same_self d)
 
   other_sends : sends_value e other.sender.deed ≡ true
-  other_sends = ap (sends_value e) other.sent ∙ new_brings other.reply e other.new (same_self e)
+  other_sends = ap (sends_value e) other.sent ∙ new_brings other.reply e other.kind (same_self e)
 
   -- they aren't of one value
   differ : (f : Event) → is_same_but d f ≡ true → is_same_but e f ≡ true → ⊥
@@ -187,7 +198,7 @@ module _ (p : Plan) (hs : List Seen) (moves : List Move) (v : World) (clock : �
         arith,
         one.once,
         two_counted (λ (s : Seen). sends_value d s.deed) hs one.place other.place one.sender other.sender later one.enqueued other.enqueued one_sends
-            (ap (sends_value d) other.sent ∙ new_brings other.reply d other.new (same_value d e f (same_fields e f second) ∙ first)),
+            (ap (sends_value d) other.sent ∙ new_brings other.reply d other.kind (same_value d e f (same_fields e f second) ∙ first)),
       )
 
   -- the port sent the first before the second
@@ -203,15 +214,11 @@ module _ (p : Plan) (hs : List Seen) (moves : List Move) (v : World) (clock : �
   -- no other port sent the second
   no_other : (m : ℕ) → m ≢ l → count_by (sent_here e m) hs ≡ 0
   no_other m differs =
-      omega (
-        arith,
-        other.once,
-        counts_join (sent_here e m) (sent_here e l) (λ (s : Seen). sends_value e s.deed) hs
-            (λ (s : Seen). one_key (s.port == m) (s.port == l) (sends_value e s.deed) (λ here. eqb_other s.port l (λ same. differs (sym (eqb_is s.port m here) ∙ same)))),
-        one_counted (sent_here e l) hs other.place
-            (ap (some_is (sent_here e l)) other.enqueued
-            ∙ and_from (other.sender.port == l) (sends_value e other.sender.deed) (ap (λ n. other.sender.port == n) sender ∙ eqb_same other.sender.port) other_sends),
-      )
+      sent_by_one hs e l m other.once
+      (one_counted (sent_here e l) hs other.place
+      (ap (some_is (sent_here e l)) other.enqueued
+      ∙ and_from (other.sender.port == l) (sends_value e other.sender.deed) (ap (λ n. other.sender.port == n) sender ∙ eqb_same other.sender.port) other_sends))
+      differs
 
   -- ---- a front of the transcript that has the second, and not the first
 
@@ -290,7 +297,7 @@ module _ (p : Plan) (hs : List Seen) (moves : List Move) (v : World) (clock : �
             ∙ ap (option_map said) (submitted_at p hs moves v clock one.place one.sender one.reply x was_one)))
 
         there : some_is (is_said_new (is_same_but d)) (slice_get (replies_in P l) (sent_before hs l one.place)) ≡ true
-        there = ap (some_is (is_said_new (is_same_but d))) is ∙ new_said one.reply one.new
+        there = ap (some_is (is_said_new (is_same_but d))) is ∙ new_said one.reply one.kind
 
     -- the first can't be accepted behind it
     none_behind : (q n : ℕ) (f : Event) → event_at R q n ≡ Some f → is_same_but d f ≡ true → 1 ≤ count_by (says_new (is_same_but d)) P → ⊥

@@ -1,153 +1,21 @@
 -- Events of one flow that are got in the other order than they were sent fit no run.
-use Rattle.std.specs.Prelude.{ℕ, ◌≡◌, ◌+◌, ◌/◌, ◌<◌, ◌≤◌, Bool, true, List, [], ◌==◌, length, filter, Some, None, slice_get}
-use Rattle.std.proofs.Common.{refl, sym, ap, ◌∙◌, subst, arith, ⊎_elim, append-nil}
-use Rattle.std.proofs.lemmas.Bool.{and_from, cases_lt, cond-true, false≢true}
-use Rattle.std.proofs.lemmas.List.Kept.{AllPairs-filter}
-use Rattle.std.proofs.lemmas.Option.{slice_get_within}
-use Rattle.evt_types.specs.Plan.{Plan, level_of}
+use Rattle.std.specs.Prelude.{ℕ, ◌≡◌, List, Some}
+use Rattle.std.proofs.Common.{ap, ◌∙◌, arith}
+use Rattle.evt_types.specs.Plan.{Plan}
 use Rattle.evt_types.specs.declared.event.Event.{Event}
-use Rattle.evt_types.specs.declared.event.Numbered.{Numbered}
-use Rattle.lists.proofs.Lists.{eqb_same, slice_get-append_left}
-use Rattle.transcripts.proofs.Replies.{out-append}
-use Rattle.transcripts.proofs.Waits.{entered-rises}
-use Rattle.transcripts.specs.Lawful.{IsPrefix, is_of_flow}
-use Rattle.transcripts.specs.Transcript.{accepted, entered, event_at, named, named_at, out}
-use Rattle.world_laws.proofs.Consistent.{consistent_end, consistent_none, consistent_run}
-use Rattle.world_laws.proofs.Orders.{received_as_accepted}
-use Rattle.world_laws.proofs.Worlds.{at_lane-same}
-use Rattle.world_laws.specs.Order.{events_in, number_in, numbers_in}
-use Rattle.world_laws.specs.World.{World, IsConsistent, Move, Receives, after_moves, empty, received_by_all}
-use Rattle.history_judge.proofs.Fits.{count_more}
-use Rattle.history_judge.proofs.Held.{IsPairOf, pair_of_got}
-use Rattle.history_judge.proofs.Moments.{grows_to_end, grows_to_moment, moment_moves}
-use Rattle.history_judge.proofs.Numbers.{count_first, numbers_rise, same_fields}
-use Rattle.history_judge.proofs.Precedence.{IsReceipt, Precedes, precedes_kept, precedes_mapped, precedes_on, precedes_pair, received_in_order}
-use Rattle.history_judge.proofs.Unsent.{same_value}
-use Rattle.history_judge.specs.Breaches.{IsOnlyOne, IsOvertaken, WasGotBefore}
-use Rattle.history_judge.specs.Histories.{Explains, IsImpossible, IsSameBut, IsWithin, WasDone, WasGot, gets, got_before, is_got}
-use Rattle.history_judge.specs.Values.{gets_value, is_same_but}
-use Rattle.history_judge.specs.declared.seen.Deed.{Deed}
-use Rattle.history_judge.specs.declared.seen.Deed.TheVariants.{Sent, Got}
+use Rattle.transcripts.specs.Transcript.{event_at}
+use Rattle.history_judge.proofs.Numbers.{numbers_rise}
+use Rattle.history_judge.proofs.Received.{WasReceived, first_is_lower, was_received}
+use Rattle.history_judge.specs.Breaches.{IsOvertaken}
+use Rattle.history_judge.specs.Histories.{IsImpossible}
 use Rattle.history_judge.specs.declared.seen.Seen.{Seen}
-
--- the event that was received, its pair and its move
-record WasReceived (hs : List Seen) (moves : List Move) (v : World) (clock : ℕ → ℕ) (i : ℕ) (s : Seen) (e : Event) : Type 0 where
-  move : ℕ
-  pair : ℕ × ℕ
-  event : Event
-  accepted : event_at v.log e.queue pair.1 ≡ Some event
-  value : is_same_but e event ≡ true
-  named : pair.0 ≡ e.queue
-  receipt : IsReceipt moves move pair
-  place : (after_moves moves move).received s.port ≡ got_before hs s.port i
-  time : IsWithin s (clock move)
-  gets : gets s.deed ≡ true
-
--- an event's number, in its queue, and that it is of the flow
-number_is : (q : ℕ) (y : ℕ × ℕ) → y.0 ≡ q → number_in q y ≡ Some y.1
-number_is q y same = cond-true (y.0 == q) (Some y.1) None (subst (λ n. (y.0 == n) ≡ true) same (eqb_same y.0))
-
-flow_there : (d f : Event) (n : ℕ) → is_same_but d f ≡ true → is_of_flow d.flow (level_of d) (record { number = n; event = f }) ≡ true
-flow_there d f n same =
-    and_from (f.flow == d.flow) (level_of f == level_of d) (ap (λ m. f.flow == m) is.flow ∙ eqb_same f.flow)
-    (ap (λ m. level_of f == (m / 64)) is.priority ∙ eqb_same (level_of f))
-  where
-    is : IsSameBut d f
-    is = same_fields d f same
-
-module _ (p : Plan) (hs : List Seen) (moves : List Move) (v : World) (clock : ℕ → ℕ) (x : Explains p hs moves v clock) where
-  consistent : IsConsistent p v
-  consistent = consistent_end p empty v moves x.run (consistent_none p)
-
-  -- the pair is the next that the lane receives
-  next_pair : (i : ℕ) (s : Seen) (e : Event) (was : WasGot hs moves v clock i s e) → IsReceipt moves was.move was.pair
-  next_pair i s e was = record { lane = s.port; made = was.made; pair = given }
-    where
-      now : World
-      now = after_moves moves was.move
-
-      after : IsConsistent p (after_moves moves (was.move + 1))
-      after = consistent_run p empty v moves x.run (consistent_none p) (was.move + 1)
-
-      front : IsPrefix now.log v.log
-      front = (grows_to_end p v moves was.move x.run).log
-
-      within : now.received s.port < length (out now.log s.port)
-      within =
-          omega (
-            arith,
-            after.received s.port,
-            ap (λ (w : World). w.received s.port) (moment_moves moves was.move (Receives s.port) was.made),
-            ap (λ (w : World). length (out w.log s.port)) (moment_moves moves was.move (Receives s.port) was.made),
-            at_lane-same s.port (now.received s.port + 1) now.received,
-          )
-
-      given : slice_get (out now.log s.port) (now.received s.port) ≡ Some was.pair
-      given =
-          sym (slice_get-append_left (out now.log s.port) (out front.0 s.port) (now.received s.port) within)
-          ∙ (ap (λ xs. slice_get xs (now.received s.port)) (sym (out-append now.log front.0 s.port) ∙ ap (λ T. out T s.port) front.1)
-          ∙ (ap (slice_get (out v.log s.port)) was.place ∙ was.received))
-
-  was_received : (i : ℕ) (o : IsOnlyOne hs i) → WasReceived hs moves v clock i o.getter o.reply.event
-  was_received i o = by_deed o.getter.deed refl o.got
-    where
-      e : Event
-      e = o.reply.event
-
-      by_deed : (d : Deed) → o.getter.deed ≡ d → gets_value e d ≡ true → WasReceived hs moves v clock i o.getter e
-      by_deed (Sent r) is got = absurd (false≢true got)
-      by_deed (Got f) is got =
-          record {
-            move = was.move;
-            pair = was.pair;
-            event = was.event;
-            accepted = ap (λ q. event_at v.log q was.pair.1) (sym queue) ∙ was.accepted;
-            value = sym (same_value e f was.event was.same) ∙ got;
-            named = queue;
-            receipt = next_pair i o.getter f was;
-            place = was.place;
-            time = was.time;
-            gets = ap gets is;
-          }
-        where
-          was : WasGot hs moves v clock i o.getter f
-          was = subst (WasDone hs moves v clock i o.getter) is (x.each i o.getter o.dequeued)
-
-          is_pair : IsPairOf p v.log was.pair f
-          is_pair =
-              pair_of_got p v.log v.log was.pair f was.event consistent.lawful ([], append-nil v.log) (slice_get_within (accepted v.log was.pair.0) was.pair.1 was.event was.accepted) was.accepted
-              was.same
-
-          queue : was.pair.0 ≡ e.queue
-          queue = is_pair.queue ∙ sym (same_fields e f got).queue
-
-  -- what was got before was received before
-  moved_before : (i j : ℕ) (s u : Seen) (d e : Event) → slice_get hs j ≡ Some u → (one : WasReceived hs moves v clock i s d) → (other : WasReceived hs moves v clock j u e) → WasGotBefore j u i s
-      → other.move < one.move
-  moved_before i j s u d e at one other before = ⊎_elim (λ lt. lt) (λ ge. absurd (late ge before)) (cases_lt other.move one.move)
-    where
-      late : one.move ≤ other.move → WasGotBefore j u i s → ⊥
-      late ge = ⊎_elim (λ same. by_place same.0 same.1) (λ ended. omega (arith, ended, x.rises one.move other.move ge, one.time.began, other.time.ended))
-        where
-          by_place : u.port ≡ s.port → j < i → ⊥
-          by_place port lt =
-              omega (
-                arith,
-                (grows_to_moment moves one.move other.move ge).received s.port,
-                one.place,
-                subst (λ l. (after_moves moves other.move).received l ≡ got_before hs l j) port other.place,
-                count_more (is_got s.port) hs j u at,
-                cond-true {A = ℕ} (is_got s.port u) 1 0 (and_from (u.port == s.port) (gets u.deed) (ap (λ l. u.port == l) (sym port) ∙ eqb_same u.port) other.gets),
-                count_first (is_got s.port) hs (j + 1) i (omega (arith, lt)),
-              )
 
 pub overtaken_fits_none : (p : Plan) (hs : List Seen) (i j : ℕ) → IsOvertaken p hs i j → IsImpossible p hs
 overtaken_fits_none p hs i j b moves v clock x =
     omega (
       arith,
       numbers_rise p hs moves v clock x i j b.one b.other b.ports b.sender b.later d.queue one.pair.1 other.pair.1 one.event other.event one.accepted one.value accepted_there other.value,
-      precedes_pair (λ (w u : Numbered). w.number < u.number) (filter of_flow (entered v.log d.queue)) second first among
-          (AllPairs-filter (λ (w u : Numbered). w.number < u.number) of_flow (entered v.log d.queue) (entered-rises v.log d.queue)),
+      first_is_lower p hs moves v clock x i j b.one.getter b.other.getter d e b.other.dequeued one other b.same b.before,
     )
   where
     d : Event
@@ -162,43 +30,5 @@ overtaken_fits_none p hs i j b moves v clock x =
     other : WasReceived hs moves v clock j b.other.getter e
     other = was_received p hs moves v clock x j b.other
 
-    of_flow : Numbered → Bool
-    of_flow = is_of_flow d.flow (level_of d)
-
-    first : Numbered
-    first = record { number = one.pair.1; event = one.event }
-
-    second : Numbered
-    second = record { number = other.pair.1; event = other.event }
-
     accepted_there : event_at v.log d.queue other.pair.1 ≡ Some other.event
     accepted_there = ap (λ q. event_at v.log q other.pair.1) b.same.queue ∙ other.accepted
-
-    -- the second was received first
-    received : Precedes (received_by_all moves) other.pair one.pair
-    received =
-        received_in_order moves other.move one.move other.pair one.pair
-        (moved_before p hs moves v clock x i j b.one.getter b.other.getter d e b.other.dequeued one other b.before) other.receipt one.receipt
-
-    numbers : Precedes (numbers_in d.queue (received_by_all moves)) other.pair.1 one.pair.1
-    numbers =
-        precedes_mapped (number_in d.queue) (received_by_all moves) other.pair one.pair other.pair.1 one.pair.1 received (number_is d.queue other.pair (other.named ∙ sym b.same.queue))
-        (number_is d.queue one.pair one.named)
-
-    events : Precedes (events_in v.log d.queue (received_by_all moves)) second first
-    events =
-        precedes_mapped (named_at v.log d.queue) (numbers_in d.queue (received_by_all moves)) other.pair.1 one.pair.1 second first numbers (ap (named other.pair.1) accepted_there)
-        (ap (named one.pair.1) one.accepted)
-
-    second_of : of_flow second ≡ true
-    second_of =
-        subst (λ f. is_of_flow f (level_of d) second ≡ true) (sym b.same.flow)
-        (subst (λ c. is_of_flow e.flow c second ≡ true) (sym b.same.level) (flow_there e other.event other.pair.1 other.value))
-
-    kept : Precedes (filter of_flow (events_in v.log d.queue (received_by_all moves))) second first
-    kept = precedes_kept of_flow (events_in v.log d.queue (received_by_all moves)) second first events second_of (flow_there d one.event one.pair.1 one.value)
-
-    among : Precedes (filter of_flow (entered v.log d.queue)) second first
-    among =
-        precedes_on (filter of_flow (events_in v.log d.queue (received_by_all moves))) (filter of_flow (entered v.log d.queue)) second first kept
-        (received_as_accepted p moves v x.run (consistent_end p empty v moves x.run (consistent_none p)) d.queue b.same.atomic d.flow (level_of d))

@@ -1,7 +1,7 @@
 -- In a run that fits what was seen no more events of one value are got than were sent.
 use Rattle.std.specs.Prelude.{ℕ, ◌≡◌, ◌+◌, ◌<◌, ◌≤◌, Bool, true, false, not, cond, ◌&&◌, List, [], ◌==◌, length, map, take, drop, All, count_by, Some, None, slice_get}
 use Rattle.std.proofs.Common.{zero, suc, refl, sym, ap, ◌∙◌, subst, arith, add-one, ⊎_elim}
-use Rattle.std.proofs.lemmas.Bool.{and_from, and_parts, cases_Bool, cases_lt, cond-true, cond-false, false≢true}
+use Rattle.std.proofs.lemmas.Bool.{and_from, and_left, and_parts, and_right, cases_Bool, cases_lt, cond-true, cond-false, false≢true}
 use Rattle.std.proofs.lemmas.List.{take_all, take-append-drop}
 use Rattle.std.proofs.lemmas.List.Elements.{All-weaker}
 use Rattle.std.proofs.lemmas.Option.{slice_get_within}
@@ -57,7 +57,7 @@ abbrev pub brings : Event → Reply → Bool
 brings e r = not (is_release_reply r) && is_same_but e r.event
 
 -- where no flows have lanes of their own, each lane is a port's
-few_lanes : (p : Plan) → is_flows p.serving ≡ false → lanes_of p ≤ length p.ports
+pub few_lanes : (p : Plan) → is_flows p.serving ≡ false → lanes_of p ≤ length p.ports
 unfolding lanes_of flow_lanes
 few_lanes p plain = omega (arith, ap length (cond-false (is_flows p.serving) (lanes_by_slot p.queues) [] plain))
 
@@ -113,6 +113,57 @@ says_few p T hs e tells formed plain by_port =
         (λ port. omega (arith, replies_counted (is_same_but e) T l, by_port l port))
         (λ past. omega (arith, replies_counted (is_same_but e) T l, ap (count_by (is_said (is_same_but e))) (silent p T l formed (omega (arith, past, few_lanes p plain)))))
         (cases_lt l (length p.ports))
+
+-- Of the first replies that a port submitted as many are of a class as its entries tell of.
+pub told_so_far : (p : Plan) (hs : List Seen) (moves : List Move) (v : World) (clock : ℕ → ℕ) → Explains p hs moves v clock → (f : Reply → Bool) (g : Deed → Bool)
+    → ((r : Reply) → g (Sent r) ≡ f r) → ((e : Event) → g (Got e) ≡ false) → (l i : ℕ) → i ≤ length hs
+    → count_by f (take (sent_before hs l i) (v.submitted l)) ≡ count_by (λ (s : Seen). (s.port == l) && g s.deed) (take i hs)
+told_so_far p hs moves v clock x f g sent got l zero within = refl
+told_so_far p hs moves v clock x f g sent got l (suc i) within =
+    let entry : (s : Seen) × (slice_get hs i ≡ Some s) = slice_get-some hs i (omega (arith, within)) in
+    subst (λ m. count_by f (take (sent_before hs l m) (v.submitted l)) ≡ count_by here (take m hs)) (add-one i)
+    (one_more entry.0 entry.1 (told_so_far p hs moves v clock x f g sent got l i (omega (arith, within))))
+  where
+    here : Seen → Bool
+    here s = (s.port == l) && g s.deed
+
+    one_more : (s : Seen) → slice_get hs i ≡ Some s → count_by f (take (sent_before hs l i) (v.submitted l)) ≡ count_by here (take i hs)
+        → count_by f (take (sent_before hs l (i + 1)) (v.submitted l)) ≡ count_by here (take (i + 1) hs)
+    one_more s at so_far = ⊎_elim by_port away (cases_Bool (s.port == l))
+      where
+        stays : is_sent l s ≡ false → here s ≡ false → count_by f (take (sent_before hs l (i + 1)) (v.submitted l)) ≡ count_by here (take (i + 1) hs)
+        stays other none =
+            let same : sent_before hs l (i + 1) ≡ sent_before hs l i = omega (arith, count_more (is_sent l) hs i s at, cond-false {A = ℕ} (is_sent l s) 1 0 other) in
+            omega (arith, so_far, count_more here hs i s at, cond-false {A = ℕ} (here s) 1 0 none, ap (λ n. count_by f (take n (v.submitted l))) same)
+
+        away : (s.port == l) ≡ false → count_by f (take (sent_before hs l (i + 1)) (v.submitted l)) ≡ count_by here (take (i + 1) hs)
+        away other = stays (and_left (s.port == l) (sends s.deed) other) (and_left (s.port == l) (g s.deed) other)
+
+        by_port : (s.port == l) ≡ true → count_by f (take (sent_before hs l (i + 1)) (v.submitted l)) ≡ count_by here (take (i + 1) hs)
+        by_port mine = by_deed s.deed refl
+          where
+            port : s.port ≡ l
+            port = eqb_is s.port l mine
+
+            by_deed : (d : Deed) → s.deed ≡ d → count_by f (take (sent_before hs l (i + 1)) (v.submitted l)) ≡ count_by here (take (i + 1) hs)
+            by_deed (Got e) is =
+                stays (and_right (s.port == l) (sends s.deed) (ap sends is)) (and_right (s.port == l) (g s.deed) (ap g is ∙ got e))
+            by_deed (Sent r) is =
+                let was : WasSent hs moves clock i s r = subst (WasDone hs moves v clock i s) is (x.each i s at) in
+                let there : slice_get (v.submitted l) (sent_before hs l i) ≡ Some r =
+                subst (λ m. slice_get (v.submitted m) (sent_before hs m i) ≡ Some r) port (submitted_at p hs moves v clock i s r x was) in
+                let next : is_sent l s ≡ true = and_from (s.port == l) (sends s.deed) mine (ap sends is) in
+                let more : sent_before hs l (i + 1) ≡ sent_before hs l i + 1 = omega (arith, count_more (is_sent l) hs i s at, cond-true {A = ℕ} (is_sent l s) 1 0 next) in
+                let value : here s ≡ f r = ap (λ b. b && g s.deed) mine ∙ (ap g is ∙ sent r) in
+                omega (
+                  arith,
+                  so_far,
+                  count_more here hs i s at,
+                  ap (λ n. count_by f (take n (v.submitted l))) more,
+                  ap (count_by f) (take_next (v.submitted l) (sent_before hs l i) r there),
+                  count_by-push f (take (sent_before hs l i) (v.submitted l)) r,
+                  ap (λ b. cond {A = ℕ} b 1 0) value,
+                )
 
 module _ (p : Plan) (hs : List Seen) (moves : List Move) (v : World) (clock : ℕ → ℕ) (x : Explains p hs moves v clock) (e : Event) where
   -- the pair is of an event of the value
@@ -180,47 +231,19 @@ module _ (p : Plan) (hs : List Seen) (moves : List Move) (v : World) (clock : �
   -- ---- what a port sent
 
   pub sent_few : (l i : ℕ) → i ≤ length hs → count_by (brings e) (take (sent_before hs l i) (v.submitted l)) ≤ count_by (sent_here e l) (take i hs)
-  sent_few l zero within = omega arith
-  sent_few l (suc i) within =
-      let entry : (s : Seen) × (slice_get hs i ≡ Some s) = slice_get-some hs i (omega (arith, within)) in
-      subst (λ m. count_by (brings e) (take (sent_before hs l m) (v.submitted l)) ≤ count_by (sent_here e l) (take m hs)) (add-one i)
-      (one_more entry.0 entry.1 (sent_few l i (omega (arith, within))))
+  sent_few l i within = omega (arith, told_so_far p hs moves v clock x (brings e) (sends_value e) (λ r. refl) (λ f. refl) l i within)
+
+  pub brought_few : (l : ℕ) → l < length p.ports → count_by (brings e) (v.submitted l) ≤ count_by (sent_here e l) hs
+  brought_few l port =
+      omega (
+        arith,
+        sent_few l (length hs) (omega arith),
+        ap (count_by (brings e)) whole,
+        ap (count_by (sent_here e l)) (take_all (length hs) hs (omega arith)),
+      )
     where
-      one_more : (s : Seen) → slice_get hs i ≡ Some s → count_by (brings e) (take (sent_before hs l i) (v.submitted l)) ≤ count_by (sent_here e l) (take i hs)
-          → count_by (brings e) (take (sent_before hs l (i + 1)) (v.submitted l)) ≤ count_by (sent_here e l) (take (i + 1) hs)
-      one_more s at so_far = ⊎_elim here away (cases_Bool (is_sent l s))
-        where
-          away : is_sent l s ≡ false → count_by (brings e) (take (sent_before hs l (i + 1)) (v.submitted l)) ≤ count_by (sent_here e l) (take (i + 1) hs)
-          away other =
-              let stays : sent_before hs l (i + 1) ≡ sent_before hs l i = omega (arith, count_more (is_sent l) hs i s at, cond-false {A = ℕ} (is_sent l s) 1 0 other) in
-              omega (arith, so_far, count_more (sent_here e l) hs i s at, ap (λ n. count_by (brings e) (take n (v.submitted l))) stays)
-
-          here : is_sent l s ≡ true → count_by (brings e) (take (sent_before hs l (i + 1)) (v.submitted l)) ≤ count_by (sent_here e l) (take (i + 1) hs)
-          here mine = by_deed s.deed refl
-            where
-              port : s.port ≡ l
-              port = eqb_is s.port l (and_parts (s.port == l) (sends s.deed) mine).0
-
-              more : sent_before hs l (i + 1) ≡ sent_before hs l i + 1
-              more = omega (arith, count_more (is_sent l) hs i s at, cond-true {A = ℕ} (is_sent l s) 1 0 mine)
-
-              by_deed : (d : Deed) → s.deed ≡ d → count_by (brings e) (take (sent_before hs l (i + 1)) (v.submitted l)) ≤ count_by (sent_here e l) (take (i + 1) hs)
-              by_deed (Got f) is = absurd (false≢true (ap sends (sym is) ∙ (and_parts (s.port == l) (sends s.deed) mine).1))
-              by_deed (Sent r) is =
-                  let was : WasSent hs moves clock i s r = subst (WasDone hs moves v clock i s) is (x.each i s at) in
-                  let there : slice_get (v.submitted l) (sent_before hs l i) ≡ Some r =
-                  subst (λ m. slice_get (v.submitted m) (sent_before hs m i) ≡ Some r) port (submitted_at p hs moves v clock i s r x was) in
-                  let value : sent_here e l s ≡ brings e r =
-                  ap (λ b. b && sends_value e s.deed) (ap (λ m. s.port == m) (sym port) ∙ eqb_same s.port) ∙ ap (sends_value e) is in
-                  omega (
-                    arith,
-                    so_far,
-                    count_more (sent_here e l) hs i s at,
-                    ap (λ n. count_by (brings e) (take n (v.submitted l))) more,
-                    ap (count_by (brings e)) (take_next (v.submitted l) (sent_before hs l i) r there),
-                    count_by-push (brings e) (take (sent_before hs l i) (v.submitted l)) r,
-                    ap (λ b. cond {A = ℕ} b 1 0) value,
-                  )
+      whole : take (sent_before hs l (length hs)) (v.submitted l) ≡ v.submitted l
+      whole = take_all (sent_before hs l (length hs)) (v.submitted l) (omega (arith, x.submitted l port, ap (count_by (is_sent l)) (take_all (length hs) hs (omega arith))))
 
   -- ---- all ports
 
@@ -237,17 +260,7 @@ module _ (p : Plan) (hs : List Seen) (moves : List Move) (v : World) (clock : �
       )
 
   pub sent_by_port : (l : ℕ) → l < length p.ports → count_by (is_said (is_same_but e)) (replies_in v.log l) ≤ count_by (sent_here e l) hs
-  sent_by_port l port =
-      omega (
-        arith,
-        said_few p v l e consistent,
-        sent_few l (length hs) (omega arith),
-        ap (count_by (brings e)) whole,
-        ap (count_by (sent_here e l)) (take_all (length hs) hs (omega arith)),
-      )
-    where
-      whole : take (sent_before hs l (length hs)) (v.submitted l) ≡ v.submitted l
-      whole = take_all (sent_before hs l (length hs)) (v.submitted l) (omega (arith, x.submitted l port, ap (count_by (is_sent l)) (take_all (length hs) hs (omega arith))))
+  sent_by_port l port = omega (arith, said_few p v l e consistent, brought_few l port)
 
   -- no more are got than sent
   got_as_sent : is_flows p.serving ≡ false → (i : ℕ) → i ≤ length hs → times_got hs e i ≤ times_sent hs e

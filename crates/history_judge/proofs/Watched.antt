@@ -1,18 +1,17 @@
 -- How a watch goes on, entry by entry.
-use Rattle.std.specs.Prelude.{ℕ, ◌≡◌, ◌≢◌, ◌+◌, ◌<◌, ◌≤◌, Bool, true, false, not, cond, ◌&&◌, List, ◌==◌, length, take, nat_le, nat_lt, count_by, Option, Some, None, slice_get, ◌⊎◌}
+use Rattle.std.specs.Prelude.{ℕ, ◌≡◌, ◌≢◌, ◌+◌, ◌<◌, ◌≤◌, true, false, not, cond, ◌&&◌, List, ◌==◌, length, Option, Some, None, slice_get, ◌⊎◌}
 use Rattle.std.proofs.Common.{refl, sym, ap, ◌∙◌, arith, subst, inl, inr, ⊎_elim, set, get_or, replicate}
-use Rattle.std.proofs.lemmas.Bool.{and_left, and_parts, cases_Bool, cases_eq, cases_lt, cond-false, cond-true, false≢true, le-leb, leb-false, leb-true, lt-ltb, ltb-true, not-true}
+use Rattle.std.proofs.lemmas.Bool.{and_parts, cases_Bool, cases_eq, cases_lt, cond-false, cond-true, false≢true, le-leb, leb-false, leb-true, lt-ltb, ltb-true, not-true}
 use Rattle.std.proofs.lemmas.List.{get_or_past, get_or-replicate, get_or-set_other, get_or-set_same, length-replicate, length-set}
 use Rattle.std.proofs.lemmas.Option.{cond_some, none-some, same_Some}
 use Rattle.std.specs.declared.alloc.Global.{Global}
 use Rattle.std.specs.declared.vec.Vec.{Vec}
 use Rattle.evt_types.specs.Plan.{Plan, is_atomic, queue_of}
 use Rattle.evt_types.specs.declared.event.Event.{Event}
-use Rattle.lists.proofs.Lists.{eqb_is, eqb_other, eqb_same}
+use Rattle.lists.proofs.Lists.{eqb_other, eqb_same}
 use Rattle.history_judge.proofs.Fits.{count_more}
-use Rattle.history_judge.proofs.Holdings.{AreMeeting, AreSame, Meet, meet_by_together, port_there, same_holds, together_by_meet}
-use Rattle.history_judge.specs.Breaches.{AreOfOneSlot, IsTogether}
-use Rattle.history_judge.specs.Entries.{IsUnsorted}
+use Rattle.history_judge.proofs.Holdings.{AreMeeting, AreSame, meet_by_together, port_there, same_holds, together_by_meet}
+use Rattle.history_judge.specs.Breaches.{IsTogether}
 use Rattle.history_judge.specs.Histories.{gets, got_before, is_got}
 use Rattle.history_judge.specs.Holds.{IsHoldOf, answer_times, cell_count, cell_of, ends_after, hold_got, hold_in, lasts_as, no_hold, until_in}
 use Rattle.history_judge.specs.Watching.{IsFit, IsKept, IsOutlasted, IsWatched, counted, longer, met}

@@ -1,13 +1,15 @@
 -- What no run of a device of the shape fits.
-use Rattle.std.specs.Prelude.{ℕ, ◌≡◌, ◌≢◌, ◌+◌, ◌<◌, true, false, ◌&&◌, Bool, List, nat_lt, length, Option, Some, None, slice_get, ◌⊎◌}
-use Rattle.evt_types.specs.Operation.{is_new_reply}
-use Rattle.evt_types.specs.Plan.{Plan, depth_of, level_of, queue_of, is_atomic, is_flows, serves, slot_of}
+use Rattle.std.specs.Prelude.{ℕ, ◌≡◌, ◌≢◌, ◌+◌, ◌<◌, true, false, ◌&&◌, Bool, List, nat_lt, length, sum_by, Option, Some, None, slice_get, ◌⊎◌}
+use Rattle.std.specs.List.{range_with_len}
+use Rattle.evt_types.specs.Operation.{is_answer, is_new_reply, passes_on}
+use Rattle.evt_types.specs.Plan.{Plan, bound_of, depth_of, level_of, queue_of, is_atomic, is_flows, serves, slot_of}
 use Rattle.evt_types.specs.declared.event.Event.{Event}
 use Rattle.evt_types.specs.declared.event.Reply.{Reply}
-use Rattle.history_judge.specs.Histories.{IsHeldAt, answers_begun, gets, got_before}
+use Rattle.transcripts.specs.Lawful.{keeps_order}
+use Rattle.history_judge.specs.Histories.{IsAnswerTo, IsHeldAt, answers_begun, gets, got_before, held_surely}
 use Rattle.history_judge.specs.Values.{IsExcess, IsPremature, gets_value, times_sent}
 use Rattle.history_judge.specs.declared.breach.Breach.{Breach}
-use Rattle.history_judge.specs.declared.breach.Breach.TheVariants.{Unlinked, Together, Unsent, Early, Overtaken, Overfull}
+use Rattle.history_judge.specs.declared.breach.Breach.TheVariants.{Unlinked, Together, Unsent, Early, Overtaken, Reordered, Overfull, Crowded}
 use Rattle.history_judge.specs.declared.seen.Deed.TheVariants.{Got, Sent}
 use Rattle.history_judge.specs.declared.seen.Seen.{Seen}
 
@@ -55,14 +57,14 @@ pub record IsEarly (p : Plan) (hs : List Seen) (i : ℕ) : Type 0 where
   pub ports : is_flows p.serving ≡ false
   pub premature : IsPremature hs i
 
--- the entry got an event of a value that was sent once in the whole history, by a NEW
-pub record IsOnlyOne (hs : List Seen) (i : ℕ) : Type 0 where
+-- the entry got an event of a value that was sent once in the whole history, by a reply of this kind
+pub record IsOnlyOne (is : Reply → Bool) (hs : List Seen) (i : ℕ) : Type 0 where
   pub place : ℕ
   pub sender : Seen
   pub enqueued : slice_get hs place ≡ Some sender
   pub reply : Reply
   pub sent : sender.deed ≡ Sent reply
-  pub new : is_new_reply reply ≡ true
+  pub kind : is reply ≡ true
   pub once : times_sent hs reply.event ≡ 1
   pub getter : Seen
   pub dequeued : slice_get hs i ≡ Some getter
@@ -82,12 +84,42 @@ WasGotBefore j u i s = ((u.port ≡ s.port) × (j < i)) ⊎ (u.ended < s.began)
 -- A port enqueued two events of one flow and level of an atomic queue, and the other, which it enqueued later, was got first.
 pub record IsOvertaken (p : Plan) (hs : List Seen) (i j : ℕ) : Type 0 where
   pub ports : is_flows p.serving ≡ false
-  pub one : IsOnlyOne hs i
-  pub other : IsOnlyOne hs j
+  pub one : IsOnlyOne is_new_reply hs i
+  pub other : IsOnlyOne is_new_reply hs j
   pub sender : one.sender.port ≡ other.sender.port
   pub later : one.place < other.place
   pub same : AreOfOneFlow p one.reply.event other.reply.event
   pub before : WasGotBefore j other.getter i one.getter
+
+-- whether it is a FORWARD: an answer with an event
+abbrev pub is_forward_reply : Reply → Bool
+is_forward_reply r = is_answer r && passes_on r.event.op
+
+-- the event that the g-th entry got was forwarded, and what it was forwarded as the h-th got
+pub record IsForwarded (hs : List Seen) (g h : ℕ) : Type 0 where
+  pub onward : IsOnlyOne is_forward_reply hs h
+  pub answer : IsAnswerTo hs g onward.place
+
+-- the two events are of one queue, which keeps their order
+pub record AreKeptInOrder (p : Plan) (e f : Event) : Type 0 where
+  pub queue : e.queue ≡ f.queue
+  pub kept : keeps_order p e.queue e f ≡ true
+
+-- A port enqueued two events to a queue that keeps their order. They were forwarded as events of one flow and level of an atomic queue, and
+-- of these the other, whose NEW came later, was got first.
+pub record IsReordered (p : Plan) (hs : List Seen) (i j : ℕ) : Type 0 where
+  pub ports : is_flows p.serving ≡ false
+  pub one_at : ℕ
+  pub one : IsOnlyOne is_new_reply hs one_at
+  pub other_at : ℕ
+  pub other : IsOnlyOne is_new_reply hs other_at
+  pub sender : one.sender.port ≡ other.sender.port
+  pub later : one.place < other.place
+  pub kept : AreKeptInOrder p one.reply.event other.reply.event
+  pub one_on : IsForwarded hs one_at i
+  pub other_on : IsForwarded hs other_at j
+  pub same : AreOfOneFlow p one_on.onward.reply.event other_on.onward.reply.event
+  pub before : WasGotBefore j other_on.onward.getter i one_on.onward.getter
 
 -- Of the events that the port got, up to and with the i-th entry, more than its depth are in its hand for certain when that entry ends.
 pub record IsOverfull (p : Plan) (hs : List Seen) (i : ℕ) : Type 0 where
@@ -97,13 +129,22 @@ pub record IsOverfull (p : Plan) (hs : List Seen) (i : ℕ) : Type 0 where
   pub got : gets seen.deed ≡ true
   pub more : depth_of p seen.port + answers_begun hs seen.port seen.ended < got_before hs seen.port i + 1
 
+-- When the i-th entry, a dequeue, ended, the ports together held more events for certain than may be inside.
+pub record IsCrowded (p : Plan) (hs : List Seen) (i : ℕ) : Type 0 where
+  pub seen : Seen
+  pub entry : slice_get hs i ≡ Some seen
+  pub got : gets seen.deed ≡ true
+  pub more : bound_of p < sum_by (held_surely hs seen.ended) (range_with_len 0 (length p.ports))
+
 abbrev pub IsBreach : Plan → List Seen → Breach → Type 0
 IsBreach p hs (Unlinked i) = IsUnlinked p hs i
 IsBreach p hs (Together i j) = IsTogether p hs i j
 IsBreach p hs (Unsent i) = IsUnsent p hs i
 IsBreach p hs (Early i) = IsEarly p hs i
 IsBreach p hs (Overtaken i j) = IsOvertaken p hs i j
+IsBreach p hs (Reordered i j) = IsReordered p hs i j
 IsBreach p hs (Overfull i) = IsOverfull p hs i
+IsBreach p hs (Crowded i) = IsCrowded p hs i
 
 -- what is answered: a breach that it has, or that it has none
 abbrev pub IsAnswer : Plan → List Seen → Option Breach → Type 0

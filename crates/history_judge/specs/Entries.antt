@@ -1,5 +1,5 @@
 -- Which histories are judged.
-use Rattle.std.specs.Prelude.{ℕ, ◌≡◌, ◌<◌, ◌≤◌, Bool, true, false, not, ◌&&◌, ◌||◌, List, ◌==◌, nat_lt, nat_le, length, Option, Some, None, slice_get, slice_index_or, ◌⊎◌, if◌then◌else◌}
+use Rattle.std.specs.Prelude.{ℕ, ◌≡◌, ◌<◌, ◌≤◌, Bool, true, false, not, ◌&&◌, ◌||◌, List, ◌==◌, nat_lt, nat_le, length, Option, Some, None, slice_get, slice_index_or, ◌⊎◌}
 use Rattle.evt_types.specs.Plan.{Plan, is_flows}
 use Rattle.history_judge.specs.declared.fault.HistoryFault.{HistoryFault}
 use Rattle.history_judge.specs.declared.fault.HistoryFault.TheVariants.{Flows, Port, Order, Unsorted, Memory}

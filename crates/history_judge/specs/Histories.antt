@@ -1,5 +1,5 @@
 -- What an application saw of a device, and the runs that fit it.
-use Rattle.std.specs.Prelude.{ℕ, ◌≡◌, ◌<◌, ◌≤◌, Bool, true, false, ◌&&◌, List, ◌==◌, nat_le, length, take, count_by, Some, slice_get}
+use Rattle.std.specs.Prelude.{ℕ, ◌≡◌, ◌-◌, ◌<◌, ◌≤◌, Bool, true, false, ◌&&◌, List, ◌==◌, nat_le, length, take, count_by, Some, slice_get}
 use Rattle.evt_types.specs.Operation.{is_answer}
 use Rattle.evt_types.specs.Plan.{Plan}
 use Rattle.evt_types.specs.declared.event.Event.{Event}
@@ -41,6 +41,20 @@ sent_before hs l i = count_by (is_sent l) (take i hs)
 
 abbrev pub got_before : List Seen → ℕ → ℕ → ℕ
 got_before hs l i = count_by (is_got l) (take i hs)
+
+-- how many of them are answers
+abbrev pub answered_before : List Seen → ℕ → ℕ → ℕ
+answered_before hs l i = count_by (is_answered l) (take i hs)
+
+-- the b-th entry answers what the g-th got: a port's answers are to what it got, one after the other
+pub record IsAnswerTo (hs : List Seen) (g b : ℕ) : Type 0 where
+  pub holder : Seen
+  pub taken : slice_get hs g ≡ Some holder
+  pub got : gets holder.deed ≡ true
+  pub answerer : Seen
+  pub there : slice_get hs b ≡ Some answerer
+  pub answer : is_answered holder.port answerer ≡ true
+  pub turn : answered_before hs holder.port b ≡ got_before hs holder.port g
 
 -- ---- runs that fit
 
@@ -102,6 +116,17 @@ is_answer_begun l t s = is_answered l s && nat_le s.began t
 
 abbrev pub answers_begun : List Seen → ℕ → ℕ → ℕ
 answers_begun hs l t = count_by (is_answer_begun l t) hs
+
+-- whether it is one of the port's dequeues, of a call that ended at t or before
+abbrev pub is_got_ended : ℕ → ℕ → Seen → Bool
+is_got_ended l t s = is_got l s && nat_le s.ended t
+
+abbrev pub gots_ended : List Seen → ℕ → ℕ → ℕ
+gots_ended hs l t = count_by (is_got_ended l t) hs
+
+-- how many events the port has for certain at t: those that it got by then, less as many as answers of its began by then
+abbrev pub held_surely : List Seen → ℕ → ℕ → ℕ
+held_surely hs t l = gots_ended hs l t - answers_begun hs l t
 
 -- at t the port has the event: it got it, and even if each answer was made when its call began, its own wasn't
 pub record IsHeldAt (hs : List Seen) (i : ℕ) (t : ℕ) (s : Seen) : Type 0 where

@@ -1,10 +1,13 @@
+pub mod Answers
 pub mod Begins
 pub mod Breaches
+pub mod Crowds
 pub mod Depths
 pub mod Entries
 pub mod Histories
 pub mod Holds
 pub mod Left
 pub mod Streams
+pub mod Undecided
 pub mod Values
 pub mod Watching

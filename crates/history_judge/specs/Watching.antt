@@ -1,5 +1,5 @@
 -- How the judge stands at the entries that it has gone through.
-use Rattle.std.specs.Prelude.{ℕ, ◌≡◌, ◌+◌, ◌<◌, Bool, true, not, cond, ◌&&◌, List, ◌==◌, length, Option, Some, None, slice_get, slice_set, slice_index_or, if◌then◌else◌}
+use Rattle.std.specs.Prelude.{ℕ, ◌≡◌, ◌+◌, ◌<◌, true, not, cond, ◌&&◌, List, ◌==◌, length, Option, Some, None, slice_set, slice_index_or, if◌then◌else◌}
 use Rattle.std.specs.declared.alloc.Global.{Global}
 use Rattle.std.specs.declared.vec.Vec.{Vec}
 use Rattle.evt_types.specs.Fault.{IsWithinLimits}

@@ -13,6 +13,11 @@ pub enum Breach {
     Early { at: usize },
     /// Of two events of one flow and level that a port enqueued to an atomic queue the later one was dequeued first, by the other entry.
     Overtaken { at: usize, other: usize },
+    /// Two events that a port enqueued to a queue that keeps their order were forwarded as events of one flow and level of an atomic
+    /// queue, and what the later one was forwarded as was dequeued first, by the other entry.
+    Reordered { at: usize, other: usize },
     /// A port held more events than its depth.
     Overfull { at: usize },
+    /// The ports together held more events than the limit and the rings of their replies have room for.
+    Crowded { at: usize },
 }

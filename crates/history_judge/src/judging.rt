@@ -4,13 +4,15 @@ ghost use Rattle.std.specs.Prelude.{◌≡◌, ◌≢◌, IfErr, IfOk, OnOk};
 ghost use Rattle.history_judge.specs.Breaches.{IsAnswer};
 ghost use Rattle.history_judge.specs.Entries.{IsRefused};
 
+use crate::arrivals::Tables;
 use crate::breach::Breach;
+use crate::crowds::first_crowded;
 use crate::depths::first_overfull;
 use crate::early::first_premature;
 use crate::entries::{first_misplaced, first_unknown, first_unsorted};
 use crate::fault::HistoryFault;
 use crate::holds::{first_unlinked, port_count};
-use crate::order::first_overtaken;
+use crate::order::{first_overtaken, first_reordered};
 use crate::seen::Seen;
 use crate::times::answer_times;
 use crate::values::first_excess;
@@ -60,13 +62,20 @@ pub fn judge_history(
     if let Some(at) = first_premature(alloc, history)? {
         return Ok(Some(Breach::Early { at }));
     }
-    if let Some((at, other)) = first_overtaken(alloc, shape, history)? {
+    let tables = Tables::new(alloc, shape, history)?;
+    if let Some((at, other)) = first_overtaken(alloc, shape, history, &tables)? {
         return Ok(Some(Breach::Overtaken { at, other }));
+    }
+    if let Some((at, other)) = first_reordered(alloc, shape, history, &tables)? {
+        return Ok(Some(Breach::Reordered { at, other }));
     }
     let _limits = shape.limit();
     let times = answer_times(alloc, port_count(shape), history)?;
     if let Some(at) = first_overfull(alloc, shape, history, &times)? {
         return Ok(Some(Breach::Overfull { at }));
+    }
+    if let Some(at) = first_crowded(alloc, shape, history, &times)? {
+        return Ok(Some(Breach::Crowded { at }));
     }
     let found = first_together(alloc, shape, history, &times)?;
     Ok(found.map(|(at, other)| Breach::Together { at, other }))

@@ -2,7 +2,10 @@
 //! times before and after the call. What it calls broken is broken in every run of a device that fits what was seen.
 #![tactic(auto)]
 
+mod answers;
+mod arrivals;
 mod breach;
+mod crowds;
 mod depths;
 mod early;
 mod entries;
@@ -13,6 +16,7 @@ mod laws;
 mod order;
 mod seen;
 mod times;
+mod undecided;
 mod values;
 mod watch;
 
@@ -21,3 +25,4 @@ pub use fault::HistoryFault;
 pub use judging::judge_history;
 pub use laws::breaches_are_impossible;
 pub use seen::{Deed, Seen};
+pub use undecided::{Undecided, count_undecided};

@@ -21,7 +21,7 @@ fn empty_times(alloc: Global, count: usize) -> Result<Vec<Vec<u64>>, Memory>
 }
 
 /// Whether it answers what its port holds.
-fn is_answer(seen: &Seen) -> bool
+pub(crate) fn is_answer(seen: &Seen) -> bool
     ensures { result ≡ specs.is_answer_entry seen.now }
 {
     match &seen.deed {

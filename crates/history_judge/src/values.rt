@@ -50,7 +50,7 @@ pub(crate) fn count_left(left: &Left, event: &Event) -> usize
 }
 
 /// So many of the event's value are left.
-fn set_left(left: &mut Left, event: &Event, count: usize) -> Result<(), Memory>
+pub(crate) fn set_left(left: &mut Left, event: &Event, count: usize) -> Result<(), Memory>
     ensures { OnOk result (HasLeft left.old left.new event.now count) }
 {
     left.insert(value_of(event), count)?;
@@ -58,7 +58,7 @@ fn set_left(left: &mut Left, event: &Event, count: usize) -> Result<(), Memory>
 }
 
 /// One more is left of what the entry sent.
-fn note_sent(left: &mut Left, seen: &Seen) -> Result<(), Memory>
+pub(crate) fn note_sent(left: &mut Left, seen: &Seen) -> Result<(), Memory>
     requires { (e : EventValue) → left_for left.old e < 2 ^ 64 - 1 }
     ensures { OnOk result (IsOneMore left.old left.new seen.now) }
 {

@@ -5,7 +5,7 @@ ghost use Rattle.judge_app.specs.Breaches as texts;
 
 use crate::entries::write_entry;
 use evt_types::{Event, Shape};
-use history_judge::{Breach, Deed, Seen};
+use history_judge::{Breach, Deed, Seen, count_undecided};
 use std::alloc::{AllocError, Global};
 
 /// The name of a breach.
@@ -17,7 +17,9 @@ fn name_of(breach: Breach) -> &'static str
         Breach::Unsent { .. } => "Unsent",
         Breach::Early { .. } => "Early",
         Breach::Overtaken { .. } => "Overtaken",
+        Breach::Reordered { .. } => "Reordered",
         Breach::Overfull { .. } => "Overfull",
+        Breach::Crowded { .. } => "Crowded",
         Breach::Together { .. } => "Together",
     }
 }
@@ -31,7 +33,9 @@ fn place_of(breach: Breach) -> usize
         | Breach::Unsent { at }
         | Breach::Early { at }
         | Breach::Overtaken { at, .. }
+        | Breach::Reordered { at, .. }
         | Breach::Overfull { at }
+        | Breach::Crowded { at }
         | Breach::Together { at, .. } => at,
     }
 }
@@ -85,22 +89,27 @@ fn write_got(port: usize, event: &Event, out: &mut String) -> Result<(), AllocEr
     out.push_str(": ")
 }
 
-/// Writes which port got the other event, and in which line.
-fn write_overtaker(other: &Seen, at: usize, out: &mut String) -> Result<(), AllocError>
-    ensures { OnOk result (string_bytes out.new ≡ string_bytes out.old ++ texts.overtaker_text at other.now) }
+/// Writes which port got the other event, in which line, and why it should have been got later.
+fn write_overtaker(other: &Seen, at: usize, why: &str, out: &mut String) -> Result<(), AllocError>
+    ensures { OnOk result (string_bytes out.new ≡ string_bytes out.old ++ texts.overtaker_text why.now at other.now) }
 {
     let line = at as u128 + 1;
     write!(out, "port {}", other.port)?;
     write!(out, " had got that of line {line}")?;
-    out.push_str(", which was enqueued later")
+    out.push_str(why)
 }
 
 /// The same of the entry at that place, if there is one.
-fn write_overtaker_at(history: &[Seen], at: usize, out: &mut String) -> Result<(), AllocError>
-    ensures { OnOk result (string_bytes out.new ≡ string_bytes out.old ++ texts.overtaker_at history.now at) }
+fn write_overtaker_at(
+    history: &[Seen],
+    at: usize,
+    why: &str,
+    out: &mut String,
+) -> Result<(), AllocError>
+    ensures { OnOk result (string_bytes out.new ≡ string_bytes out.old ++ texts.overtaker_at why.now history.now at) }
 {
     match history.get(at) {
-        Some(other) => write_overtaker(other, at, out),
+        Some(other) => write_overtaker(other, at, why, out),
         None => Ok(()),
     }
 }
@@ -130,6 +139,13 @@ fn write_depth(depth: usize, out: &mut String) -> Result<(), AllocError>
     write!(out, "it held more than its depth of {depth}")
 }
 
+fn write_bound(bound: usize, out: &mut String) -> Result<(), AllocError>
+    ensures { OnOk result (string_bytes out.new ≡ string_bytes out.old ++ texts.bound_text bound) }
+{
+    write!(out, "all ports together held more than the {bound}")?;
+    out.push_str(" events that may be inside")
+}
+
 /// Writes why no device can have done it.
 fn write_why(
     shape: &Shape,
@@ -146,8 +162,19 @@ fn write_why(
             "more such events were dequeued up to here than were enqueued in all",
         ),
         Breach::Early { .. } => out.push_str("no call that enqueued such an event had begun"),
-        Breach::Overtaken { other, .. } => write_overtaker_at(history, other, out),
+        Breach::Overtaken { other, .. } => {
+            write_overtaker_at(history, other, ", which was enqueued later", out)
+        }
+        Breach::Reordered { other, .. } => {
+            write_overtaker_at(
+                history,
+                other,
+                ", which was forwarded from a later one",
+                out,
+            )
+        }
         Breach::Overfull { .. } => write_depth(depth_at(shape, seen.port), out),
+        Breach::Crowded { .. } => write_bound(shape.bound(), out),
         Breach::Together { other, .. } => write_other(history, other, out),
     }
 }
@@ -199,13 +226,14 @@ fn write_other_line(history: &[Seen], breach: Breach, out: &mut String) -> Resul
     ensures { OnOk result (string_bytes out.new ≡ string_bytes out.old ++ texts.other_line history.now breach) }
 {
     match breach {
-        Breach::Overtaken { other, .. } | Breach::Together { other, .. } => {
-            write_line(history, other, out)
-        }
+        Breach::Overtaken { other, .. }
+        | Breach::Reordered { other, .. }
+        | Breach::Together { other, .. } => write_line(history, other, out),
         Breach::Unlinked { .. }
         | Breach::Unsent { .. }
         | Breach::Early { .. }
-        | Breach::Overfull { .. } => Ok(()),
+        | Breach::Overfull { .. }
+        | Breach::Crowded { .. } => Ok(()),
     }
 }
 
@@ -224,6 +252,42 @@ fn write_breach(
     write_other_line(history, breach, out)
 }
 
+/// Writes how many events weren't dequeued, and how many had the value of another.
+fn write_counts(undelivered: usize, alike: usize, out: &mut String) -> Result<(), AllocError>
+    ensures { OnOk result (string_bytes out.new ≡ string_bytes out.old ++ texts.counts_text undelivered alike) }
+{
+    write!(out, "undecided: not dequeued {undelivered}")?;
+    write!(out, ", with the value of another {alike}")?;
+    out.push_str("\n")
+}
+
+/// Whether there are any.
+fn are_some(undelivered: usize, alike: usize) -> bool
+    ensures { result ≡ texts.are_some undelivered alike }
+{
+    undelivered > 0 || alike > 0
+}
+
+/// The same, if there are any.
+fn write_open(undelivered: usize, alike: usize, out: &mut String) -> Result<(), AllocError>
+    ensures { OnOk result (string_bytes out.new ≡ string_bytes out.old ++ texts.open_text undelivered alike) }
+{
+    if are_some(undelivered, alike) {
+        write_counts(undelivered, alike, out)
+    } else {
+        Ok(())
+    }
+}
+
+/// Writes that nothing is broken, and what is left open.
+fn write_no_breach(alloc: Global, history: &[Seen], out: &mut String) -> Result<(), AllocError>
+    ensures { OnOk result (string_bytes out.new ≡ string_bytes out.old ++ texts.no_breach_text history.now) }
+{
+    let counts = count_undecided(alloc, history)?;
+    out.push_str("no breach\n")?;
+    write_open(counts.undelivered, counts.alike, out)
+}
+
 /// What is printed of what was found in a history.
 pub(crate) fn found_text(
     alloc: Global,
@@ -236,7 +300,7 @@ pub(crate) fn found_text(
     let mut out = String::new(alloc);
     match found {
         Some(breach) => write_breach(shape, history, breach, &mut out)?,
-        None => out.push_str("no breach\n")?,
+        None => write_no_breach(alloc, history, &mut out)?,
     }
     Ok(out)
 }

@@ -1,4 +1,4 @@
-use Rattle.std.proofs.Common.{◌∙◌, arith, length, sym}
+use Rattle.std.proofs.Common.{◌∙◌, length, sym}
 use Rattle.history_judge.proofs.Holdings.{is_linked, is_unlinked, lane_there, unlinked_within}
 use Rattle.history_judge.proofs.InOrder.{entry_at, none_at_all, none_more, port_known}
 use Rattle.history_judge.specs.Breaches.{IsUnlinked}

@@ -1,7 +1,7 @@
 use Rattle.std.proofs.Common.{◌∙◌, sym, subst, ◌<◌, ◌≤◌}
 use Rattle.std.proofs.lemmas.Option.{same_Some}
 use Rattle.history_judge.proofs.InOrder.{entry_at}
-use Rattle.history_judge.proofs.Overtaking.{not_before}
+use Rattle.history_judge.proofs.Crossing.{not_before}
 use Rattle.history_judge.specs.declared.seen.Seen.{Seen}
 use Rattle.history_judge.proofs.order.call_before.Goals as goal
 

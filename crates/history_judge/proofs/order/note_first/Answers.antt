@@ -1,6 +1,6 @@
 use Rattle.std.proofs.Common.{◌∙◌, ap, Some, subst}
 use Rattle.std.specs.BTreeMap.{Updates}
-use Rattle.history_judge.proofs.Overtaking.{first_set}
+use Rattle.history_judge.proofs.Crossing.{first_set}
 use Rattle.history_judge.specs.Streams.{earlier, stream_cmp}
 use Rattle.history_judge.proofs.order.note_first.Goals as goal
 

@@ -1,5 +1,5 @@
 use Rattle.history_judge.specs.Streams.{AreGetters}
-use Rattle.history_judge.proofs.order.all_getters.Given as goal
+use Rattle.history_judge.proofs.arrivals.all_getters.Given as goal
 
 abbrev pub invariant-loop-at : goal.invariant-loop-at
 invariant-loop-at l = AreGetters l.history l.at l.getters

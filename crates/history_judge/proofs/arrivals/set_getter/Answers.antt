@@ -1,8 +1,8 @@
 use Rattle.std.proofs.Common.{Some, subst}
 use Rattle.std.specs.BTreeMap.{Updates}
-use Rattle.history_judge.proofs.Overtaking.{getter_set}
+use Rattle.history_judge.proofs.Arriving.{getter_set}
 use Rattle.history_judge.specs.Left.{value_cmp}
-use Rattle.history_judge.proofs.order.set_getter.Goals as goal
+use Rattle.history_judge.proofs.arrivals.set_getter.Goals as goal
 
 pub returns : goal.returns
 returns c =

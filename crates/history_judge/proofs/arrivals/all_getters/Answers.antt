@@ -1,6 +1,6 @@
 use Rattle.history_judge.proofs.InOrder.{entry_at}
-use Rattle.history_judge.proofs.Overtaking.{getters_more}
-use Rattle.history_judge.proofs.order.all_getters.Goals as goal
+use Rattle.history_judge.proofs.Arriving.{getters_more}
+use Rattle.history_judge.proofs.arrivals.all_getters.Goals as goal
 
 pub loop-at-preserved : goal.loop-at-preserved
 loop-at-preserved c =

@@ -1,11 +1,11 @@
 -- What came of a NEW, by what is looked up of a history.
-use Rattle.std.specs.Prelude.{ℕ, ◌≡◌, ◌+◌, ◌<◌, Bool, true, false, not, cond, ◌&&◌, List, ◌==◌, length, Option, Some, None, slice_get, ◌⊎◌}
+use Rattle.std.specs.Prelude.{ℕ, ◌≡◌, ◌+◌, ◌<◌, Bool, true, not, cond, ◌&&◌, List, ◌==◌, length, Option, Some, None, slice_get}
 use Rattle.std.specs.BTreeMap.{BTreeMap, Updates}
-use Rattle.std.proofs.Common.{IfNone, IfSome, refl, sym, ap, ◌∙◌, subst, arith, inl, inr, ⊎_elim}
+use Rattle.std.proofs.Common.{IfNone, IfSome, refl, sym, ap, ◌∙◌, subst, arith, ⊎_elim}
 use Rattle.std.proofs.lemmas.Bool.{and_from, and_parts, cases_Bool, cases_lt, cond-true, cond-false, false≢true}
 use Rattle.std.proofs.lemmas.Option.{cond_some, none-some, same_Some, slice_get_within}
 use Rattle.evt_types.specs.Operation.{is_new_reply, is_release_reply}
-use Rattle.evt_types.specs.Plan.{Plan, is_atomic, queue_of}
+use Rattle.evt_types.specs.Plan.{Plan}
 use Rattle.evt_types.specs.declared.event.Event.{Event}
 use Rattle.evt_types.specs.declared.event.Reply.{Reply}
 use Rattle.lists.proofs.Lists.{eqb_is, eqb_same, slice_get-some}
@@ -17,12 +17,12 @@ use Rattle.history_judge.proofs.Numbers.{count_first, same_fields}
 use Rattle.history_judge.specs.Breaches.{IsOnlyOne, is_forward_reply}
 use Rattle.history_judge.specs.Histories.{IsAnswerTo, IsSameBut}
 use Rattle.history_judge.specs.Left.{left_for, value_cmp, value_of}
-use Rattle.history_judge.specs.Streams.{AreGetters, AreReady, Comes, HasGetter, IsForwardedTo, IsGetter, IsGot, IsSentTo, arrival_by, arrival_of, getter_of, of_all, only_event, only_sent, origin_of, stream_of}
+use Rattle.history_judge.specs.Streams.{AreGetters, AreReady, Comes, HasGetter, IsForwardedTo, IsGetter, IsGot, IsSentTo, arrival_by, arrival_in, arrival_of, getter_of, of_all, only_event, only_sent, order_of, stream_of}
 use Rattle.history_judge.specs.Values.{IsExcess, gets_value, is_same_but, sends_value, times_sent}
 use Rattle.history_judge.specs.declared.arrivals.Arrival.{Arrival}
 use Rattle.history_judge.specs.declared.arrivals.Course.{Course}
 use Rattle.history_judge.specs.declared.arrivals.Course.TheVariants.{Itself, Forwarded}
-use Rattle.history_judge.specs.declared.arrivals.Origin.{Origin}
+use Rattle.history_judge.specs.declared.arrivals.KeptOrder.{KeptOrder}
 use Rattle.history_judge.specs.declared.arrivals.Tables.{Tables}
 use Rattle.history_judge.specs.declared.seen.Deed.{Deed}
 use Rattle.history_judge.specs.declared.seen.Deed.TheVariants.{Sent, Got}
@@ -161,33 +161,31 @@ module _ (p : Plan) (hs : List Seen) (t : Tables) (ready : AreReady p hs t) wher
             event = both.1;
           }
 
-  -- ---- who got it, of an atomic queue
+  -- ---- who got it, of a queue that keeps an order
 
-  record Arrived (l : ℕ) (origin : Option Origin) (e : Event) (x : Arrival) : Type 0 where
-    atomic : is_atomic (queue_of p e.queue).kind ≡ true
+  record Arrived (l : ℕ) (origin : Option KeptOrder) (e : Event) (x : Arrival) : Type 0 where
+    kept : KeptOrder
+    keeps : order_of p e ≡ Some kept
     getter : getter_of t.getters e ≡ Some x.getter
-    stream : x.stream ≡ stream_of l origin e
+    stream : x.stream ≡ stream_of l origin kept
 
-  arrived : (l : ℕ) (origin : Option Origin) (e : Event) (x : Arrival) → arrival_of p t.getters l origin e ≡ Some x → Arrived l origin e x
-  arrived l origin e x is = by_kind (cases_Bool (is_atomic (queue_of p e.queue).kind))
+  arrived : (l : ℕ) (origin : Option KeptOrder) (e : Event) (x : Arrival) → arrival_of p t.getters l origin e ≡ Some x → Arrived l origin e x
+  arrived l origin e x is = by_order (order_of p e) refl is
     where
-      by_getter : (found : Option ℕ) → getter_of t.getters e ≡ found → arrival_by l origin e found ≡ Some x → is_atomic (queue_of p e.queue).kind ≡ true → Arrived l origin e x
-      by_getter None none some atomic = absurd (none-some x some)
-      by_getter (Some g) found some atomic =
-          let same : record { stream = stream_of l origin e; getter = g } ≡ x = same_Some (record { stream = stream_of l origin e; getter = g }) x some in
-          record { atomic = atomic; getter = found ∙ ap (λ (y : Arrival). Some y.getter) same; stream = ap (λ (y : Arrival). y.stream) (sym same) }
+      by_getter : (kept : KeptOrder) → order_of p e ≡ Some kept → (found : Option ℕ) → getter_of t.getters e ≡ found → arrival_by l origin kept found ≡ Some x → Arrived l origin e x
+      by_getter kept keeps None none some = absurd (none-some x some)
+      by_getter kept keeps (Some g) found some =
+          let same : record { stream = stream_of l origin kept; getter = g } ≡ x = same_Some (record { stream = stream_of l origin kept; getter = g }) x some in
+          record { kept = kept; keeps = keeps; getter = found ∙ ap (λ (y : Arrival). Some y.getter) same; stream = ap (λ (y : Arrival). y.stream) (sym same) }
 
-      by_kind : (is_atomic (queue_of p e.queue).kind ≡ true) ⊎ (is_atomic (queue_of p e.queue).kind ≡ false) → Arrived l origin e x
-      by_kind (inl atomic) =
-          by_getter (getter_of t.getters e) refl
-          (sym (cond-true (is_atomic (queue_of p e.queue).kind) (arrival_by l origin e (getter_of t.getters e)) None atomic) ∙ is) atomic
-      by_kind (inr other) = absurd (none-some x (sym (cond-false (is_atomic (queue_of p e.queue).kind) (arrival_by l origin e (getter_of t.getters e)) None other) ∙ is))
+      by_order : (o : Option KeptOrder) → order_of p e ≡ o → arrival_in t.getters l origin e o ≡ Some x → Arrived l origin e x
+      by_order None none some = absurd (none-some x some)
+      by_order (Some kept) keeps some = by_getter kept keeps (getter_of t.getters e) refl some
 
-  arrives : (l : ℕ) (origin : Option Origin) (e : Event) (x : Arrival) → is_atomic (queue_of p e.queue).kind ≡ true → getter_of t.getters e ≡ Some x.getter
-      → x.stream ≡ stream_of l origin e → arrival_of p t.getters l origin e ≡ Some x
-  arrives l origin e x atomic got stream =
-      cond-true (is_atomic (queue_of p e.queue).kind) (arrival_by l origin e (getter_of t.getters e)) None atomic
-      ∙ (ap (arrival_by l origin e) got ∙ ap (λ k. Some (record { stream = k; getter = x.getter })) (sym stream))
+  arrives : (l : ℕ) (origin : Option KeptOrder) (e : Event) (kept : KeptOrder) (x : Arrival) → order_of p e ≡ Some kept → getter_of t.getters e ≡ Some x.getter
+      → x.stream ≡ stream_of l origin kept → arrival_of p t.getters l origin e ≡ Some x
+  arrives l origin e kept x keeps got stream =
+      ap (arrival_in t.getters l origin e) keeps ∙ (ap (arrival_by l origin kept) got ∙ ap (λ k. Some (record { stream = k; getter = x.getter })) (sym stream))
 
   -- ---- what came of the entry's NEW
 
@@ -204,7 +202,7 @@ module _ (p : Plan) (hs : List Seen) (t : Tables) (ready : AreReady p hs t) wher
           event = is.only.reply.event;
           new = only_is is_new_reply x.getter s is.only here;
           came = subst (λ l. arrival_of p t.getters l None is.only.reply.event ≡ Some x) port
-              (arrives is.only.sender.port None is.only.reply.event x is.atomic (only_getter is_new_reply x.getter is.only) is.stream);
+              (arrives is.only.sender.port None is.only.reply.event is.kept x is.keeps (only_getter is_new_reply x.getter is.only) is.stream);
         }
       where
         here : slice_get hs is.only.place ≡ Some s
@@ -218,8 +216,9 @@ module _ (p : Plan) (hs : List Seen) (t : Tables) (ready : AreReady p hs t) wher
         record {
           only = m.only;
           place = m.place;
-          atomic = subst (λ (e : Event). is_atomic (queue_of p e.queue).kind ≡ true) (sym m.event) here.atomic;
-          stream = here.stream ∙ (ap (stream_of s.port None) (sym m.event) ∙ ap (λ (u : Seen). stream_of u.port None m.only.reply.event) (sym m.sender));
+          kept = here.kept;
+          keeps = ap (order_of p) m.event ∙ here.keeps;
+          stream = here.stream ∙ ap (λ (u : Seen). stream_of u.port None here.kept) (sym m.sender);
         }
       where
         here : Arrived s.port None f.event x
@@ -231,8 +230,8 @@ module _ (p : Plan) (hs : List Seen) (t : Tables) (ready : AreReady p hs t) wher
     pub record FoundOn (x : Arrival) : Type 0 where
       pub event : Event
       pub new : only_event is_new_reply t.sent s ≡ Some event
-      pub origin : Origin
-      pub keeps : origin_of p event ≡ Some origin
+      pub origin : KeptOrder
+      pub origin_is : order_of p event ≡ Some origin
       pub holder : ℕ
       pub taken : getter_of t.getters event ≡ Some holder
       pub answer : ℕ
@@ -261,7 +260,7 @@ module _ (p : Plan) (hs : List Seen) (t : Tables) (ready : AreReady p hs t) wher
           event = is.new.reply.event;
           new = only_is is_new_reply is.holder s is.new here;
           origin = is.origin;
-          keeps = is.keeps;
+          origin_is = is.origin_is;
           holder = is.holder;
           taken = only_getter is_new_reply is.holder is.new;
           answer = is.on.onward.place;
@@ -271,7 +270,7 @@ module _ (p : Plan) (hs : List Seen) (t : Tables) (ready : AreReady p hs t) wher
           onward = is.on.onward.reply.event;
           forward = only_is is_forward_reply x.getter is.on.onward.sender is.on.onward is.on.onward.enqueued;
           came = subst (λ l. arrival_of p t.getters l (Some is.origin) is.on.onward.reply.event ≡ Some x) port
-              (arrives is.new.sender.port (Some is.origin) is.on.onward.reply.event x is.atomic (only_getter is_forward_reply x.getter is.on.onward) is.stream);
+              (arrives is.new.sender.port (Some is.origin) is.on.onward.reply.event is.kept x is.keeps (only_getter is_forward_reply x.getter is.on.onward) is.stream);
         }
       where
         here : slice_get hs is.new.place ≡ Some s
@@ -287,11 +286,11 @@ module _ (p : Plan) (hs : List Seen) (t : Tables) (ready : AreReady p hs t) wher
           new = m.only;
           place = m.place;
           origin = f.origin;
-          keeps = ap (origin_of p) m.event ∙ f.keeps;
+          origin_is = ap (order_of p) m.event ∙ f.origin_is;
           on = record { onward = w.only; answer = subst (IsAnswerTo hs f.holder) (sym w.place) (ready.answered.each f.holder f.answer f.answered) };
-          atomic = subst (λ (e : Event). is_atomic (queue_of p e.queue).kind ≡ true) (sym w.event) here.atomic;
-          stream = here.stream
-              ∙ (ap (stream_of s.port (Some f.origin)) (sym w.event) ∙ ap (λ (u : Seen). stream_of u.port (Some f.origin) w.only.reply.event) (sym m.sender));
+          kept = here.kept;
+          keeps = ap (order_of p) w.event ∙ here.keeps;
+          stream = here.stream ∙ ap (λ (u : Seen). stream_of u.port (Some f.origin) here.kept) (sym m.sender);
         }
       where
         here : Arrived s.port (Some f.origin) f.onward x
@@ -347,7 +346,7 @@ module _ (p : Plan) (hs : List Seen) (t : Tables) (ready : AreReady p hs t) wher
               let f = found_forwarded x bad in
               none-some f.onward (sym none ∙ (ap (only_event is_forward_reply t.sent) (same_answerer x f) ∙ f.forward))
 
-          module _ (origin : Origin) (keeps : origin_of p e ≡ Some origin) (u : Event) (forward : only_event is_forward_reply t.sent w ≡ Some u) where
+          module _ (origin : KeptOrder) (origin_is : order_of p e ≡ Some origin) (u : Event) (forward : only_event is_forward_reply t.sent w ≡ Some u) where
             pub came_forwarded : (o : Option Arrival) → o ≡ arrival_of p t.getters s.port (Some origin) u → IfSome o (λ x. IsForwardedTo p hs a x)
             came_forwarded None is = tt
             came_forwarded (Some x) is =
@@ -356,7 +355,7 @@ module _ (p : Plan) (hs : List Seen) (t : Tables) (ready : AreReady p hs t) wher
                   event = e;
                   new = new;
                   origin = origin;
-                  keeps = keeps;
+                  origin_is = origin_is;
                   holder = h;
                   taken = taken;
                   answer = b;
@@ -373,7 +372,7 @@ module _ (p : Plan) (hs : List Seen) (t : Tables) (ready : AreReady p hs t) wher
                 λ x bad. let f = found_forwarded x bad in
                 none-some x
                 (is
-                ∙ (ap (λ y. arrival_of p t.getters s.port (Some y) u) (same_Some origin f.origin (sym keeps ∙ (ap (origin_of p) (same_event x f) ∙ f.keeps)))
+                ∙ (ap (λ y. arrival_of p t.getters s.port (Some y) u) (same_Some origin f.origin (sym origin_is ∙ (ap (order_of p) (same_event x f) ∙ f.origin_is)))
                 ∙ (ap (arrival_of p t.getters s.port (Some f.origin))
                 (same_Some u f.onward (sym forward ∙ (ap (only_event is_forward_reply t.sent) (same_answerer x f) ∙ f.forward)))
                 ∙ f.came)))
@@ -398,7 +397,7 @@ module _ (p : Plan) (hs : List Seen) (t : Tables) (ready : AreReady p hs t) wher
         events = same_Some f.event g.event (sym f.new ∙ g.new)
 
         origins : f.origin ≡ g.origin
-        origins = same_Some f.origin g.origin (sym f.keeps ∙ (ap (origin_of p) events ∙ g.keeps))
+        origins = same_Some f.origin g.origin (sym f.origin_is ∙ (ap (order_of p) events ∙ g.origin_is))
 
         holders : f.holder ≡ g.holder
         holders = same_Some f.holder g.holder (sym f.taken ∙ (ap (getter_of t.getters) events ∙ g.taken))

@@ -1,5 +1,5 @@
 -- How the judge finds what is crossed, from the last that was enqueued on.
-use Rattle.std.specs.Prelude.{ℕ, ◌≡◌, ◌≢◌, ◌+◌, ◌<◌, ◌≤◌, true, false, cond, ◌&&◌, List, ◌==◌, nat_le, Option, Some, None, slice_get, ◌⊎◌}
+use Rattle.std.specs.Prelude.{Bool, ℕ, ◌≡◌, ◌≢◌, ◌+◌, ◌<◌, ◌≤◌, true, false, cond, ◌&&◌, List, ◌==◌, nat_le, Option, Some, None, slice_get, ◌⊎◌}
 use Rattle.std.specs.BTreeMap.{BTreeMap, Updates, is_at}
 use Rattle.std.specs.Option.{is_some, option_cmp}
 use Rattle.std.specs.Ordering.{is_eq, nat_cmp, ordering_then}
@@ -11,12 +11,11 @@ use Rattle.evt_types.specs.Plan.{Plan}
 use Rattle.lists.proofs.Lists.{eqb_is, eqb_same}
 use Rattle.history_judge.proofs.Arriving.{comes_once, comes_to_all}
 use Rattle.history_judge.proofs.Lefts.{eq_field, eq_number, eq_then}
-use Rattle.history_judge.specs.Breaches.{WasGotBefore}
 use Rattle.history_judge.specs.Entries.{IsUnsorted}
-use Rattle.history_judge.specs.Streams.{AreFirsts, AreReady, Comes, EndedBefore, IsAsked, IsCrossed, IsFirst, IsIn, IsNoted, arrival, earlier, first_in, is_same_option, is_same_origin, is_same_stream, of_all, of_port, origin_cmp, stream_cmp}
+use Rattle.history_judge.specs.Streams.{AreFirsts, AreReady, Comes, EndedBefore, GotFirst, IsAsked, IsCrossed, IsFirst, IsIn, IsNoted, arrival, earlier, first_in, is_same_option, is_same_order, is_same_origin, is_same_stream, of_all, of_port, order_cmp, stream_cmp}
 use Rattle.history_judge.specs.declared.arrivals.Arrival.{Arrival}
 use Rattle.history_judge.specs.declared.arrivals.Course.{Course}
-use Rattle.history_judge.specs.declared.arrivals.Origin.{Origin}
+use Rattle.history_judge.specs.declared.arrivals.KeptOrder.{KeptOrder}
 use Rattle.history_judge.specs.declared.arrivals.Stream.{Stream}
 use Rattle.history_judge.specs.declared.arrivals.Tables.{Tables}
 use Rattle.history_judge.specs.declared.seen.Seen.{Seen}
@@ -29,20 +28,22 @@ eq_option None (Some m) = refl
 eq_option (Some l) None = refl
 eq_option (Some l) (Some m) = eq_number l m
 
-eq_origin : (o q : Option Origin) → is_eq (option_cmp origin_cmp o q) ≡ is_same_origin q o
+eq_order : (x y : KeptOrder) → is_eq (order_cmp x y) ≡ is_same_order y x
+eq_order x y = eq_field x.queue y.queue _ _ (eq_field x.level y.level _ _ (eq_option x.flow y.flow))
+
+eq_origin : (o q : Option KeptOrder) → is_eq (option_cmp order_cmp o q) ≡ is_same_origin q o
 eq_origin None None = refl
 eq_origin None (Some y) = refl
 eq_origin (Some x) None = refl
-eq_origin (Some x) (Some y) = eq_field x.queue y.queue _ _ (eq_field x.level y.level _ _ (eq_option x.flow y.flow))
+eq_origin (Some x) (Some y) = eq_order x y
+
+-- one part more
+eq_part : (r o : Ordering) (a b : Bool) → is_eq r ≡ a → is_eq o ≡ b → is_eq (ordering_then r o) ≡ (a && b)
+eq_part r o a b one rest = eq_then r o ∙ (ap (λ c. c && is_eq o) one ∙ ap (λ c. a && c) rest)
 
 is_at_stream : (k l : Stream) → is_at (stream_cmp k) l ≡ is_same_stream l k
-is_at_stream k l = eq_field k.sender l.sender _ _ (eq_then (option_cmp origin_cmp k.origin l.origin) rest ∙ (ap (λ b. b && is_eq rest) (eq_origin k.origin l.origin) ∙ ap (λ b. is_same_origin l.origin k.origin && b) rest_is))
-  where
-    rest : Ordering
-    rest = ordering_then (nat_cmp k.queue l.queue) (ordering_then (nat_cmp k.flow l.flow) (ordering_then (nat_cmp k.level l.level) (option_cmp nat_cmp k.receiver l.receiver)))
-
-    rest_is : is_eq rest ≡ ((l.queue == k.queue) && ((l.flow == k.flow) && ((l.level == k.level) && is_same_option l.receiver k.receiver)))
-    rest_is = eq_field k.queue l.queue _ _ (eq_field k.flow l.flow _ _ (eq_field k.level l.level _ _ (eq_option k.receiver l.receiver)))
+is_at_stream k l =
+    eq_field k.sender l.sender _ _ (eq_part _ _ _ _ (eq_origin k.origin l.origin) (eq_part _ _ _ _ (eq_order k.kept l.kept) (eq_option k.receiver l.receiver)))
 
 pub first_set : (m n : BTreeMap Stream ℕ) (k : Stream) (g : ℕ) → Updates stream_cmp m n k (Some (earlier (first_in m k) g)) → IsNoted m n k g
 first_set m n k g updates l = updates.0 l ∙ ap (λ b. cond b (Some (earlier (first_in m k) g)) (first_in m l)) (is_at_stream k l)
@@ -57,37 +58,41 @@ option_self : (o : Option ℕ) → is_same_option o o ≡ true
 option_self None = refl
 option_self (Some l) = eqb_same l
 
-same_origins : (o q : Option Origin) → is_same_origin o q ≡ true → o ≡ q
+same_orders : (x y : KeptOrder) → is_same_order x y ≡ true → x ≡ y
+same_orders x y is =
+    let a = and_parts (x.queue == y.queue) _ is in
+    let b = and_parts (x.level == y.level) (is_same_option x.flow y.flow) a.1 in
+    λ i. record { queue = eqb_is x.queue y.queue a.0 i; level = eqb_is x.level y.level b.0 i; flow = same_options x.flow y.flow b.1 i }
+
+order_self : (x : KeptOrder) → is_same_order x x ≡ true
+order_self x = and_from (x.queue == x.queue) _ (eqb_same x.queue) (and_from (x.level == x.level) _ (eqb_same x.level) (option_self x.flow))
+
+same_origins : (o q : Option KeptOrder) → is_same_origin o q ≡ true → o ≡ q
 same_origins None None is = refl
 same_origins None (Some y) is = absurd (false≢true is)
 same_origins (Some x) None is = absurd (false≢true is)
-same_origins (Some x) (Some y) is =
-    let a = and_parts (x.queue == y.queue) _ is in
-    let b = and_parts (x.level == y.level) (is_same_option x.flow y.flow) a.1 in
-    λ i. Some (record { queue = eqb_is x.queue y.queue a.0 i; level = eqb_is x.level y.level b.0 i; flow = same_options x.flow y.flow b.1 i })
+same_origins (Some x) (Some y) is = ap Some (same_orders x y is)
 
-origin_self : (o : Option Origin) → is_same_origin o o ≡ true
+origin_self : (o : Option KeptOrder) → is_same_origin o o ≡ true
 origin_self None = refl
-origin_self (Some x) = and_from (x.queue == x.queue) _ (eqb_same x.queue) (and_from (x.level == x.level) _ (eqb_same x.level) (option_self x.flow))
+origin_self (Some x) = order_self x
 
 same_streams : (k l : Stream) → is_same_stream k l ≡ true → k ≡ l
 same_streams k l is =
     let a = and_parts (k.sender == l.sender) _ is in
     let o = and_parts (is_same_origin k.origin l.origin) _ a.1 in
-    let b = and_parts (k.queue == l.queue) _ o.1 in
-    let c = and_parts (k.flow == l.flow) _ b.1 in
-    let d = and_parts (k.level == l.level) (is_same_option k.receiver l.receiver) c.1 in
-    λ i. record { sender = eqb_is k.sender l.sender a.0 i; origin = same_origins k.origin l.origin o.0 i; queue = eqb_is k.queue l.queue b.0 i; flow = eqb_is k.flow l.flow c.0 i; level = eqb_is k.level l.level d.0 i; receiver = same_options k.receiver l.receiver d.1 i }
+    let b = and_parts (is_same_order k.kept l.kept) (is_same_option k.receiver l.receiver) o.1 in
+    λ i. record { sender = eqb_is k.sender l.sender a.0 i; origin = same_origins k.origin l.origin o.0 i; kept = same_orders k.kept l.kept b.0 i; receiver = same_options k.receiver l.receiver b.1 i }
 
 stream_self : (k : Stream) → is_same_stream k k ≡ true
 stream_self k =
-    and_from (k.sender == k.sender) _ (eqb_same k.sender) (and_from (is_same_origin k.origin k.origin) _ (origin_self k.origin) (and_from (k.queue == k.queue) _ (eqb_same k.queue)
-    (and_from (k.flow == k.flow) _ (eqb_same k.flow) (and_from (k.level == k.level) _ (eqb_same k.level) (option_self k.receiver)))))
+    and_from (k.sender == k.sender) _ (eqb_same k.sender) (and_from (is_same_origin k.origin k.origin) _ (origin_self k.origin)
+    (and_from (is_same_order k.kept k.kept) _ (order_self k.kept) (option_self k.receiver)))
 
 -- a stream of this receiver, by that of all
 with_receiver : (k : Stream) (any : Stream) (receiver : Option ℕ) → of_all k ≡ any → k.receiver ≡ receiver
-    → k ≡ record { sender = any.sender; origin = any.origin; queue = any.queue; flow = any.flow; level = any.level; receiver = receiver }
-with_receiver k any receiver same is i = record { sender = (same i).sender; origin = (same i).origin; queue = (same i).queue; flow = (same i).flow; level = (same i).level; receiver = is i }
+    → k ≡ record { sender = any.sender; origin = any.origin; kept = any.kept; receiver = receiver }
+with_receiver k any receiver same is i = record { sender = (same i).sender; origin = (same i).origin; kept = (same i).kept; receiver = is i }
 
 -- an entry that didn't end before the other began
 pub not_before : (hs : List Seen) (first i : ℕ) (s u : Seen) → slice_get hs first ≡ Some s → i ≡ first → u.began ≤ s.ended → ¬ EndedBefore hs i u
@@ -106,6 +111,19 @@ in_order hs o j w y sorted first second le = ⊎_elim (λ lt. ended lt) (λ ge. 
     ended lt =
         ⊎_elim (λ bad. absurd (sorted j (record { seen = y; entry = second; place = o; earlier = lt; before = w; there = first; ends = bad }))) (λ ge. ge)
         (cases_lt y.ended w.ended)
+
+-- what was got first: by the same port, or of a flow also by a call that had ended
+by_port_first : (o : Option ℕ) (j i : ℕ) (u s : Seen) → u.port ≡ s.port → j < i → GotFirst o j u i s
+by_port_first (Some flow) j i u s port lt = inl (port, lt)
+by_port_first None j i u s port lt = (port, lt)
+
+by_call_first : (o : Option ℕ) (j i : ℕ) (u s : Seen) → is_some o ≡ true → u.ended < s.began → GotFirst o j u i s
+by_call_first (Some flow) j i u s is lt = inr lt
+by_call_first None j i u s is lt = absurd (false≢true is)
+
+parts_first : {X : Type 0} (o : Option ℕ) (j i : ℕ) (u s : Seen) → (u.port ≡ s.port → j < i → X) → (is_some o ≡ true → u.ended < s.began → X) → GotFirst o j u i s → X
+parts_first (Some flow) j i u s by_place by_call before = ⊎_elim (λ same. by_place same.0 same.1) (λ lt. by_call refl lt) before
+parts_first None j i u s by_place by_call before = by_place before.0 before.1
 
 -- ---- what came of the entry's NEW
 
@@ -152,7 +170,7 @@ module _ (p : Plan) (hs : List Seen) (c : Course) (t : Tables) (ready : AreReady
   -- ---- what is crossed
 
   -- one of the stream that was sent later, and got before
-  meets : (k : Stream) (o : ℕ) (f : IsFirst p hs c (a + 1) k o) → of_all k ≡ any → WasGotBefore o f.there.getter g u → IsCrossed p hs c g o
+  meets : (k : Stream) (o : ℕ) (f : IsFirst p hs c (a + 1) k o) → of_all k ≡ any → GotFirst any.kept.flow o f.there.getter g u → IsCrossed p hs c g o
   meets k o f same before =
       record {
         place = a;
@@ -172,16 +190,17 @@ module _ (p : Plan) (hs : List Seen) (c : Course) (t : Tables) (ready : AreReady
     pub crossed_by_place : (o : ℕ) → first_in m (of_port any u.port) ≡ Some o → o < g → IsCrossed p hs c g o
     crossed_by_place o is lt =
         let f : IsFirst p hs c (a + 1) (of_port any u.port) o = are.each (of_port any u.port) o is in
-        meets (of_port any u.port) o f all_any (inl (sym f.there.receiver, lt))
+        meets (of_port any u.port) o f all_any (by_port_first any.kept.flow o g f.there.getter u (sym f.there.receiver) lt)
 
-    pub crossed_by_call : (o : ℕ) → first_in m any ≡ Some o → EndedBefore hs o u → IsCrossed p hs c g o
-    crossed_by_call o is ended =
+    pub crossed_by_call : (o : ℕ) → is_some any.kept.flow ≡ true → first_in m any ≡ Some o → EndedBefore hs o u → IsCrossed p hs c g o
+    crossed_by_call o flow is ended =
         let f : IsFirst p hs c (a + 1) any o = are.each any o is in
-        meets any o f all_any (inr (subst (λ (w : Seen). w.ended < u.began) (same_Some ended.seen f.there.getter (sym ended.entry ∙ f.there.there)) ended.ended))
+        meets any o f all_any
+        (by_call_first any.kept.flow o g f.there.getter u flow (subst (λ (w : Seen). w.ended < u.began) (same_Some ended.seen f.there.getter (sym ended.entry ∙ f.there.there)) ended.ended))
 
     -- ---- what isn't
 
-    module _ (after : (o : ℕ) → first_in m (of_port any u.port) ≡ Some o → g ≤ o) (begun : (o : ℕ) → first_in m any ≡ Some o → ¬ EndedBefore hs o u) where
+    module _ (after : (o : ℕ) → first_in m (of_port any u.port) ≡ Some o → g ≤ o) (begun : is_some any.kept.flow ≡ true → (o : ℕ) → first_in m any ≡ Some o → ¬ EndedBefore hs o u) where
       -- the other's cell
       cell : (k : Stream) (b h : ℕ) → a + 1 ≤ b → IsIn p hs c k b h → (o : ℕ) × (first_in m k ≡ Some o) × IsFirst p hs c (a + 1) k o
       cell k b h from is = by_cell (first_in m k) refl
@@ -218,11 +237,11 @@ module _ (p : Plan) (hs : List Seen) (c : Course) (t : Tables) (ready : AreReady
             let o = cell (of_port any u.port) bad.later j from is in
             omega (arith, lt, getter_is, after o.0 o.1, (o.2).least bad.later j from is)
 
-        by_call : bad.winner.ended < bad.reader.began → ⊥
-        by_call lt =
+        by_call : is_some any.kept.flow ≡ true → bad.winner.ended < bad.reader.began → ⊥
+        by_call flow lt =
             let is = other any all_any (subst (λ (k : Stream). IsAsked k.receiver bad.winner.port) all_any tt) in
             let o = cell any bad.later j from is in
-            begun o.0 o.1
+            begun flow o.0 o.1
             (record {
               seen = (o.2).there.getter;
               entry = (o.2).there.there;
@@ -235,7 +254,9 @@ module _ (p : Plan) (hs : List Seen) (c : Course) (t : Tables) (ready : AreReady
             })
 
       pub not_crossed : (i j : ℕ) (bad : IsCrossed p hs c i j) → bad.place ≢ a
-      not_crossed i j bad place = ⊎_elim (λ same. by_place i j bad place same.0 same.1) (λ lt. by_call i j bad place lt) bad.before
+      not_crossed i j bad place =
+          parts_first any.kept.flow j i bad.winner bad.reader (by_place i j bad place) (by_call i j bad place)
+          (subst (λ (k : Stream). GotFirst k.kept.flow j bad.winner i bad.reader) (ap (λ (y : Arrival). y.stream) (arrived i j bad place)) bad.before)
 
 -- ---- the cells, entry by entry
 

@@ -11,6 +11,7 @@ pub mod Crowded
 pub mod Fits
 pub mod Followed
 pub mod Forwards
+pub mod Handed
 pub mod Held
 pub mod Holdings
 pub mod Impossible

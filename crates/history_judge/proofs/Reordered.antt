@@ -1,32 +1,30 @@
--- Events of one flow that are got in the other order than the events that they were forwarded from were sent, to a queue that keeps
--- their order, fit no run.
-use Rattle.std.specs.Prelude.{ℕ, ◌≡◌, ◌/◌, ◌<◌, ◌≤◌, Bool, true, false, ◌&&◌, List, ◌∷◌, ◌++◌, ◌==◌, length, filter, All, Some, slice_get, if◌then◌else◌, ◌⊎◌}
+-- Events whose queue keeps their order, got in the other order than those that they were forwarded from were sent, to a queue that keeps
+-- theirs, fit no run.
+use Rattle.std.specs.Prelude.{ℕ, ◌≡◌, ◌/◌, ◌<◌, ◌≤◌, Bool, true, false, ◌&&◌, List, ◌∷◌, ◌++◌, ◌==◌, length, All, Some, slice_get, if◌then◌else◌, ◌⊎◌}
 use Rattle.std.proofs.Common.{refl, sym, ap, ◌∙◌, subst, arith, inl, inr, ⊎_elim, append_assoc}
 use Rattle.std.proofs.lemmas.Bool.{and_parts, cases_lt, false≢true}
 use Rattle.std.proofs.lemmas.List.{take_all}
-use Rattle.std.proofs.lemmas.List.Kept.{AllPairs-filter}
 use Rattle.std.proofs.lemmas.Option.{same_Some}
 use Rattle.evt_types.specs.Plan.{Plan, is_atomic, is_ordered, level_of, queue_of}
 use Rattle.evt_types.specs.declared.event.Event.{Event}
-use Rattle.evt_types.specs.declared.event.Numbered.{Numbered}
 use Rattle.evt_types.specs.declared.step.Source.{Source}
 use Rattle.evt_types.specs.declared.step.Source.TheVariants.{Of}
 use Rattle.evt_types.specs.declared.step.Step.{Step}
 use Rattle.evt_types.specs.declared.step.Step.TheVariants.{Accept}
-use Rattle.lists.proofs.Lists.{eqb_comm, eqb_same}
+use Rattle.lists.proofs.Lists.{eqb_comm}
 use Rattle.lists.specs.Lists.{has}
 use Rattle.transcripts.proofs.HandOrder.{sources_in_hand_order}
 use Rattle.transcripts.proofs.Pushes.{accepted_in_is, source_in-same}
-use Rattle.transcripts.proofs.Waits.{entered-rises}
 use Rattle.transcripts.proofs.WholeStands.{facts_of}
-use Rattle.transcripts.specs.Lawful.{KeepsFlow, KeepsOrder, Lawful, is_of_level, keeps_order, keeps_some, keeps_with}
+use Rattle.transcripts.specs.Lawful.{KeepsOrder, Lawful, keeps_order, keeps_some, keeps_with}
 use Rattle.transcripts.specs.Laws.{IsHandedNoLater}
-use Rattle.transcripts.specs.Transcript.{accepted, accepted_in, entered, event_at, given, given_of, hand, named, named_at, out, source_in, sources}
+use Rattle.transcripts.specs.Transcript.{accepted, accepted_in, event_at, given_of, hand, out, source_in, sources}
 use Rattle.world_laws.proofs.Consistent.{consistent_end, consistent_none}
 use Rattle.world_laws.specs.World.{IsConsistent, empty}
 use Rattle.history_judge.proofs.Forwards.{forwarded_from}
+use Rattle.history_judge.proofs.Handed.{handed_low}
 use Rattle.history_judge.proofs.Numbers.{numbers_rise, same_fields}
-use Rattle.history_judge.proofs.Precedence.{Precedes, precedes_kept, precedes_mapped, precedes_on, precedes_pair}
+use Rattle.history_judge.proofs.Precedence.{Precedes, precedes_mapped, precedes_pair}
 use Rattle.history_judge.proofs.Received.{WasReceived, first_is_lower, was_received}
 use Rattle.history_judge.proofs.Traced.{AreMapped, has_place, mapped_in_order}
 use Rattle.history_judge.specs.Breaches.{IsReordered}
@@ -85,40 +83,15 @@ module _ (p : Plan) (T : List Step) (q m n : ℕ) (d e : Event) (lawful : Lawful
       whole = subst (KeepsOrder p) (take_all (length T) T (omega arith)) (lawful.order (length T) (omega arith))
 
   -- the numbers are handed out by rising number
-  handed_low : is_ordered (queue_of p q).kind ≡ true → (i j : ℕ) → i < j → slice_get (hand T q) i ≡ Some m → slice_get (hand T q) j ≡ Some n → m < n
+  rises : is_ordered (queue_of p q).kind ≡ true → (i j : ℕ) → i < j → slice_get (hand T q) i ≡ Some m → slice_get (hand T q) j ≡ Some n → m < n
   unfolding hand
-  handed_low ordered i j lt first second =
-      precedes_pair (λ (w y : Numbered). w.number < y.number) (filter of_level (entered T q)) one other among
-      (AllPairs-filter (λ (w y : Numbered). w.number < y.number) of_level (entered T q) (entered-rises T q))
+  rises ordered i j lt first second = handed_low p T q m n d e lawful at there kept.level ordered handed
     where
-      of_level : Numbered → Bool
-      of_level = is_of_level (level_of d)
-
-      one : Numbered
-      one = record { number = m; event = d }
-
-      other : Numbered
-      other = record { number = n; event = e }
-
       gives : AreMapped (given_of q) T m n
       gives = mapped_in_order (given_of q) T i j m n lt first second
 
       handed : Precedes (hand T q) m n
       handed = precedes_mapped (given_of q) T gives.first gives.second m n gives.order gives.one gives.other
-
-      events : Precedes (given T q) one other
-      events = precedes_mapped (named_at T q) (hand T q) m n one other handed (ap (named m) at) (ap (named n) there)
-
-      level : (level_of e == level_of d) ≡ true
-      level = eqb_comm (level_of e) (level_of d) ∙ kept.level
-
-      flow : KeepsFlow p T
-      flow = subst (KeepsFlow p) (take_all (length T) T (omega arith)) (lawful.flow (length T) (omega arith))
-
-      among : Precedes (filter of_level (entered T q)) one other
-      among =
-          precedes_on (filter of_level (given T q)) (filter of_level (entered T q)) one other (precedes_kept of_level (given T q) one other events (eqb_same (level_of d)) level)
-          (flow.ordered q ordered (level_of d))
 
   in_ordered : is_ordered (queue_of p q).kind ≡ true → m ≤ n
   in_ordered ordered = ⊎_elim (λ lt. absurd (falls lt)) (λ le. le) (cases_lt n m)
@@ -133,7 +106,7 @@ module _ (p : Plan) (T : List Step) (q m n : ℕ) (d e : Event) (lawful : Lawful
           all = (facts_of p T lawful).sources q
 
       falls : n < m → ⊥
-      falls lt = ⊎_elim (λ less. omega (arith, lt, handed_low ordered i j less first.1 second.1)) (λ ge. together (omega (arith, ge, later))) (cases_lt i j)
+      falls lt = ⊎_elim (λ less. omega (arith, lt, rises ordered i j less first.1 second.1)) (λ ge. together (omega (arith, ge, later))) (cases_lt i j)
         where
           first : (i : ℕ) × (slice_get (hand T q) i ≡ Some m)
           first = has_place m (hand T q) handed.0

@@ -2,8 +2,10 @@
 use Rattle.std.specs.Prelude.{ℕ, ◌≡◌, ◌≢◌, ◌+◌, ◌<◌, true, false, ◌&&◌, Bool, List, nat_lt, length, sum_by, Option, Some, None, slice_get, ◌⊎◌}
 use Rattle.std.specs.List.{range_with_len}
 use Rattle.evt_types.specs.Operation.{is_answer, is_new_reply, passes_on}
-use Rattle.evt_types.specs.Plan.{Plan, bound_of, depth_of, level_of, queue_of, is_atomic, is_flows, serves, slot_of}
+use Rattle.evt_types.specs.Plan.{Plan, bound_of, depth_of, queue_of, is_atomic, is_flows, serves, slot_of}
 use Rattle.evt_types.specs.declared.event.Event.{Event}
+use Rattle.evt_types.specs.declared.event.Kind.{Kind}
+use Rattle.evt_types.specs.declared.event.Kind.TheVariants.{Atomic, Ordered, Parallel}
 use Rattle.evt_types.specs.declared.event.Reply.{Reply}
 use Rattle.transcripts.specs.Lawful.{keeps_order}
 use Rattle.history_judge.specs.Histories.{IsAnswerTo, IsHeldAt, answers_begun, gets, got_before, held_surely}
@@ -70,26 +72,30 @@ pub record IsOnlyOne (is : Reply → Bool) (hs : List Seen) (i : ℕ) : Type 0 w
   pub dequeued : slice_get hs i ≡ Some getter
   pub got : gets_value reply.event getter.deed ≡ true
 
--- the two events are of one flow and level of an atomic queue
-pub record AreOfOneFlow (p : Plan) (e f : Event) : Type 0 where
-  pub atomic : is_atomic (queue_of p e.queue).kind ≡ true
+-- the two events are of one queue, which keeps their order
+pub record AreKeptInOrder (p : Plan) (e f : Event) : Type 0 where
   pub queue : e.queue ≡ f.queue
-  pub flow : e.flow ≡ f.flow
-  pub level : level_of e ≡ level_of f
+  pub kept : keeps_order p e.queue e f ≡ true
 
 -- the j-th entry's event was got before that of the i-th: before it by the same port, or by a call that ended before the other's began
 abbrev pub WasGotBefore : ℕ → Seen → ℕ → Seen → Type 0
 WasGotBefore j u i s = ((u.port ≡ s.port) × (j < i)) ⊎ (u.ended < s.began)
 
--- A port enqueued two events of one flow and level of an atomic queue, and the other, which it enqueued later, was got first.
+-- The same of two events whose order a queue of this kind keeps. What an ordered queue hands to several ports they get in any order.
+abbrev pub CameBefore : Kind → ℕ → Seen → ℕ → Seen → Type 0
+CameBefore Atomic j u i s = WasGotBefore j u i s
+CameBefore Ordered j u i s = (u.port ≡ s.port) × (j < i)
+CameBefore Parallel j u i s = ⊥
+
+-- A port enqueued two events to a queue that keeps their order, and the other, which it enqueued later, was got first.
 pub record IsOvertaken (p : Plan) (hs : List Seen) (i j : ℕ) : Type 0 where
   pub ports : is_flows p.serving ≡ false
   pub one : IsOnlyOne is_new_reply hs i
   pub other : IsOnlyOne is_new_reply hs j
   pub sender : one.sender.port ≡ other.sender.port
   pub later : one.place < other.place
-  pub same : AreOfOneFlow p one.reply.event other.reply.event
-  pub before : WasGotBefore j other.getter i one.getter
+  pub same : AreKeptInOrder p one.reply.event other.reply.event
+  pub before : CameBefore (queue_of p one.reply.event.queue).kind j other.getter i one.getter
 
 -- whether it is a FORWARD: an answer with an event
 abbrev pub is_forward_reply : Reply → Bool
@@ -100,13 +106,8 @@ pub record IsForwarded (hs : List Seen) (g h : ℕ) : Type 0 where
   pub onward : IsOnlyOne is_forward_reply hs h
   pub answer : IsAnswerTo hs g onward.place
 
--- the two events are of one queue, which keeps their order
-pub record AreKeptInOrder (p : Plan) (e f : Event) : Type 0 where
-  pub queue : e.queue ≡ f.queue
-  pub kept : keeps_order p e.queue e f ≡ true
-
--- A port enqueued two events to a queue that keeps their order. They were forwarded as events of one flow and level of an atomic queue, and
--- of these the other, whose NEW came later, was got first.
+-- A port enqueued two events to a queue that keeps their order. They were forwarded to another that keeps the order of what they were
+-- forwarded as, and of these the other, whose NEW came later, was got first.
 pub record IsReordered (p : Plan) (hs : List Seen) (i j : ℕ) : Type 0 where
   pub ports : is_flows p.serving ≡ false
   pub one_at : ℕ
@@ -118,8 +119,8 @@ pub record IsReordered (p : Plan) (hs : List Seen) (i j : ℕ) : Type 0 where
   pub kept : AreKeptInOrder p one.reply.event other.reply.event
   pub one_on : IsForwarded hs one_at i
   pub other_on : IsForwarded hs other_at j
-  pub same : AreOfOneFlow p one_on.onward.reply.event other_on.onward.reply.event
-  pub before : WasGotBefore j other_on.onward.getter i one_on.onward.getter
+  pub same : AreKeptInOrder p one_on.onward.reply.event other_on.onward.reply.event
+  pub before : CameBefore (queue_of p one_on.onward.reply.event.queue).kind j other_on.onward.getter i one_on.onward.getter
 
 -- Of the events that the port got, up to and with the i-th entry, more than its depth are in its hand for certain when that entry ends.
 pub record IsOverfull (p : Plan) (hs : List Seen) (i : ℕ) : Type 0 where

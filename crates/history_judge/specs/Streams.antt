@@ -5,7 +5,7 @@ use Rattle.std.specs.Option.{option_cmp}
 use Rattle.std.specs.Ordering.{nat_cmp, ordering_then}
 use Rattle.std.specs.declared.cmp.Ordering.{Ordering}
 use Rattle.evt_types.specs.Operation.{is_new_reply}
-use Rattle.evt_types.specs.Plan.{Plan, is_atomic, is_flows, level_of, queue_of}
+use Rattle.evt_types.specs.Plan.{Plan, is_flows, level_of, queue_of}
 use Rattle.evt_types.specs.declared.event.Event.{Event}
 use Rattle.evt_types.specs.declared.event.Kind.{Kind}
 use Rattle.evt_types.specs.declared.event.Kind.TheVariants.{Atomic, Ordered, Parallel}
@@ -18,7 +18,7 @@ use Rattle.history_judge.specs.Values.{IsExcess, gets_value, is_same_but}
 use Rattle.history_judge.specs.declared.arrivals.Arrival.{Arrival}
 use Rattle.history_judge.specs.declared.arrivals.Course.{Course}
 use Rattle.history_judge.specs.declared.arrivals.Course.TheVariants.{Itself, Forwarded}
-use Rattle.history_judge.specs.declared.arrivals.Origin.{Origin}
+use Rattle.history_judge.specs.declared.arrivals.KeptOrder.{KeptOrder}
 use Rattle.history_judge.specs.declared.arrivals.Stream.{Stream}
 use Rattle.history_judge.specs.declared.arrivals.Tables.{Tables}
 use Rattle.history_judge.specs.declared.seen.Deed.{Deed}
@@ -73,69 +73,81 @@ pub record AreReady (p : Plan) (hs : List Seen) (t : Tables) : Type 0 where
 
 -- ---- streams
 
--- in which order a queue keeps its events: an atomic one those of a flow and level, an ordered one those of a level
-abbrev pub origin_in : Kind → Event → Option Origin
-origin_in Atomic e = Some (record { queue = e.queue; level = level_of e; flow = Some e.flow })
-origin_in Ordered e = Some (record { queue = e.queue; level = level_of e; flow = None })
-origin_in Parallel e = None
+-- which events of a queue are kept in order: of an atomic one those of a flow and level, of an ordered one those of a level
+abbrev pub order_in : Kind → Event → Option KeptOrder
+order_in Atomic e = Some (record { queue = e.queue; level = level_of e; flow = Some e.flow })
+order_in Ordered e = Some (record { queue = e.queue; level = level_of e; flow = None })
+order_in Parallel e = None
 
-abbrev pub origin_of : Plan → Event → Option Origin
-origin_of p e = origin_in (queue_of p e.queue).kind e
+abbrev pub order_of : Plan → Event → Option KeptOrder
+order_of p e = order_in (queue_of p e.queue).kind e
 
--- the orders of origins and of streams, field by field
-abbrev pub origin_cmp : Origin → Origin → Ordering
-origin_cmp x y = ordering_then (nat_cmp x.queue y.queue) (ordering_then (nat_cmp x.level y.level) (option_cmp nat_cmp x.flow y.flow))
+-- the orders of these and of streams, field by field
+abbrev pub order_cmp : KeptOrder → KeptOrder → Ordering
+order_cmp x y = ordering_then (nat_cmp x.queue y.queue) (ordering_then (nat_cmp x.level y.level) (option_cmp nat_cmp x.flow y.flow))
 
 abbrev pub stream_cmp : Stream → Stream → Ordering
 stream_cmp x y =
-    ordering_then (nat_cmp x.sender y.sender) (ordering_then (option_cmp origin_cmp x.origin y.origin) (ordering_then (nat_cmp x.queue y.queue)
-    (ordering_then (nat_cmp x.flow y.flow) (ordering_then (nat_cmp x.level y.level) (option_cmp nat_cmp x.receiver y.receiver)))))
+    ordering_then (nat_cmp x.sender y.sender) (ordering_then (option_cmp order_cmp x.origin y.origin) (ordering_then (order_cmp x.kept y.kept)
+    (option_cmp nat_cmp x.receiver y.receiver)))
 
-abbrev pub stream_of : ℕ → Option Origin → Event → Stream
-stream_of l origin e = record { sender = l; origin = origin; queue = e.queue; flow = e.flow; level = level_of e; receiver = None }
+abbrev pub stream_of : ℕ → Option KeptOrder → KeptOrder → Stream
+stream_of l origin kept = record { sender = l; origin = origin; kept = kept; receiver = None }
 
 -- of the stream's events those that the port got
 abbrev pub of_port : Stream → ℕ → Stream
-of_port k l = record { sender = k.sender; origin = k.origin; queue = k.queue; flow = k.flow; level = k.level; receiver = Some l }
+of_port k l = record { sender = k.sender; origin = k.origin; kept = k.kept; receiver = Some l }
 
 -- the stream, whoever got its events
 abbrev pub of_all : Stream → Stream
-of_all k = record { sender = k.sender; origin = k.origin; queue = k.queue; flow = k.flow; level = k.level; receiver = None }
+of_all k = record { sender = k.sender; origin = k.origin; kept = k.kept; receiver = None }
 
 abbrev pub arrival : Stream → ℕ → Arrival
 arrival k g = record { stream = k; getter = g }
 
--- the arrival of an event of an atomic queue, by who got its value
-abbrev pub arrival_by : ℕ → Option Origin → Event → Option ℕ → Option Arrival
-arrival_by l origin e None = None
-arrival_by l origin e (Some g) = Some (arrival (stream_of l origin e) g)
+-- the arrival of an event, by who got its value
+abbrev pub arrival_by : ℕ → Option KeptOrder → KeptOrder → Option ℕ → Option Arrival
+arrival_by l origin kept None = None
+arrival_by l origin kept (Some g) = Some (arrival (stream_of l origin kept) g)
 
-abbrev pub arrival_of : Plan → BTreeMap Value ℕ → ℕ → Option Origin → Event → Option Arrival
-arrival_of p m l origin e = if is_atomic (queue_of p e.queue).kind then arrival_by l origin e (getter_of m e) else None
+-- the same by the order that its queue keeps
+abbrev pub arrival_in : BTreeMap Value ℕ → ℕ → Option KeptOrder → Event → Option KeptOrder → Option Arrival
+arrival_in m l origin e None = None
+arrival_in m l origin e (Some kept) = arrival_by l origin kept (getter_of m e)
+
+abbrev pub arrival_of : Plan → BTreeMap Value ℕ → ℕ → Option KeptOrder → Event → Option Arrival
+arrival_of p m l origin e = arrival_in m l origin e (order_of p e)
 
 -- ---- what came of a NEW
 
--- the a-th entry's NEW, the only one of its value, is of this stream of an atomic queue, and this entry got it
+-- the a-th entry's NEW, the only one of its value, is of this stream of a queue that keeps an order, and this entry got it
 pub record IsSentTo (p : Plan) (hs : List Seen) (a : ℕ) (x : Arrival) : Type 0 where
   pub only : IsOnlyOne is_new_reply hs x.getter
   pub place : only.place ≡ a
-  pub atomic : is_atomic (queue_of p only.reply.event.queue).kind ≡ true
-  pub stream : x.stream ≡ stream_of only.sender.port None only.reply.event
+  pub kept : KeptOrder
+  pub keeps : order_of p only.reply.event ≡ Some kept
+  pub stream : x.stream ≡ stream_of only.sender.port None kept
 
--- the same of what it was forwarded as, where its queue keeps an order
+-- the same of what it was forwarded as, where its own queue keeps an order too
 pub record IsForwardedTo (p : Plan) (hs : List Seen) (a : ℕ) (x : Arrival) : Type 0 where
   pub holder : ℕ
   pub new : IsOnlyOne is_new_reply hs holder
   pub place : new.place ≡ a
-  pub origin : Origin
-  pub keeps : origin_of p new.reply.event ≡ Some origin
+  pub origin : KeptOrder
+  pub origin_is : order_of p new.reply.event ≡ Some origin
   pub on : IsForwarded hs holder x.getter
-  pub atomic : is_atomic (queue_of p on.onward.reply.event.queue).kind ≡ true
-  pub stream : x.stream ≡ stream_of new.sender.port (Some origin) on.onward.reply.event
+  pub kept : KeptOrder
+  pub keeps : order_of p on.onward.reply.event ≡ Some kept
+  pub stream : x.stream ≡ stream_of new.sender.port (Some origin) kept
 
 abbrev pub Comes : Plan → List Seen → Course → ℕ → Arrival → Type 0
 Comes p hs Itself a x = IsSentTo p hs a x
 Comes p hs Forwarded a x = IsForwardedTo p hs a x
+
+-- whether the j-th entry certainly got its event before the i-th did, where what several ports get of a flow alone comes in order
+abbrev pub GotFirst : Option ℕ → ℕ → Seen → ℕ → Seen → Type 0
+GotFirst (Some flow) j u i s = WasGotBefore j u i s
+GotFirst None j u i s = (u.port ≡ s.port) × (j < i)
 
 -- Two of one stream: what came of the later NEW the j-th entry got, before the i-th got what came of the earlier one.
 pub record IsCrossed (p : Plan) (hs : List Seen) (c : Course) (i j : ℕ) : Type 0 where
@@ -149,7 +161,7 @@ pub record IsCrossed (p : Plan) (hs : List Seen) (c : Course) (i j : ℕ) : Type
   pub read : slice_get hs i ≡ Some reader
   pub winner : Seen
   pub won : slice_get hs j ≡ Some winner
-  pub before : WasGotBefore j winner i reader
+  pub before : GotFirst stream.kept.flow j winner i reader
 
 -- ---- the first of a stream
 
@@ -178,15 +190,17 @@ is_same_option None (Some m) = false
 is_same_option (Some l) None = false
 is_same_option (Some l) (Some m) = l == m
 
-abbrev pub is_same_origin : Option Origin → Option Origin → Bool
+abbrev pub is_same_order : KeptOrder → KeptOrder → Bool
+is_same_order x y = (x.queue == y.queue) && ((x.level == y.level) && is_same_option x.flow y.flow)
+
+abbrev pub is_same_origin : Option KeptOrder → Option KeptOrder → Bool
 is_same_origin None None = true
 is_same_origin None (Some y) = false
 is_same_origin (Some x) None = false
-is_same_origin (Some x) (Some y) = (x.queue == y.queue) && ((x.level == y.level) && is_same_option x.flow y.flow)
+is_same_origin (Some x) (Some y) = is_same_order x y
 
 abbrev pub is_same_stream : Stream → Stream → Bool
-is_same_stream k l =
-    (k.sender == l.sender) && (is_same_origin k.origin l.origin && ((k.queue == l.queue) && ((k.flow == l.flow) && ((k.level == l.level) && is_same_option k.receiver l.receiver))))
+is_same_stream k l = (k.sender == l.sender) && (is_same_origin k.origin l.origin && (is_same_order k.kept l.kept && is_same_option k.receiver l.receiver))
 
 -- n has the earlier one of this entry and m's for the stream, and for each other what m has
 abbrev pub IsNoted : BTreeMap Stream ℕ → BTreeMap Stream ℕ → Stream → ℕ → Type 0

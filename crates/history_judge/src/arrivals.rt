@@ -25,23 +25,21 @@ pub(crate) enum Course {
     Forwarded,
 }
 
-/// In which order a queue keeps the NEWs that are forwarded: an atomic one by flow and level, an ordered one by level.
+/// Which events of a queue are kept in order: of an atomic one those of a flow and level, of an ordered one those of a level.
 #[derive(Clone, Copy, PartialEq, Eq, PartialOrd, Ord)]
-pub(crate) struct Origin {
+pub(crate) struct KeptOrder {
     pub(crate) queue: u8,
     pub(crate) level: usize,
     pub(crate) flow: Option<u32>,
 }
 
-/// The events of one flow and level of an atomic queue that a port enqueued, or that its NEWs to another queue were forwarded as; with a
-/// receiver those of them that this port dequeued.
+/// Events that a queue keeps in order: those that a port enqueued, or those that its NEWs were forwarded as that another queue kept in
+/// order; with a receiver those of them that this port dequeued.
 #[derive(Clone, Copy, PartialEq, Eq, PartialOrd, Ord)]
 pub(crate) struct Stream {
     pub(crate) sender: usize,
-    pub(crate) origin: Option<Origin>,
-    pub(crate) queue: u8,
-    pub(crate) flow: u32,
-    pub(crate) level: usize,
+    pub(crate) origin: Option<KeptOrder>,
+    pub(crate) kept: KeptOrder,
     pub(crate) receiver: Option<usize>,
 }
 
@@ -142,31 +140,29 @@ fn kind_of(shape: &Shape, queue: usize) -> Kind
     }
 }
 
-/// In which order the event's queue keeps it.
-fn origin_of(shape: &Shape, event: &Event) -> Option<Origin>
-    ensures { result ≡ specs.origin_of shape.now event.now }
+/// With which others the event's queue keeps it in order.
+fn order_of(shape: &Shape, event: &Event) -> Option<KeptOrder>
+    ensures { result ≡ specs.order_of shape.now event.now }
 {
     let flow = match kind_of(shape, usize::from(event.queue)) {
         Kind::Atomic => Some(event.flow),
         Kind::Ordered => None,
         Kind::Parallel => return None,
     };
-    Some(Origin {
+    Some(KeptOrder {
         queue: event.queue,
         level: event.level(),
         flow,
     })
 }
 
-fn stream_of(sender: usize, origin: Option<Origin>, event: &Event) -> Stream
-    ensures { result ≡ specs.stream_of sender origin event.now }
+fn stream_of(sender: usize, origin: Option<KeptOrder>, kept: KeptOrder) -> Stream
+    ensures { result ≡ specs.stream_of sender origin kept }
 {
     Stream {
         sender,
         origin,
-        queue: event.queue,
-        flow: event.flow,
-        level: event.level(),
+        kept,
         receiver: None,
     }
 }
@@ -202,27 +198,25 @@ impl Tables {
         })
     }
 
-    /// Who got the event, where its queue is atomic.
+    /// Who got the event, where its queue keeps an order.
     fn arrival(
         &self,
         shape: &Shape,
         sender: usize,
-        origin: Option<Origin>,
+        origin: Option<KeptOrder>,
         event: &Event,
     ) -> Option<Arrival>
         ensures { result ≡ specs.arrival_of shape.now self.now.getters sender origin event.now }
     {
-        if !kind_of(shape, usize::from(event.queue)).is_atomic() {
-            return None;
-        }
+        let kept = order_of(shape, event)?;
         let getter = getter_of(&self.getters, event)?;
         Some(Arrival {
-            stream: stream_of(sender, origin, event),
+            stream: stream_of(sender, origin, kept),
             getter,
         })
     }
 
-    /// The NEW itself, where its queue is atomic and it came.
+    /// The NEW itself, where its queue keeps an order and it came.
     fn itself(&self, shape: &Shape, history: &[Seen], at: usize) -> Option<Arrival>
         requires place { at < length history.now }
         requires ready { AreReady shape.now history.now self.now }
@@ -235,7 +229,7 @@ impl Tables {
         self.arrival(shape, seen.port, None, &event)
     }
 
-    /// What the NEW was forwarded as, where its queue keeps an order, that of this one is atomic, and it came.
+    /// What the NEW was forwarded as, where both queues keep an order and it came.
     fn forwarded(&self, shape: &Shape, history: &[Seen], at: usize) -> Option<Arrival>
         requires place { at < length history.now }
         requires ready { AreReady shape.now history.now self.now }
@@ -245,7 +239,7 @@ impl Tables {
         let _count = history.len();
         let seen = &history[at];
         let event = only_new(seen, &self.sent)?;
-        let origin = origin_of(shape, &event)?;
+        let origin = order_of(shape, &event)?;
         let holder = getter_of(&self.getters, &event)?;
         let answer = self.answers[holder]?;
         let onward = only_forward(&history[answer], &self.sent)?;

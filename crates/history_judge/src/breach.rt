@@ -11,10 +11,10 @@ pub enum Breach {
     Unsent { at: usize },
     /// A port got an event before anyone began to enqueue one of its value.
     Early { at: usize },
-    /// Of two events of one flow and level that a port enqueued to an atomic queue the later one was dequeued first, by the other entry.
+    /// Of two events that a port enqueued to a queue that keeps their order the later one was dequeued first, by the other entry.
     Overtaken { at: usize, other: usize },
-    /// Two events that a port enqueued to a queue that keeps their order were forwarded as events of one flow and level of an atomic
-    /// queue, and what the later one was forwarded as was dequeued first, by the other entry.
+    /// Two events that a port enqueued to a queue that keeps their order were forwarded to another that keeps that of what they were
+    /// forwarded as, and what the later one was forwarded as was dequeued first, by the other entry.
     Reordered { at: usize, other: usize },
     /// A port held more events than its depth.
     Overfull { at: usize },

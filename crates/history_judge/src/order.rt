@@ -1,6 +1,7 @@
 //! Finds events that a port enqueued in one order and that were dequeued in the other, or what they were forwarded as.
 
-ghost use Rattle.std.specs.Prelude.{◌≡◌, ◌+◌, ◌<◌, ◌≤◌, IfNone, IfOk, IfSome, OnOk, Some, length, ℕ};
+ghost use Rattle.std.specs.Option.{is_some};
+ghost use Rattle.std.specs.Prelude.{true, ◌≡◌, ◌+◌, ◌<◌, ◌≤◌, IfNone, IfOk, IfSome, OnOk, Some, length, ℕ};
 ghost use Rattle.history_judge.specs.Breaches.{IsOvertaken, IsReordered};
 ghost use Rattle.history_judge.specs.Streams as specs;
 ghost use Rattle.history_judge.specs.Streams.{AreFirsts, AreReady, EndedBefore, IsCrossed, IsNoted};
@@ -50,12 +51,15 @@ fn place_before(firsts: &Firsts, stream: &Stream, getter: usize) -> Option<usize
     }
 }
 
-/// An entry that got an event of the stream by a call that ended before the reader's began.
+/// An entry that got an event of the stream by a call that ended before the reader's began. What several ports get of a stream comes in
+/// order where it is of a flow.
 fn call_before(firsts: &Firsts, history: &[Seen], stream: &Stream, reader: &Seen) -> Option<usize>
     requires { (i : ℕ) → specs.first_in firsts.now stream.now ≡ Some i → i < length history.now }
+    ensures flow { IfSome result (λ i. is_some stream.now.kept.flow ≡ true) }
     ensures some { IfSome result (λ i. (specs.first_in firsts.now stream.now ≡ Some i) × EndedBefore history.now i reader.now) }
-    ensures none { IfNone result ((i : ℕ) → specs.first_in firsts.now stream.now ≡ Some i → ¬ EndedBefore history.now i reader.now) }
+    ensures none { IfNone result (is_some stream.now.kept.flow ≡ true → (i : ℕ) → specs.first_in firsts.now stream.now ≡ Some i → ¬ EndedBefore history.now i reader.now) }
 {
+    stream.kept.flow?;
     let first = first_in(firsts, stream)?;
     if history[first].ended < reader.began {
         Some(first)

@@ -1,1 +1,3 @@
-mod Texts
+pub mod Given
+pub mod Texts
+pub mod Walks

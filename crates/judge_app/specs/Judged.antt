@@ -32,7 +32,7 @@ pub record IsLogTold (p : Plan) (text : List ℕ) (v : Verdict) (said : List ℕ
   pub line : ℕ
   pub log : IsLogAt p.queues text steps line
   pub verdict : IsVerdict p steps v
-  pub words : said ≡ verdict_text p.queues steps line v
+  pub words : said ≡ verdict_text p steps line v
 
 -- what is found is the answer to the history whose text it is, and it is told
 pub record IsHistoryTold (p : Plan) (text : List ℕ) (found : Option Breach) (said : List ℕ) : Type 0 where

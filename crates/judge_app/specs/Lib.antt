@@ -1,4 +1,11 @@
 pub mod Breaches
 pub mod Faults
+pub mod Forwards
+pub mod Gifts
 pub mod Judged
+pub mod Orders
+pub mod ReasonTexts
+pub mod Reasons
+pub mod Scans
+pub mod Steps
 pub mod Verdicts

@@ -55,16 +55,14 @@ fn text_of(
 ) -> Result<String, AllocError>
     requires there { All (IsInRange (length shape.now.queues)) steps.now }
     requires judged { IsVerdict shape.now steps.now verdict.now }
-    ensures { IfOk result (λ text. string_bytes text ≡ verdict_text shape.now.queues steps.now line verdict.now) }
+    ensures { IfOk result (λ text. string_bytes text ≡ verdict_text shape.now steps.now line verdict.now) }
 {
     let mut out = String::new(alloc);
     match verdict {
         Verdict::Lawful => out.push_str("lawful\n")?,
         Verdict::Running => out.push_str("running\n")?,
         Verdict::Broken { at, clause, step } => {
-            let place = line as u128 + *at as u128 + 1;
-            let past = &steps[..*at];
-            write_broken(alloc, shape.queues(), past, step, place, *clause, &mut out)?;
+            write_broken(alloc, shape, line, &steps[..*at], step, *clause, &mut out)?;
         }
     }
     Ok(out)

@@ -5,7 +5,16 @@
 mod breaches;
 mod entries;
 mod fault;
+mod forwards;
+mod gifts;
 mod judged;
+mod orders;
+mod reason;
+mod reason_words;
+mod reasons;
+mod scans;
+mod sets;
+mod steps;
 mod words;
 
 pub use fault::JudgeFault;

@@ -2,16 +2,20 @@
 
 ghost use Rattle.std.specs.Prelude.{◌≡◌, ◌++◌, OnOk, IfOk, All, length, string_bytes};
 ghost use Rattle.play_text.specs.Text.{IsInRange, number_after};
-ghost use Rattle.judge_app.specs.Verdicts.{clause_text, place_text, broken_text};
+ghost use Rattle.transcript_judge.specs.Fronts.{IsFront};
+ghost use Rattle.judge_app.specs.Verdicts as texts;
 
-use evt_types::{QueueDraft, Step};
+use crate::reason::Reason;
+use crate::reason_words::{line_of, place_in, write_why};
+use crate::reasons::reason_of;
+use evt_types::{QueueDraft, Shape, Step};
 use play_text::{Counts, write_step};
 use std::alloc::{AllocError, Global};
 use transcript_judge::Clause;
 
 /// The name of a clause, and what it says.
 fn clause_text(clause: Clause) -> &'static str
-    ensures { result.now ≡ clause_text clause }
+    ensures { result.now ≡ texts.clause_text clause }
 {
     match clause {
         Clause::Formed => "Formed: its queues and lanes are there, and its operation fits",
@@ -46,28 +50,104 @@ fn number_of(alloc: Global, queues: usize, past: &[Step], step: &Step) -> Result
 
 /// Writes in which line the step is that first broke a clause, and which.
 fn write_place(line: u128, clause: Clause, out: &mut String) -> Result<(), AllocError>
-    ensures { OnOk result (string_bytes out.new ≡ string_bytes out.old ++ place_text line clause) }
+    ensures { OnOk result (string_bytes out.new ≡ string_bytes out.old ++ texts.place_text line clause) }
 {
     write!(out, "broken at line {line}: ")?;
     out.push_str(clause_text(clause))?;
     out.push_str("\n")
 }
 
-/// Writes that, and below it the step's own line, which stands behind those past.
-pub(crate) fn write_broken(
+/// Writes the line of the step, which stands behind those past.
+fn write_line(
     alloc: Global,
     queues: &[QueueDraft],
     past: &[Step],
     step: &Step,
-    line: u128,
-    clause: Clause,
     out: &mut String,
 ) -> Result<(), AllocError>
     requires past { All (IsInRange (length queues.now)) past.now }
     requires there { IsInRange (length queues.now) step.now }
-    ensures { OnOk result (string_bytes out.new ≡ string_bytes out.old ++ broken_text queues.now past.now line clause step.now) }
+    ensures { OnOk result (string_bytes out.new ≡ string_bytes out.old ++ texts.line_after queues.now past.now step.now) }
 {
     let number = number_of(alloc, queues.len(), past, step)?;
-    write_place(line, clause, out)?;
     write_step(queues, number, step, out)
+}
+
+/// Writes the line of the step at that place, if there is one.
+fn write_line_at(
+    alloc: Global,
+    queues: &[QueueDraft],
+    past: &[Step],
+    at: usize,
+    out: &mut String,
+) -> Result<(), AllocError>
+    requires { All (IsInRange (length queues.now)) past.now }
+    ensures { OnOk result (string_bytes out.new ≡ string_bytes out.old ++ texts.line_at queues.now past.now at) }
+{
+    match past.get(at) {
+        Some(step) => write_line(alloc, queues, &past[..at], step, out),
+        None => Ok(()),
+    }
+}
+
+/// Writes what shows that the step at this place, behind those past, breaks its clause, and the lines that show it.
+fn write_shown(
+    alloc: Global,
+    queues: &[QueueDraft],
+    log: usize,
+    past: &[Step],
+    step: &Step,
+    reason: Reason,
+    out: &mut String,
+) -> Result<(), AllocError>
+    requires past { All (IsInRange (length queues.now)) past.now }
+    requires there { IsInRange (length queues.now) step.now }
+    ensures { OnOk result (string_bytes out.new ≡ string_bytes out.old ++ texts.shown_text queues.now log past.now (length past.now) step.now reason) }
+{
+    write_why(log, past.len(), reason, out)?;
+    write_line(alloc, queues, past, step, out)?;
+    match place_in(reason) {
+        Some(at) => write_line_at(alloc, queues, past, at, out),
+        None => Ok(()),
+    }
+}
+
+/// The same, or where nothing shows it the step's own line alone.
+fn write_cause(
+    alloc: Global,
+    queues: &[QueueDraft],
+    log: usize,
+    past: &[Step],
+    step: &Step,
+    reason: Option<Reason>,
+    out: &mut String,
+) -> Result<(), AllocError>
+    requires past { All (IsInRange (length queues.now)) past.now }
+    requires there { IsInRange (length queues.now) step.now }
+    ensures { OnOk result (string_bytes out.new ≡ string_bytes out.old ++ texts.shown_if queues.now log past.now (length past.now) step.now reason) }
+{
+    match reason {
+        Some(reason) => write_shown(alloc, queues, log, past, step, reason, out),
+        None => write_line(alloc, queues, past, step, out),
+    }
+}
+
+/// Writes in which line of the log the step behind those past first broke a clause, and which, and what shows it.
+pub(crate) fn write_broken(
+    alloc: Global,
+    shape: &Shape,
+    log: usize,
+    past: &[Step],
+    step: &Step,
+    clause: Clause,
+    out: &mut String,
+) -> Result<(), AllocError>
+    requires past { All (IsInRange (length shape.now.queues)) past.now }
+    requires there { IsInRange (length shape.now.queues) step.now }
+    requires front { IsFront shape.now past.now }
+    ensures { OnOk result (string_bytes out.new ≡ string_bytes out.old ++ texts.broken_text shape.now log past.now (length past.now) clause step.now) }
+{
+    write_place(line_of(log, past.len()), clause, out)?;
+    let reason = reason_of(alloc, shape, past, clause, step)?;
+    write_cause(alloc, shape.queues(), log, past, step, reason, out)
 }

@@ -17,7 +17,7 @@ returns-then-history-first-clause-some c =
     )
 
 pub returns-else-history-first-clause-none : goal.returns-else-history-first-clause-none
-returns-else-history-first-clause-none c i there =
+returns-else-history-first-clause-none c flow i there =
     let is = sym c.first_in.ensures ∙ c.in_ok-first.was in
     not_before c.args.history.now c.in_ok-first.first i c.index-history-first.result c.args.reader.now
     (entry_at c.args.history.now c.in_ok-first.first c.index-history-first.result (c.requires c.in_ok-first.first is) c.index-history-first.is)

@@ -27,7 +27,7 @@ call_before-requires c i is =
 
 pub returns-in-Some-call_before-clause-crossed : goal.returns-in-Some-call_before-clause-crossed
 returns-in-Some-call_before-clause-crossed c =
-    crossed_by_call c.args.shape.now c.args.history.now c.args.course c.args.tables.now c.requires.ready c.args.at (slice_get-some c.args.history.now c.args.at c.requires.place).0 (slice_get-some c.args.history.now c.args.at c.requires.place).1 c.in-Some.arrival c.in-Some.ensures.some c.index-history-getter.result (entry_at c.args.history.now c.in-Some.arrival.getter c.index-history-getter.result (getter_within c.args.shape.now c.args.history.now c.args.course c.args.at c.in-Some.arrival c.in-Some.ensures.some) c.index-history-getter.is) c.args.firsts.now c.requires.so_far c.in-Some-call_before.other c.in-Some-call_before.ensures.some.0 c.in-Some-call_before.ensures.some.1
+    crossed_by_call c.args.shape.now c.args.history.now c.args.course c.args.tables.now c.requires.ready c.args.at (slice_get-some c.args.history.now c.args.at c.requires.place).0 (slice_get-some c.args.history.now c.args.at c.requires.place).1 c.in-Some.arrival c.in-Some.ensures.some c.index-history-getter.result (entry_at c.args.history.now c.in-Some.arrival.getter c.index-history-getter.result (getter_within c.args.shape.now c.args.history.now c.args.course c.args.at c.in-Some.arrival c.in-Some.ensures.some) c.index-history-getter.is) c.args.firsts.now c.requires.so_far c.in-Some-call_before.other c.in-Some-call_before.ensures.flow c.in-Some-call_before.ensures.some.0 c.in-Some-call_before.ensures.some.1
 
 pub returns-clause-kept : goal.returns-clause-kept
 returns-clause-kept c =

@@ -35,11 +35,11 @@ returns-in_err-onward-clause-none c =
 pub returns-clause-some : goal.returns-clause-some
 returns-clause-some c =
     let there = c.requires.ready.answered.each c.in_ok-holder.holder c.in_ok-answer.answer (slice_get_read c.args.self.now.answers.items (length c.args.self.now.answers.items) c.in_ok-holder.holder c.index.result.now refl (holder_there c.args.shape.now c.args.history.now c.args.self.now c.requires.ready c.args.at c.index-history-at.result (entry_at c.args.history.now c.args.at c.index-history-at.result c.requires.place c.index-history-at.is) c.in_ok-event.event (sym c.only_new.ensures ∙ c.in_ok-event.was) c.in_ok-holder.holder (sym c.getter_of.ensures ∙ c.in_ok-holder.was)) c.index.ensures ∙ ap Some c.in_ok-answer.was) in
-    came_forwarded c.args.shape.now c.args.history.now c.args.self.now c.requires.ready c.args.at c.index-history-at.result (entry_at c.args.history.now c.args.at c.index-history-at.result c.requires.place c.index-history-at.is) c.in_ok-event.event (sym c.only_new.ensures ∙ c.in_ok-event.was) c.in_ok-holder.holder (sym c.getter_of.ensures ∙ c.in_ok-holder.was) c.in_ok-answer.answer c.index-history-answer.result (slice_get_read c.args.self.now.answers.items (length c.args.self.now.answers.items) c.in_ok-holder.holder c.index.result.now refl (holder_there c.args.shape.now c.args.history.now c.args.self.now c.requires.ready c.args.at c.index-history-at.result (entry_at c.args.history.now c.args.at c.index-history-at.result c.requires.place c.index-history-at.is) c.in_ok-event.event (sym c.only_new.ensures ∙ c.in_ok-event.was) c.in_ok-holder.holder (sym c.getter_of.ensures ∙ c.in_ok-holder.was)) c.index.ensures ∙ ap Some c.in_ok-answer.was) (entry_at c.args.history.now c.in_ok-answer.answer c.index-history-answer.result (slice_get_within c.args.history.now c.in_ok-answer.answer there.answerer there.there) c.index-history-answer.is) c.in_ok-origin.origin (sym c.origin_of.ensures ∙ c.in_ok-origin.was) c.in_ok-onward.onward
+    came_forwarded c.args.shape.now c.args.history.now c.args.self.now c.requires.ready c.args.at c.index-history-at.result (entry_at c.args.history.now c.args.at c.index-history-at.result c.requires.place c.index-history-at.is) c.in_ok-event.event (sym c.only_new.ensures ∙ c.in_ok-event.was) c.in_ok-holder.holder (sym c.getter_of.ensures ∙ c.in_ok-holder.was) c.in_ok-answer.answer c.index-history-answer.result (slice_get_read c.args.self.now.answers.items (length c.args.self.now.answers.items) c.in_ok-holder.holder c.index.result.now refl (holder_there c.args.shape.now c.args.history.now c.args.self.now c.requires.ready c.args.at c.index-history-at.result (entry_at c.args.history.now c.args.at c.index-history-at.result c.requires.place c.index-history-at.is) c.in_ok-event.event (sym c.only_new.ensures ∙ c.in_ok-event.was) c.in_ok-holder.holder (sym c.getter_of.ensures ∙ c.in_ok-holder.was)) c.index.ensures ∙ ap Some c.in_ok-answer.was) (entry_at c.args.history.now c.in_ok-answer.answer c.index-history-answer.result (slice_get_within c.args.history.now c.in_ok-answer.answer there.answerer there.there) c.index-history-answer.is) c.in_ok-origin.origin (sym c.order_of.ensures ∙ c.in_ok-origin.was) c.in_ok-onward.onward
     (sym c.only_forward.ensures ∙ c.in_ok-onward.was) c.arrival.result c.arrival.ensures
 
 pub returns-clause-none : goal.returns-clause-none
 returns-clause-none c =
     let there = c.requires.ready.answered.each c.in_ok-holder.holder c.in_ok-answer.answer (slice_get_read c.args.self.now.answers.items (length c.args.self.now.answers.items) c.in_ok-holder.holder c.index.result.now refl (holder_there c.args.shape.now c.args.history.now c.args.self.now c.requires.ready c.args.at c.index-history-at.result (entry_at c.args.history.now c.args.at c.index-history-at.result c.requires.place c.index-history-at.is) c.in_ok-event.event (sym c.only_new.ensures ∙ c.in_ok-event.was) c.in_ok-holder.holder (sym c.getter_of.ensures ∙ c.in_ok-holder.was)) c.index.ensures ∙ ap Some c.in_ok-answer.was) in
-    none_came c.args.shape.now c.args.history.now c.args.self.now c.requires.ready c.args.at c.index-history-at.result (entry_at c.args.history.now c.args.at c.index-history-at.result c.requires.place c.index-history-at.is) c.in_ok-event.event (sym c.only_new.ensures ∙ c.in_ok-event.was) c.in_ok-holder.holder (sym c.getter_of.ensures ∙ c.in_ok-holder.was) c.in_ok-answer.answer c.index-history-answer.result (slice_get_read c.args.self.now.answers.items (length c.args.self.now.answers.items) c.in_ok-holder.holder c.index.result.now refl (holder_there c.args.shape.now c.args.history.now c.args.self.now c.requires.ready c.args.at c.index-history-at.result (entry_at c.args.history.now c.args.at c.index-history-at.result c.requires.place c.index-history-at.is) c.in_ok-event.event (sym c.only_new.ensures ∙ c.in_ok-event.was) c.in_ok-holder.holder (sym c.getter_of.ensures ∙ c.in_ok-holder.was)) c.index.ensures ∙ ap Some c.in_ok-answer.was) (entry_at c.args.history.now c.in_ok-answer.answer c.index-history-answer.result (slice_get_within c.args.history.now c.in_ok-answer.answer there.answerer there.there) c.index-history-answer.is) c.in_ok-origin.origin (sym c.origin_of.ensures ∙ c.in_ok-origin.was) c.in_ok-onward.onward
+    none_came c.args.shape.now c.args.history.now c.args.self.now c.requires.ready c.args.at c.index-history-at.result (entry_at c.args.history.now c.args.at c.index-history-at.result c.requires.place c.index-history-at.is) c.in_ok-event.event (sym c.only_new.ensures ∙ c.in_ok-event.was) c.in_ok-holder.holder (sym c.getter_of.ensures ∙ c.in_ok-holder.was) c.in_ok-answer.answer c.index-history-answer.result (slice_get_read c.args.self.now.answers.items (length c.args.self.now.answers.items) c.in_ok-holder.holder c.index.result.now refl (holder_there c.args.shape.now c.args.history.now c.args.self.now c.requires.ready c.args.at c.index-history-at.result (entry_at c.args.history.now c.args.at c.index-history-at.result c.requires.place c.index-history-at.is) c.in_ok-event.event (sym c.only_new.ensures ∙ c.in_ok-event.was) c.in_ok-holder.holder (sym c.getter_of.ensures ∙ c.in_ok-holder.was)) c.index.ensures ∙ ap Some c.in_ok-answer.was) (entry_at c.args.history.now c.in_ok-answer.answer c.index-history-answer.result (slice_get_within c.args.history.now c.in_ok-answer.answer there.answerer there.there) c.index-history-answer.is) c.in_ok-origin.origin (sym c.order_of.ensures ∙ c.in_ok-origin.was) c.in_ok-onward.onward
     (sym c.only_forward.ensures ∙ c.in_ok-onward.was) c.arrival.result c.arrival.ensures

@@ -60,7 +60,7 @@ pub struct Far {
     pub ghost beside: { AreBeside (length (handed deliveries)) (put_in replies) },
 }
 
-/// Hands out what was fetched, which is held then. A delivery is read where it lies, and copied once.
+/// Hands out what was fetched, which is held then. It is read where it lies, and copied once, as one row.
 fn hand_out(from: &mut Intake<Delivery>, held: &mut HeldPairs, into: &mut ArrayVec<Delivery, 64>)
     requires into { length into.old.items + length (inside from.old) ≤ 64 }
     requires held { length held.old.items + length (inside from.old) ≤ held.old.room }
@@ -73,10 +73,13 @@ fn hand_out(from: &mut Intake<Delivery>, held: &mut HeldPairs, into: &mut ArrayV
 {
     let batch = from.batch();
     let count = batch.len();
-    held.note(batch);
-    for delivery in batch {
-        into.push(*delivery);
+    if count == 0 {
+        return;
     }
+    held.note(batch);
+    let Ok(()) = into.try_extend_from_slice(batch) else {
+        unreachable!()
+    };
     from.skip(count);
 }
 

@@ -1,5 +1,5 @@
 -- What is gathered at lanes, and goes into their rings, one lane after another.
-use Rattle.std.proofs.Common.{◌≡◌, ℕ, ◌<◌, ◌≤◌, List, [], length, set, get_or, ⊎_elim, sym, subst, arith}
+use Rattle.std.proofs.Common.{◌≡◌, ℕ, ◌<◌, ◌≤◌, List, [], length, set, get_or, ⊎_elim, subst, arith}
 use Rattle.std.proofs.lemmas.Bool.{cases_eq}
 use Rattle.std.proofs.lemmas.Nat.{mul-le}
 use Rattle.event_scheduler.proofs.Lanes.{each_lane}
@@ -14,9 +14,14 @@ use Rattle.evt_types.specs.Plan.{Plan}
 use Rattle.evt_types.specs.declared.step.Step.{Step}
 use Rattle.lane_rings.specs.Ends.{hidden_offers}
 use Rattle.lane_rings.specs.declared.near.Near.{Near}
+use Rattle.sched_core.proofs.OpenLanes.{choice_among}
+use Rattle.sched_core.specs.Offered.{numbered_in}
+use Rattle.sched_core.specs.Runs.{IsChoiceAmong}
+use Rattle.sched_core.specs.declared.offer.Offer.{Offer}
 use Rattle.small_set.specs.SmallSets.{Has, SameBut}
 use Rattle.small_set.specs.declared.set.SmallSet.{SmallSet}
 use Rattle.transcripts.specs.Choice.{Passed}
+use Rattle.transcripts.specs.Standing.{View}
 
 -- nothing is hidden but at these lanes
 abbrev pub HiddenAmong : SmallSet → List Near → Type 0
@@ -33,15 +38,14 @@ flushed_more lanes i near after left rest within is shown same others l out =
     each_lane (λ k before now. ((¬ Has left k) → before ≡ []) → (¬ Has rest k) → now ≡ []) hidden_offers lanes i near after within is (λ was gone. shown)
     (λ k ne xs was gone. was (λ has. gone ((same k ne).1 has))) l (others l) out
 
--- something is gathered at a lane more
-pub gathered_more : (lanes : List Near) (i : ℕ) (near after : Near) (before now : SmallSet) → i < length lanes → near ≡ get_or lanes i near → Has now i → SameBut i before now
-    → HiddenAmong before lanes → HiddenAmong now (set lanes i after)
-gathered_more lanes i near after before now within is there same others l out =
-    each_lane (λ k xs ys. ((¬ Has before k) → xs ≡ []) → (¬ Has now k) → ys ≡ []) hidden_offers lanes i near after within is (λ was gone. absurd (gone there))
-    (λ k ne xs was gone. was (λ has. gone ((same k ne).1 has))) l (others l) out
+-- something is gathered at one of these lanes
+pub gathered_more : (lanes : List Near) (i : ℕ) (near after : Near) (among : SmallSet) → i < length lanes → near ≡ get_or lanes i near → Has among i → HiddenAmong among lanes → HiddenAmong among (set lanes i after)
+gathered_more lanes i near after among within is there others l out =
+    each_lane (λ k xs ys. ((¬ Has among k) → xs ≡ []) → (¬ Has among k) → ys ≡ []) hidden_offers lanes i near after within is (λ was gone. absurd (gone there)) (λ k ne xs was gone. was gone) l (others l) out
 
-pub there_more : (count i : ℕ) (before now : SmallSet) → i < count → SameBut i before now → AreThere before count → AreThere now count
-there_more count i before now within same was l has = ⊎_elim (λ e. subst (λ k. k < count) (sym e) within) (λ ne. was l ((same l ne).0 has)) (cases_eq l i)
+-- the lane of a choice among these is one of them
+pub offered_among : (v : View) (s : Passed) (among : SmallSet) (o : Offer) → IsChoiceAmong v s among o → Has among o.lane
+offered_among v s among o is = choice_among v s o.lane o.delivery.queue (numbered_in o.delivery) among is.ports is.lanes is.choice
 
 pub there_less : (count i : ℕ) (left rest : SmallSet) → (¬ Has rest i) → SameBut i left rest → AreThere left count → AreThere rest count
 there_less count i left rest gone same was l has = ⊎_elim (λ e. absurd (gone (subst (Has rest) e has))) (λ ne. was l ((same l ne).0 has)) (cases_eq l i)

@@ -9,9 +9,8 @@ ghost use Rattle.event_scheduler.specs.Scheduler.{Sight, sight};
 ghost use Rattle.evt_types.specs.Plan.{lanes_of};
 ghost use Rattle.evt_types.specs.declared.shape.TheConstants.{MAX_LANES, MAX_QUEUES};
 ghost use Rattle.evt_types.specs.declared.step.Step.{Step as StepValue};
-ghost use Rattle.sched_core.specs.Offered.{numbered_in};
+ghost use Rattle.sched_core.specs.Runs.{IsChoiceAmong};
 ghost use Rattle.small_set.specs.SmallSets.{Has};
-ghost use Rattle.transcripts.specs.Choice.{IsChoice};
 ghost use Rattle.transcripts.specs.Standing.{View};
 
 use lane_rings::Near;
@@ -34,18 +33,19 @@ fn flush_all(lanes: &mut Vec<Near>, gathered: SmallSet)
     }
 }
 
-/// Gives what was proposed, and then what is chosen after it, one by one, as long as that is quick to see: each is gathered at its lane,
-/// and at the end all that was gathered goes into the rings. A lane whose ring is full is passed over, and ends it. How many were given,
+/// Gives what was proposed, and then what is chosen after it, one by one, as long as that is quick to see and just these lanes are open:
+/// each is gathered at its lane, and at the end all that was gathered goes into the rings. A lane whose ring is full is passed over, and ends it. How many were given,
 /// and how many lanes' rings were full.
 #[inline(never)]
 pub(crate) fn deal_all<L: StepLog>(
     core: &mut Core,
     lanes: &mut Vec<Near>,
     first: Offer,
+    among: SmallSet,
     skips: &mut Skips,
     log: &mut L,
 ) -> (usize, usize)
-    requires choice { IsChoice core.old skips.old first.lane first.delivery.queue (numbered_in first.delivery) }
+    requires choice { IsChoiceAmong core.old skips.old among first }
     requires few { length lanes.old.items ≤ MAX_MEMBERS }
     requires lanes { length lanes.old.items ≡ lanes_of core.old.shape }
     requires shown { NoneHidden lanes.old.items }
@@ -62,15 +62,13 @@ pub(crate) fn deal_all<L: StepLog>(
 {
     // To read a limit makes known that the limits hold.
     let _ = core.shape().limit();
-    let mut gathered = SmallSet::none();
     let mut given = 0;
     let mut bounced = 0;
     let mut next = Some(first);
     while let Some(offer) = next {
         let lane = offer.lane;
-        gathered.add(lane);
         if lanes[lane].stage(&offer.delivery) {
-            next = core.give_dealt(offer, skips, log);
+            next = core.give_dealt(offer, among, skips, log);
             given += 1;
         } else {
             core.bounce(lane, log);
@@ -79,6 +77,6 @@ pub(crate) fn deal_all<L: StepLog>(
             bounced += 1;
         }
     }
-    flush_all(lanes, gathered);
+    flush_all(lanes, among);
     (given, bounced)
 }

@@ -83,8 +83,11 @@ fn give_each<L: StepLog, const FLOWS: bool>(
     let mut gave = LaneSet::none();
     while let Some(offer) = core.propose_next(turn, &skips) {
         let lane = offer.lane;
-        if !FLOWS && lanes.len() <= MAX_MEMBERS && core.deals(&offer, &skips) {
-            let counts = deal_all(core, lanes, offer, &mut skips, log);
+        if !FLOWS
+            && lanes.len() <= MAX_MEMBERS
+            && let Some(among) = core.deals(&offer, &skips)
+        {
+            let counts = deal_all(core, lanes, offer, among, &mut skips, log);
             turn = None;
             given += counts.0;
             bounced += counts.1;

@@ -4,10 +4,9 @@ use Rattle.std.proofs.lemmas.Bool.{lt-ltb}
 use Rattle.std.proofs.lemmas.List.{length-map, map-set, map_push, get_or-map, take_more}
 use Rattle.std.proofs.lemmas.List.Elements.{All-nil, All-push, All-set}
 use Rattle.evt_types.specs.declared.draft.QueueDraft.{QueueDraft}
-use Rattle.order_parts.specs.Reorder.{Reordering, empty, without_first}
+use Rattle.order_parts.specs.Reorder.{Reordering, empty}
 use Rattle.order_parts.specs.Orders.{shown, is_restoring, IsBufferOf, IsBuffer, order_at}
 use Rattle.evt_types.specs.Plan.{kept_room}
-use Rattle.order_parts.proofs.InTurn.{left_depth}
 
 -- a buffer that is there restores an order
 pub restores : (os : List (Option Reordering)) (rs : List Reordering) (q : ℕ) (old : Option Reordering) (r : Reordering) → All IsBufferOf os → map shown os ≡ rs → q < length rs
@@ -34,13 +33,12 @@ set_shown f os rs q old new v h is e =
     map-set shown os q new ∙ (ap (set (map shown os) q) (e ∙ ap f (sym here)) ∙ ap (λ ys. set ys q (f (order_at ys q))) v)
 
 -- so many places of one leave
-pub buffers_left : (n : ℕ) (os : List (Option Reordering)) (rs : List Reordering) (q : ℕ) (old : Option Reordering) (r new : Reordering) → All IsBufferOf os → map shown os ≡ rs → q < length rs
-    → old ≡ get_or os q old → old ≡ Some r → new ≡ without_first r n → All IsBufferOf (set os q (Some new))
-buffers_left n os rs q old r new all v h is some left =
+pub buffers_left : (os : List (Option Reordering)) (rs : List Reordering) (q : ℕ) (old : Option Reordering) (r new : Reordering) → All IsBufferOf os → map shown os ≡ rs → q < length rs
+    → old ≡ get_or os q old → old ≡ Some r → new.depth ≡ r.depth → All IsBufferOf (set os q (Some new))
+buffers_left os rs q old r new all v h is some depth =
     let same : length os ≡ length rs = sym (length-map os shown) ∙ ap length v in
     let there : q < length os = omega (arith, h, same) in
     let room : 0 < r.depth = subst IsBufferOf (sym is ∙ some) (all q old there) in
-    let depth : new.depth ≡ r.depth = ap (λ (k : Reordering). k.depth) left ∙ left_depth n r in
     All-set IsBufferOf os q (Some new) (omega (arith, room, depth)) all
 
 pub buffers_same : (os : List (Option Reordering)) (rs : List Reordering) (q : ℕ) (old : Option Reordering) → All IsBufferOf os → map shown os ≡ rs → q < length rs → old ≡ get_or os q old → All IsBufferOf (set os q old)

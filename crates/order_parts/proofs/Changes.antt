@@ -1,13 +1,13 @@
 -- What a change of the fields of a reorder buffer leaves of its places.
-use Rattle.std.proofs.Common.{◌≡◌, ℕ, ◌+◌, ◌-◌, ◌*◌, ◌%◌, ◌^◌, ◌<◌, ◌≤◌, Bool, false, not, true, List, [], ◌∷◌, ◌++◌, length, set, drop, slice_get, slice_set, slice_index_or, suc, refl, sym, ap, subst, ◌∙◌, Option, Some, None, IsTrue, arith, append-nil, length-append, length-set, length-drop}
+use Rattle.std.proofs.Common.{◌≡◌, ℕ, ◌+◌, ◌-◌, ◌*◌, ◌%◌, ◌^◌, ◌<◌, ◌≤◌, Bool, false, not, true, List, [], ◌∷◌, ◌++◌, length, set, drop, slice_get, slice_set, slice_index_or, suc, zero, refl, sym, ap, subst, ◌∙◌, Option, Some, None, IsTrue, arith, append-nil, length-append, length-set, length-drop}
 use Rattle.std.specs.Vec.{with_item}
 use Rattle.std.proofs.lemmas.List.Elements.{All-set, All-drop}
-use Rattle.std.proofs.lemmas.Option.{get_or_from_slice_get, slice_get_within}
+use Rattle.std.proofs.lemmas.Option.{get_or_from_slice_get, none-some, slice_get_within}
 use Rattle.circular_buffer.specs.Buffer.{buffer, keep_last}
 use Rattle.evt_types.specs.Place.{Place}
 use Rattle.evt_types.specs.declared.event.Event.{Event}
 use Rattle.evt_types.specs.declared.event.TheConstants.{MAX_EXTRAS, MAX_FORWARDS}
-use Rattle.order_parts.specs.Reorder.{Reordering, after_add, after_hand, after_keep, after_resolve, in_row, is_open, open_place, place_at, place_of, place_or_open, places_by, resolved, rows_from, with_kept, without_oldest, wrapped}
+use Rattle.order_parts.specs.Reorder.{Reordering, after_add, after_hand, after_keep, after_resolve, in_row, index_of, is_open, open_place, place_at, place_of, place_or_open, places_by, resolved, rows_from, with_kept, without_oldest, wrapped}
 use Rattle.order_parts.specs.Rows.{HasRows, KeepsFew}
 use Rattle.order_parts.specs.declared.reorder.Handed.{Handed}
 use Rattle.order_parts.specs.declared.reorder.Reorder.TheInside.{Inside}
@@ -53,6 +53,46 @@ shown_handed a has r is n room =
     (places_push (rows a) a.ring.items n (λ i. row_none a.rows.items (wrapped a.ring.capacity (a.first_row + i))))
     ∙ ap (λ k. after_hand k n) is
 
+-- a place was written: the rows stand as before
+pub rows_answered : (a : Inside) → HasRows a → (i : ℕ) (h : Handed) → KeepsFew h → HasRows (record { ring = record { items = slice_set a.ring.items i h; capacity = a.ring.capacity }; first = a.first; rows = a.rows; first_row = a.first_row })
+rows_answered a has i h few =
+    record {
+      size = has.size;
+      start = has.start;
+      places = omega (arith, length-set a.ring.items i h, has.places);
+      few = All-set KeepsFew a.ring.items i h few has.few;
+    }
+
+-- nothing is written where nothing is
+set_none : (xs : List Place) (i : ℕ) (x : Place) → slice_get xs i ≡ None → set xs i x ≡ xs
+set_none [] i x none = refl
+set_none (y ∷ ys) zero x none = absurd (none-some y (sym none))
+set_none (y ∷ ys) (suc i) x none = ap (λ zs. y ∷ zs) (set_none ys i x none)
+
+-- a place that is there is answered by its event's release
+module _ (a : Inside) (has : HasRows a) (r : Reordering) (is : shown a ≡ r) (p : ℕ) where
+  abbrev at : ℕ
+  at = (p + (2 ^ 64 - a.first)) % 2 ^ 64
+
+  module _ (h : Handed) (there : slice_get a.ring.items at ≡ Some h) where
+    abbrev now : Handed
+    now = record { number = h.number; kept = h.kept; answered = true }
+
+    pub shown_resolved : shown (record { ring = record { items = slice_set a.ring.items at now; capacity = a.ring.capacity }; first = a.first; rows = a.rows; first_row = a.first_row }) ≡ after_resolve r p None
+    shown_resolved =
+        ap (λ (ps : List Place). let k : Reordering = record { first = a.first; places = ps; depth = a.ring.capacity } in k) (places_resolved a has at h there)
+        ∙ ap (λ k. after_resolve k p None) is
+
+    pub rows_resolved : HasRows (record { ring = record { items = slice_set a.ring.items at now; capacity = a.ring.capacity }; first = a.first; rows = a.rows; first_row = a.first_row })
+    rows_resolved = rows_answered a has at now (record { few = (keeps_few a has at h there).few; fewer = λ still. absurd cc })
+
+  -- one that isn't there
+  pub none_resolved : slice_get a.ring.items at ≡ None → r ≡ after_resolve r p None
+  none_resolved none =
+      let past : slice_get r.places (index_of r p) ≡ None = subst (λ (k : Reordering). slice_get k.places (index_of k p) ≡ None) is (no_place (rows a) a.ring.items at none) in
+      sym (ap (λ (ps : List Place). let k : Reordering = record { first = r.first; places = ps; depth = r.depth } in k)
+      (set_none r.places (index_of r p) (resolved (slice_index_or r.places (index_of r p) (open_place 0)) None) past))
+
 -- ---- a place by its number
 
 module _ (a : Inside) (has : HasRows a) (r : Reordering) (is : shown a ≡ r) (p : ℕ) (unresolved : IsTrue (is_open (place_at r p))) where
@@ -90,19 +130,10 @@ module _ (a : Inside) (has : HasRows a) (r : Reordering) (is : shown a ≡ r) (p
           fewer = λ still. omega (arith, room_left (room still));
         }
 
-    pub shown_resolved : shown (record { ring = record { items = slice_set a.ring.items index (record { number = h.number; kept = h.kept; answered = true }); capacity = a.ring.capacity }; first = a.first; rows = a.rows; first_row = a.first_row }) ≡ after_resolve r p None
-    shown_resolved =
-        ap (λ (ps : List Place). let k : Reordering = record { first = a.first; places = ps; depth = a.ring.capacity } in k) (places_resolved a has index h there)
-        ∙ ap (λ k. after_resolve k p None) is
-
     pub shown_kept : (e : Event) (answered : Bool) → shown (record { ring = record { items = slice_set a.ring.items index (record { number = h.number; kept = h.kept + 1; answered = answered }); capacity = a.ring.capacity }; first = a.first; rows = with_item a.rows (MAX_FORWARDS * wrapped a.ring.capacity (a.first_row + index) + h.kept) e; first_row = a.first_row }) ≡ after_keep r p e answered
     shown_kept e answered =
         ap (λ (ps : List Place). let k : Reordering = record { first = a.first; places = ps; depth = a.ring.capacity } in k) (places_kept a has index h there e answered row_left)
         ∙ ap (λ k. after_keep k p e answered) is
-
-    -- the place with its answer, before an event goes to its row
-    pub released_few : KeepsFew (record { number = h.number; kept = h.kept; answered = true })
-    released_few = record { few = (keeps_few a has index h there).few; fewer = λ still. absurd cc }
 
 -- an event that is added beside an open place's leaves it open
 pub added_open : (r : Reordering) (p : ℕ) (e : Event) → IsTrue (is_open (place_at r p)) → after_keep r p e false ≡ after_add r p e
@@ -118,17 +149,7 @@ added_open r p e unresolved = by_place (place_at r p) refl unresolved
         let open_still : (place_or_open r p).answered ≡ false = ap (λ (y : Place). y.answered) (get_or_from_slice_get r.places _ x (open_place 0) there) ∙ not_answered x.answered still in
         ap (λ b. after_keep r p e b) (sym open_still)
 
--- a place was written: the rows stand as before
-pub rows_answered : (a : Inside) → HasRows a → (i : ℕ) (h : Handed) → KeepsFew h → HasRows (record { ring = record { items = slice_set a.ring.items i h; capacity = a.ring.capacity }; first = a.first; rows = a.rows; first_row = a.first_row })
-rows_answered a has i h few =
-    record {
-      size = has.size;
-      start = has.start;
-      places = omega (arith, length-set a.ring.items i h, has.places);
-      few = All-set KeepsFew a.ring.items i h few has.few;
-    }
-
--- and a cell besides
+-- a place was written, and a cell besides: the rows stand as before
 pub rows_stand : (a : Inside) → HasRows a → (i cell : ℕ) (h : Handed) (e : Event) → KeepsFew h → HasRows (record { ring = record { items = slice_set a.ring.items i h; capacity = a.ring.capacity }; first = a.first; rows = with_item a.rows cell e; first_row = a.first_row })
 rows_stand a has i cell h e few =
     record {

@@ -8,6 +8,7 @@ pub mod HeldSlots
 pub mod Holds
 pub mod InTurn
 pub mod Kept
+pub mod Leaving
 pub mod Oldest
 pub mod Places
 pub mod Rings

@@ -6,6 +6,7 @@ pub mod InTurn
 pub mod Orders
 pub mod Pins
 pub mod QueuePins
+pub mod Released
 pub mod Reorder
 pub mod Ring
 pub mod Rows

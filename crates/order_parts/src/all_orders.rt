@@ -1,9 +1,12 @@
 //! The reorder buffers of a device's queues.
 
-ghost use Rattle.std.specs.Prelude.{◌≡◌, ◌<◌, ◌≤◌, ◌^◌, ◌&&◌, true, false, length, map, slice_get, slice_set, slice_index_or, sum_by, take, is_some, option_copied, option_map, Some, IfNone, IfOk, IfSome, IsTrue};
+ghost use Rattle.std.specs.Prelude.{◌≡◌, ◌≢◌, ◌<◌, ◌≤◌, ◌^◌, ◌&&◌, true, false, All, Some, length, map, slice_get, slice_set, slice_index_or, sum_by, take, is_some, option_copied, option_map, Some, IfNone, IfOk, IfSome, IsTrue};
 ghost use Rattle.order_parts.specs.Histories.{lane_in};
 ghost use Rattle.order_parts.specs.InTurn.{AreInTurn, EndsTurn};
 ghost use Rattle.order_parts.specs.Reorder.{empty, next_number, place_at, place_or_open, is_open, kept_of, is_done, left, left_plain, oldest_answered, after_leave, open_place};
+ghost use Rattle.order_parts.specs.Released.{kept_in_places, released_in};
+ghost use Rattle.order_parts.specs.Unpinned.{IsOfQueue};
+ghost use Rattle.order_parts.specs.declared.history.Entry.{Entry as EntryValue};
 ghost use Rattle.order_parts.specs.Orders.{IsBuffer, is_restoring, has_place, places_for, handed, added_in, left_in, resolved_in, order_at};
 ghost use Rattle.evt_types.specs.Plan as plans;
 
@@ -225,6 +228,45 @@ impl AllOrders {
         match &self.queues[queue] {
             Some(order) => order.is_answered(index),
             None => false,
+        }
+    }
+
+    /// Whether the queue restores an order, and none of its places keeps an event. Each place is looked at, so that it says no, too, where
+    /// there are eight times as many of them as the row has events, and more.
+    #[inline(always)]
+    pub fn is_bare(&self, queue: usize, row: usize) -> bool
+        requires { queue < length self.now }
+        ensures restoring { IsTrue result → is_restoring (order_at self.now queue) ≡ true }
+        ensures bare { IsTrue result → kept_in_places (order_at self.now queue).places ≡ 0 }
+    {
+        match &self.queues[queue] {
+            Some(order) => order.is_bare(row),
+            None => false,
+        }
+    }
+
+    /// The lane's oldest events are answered by their releases, as far as they are of the queue and no more than so many: how many. Then
+    /// the queue's places leave that are answered, from the oldest on. Of a queue that restores no order it is none.
+    #[inline(always)]
+    pub fn release_oldest(
+        &mut self,
+        queue: usize,
+        lanes: &Histories,
+        lane: usize,
+        most: usize,
+    ) -> usize
+        requires there { queue < length self.old }
+        requires lane { lane < length lanes.now }
+        requires most { most ≤ length (lane_in lanes.now lane).entries }
+        ensures few { result ≤ most }
+        ensures each { All (IsOfQueue queue) (take result (lane_in lanes.now lane).entries) }
+        ensures last { is_restoring (order_at self.old queue) ≡ true → result < most → (y : EntryValue) × (slice_get (lane_in lanes.now lane).entries result ≡ Some y) × (y.queue ≢ queue) }
+        ensures free { is_restoring (order_at self.old queue) ≡ false → result ≡ 0 }
+        ensures released { self.new ≡ slice_set self.old queue (released_in (order_at self.old queue) (take result (lane_in lanes.now lane).entries)) }
+    {
+        match &mut self.queues[queue] {
+            Some(order) => order.release_oldest(queue, &lanes.lanes[lane], most),
+            None => 0,
         }
     }
 

@@ -1,7 +1,10 @@
 //! The reorder buffer of an ordered queue.
 
-ghost use Rattle.std.specs.Prelude.{◌≡◌, false, ◌+◌, ◌*◌, ◌%◌, ◌^◌, ◌<◌, ◌≤◌, ◌++◌, All, MatchOption, Some, length, nat_lt, option_copied, None, slice_get, slice_index_or, option_map, take, IfNone, IfOk, IfSome, IsTrue};
+ghost use Rattle.std.specs.Prelude.{◌≡◌, ◌≢◌, false, ◌+◌, ◌*◌, ◌%◌, ◌^◌, ◌<◌, ◌≤◌, ◌++◌, All, MatchOption, Some, length, nat_lt, option_copied, None, slice_get, slice_index_or, option_map, take, IfNone, IfOk, IfSome, IsTrue};
 ghost use Rattle.order_parts.specs.InTurn.{AreInTurn, EndsTurn};
+ghost use Rattle.order_parts.specs.Released.{kept_in_places, released_all, without_answered};
+ghost use Rattle.order_parts.specs.Unpinned.{IsOfQueue};
+ghost use Rattle.order_parts.specs.declared.history.Entry.{Entry as EntryValue};
 ghost use Rattle.order_parts.specs.Reorder.{HasFew, after_add, after_hand, after_keep, after_leave, after_resolve, empty, is_done, is_open, kept_of, left, left_plain, next_number, oldest_answered, open_place, place_at, place_or_open, without_first, without_oldest, wrapped};
 
 use crate::history::History;
@@ -176,7 +179,6 @@ impl Reorder {
     /// The event of the place is answered by its release.
     #[inline(always)]
     fn release(&mut self, place: u64)
-        requires { IsTrue (is_open (place_at self.old place)) }
         ensures { self.new ≡ after_resolve self.old place None }
     {
         let index = place.wrapping_sub(self.first) as usize;
@@ -251,6 +253,67 @@ impl Reorder {
             Some(handed) => handed.answered,
             None => false,
         }
+    }
+
+    /// Whether no place keeps an event. It says no, too, where there are eight times so many places and more: each is looked at.
+    #[inline(always)]
+    pub(crate) fn is_bare(&self, row: usize) -> bool
+        ensures { IsTrue result → kept_in_places self.now.places ≡ 0 }
+    {
+        let count = self.ring.len();
+        if count / 8 > row {
+            return false;
+        }
+        for index in 0..count {
+            if self.kept_count(index) > 0 {
+                return false;
+            }
+        }
+        true
+    }
+
+    /// The oldest entries' events are answered by their releases, as far as these are of the queue and no more than so many: how many.
+    #[inline(always)]
+    fn release_entries(&mut self, queue: usize, history: &History, most: usize) -> usize
+        requires { most ≤ length history.now.entries }
+        ensures few { result ≤ most }
+        ensures each { All (IsOfQueue queue) (take result history.now.entries) }
+        ensures last { result < most → (y : EntryValue) × (slice_get history.now.entries result ≡ Some y) × (y.queue ≢ queue) }
+        ensures released { self.new ≡ released_all self.old (take result history.now.entries) }
+    {
+        for index in 0..most {
+            let entry = history.entry(index);
+            if entry.queue != queue {
+                return index;
+            }
+            self.release(entry.place);
+        }
+        most
+    }
+
+    /// The places leave that are answered, from the oldest on.
+    #[inline(always)]
+    fn leave_answered(&mut self)
+        ensures { self.new ≡ without_answered self.old }
+    {
+        while self.is_answered(0) {
+            self.advance();
+        }
+    }
+
+    /// The oldest entries' events are answered by their releases, as far as these are of the queue and no more than so many: how many.
+    /// Then the places leave that are answered, from the oldest on.
+    #[inline(always)]
+    pub(crate) fn release_oldest(&mut self, queue: usize, history: &History, most: usize) -> usize
+        requires { most ≤ length history.now.entries }
+        ensures few { result ≤ most }
+        ensures each { All (IsOfQueue queue) (take result history.now.entries) }
+        ensures last { result < most → (y : EntryValue) × (slice_get history.now.entries result ≡ Some y) × (y.queue ≢ queue) }
+        ensures released { self.new ≡ without_answered (released_all self.old (take result history.now.entries)) }
+    {
+        let count = self.release_entries(queue, history, most);
+        self.leave_answered();
+        count
     }
 
     /// So many of the oldest places leave.

@@ -22,7 +22,7 @@ use Rattle.sched_core.proofs.Rows.{IsRowTaken, row_taken}
 use Rattle.sched_core.specs.Inner.{unplaced}
 use Rattle.sched_core.specs.View.{IsCore, next_in, view_in}
 use Rattle.sched_core.specs.declared.state.Core.TheInside.{Inside}
-use Rattle.sched_core.specs.Rows.{HasRoomFor, IsFor, IsForwardTo, IsLike, IsRelease, LeaveInTurn, LeavesAlone, after_waiting, row_of}
+use Rattle.sched_core.specs.Rows.{AreLetGo, HasRoomFor, IsFor, IsForwardTo, IsLetGo, IsLike, IsRelease, LeaveInTurn, LeavesAlone, after_waiting, row_of}
 use Rattle.step_log.specs.Rows.{AreTo, forward_steps, release_steps}
 use Rattle.transcripts.specs.Replies.{new_count, turned_count}
 use Rattle.transcripts.specs.Standing.{View, accepts_of, after, after_accept, after_done, entries_of, inside_of, kept_in, may_answer, may_take_by, next_at, oldest_at, places_after, steps_by, steps_of, unanswered_at}
@@ -51,28 +51,36 @@ waiting_shape (r ∷ rs) v q = waiting_shape rs (after_accept v q r.event) q
 may_answer_one : (v : View) (l : ℕ) (h : Held) → oldest_at v l ≡ Some h → may_answer v l ≡ true
 may_answer_one v l h oldest = lt-ltb 0 (length (unanswered_at v l)) (slice_get_within (unanswered_at v l) 0 h oldest)
 
-release_step : (v : View) (l q : ℕ) (h : Held) (e : Event) (o : Op) → LeavesAlone v l q h → o ≡ ops.Release → steps_by o v l e ≡ Done l Released ∷ []
-release_step v l q h e o alone is =
-    ap (λ p. steps_by p v l e) is ∙ ap (λ ss. Done l Released ∷ ss) (ap (λ x. accepts_of v x Released) alone.oldest ∙ alone.accepts Released)
+-- an event that leaves its queue alone is let go, too
+pub let_go : (hs : List Held) (v : View) (l q : ℕ) → LeaveInTurn v l q hs → AreLetGo v l hs
+let_go [] v l q leave = tt
+let_go (h ∷ hs) v l q leave = (
+  record { oldest = leave.0.oldest; accepts = leave.0.accepts Released; kept = leave.0.kept },
+  let_go hs (after_done v l Released) l q leave.1,
+)
 
-release_may : (v : View) (l q : ℕ) (h : Held) (e : Event) (o : Op) → LeavesAlone v l q h → o ≡ ops.Release → may_take_by o v l e ≡ true
-release_may v l q h e o alone is = subst (λ p. may_take_by p v l e ≡ true) (sym is) (may_answer_one v l h alone.oldest)
+release_step : (v : View) (l : ℕ) (h : Held) (e : Event) (o : Op) → IsLetGo v l h → o ≡ ops.Release → steps_by o v l e ≡ Done l Released ∷ []
+release_step v l h e o alone is =
+    ap (λ p. steps_by p v l e) is ∙ ap (λ ss. Done l Released ∷ ss) (ap (λ x. accepts_of v x Released) alone.oldest ∙ alone.accepts)
+
+release_may : (v : View) (l : ℕ) (h : Held) (e : Event) (o : Op) → IsLetGo v l h → o ≡ ops.Release → may_take_by o v l e ≡ true
+release_may v l h e o alone is = subst (λ p. may_take_by p v l e ≡ true) (sym is) (may_answer_one v l h alone.oldest)
 
 pub record AreReleases (v : View) (l n : ℕ) (rs : List Reply) : Type 0 where
   pub may : MayBeTaken v (row_of l rs)
   pub steps : replies_steps v (row_of l rs) ≡ release_steps l n
 
-pub releases : (hs : List Held) (v : View) (l q : ℕ) (rs : List Reply) → l < lanes_of v.shape → LeaveInTurn v l q hs → All IsRelease rs → length rs ≡ length hs → AreReleases v l (length hs) rs
-releases [] v l q [] lane leave all same = record { may = tt; steps = refl }
-releases [] v l q (r ∷ rs) lane leave all same = absurd (omega (arith, same))
-releases (h ∷ hs) v l q [] lane leave all same = absurd (omega (arith, same))
-releases (h ∷ hs) v l q (r ∷ rs) lane leave all same =
+pub releases : (hs : List Held) (v : View) (l : ℕ) (rs : List Reply) → l < lanes_of v.shape → AreLetGo v l hs → All IsRelease rs → length rs ≡ length hs → AreReleases v l (length hs) rs
+releases [] v l [] lane leave all same = record { may = tt; steps = refl }
+releases [] v l (r ∷ rs) lane leave all same = absurd (omega (arith, same))
+releases (h ∷ hs) v l [] lane leave all same = absurd (omega (arith, same))
+releases (h ∷ hs) v l (r ∷ rs) lane leave all same =
     let is : r.event.op ≡ ops.Release = All-head IsRelease r rs all in
-    let step : steps_of v l r.event ≡ Done l Released ∷ [] = release_step v l q h r.event r.event.op leave.0 is in
+    let step : steps_of v l r.event ≡ Done l Released ∷ [] = release_step v l h r.event r.event.op leave.0 is in
     let after1 : after v (steps_of v l r.event) ≡ after_done v l Released = ap (after v) step in
-    let rest : AreReleases (after_done v l Released) l (length hs) rs = releases hs (after_done v l Released) l q rs lane leave.1 (All-tail IsRelease r rs all) (omega (arith, same)) in
+    let rest : AreReleases (after_done v l Released) l (length hs) rs = releases hs (after_done v l Released) l rs lane leave.1 (All-tail IsRelease r rs all) (omega (arith, same)) in
     record {
-      may = (lane, release_may v l q h r.event r.event.op leave.0 is, subst (λ u. MayBeTaken u (row_of l rs)) (sym after1) rest.may);
+      may = (lane, release_may v l h r.event r.event.op leave.0 is, subst (λ u. MayBeTaken u (row_of l rs)) (sym after1) rest.may);
       steps = ap (λ u. steps_of v l r.event ++ replies_steps u (row_of l rs)) after1
           ∙ (ap (λ ss. ss ++ replies_steps (after_done v l Released) (row_of l rs)) step ∙ ap (λ ss. Done l Released ∷ ss) rest.steps);
     }
@@ -249,11 +257,11 @@ module _ (v : View) (l q n m : ℕ) (d : Event) (rs : List Reply) (few : n ≤ l
   held_count : length (take n (unanswered_at v l)) ≡ n
   held_count = length-take-le n (unanswered_at v l) (omega (arith, few, most))
 
-  pub taken_releases : (u : View) → l < lanes_of v.shape → LeaveInTurn v l q (take n (unanswered_at v l)) → d.op ≡ ops.Release → u ≡ after v (release_steps l n) → IsRowTaken v u l (take n rs) (release_steps l n) 0
+  pub taken_releases : (u : View) → l < lanes_of v.shape → AreLetGo v l (take n (unanswered_at v l)) → d.op ≡ ops.Release → u ≡ after v (release_steps l n) → IsRowTaken v u l (take n rs) (release_steps l n) 0
   taken_releases u lane leave op answered =
       let all : AreReleases v l n (take n rs) =
       subst (λ k. AreReleases v l k (take n rs)) held_count
-      (releases (take n (unanswered_at v l)) v l q (take n rs) lane leave (all_release d (take n rs) op first_like) (first_count ∙ sym held_count)) in
+      (releases (take n (unanswered_at v l)) v l (take n rs) lane leave (all_release d (take n rs) op first_like) (first_count ∙ sym held_count)) in
       row_taken v u l (take n rs) (release_steps l n) 0 all.may all.steps answered (releases_new l n) (releases_turned l n)
 
   -- once they are answered there is room for what they are passed on as

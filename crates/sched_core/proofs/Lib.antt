@@ -32,3 +32,5 @@ pub mod Runs
 pub mod Settling
 pub mod Sound
 pub mod Steps
+pub mod LettingGo
+pub mod ReleasedRows

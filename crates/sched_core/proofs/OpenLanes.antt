@@ -27,8 +27,9 @@ use Rattle.order_parts.specs.QueuePins.{pin_in}
 use Rattle.sched_core.specs.View.{view_in, unanswered_in, IsCore}
 use Rattle.sched_core.specs.declared.state.Core.TheInside.{Inside}
 use Rattle.sched_core.specs.SlotLanes.{IsSlotLane, slot_lane_count}
+use Rattle.evt_types.specs.declared.event.Numbered.{Numbered}
 use Rattle.transcripts.proofs.FlowAlone.{one_lane}
-use Rattle.transcripts.specs.Choice.{Passed, HasNone, HasNoOther, IsBetterLane, has_bounced}
+use Rattle.transcripts.specs.Choice.{Passed, HasNone, HasNoOther, IsBetterLane, IsChoice, has_bounced}
 use Rattle.transcripts.specs.Standing.{View, unanswered_at}
 
 -- ---- a walk over lanes
@@ -143,6 +144,10 @@ pub held_none : (v : View) (s : Passed) (q slot : ℕ) (lanes : SmallSet) (o : O
     → IfNone o ((l : ℕ) → ¬ FitsSlot v s q slot l)
 held_none v s q slot lanes None ports are none = λ l fits. none l (fits_hold v s q slot lanes ports are l fits)
 held_none v s q slot lanes (Some l) ports are none = tt
+
+-- the lane of a choice is one of the open ones
+pub choice_among : (v : View) (s : Passed) (l q : ℕ) (w : Numbered) (lanes : SmallSet) → has_flow_lanes v.shape q ≡ false → AreOpenLanes v s q lanes → IsChoice v s l q w → Has lanes l
+choice_among v s l q w lanes ports are choice = (are l).1 (fits_open v s q (slot_at v q w) l ports (fits_slot v s l q w choice.fits))
 
 -- where a queue has no place for an event more, no lane is open to it
 pub shut_open : (v : View) (s : Passed) (q : ℕ) (lanes : SmallSet) → IsEmpty lanes → ¬ HasPlace v q → AreOpenLanes v s q lanes

@@ -1,7 +1,7 @@
 -- The pins beside the unanswered events: what they say of a lane, and that they agree with the events after one is given or answered.
 use Rattle.std.proofs.Common.{◌≡◌, ◌≢◌, ℕ, ◌+◌, ◌%◌, ◌<◌, ◌≤◌, Bool, true, false, cond, ◌==◌, List, [], ◌∷◌, ◌++◌, length, set, drop, replicate, slice_get, All, None, Some, ◌⊎◌, inl, inr, refl, sym, ap, ◌∙◌, subst, arith, eq-eqb, eqb-true}
 use Rattle.std.proofs.lemmas.Bool.{and_from, and_parts, or_cases, or_left, or_right, cases_eq, cases_lt, cases_Bool, cond-true, cond-false, false≢true, false_from_ne_true, ne_eqb}
-use Rattle.std.proofs.lemmas.List.{length-set, length-replicate, get_or-replicate, get_or-set_same, get_or-set_other, get_or_past}
+use Rattle.std.proofs.lemmas.List.{length-set, length-replicate, get_or-replicate, get_or-set_same, get_or-set_other, get_or_past, set-get_or, set_past}
 use Rattle.std.proofs.lemmas.List.Elements.{All-nil, All-cons, All-head, All-push, All-drop, All-set, All-weaker}
 use Rattle.std.proofs.lemmas.List.Sums.{sum_by-append, sum_by-cons, count_by-le-length}
 use Rattle.std.proofs.lemmas.Option.{same_Some}
@@ -10,10 +10,11 @@ use Rattle.lists.proofs.Sums.{sum_of_none}
 use Rattle.evt_types.specs.Fault.{IsWithinLimits, IsBetween}
 use Rattle.evt_types.specs.declared.shape.TheConstants.{MAX_DEPTH, MAX_SLOTS}
 use Rattle.evt_types.proofs.FlowLanes.{depth_within}
-use Rattle.evt_types.specs.Plan.{Plan, queue_of, slot_of, depth_of, is_atomic, lanes_of}
+use Rattle.evt_types.specs.Plan.{Plan, queue_of, slot_of, depth_of, is_atomic, is_ordered, lanes_of}
 use Rattle.transcripts.specs.Transcript.{Held}
 use Rattle.evt_types.specs.declared.draft.QueueDraft.{QueueDraft}
-use Rattle.evt_types.specs.declared.event.Kind.TheVariants.{Parallel}
+use Rattle.evt_types.specs.declared.event.Kind.{Kind}
+use Rattle.evt_types.specs.declared.event.Kind.TheVariants.{Atomic, Ordered, Parallel}
 use Rattle.order_parts.specs.Pins.{Pin, free, holder_of, pin_at, may_pin, pinned, unpinned}
 use Rattle.sched_core.specs.Pinned.{entries_at, is_of, count_of, count_on, ArePins}
 use Rattle.order_parts.specs.QueuePins.{slots_of, pins_at, pin_in, with_pin, AreFreePins}
@@ -201,6 +202,18 @@ slot_has_pin ps q slot some = by_case (cases_lt slot (length (pins_at ps q)))
 -- only an atomic queue has pins
 no_slots : (p : Plan) (q : ℕ) → is_atomic (queue_of p q).kind ≡ false → slots_of p q ≡ 0
 no_slots p q plain = cond-false (is_atomic (queue_of p q).kind) (queue_of p q).slots 0 plain
+
+-- a slot of an ordered queue has no pin, and so no write changes it
+pub no_pins : (p : Plan) (us : List (List Held)) (ps : List (List Pin)) (q slot : ℕ) (x : Pin) → ArePins p us ps → q < length p.queues → is_ordered (queue_of p q).kind ≡ true → ps ≡ with_pin ps q slot x
+no_pins p us ps q slot x pins h ordered =
+    let few = pins.slots q h in
+    let none = no_slots p q (not_atomic (queue_of p q).kind ordered) in
+    sym (ap (set ps q) (set_past (pins_at ps q) slot x (omega arith)) ∙ set-get_or ps q [])
+  where
+    not_atomic : (k : Kind) → is_ordered k ≡ true → is_atomic k ≡ false
+    not_atomic Atomic is = absurd (false≢true is)
+    not_atomic Ordered is = refl
+    not_atomic Parallel is = absurd (false≢true is)
 
 free_plain : (p : Plan) (us : List (List Held)) (ps : List (List Pin)) (q slot : ℕ) → ArePins p us ps → q < length p.queues → is_atomic (queue_of p q).kind ≡ false → pin_in ps q slot ≡ free
 free_plain p us ps q slot pins h plain =

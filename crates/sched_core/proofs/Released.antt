@@ -65,13 +65,13 @@ held_in_turn (y ∷ ys) p us ps l q pins h there are =
 
 -- ---- slots that are open
 
-opened_still : (p : Plan) (l : ℕ) (was now : List SmallSet) → IsOpened p l was now → IsOpened p l now now
+pub opened_still : (p : Plan) (l : ℕ) (was now : List SmallSet) → IsOpened p l was now → IsOpened p l now now
 opened_still p l was now opens = record { count = refl; there = opens.there; still = λ q slot d h has. has }
 
 -- ---- a core
 
 -- a core with another vector of the same counts
-core_extras : (a : Inside) (es : Vec ℕ Global) → IsCore a → es.items ≡ a.extras.items → IsCore (record a { extras = es })
+pub core_extras : (a : Inside) (es : Vec ℕ Global) → IsCore a → es.items ≡ a.extras.items → IsCore (record a { extras = es })
 core_extras a es core same =
     core_with a a.queues a.orders a.lanes es a.pins a.inside a.entries a.open_slots core (queues_here a core) core.lanes core.room (ap length same ∙ core.extras) core.pins
     (subst (λ xs. ArePlaces a.shape a.queues a.orders (map entries_in a.lanes) xs) (sym same) core.places) core.open_slots

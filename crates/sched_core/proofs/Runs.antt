@@ -12,7 +12,7 @@ use Rattle.evt_types.specs.declared.event.Numbered.{Numbered}
 use Rattle.evt_types.specs.declared.step.Step.{Step}
 use Rattle.evt_types.specs.declared.step.Step.TheVariants.{Give}
 use Rattle.sched_core.proofs.Offers.{IsOfferAt, choice_is_offer, not_earlier}
-use Rattle.sched_core.specs.Offered.{IsOfferIn, IsOpenLane, numbered_in}
+use Rattle.sched_core.specs.Offered.{AreOpenLanes, HasPlace, IsOfferIn, IsOpenLane, numbered_in}
 use Rattle.sched_core.specs.Sized.{IsSized}
 use Rattle.sched_core.specs.declared.offer.Offer.{Offer}
 use Rattle.sched_core.specs.Runs.{AreChoices, AreGiven, IsSteady, HasTurn, gift_of, gifts_of, given_once, given_times}
@@ -172,6 +172,29 @@ module _ (v : View) (s : Passed) (l q : ℕ) (w : Numbered) (sized : IsSized v) 
             places = λ ordered. let one = place_one in let places = steady.places ordered in omega (arith, some);
           }
 
+  -- where the queue has a place more and the lane of the gift has room, the same lanes are open
+  open_after : (lanes : SmallSet) → AreOpenLanes v s q lanes → HasPlace (after_give v l q w.number) q → length (unanswered_at (after_give v l q w.number) l) < depth_of v.shape l → AreOpenLanes (after_give v l q w.number) (given_once s q) q lanes
+  open_after lanes are place room m = (
+    λ has. opened ((are m).0 has),
+    λ is. (are m).1 (record {
+      lane = is.lane;
+      ready = is.ready;
+      linked = is.linked;
+      room = let fewer = more_out m in let room = is.room in omega arith;
+      places = λ ordered. let less = more_places q in let has = is.places ordered in omega arith;
+    }),
+  )
+    where
+      opened : IsOpenLane v s q m → IsOpenLane (after_give v l q w.number) (given_once s q) q m
+      opened is =
+          record {
+            lane = is.lane;
+            ready = is.ready;
+            linked = is.linked;
+            room = ⊎_elim (λ e. subst (λ k. length (unanswered_at (after_give v l q w.number) k) < depth_of v.shape k) (sym e) room) (λ ne. let room = is.room in omega (arith, out_other m ne)) (cases_eq m l);
+            places = place;
+          }
+
   none_after : (r : ℕ) → HasNone v s r → HasNone (after_give v l q w.number) (given_once s q) r
   none_after r none u waits m fits = none u (waits_before r u waits) m (fits_before m r u fits)
 
@@ -287,6 +310,14 @@ pub steady_on : (l q more : ℕ) (lanes : SmallSet) (w x : View) (t y : Passed) 
     → IsSteady x y l q more lanes
 steady_on l q more lanes w x t y u sized offer within steady view given =
     subst (λ z. IsSteady z y l q more lanes) (sym view) (subst (λ z. IsSteady (after_give w l q u.number) z l q more lanes) (sym given) (steady_after w t l q u sized offer more lanes within steady))
+
+-- the same lanes are open after a gift
+pub open_on : (l q : ℕ) (lanes : SmallSet) (w x : View) (t y : Passed) (u : Numbered) → IsSized w → IsOffer w l q u → AreOpenLanes w t q lanes → x ≡ after w (Give l q u.number ∷ []) → y ≡ given_once t q → HasPlace x q
+    → length (unanswered_at x l) < depth_of x.shape l → AreOpenLanes x y q lanes
+open_on l q lanes w x t y u sized offer are view given place room =
+    subst (λ z. AreOpenLanes z y q lanes) (sym view)
+    (subst (λ z. AreOpenLanes (after_give w l q u.number) z q lanes) (sym given)
+    (open_after w t l q u sized offer lanes are (subst (λ z. HasPlace z q) view place) (subst (λ z. length (unanswered_at z l) < depth_of z.shape l) view room)))
 
 -- ---- what goes on with a run, before it is counted and logged
 

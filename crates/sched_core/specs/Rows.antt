@@ -77,3 +77,14 @@ pub record LeavesAlone (v : View) (l q : ℕ) (h : Held) : Type 0 where
 abbrev pub LeaveInTurn : View → ℕ → ℕ → List Held → Type 0
 LeaveInTurn v l q [] = Unit {0}
 LeaveInTurn v l q (h ∷ hs) = LeavesAlone v l q h × LeaveInTurn (after_done v l Released) l q hs
+
+-- The lane's oldest event is this one. If it is released, nothing that was kept leaves with it.
+pub record IsLetGo (v : View) (l : ℕ) (h : Held) : Type 0 where
+  pub oldest : oldest_at v l ≡ Some h
+  pub accepts : accepts_of v (Some h) Released ≡ []
+  pub kept : kept_in (after_done v l Released) ≡ kept_in v
+
+-- so it is with each of these, once those before it are released
+abbrev pub AreLetGo : View → ℕ → List Held → Type 0
+AreLetGo v l [] = Unit {0}
+AreLetGo v l (h ∷ hs) = IsLetGo v l h × AreLetGo (after_done v l Released) l hs

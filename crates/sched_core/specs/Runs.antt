@@ -1,11 +1,12 @@
 -- A run: choices that follow each other, all for one lane (own; Software Eventdev, "Scheduling Quanta").
-use Rattle.std.specs.Prelude.{ℕ, ◌≡◌, ◌+◌, ◌<◌, ◌≤◌, true, List, [], ◌∷◌, length, map, slice_index, slice_set, All}
+use Rattle.std.specs.Prelude.{ℕ, ◌≡◌, ◌+◌, ◌<◌, ◌≤◌, true, false, List, [], ◌∷◌, length, map, slice_index, slice_set, All}
 use Rattle.evt_types.specs.declared.event.Delivery.{Delivery}
 use Rattle.evt_types.specs.declared.step.Step.{Step}
 use Rattle.evt_types.specs.declared.step.Step.TheVariants.{Give}
 use Rattle.evt_types.specs.Plan.{depth_of, has_flow_lanes, is_ordered, level_of, queue_of}
 use Rattle.evt_types.specs.declared.event.Numbered.{Numbered}
 use Rattle.sched_core.specs.Offered.{AreOpenLanes, numbered_in}
+use Rattle.sched_core.specs.declared.offer.Offer.{Offer}
 use Rattle.sched_core.specs.declared.turn.Turn.{Turn}
 use Rattle.small_set.specs.declared.set.SmallSet.{SmallSet}
 use Rattle.transcripts.specs.Choice.{Fits, HasNone, HasQuota, IsChoice, IsServedBefore, Passed, WaitsIn}
@@ -26,6 +27,12 @@ gifts_of l ds = map (gift_of l) ds
 abbrev pub AreChoices : ℕ → View → Passed → List Delivery → View → Passed → Type 0
 AreChoices l v s [] w t = (w ≡ v) × (t ≡ s)
 AreChoices l v s (d ∷ ds) w t = IsChoice v s l d.queue (numbered_in d) × AreChoices l (after v (gift_of l d ∷ [])) (given_once s d.queue) ds w t
+
+-- it is the choice, for a queue that the ports serve, to which just these lanes are open
+pub record IsChoiceAmong (v : View) (s : Passed) (among : SmallSet) (o : Offer) : Type 0 where
+  pub choice : IsChoice v s o.lane o.delivery.queue (numbered_in o.delivery)
+  pub ports : has_flow_lanes v.shape o.delivery.queue ≡ false
+  pub lanes : AreOpenLanes v s o.delivery.queue among
 
 -- what a sweep passes over, once it gave so many events more of the queue
 abbrev pub given_times : Passed → ℕ → ℕ → Passed

@@ -26,7 +26,7 @@ impl Core {
     }
 
     /// Whether one event more of the queue may be handed out: an ordered queue has a place for it.
-    fn has_place(&self, queue: usize) -> bool
+    pub(crate) fn has_place(&self, queue: usize) -> bool
         requires { queue < length self.now.shape.queues }
         ensures { IsTrue result ↔ HasPlace self.now queue }
     {

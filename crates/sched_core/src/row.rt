@@ -4,7 +4,7 @@ ghost use Rattle.std.specs.Prelude.{◌≡◌, ◌+◌, ◌*◌, ◌<◌, ◌≤
 ghost use Rattle.evt_types.specs.Plan.{lanes_of, level_of};
 ghost use Rattle.evt_types.specs.declared.event.Reply.{Reply as ReplyValue};
 ghost use Rattle.evt_types.specs.declared.step.Step.{Step as StepValue};
-ghost use Rattle.sched_core.specs.Rows.{HasRoomFor, IsLike, IsNewRow, LeaveInTurn, after_waiting, row_of};
+ghost use Rattle.sched_core.specs.Rows.{AreLetGo, HasRoomFor, IsLike, IsNewRow, LeaveInTurn, after_waiting, row_of};
 ghost use Rattle.step_log.specs.Rows.{news_steps, release_steps};
 ghost use Rattle.transcripts.specs.Replies.{new_count, turned_count};
 ghost use Rattle.transcripts.specs.Standing.{Stands, after, entries_of, inside_of, kept_in, oldest_at, unanswered_at};
@@ -196,6 +196,67 @@ impl Core {
         count
     }
 
+    /// The lane's oldest unanswered events, of the queue, are answered by RELEASEs that are alike, whichever places they have: how many. It
+    /// is none where the queue restores no order, or keeps something or has many more places.
+    #[inline(always)]
+    fn release_row(
+        &mut self,
+        lane: usize,
+        queue: usize,
+        first: &PackedEvent,
+        replies: &[Reply],
+    ) -> usize
+        requires lane { lane < lanes_of self.old.shape }
+        requires oldest { (held : Held) × (oldest_at self.old lane ≡ Some held) × (held.queue ≡ queue) }
+        requires most { length replies.now ≤ length (unanswered_at self.old lane) }
+        ensures few { result ≤ length replies.now }
+        ensures like { All (λ (r : ReplyValue). IsLike first.now r.event) (take result replies.now) }
+        ensures let_go { AreLetGo self.old lane (take result (unanswered_at self.old lane)) }
+        ensures view { self.new ≡ after self.old (release_steps lane result) }
+        ensures kept { kept_in self.new ≡ kept_in self.old }
+    {
+        if self.extras[lane] > 0 {
+            return 0;
+        }
+        let most = like(first, replies);
+        // A single event is answered for less by itself.
+        if most < 2 || !self.orders.is_bare(queue, most) {
+            return 0;
+        }
+        open_slot(&mut self.open_slots, &self.shape, lane);
+        // An ordered queue's slots have no pins.
+        let count = self.orders.release_oldest(queue, &self.lanes, lane, most);
+        self.lanes.drop_oldest(lane, count);
+        self.inside -= count;
+        count
+    }
+
+    /// The lane's oldest unanswered events, of the queue, are answered by RELEASEs that are alike, and nothing that was kept leaves with
+    /// them: how many.
+    #[inline(always)]
+    fn answer_releases(
+        &mut self,
+        lane: usize,
+        queue: usize,
+        first: &PackedEvent,
+        replies: &[Reply],
+    ) -> usize
+        requires lane { lane < lanes_of self.old.shape }
+        requires oldest { (held : Held) × (oldest_at self.old lane ≡ Some held) × (held.queue ≡ queue) }
+        requires most { length replies.now ≤ length (unanswered_at self.old lane) }
+        ensures few { result ≤ length replies.now }
+        ensures like { All (λ (r : ReplyValue). IsLike first.now r.event) (take result replies.now) }
+        ensures let_go { AreLetGo self.old lane (take result (unanswered_at self.old lane)) }
+        ensures view { self.new ≡ after self.old (release_steps lane result) }
+        ensures kept { kept_in self.new ≡ kept_in self.old }
+    {
+        let count = self.answer_row(lane, queue, first, replies);
+        if count > 0 {
+            return count;
+        }
+        self.release_row(lane, queue, first, replies)
+    }
+
     /// Takes the oldest of the lane's replies in a row, as long as they are RELEASEs that are alike and answer events of one queue, and
     /// nothing that was kept leaves with them: how many. It may take none where `take` would take some.
     #[inline(always)]
@@ -221,12 +282,13 @@ impl Core {
         let Some(first) = replies.first() else {
             return 0;
         };
-        if first.event.op() != Op::Release || self.lanes.is_empty(lane) {
+        let most = self.lanes.len(lane).min(replies.len());
+        // A single event is answered for less by itself.
+        if most < 2 || first.event.op() != Op::Release {
             return 0;
         }
-        let most = self.lanes.len(lane).min(replies.len());
         let queue = self.lanes.oldest(lane).queue;
-        let count = self.answer_row(lane, queue, &first.event, &replies[..most]);
+        let count = self.answer_releases(lane, queue, &first.event, &replies[..most]);
         if count == 0 {
             return 0;
         }

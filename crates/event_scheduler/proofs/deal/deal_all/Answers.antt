@@ -2,17 +2,18 @@
 use Rattle.std.proofs.Common.{◌≡◌, ◌+◌, ◌<◌, [], ◌∷◌, length, refl, sym, ap, ◌∙◌, subst, arith}
 use Rattle.std.proofs.lemmas.List.{length-set}
 use Rattle.std.specs.Option.{IfNone, IfSome}
-use Rattle.event_scheduler.proofs.Dealing.{counted, gathered_more, left_small, there_more}
+use Rattle.event_scheduler.proofs.Dealing.{counted, gathered_more, left_small, offered_among}
 use Rattle.event_scheduler.proofs.Giving.{filled, gave, refused}
 use Rattle.event_scheduler.proofs.Passing.{chosen, gives_bounced, gives_given, left_run, long, long_step}
 use Rattle.event_scheduler.specs.Giving.{Gives, left}
 use Rattle.event_scheduler.specs.Scheduler.{sight}
+use Rattle.evt_types.proofs.FlowLanes.{port_is_lane}
 use Rattle.evt_types.specs.Fault.{IsWithinLimits}
 use Rattle.evt_types.specs.Plan.{lanes_of}
 use Rattle.evt_types.specs.declared.step.Step.TheVariants.{Bounced}
 use Rattle.sched_core.proofs.Offers.{none_either}
 use Rattle.sched_core.specs.Offered.{numbered_in}
-use Rattle.sched_core.specs.declared.offer.Offer.{Offer}
+use Rattle.sched_core.specs.Runs.{IsChoiceAmong}
 use Rattle.transcripts.specs.Choice.{IsChoice}
 use Rattle.event_scheduler.proofs.deal.deal_all.Goals as goal
 
@@ -27,33 +28,25 @@ loop-next-init g c = (
   refl,
   c.requires.long,
   λ l out. c.requires.shown l,
-  λ l has. absurd (c.none-gathered.ensures l has),
   tt,
 )
-
-pub add-requires : goal.add-requires
-add-requires g c =
-    let was = c.loop-next.invariant in
-    let choice : IsChoice c.loop-next.core c.loop-next.skips c.in-Some.offer.lane c.in-Some.offer.delivery.queue (numbered_in c.in-Some.offer.delivery) =
-    subst (λ o. IfSome o (λ (y : Offer). IsChoice c.loop-next.core c.loop-next.skips y.lane y.delivery.queue (numbered_in y.delivery))) c.in-Some.is was.0 in
-    omega (arith, choice.fits.lane, c.requires.few, c.requires.lanes, ap lanes_of was.5)
 
 pub index_mut-requires : goal.index_mut-requires
 index_mut-requires g c =
     let was = c.loop-next.invariant in
     let choice : IsChoice c.loop-next.core c.loop-next.skips c.in-Some.offer.lane c.in-Some.offer.delivery.queue (numbered_in c.in-Some.offer.delivery) =
-    subst (λ o. IfSome o (λ (y : Offer). IsChoice c.loop-next.core c.loop-next.skips y.lane y.delivery.queue (numbered_in y.delivery))) c.in-Some.is was.0 in
+    (subst (λ o. IfSome o (IsChoiceAmong c.loop-next.core c.loop-next.skips c.args.among)) c.in-Some.is was.0).choice in
     omega (arith, choice.fits.lane, c.requires.lanes, ap lanes_of was.5, was.4, c.loop-next.lanes.ok)
 
 pub give_dealt-next-requires-clause-choice : goal.give_dealt-next-requires-clause-choice
 give_dealt-next-requires-clause-choice g c =
-    subst (λ o. IfSome o (λ (y : Offer). IsChoice c.loop-next.core c.loop-next.skips y.lane y.delivery.queue (numbered_in y.delivery))) c.in-Some.is c.loop-next.invariant.0
+    subst (λ o. IfSome o (IsChoiceAmong c.loop-next.core c.loop-next.skips c.args.among)) c.in-Some.is c.loop-next.invariant.0
 
 pub give_dealt-next-requires-clause-room : goal.give_dealt-next-requires-clause-room
 give_dealt-next-requires-clause-room g c =
     let was = c.loop-next.invariant in
     let limits : IsWithinLimits c.args.core.now.shape = subst IsWithinLimits c.shape.ensures c.limit.ensures.within in
-    let choice = subst (λ o. IfSome o (λ (y : Offer). IsChoice c.loop-next.core c.loop-next.skips y.lane y.delivery.queue (numbered_in y.delivery))) c.in-Some.is was.0 in
+    let choice = (subst (λ o. IfSome o (IsChoiceAmong c.loop-next.core c.loop-next.skips c.args.among)) c.in-Some.is was.0).choice in
     let facts = chosen c.args.core.now.shape c.loop-next.skips c.loop-next.core c.in-Some.offer.lane c.in-Some.offer.delivery.queue (numbered_in c.in-Some.offer.delivery) limits was.5 was.6 choice in
     omega (arith, was.2, was.3, c.requires.room, facts.some)
 
@@ -72,7 +65,7 @@ loop-next-preserved-then-stage g c =
     let lanes = c.loop-next.lanes.items in
     let limits : IsWithinLimits c.args.core.now.shape = subst IsWithinLimits c.shape.ensures c.limit.ensures.within in
     let choice : IsChoice c.loop-next.core c.loop-next.skips o.lane o.delivery.queue (numbered_in o.delivery) =
-    subst (λ x. IfSome x (λ (y : Offer). IsChoice c.loop-next.core c.loop-next.skips y.lane y.delivery.queue (numbered_in y.delivery))) c.in-Some.is was.0 in
+    (subst (λ o. IfSome o (IsChoiceAmong c.loop-next.core c.loop-next.skips c.args.among)) c.in-Some.is was.0).choice in
     let made = c.give_dealt-next.ensures in
     let run = left_run c.args.core.now.shape o.lane c.loop-next.core c.loop-next.skips ds c.give_dealt-next.new.self c.give_dealt-next.new.skips limits was.5 was.6 made.choices in
     let within : o.lane < length lanes = omega (arith, choice.fits.lane, c.requires.lanes, ap lanes_of was.5, was.4) in
@@ -89,20 +82,19 @@ loop-next-preserved-then-stage g c =
       length-set _ _ _ ∙ was.4,
       made.shape ∙ was.5,
       run.1,
-      gathered_more lanes o.lane c.index_mut.result.now c.stage.new.self c.loop-next.gathered c.add.new.self within there c.add.ensures.there c.add.ensures.others was.7,
-      λ l has. omega (arith, there_more (length lanes) o.lane c.loop-next.gathered c.add.new.self within c.add.ensures.others was.8 l has, length-set lanes o.lane c.stage.new.self),
+      gathered_more lanes o.lane c.index_mut.result.now c.stage.new.self c.args.among within there (offered_among c.loop-next.core c.loop-next.skips c.args.among o (subst (λ x. IfSome x (IsChoiceAmong c.loop-next.core c.loop-next.skips c.args.among)) c.in-Some.is was.0)) was.7,
       none_either c.give_dealt-next.result (0 < c.loop-next.given + 1 + c.loop-next.bounced) (omega arith),
     )
 
 pub bounce-requires-clause-lane : goal.bounce-requires-clause-lane
 bounce-requires-clause-lane g c =
-    (subst (λ o. IfSome o (λ (y : Offer). IsChoice c.loop-next.core c.loop-next.skips y.lane y.delivery.queue (numbered_in y.delivery))) c.in-Some.is c.loop-next.invariant.0).fits.lane
+    ((subst (λ o. IfSome o (IsChoiceAmong c.loop-next.core c.loop-next.skips c.args.among)) c.in-Some.is c.loop-next.invariant.0).choice).fits.lane
 
 pub bounce-requires-clause-room : goal.bounce-requires-clause-room
 bounce-requires-clause-room g c =
     let was = c.loop-next.invariant in
     let limits : IsWithinLimits c.args.core.now.shape = subst IsWithinLimits c.shape.ensures c.limit.ensures.within in
-    let choice = subst (λ o. IfSome o (λ (y : Offer). IsChoice c.loop-next.core c.loop-next.skips y.lane y.delivery.queue (numbered_in y.delivery))) c.in-Some.is was.0 in
+    let choice = (subst (λ o. IfSome o (IsChoiceAmong c.loop-next.core c.loop-next.skips c.args.among)) c.in-Some.is was.0).choice in
     let facts = chosen c.args.core.now.shape c.loop-next.skips c.loop-next.core c.in-Some.offer.lane c.in-Some.offer.delivery.queue (numbered_in c.in-Some.offer.delivery) limits was.5 was.6 choice in
     omega (arith, was.2, was.3, c.requires.room, facts.some)
 
@@ -110,14 +102,14 @@ pub bounced-requires : goal.bounced-requires
 bounced-requires g c =
     let was = c.loop-next.invariant in
     let limits : IsWithinLimits c.args.core.now.shape = subst IsWithinLimits c.shape.ensures c.limit.ensures.within in
-    let choice = subst (λ o. IfSome o (λ (y : Offer). IsChoice c.loop-next.core c.loop-next.skips y.lane y.delivery.queue (numbered_in y.delivery))) c.in-Some.is was.0 in
+    let choice = (subst (λ o. IfSome o (IsChoiceAmong c.loop-next.core c.loop-next.skips c.args.among)) c.in-Some.is was.0).choice in
     (chosen c.args.core.now.shape c.loop-next.skips c.loop-next.core c.in-Some.offer.lane c.in-Some.offer.delivery.queue (numbered_in c.in-Some.offer.delivery) limits was.5 was.6 choice).lane
 
 pub loop-next-smaller : goal.loop-next-smaller
 loop-next-smaller g c =
     let was = c.loop-next.invariant in
     let limits : IsWithinLimits c.args.core.now.shape = subst IsWithinLimits c.shape.ensures c.limit.ensures.within in
-    let choice = subst (λ o. IfSome o (λ (y : Offer). IsChoice c.loop-next.core c.loop-next.skips y.lane y.delivery.queue (numbered_in y.delivery))) c.in-Some.is was.0 in
+    let choice = (subst (λ o. IfSome o (IsChoiceAmong c.loop-next.core c.loop-next.skips c.args.among)) c.in-Some.is was.0).choice in
     let facts = chosen c.args.core.now.shape c.loop-next.skips c.loop-next.core c.in-Some.offer.lane c.in-Some.offer.delivery.queue (numbered_in c.in-Some.offer.delivery) limits was.5 was.6 choice in
     omega (arith, ap (left c.args.core.now.shape) c.bounced.ensures, facts.bounced)
 
@@ -128,7 +120,7 @@ loop-next-preserved g c =
     let lanes = c.loop-next.lanes.items in
     let limits : IsWithinLimits c.args.core.now.shape = subst IsWithinLimits c.shape.ensures c.limit.ensures.within in
     let choice : IsChoice c.loop-next.core c.loop-next.skips o.lane o.delivery.queue (numbered_in o.delivery) =
-    subst (λ x. IfSome x (λ (y : Offer). IsChoice c.loop-next.core c.loop-next.skips y.lane y.delivery.queue (numbered_in y.delivery))) c.in-Some.is was.0 in
+    (subst (λ o. IfSome o (IsChoiceAmong c.loop-next.core c.loop-next.skips c.args.among)) c.in-Some.is was.0).choice in
     let facts = chosen c.args.core.now.shape c.loop-next.skips c.loop-next.core o.lane o.delivery.queue (numbered_in o.delivery) limits was.5 was.6 choice in
     let fewer : left c.args.core.now.shape c.bounced.new.self + 1 ≡ left c.args.core.now.shape c.loop-next.skips = ap (λ x. left c.args.core.now.shape x + 1) c.bounced.ensures ∙ facts.bounced in
     let within : o.lane < length lanes = omega (arith, choice.fits.lane, c.requires.lanes, ap lanes_of was.5, was.4) in
@@ -147,13 +139,14 @@ loop-next-preserved g c =
       length-set _ _ _ ∙ was.4,
       was.5,
       subst long (sym c.bounced.ensures) (long_step c.loop-next.skips (Bounced o.lane) was.6),
-      gathered_more lanes o.lane c.index_mut.result.now c.stage.new.self c.loop-next.gathered c.add.new.self within there c.add.ensures.there c.add.ensures.others was.7,
-      λ l has. omega (arith, there_more (length lanes) o.lane c.loop-next.gathered c.add.new.self within c.add.ensures.others was.8 l has, length-set lanes o.lane c.stage.new.self),
+      gathered_more lanes o.lane c.index_mut.result.now c.stage.new.self c.args.among within there (offered_among c.loop-next.core c.loop-next.skips c.args.among o (subst (λ x. IfSome x (IsChoiceAmong c.loop-next.core c.loop-next.skips c.args.among)) c.in-Some.is was.0)) was.7,
       omega arith,
     )
 
 pub flush_all-requires-clause-there : goal.flush_all-requires-clause-there
-flush_all-requires-clause-there g c = c.loop-next.invariant.8
+flush_all-requires-clause-there g c l has =
+    let was = c.loop-next.invariant in
+    omega (arith, port_is_lane c.args.core.now.shape l ((c.requires.choice.lanes l).0 has).lane, c.requires.lanes, was.4)
 
 pub flush_all-requires-clause-others : goal.flush_all-requires-clause-others
 flush_all-requires-clause-others g c = c.loop-next.invariant.7
@@ -163,7 +156,7 @@ returns-clause-gives g c pool v p n given bounced s before h =
     subst (λ t. Gives c.loop-next.skips (given + c.loop-next.given) (bounced + c.loop-next.bounced) s before t (g.L.StepLog.steps c.loop-next.log)) (c.flush_all.ensures.same pool c.loop-next.core v p n) (c.loop-next.invariant.1 pool v p n given bounced s before h)
 
 pub returns-clause-some : goal.returns-clause-some
-returns-clause-some g c = subst (λ o. IfNone o (0 < c.loop-next.given + c.loop-next.bounced)) c.in_default.is c.loop-next.invariant.9
+returns-clause-some g c = subst (λ o. IfNone o (0 < c.loop-next.given + c.loop-next.bounced)) c.in_default.is c.loop-next.invariant.8
 
 pub returns-clause-fewer : goal.returns-clause-fewer
 returns-clause-fewer g c = c.loop-next.invariant.2

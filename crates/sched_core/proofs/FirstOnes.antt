@@ -12,11 +12,13 @@ use Rattle.sched_core.proofs.News.{slots_range}
 use Rattle.sched_core.proofs.Offers.{HasNoneBeside, levels_beside, none_waits}
 use Rattle.parked_queue.specs.Busy.{AreBusy}
 use Rattle.sched_core.specs.Inner.{slots_for}
-use Rattle.sched_core.specs.Offered.{HasNoneAllowedIn, IsFirstIn, slot_at}
+use Rattle.sched_core.specs.Offered.{HasNoneAllowedIn, IsFirstIn, numbered_in, slot_at}
+use Rattle.sched_core.specs.Runs.{HasSlot}
 use Rattle.sched_core.specs.View.{view_in, IsCore}
 use Rattle.parked_queue.specs.LevelSets.{AreLevels, members}
 use Rattle.parked_queue.specs.Waits.{Waits, HasNoneAllowed, IsFirstAllowed, waits_at}
 use Rattle.parked_queue.specs.declared.level.Levels.{Levels}
+use Rattle.sched_core.specs.declared.offer.Offer.{Offer}
 use Rattle.sched_core.specs.declared.state.Core.TheInside.{Inside}
 use Rattle.transcripts.specs.Choice.{Passed, HasNone}
 use Rattle.transcripts.specs.Standing.{View}
@@ -91,5 +93,14 @@ module _ (a : Inside) (v : View) (q : ℕ) (core : IsCore a) (view : view_in a �
   slot_of_flow t f slot w u is flow queue event =
       found_slot slot w (is ∙ (ap (λ n. f % (waits_at a.queues n).slots) queue ∙ ap (λ k. k % (waits_at a.queues q).slots) flow)) ∙ (ap (λ n. slot_at v n w) (sym queue) ∙ ap (slot_at v t) (sym event))
 
+  -- and so the offer's that was made of it
+  pub offer_slot : (slot : ℕ) (w : Numbered) (o : Offer) → slot ≡ w.event.flow % (waits_at a.queues q).slots → o.slot ≡ slot → o.delivery.queue ≡ q → numbered_in o.delivery ≡ w → HasSlot v o
+  offer_slot slot w o is same queue event =
+      same ∙ (found_slot slot w is ∙ (ap (λ n. slot_at v n w) (sym queue) ∙ ap (slot_at v o.delivery.queue) (sym event)))
+
   pub found_none : (c : ℕ) (allowed : SmallSet) → HasNoneAllowed (waits_at a.queues q) c allowed → HasNoneAllowedIn v q c allowed
   found_none c allowed none = subst (λ u. HasNoneAllowedIn u q c allowed) view (none_in_view a q (waits_at a.queues q) core queue_there (waits_is a.queues q queue_there) c allowed none)
+
+-- the slot that an offer has, where its queue and its event were read out of it
+pub slot_here : (v : View) (o : Offer) (q : ℕ) (w : Numbered) → HasSlot v o → q ≡ o.delivery.queue → w ≡ numbered_in o.delivery → o.slot ≡ slot_at v q w
+slot_here v o q w has queue event = has ∙ (ap (λ n. slot_at v n (numbered_in o.delivery)) (sym queue) ∙ ap (slot_at v q) (sym event))

@@ -5,7 +5,7 @@ use Rattle.evt_types.specs.declared.step.Step.{Step}
 use Rattle.evt_types.specs.declared.step.Step.TheVariants.{Give}
 use Rattle.evt_types.specs.Plan.{depth_of, has_flow_lanes, is_ordered, level_of, queue_of}
 use Rattle.evt_types.specs.declared.event.Numbered.{Numbered}
-use Rattle.sched_core.specs.Offered.{AreOpenLanes, numbered_in}
+use Rattle.sched_core.specs.Offered.{AreOpenLanes, numbered_in, slot_at}
 use Rattle.sched_core.specs.declared.offer.Offer.{Offer}
 use Rattle.sched_core.specs.declared.turn.Turn.{Turn}
 use Rattle.small_set.specs.declared.set.SmallSet.{SmallSet}
@@ -28,9 +28,14 @@ abbrev pub AreChoices : ℕ → View → Passed → List Delivery → View → P
 AreChoices l v s [] w t = (w ≡ v) × (t ≡ s)
 AreChoices l v s (d ∷ ds) w t = IsChoice v s l d.queue (numbered_in d) × AreChoices l (after v (gift_of l d ∷ [])) (given_once s d.queue) ds w t
 
+-- the offer has its event's slot
+abbrev pub HasSlot : View → Offer → Type 0
+HasSlot v o = o.slot ≡ slot_at v o.delivery.queue (numbered_in o.delivery)
+
 -- it is the choice, for a queue that the ports serve, to which just these lanes are open
 pub record IsChoiceAmong (v : View) (s : Passed) (among : SmallSet) (o : Offer) : Type 0 where
   pub choice : IsChoice v s o.lane o.delivery.queue (numbered_in o.delivery)
+  pub slot : HasSlot v o
   pub ports : has_flow_lanes v.shape o.delivery.queue ≡ false
   pub lanes : AreOpenLanes v s o.delivery.queue among
 

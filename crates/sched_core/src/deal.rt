@@ -3,7 +3,7 @@
 ghost use Rattle.std.specs.Prelude.{◌≡◌, ◌<◌, ◌≤◌, ◌+◌, List, [], ◌∷◌, ◌++◌, IfSome};
 ghost use Rattle.evt_types.specs.declared.step.Step.{Step as StepValue};
 ghost use Rattle.sched_core.specs.Offered.{numbered_in};
-ghost use Rattle.sched_core.specs.Runs.{AreChoices, IsChoiceAmong, gift_of};
+ghost use Rattle.sched_core.specs.Runs.{AreChoices, HasSlot, IsChoiceAmong, gift_of};
 ghost use Rattle.transcripts.specs.Choice.{IsChoice};
 ghost use Rattle.transcripts.specs.Standing.{Stands};
 
@@ -18,7 +18,8 @@ impl Core {
     /// and several lanes are open.
     #[inline(always)]
     pub fn deals(&self, offer: &Offer, skips: &Skips) -> Option<SmallSet>
-        requires { IsChoice self.now skips.now offer.now.lane offer.now.delivery.queue (numbered_in offer.now.delivery) }
+        requires choice { IsChoice self.now skips.now offer.now.lane offer.now.delivery.queue (numbered_in offer.now.delivery) }
+        requires slot { HasSlot self.now offer.now }
         ensures { IfSome result (λ among. IsChoiceAmong self.now skips.now among offer.now) }
     {
         let queue = offer.delivery.queue();
@@ -59,11 +60,10 @@ impl Core {
             lane,
             delivery,
             level,
-            flow,
+            slot,
         } = offer;
         let queue = delivery.queue();
         self.facts();
-        let slot = self.queues.slot_of(queue, flow);
         self.give_at(lane, queue, &numbered(&delivery), level, slot, log);
         skips.given(queue);
         if self.lanes.room(lane) == 0

@@ -28,15 +28,9 @@ impl Core {
         ensures room { L.room log.old ≤ L.room log.new + 1 }
     {
         let (lane, queue) = (offer.lane, offer.delivery.queue());
-        let slot = self.queues.slot_of(queue, offer.flow);
-        self.give_at(
-            lane,
-            queue,
-            &numbered(&offer.delivery),
-            offer.level,
-            slot,
-            log,
-        );
+        let waiting = numbered(&offer.delivery);
+        let slot = self.queues.slot_of(queue, waiting.event.flow());
+        self.give_at(lane, queue, &waiting, offer.level, slot, log);
     }
 
     /// Hands an event of the queue, of this level and slot, to the lane. Its step is not logged yet.

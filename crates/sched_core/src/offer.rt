@@ -12,11 +12,10 @@ use parked_queue::{Found, Level};
 pub struct Offer {
     pub lane: usize,
     pub delivery: Delivery,
-    /// The event's level and its flow, so that the event itself is only copied whole where it is given.
+    /// The event's level and its slot, so that the event itself is only copied whole where it is given.
     pub(crate) level: Level,
-    pub(crate) flow: u32,
+    pub(crate) slot: usize,
     ghost level_is: { level.number ≡ level_of delivery.event },
-    ghost flow_is: { flow ≡ delivery.event.flow },
 }
 
 /// A delivery's event with its number.
@@ -38,14 +37,15 @@ impl Offer {
         ensures lane { result.lane ≡ lane }
         ensures queue { result.delivery.queue ≡ found.waiting.event.queue }
         ensures event { numbered_in result.delivery ≡ found.waiting }
+        ensures slot { result.slot ≡ found.slot }
     {
-        let Found { flow, waiting, .. } = found;
+        let Found { slot, waiting, .. } = found;
         let Numbered { number, event } = waiting;
         Offer {
             lane,
             delivery: Delivery::new(event, number),
             level,
-            flow,
+            slot,
         }
     }
 }

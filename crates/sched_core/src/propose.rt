@@ -9,7 +9,7 @@ ghost use Rattle.transcripts.specs.Transcript.{event_at};
 ghost use Rattle.evt_types.specs.declared.step.Step.{Step as StepValue};
 ghost use Rattle.evt_types.specs.declared.step.Step.TheVariants as steps;
 ghost use Rattle.sched_core.specs.Offered.{numbered_in, AreOpenLanes, HasAllowed, HasNoneIn, IsOfferIn, IsOfferOf};
-ghost use Rattle.sched_core.specs.Runs.{IsTurn};
+ghost use Rattle.sched_core.specs.Runs.{HasSlot, IsTurn};
 ghost use Rattle.sched_core.specs.Service.{IsServedFirst};
 
 use crate::offer::Offer;
@@ -29,6 +29,7 @@ impl Core {
         ensures choice { IfSome result (λ o. IsChoice self.old skips.now o.lane o.delivery.queue (numbered_in o.delivery)) }
         ensures none { IfNone result (HasNoChoice self.old skips.now) }
         ensures offer { IfSome result (λ o. IsOffer self.old o.lane o.delivery.queue (numbered_in o.delivery)) }
+        ensures slot { IfSome result (HasSlot self.old) }
         ensures keeps { (T : List StepValue) → Stands T self.old → IfSome result (λ o. Allowed self.old.shape T (steps.Give o.lane o.delivery.queue o.delivery.number) × (event_at T o.delivery.queue o.delivery.number ≡ Some o.delivery.event)) }
     {
         let sweep = self.shape.sweep();
@@ -53,6 +54,7 @@ impl Core {
         ensures choice { IfSome result (λ o. IsChoice self.old skips.now o.lane o.delivery.queue (numbered_in o.delivery)) }
         ensures none { IfNone result (HasNoChoice self.old skips.now) }
         ensures offer { IfSome result (λ o. IsOffer self.old o.lane o.delivery.queue (numbered_in o.delivery)) }
+        ensures slot { IfSome result (HasSlot self.old) }
         ensures keeps { (T : List StepValue) → Stands T self.old → IfSome result (λ o. Allowed self.old.shape T (steps.Give o.lane o.delivery.queue o.delivery.number) × (event_at T o.delivery.queue o.delivery.number ≡ Some o.delivery.event)) }
     {
         let offer = self.offer_at(turn, skips);
@@ -66,7 +68,8 @@ impl Core {
     #[inline(always)]
     fn offer_at(&self, turn: Option<Turn>, skips: &Skips) -> Option<Offer>
         requires { IfSome turn (IsTurn self.now skips.now) }
-        ensures { IfSome result (λ o. IsChoice self.now skips.now o.lane o.delivery.queue (numbered_in o.delivery)) }
+        ensures choice { IfSome result (λ o. IsChoice self.now skips.now o.lane o.delivery.queue (numbered_in o.delivery)) }
+        ensures slot { IfSome result (HasSlot self.now) }
     {
         let Turn { queue, level } = turn?;
         if !skips.has_quota(queue, self.shape.sweep()) {
@@ -100,6 +103,7 @@ impl Core {
         requires { queue < length self.old.shape.queues }
         ensures same { self.new ≡ self.old }
         ensures offer { IfSome result (λ o. (o.delivery.queue ≡ queue) × IsOfferOf self.old skips.now queue o.lane (numbered_in o.delivery)) }
+        ensures slot { IfSome result (HasSlot self.old) }
         ensures none { IfNone result (HasNone self.old skips.now queue) }
     {
         let lanes = self.open_lanes(queue, skips);
@@ -148,6 +152,7 @@ impl Core {
         requires lanes { AreOpenLanes self.old skips.now queue lanes }
         ensures same { self.new ≡ self.old }
         ensures offer { IfSome result (λ o. (o.delivery.queue ≡ queue) × IsOfferOf self.old skips.now queue o.lane (numbered_in o.delivery)) }
+        ensures slot { IfSome result (HasSlot self.old) }
         ensures none { IfNone result (HasNone self.old skips.now queue) }
     {
         let mut left = self.queues.levels(queue);
@@ -176,6 +181,7 @@ impl Core {
         requires allowed { HasAllowed self.old skips.now queue allowed }
         ensures same { self.new ≡ self.old }
         ensures offer { IfSome result (λ o. (o.delivery.queue ≡ queue) × IsOfferIn self.old skips.now queue level.number o.lane (numbered_in o.delivery)) }
+        ensures slot { IfSome result (HasSlot self.old) }
         ensures none { IfNone result (HasNoneIn self.old skips.now queue level.number) }
     {
         if self.queues.parked_slots(queue, level).is_empty() {
@@ -202,6 +208,7 @@ impl Core {
         requires lanes { AreOpenLanes self.old skips.now queue lanes }
         ensures same { self.new ≡ self.old }
         ensures offer { IfSome result (λ o. (o.delivery.queue ≡ queue) × IsOfferIn self.old skips.now queue level.number o.lane (numbered_in o.delivery)) }
+        ensures slot { IfSome result (HasSlot self.old) }
         ensures none { IfNone result (HasNoneIn self.old skips.now queue level.number) }
     {
         self.facts();
@@ -234,7 +241,8 @@ impl Core {
         requires queue { queue < length self.now.shape.queues }
         requires lanes { AreOpenLanes self.now skips.now queue lanes }
         requires allowed { HasAllowed self.now skips.now queue allowed }
-        ensures { IfSome result (λ o. (o.delivery.queue ≡ queue) × IsOfferIn self.now skips.now queue level.number o.lane (numbered_in o.delivery)) }
+        ensures offer { IfSome result (λ o. (o.delivery.queue ≡ queue) × IsOfferIn self.now skips.now queue level.number o.lane (numbered_in o.delivery)) }
+        ensures slot { IfSome result (HasSlot self.now) }
     {
         let found = self.queues.head(queue, level, allowed)?;
         let lane = self.lane_for(queue, found.slot, lanes, skips)?;
@@ -257,6 +265,7 @@ impl Core {
         requires allowed { HasAllowed self.old skips.now queue allowed }
         ensures same { self.new ≡ self.old }
         ensures offer { IfSome result (λ o. (o.delivery.queue ≡ queue) × IsOfferIn self.old skips.now queue level.number o.lane (numbered_in o.delivery)) }
+        ensures slot { IfSome result (HasSlot self.old) }
         ensures none { IfNone result (HasNoneIn self.old skips.now queue level.number) }
     {
         let mut left = allowed;

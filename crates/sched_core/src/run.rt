@@ -5,7 +5,7 @@ ghost use Rattle.evt_types.specs.Plan.{has_flow_lanes, lanes_of};
 ghost use Rattle.evt_types.specs.declared.shape.TheConstants.{MAX_QUEUES};
 ghost use Rattle.evt_types.specs.declared.step.Step.{Step as StepValue};
 ghost use Rattle.sched_core.specs.Offered.{AreOpenLanes, IsOnly, numbered_in};
-ghost use Rattle.sched_core.specs.Runs.{AreChoices, IsSteady, IsTurn, HasTurn, gifts_of};
+ghost use Rattle.sched_core.specs.Runs.{AreChoices, HasSlot, IsSteady, IsTurn, HasTurn, gifts_of};
 ghost use Rattle.transcripts.specs.Choice.{IsChoice};
 ghost use Rattle.transcripts.specs.Standing.{Stands};
 
@@ -173,6 +173,7 @@ impl Core {
         log: &mut L,
     ) -> Option<Turn>
         requires choice { IsChoice self.old skips.old offer.lane offer.delivery.queue (numbered_in offer.delivery) }
+        requires slot { HasSlot self.old offer }
         requires room { 0 < L.room log.old }
         ensures choices { AreChoices offer.lane self.old skips.old run.new.items self.new skips.new }
         ensures one { length run.new.items ≡ 1 }
@@ -185,11 +186,10 @@ impl Core {
             lane,
             delivery,
             level,
-            flow,
+            slot,
         } = offer;
         let queue = delivery.queue();
         self.facts();
-        let slot = self.queues.slot_of(queue, flow);
         begin(run, delivery);
         self.give_at(lane, queue, &numbered(&delivery), level, slot, log);
         skips.given(queue);
@@ -213,6 +213,7 @@ impl Core {
         log: &mut L,
     ) -> Option<Turn>
         requires choice { IsChoice self.old skips.old offer.lane offer.delivery.queue (numbered_in offer.delivery) }
+        requires slot { HasSlot self.old offer }
         requires room { self.old.shape.sweep ≤ L.room log.old + slice_index skips.old.given offer.delivery.queue }
         ensures choices { AreChoices offer.lane self.old skips.old run.new.items self.new skips.new }
         ensures some { 0 < most → 0 < length run.new.items }

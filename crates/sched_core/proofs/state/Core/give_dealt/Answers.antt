@@ -4,13 +4,13 @@ use Rattle.std.specs.Option.{IfSome}
 use Rattle.evt_types.specs.Fault.{IsWithinLimits}
 use Rattle.evt_types.specs.Plan.{Plan, depth_of, has_flow_lanes, lanes_of}
 use Rattle.sched_core.proofs.Cores.{lane_there}
-use Rattle.sched_core.proofs.FirstOnes.{slot_of_flow}
+use Rattle.sched_core.proofs.FirstOnes.{slot_here}
 use Rattle.sched_core.proofs.News.{slots_range}
 use Rattle.sched_core.proofs.Offers.{IsOfferAt, all_allowed}
 use Rattle.sched_core.proofs.OpenLanes.{room_here}
 use Rattle.sched_core.proofs.Runs.{choices_stand, made_in_turn, offer_given, open_on, run_first, turn_given}
 use Rattle.sched_core.specs.Offered.{AreOpenLanes, numbered_in}
-use Rattle.sched_core.specs.Runs.{HasTurn, IsChoiceAmong, gifts_of}
+use Rattle.sched_core.specs.Runs.{HasSlot, HasTurn, IsChoiceAmong, gifts_of}
 use Rattle.sched_core.specs.declared.offer.Offer.{Offer}
 use Rattle.evt_types.specs.declared.step.Step.{Step}
 use Rattle.small_set.specs.declared.set.SmallSet.{SmallSet}
@@ -21,11 +21,12 @@ use Rattle.sched_core.proofs.state.Core.give_dealt.Goals as goal
 use Rattle.sched_core.proofs.state.Core.give_dealt.Goals.{After-given, Else-not-has_place}
 
 -- at its turn the level's first event is the choice, where it is found, among the lanes that are open
-next_made : (v : View) (s : Passed) (q c : ℕ) (among : SmallSet) (o : Option Offer) → HasTurn v s q c → HasQuota v s q → has_flow_lanes v.shape q ≡ false → AreOpenLanes v s q among → IfSome o (IsOfferAt v s q c) → IfSome o (IsChoiceAmong v s among)
-next_made v s q c among None turn quota ports lanes made = tt
-next_made v s q c among (Some y) turn quota ports lanes made =
+next_made : (v : View) (s : Passed) (q c : ℕ) (among : SmallSet) (o : Option Offer) → HasTurn v s q c → HasQuota v s q → has_flow_lanes v.shape q ≡ false → AreOpenLanes v s q among → IfSome o (IsOfferAt v s q c) → IfSome o (HasSlot v) → IfSome o (IsChoiceAmong v s among)
+next_made v s q c among None turn quota ports lanes made slot = tt
+next_made v s q c among (Some y) turn quota ports lanes made slot =
     record {
       choice = made_in_turn v s q c y turn quota made;
+      slot = slot;
       ports = subst (λ k. has_flow_lanes v.shape k ≡ false) (sym made.0) ports;
       lanes = subst (λ k. AreOpenLanes v s k among) (sym made.0) lanes;
     }
@@ -43,9 +44,9 @@ still g c =
     let v = c.args.self.now in
     let l = c.args.offer.lane in
     let offer = offer_given l c.queue-queue.result v c.args.skips.now c.args.offer.delivery c.numbered.result c.requires.choice.choice c.queue-queue.ensures c.numbered.ensures in
-    let within = lane_there c.self-2.inside c.give_at.new.self l c.self-2.invariant c.self-2.view_is (subst (λ (p : Plan). l < lanes_of p) (sym c.give_at.ensures.shape) c.requires.choice.choice.fits.lane) in
+    let within = lane_there c.self.inside c.give_at.new.self l c.self.invariant c.self.view_is (subst (λ (p : Plan). l < lanes_of p) (sym c.give_at.ensures.shape) c.requires.choice.choice.fits.lane) in
     let room : length (unanswered_at c.give_at.new.self l) < depth_of c.give_at.new.self.shape l =
-    subst (λ (u : View). length (unanswered_at u l) < depth_of u.shape l) c.self-2.view_is ((room_here c.self-2.inside l c.self-2.invariant within).0 (omega (arith, c.room.ensures, c.if-room-eq0.false))) in
+    subst (λ (u : View). length (unanswered_at u l) < depth_of u.shape l) c.self.view_is ((room_here c.self.inside l c.self.invariant within).0 (omega (arith, c.room.ensures, c.if-room-eq0.false))) in
     open_on l c.queue-queue.result c.args.among v c.give_at.new.self c.args.skips.now c.given.new.self c.numbered.result c.facts.ensures.sized offer
     (subst (λ k. AreOpenLanes v c.args.skips.now k c.args.among) (sym c.queue-queue.ensures) c.requires.choice.lanes) c.give_at.ensures.view c.given.ensures.value (c.if-not-has_place.ensures.0 refl) room
 
@@ -55,8 +56,7 @@ give_at-requires-clause-offer g c =
 
 pub give_at-requires-clause-slot : goal.give_at-requires-clause-slot
 give_at-requires-clause-slot g c =
-    slot_of_flow c.self.inside c.args.self.now c.args.offer.delivery.queue c.self.invariant c.self.view_is c.requires.choice.choice.there c.queue-queue.result c.args.offer.flow c.slot_of-slot.result (numbered_in c.args.offer.delivery) c.numbered.result
-    c.slot_of-slot.ensures.value c.args.offer.flow_is c.queue-queue.ensures c.numbered.ensures
+    slot_here c.args.self.now c.args.offer c.queue-queue.result c.numbered.result c.requires.choice.slot c.queue-queue.ensures c.numbered.ensures
 
 pub returns-then-room-eq0-clause-stands : goal.returns-then-room-eq0-clause-stands
 returns-then-room-eq0-clause-stands g c = stand g (goal.at.returns-then-room-eq0-clause-stands g c).After-given
@@ -82,6 +82,6 @@ returns-clause-next g c =
     turn_given c.args.offer.lane c.queue-queue.result c.args.offer.level.number c.args.self.now c.give_at.new.self c.args.skips.now c.given.new.self c.args.offer.delivery c.numbered.result c.requires.choice.choice c.queue-queue.ensures c.numbered.ensures
     c.args.offer.level_is c.facts.ensures.sized c.give_at.ensures.view c.given.ensures.value in
     next_made c.give_at.new.self c.given.new.self c.queue-queue.result c.args.offer.level.number c.args.among c.offer_at_head.result turn
-    (subst (λ n. slice_index c.given.new.self.given c.queue-queue.result < n) (c.sweep.ensures.value ∙ ap (λ (u : View). u.shape.sweep) c.self-2.view_is) (ltb-true _ _ (sym c.has_quota.ensures.value ∙ c.if-not-has_quota.false)))
+    (subst (λ n. slice_index c.given.new.self.given c.queue-queue.result < n) (c.sweep.ensures.value ∙ ap (λ (u : View). u.shape.sweep) c.self.view_is) (ltb-true _ _ (sym c.has_quota.ensures.value ∙ c.if-not-has_quota.false)))
     (ap (λ (p : Plan). has_flow_lanes p c.queue-queue.result) c.give_at.ensures.shape ∙ (ap (has_flow_lanes c.args.self.now.shape) c.queue-queue.ensures ∙ c.requires.choice.ports)) (still g (goal.at.returns-clause-next g c).Else-not-has_place)
-    c.offer_at_head.ensures
+    c.offer_at_head.ensures.offer c.offer_at_head.ensures.slot

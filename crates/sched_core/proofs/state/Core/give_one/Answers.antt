@@ -4,7 +4,7 @@ use Rattle.evt_types.specs.declared.event.Delivery.{Delivery}
 use Rattle.evt_types.specs.declared.event.Numbered.{Numbered}
 use Rattle.evt_types.specs.declared.step.Step.{Step}
 use Rattle.evt_types.specs.declared.step.Step.TheVariants.{Give}
-use Rattle.sched_core.proofs.FirstOnes.{slot_of_flow}
+use Rattle.sched_core.proofs.FirstOnes.{slot_here}
 use Rattle.sched_core.proofs.Offers.{choice_is_offer}
 use Rattle.sched_core.proofs.Runs.{gift_is, offer_given, run_first, turn_given}
 use Rattle.sched_core.specs.Offered.{numbered_in}
@@ -36,8 +36,7 @@ give_at-requires-clause-offer g c =
 
 pub give_at-requires-clause-slot : goal.give_at-requires-clause-slot
 give_at-requires-clause-slot g c =
-    slot_of_flow c.self.inside c.args.self.now c.args.offer.delivery.queue c.self.invariant c.self.view_is c.requires.choice.there c.queue-queue.result c.args.offer.flow c.slot_of-slot.result (numbered_in c.args.offer.delivery) c.numbered.result
-    c.slot_of-slot.ensures.value c.args.offer.flow_is c.queue-queue.ensures c.numbered.ensures
+    slot_here c.args.self.now c.args.offer c.queue-queue.result c.numbered.result c.requires.slot c.queue-queue.ensures c.numbered.ensures
 
 pub returns-then-not-has_flow_lanes-clause-choices : goal.returns-then-not-has_flow_lanes-clause-choices
 returns-then-not-has_flow_lanes-clause-choices g c =
@@ -68,9 +67,6 @@ returns-clause-turn g c = (
   subst (λ v. HasTurn v c.given.new.self c.queue-queue.result c.args.offer.level.number) (sym c.close_slot.ensures)
       (turn g (goal.at.returns-clause-turn g c).After-given),
 )
-
-pub slot_of-slot-requires : goal.slot_of-slot-requires
-slot_of-slot-requires g c = omega (arith, c.requires.choice.there, c.queue-queue.ensures, c.self.invariant.queues, ap (λ (v : View). length v.shape.queues) c.self.view_is)
 
 pub give_at-requires-clause-level : goal.give_at-requires-clause-level
 give_at-requires-clause-level g c = c.args.offer.level_is ∙ ap (λ (w : Numbered). level_of w.event) (sym c.numbered.ensures)

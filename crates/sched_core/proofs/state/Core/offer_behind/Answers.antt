@@ -1,7 +1,7 @@
 use Rattle.std.proofs.Common.{◌≡◌, ℕ, ◌∙◌, ap, subst, sym}
 use Rattle.transcripts.specs.Choice.{IsBetterLane}
 use Rattle.transcripts.specs.Standing.{View}
-use Rattle.sched_core.proofs.FirstOnes.{found_first, found_none, found_slot, slots_within, with_queues}
+use Rattle.sched_core.proofs.FirstOnes.{found_first, found_none, found_slot, offer_slot, slots_within, with_queues}
 use Rattle.sched_core.proofs.Offers.{allowed_rest, none_in, offer_in, offer_made}
 use Rattle.sched_core.specs.Offered.{AreOpenLanes, FitsSlot}
 use Rattle.sched_core.specs.View.{view_in, IsCore}
@@ -56,3 +56,9 @@ returns-clause-none c =
     let limits = limits_here c.self.inside v c.self.invariant view in
     none_in v c.args.skips.now c.args.queue c.args.level.number c.loop-found.left c.loop-found.invariant.1 (slots_within v c.args.queue limits c.requires.queue)
     (found_none a v c.args.queue c.self.invariant view c.requires.queue c.args.level.number c.loop-found.left c.in_default.ensures.none)
+
+pub returns-in-Some-lane_for-clause-slot : goal.returns-in-Some-lane_for-clause-slot
+returns-in-Some-lane_for-clause-slot c =
+    let found = c.in-Some.found in
+    offer_slot c.self.inside c.args.self.now c.args.queue c.self.invariant (c.self.view_is ∙ c.loop-found.invariant.0) c.requires.queue found.slot found.waiting c.of.result c.in-Some.ensures.slot c.of.ensures.slot (c.of.ensures.queue ∙ c.in-Some.ensures.names)
+    c.of.ensures.event

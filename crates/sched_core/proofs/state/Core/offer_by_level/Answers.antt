@@ -1,3 +1,4 @@
+use Rattle.sched_core.specs.Runs.{HasSlot}
 use Rattle.std.proofs.Common.{◌<◌, ◌∙◌, length, subst, sym}
 use Rattle.std.specs.Option.{IfSome, IfNone}
 use Rattle.transcripts.specs.Standing.{View}
@@ -39,3 +40,6 @@ offer_in-offer-requires-clause-queue c = subst (λ (v : View). c.args.queue < le
 
 pub offer_in-offer-requires-clause-lanes : goal.offer_in-offer-requires-clause-lanes
 offer_in-offer-requires-clause-lanes c = subst (λ v. AreOpenLanes v c.args.skips.now c.args.queue c.args.lanes) (sym c.loop-level.invariant.0) c.requires.lanes
+
+pub returns-then-is_some-clause-slot : goal.returns-then-is_some-clause-slot
+returns-then-is_some-clause-slot c = subst (λ v. IfSome c.offer_in-offer.result (HasSlot v)) c.loop-level.invariant.0 c.offer_in-offer.ensures.slot

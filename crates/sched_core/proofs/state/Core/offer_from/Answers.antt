@@ -1,3 +1,4 @@
+use Rattle.sched_core.specs.Runs.{HasSlot}
 use Rattle.std.proofs.Common.{◌≡◌, ◌<◌, length, Some, sym, ◌∙◌, subst}
 use Rattle.std.specs.Option.{IfSome}
 use Rattle.transcripts.specs.Choice.{HasNone}
@@ -35,7 +36,7 @@ pub returns-then-is_some-clause-offer : goal.returns-then-is_some-clause-offer
 returns-then-is_some-clause-offer c =
     offer_first c.args.self.now c.args.skips.now c.args.queue c.in_ok-level.level.number (members c.levels-others.result) c.offer_at_head-offer.result c.in_ok-level.ensures.first
     (levels_here c.self.inside c.args.self.now c.args.skips.now c.args.queue c.levels-others.result c.self.view_is c.levels-others.ensures)
-    (subst (λ v. IfSome c.offer_at_head-offer.result (IsOfferAt v c.args.skips.now c.args.queue c.in_ok-level.level.number)) c.allowed_at-allowed.ensures.same c.offer_at_head-offer.ensures)
+    (subst (λ v. IfSome c.offer_at_head-offer.result (IsOfferAt v c.args.skips.now c.args.queue c.in_ok-level.level.number)) c.allowed_at-allowed.ensures.same c.offer_at_head-offer.ensures.offer)
 
 pub returns-then-is_blocked-clause-none : goal.returns-then-is_blocked-clause-none
 returns-then-is_blocked-clause-none c =
@@ -103,3 +104,15 @@ offer_by_level-requires-clause-queue c = subst (λ (v : View). c.args.queue < le
 pub offer_by_level-requires-clause-lanes : goal.offer_by_level-requires-clause-lanes
 offer_by_level-requires-clause-lanes c =
     subst (λ v. AreOpenLanes v c.args.skips.now c.args.queue c.open_lanes-lanes.result) (sym c.allowed_at-allowed.ensures.same) c.open_lanes-lanes.ensures
+
+pub returns-then-is_some-clause-slot : goal.returns-then-is_some-clause-slot
+returns-then-is_some-clause-slot c = subst (λ v. IfSome c.offer_at_head-offer.result (HasSlot v)) c.allowed_at-allowed.ensures.same c.offer_at_head-offer.ensures.slot
+
+pub returns-then-is_empty-2-clause-slot : goal.returns-then-is_empty-2-clause-slot
+returns-then-is_empty-2-clause-slot c = subst (λ v. HasSlot v c.in_ok-offer.offer) c.allowed_at-allowed.ensures.same c.in_ok-offer.ensures.slot
+
+pub returns-in_err-offer-clause-slot : goal.returns-in_err-offer-clause-slot
+returns-in_err-offer-clause-slot c = rw (c.from_residual-in_err-offer.ensures) tt
+
+pub returns-clause-slot : goal.returns-clause-slot
+returns-clause-slot c = subst (λ v. HasSlot v c.in_ok-offer-2.offer) c.allowed_at-allowed.ensures.same c.in_ok-offer-2.ensures.slot

@@ -1,3 +1,4 @@
+use Rattle.sched_core.specs.Runs.{HasSlot}
 use Rattle.std.proofs.Common.{◌≡◌, ◌<◌, ◌∙◌, length, subst, sym}
 use Rattle.std.specs.Option.{IfNone, IfSome}
 use Rattle.transcripts.specs.Standing.{View}
@@ -47,7 +48,7 @@ pub returns-then-is_some-clause-offer : goal.returns-then-is_some-clause-offer
 returns-then-is_some-clause-offer c =
     subst (λ v. IfSome c.offer_at_head-offer.result (λ o. (o.delivery.queue ≡ c.args.queue)
     × IsOfferIn v c.args.skips.now c.args.queue c.args.level.number o.lane (numbered_in o.delivery)))
-    c.allowed-allowed.ensures.same c.offer_at_head-offer.ensures
+    c.allowed-allowed.ensures.same c.offer_at_head-offer.ensures.offer
 
 pub returns-clause-offer : goal.returns-clause-offer
 returns-clause-offer c =
@@ -59,3 +60,9 @@ pub returns-clause-none : goal.returns-clause-none
 returns-clause-none c =
     subst (λ v. IfNone c.offer_behind.result (HasNoneIn v c.args.skips.now c.args.queue c.args.level.number)) c.allowed-allowed.ensures.same
     c.offer_behind.ensures.none
+
+pub returns-then-is_some-clause-slot : goal.returns-then-is_some-clause-slot
+returns-then-is_some-clause-slot c = subst (λ v. IfSome c.offer_at_head-offer.result (HasSlot v)) c.allowed-allowed.ensures.same c.offer_at_head-offer.ensures.slot
+
+pub returns-clause-slot : goal.returns-clause-slot
+returns-clause-slot c = subst (λ v. IfSome c.offer_behind.result (HasSlot v)) c.allowed-allowed.ensures.same c.offer_behind.ensures.slot

@@ -1,3 +1,4 @@
+use Rattle.sched_core.specs.Runs.{HasSlot}
 use Rattle.std.proofs.Common.{◌≡◌, ◌<◌, length, slice_index, refl, sym, ap, ◌∙◌, subst, arith}
 use Rattle.std.proofs.lemmas.Bool.{false≢true, lt-ltb, ltb-true}
 use Rattle.std.specs.Option.{IfSome}
@@ -76,3 +77,6 @@ offer_from-offer-requires c =
 
 pub returns-clause-none : goal.returns-clause-none
 returns-clause-none c q there quota = c.loop-queue.invariant.2 q (c.in_default.ensures.none q) quota
+
+pub returns-then-is_some-clause-slot : goal.returns-then-is_some-clause-slot
+returns-then-is_some-clause-slot c = subst (λ v. IfSome c.offer_from-offer.result (HasSlot v)) c.loop-queue.invariant.0 c.offer_from-offer.ensures.slot

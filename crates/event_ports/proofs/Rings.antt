@@ -3,8 +3,9 @@ use Rattle.std.proofs.Common.{◌≡◌, ℕ, ◌+◌, ◌-◌, ◌%◌, ◌<◌
 use Rattle.std.proofs.lemmas.List.{append_assoc, drop_more}
 use Rattle.std.proofs.lemmas.Option.{slice_get_read}
 use Rattle.evt_types.specs.declared.event.Delivery.{Delivery}
-use Rattle.lane_rings.proofs.Windows.{get_or-window, length-window, window_dropped, window_none, window_pushed}
-use Rattle.event_ports.specs.HeldRings.{Held, holds, window}
+use Rattle.lists.proofs.Windows.{get_or-window, length-window, window_dropped, window_none, window_pushed}
+use Rattle.lists.specs.Windows.{window}
+use Rattle.event_ports.specs.HeldRings.{Held, holds}
 use Rattle.event_ports.specs.Ring.{in_ring, IsRing}
 use Rattle.event_ports.specs.Lanes.{holding_of}
 use Rattle.event_ports.specs.declared.lane.Holding.{Holding}

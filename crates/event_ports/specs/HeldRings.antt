@@ -1,6 +1,5 @@
--- What a port holds, as a list, and which places of a ring are taken.
+-- What a port holds, as a list.
 use Rattle.std.specs.Prelude.{ℕ, List}
-pub use Rattle.lane_rings.specs.HeldPairs.{window}
 use Rattle.event_ports.specs.declared.lane.Holding.{Holding}
 
 -- what is held, oldest first, and how much there may be

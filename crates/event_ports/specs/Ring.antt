@@ -1,6 +1,6 @@
 -- The ring of what a port holds: which places are taken, and how its numbers fit together.
 use Rattle.std.specs.Prelude.{◌≡◌, ◌<◌, ◌≤◌, List, length}
-use Rattle.event_ports.specs.HeldRings.{window}
+use Rattle.lists.specs.Windows.{window}
 use Rattle.event_ports.specs.declared.lane.Holding.{Holding}
 use Rattle.event_ports.specs.declared.held_ring.HeldRing.TheInside.{Inside}
 

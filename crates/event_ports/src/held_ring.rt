@@ -1,7 +1,8 @@
 //! What a port holds, in a ring whose number of places is fixed, so that its mask is a constant.
 
 ghost use Rattle.std.specs.Prelude.{◌≡◌, ◌+◌, ◌<◌, ◌≤◌, [], ◌∷◌, ◌++◌, length, map, drop, slice_get, option_copied, IfOk};
-ghost use Rattle.event_ports.specs.HeldRings.{holds, window};
+ghost use Rattle.lists.specs.Windows.{window};
+ghost use Rattle.event_ports.specs.HeldRings.{holds};
 ghost use Rattle.event_ports.specs.Lanes.{holding_of};
 
 use crate::lane::{Holding, Lane};

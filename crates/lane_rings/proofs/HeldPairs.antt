@@ -6,10 +6,11 @@ use Rattle.std.proofs.lemmas.List.{append_assoc, drop_all, drop-drop, drop-map, 
 use Rattle.std.proofs.lemmas.Option.{slice_get_past, slice_get_read}
 use Rattle.evt_types.specs.Event.{pair_of}
 use Rattle.evt_types.specs.declared.event.Delivery.{Delivery}
-use Rattle.lane_rings.specs.HeldPairs.{Held, holds, window}
+use Rattle.lists.specs.Windows.{window}
+use Rattle.lane_rings.specs.HeldPairs.{Held, holds}
 use Rattle.lane_rings.specs.HeldRing.{in_ring, IsRing}
 use Rattle.lane_rings.specs.declared.held_pairs.HeldPairs.TheInside.{Inside}
-use Rattle.lane_rings.proofs.Windows.{get_or-window, length-window, window_dropped, window_pushed}
+use Rattle.lists.proofs.Windows.{get_or-window, length-window, window_dropped, window_pushed}
 
 -- ---- the ring
 

@@ -1,6 +1,5 @@
 pub mod Handing
 pub mod HeldPairs
-pub mod Windows
 pub mod Room
 pub mod Fetching
 pub mod Singles

@@ -1,7 +1,7 @@
 -- The ring of what is held: which places are taken, and how its numbers fit together.
 use Rattle.std.specs.Prelude.{ℕ, ◌<◌, ◌≤◌, List, length}
 use Rattle.std.specs.Int.{IsPowerOfTwo}
-use Rattle.lane_rings.specs.HeldPairs.{window}
+use Rattle.lists.specs.Windows.{window}
 use Rattle.lane_rings.specs.declared.held_pairs.HeldPairs.TheInside.{Inside}
 
 -- what is held, oldest first

@@ -3,7 +3,8 @@
 ghost use Rattle.std.specs.Prelude.{◌≡◌, ◌+◌, ◌%◌, ◌^◌, ◌<◌, ◌≤◌, [], ◌∷◌, ◌++◌, length, map, drop, slice_get, IfOk};
 ghost use Rattle.std.specs.Int.{IsPowerOfTwo};
 ghost use Rattle.evt_types.specs.Event.{pair_of};
-ghost use Rattle.lane_rings.specs.HeldPairs.{holds, window};
+ghost use Rattle.lane_rings.specs.HeldPairs.{holds};
+ghost use Rattle.lists.specs.Windows.{window};
 
 use evt_types::{Delivery, Memory};
 use std::alloc::Global;

@@ -8,4 +8,5 @@ pub mod Ranges
 pub mod SeatSums
 pub mod Sorted
 pub mod Sums
+pub mod Windows
 pub mod Writes

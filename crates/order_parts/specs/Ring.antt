@@ -1,12 +1,9 @@
 -- A ring of entries: which places they take, and how its numbers fit together.
-use Rattle.std.specs.Prelude.{ℕ, ◌≡◌, ◌+◌, ◌<◌, ◌≤◌, List, ◌++◌, length, take, drop}
+use Rattle.std.specs.Prelude.{ℕ, ◌≡◌, ◌+◌, ◌<◌, ◌≤◌, List, length}
 use Rattle.std.specs.Int.{IsPowerOfTwo}
+use Rattle.lists.specs.Windows.{window}
 use Rattle.order_parts.specs.declared.history.Entry.{Entry}
 use Rattle.order_parts.specs.declared.history.History.TheInside.{Inside}
-
--- what is in n places from place k on, around the end
-unfoldable pub window : {X : Type 0} → ℕ → ℕ → List X → List X
-window k n xs = take n (drop k xs ++ take k xs)
 
 -- the entries of a history, oldest first
 abbrev pub held : Inside → List Entry

@@ -1,5 +1,5 @@
 use Rattle.std.proofs.Common.{◌≡◌, ◌+◌, ◌++◌, length, map, drop}
-use Rattle.event_ports.specs.HeldRings.{window}
+use Rattle.lists.specs.Windows.{window}
 use Rattle.event_ports.specs.Lanes.{holding_of}
 use Rattle.event_ports.proofs.held_ring.write.Given as goal
 

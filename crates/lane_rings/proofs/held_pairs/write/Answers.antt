@@ -1,7 +1,7 @@
 use Rattle.std.proofs.Common.{◌++◌, ◌∙◌, ap, arith, length-set, map}
 use Rattle.std.proofs.lemmas.List.{take_all}
 use Rattle.evt_types.specs.Event.{pair_of}
-use Rattle.lane_rings.specs.HeldPairs.{window}
+use Rattle.lists.specs.Windows.{window}
 use Rattle.lane_rings.proofs.HeldPairs.{one_noted}
 use Rattle.lane_rings.proofs.held_pairs.write.Goals as goal
 

@@ -1,6 +1,6 @@
 use Rattle.std.proofs.Common.{◌≡◌, ◌+◌, ◌++◌, length, map, take}
 use Rattle.evt_types.specs.Event.{pair_of}
-use Rattle.lane_rings.specs.HeldPairs.{window}
+use Rattle.lists.specs.Windows.{window}
 use Rattle.lane_rings.proofs.held_pairs.write.Given as goal
 
 -- the first deliveries stand behind what was held

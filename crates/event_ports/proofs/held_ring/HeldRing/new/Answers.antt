@@ -1,7 +1,7 @@
 use Rattle.std.proofs.Common.{List, ap}
 use Rattle.event_ports.specs.declared.lane.Holding.{Holding}
 use Rattle.event_ports.specs.HeldRings.{holds}
-use Rattle.lane_rings.proofs.Windows.{window_none}
+use Rattle.lists.proofs.Windows.{window_none}
 use Rattle.event_ports.proofs.held_ring.HeldRing.new.Goals as goal
 
 pub returns : goal.returns

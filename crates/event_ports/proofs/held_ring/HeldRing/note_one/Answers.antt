@@ -1,7 +1,7 @@
 use Rattle.std.proofs.Common.{◌<◌, ◌++◌, ◌∷◌, [], length-set, ap, ◌∙◌, arith}
 use Rattle.event_ports.specs.HeldRings.{Held}
 use Rattle.event_ports.specs.Lanes.{holding_of}
-use Rattle.lane_rings.proofs.Windows.{window_pushed}
+use Rattle.lists.proofs.Windows.{window_pushed}
 use Rattle.event_ports.proofs.Rings.{has_room}
 use Rattle.event_ports.proofs.held_ring.HeldRing.note_one.Goals as goal
 

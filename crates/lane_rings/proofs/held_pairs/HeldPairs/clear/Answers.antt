@@ -1,6 +1,6 @@
 use Rattle.std.proofs.Common.{List, [], ℕ, ◌∙◌, ap, length}
 use Rattle.lane_rings.specs.HeldPairs.{Held, holds}
-use Rattle.lane_rings.proofs.Windows.{window_none}
+use Rattle.lists.proofs.Windows.{window_none}
 use Rattle.lane_rings.proofs.held_pairs.HeldPairs.clear.Goals as goal
 
 pub returns : goal.returns

@@ -1,6 +1,6 @@
 use Rattle.std.proofs.Common.{arith}
 use Rattle.std.proofs.lemmas.Grind.{common_steps}
-use Rattle.lane_rings.proofs.Windows.{window_none}
+use Rattle.lists.proofs.Windows.{window_none}
 use Rattle.lane_rings.proofs.held_pairs.HeldPairs.new.Goals as goal
 
 pub returns : goal.returns

@@ -1,6 +1,7 @@
 use Rattle.std.proofs.Common.{List, ℕ, ◌+◌, ◌-◌, ◌%◌, ◌∙◌, ap, arith, drop, length, subst, sym}
 use Rattle.std.specs.Int.{IsPowerOfTwo}
-use Rattle.lane_rings.specs.HeldPairs.{Held, holds, window}
+use Rattle.lists.specs.Windows.{window}
+use Rattle.lane_rings.specs.HeldPairs.{Held, holds}
 use Rattle.lane_rings.proofs.HeldPairs.{fewer_held, length_is}
 use Rattle.lane_rings.proofs.held_pairs.HeldPairs.skip.Goals as goal
 

@@ -1,7 +1,7 @@
 use Rattle.std.proofs.Common.{List, ap}
 use Rattle.order_parts.specs.declared.history.Entry.{Entry}
 use Rattle.order_parts.specs.History.{entries_of}
-use Rattle.order_parts.proofs.Rings.{window_none}
+use Rattle.lists.proofs.Windows.{window_none}
 use Rattle.order_parts.proofs.history.History.new.Goals as goal
 
 pub returns : goal.returns

@@ -1,11 +1,11 @@
 -- What stands in the places of a ring from one on: as something is put behind the last, and as the first ones leave.
-use Rattle.std.proofs.Common.{◌≡◌, ℕ, ◌+◌, ◌-◌, ◌%◌, ◌<◌, ◌≤◌, ◌⊎◌, List, [], ◌∷◌, ◌++◌, length, drop, get_or, set, refl, ap, ◌∙◌, inl, inr, mod-eq_of_lt, arith, length-append, length-drop, length-set, length-take-le, get_or-drop, get_or-take}
+use Rattle.std.proofs.Common.{◌≡◌, ℕ, ◌+◌, ◌-◌, ◌%◌, ◌<◌, ◌≤◌, ◌⊎◌, List, [], ◌∷◌, ◌++◌, length, drop, get_or, set, refl, ap, ap₂, ◌∙◌, inl, inr, mod-eq_of_lt, arith, length-append, length-drop, length-set, length-take-le, get_or-drop, get_or-take}
 use native.Mathlib.Nat.{mod-eq-sub-mod, mod-add-mod}
 use Rattle.std.proofs.lemmas.Bool.{cases_lt}
 use Rattle.std.proofs.lemmas.Grind.{common_steps}
-use Rattle.std.proofs.lemmas.List.{same_lists, get_or_append_left, get_or-append_right}
+use Rattle.std.proofs.lemmas.List.{same_lists, drop_more, get_or_append_left, get_or-append_right}
 use Rattle.std.proofs.lemmas.Nat.{mod_below}
-use Rattle.lane_rings.specs.HeldPairs.{window}
+use Rattle.lists.specs.Windows.{window}
 
 -- an index below twice the size wraps once at most
 wraps_once : (size j : ℕ) → j < size + size → ((j < size) × (j % size ≡ j)) ⊎ ((size ≤ j) × (j % size ≡ j - size))
@@ -63,3 +63,18 @@ module _ {X : Type 0} (size k n : ℕ) (xs : List X) (within : k < size) (fits :
         get_or-window size k n xs within fits length_xs (m + i) d,
         get_or-window size _ (n - m) xs next_within (omega arith) length_xs i d,
       ))
+
+  pub window_popped : (d : X) → 0 < n → window k n xs ≡ get_or xs k d ∷ window ((k + 1) % size) (n - 1) xs
+  window_popped d some =
+      let next_within : (k + 1) % size < size = mod_below (k + 1) size (omega arith) in
+      let length_old = length-window size k n xs within fits length_xs in
+      let length_new = length-window size ((k + 1) % size) (n - 1) xs next_within (omega arith) length_xs in
+      let old_entry = get_or-window size k n xs within fits length_xs in
+      drop_more _ 0 d (omega arith) ∙ ap₂ ◌∷◌ (grind (arith, old_entry 0 d, wraps_once size k)) (same_lists _ _ (simp length-drop (omega arith)) (λ i e in_range. grind (
+        arith,
+        length-drop 1 (window k n xs),
+        get_or-drop 1 (window k n xs) i e,
+        mod-add-mod (k + 1) size i,
+        old_entry (1 + i) e,
+        get_or-window size _ (n - 1) xs next_within (omega arith) length_xs i e,
+      )))

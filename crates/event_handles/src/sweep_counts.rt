@@ -51,9 +51,12 @@ fn note_lanes(
     ensures sent { AreSent (steps_logged log.now) lanes sent.new }
     ensures before { AreKept lanes sent.old before.new }
 {
-    for lane in 0..lanes {
-        before[lane] = sent[lane];
-        sent[lane] = log.lane(lane).tx;
+    // Counted down: of a range over so few lanes the compiler makes several loops, whose choice costs more than the lanes.
+    let mut left = lanes;
+    while left > 0 {
+        left -= 1;
+        before[left] = sent[left];
+        sent[left] = log.lane(left).tx;
     }
 }
 

@@ -258,6 +258,7 @@ impl Lanes {
 
     // Receives from the linked flow lanes in their order, until `most` deliveries came in all. Those that aren't worth a look are
     // passed over.
+    #[inline(always)]
     fn receive_flows(&mut self, most: usize, into: &mut ArrayVec<Delivery, 64>)
         requires { HasRoomFor most (lanes_site self.old).depth (hand_of self.old).holding into.old.items }
         ensures site { lanes_site self.new ≡ lanes_site self.old }

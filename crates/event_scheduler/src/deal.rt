@@ -34,8 +34,8 @@ fn flush_all(lanes: &mut Vec<Near>, gathered: SmallSet)
 }
 
 /// Gives what was proposed, and then what is chosen after it, one by one, as long as that is quick to see and just these lanes are open:
-/// each is gathered at its lane, and at the end all that was gathered goes into the rings. A lane whose ring is full is passed over, and ends it. How many were given,
-/// and how many lanes' rings were full.
+/// each is gathered at its lane, and at the end all that was gathered goes into the rings. A lane whose ring is full is passed over, and
+/// ends it. How many were given, and how many lanes' rings were full.
 #[inline(never)]
 pub(crate) fn deal_all<L: StepLog>(
     core: &mut Core,

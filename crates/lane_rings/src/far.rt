@@ -131,7 +131,7 @@ impl Far {
         ensures next { (d : Delivery) → next_delivery self.old ≡ Some d → result ≡ Some d }
         ensures none { IfNone result ((seen_deliveries self.old ≡ []) × (seen_deliveries self.new ≡ [])) }
     {
-        self.deliveries.look(1);
+        self.deliveries.look::<false>(1);
         let first = self.deliveries.first()?;
         let delivery = *first;
         self.deliveries.next();
@@ -153,7 +153,7 @@ impl Far {
     {
         let room = self.deliveries.ring.capacity() - self.held.len();
         self.deliveries
-            .look(room.min(most.saturating_sub(into.len())));
+            .look::<true>(room.min(most.saturating_sub(into.len())));
         hand_out(&mut self.deliveries, &mut self.held, into);
     }
 

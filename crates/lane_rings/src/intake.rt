@@ -1,6 +1,6 @@
 //! The reading side of a ring: one look takes out what is there, and what was taken out is handed out one by one or as a row.
 
-ghost use Rattle.std.specs.Prelude.{◌≡◌, ◌<◌, ◌≤◌, ◌-◌, [], ◌++◌, length, take, max};
+ghost use Rattle.std.specs.Prelude.{◌≡◌, ◌<◌, ◌≤◌, ◌-◌, [], ◌++◌, length, take, max, IsTrue};
 ghost use mathlib.Core.List.{IsPrefix};
 ghost use Rattle.rtrb.specs.Ring.{received, known_items, consumer_capacity, SameConsumer};
 ghost use Rattle.lane_rings.specs.Batches.{between};
@@ -20,8 +20,19 @@ pub(crate) struct Intake<T> {
     ghost last: { received ring ≡ take (length (received ring) - length (between at end places.items)) (received ring) ++ between at end places.items },
 }
 
+/// How many items are asked for, where the ring showed so many: with `whole` as many as may come, for which the ring is looked at once more
+/// where it showed fewer; else no more than it showed.
+#[inline(always)]
+fn asked(whole: bool, most: usize, there: usize) -> usize
+    ensures few { result ≤ most }
+    ensures some { 0 < most → 0 < there → 0 < result }
+    ensures whole { IsTrue whole → result ≡ most }
+{
+    if whole { most } else { most.min(there) }
+}
+
 impl<T: Copy> Intake<T> {
-    ghost use Rattle.std.specs.Prelude.{◌≡◌, ◌≢◌, ◌<◌, ◌≤◌, [], ◌∷◌, ◌++◌, length, drop, take, IsFalse, IsTrue, IfNone, IfOk, IfSome, MatchOption};
+    ghost use Rattle.std.specs.Prelude.{◌≡◌, ◌≢◌, ◌<◌, ◌≤◌, true, [], ◌∷◌, ◌++◌, length, drop, take, IsFalse, IsTrue, IfNone, IfOk, IfSome, MatchOption};
     ghost use mathlib.Core.List.{IsPrefix};
     ghost use Rattle.rtrb.specs.Ring.{received, known_items, consumer_capacity, SameConsumer};
     ghost use Rattle.lane_rings.specs.Intakes.{inside, handed, ahead};
@@ -44,9 +55,10 @@ impl<T: Copy> Intake<T> {
 
     /// Where nothing is in the batch, takes at most `most` items out of the ring, by one store; where something is, it only looks at the
     /// ring. Whether something is in the batch then. A ring that shows nothing costs one load, and a single item goes without the loops over a row.
+    /// With `WHOLE` fewer than `most` come only where the ring has no more.
     #[inline(always)]
     #[tactic(auto, using(crate::proofs::Fetching::of_looks))]
-    pub(crate) fn look(&mut self, most: usize) -> bool
+    pub(crate) fn look<const WHOLE: bool>(&mut self, most: usize) -> bool
         ensures ring { SameConsumer self.old.ring self.new.ring }
         ensures handed { handed self.new ≡ handed self.old }
         ensures ahead { IsPrefix (ahead self.old) (ahead self.new) }
@@ -55,7 +67,7 @@ impl<T: Copy> Intake<T> {
         ensures none { 0 < most → inside self.new ≡ [] → ahead self.new ≡ [] }
         ensures few { inside self.old ≡ [] → length (inside self.new) ≤ most }
         ensures stays { inside self.old ≢ [] → inside self.new ≡ inside self.old }
-        ensures short { inside self.old ≡ [] → length (inside self.new) < most → most ≤ consumer_capacity self.old.ring → known_items self.new.ring ≡ [] }
+        ensures short { WHOLE ≡ true → inside self.old ≡ [] → length (inside self.new) < most → most ≤ consumer_capacity self.old.ring → known_items self.new.ring ≡ [] }
     {
         if self.at != self.end {
             self.ring.slots();
@@ -73,7 +85,7 @@ impl<T: Copy> Intake<T> {
             self.end = 1;
             return true;
         }
-        self.end = pop_row(&mut self.ring, &mut self.places, most);
+        self.end = pop_row(&mut self.ring, &mut self.places, asked(WHOLE, most, there));
         self.end != 0
     }
 

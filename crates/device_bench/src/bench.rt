@@ -7,8 +7,7 @@ use crate::burst::Burst;
 use crate::case::{Case, SECOND};
 use crate::config::bench_shape;
 use crate::fault::BenchFault;
-use arrayvec::ArrayVec;
-use event_device::{Device, Port, StepLog};
+use event_device::{Deliveries, Device, Port, StepLog};
 use evt_types::{Delivery, PackedEvent};
 use std::alloc::Global;
 
@@ -34,7 +33,7 @@ pub struct Bench<L: StepLog> {
     /// A portion of releases.
     releases: Vec<PackedEvent>,
     /// What the worker dequeued last.
-    deliveries: ArrayVec<Delivery, 64>,
+    deliveries: Deliveries,
     case: Case,
     burst: Burst,
     pub counts: Counts,
@@ -81,7 +80,7 @@ impl<L: StepLog> Bench<L> {
             worker,
             events,
             releases,
-            deliveries: ArrayVec::new(),
+            deliveries: Deliveries::new(),
             case,
             burst,
             counts: Counts {
@@ -121,7 +120,7 @@ impl<L: StepLog> Bench<L> {
         ensures { Moves self.old self.new 0 0 0 }
     {
         let most = self.burst.portion as usize;
-        // After `Behind` the array is empty, which is a fault where it is counted.
+        // After `Behind` the row is empty, which is a fault where it is counted.
         let _ = self.worker.dequeue_burst(most, &mut self.deliveries);
     }
 
@@ -131,7 +130,7 @@ impl<L: StepLog> Bench<L> {
     {
         self.receive();
         self.events.clear();
-        push_forwards(&self.deliveries, &mut self.events)?;
+        push_forwards(self.deliveries.as_slice(), &mut self.events)?;
         let (taken, _) = self.worker.enqueue_packed(&self.events);
         add(0, taken, self.burst.portion)?;
         Ok(())

@@ -3,8 +3,7 @@
 ghost use Rattle.std.specs.Prelude.{◌≡◌};
 ghost use Rattle.event_device.specs.Device.{site_of};
 
-use arrayvec::ArrayVec;
-use event_device::Port;
+use event_device::{Deliveries, Port};
 use evt_types::Delivery;
 use std::thread::yield_now;
 
@@ -26,13 +25,13 @@ pub fn work(port: Port) -> (Port, u64)
     ensures { site_of result.0 ≡ site_of port }
 {
     let (mut port, mut sum) = (port, 0);
-    let mut deliveries = ArrayVec::new();
+    let mut deliveries = Deliveries::new();
     for _ in 0..u64::MAX {
         if port.shut_seen() {
             break;
         }
         match port.dequeue_burst(BURST, &mut deliveries) {
-            Ok(count) if count > 0 => sum = with_payloads(sum, &deliveries),
+            Ok(count) if count > 0 => sum = with_payloads(sum, deliveries.as_slice()),
             _ => yield_now(),
         }
     }

@@ -24,7 +24,7 @@ mod worker;
 
 pub use control::Control;
 pub use event_answers::{Held, Report, StopFault, Swept, Turned, Undelivered, Untaken};
-pub use event_ports::{Behind, Holding, Lane, Port, PortCounts, Refused};
+pub use event_ports::{Behind, Deliveries, Holding, Lane, Port, PortCounts, Refused};
 pub use event_scheduler::Scheduler;
 pub use fault::{DeviceFault, NotStopped};
 pub use recorder::Recorder;

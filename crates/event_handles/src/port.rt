@@ -6,9 +6,8 @@ ghost use Rattle.event_handles.specs.Ports.{count_list};
 use crate::errno::{EINVAL, ENOBUFS, ENODEV};
 use crate::event::{CEvent, read_all, write_all};
 use crate::refusal::number_of_end;
-use arrayvec::ArrayVec;
-use event_ports::{Port, PortCounts};
-use evt_types::{Delivery, Kind, MAX_QUEUES, PackedEvent};
+use event_ports::{Deliveries, Port, PortCounts};
+use evt_types::{Kind, MAX_QUEUES, PackedEvent};
 
 /// How many events one call enqueues at most.
 const BURST: usize = 64;
@@ -23,7 +22,7 @@ pub struct Seat {
     pub(crate) port: Port,
     pub(crate) kinds: [Kind; MAX_QUEUES],
     events: [PackedEvent; BURST],
-    deliveries: ArrayVec<Delivery, 64>,
+    deliveries: Deliveries,
     why: i64,
 }
 
@@ -66,7 +65,7 @@ impl Seat {
             port,
             kinds,
             events: [PackedEvent::default(); BURST],
-            deliveries: ArrayVec::new(),
+            deliveries: Deliveries::new(),
             why: 0,
         }
     }
@@ -86,7 +85,7 @@ impl Seat {
     {
         match self.port.dequeue_burst(out.len(), &mut self.deliveries) {
             Ok(count) => {
-                write_all(&self.deliveries, &self.kinds, out);
+                write_all(self.deliveries.as_slice(), &self.kinds, out);
                 self.why = 0;
                 count as i64
             }

@@ -12,9 +12,9 @@ ghost use Rattle.event_ports.specs.Handed.{AllShown, OwnFirst};
 ghost use Rattle.event_ports.specs.Queues.{AllNameQueues};
 
 use crate::desk::Desk;
-use arrayvec::ArrayVec;
 use event_answers::{Behind, Refused};
-use evt_types::{Delivery, Event, PackedEvent};
+use evt_types::{Event, PackedEvent};
+use lane_rings::Deliveries;
 
 impl Desk {
     // Enqueues the events, which the scheduler sees after the next `flush`.
@@ -65,11 +65,7 @@ impl Desk {
     }
 
     // What a dequeue does before the return rule: how many were released first.
-    pub(crate) fn exchange(
-        &mut self,
-        max: usize,
-        into: &mut ArrayVec<Delivery, 64>,
-    ) -> Result<usize, Behind>
+    pub(crate) fn exchange(&mut self, max: usize, into: &mut Deliveries) -> Result<usize, Behind>
         requires { into.old.items ≡ [] }
         ensures site { own_site self.new ≡ own_site self.old }
         ensures claims { ClaimsEach (links self.old) (claim_seating self.old) (claim_seating self.new) }

@@ -4,10 +4,9 @@ ghost use Rattle.std.specs.Arc.{arc_value};
 ghost use Rattle.event_ports.specs.Holds.{AreFlows, AreShown};
 ghost use Rattle.event_ports.specs.Looks.{AreFirst, IsLinkSet, HasHeld};
 
-use arrayvec::ArrayVec;
 use evt_types::{Delivery, PackedEvent};
 use flow_claims::{Claim, ClaimSeat, Claims, Stint};
-use lane_rings::{Hints, LaneSet, Refusal};
+use lane_rings::{Deliveries, Hints, LaneSet, Refusal};
 use std::alloc::{AllocError, Global};
 use std::sync::Arc;
 
@@ -223,12 +222,7 @@ impl FlowLanes {
     /// Receives from the lane, where the array has fewer than `most` deliveries, until it has as many, none is seen, or as many are
     /// unanswered as the lane's depth allows; nothing where the lane isn't held.
     #[inline(always)]
-    pub(crate) fn receive_some(
-        &mut self,
-        lane: usize,
-        most: usize,
-        into: &mut ArrayVec<Delivery, 64>,
-    )
+    pub(crate) fn receive_some(&mut self, lane: usize, most: usize, into: &mut Deliveries)
         requires exists { lane < length (lanes_of (flow_site self.old).claims) }
         requires most { most ≤ 64 }
         requires room { length into.old.items < most }

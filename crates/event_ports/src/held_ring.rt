@@ -6,8 +6,8 @@ ghost use Rattle.event_ports.specs.HeldRings.{holds};
 ghost use Rattle.event_ports.specs.Lanes.{holding_of};
 
 use crate::lane::{Holding, Lane};
-use arrayvec::ArrayVec;
 use evt_types::{Delivery, Memory};
+use lane_rings::Deliveries;
 use std::alloc::Global;
 use std::marker::Model;
 
@@ -87,23 +87,18 @@ impl HeldRing {
 
     /// Notes the deliveries from this position on, which came from the lane, as held.
     #[inline(always)]
-    pub(crate) fn note(&mut self, lane: Lane, from: usize, deliveries: &ArrayVec<Delivery, 64>)
-        requires { length self.old.items + length (drop from deliveries.now.items) ≤ self.old.capacity }
+    pub(crate) fn note(&mut self, lane: Lane, from: usize, deliveries: &Deliveries)
+        requires within { from ≤ length deliveries.now.items }
+        requires room { length self.old.items + length (drop from deliveries.now.items) ≤ self.old.capacity }
         ensures noted { self.new.items ≡ self.old.items ++ map (holding_of lane) (drop from deliveries.now.items) }
         ensures room { self.new.capacity ≡ self.old.capacity }
     {
-        if deliveries.len().saturating_sub(from) == 1 {
-            self.note_one(lane, &deliveries[from]);
+        let came = &deliveries.as_slice()[from..];
+        if came.len() == 1 {
+            self.note_one(lane, &came[0]);
             return;
         }
-        self.len = write(
-            &mut self.places,
-            self.first,
-            self.len,
-            lane,
-            from,
-            deliveries,
-        );
+        self.len = write(&mut self.places, self.first, self.len, lane, came);
     }
 
     // The same of one delivery, without the loop.
@@ -156,25 +151,23 @@ impl HeldRing {
     }
 }
 
-// Writes the deliveries from this position on, which came from the lane, behind the `len` places that are taken from `first` on, and
-// gives how many are taken then. Of the ring it has the places alone: the ring's own fields would be read and written at each delivery.
+// Writes the deliveries, which came from the lane, behind the `len` places that are taken from `first` on, and gives how many are taken
+// then. Of the ring it has the places alone: the ring's own fields would be read and written at each delivery.
 #[inline(always)]
 fn write(
     places: &mut [Holding],
     first: usize,
     mut len: usize,
     lane: Lane,
-    from: usize,
-    deliveries: &ArrayVec<Delivery, 64>,
+    deliveries: &[Delivery],
 ) -> usize
     requires places { (length places.old ≡ 64) × (first < 64) }
-    requires room { len + length (drop from deliveries.now.items) ≤ 64 }
+    requires room { len + length deliveries.now ≤ 64 }
     ensures places { length places.new ≡ 64 }
-    ensures len { result ≡ len + length (drop from deliveries.now.items) }
-    ensures written { window first result places.new ≡ window first len places.old ++ map (holding_of lane) (drop from deliveries.now.items) }
+    ensures len { result ≡ len + length deliveries.now }
+    ensures written { window first result places.new ≡ window first len places.old ++ map (holding_of lane) deliveries.now }
 {
-    for position in from..deliveries.len() {
-        let delivery = &deliveries[position];
+    for delivery in deliveries {
         places[(first + len) % PLACES] = Holding {
             lane,
             queue: delivery.queue(),

@@ -9,10 +9,9 @@ ghost use Rattle.event_ports.specs.Flows.{hands_of};
 use crate::flows::FlowLanes;
 use crate::held_ring::HeldRing;
 use crate::lane::Lane;
-use arrayvec::ArrayVec;
-use evt_types::{Delivery, Op, PackedEvent};
+use evt_types::{Op, PackedEvent};
 use flow_claims::ClaimSeat;
-use lane_rings::{Far, Refusal};
+use lane_rings::{Deliveries, Far, Refusal};
 
 /// The lanes of a port: its own one, and the flow lanes. What was received and isn't answered is noted in the order of the
 /// dequeues; between two calls no flow lane is held of which nothing is unanswered.
@@ -207,7 +206,7 @@ impl Lanes {
     /// Receives at most `max` deliveries, and no more than may be held: from the own lane first, then from the linked flow lanes
     /// in their order, of which one that isn't held is claimed by one try where there is a hint that it has something.
     #[inline(always)]
-    pub(crate) fn receive_all(&mut self, max: usize, into: &mut ArrayVec<Delivery, 64>)
+    pub(crate) fn receive_all(&mut self, max: usize, into: &mut Deliveries)
         requires { into.old.items ≡ [] }
         ensures site { lanes_site self.new ≡ lanes_site self.old }
         ensures claims { ClaimsEach (links_of self.old) (seating_of self.old) (seating_of self.new) }
@@ -259,7 +258,7 @@ impl Lanes {
     // Receives from the linked flow lanes in their order, until `most` deliveries came in all. Those that aren't worth a look are
     // passed over.
     #[inline(always)]
-    fn receive_flows(&mut self, most: usize, into: &mut ArrayVec<Delivery, 64>)
+    fn receive_flows(&mut self, most: usize, into: &mut Deliveries)
         requires { HasRoomFor most (lanes_site self.old).depth (hand_of self.old).holding into.old.items }
         ensures site { lanes_site self.new ≡ lanes_site self.old }
         ensures drained { length into.new.items < most → AreDrained (flow_hands self.new) }
@@ -286,7 +285,7 @@ impl Lanes {
 
     // Receives from a flow lane to which the port is linked, until `most` deliveries came in all, or none is seen. The lane is held by
     // one try, where it isn't held already, and is given back where nothing of it is unanswered.
-    fn receive_flow(&mut self, lane: usize, most: usize, into: &mut ArrayVec<Delivery, 64>)
+    fn receive_flow(&mut self, lane: usize, most: usize, into: &mut Deliveries)
         requires readable { IsReadable (lanes_site self.old) (lanes.Flow lane) }
         requires room { HasRoomFor most (lanes_site self.old).depth (hand_of self.old).holding into.old.items }
         ensures site { lanes_site self.new ≡ lanes_site self.old }

@@ -23,6 +23,7 @@ pub use evt_types::Memory;
 pub use held_ring::HeldRing;
 pub use joined::{join_port, join_ports};
 pub use lane::{Holding, Lane};
+pub use lane_rings::Deliveries;
 pub use parts::Parts;
 pub use port::Port;
 pub use rest::{Left, Rest};

@@ -12,6 +12,7 @@ use crate::desk::Desk;
 use arrayvec::ArrayVec;
 use event_answers::{Behind, Refused};
 use evt_types::{Delivery, Event, PackedEvent};
+use lane_rings::Deliveries;
 
 /// A port of a device: the way of one thread into it and out of it. Between two of its calls all that it enqueued is in the reply
 /// rings, where the scheduler sees it, and it holds just those flow lanes of which it holds something: each under its open stint.
@@ -128,21 +129,21 @@ impl Port {
             (λ v. counts_of self.new ≡ after_dequeue (released_first self.old) (length v.items) (counts_of self.old))
             (λ b. counts_of self.new ≡ after_behind b.released (counts_of self.old)) }
     {
-        let mut deliveries = ArrayVec::new();
-        match self.dequeue_burst(max, &mut deliveries) {
-            Ok(_) => Ok(deliveries),
+        let mut row = Deliveries::new();
+        match self.dequeue_burst(max, &mut row) {
+            Ok(_) => {
+                let mut deliveries = ArrayVec::new();
+                let _ = deliveries.try_extend_from_slice(row.as_slice());
+                Ok(deliveries)
+            }
             Err(behind) => Err(behind),
         }
     }
 
-    /// Dequeues into an array of the caller's, which is emptied first, and so spares the copies of a whole array: how many came.
-    /// After `Behind` the array is empty.
+    /// Dequeues into a row of the caller's, which is emptied first, and so spares the copies of a whole array: how many came. After `Behind`
+    /// the row is empty.
     #[tactic(auto, using(crate::proofs::IdleLanes::idle_lanes, crate::proofs::IdleLanes::staffed_lanes))]
-    pub fn dequeue_burst(
-        &mut self,
-        max: usize,
-        into: &mut ArrayVec<Delivery, 64>,
-    ) -> Result<usize, Behind>
+    pub fn dequeue_burst(&mut self, max: usize, into: &mut Deliveries) -> Result<usize, Behind>
         ensures site { own_site self.new ≡ own_site self.old }
         ensures credit { Stays (account_of self.old) (account_of self.new) }
         ensures claims { ClaimsEach (links self.old) (claim_seating self.old) (claim_seating self.new) }

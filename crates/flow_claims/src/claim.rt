@@ -3,9 +3,8 @@
 ghost use Rattle.std.specs.Prelude.{◌+◌, ◌<◌, ◌^◌};
 
 use crate::boxed::BoxedFar;
-use arrayvec::ArrayVec;
 use evt_types::{Delivery, MAX_EXTRAS, PackedEvent, Reply};
-use lane_rings::{AnswerFault, Refusal};
+use lane_rings::{AnswerFault, Deliveries, Refusal};
 
 /// A lane that a port holds, with the lane's end.
 #[derive(Drop)]
@@ -57,7 +56,7 @@ impl Stint {
     }
 
     /// `Far::receive_some` of the lane's end. The stint stays open in the seat that has it.
-    pub fn receive_some(&mut self, most: usize, into: &mut ArrayVec<Delivery, 64>)
+    pub fn receive_some(&mut self, most: usize, into: &mut Deliveries)
         requires { most ≤ 64 }
         ensures far { (far_id self.new.far ≡ far_id self.old.far) × (answered self.new.far ≡ answered self.old.far) × (hidden_answers self.new.far ≡ hidden_answers self.old.far) }
         ensures came { Comes self.old.far into.old.items self.new.far into.new.items }
@@ -74,7 +73,7 @@ impl Stint {
 
     /// `Far::receive_waiting` of the lane's end. The stint stays open in the seat that has it.
     #[inline(always)]
-    pub fn receive_waiting(&mut self, most: usize, into: &mut ArrayVec<Delivery, 64>) -> bool
+    pub fn receive_waiting(&mut self, most: usize, into: &mut Deliveries) -> bool
         requires most { most ≤ 64 }
         requires room { length into.old.items < most }
         ensures far { (far_id self.new.far ≡ far_id self.old.far) × (answered self.new.far ≡ answered self.old.far) × (hidden_answers self.new.far ≡ hidden_answers self.old.far) }

@@ -1,3 +1,4 @@
+pub mod Growing
 pub mod Handing
 pub mod HeldPairs
 pub mod Room

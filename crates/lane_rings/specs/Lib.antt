@@ -1,3 +1,4 @@
+pub mod Deliveries
 pub mod Ends
 pub mod HeldPairs
 pub mod HeldRing

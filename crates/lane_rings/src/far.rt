@@ -1,6 +1,7 @@
 //! The holder's end of a lane.
 
 ghost use Rattle.std.specs.Prelude.{◌≡◌, ◌<◌, ◌≤◌, ◌+◌, [], ◌++◌, length, count_by, drop, map, take};
+ghost use mathlib.Core.List.{IsPrefix};
 ghost use Rattle.evt_types.specs.Additions.{AreBeside, extras_of};
 ghost use Rattle.evt_types.specs.Event.{pair_of};
 ghost use Rattle.evt_types.specs.Operation.{is_answer};
@@ -10,10 +11,10 @@ ghost use Rattle.lane_rings.specs.HeldPairs.{holds};
 ghost use Rattle.lane_rings.specs.Intakes.{inside, handed};
 ghost use Rattle.lane_rings.specs.Outlets.{put_in};
 
+use crate::deliveries::Deliveries;
 use crate::held_pairs::HeldPairs;
 use crate::intake::Intake;
 use crate::outlet::Outlet;
-use arrayvec::ArrayVec;
 use evt_types::{Delivery, MAX_EXTRAS, Op, PackedEvent, Reply};
 use thiserror::Error;
 
@@ -60,33 +61,30 @@ pub struct Far {
     pub ghost beside: { AreBeside (length (handed deliveries)) (put_in replies) },
 }
 
-/// Hands out what was fetched, which is held then. It is read where it lies, and copied once, as one row.
-fn hand_out(from: &mut Intake<Delivery>, held: &mut HeldPairs, into: &mut ArrayVec<Delivery, 64>)
-    requires into { length into.old.items + length (inside from.old) ≤ 64 }
-    requires held { length held.old.items + length (inside from.old) ≤ held.old.room }
-    ensures ring { SameConsumer from.old.ring from.new.ring × (known_items from.new.ring ≡ known_items from.old.ring) }
-    ensures handed { handed from.new ≡ handed from.old ++ inside from.old }
+/// Hands out at most `most` of what the ring has, of which nothing was fetched, and which is held then. It is copied once, as one row.
+#[inline(always)]
+fn hand_row(from: &mut Intake<Delivery>, held: &mut HeldPairs, most: usize, into: &mut Deliveries)
+    requires into { length into.old.items + most ≤ 64 }
+    requires held { length held.old.items + most ≤ held.old.room }
+    requires none { inside from.old ≡ [] }
+    ensures ring { SameConsumer from.old.ring from.new.ring }
     ensures none { inside from.new ≡ [] }
-    ensures held { held.new.items ≡ held.old.items ++ map pair_of (inside from.old) }
-    ensures held_room { held.new.room ≡ held.old.room }
-    ensures into { into.new.items ≡ into.old.items ++ inside from.old }
+    ensures into { into.new.items ≡ into.old.items ++ drop (length into.old.items) into.new.items }
+    ensures handed { handed from.new ≡ handed from.old ++ drop (length into.old.items) into.new.items }
+    ensures held { held.new ≡ holds (held.old.items ++ map pair_of (drop (length into.old.items) into.new.items)) held.old.room }
+    ensures few { length into.new.items ≤ length into.old.items + most }
+    ensures known { IsPrefix (known_items from.old.ring) (drop (length into.old.items) into.new.items ++ known_items from.new.ring) }
+    ensures short { length into.new.items < length into.old.items + most → known_items from.new.ring ≡ [] }
 {
-    let batch = from.batch();
-    let count = batch.len();
-    if count == 0 {
-        return;
-    }
-    held.note(batch);
-    let Ok(()) = into.try_extend_from_slice(batch) else {
-        unreachable!()
-    };
-    from.skip(count);
+    let there = into.len();
+    into.take_row(from, most);
+    held.note(&into.as_slice()[there..]);
 }
 
 /// Hands out the first delivery that the ring showed, of which nothing was fetched, and which is held then. It is copied once, and by
 /// no loop.
 #[inline(always)]
-fn hand_first(from: &mut Intake<Delivery>, held: &mut HeldPairs, into: &mut ArrayVec<Delivery, 64>)
+fn hand_first(from: &mut Intake<Delivery>, held: &mut HeldPairs, into: &mut Deliveries)
     requires room { length into.old.items < 64 }
     requires held { length held.old.items < held.old.room }
     requires none { inside from.old ≡ [] }
@@ -131,7 +129,7 @@ impl Far {
         ensures next { (d : Delivery) → next_delivery self.old ≡ Some d → result ≡ Some d }
         ensures none { IfNone result ((seen_deliveries self.old ≡ []) × (seen_deliveries self.new ≡ [])) }
     {
-        self.deliveries.look::<false>(1);
+        self.deliveries.look(1);
         let first = self.deliveries.first()?;
         let delivery = *first;
         self.deliveries.next();
@@ -142,7 +140,7 @@ impl Far {
     /// Receives deliveries, oldest first, until the array has `most` or as many are held as the lane's depth allows: one by one as
     /// `receive` does, but out of the ring by one store. Where it ends before that, none is seen in the ring.
     #[inline(always)]
-    pub fn receive_some(&mut self, most: usize, into: &mut ArrayVec<Delivery, 64>)
+    pub fn receive_some(&mut self, most: usize, into: &mut Deliveries)
         requires { most ≤ 64 }
         ensures lane { far_id self.new ≡ far_id self.old }
         ensures answered { (answered self.new ≡ answered self.old) × (hidden_answers self.new ≡ hidden_answers self.old) }
@@ -152,15 +150,14 @@ impl Far {
         ensures drained { length into.new.items < most → length (unanswered self.new) < (far_id self.new).depth → seen_deliveries self.new ≡ [] }
     {
         let room = self.deliveries.ring.capacity() - self.held.len();
-        self.deliveries
-            .look::<true>(room.min(most.saturating_sub(into.len())));
-        hand_out(&mut self.deliveries, &mut self.held, into);
+        let wanted = room.min(most.saturating_sub(into.len()));
+        hand_row(&mut self.deliveries, &mut self.held, wanted, into);
     }
 
     /// As `receive_some`, where the array has fewer than `most`. Whether a delivery is seen then: all that lay in the ring as the call
     /// began was looked at.
     #[inline(always)]
-    pub fn receive_waiting(&mut self, most: usize, into: &mut ArrayVec<Delivery, 64>) -> bool
+    pub fn receive_waiting(&mut self, most: usize, into: &mut Deliveries) -> bool
         requires most { most ≤ 64 }
         requires room { length into.old.items < most }
         ensures lane { far_id self.new ≡ far_id self.old }
@@ -184,7 +181,7 @@ impl Far {
 
     // The same of more than one delivery, or of none.
     #[cold]
-    fn receive_row(&mut self, most: usize, into: &mut ArrayVec<Delivery, 64>) -> bool
+    fn receive_row(&mut self, most: usize, into: &mut Deliveries) -> bool
         requires most { most ≤ 64 }
         ensures lane { far_id self.new ≡ far_id self.old }
         ensures answered { (answered self.new ≡ answered self.old) × (hidden_answers self.new ≡ hidden_answers self.old) }

@@ -20,17 +20,6 @@ pub(crate) struct Intake<T> {
     ghost last: { received ring ≡ take (length (received ring) - length (between at end places.items)) (received ring) ++ between at end places.items },
 }
 
-/// How many items are asked for, where the ring showed so many: with `whole` as many as may come, for which the ring is looked at once more
-/// where it showed fewer; else no more than it showed.
-#[inline(always)]
-fn asked(whole: bool, most: usize, there: usize) -> usize
-    ensures few { result ≤ most }
-    ensures some { 0 < most → 0 < there → 0 < result }
-    ensures whole { IsTrue whole → result ≡ most }
-{
-    if whole { most } else { most.min(there) }
-}
-
 impl<T: Copy> Intake<T> {
     ghost use Rattle.std.specs.Prelude.{◌≡◌, ◌≢◌, ◌<◌, ◌≤◌, true, [], ◌∷◌, ◌++◌, length, drop, take, IsFalse, IsTrue, IfNone, IfOk, IfSome, MatchOption};
     ghost use mathlib.Core.List.{IsPrefix};
@@ -55,10 +44,9 @@ impl<T: Copy> Intake<T> {
 
     /// Where nothing is in the batch, takes at most `most` items out of the ring, by one store; where something is, it only looks at the
     /// ring. Whether something is in the batch then. A ring that shows nothing costs one load, and a single item goes without the loops over a row.
-    /// With `WHOLE` fewer than `most` come only where the ring has no more.
     #[inline(always)]
     #[tactic(auto, using(crate::proofs::Fetching::of_looks))]
-    pub(crate) fn look<const WHOLE: bool>(&mut self, most: usize) -> bool
+    pub(crate) fn look(&mut self, most: usize) -> bool
         ensures ring { SameConsumer self.old.ring self.new.ring }
         ensures handed { handed self.new ≡ handed self.old }
         ensures ahead { IsPrefix (ahead self.old) (ahead self.new) }
@@ -67,7 +55,6 @@ impl<T: Copy> Intake<T> {
         ensures none { 0 < most → inside self.new ≡ [] → ahead self.new ≡ [] }
         ensures few { inside self.old ≡ [] → length (inside self.new) ≤ most }
         ensures stays { inside self.old ≢ [] → inside self.new ≡ inside self.old }
-        ensures short { WHOLE ≡ true → inside self.old ≡ [] → length (inside self.new) < most → most ≤ consumer_capacity self.old.ring → known_items self.new.ring ≡ [] }
     {
         if self.at != self.end {
             self.ring.slots();
@@ -85,7 +72,7 @@ impl<T: Copy> Intake<T> {
             self.end = 1;
             return true;
         }
-        self.end = pop_row(&mut self.ring, &mut self.places, asked(WHOLE, most, there));
+        self.end = pop_row(&mut self.ring, &mut self.places, most.min(there));
         self.end != 0
     }
 
@@ -120,6 +107,32 @@ impl<T: Copy> Intake<T> {
         ensures known { known_items self.new.ring ≡ drop 1 (known_items self.old.ring) }
     {
         let _ = self.ring.pop_known();
+    }
+
+    /// At most `most` items leave past the batch, in which nothing is, to the first of these places, by one store: how many.
+    #[inline(always)]
+    pub(crate) fn pass_row(&mut self, places: &mut [T], most: usize) -> usize
+        requires none { inside self.old ≡ [] }
+        ensures ring { SameConsumer self.old.ring self.new.ring }
+        ensures handed { handed self.new ≡ handed self.old ++ take result places.new }
+        ensures batch { inside self.new ≡ [] }
+        ensures known { IsPrefix (known_items self.old.ring) (take result places.new ++ known_items self.new.ring) }
+        ensures short { result < most → most ≤ length places.old → known_items self.new.ring ≡ [] }
+        ensures few { (result ≤ most) × (result ≤ length places.old) }
+        ensures places { length places.new ≡ length places.old }
+    {
+        let room = most.min(places.len());
+        let there = self.there();
+        if there == 0 || room == 0 {
+            return 0;
+        }
+        if there == 1 {
+            // Without the loops over a row.
+            places[0] = *self.first_there();
+            self.pass_there();
+            return 1;
+        }
+        pop_row(&mut self.ring, places, room)
     }
 
     /// Whether something is in the batch or was seen in the ring.

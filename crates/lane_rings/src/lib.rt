@@ -2,6 +2,7 @@
 //! Each end may move to a thread of its own.
 #![tactic(auto)]
 
+mod deliveries;
 mod far;
 mod held_pairs;
 mod hints;
@@ -12,6 +13,7 @@ mod pair;
 mod rests;
 mod rows;
 
+pub use deliveries::Deliveries;
 pub use evt_types::Memory;
 pub use far::{AnswerFault, Far, Refusal};
 pub use hints::{Hints, LaneSet};

@@ -93,7 +93,7 @@ impl Near {
         ensures nothing { IsFalse result → fetched_replies self.new ≡ [] }
         ensures none { 0 < most → fetched_replies self.new ≡ [] → seen_replies self.new ≡ [] }
     {
-        self.replies.look::<false>(most)
+        self.replies.look(most)
     }
 
     /// Whether a reply is seen that isn't taken, in the ring or out of it, as far as looks have shown. The ring isn't looked at anew.

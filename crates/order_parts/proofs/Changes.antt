@@ -1,7 +1,8 @@
 -- What a change of the fields of a reorder buffer leaves of its places.
-use Rattle.std.proofs.Common.{◌≡◌, ℕ, ◌+◌, ◌-◌, ◌*◌, ◌%◌, ◌^◌, ◌<◌, ◌≤◌, Bool, false, not, true, List, [], ◌∷◌, ◌++◌, length, set, drop, slice_get, slice_set, slice_index_or, suc, zero, refl, sym, ap, subst, ◌∙◌, Option, Some, None, IsTrue, arith, append-nil, length-append, length-set, length-drop}
+use Rattle.std.proofs.Common.{◌≡◌, ℕ, ◌+◌, ◌-◌, ◌*◌, ◌%◌, ◌^◌, ◌<◌, ◌≤◌, Bool, false, not, true, List, [], ◌∷◌, ◌++◌, All, length, set, drop, get_or, slice_get, slice_set, slice_index_or, sum_by, suc, zero, refl, sym, ap, subst, ◌∙◌, Option, Some, None, IsTrue, arith, append-nil, length-append, length-set, length-drop}
 use Rattle.std.specs.Vec.{with_item}
-use Rattle.std.proofs.lemmas.List.Elements.{All-set, All-drop}
+use Rattle.std.proofs.lemmas.List.Elements.{All-set, All-drop, All-push}
+use Rattle.std.proofs.lemmas.List.Sums.{sum_by-le, sum_by-set, sum_by_push}
 use Rattle.std.proofs.lemmas.Option.{get_or_from_slice_get, none-some, slice_get_within}
 use Rattle.circular_buffer.specs.Buffer.{buffer, keep_last}
 use Rattle.evt_types.specs.Place.{Place}
@@ -41,7 +42,7 @@ module _ (a : Inside) (has : HasRows a) (i : ℕ) (h : Handed) (there : slice_ge
 -- ---- a place more
 
 pub shown_handed : (a : Inside) (has : HasRows a) (r : Reordering) → shown a ≡ r → (n : ℕ) → length r.places < r.depth
-    → shown (record { ring = buffer (keep_last a.ring.capacity (a.ring.items ++ record { number = n; kept = 0; answered = false } ∷ [])) a.ring.capacity; first = a.first; rows = a.rows; first_row = a.first_row }) ≡ after_hand r n
+    → shown (record { ring = buffer (keep_last a.ring.capacity (a.ring.items ++ record { number = n; kept = 0; answered = false } ∷ [])) a.ring.capacity; first = a.first; rows = a.rows; first_row = a.first_row; kept = a.kept }) ≡ after_hand r n
 shown_handed a has r is n room =
     let next : Handed = record { number = n; kept = 0; answered = false } in
     let count = ap (λ (k : Reordering). length k.places) is in
@@ -53,15 +54,34 @@ shown_handed a has r is n room =
     (places_push (rows a) a.ring.items n (λ i. row_none a.rows.items (wrapped a.ring.capacity (a.first_row + i))))
     ∙ ap (λ k. after_hand k n) is
 
--- a place was written: the rows stand as before
-pub rows_answered : (a : Inside) → HasRows a → (i : ℕ) (h : Handed) → KeepsFew h → HasRows (record { ring = record { items = slice_set a.ring.items i h; capacity = a.ring.capacity }; first = a.first; rows = a.rows; first_row = a.first_row })
-rows_answered a has i h few =
+-- a place more, which keeps nothing: the rows stand as before
+pub rows_handed : (a : Inside) (has : HasRows a) (r : Reordering) → shown a ≡ r → (n : ℕ) → length r.places < r.depth
+    → HasRows (record { ring = buffer (keep_last a.ring.capacity (a.ring.items ++ record { number = n; kept = 0; answered = false } ∷ [])) a.ring.capacity; first = a.first; rows = a.rows; first_row = a.first_row; kept = a.kept })
+rows_handed a has r is n room =
+    let next : Handed = record { number = n; kept = 0; answered = false } in
+    let count = ap (λ (k : Reordering). length k.places) is in
+    let depth = ap (λ (k : Reordering). k.depth) is in
+    let more = length-append a.ring.items (next ∷ []) in
+    let there = places_length (rows a) a.ring.items in
+    let fits : length (a.ring.items ++ next ∷ []) - a.ring.capacity ≡ 0 = omega (arith, more, there, count, depth, room) in
+    let all : keep_last a.ring.capacity (a.ring.items ++ next ∷ []) ≡ a.ring.items ++ next ∷ [] = ap (λ m. drop m (a.ring.items ++ next ∷ [])) fits in
     record {
       size = has.size;
       start = has.start;
-      places = omega (arith, length-set a.ring.items i h, has.places);
-      few = All-set KeepsFew a.ring.items i h few has.few;
+      places = omega (arith, ap (λ (hs : List Handed). length hs) all, more, there, count, depth, room);
+      few = subst (All KeepsFew) (sym all) (All-push KeepsFew a.ring.items next has.few (record { few = omega arith; fewer = λ still. omega arith }));
+      count = omega (arith, has.count, sum_by_push (λ (h : Handed). h.kept) a.ring.items next, ap (λ (hs : List Handed). sum_by (λ (h : Handed). h.kept) hs) all);
     }
+
+-- no more are kept than the rows have cells
+pub count_small : (a : Inside) → HasRows a → a.kept ≤ length a.rows.items
+count_small a has = omega (arith, has.count, sum_by-le (λ (h : Handed). h.kept) MAX_FORWARDS a.ring.items (λ k d below. (has.few k d below).few), has.size, has.places)
+
+-- a place was written: how many events all keep changes as its own number does
+pub count_set : (hs : List Handed) (i : ℕ) (old new : Handed) → slice_get hs i ≡ Some old → sum_by (λ (h : Handed). h.kept) (slice_set hs i new) + old.kept ≡ sum_by (λ (h : Handed). h.kept) hs + new.kept
+count_set hs i old new there =
+    let here : (get_or hs i old).kept ≡ old.kept = ap (λ (h : Handed). h.kept) (get_or_from_slice_get hs i old old there) in
+    omega (arith, sum_by-set (λ (h : Handed). h.kept) hs i new old (slice_get_within hs i old there), here)
 
 -- nothing is written where nothing is
 set_none : (xs : List Place) (i : ℕ) (x : Place) → slice_get xs i ≡ None → set xs i x ≡ xs
@@ -78,13 +98,20 @@ module _ (a : Inside) (has : HasRows a) (r : Reordering) (is : shown a ≡ r) (p
     abbrev now : Handed
     now = record { number = h.number; kept = h.kept; answered = true }
 
-    pub shown_resolved : shown (record { ring = record { items = slice_set a.ring.items at now; capacity = a.ring.capacity }; first = a.first; rows = a.rows; first_row = a.first_row }) ≡ after_resolve r p None
+    pub shown_resolved : shown (record { ring = record { items = slice_set a.ring.items at now; capacity = a.ring.capacity }; first = a.first; rows = a.rows; first_row = a.first_row; kept = a.kept }) ≡ after_resolve r p None
     shown_resolved =
         ap (λ (ps : List Place). let k : Reordering = record { first = a.first; places = ps; depth = a.ring.capacity } in k) (places_resolved a has at h there)
         ∙ ap (λ k. after_resolve k p None) is
 
-    pub rows_resolved : HasRows (record { ring = record { items = slice_set a.ring.items at now; capacity = a.ring.capacity }; first = a.first; rows = a.rows; first_row = a.first_row })
-    rows_resolved = rows_answered a has at now (record { few = (keeps_few a has at h there).few; fewer = λ still. absurd cc })
+    pub rows_resolved : HasRows (record { ring = record { items = slice_set a.ring.items at now; capacity = a.ring.capacity }; first = a.first; rows = a.rows; first_row = a.first_row; kept = a.kept })
+    rows_resolved =
+        record {
+          size = has.size;
+          start = has.start;
+          places = omega (arith, length-set a.ring.items at now, has.places);
+          few = All-set KeepsFew a.ring.items at now (record { few = (keeps_few a has at h there).few; fewer = λ still. absurd cc }) has.few;
+          count = omega (arith, has.count, count_set a.ring.items at h now there);
+        }
 
   -- one that isn't there
   pub none_resolved : slice_get a.ring.items at ≡ None → r ≡ after_resolve r p None
@@ -130,7 +157,7 @@ module _ (a : Inside) (has : HasRows a) (r : Reordering) (is : shown a ≡ r) (p
           fewer = λ still. omega (arith, room_left (room still));
         }
 
-    pub shown_kept : (e : Event) (answered : Bool) → shown (record { ring = record { items = slice_set a.ring.items index (record { number = h.number; kept = h.kept + 1; answered = answered }); capacity = a.ring.capacity }; first = a.first; rows = with_item a.rows (MAX_FORWARDS * wrapped a.ring.capacity (a.first_row + index) + h.kept) e; first_row = a.first_row }) ≡ after_keep r p e answered
+    pub shown_kept : (e : Event) (answered : Bool) → shown (record { ring = record { items = slice_set a.ring.items index (record { number = h.number; kept = h.kept + 1; answered = answered }); capacity = a.ring.capacity }; first = a.first; rows = with_item a.rows (MAX_FORWARDS * wrapped a.ring.capacity (a.first_row + index) + h.kept) e; first_row = a.first_row; kept = a.kept + 1 }) ≡ after_keep r p e answered
     shown_kept e answered =
         ap (λ (ps : List Place). let k : Reordering = record { first = a.first; places = ps; depth = a.ring.capacity } in k) (places_kept a has index h there e answered row_left)
         ∙ ap (λ k. after_keep k p e answered) is
@@ -149,14 +176,16 @@ added_open r p e unresolved = by_place (place_at r p) refl unresolved
         let open_still : (place_or_open r p).answered ≡ false = ap (λ (y : Place). y.answered) (get_or_from_slice_get r.places _ x (open_place 0) there) ∙ not_answered x.answered still in
         ap (λ b. after_keep r p e b) (sym open_still)
 
--- a place was written, and a cell besides: the rows stand as before
-pub rows_stand : (a : Inside) → HasRows a → (i cell : ℕ) (h : Handed) (e : Event) → KeepsFew h → HasRows (record { ring = record { items = slice_set a.ring.items i h; capacity = a.ring.capacity }; first = a.first; rows = with_item a.rows cell e; first_row = a.first_row })
-rows_stand a has i cell h e few =
+-- a place has an event more, and a cell was written: the rows stand as before
+pub rows_stand : (a : Inside) → HasRows a → (i cell : ℕ) (old h : Handed) (e : Event) → KeepsFew h → slice_get a.ring.items i ≡ Some old → h.kept ≡ old.kept + 1
+    → HasRows (record { ring = record { items = slice_set a.ring.items i h; capacity = a.ring.capacity }; first = a.first; rows = with_item a.rows cell e; first_row = a.first_row; kept = a.kept + 1 })
+rows_stand a has i cell old h e few there more =
     record {
       size = length-set a.rows.items cell e ∙ has.size;
       start = has.start;
       places = omega (arith, length-set a.ring.items i h, has.places);
       few = All-set KeepsFew a.ring.items i h few has.few;
+      count = omega (arith, has.count, count_set a.ring.items i old h there, more);
     }
 
 -- ---- the oldest place leaves
@@ -168,18 +197,20 @@ module _ (all : List Event) (n first : ℕ) where
       places_stay (λ i. rows_from all n first (suc i)) (rows_from all n (wrapped n (first + 1))) hs
       (λ k y there. ap (λ row. in_row all row y.kept) (row_before n first k within (omega (arith, few, slice_get_within hs k y there)) ∙ ap (λ j. wrapped n (first + j)) (omega arith)))
 
-pub rows_advanced : (a : Inside) → HasRows a → (first : ℕ) → HasRows (record { ring = buffer (drop 1 a.ring.items) a.ring.capacity; first = first; rows = a.rows; first_row = wrapped a.ring.capacity (a.first_row + 1) })
-rows_advanced a has first =
+pub rows_advanced : (a : Inside) → HasRows a → (first kept : ℕ) → kept ≡ sum_by (λ (h : Handed). h.kept) (drop 1 a.ring.items)
+    → HasRows (record { ring = buffer (drop 1 a.ring.items) a.ring.capacity; first = first; rows = a.rows; first_row = wrapped a.ring.capacity (a.first_row + 1); kept = kept })
+rows_advanced a has first kept count =
     record {
       size = has.size;
       start = λ some. let within = has.start some in wrapped_within a.ring.capacity (a.first_row + 1) (omega (arith, within));
       places = omega (arith, length-drop 1 a.ring.items, has.places);
       few = All-drop KeepsFew 1 a.ring.items has.few;
+      count = count;
     }
 
-pub shown_advanced : (a : Inside) (has : HasRows a) (r : Reordering) → shown a ≡ r → 0 < length r.places
-    → shown (record { ring = buffer (drop 1 a.ring.items) a.ring.capacity; first = (a.first + 1) % 2 ^ 64; rows = a.rows; first_row = wrapped a.ring.capacity (a.first_row + 1) }) ≡ without_oldest r
-shown_advanced a has r is some =
+pub shown_advanced : (a : Inside) (has : HasRows a) (r : Reordering) → shown a ≡ r → 0 < length r.places → (kept : ℕ)
+    → shown (record { ring = buffer (drop 1 a.ring.items) a.ring.capacity; first = (a.first + 1) % 2 ^ 64; rows = a.rows; first_row = wrapped a.ring.capacity (a.first_row + 1); kept = kept }) ≡ without_oldest r
+shown_advanced a has r is some kept =
     let count = ap (λ (k : Reordering). length k.places) is in
     let there : 0 < a.ring.capacity = omega (arith, count, some, places_length (rows a) a.ring.items, has.places) in
     ap (λ (ps : List Place). let k : Reordering = record { first = (a.first + 1) % 2 ^ 64; places = ps; depth = a.ring.capacity } in k) (places_advanced a.rows.items a.ring.capacity a.first_row a.ring.items (has.start there) has.places)

@@ -1,10 +1,10 @@
 -- Places that are answered leave, from the oldest on.
-use Rattle.std.proofs.Common.{◌≡◌, ℕ, suc, ◌<◌, true, false, List, [], ◌∷◌, ap, arith, drop, length, slice_index_or, refl, slice_get, ◌∙◌}
+use Rattle.std.proofs.Common.{◌≡◌, suc, ◌<◌, true, false, List, [], ◌∷◌, ap, arith, drop, length, refl, slice_get, ◌∙◌}
 use Rattle.std.proofs.lemmas.Bool.{cond-false, cond-true}
-use Rattle.std.proofs.lemmas.List.Sums.{sum_by-cons, take_while-cons}
+use Rattle.std.proofs.lemmas.List.Sums.{take_while-cons}
 use Rattle.evt_types.specs.Place.{Place}
-use Rattle.order_parts.specs.Released.{answered_front, kept_in_places, released_all, released_one, without_answered}
-use Rattle.order_parts.specs.Reorder.{Reordering, is_done, open_place, without_first, without_oldest}
+use Rattle.order_parts.specs.Released.{answered_front, released_all, released_one, without_answered}
+use Rattle.order_parts.specs.Reorder.{Reordering, is_done, without_first, without_oldest}
 use Rattle.order_parts.specs.declared.history.Entry.{Entry}
 use Rattle.order_parts.proofs.InTurn.{left_depth}
 
@@ -47,10 +47,3 @@ answered_depth r = left_depth (length (answered_front r.places)) r
 
 pub row_depth : (ys : List Entry) (r : Reordering) → (without_answered (released_all r ys)).depth ≡ r.depth
 row_depth ys r = answered_depth (released_all r ys) ∙ released_depth ys r
-
--- ---- places that keep nothing
-
-pub bare_places : (xs : List Place) → ((k : ℕ) → k < length xs → length (slice_index_or xs k (open_place 0)).forwards ≡ 0) → kept_in_places xs ≡ 0
-bare_places [] each = refl
-bare_places (x ∷ xs) each =
-    omega (arith, sum_by-cons (λ (y : Place). length y.forwards) x xs, each 0 (omega arith), bare_places xs (λ k below. each (suc k) (omega (arith, below))))

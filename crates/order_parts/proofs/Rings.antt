@@ -1,13 +1,9 @@
 -- What stands in a history's ring: before and after an entry is put behind the last one, and before and after the first one is taken.
-use Rattle.std.proofs.Common.{◌≡◌, ℕ, ◌+◌, ◌-◌, ◌%◌, ◌^◌, ◌<◌, ◌≤◌, ◌⊎◌, List, [], ◌∷◌, ◌++◌, length, get_or, set, refl, sym, subst, ap, ap₂, drop, ◌∙◌, inl, inr, mod-eq_of_lt, arith, length-append, length-drop, length-set, length-take-le, get_or-drop, get_or-take}
+use Rattle.std.proofs.Common.{◌≡◌, ℕ, ◌+◌, ◌-◌, ◌%◌, ◌^◌, ◌<◌, ◌≤◌, [], ◌∷◌, ◌++◌, length, get_or, set, refl, sym, subst, ap, ap₂, drop, ◌∙◌, arith, length-set}
 use Rattle.std.specs.Prelude.{bit_and}
 use Rattle.std.specs.Int.{IsPowerOfTwo}
 use Rattle.std.specs.Vec.{with_item}
-use native.Mathlib.Nat.{mod-eq-sub-mod, mod-add-mod}
-use Rattle.std.proofs.lemmas.Bool.{cases_lt}
-use Rattle.std.proofs.lemmas.Grind.{common_steps}
-use Rattle.std.proofs.lemmas.List.{same_lists, drop_more, get_or_append_left, get_or-append_right}
-use Rattle.std.proofs.lemmas.Nat.{and_mask, mod_below}
+use Rattle.std.proofs.lemmas.Nat.{and_mask}
 use Rattle.lists.specs.Windows.{window}
 use Rattle.lists.proofs.Windows.{get_or-window, length-window, window_dropped, window_popped, window_pushed, window_none}
 use Rattle.order_parts.specs.History.{Entries, entries_of}

@@ -1,5 +1,5 @@
 -- A ring of entries: which places they take, and how its numbers fit together.
-use Rattle.std.specs.Prelude.{ℕ, ◌≡◌, ◌+◌, ◌<◌, ◌≤◌, List, length}
+use Rattle.std.specs.Prelude.{◌≡◌, ◌+◌, ◌<◌, ◌≤◌, List, length}
 use Rattle.std.specs.Int.{IsPowerOfTwo}
 use Rattle.lists.specs.Windows.{window}
 use Rattle.order_parts.specs.declared.history.Entry.{Entry}

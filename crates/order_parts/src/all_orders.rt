@@ -1,6 +1,6 @@
 //! The reorder buffers of a device's queues.
 
-ghost use Rattle.std.specs.Prelude.{◌≡◌, ◌≢◌, ◌<◌, ◌≤◌, ◌^◌, ◌&&◌, true, false, All, Some, length, map, slice_get, slice_set, slice_index_or, sum_by, take, is_some, option_copied, option_map, Some, IfNone, IfOk, IfSome, IsTrue};
+ghost use Rattle.std.specs.Prelude.{◌≡◌, ◌≢◌, ◌↔◌, ◌<◌, ◌≤◌, ◌^◌, ◌&&◌, true, false, All, Some, length, map, slice_get, slice_set, slice_index_or, sum_by, take, is_some, option_copied, option_map, Some, IfNone, IfOk, IfSome, IsTrue};
 ghost use Rattle.order_parts.specs.Histories.{lane_in};
 ghost use Rattle.order_parts.specs.InTurn.{AreInTurn, EndsTurn};
 ghost use Rattle.order_parts.specs.Reorder.{empty, next_number, place_at, place_or_open, is_open, kept_of, is_done, left, left_plain, oldest_answered, after_leave, open_place};
@@ -231,16 +231,14 @@ impl AllOrders {
         }
     }
 
-    /// Whether the queue restores an order, and none of its places keeps an event. Each place is looked at, so that it says no, too, where
-    /// there are eight times as many of them as the row has events, and more.
+    /// Whether the queue restores an order, and none of its places keeps an event.
     #[inline(always)]
-    pub fn is_bare(&self, queue: usize, row: usize) -> bool
+    pub fn is_bare(&self, queue: usize) -> bool
         requires { queue < length self.now }
-        ensures restoring { IsTrue result → is_restoring (order_at self.now queue) ≡ true }
-        ensures bare { IsTrue result → kept_in_places (order_at self.now queue).places ≡ 0 }
+        ensures { IsTrue result ↔ ((is_restoring (order_at self.now queue) ≡ true) × (kept_in_places (order_at self.now queue).places ≡ 0)) }
     {
         match &self.queues[queue] {
-            Some(order) => order.is_bare(row),
+            Some(order) => order.is_bare(),
             None => false,
         }
     }

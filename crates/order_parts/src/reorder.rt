@@ -1,8 +1,9 @@
 //! The reorder buffer of an ordered queue.
 
-ghost use Rattle.std.specs.Prelude.{◌≡◌, ◌≢◌, false, ◌+◌, ◌*◌, ◌%◌, ◌^◌, ◌<◌, ◌≤◌, ◌++◌, All, MatchOption, Some, length, nat_lt, option_copied, None, slice_get, slice_index_or, option_map, take, IfNone, IfOk, IfSome, IsTrue};
+ghost use Rattle.std.specs.Prelude.{◌≡◌, ◌≢◌, ◌↔◌, false, ◌+◌, ◌*◌, ◌%◌, ◌^◌, ◌<◌, ◌≤◌, ◌++◌, All, MatchOption, Some, length, nat_lt, option_copied, None, slice_get, slice_index_or, option_map, take, IfNone, IfOk, IfSome, IsTrue};
 ghost use Rattle.order_parts.specs.InTurn.{AreInTurn, EndsTurn};
 ghost use Rattle.order_parts.specs.Released.{kept_in_places, released_all, without_answered};
+ghost use Rattle.order_parts.specs.Rows.{kept_by};
 ghost use Rattle.order_parts.specs.Unpinned.{IsOfQueue};
 ghost use Rattle.order_parts.specs.declared.history.Entry.{Entry as EntryValue};
 ghost use Rattle.order_parts.specs.Reorder.{HasFew, after_add, after_hand, after_keep, after_leave, after_resolve, empty, is_done, is_open, kept_of, left, left_plain, next_number, oldest_answered, open_place, place_at, place_or_open, without_first, without_oldest, wrapped};
@@ -33,6 +34,8 @@ pub struct Reorder {
     rows: Vec<PackedEvent>,
     /// The row of the oldest place.
     first_row: usize,
+    /// How many events all places keep.
+    kept: usize,
 }
 
 impl Model for Reorder {
@@ -52,6 +55,17 @@ fn around(row: usize, rows: usize) -> usize
     ensures { result ≡ wrapped rows row }
 {
     if row < rows { row } else { row - rows }
+}
+
+/// How many events the place keeps, where there is one.
+#[inline(always)]
+fn kept_by(place: Option<Handed>) -> usize
+    ensures { result ≡ kept_by place }
+{
+    match place {
+        Some(handed) => handed.kept,
+        None => 0,
+    }
 }
 
 /// The events that leave with a place.
@@ -78,6 +92,7 @@ impl Reorder {
             first: 0,
             rows,
             first_row: 0,
+            kept: 0,
         })
     }
 
@@ -161,6 +176,7 @@ impl Reorder {
             self.rows[MAX_FORWARDS * row + handed.kept] = *event;
             handed.kept += 1;
             handed.answered = answered;
+            self.kept += 1;
         }
     }
 
@@ -255,21 +271,12 @@ impl Reorder {
         }
     }
 
-    /// Whether no place keeps an event. It says no, too, where there are eight times so many places and more: each is looked at.
+    /// Whether no place keeps an event.
     #[inline(always)]
-    pub(crate) fn is_bare(&self, row: usize) -> bool
-        ensures { IsTrue result → kept_in_places self.now.places ≡ 0 }
+    pub(crate) fn is_bare(&self) -> bool
+        ensures { IsTrue result ↔ (kept_in_places self.now.places ≡ 0) }
     {
-        let count = self.ring.len();
-        if count / 8 > row {
-            return false;
-        }
-        for index in 0..count {
-            if self.kept_count(index) > 0 {
-                return false;
-            }
-        }
-        true
+        self.kept == 0
     }
 
     /// The oldest entries' events are answered by their releases, as far as these are of the queue and no more than so many: how many.
@@ -333,7 +340,8 @@ impl Reorder {
         requires { 0 < length self.old.places }
         ensures { self.new ≡ without_oldest self.old }
     {
-        self.ring.pop_front();
+        let oldest = self.ring.pop_front();
+        self.kept -= kept_by(oldest);
         self.first = self.first.wrapping_add(1);
         self.first_row = around(self.first_row + 1, self.ring.capacity());
     }

@@ -17,7 +17,7 @@ use crate::patience::Patience;
 use crate::promise::Worked;
 use crate::submit::submit_all;
 use arrayvec::ArrayVec;
-use event_device::Port;
+use event_device::{Deliveries, Port};
 use evt_types::{Delivery, Event, Outcome};
 use pipeline_laws::{Action, answer};
 use run_counts::Looks;
@@ -29,14 +29,14 @@ const MAX_BURST: usize = 64;
 /// What a worker dequeued at once, and the events by which it answers that. Its arrays are made once for all of a worker's bursts.
 #[derive(Drop)]
 struct Burst {
-    deliveries: ArrayVec<Delivery, MAX_BURST>,
+    deliveries: Deliveries,
     answers: ArrayVec<Event, MAX_BURST>,
 }
 
 impl Burst {
     fn new() -> Burst {
         Burst {
-            deliveries: ArrayVec::new(),
+            deliveries: Deliveries::new(),
             answers: ArrayVec::new(),
         }
     }
@@ -122,7 +122,7 @@ fn turn<R: Wait, G: Gate>(
         gate,
         port.number(),
         actions,
-        &burst.deliveries,
+        burst.deliveries.as_slice(),
         &mut burst.answers,
     );
     submit_all(rt, port, &burst.answers)

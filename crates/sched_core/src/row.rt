@@ -197,7 +197,7 @@ impl Core {
     }
 
     /// The lane's oldest unanswered events, of the queue, are answered by RELEASEs that are alike, whichever places they have: how many. It
-    /// is none where the queue restores no order, or keeps something or has many more places.
+    /// is none where the queue restores no order, or keeps something.
     #[inline(always)]
     fn release_row(
         &mut self,
@@ -220,7 +220,7 @@ impl Core {
         }
         let most = like(first, replies);
         // A single event is answered for less by itself.
-        if most < 2 || !self.orders.is_bare(queue, most) {
+        if most < 2 || !self.orders.is_bare(queue) {
             return 0;
         }
         open_slot(&mut self.open_slots, &self.shape, lane);

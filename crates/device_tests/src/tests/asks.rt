@@ -4,8 +4,7 @@ ghost use Rattle.std.specs.Prelude.{◌≡◌};
 ghost use Rattle.event_device.specs.Device.{site_of};
 
 use super::calls::Sent;
-use arrayvec::ArrayVec;
-use event_device::{Behind, Port, PortCounts, Refused};
+use event_device::{Behind, Deliveries, Port, PortCounts, Refused};
 use evt_types::{Delivery, Op, PackedEvent};
 
 /// Deliveries of queue 0, by their numbers; or why none came.
@@ -100,10 +99,10 @@ fn dequeues(port: &mut Port, most: usize, wanted: &Came) -> bool
 fn dequeues_burst(port: &mut Port, most: usize, wanted: &Came) -> bool
     ensures { site_of port.new ≡ site_of port.old }
 {
-    let mut came = ArrayVec::new();
+    let mut came = Deliveries::new();
     match (port.dequeue_burst(most, &mut came), wanted) {
-        (Ok(count), Ok(wanted)) => count == wanted.len() && are(&came, wanted),
-        (Err(behind), Err(wanted)) => behind == *wanted && came.is_empty(),
+        (Ok(count), Ok(wanted)) => count == wanted.len() && are(came.as_slice(), wanted),
+        (Err(behind), Err(wanted)) => behind == *wanted && came.len() == 0,
         _ => false,
     }
 }

@@ -4,8 +4,7 @@ ghost use Rattle.std.specs.Prelude.{◌≡◌};
 ghost use Rattle.event_device.specs.Device.{site_of};
 
 use super::fault::RigFault;
-use arrayvec::ArrayVec;
-use event_device::{Device, Memory, Port, PortCounts, Refused, Report, StepLog, Swept};
+use event_device::{Deliveries, Device, Memory, Port, PortCounts, Refused, Report, StepLog, Swept};
 use evt_types::{Delivery, Event, Op, Step};
 
 /// An event of a middle priority that a port enqueues: operation, queue, flow and payload.
@@ -132,10 +131,10 @@ fn is_dequeued(
     let Some(mut port) = device.take_port(number) else {
         return false;
     };
-    let mut came = ArrayVec::new();
+    let mut came = Deliveries::new();
     let answer = port.dequeue_burst(most, &mut came);
     let is_back = device.put_back(port).is_ok();
-    is_back && answer.is_ok() && are_queue_zeros(&came, wanted)
+    is_back && answer.is_ok() && are_queue_zeros(came.as_slice(), wanted)
 }
 
 /// Whether the deliveries are these of queue 0.

@@ -5,8 +5,7 @@ ghost use Rattle.std.specs.Thread.{IsSync};
 ghost use Rattle.event_device.specs.Device.{site_of};
 ghost use Rattle.event_device.specs.Parts.{device_of};
 
-use arrayvec::ArrayVec;
-use event_device::{Device, Port, Refused};
+use event_device::{Deliveries, Device, Port, Refused};
 use evt_types::{Delivery, Event, MAX_PORTS, Op};
 use std::thread::{Threads, join, yield_now};
 
@@ -110,13 +109,13 @@ fn work(port: Port, last: u8) -> Port
     ensures { site_of result ≡ site_of port }
 {
     let mut port = port;
-    let mut deliveries = ArrayVec::new();
+    let mut deliveries = Deliveries::new();
     for _ in 0..u64::MAX {
         if port.shut_seen() {
             break;
         }
         match port.dequeue_burst(BATCH, &mut deliveries) {
-            Ok(count) if count > 0 => answer(&mut port, &deliveries, last),
+            Ok(count) if count > 0 => answer(&mut port, deliveries.as_slice(), last),
             _ => yield_now(),
         }
     }

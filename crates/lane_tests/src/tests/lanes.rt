@@ -8,9 +8,8 @@ ghost use Rattle.lane_rings.specs.Identity.{near_id, far_id};
 use super::left::{leaves, leaves_held};
 use super::made::{delivery, reply};
 use super::refusals::{fault_of, say};
-use arrayvec::ArrayVec;
 use evt_types::{Delivery, Op, Reply};
-use lane_rings::{Far, Memory, Near, Refusal, beside, lane};
+use lane_rings::{Deliveries, Far, Memory, Near, Refusal, beside, lane};
 use std::alloc::Global;
 use std::test::Fail;
 
@@ -263,8 +262,9 @@ fn answers(far: &mut Far, reply: Reply, gathers: bool, said: Said) -> bool
 fn receives(far: &mut Far, most: usize, wanted: &[u64]) -> bool
     ensures { far_id far.new ≡ far_id far.old }
 {
-    let mut came: ArrayVec<Delivery, 64> = ArrayVec::new();
+    let mut came = Deliveries::new();
     far.receive_some(most.min(64), &mut came);
+    let came = came.as_slice();
     for (place, number) in wanted.iter().enumerate() {
         if place >= came.len() || came[place] != delivery(*number) {
             return false;

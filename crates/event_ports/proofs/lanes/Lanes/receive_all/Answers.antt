@@ -22,8 +22,8 @@ receive_some-requires c =
     (room_first c.args.max c.min-most.result _ c.args.self.now.order.capacity c.args.self.now.order.items c.args.into.now.items c.min-most.ensures (omega (arith, c.capacity.ensures.capacity, c.len.ensures.len))
     (omega (arith, c.capacity.ensures.capacity, c.capacity.ensures.within.0)) c.args.self.now.depth.1 c.requires).small
 
-pub note-requires : goal.note-requires
-note-requires c =
+pub note-requires-clause-room : goal.note-requires-clause-room
+note-requires-clause-room c =
     let came = c.receive_some.ensures.came in
     let room = room_first c.args.max c.min-most.result _ c.args.self.now.order.capacity c.args.self.now.order.items c.args.into.now.items c.min-most.ensures (omega (arith, c.capacity.ensures.capacity, c.len.ensures.len))
     (omega (arith, c.capacity.ensures.capacity, c.capacity.ensures.within.0)) c.args.self.now.depth.1 c.requires in

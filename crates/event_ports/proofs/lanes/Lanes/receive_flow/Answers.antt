@@ -21,11 +21,11 @@ use Rattle.event_ports.proofs.Extras.{added_same}
 use Rattle.event_ports.proofs.Looks.{free_drained}
 use Rattle.event_ports.proofs.lanes.Lanes.receive_flow.Goals as goal
 
-pub note-requires : goal.note-requires
-note-requires c =
+pub note-requires-clause-room : goal.note-requires-clause-room
+note-requires-clause-room c =
     let came = c.receive_some.ensures.lists in
     note_fits c.args.most _ _ c.args.into.now.items c.receive_some.new.into.items came.came c.requires.room came.array c.receive_some.ensures.few
-    c.args.self.now.order.items c.args.self.now.order.capacity c.len-from.result refl refl c.len-from.ensures.value
+    c.args.self.now.order.items c.args.self.now.order.capacity c.len-from.result refl refl c.len-from.ensures.len
 
 pub invariant_of-self-2-clause-ordered : goal.invariant_of-self-2-clause-ordered
 invariant_of-self-2-clause-ordered c =
@@ -37,7 +37,7 @@ invariant_of-self-2-clause-ordered c =
     let others : (l : Lane) → l ≢ Flow c.args.lane → after l ≡ before l =
     each_lane (λ l. l ≢ Flow c.args.lane → after l ≡ before l) (λ ne. refl) (λ j ne. gets.others.held j (λ e. ne (ap Flow e))) in
     let To : List Holding → Type 0 = λ xs. Notes xs after in
-    subst To (sym (noted_are (Flow c.args.lane) c.len-from.result c.args.into.now.items c.receive_some.new.into.items came.came c.args.self.now.order.items c.note.new.self.items came.array c.len-from.ensures.value c.note.ensures.noted))
+    subst To (sym (noted_are (Flow c.args.lane) c.len-from.result c.args.into.now.items c.receive_some.new.into.items came.came c.args.self.now.order.items c.note.new.self.items came.array c.len-from.ensures.len c.note.ensures.noted))
     (received_last c.args.self.now.order.items (Flow c.args.lane) came.came before after gets.held others c.args.self.now.ordered)
 
 pub invariant_of-self-2-clause-gave_back : goal.invariant_of-self-2-clause-gave_back
@@ -77,14 +77,14 @@ returns-clause-arrived c =
       said = each_lane (λ l. said_on c.args.self.now.own (hands_of c.leave_unless.new.self) l ≡ said_on c.args.self.now.own (hands_of c.args.self.now.flows) l) refl (λ j. gets_no_answer _ _ c.args.lane came.came gets j);
       got_here = gets.received;
       got = each_lane (λ l. l ≢ Flow c.args.lane → got_on c.args.self.now.own (hands_of c.leave_unless.new.self) l ≡ got_on c.args.self.now.own (hands_of c.args.self.now.flows) l) (λ ne. refl) (λ j ne. gets.others.received j (λ e. ne (ap Flow e)));
-      holding = noted_are (Flow c.args.lane) c.len-from.result c.args.into.now.items c.receive_some.new.into.items came.came c.args.self.now.order.items c.note.new.self.items came.array c.len-from.ensures.value c.note.ensures.noted;
+      holding = noted_are (Flow c.args.lane) c.len-from.result c.args.into.now.items c.receive_some.new.into.items came.came c.args.self.now.order.items c.note.new.self.items came.array c.len-from.ensures.len c.note.ensures.noted;
     }) came.array
 
 pub returns-clause-room : goal.returns-clause-room
 returns-clause-room c =
     let came = c.receive_some.ensures.lists in
     room_less c.args.most _ c.args.self.now.order.items c.note.new.self.items (Flow c.args.lane) c.args.into.now.items c.receive_some.new.into.items came.came (subst (λ n. HasRoomFor c.args.most n c.args.self.now.order.items c.args.into.now.items) (sym c.note.ensures.room) c.requires.room) c.receive_some.ensures.few
-    (noted_are (Flow c.args.lane) c.len-from.result c.args.into.now.items c.receive_some.new.into.items came.came c.args.self.now.order.items c.note.new.self.items came.array c.len-from.ensures.value c.note.ensures.noted) came.array
+    (noted_are (Flow c.args.lane) c.len-from.result c.args.into.now.items c.receive_some.new.into.items came.came c.args.self.now.order.items c.note.new.self.items came.array c.len-from.ensures.len c.note.ensures.noted) came.array
 
 pub returns-then-len-most-clause-arrived : goal.returns-then-len-most-clause-arrived
 returns-then-len-most-clause-arrived c = arrives_none (Flow c.args.lane) _ _ c.args.into.now.items (record { said = λ l. refl; got = λ l. refl; holding = refl })
@@ -124,7 +124,7 @@ returns-clause-site c i = record {
 }
 
 pub returns-clause-none : goal.returns-clause-none
-returns-clause-none c full = absurd (omega (arith, full, c.len.ensures.value, c.if-len-most.false))
+returns-clause-none c full = absurd (omega (arith, full, c.len.ensures.len, c.if-len-most.false))
 
 pub returns-clause-shown : goal.returns-clause-shown
 returns-clause-shown c all = record { own = all.own; flows = c.leave_unless.ensures.shown (c.receive_some.ensures.shown (c.hold.ensures.shown all.flows)) }
@@ -173,13 +173,13 @@ pub receive_some-requires-clause-most : goal.receive_some-requires-clause-most
 receive_some-requires-clause-most c = c.requires.room.small
 
 pub receive_some-requires-clause-room : goal.receive_some-requires-clause-room
-receive_some-requires-clause-room c = omega (arith, c.len.ensures.value, c.if-len-most.false)
+receive_some-requires-clause-room c = omega (arith, c.len.ensures.len, c.if-len-most.false)
 
 pub leave_unless-requires-clause-held : goal.leave_unless-requires-clause-held
 leave_unless-requires-clause-held c some none =
     let came = c.receive_some.ensures.lists in
     let held = held_on (hands_of c.hold.new.self) c.args.lane in
-    absurd (omega (arith, ltb-true c.len-from.result c.len-2.result some, c.len-2.ensures.value, c.len-from.ensures.value, ap length came.array, length-append c.args.into.now.items came.came, ap length (sym came.gets.held ∙ none), length-append held came.came))
+    absurd (omega (arith, ltb-true c.len-from.result c.len-2.result some, c.len-2.ensures.len, c.len-from.ensures.len, ap length came.array, length-append c.args.into.now.items came.came, ap length (sym came.gets.held ∙ none), length-append held came.came))
 
 pub returns-clause-others : goal.returns-clause-others
 returns-clause-others c = refl
@@ -194,7 +194,7 @@ pub returns-clause-claims : goal.returns-clause-claims
 returns-clause-claims c = claims_before _ _ _ _ c.hold.ensures.claims (asks_then _ _ _ (asks_same _ _ c.receive_some.ensures.seat) c.leave_unless.ensures.asks)
 
 pub returns-then-len-most-clause-drained : goal.returns-then-len-most-clause-drained
-returns-then-len-most-clause-drained c few = absurd (omega (arith, few, c.len.ensures.value, c.if-len-most.true))
+returns-then-len-most-clause-drained c few = absurd (omega (arith, few, c.len.ensures.len, c.if-len-most.true))
 
 pub returns-then-not-hold-clause-drained : goal.returns-then-not-hold-clause-drained
 returns-then-not-hold-clause-drained c few = free_drained _ (c.hold.ensures.held ∙ c.if-not-hold.true)

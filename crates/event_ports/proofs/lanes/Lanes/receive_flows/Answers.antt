@@ -29,7 +29,7 @@ loop-position-init c = record {
   done = λ few j lane lt at.
       passed_done (linked_of c.args.self.now.flows) (links_of c.args.self.now) c.worth_a_look-worthy.result.left 0 c.next_link-position.result (flow_hands c.args.self.now)
       (λ i l le there seen is. c.worth_a_look-worthy.ensures i l there seen is)
-      (λ i l le below there. c.next_link-position.ensures.passed i l le below there (omega (arith, few, c.saturating_sub-wanted.ensures, c.len.ensures.value))) j lane (omega arith) lt at;
+      (λ i l le below there. c.next_link-position.ensures.passed i l le below there (omega (arith, few, c.saturating_sub-wanted.ensures, c.len.ensures.len))) j lane (omega arith) lt at;
   none = λ full. refl;
   others = refl;
   shown = λ all. all;
@@ -70,7 +70,7 @@ loop-position-preserved c =
           next.ensures.left j lane lt (subst (λ (p : LanesSite). slice_get p.flows.links j ≡ Some lane) (sym site) is_at) (subst (λ s. IsIn s lane) (sym linked) seen) (still j lane (omega (arith, lt, next.ensures.within.0)) is_at seen is);
       done = λ few.
           let passed : ArePassed set links c.loop-position.worthy.left (c.loop-position.position + 1) next.result =
-          λ j lane le lt is_at. subst (λ s. IsIn s lane × (¬ Has c.loop-position.worthy.left lane)) linked (next.ensures.passed j lane le lt (subst (λ (p : LanesSite). slice_get p.flows.links j ≡ Some lane) (sym site) is_at) (omega (arith, few, c.saturating_sub-wanted-in-loop-position.ensures, c.len-in-loop-position.ensures.value))) in
+          λ j lane le lt is_at. subst (λ s. IsIn s lane × (¬ Has c.loop-position.worthy.left lane)) linked (next.ensures.passed j lane le lt (subst (λ (p : LanesSite). slice_get p.flows.links j ≡ Some lane) (sym site) is_at) (omega (arith, few, c.saturating_sub-wanted-in-loop-position.ensures, c.len-in-loop-position.ensures.len))) in
           done_past links (c.loop-position.position + 1) next.result after
           (done_more links c.loop-position.position c.link-lane.result before after at c.receive_flow.ensures.other_lanes (c.receive_flow.ensures.drained few) (was.done (omega (arith, few, grows))))
           (passed_done set links c.loop-position.worthy.left (c.loop-position.position + 1) next.result after (λ j lane le. still j lane (omega (arith, le))) passed);
@@ -90,7 +90,7 @@ returns-clause-drained c few lane =
     let was = c.loop-position.invariant in
     let f = c.loop-position.self.flows in
     let past : length (links_of c.args.self.now) ≤ c.loop-position.position =
-    elim c.loop-position-test.branch [ then-loop-position-test+else-len-most w ↦ absurd (omega (arith, few, w.len-in-loop-position.ensures.value, w.if-len-most.false)) | else-loop-position-test w ↦ omega (arith, was.links, w.loop-position-test.false) ] in
+    elim c.loop-position-test.branch [ then-loop-position-test+else-len-most w ↦ absurd (omega (arith, few, w.len-in-loop-position.ensures.len, w.if-len-most.false)) | else-loop-position-test w ↦ omega (arith, was.links, w.loop-position-test.false) ] in
     let Done : LanesSite → Type 0 = λ p. (j lane : ℕ) → slice_get p.flows.links j ≡ Some lane → IsDrained (entry_at f.stints.items lane) in
     let done : Done (lanes_site c.loop-position.self) = subst Done (sym was.site) (λ j l at. was.done few j l (omega (arith, get_within (links_of c.args.self.now) j l at, past)) at) in
     all_drained _ f.seat f.stints.items f.links.items f.are done lane _ refl

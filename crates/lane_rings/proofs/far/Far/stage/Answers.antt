@@ -1,14 +1,10 @@
 -- A reply goes behind the others: an answer ends the oldest and its additions, and another adds one or changes nothing.
-use Rattle.std.proofs.Common.{true, false, refl, ◌≡◌, ◌∙◌, ◌+◌, ℕ, List, [], ◌∷◌, ◌++◌, ap, arith, cond, drop, length, length-drop, map, rules, subst, sym}
+use Rattle.std.proofs.Common.{◌≡◌, ◌∙◌, ◌+◌, ℕ, List, [], ◌∷◌, ◌++◌, ap, arith, cond, drop, length, length-drop, map, rules, subst, sym}
 use Rattle.std.proofs.lemmas.List.Sums.{sum_by-append}
-use Rattle.std.proofs.lemmas.Bool.{false≢true}
-use Rattle.evt_types.proofs.Additions.{beside-append, extras-append, extras-other}
+use Rattle.evt_types.proofs.Additions.{beside-append, extras-append}
 use Rattle.evt_types.specs.Additions.{AreBeside, extras_of, more_after}
 use Rattle.evt_types.specs.Event.{pair_of}
-use Rattle.evt_types.specs.Operation.{is_answer, is_answer_op, is_more_op, is_more_reply, is_new_op}
-use Rattle.evt_types.specs.declared.event.Event.{Event}
-use Rattle.evt_types.specs.declared.event.Op.{Op}
-use Rattle.evt_types.specs.declared.event.Op.TheVariants as ops
+use Rattle.evt_types.specs.Operation.{is_answer}
 use Rattle.evt_types.specs.declared.event.Reply.{Reply}
 use Rattle.lane_rings.specs.Ends.{answered, answers_among, received_by}
 use Rattle.lane_rings.specs.HeldPairs.{Held}

@@ -6,7 +6,7 @@ use Rattle.rtrb.specs.Ring.{known_items, received, SameConsumer}
 use Rattle.lane_rings.specs.Intakes.{ahead, handed, inside}
 use Rattle.lane_rings.proofs.Fetching.{prefix-behind, prefix-joined, written_back}
 use Rattle.lane_rings.proofs.Handing.{last-kept, row-empty, row-filled, row-kept, row-last}
-use Rattle.lane_rings.proofs.Singles.{none-behind, none-there, one-ahead, one-moved, one-there}
+use Rattle.lane_rings.proofs.Singles.{none-there, one-ahead, one-moved, one-there}
 use Rattle.lane_rings.proofs.intake.Intake.look.Goals.{then-there-eq0-via-then-there-eq0, then-there-eq0-via-else-there-eq0+then-most-eq0}
 use Rattle.lane_rings.proofs.intake.Intake.look.Goals as goal
 use Rattle.lane_rings.proofs.intake.Intake.look.Given as given
@@ -78,12 +78,6 @@ returns-then-self-clause-few g c none =
 pub returns-then-self-clause-stays : goal.returns-then-self-clause-stays
 returns-then-self-clause-stays g c _ = refl
 
-pub returns-then-self-clause-short : goal.returns-then-self-clause-short
-returns-then-self-clause-short g c _ none _ _ =
-    let now = c.args.self.now in
-    absurd (c.if-self.true (row-filled now.at now.end now.places.items now.within.0 now.within.1 none))
-
--- where nothing is taken out, the ring alone was looked at
 passed : (g : given.Over) (c : goal.Joined-then-there-eq0 g)
     → (inside c.then-there-eq0.self ≡ inside c.args.self.now) × (c.then-there-eq0.self.ring ≡ c.slots-there.new.self) × (handed c.then-there-eq0.self ≡ handed c.args.self.now)
     × (0 < c.args.most → known_items c.then-there-eq0.self.ring ≡ [])
@@ -125,9 +119,6 @@ returns-then-there-eq0-clause-few g c none = omega (arith, ap length ((passed g 
 pub returns-then-there-eq0-clause-stays : goal.returns-then-there-eq0-clause-stays
 returns-then-there-eq0-clause-stays g c _ = (passed g c).0
 
-pub returns-then-there-eq0-clause-short : goal.returns-then-there-eq0-clause-short
-returns-then-there-eq0-clause-short g c _ _ fewer _ = (passed g c).3 (omega (arith, fewer))
-
 pub returns-then-there-eq1-clause-ahead : goal.returns-then-there-eq1-clause-ahead
 returns-then-there-eq1-clause-ahead g c =
     let now = c.args.self.now in
@@ -147,10 +138,6 @@ returns-then-there-eq1-clause-few g c _ = omega (arith, length-take 1 (set c.arg
 
 pub returns-then-there-eq1-clause-stays : goal.returns-then-there-eq1-clause-stays
 returns-then-there-eq1-clause-stays g c some = absurd (some (row-empty c.args.self.now.at c.args.self.now.end c.args.self.now.places.items (omega arith)))
-
-pub returns-then-there-eq1-clause-short : goal.returns-then-there-eq1-clause-short
-returns-then-there-eq1-clause-short g c _ _ _ _ =
-    none-behind (known_items c.slots-there.new.self) (known_items c.pop_known.new.self) c.pop_known.result c.pop_known.ensures.received.1 (omega (arith, c.slots-there.ensures.value))
 
 pub invariant_of-self-2 : goal.invariant_of-self-2
 invariant_of-self-2 g c =
@@ -180,17 +167,7 @@ pub returns-clause-few : goal.returns-clause-few
 returns-clause-few g c _ =
     let places = c.args.self.now.places in
     let row = c.pop_row-self.new.places in
-    omega (arith, length-take c.pop_row-self.result (take places.len (row ++ drop (length row) places.items)), c.pop_row-self.ensures.few.0, c.asked.ensures.few)
+    omega (arith, length-take c.pop_row-self.result (take places.len (row ++ drop (length row) places.items)), c.pop_row-self.ensures.few.0, c.min.ensures)
 
 pub returns-clause-stays : goal.returns-clause-stays
 returns-clause-stays g c some = absurd (some (row-empty c.args.self.now.at c.args.self.now.end c.args.self.now.places.items (omega arith)))
-
-pub returns-clause-short : goal.returns-clause-short
-returns-clause-short g c whole _ fewer within =
-    let now = c.args.self.now in
-    let row = c.pop_row-self.new.places in
-    let long : length row ≡ length now.places.items = c.pop_row-self.ensures.places ∙ ap length c.deref_mut.ensures.value in
-    let back = written_back now.places.len row now.places.items long (omega (arith, now.places.ok.0)) in
-    let count = length-take c.pop_row-self.result (take now.places.len (row ++ drop (length row) now.places.items)) in
-    c.pop_row-self.ensures.short (omega (arith, fewer, count, ap length back, c.pop_row-self.ensures.few.1, c.pop_row-self.ensures.places, c.asked.ensures.whole whole))
-    (omega (arith, within, ap length c.deref_mut.ensures.value, now.room, c.asked.ensures.whole whole))

@@ -1,8 +1,8 @@
-use Rattle.std.proofs.Common.{◌≡◌, ◌+◌, ◌-◌, ◌*◌, ◌%◌, ◌^◌, ◌<◌, Some, length, slice_get, ap, sym, ◌∙◌, arith}
+use Rattle.std.proofs.Common.{◌≡◌, ◌+◌, ◌-◌, ◌*◌, ◌%◌, ◌^◌, ◌<◌, Some, length, slice_get, ap, refl, sym, ◌∙◌, arith}
 use Rattle.std.specs.Option.{option_copied_mut}
 use Rattle.evt_types.specs.declared.event.TheConstants.{MAX_FORWARDS}
 use Rattle.order_parts.specs.Reorder.{wrapped}
-use Rattle.order_parts.proofs.Changes.{is_there, more_few, row_left, rows_stand, shown_kept}
+use Rattle.order_parts.proofs.Changes.{count_small, is_there, more_few, row_left, rows_stand, shown_kept}
 use Rattle.order_parts.proofs.Fields.{row_there}
 use Rattle.order_parts.proofs.reorder.Reorder.keep.Goals as goal
 use Rattle.order_parts.proofs.reorder.Reorder.keep.Goals.{After-around-row}
@@ -39,9 +39,13 @@ index_mut-requires c = omega (arith, cell (goal.at.index_mut-requires c).After-a
 pub overflow_add-handed : goal.overflow_add-handed
 overflow_add-handed c = omega (arith, room (goal.at.overflow_add-handed c).After-around-row)
 
+pub overflow_add-self : goal.overflow_add-self
+overflow_add-self c = omega (arith, count_small c.self.inside c.self.invariant, c.self.inside.rows.ok, c.self.inside.rows.small)
+
 pub invariant_of-self : goal.invariant_of-self
 invariant_of-self c =
-    rows_stand c.self.inside c.self.invariant _ _ _ _ (more_few c.self.inside c.self.invariant c.args.self.now c.self.view_is c.args.place c.requires.open c.in-Some.handed.now (there (goal.at.invariant_of-self c).After-around-row) c.args.answered c.requires.room)
+    let here = there (goal.at.invariant_of-self c).After-around-row in
+    rows_stand c.self.inside c.self.invariant _ _ _ _ _ (more_few c.self.inside c.self.invariant c.args.self.now c.self.view_is c.args.place c.requires.open c.in-Some.handed.now here c.args.answered c.requires.room) here refl
 
 pub returns-in-Some : goal.returns-in-Some
 returns-in-Some c =

@@ -18,13 +18,13 @@ row : (c : After-release_oldest-count) → IsBareRow c.self.inside c.args.self.n
 row c =
     record {
       some = some_released c.release_oldest-count.result c.like-most.result c.self.inside c.args.self.now c.args.lane c.args.queue c.requires.oldest.0 c.self.invariant c.self.view_is c.requires.lane c.requires.oldest.1 c.requires.oldest.2
-          (omega (arith, c.if-most-lt2.false)) (c.release_oldest-count.ensures.last (c.is_bare.ensures.restoring c.if-not-is_bare.false));
+          (omega (arith, c.if-most-lt2.false)) (c.release_oldest-count.ensures.last ((c.is_bare.ensures.0 c.if-not-is_bare.false).0));
       few = omega (arith, few c, c.requires.most);
       there = queue_known c.self.inside c.args.self.now c.args.lane c.args.queue c.requires.oldest.0 c.self.invariant c.self.view_is c.requires.lane c.requires.oldest.1 c.requires.oldest.2;
       all = c.release_oldest-count.ensures.each;
       alone = alone_here c.self.inside c.args.self.now c.args.lane _ c.self.invariant c.self.view_is c.requires.lane c.index.ensures (omega (arith, c.if-index-gt0.false));
-      restoring = c.is_bare.ensures.restoring c.if-not-is_bare.false;
-      bare = c.is_bare.ensures.bare c.if-not-is_bare.false;
+      restoring = (c.is_bare.ensures.0 c.if-not-is_bare.false).0;
+      bare = (c.is_bare.ensures.0 c.if-not-is_bare.false).1;
     }
 
 -- ---- the core that it leaves

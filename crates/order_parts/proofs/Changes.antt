@@ -1,20 +1,21 @@
 -- What a change of the fields of a reorder buffer leaves of its places.
-use Rattle.std.proofs.Common.{◌≡◌, ℕ, ◌+◌, ◌-◌, ◌*◌, ◌%◌, ◌^◌, ◌<◌, ◌≤◌, Bool, false, not, true, List, [], ◌∷◌, ◌++◌, All, length, set, drop, get_or, slice_get, slice_set, slice_index_or, sum_by, suc, zero, refl, sym, ap, subst, ◌∙◌, Option, Some, None, IsTrue, arith, append-nil, length-append, length-set, length-drop}
+use Rattle.std.proofs.Common.{◌≡◌, ℕ, ◌+◌, ◌-◌, ◌*◌, ◌%◌, ◌^◌, ◌<◌, ◌≤◌, Bool, false, not, true, List, [], ◌∷◌, ◌++◌, All, length, set, drop, get_or, slice_get, slice_set, slice_index_or, sum_by, suc, zero, refl, sym, ap, subst, ◌∙◌, Option, Some, None, IsTrue, ⊎_elim, arith, append-nil, length-append, length-set, length-drop}
 use Rattle.std.specs.Vec.{with_item}
+use Rattle.std.proofs.lemmas.Bool.{cases_lt}
 use Rattle.std.proofs.lemmas.List.Elements.{All-set, All-drop, All-push}
-use Rattle.std.proofs.lemmas.List.Sums.{sum_by-le, sum_by-set, sum_by_push}
+use Rattle.std.proofs.lemmas.List.Sums.{sum_by-cons, sum_by-le, sum_by-set, sum_by_push}
 use Rattle.std.proofs.lemmas.Option.{get_or_from_slice_get, none-some, slice_get_within}
 use Rattle.circular_buffer.specs.Buffer.{buffer, keep_last}
 use Rattle.evt_types.specs.Place.{Place}
 use Rattle.evt_types.specs.declared.event.Event.{Event}
 use Rattle.evt_types.specs.declared.event.TheConstants.{MAX_EXTRAS, MAX_FORWARDS}
-use Rattle.order_parts.specs.Reorder.{Reordering, after_add, after_hand, after_keep, after_resolve, in_row, index_of, is_open, open_place, place_at, place_of, place_or_open, places_by, resolved, rows_from, with_kept, without_oldest, wrapped}
+use Rattle.order_parts.specs.Reorder.{Reordering, after_add, after_hand, after_keep, after_resolve, in_row, index_of, is_open, open_place, place_at, place_of, place_or_open, places_by, resolved, rows_from, with_kept, without_first, without_oldest, wrapped}
 use Rattle.order_parts.specs.Rows.{HasRows, KeepsFew}
 use Rattle.order_parts.specs.declared.reorder.Handed.{Handed}
 use Rattle.order_parts.specs.declared.reorder.Reorder.TheInside.{Inside}
 use Rattle.order_parts.proofs.Fields.{first_within, index_within, keeps_few, kept_length, place_is, place_or, places, row_there, rows, shown}
 use Rattle.order_parts.proofs.Places.{answer_open, no_place, places_length, places_push, places_set, places_stay}
-use Rattle.order_parts.proofs.Rows.{row_before, row_more, row_none, row_stays, rows_differ, wrapped_within}
+use Rattle.order_parts.proofs.Rows.{row_before, row_more, row_none, row_stays, rows_differ, wrapped_high, wrapped_low, wrapped_within}
 
 -- ---- one place
 
@@ -215,3 +216,55 @@ shown_advanced a has r is some kept =
     let there : 0 < a.ring.capacity = omega (arith, count, some, places_length (rows a) a.ring.items, has.places) in
     ap (λ (ps : List Place). let k : Reordering = record { first = (a.first + 1) % 2 ^ 64; places = ps; depth = a.ring.capacity } in k) (places_advanced a.rows.items a.ring.capacity a.first_row a.ring.items (has.start there) has.places)
     ∙ ap without_oldest is
+
+-- ---- some of the oldest places leave, and none keeps an event
+
+none_behind : (n : ℕ) (hs : List Handed) → sum_by (λ (h : Handed). h.kept) hs ≡ 0 → sum_by (λ (h : Handed). h.kept) (drop n hs) ≡ 0
+none_behind zero hs none = none
+none_behind (suc n) [] none = none
+none_behind (suc n) (h ∷ hs) none = none_behind n hs (omega (arith, sum_by-cons (λ (y : Handed). y.kept) h hs, none))
+
+pub rows_left : (a : Inside) → HasRows a → a.kept ≡ 0 → (n first : ℕ) → n ≤ length a.ring.items
+    → HasRows (record { ring = buffer (drop n a.ring.items) a.ring.capacity; first = first; rows = a.rows; first_row = wrapped a.ring.capacity (a.first_row + n); kept = a.kept })
+rows_left a has bare n first few =
+    record {
+      size = has.size;
+      start = λ some. let within = has.start some in wrapped_within a.ring.capacity (a.first_row + n) (omega (arith, within, few, has.places));
+      places = omega (arith, length-drop n a.ring.items, has.places);
+      few = All-drop KeepsFew n a.ring.items has.few;
+      count = omega (arith, bare, none_behind n a.ring.items (omega (arith, has.count, bare)));
+    }
+
+abbrev left_by : Inside → List Handed → ℕ → ℕ → Reordering
+left_by a hs first row = record { first = first; places = places_by (rows_from a.rows.items a.ring.capacity row) hs; depth = a.ring.capacity }
+
+one_behind : (n : ℕ) (hs : List Handed) → drop (suc n) hs ≡ drop n (drop 1 hs)
+one_behind zero [] = refl
+one_behind (suc n) [] = refl
+one_behind n (h ∷ hs) = refl
+
+first_stays : (a : Inside) → HasRows a → wrapped a.ring.capacity (a.first_row + 0) ≡ a.first_row
+first_stays a has =
+    ⊎_elim
+    (λ some. let within = has.start some in wrapped_low a.ring.capacity (a.first_row + 0) (omega (arith, within)) ∙ omega arith)
+    (λ none. wrapped_high a.ring.capacity (a.first_row + 0) (omega (arith, none)) ∙ omega (arith, none))
+    (cases_lt 0 a.ring.capacity)
+
+pub shown_left : (n : ℕ) (a : Inside) → HasRows a → (r : Reordering) → shown a ≡ r → a.kept ≡ 0 → a.first < 2 ^ 64 → n ≤ length a.ring.items
+    → left_by a (drop n a.ring.items) ((a.first + n) % 2 ^ 64) (wrapped a.ring.capacity (a.first_row + n)) ≡ without_first r n
+shown_left zero a has r is bare small few =
+    let at : (a.first + 0) % 2 ^ 64 ≡ a.first = omega (arith, small) in
+    ap (λ f. left_by a a.ring.items f (wrapped a.ring.capacity (a.first_row + 0))) at ∙ (ap (left_by a a.ring.items a.first) (first_stays a has) ∙ is)
+shown_left (suc n) a has r is bare small few =
+    let there : 0 < length r.places = omega (arith, few, places_length (rows a) a.ring.items, ap (λ (k : Reordering). length k.places) is) in
+    let next : Inside = record { ring = buffer (drop 1 a.ring.items) a.ring.capacity; first = (a.first + 1) % 2 ^ 64; rows = a.rows; first_row = wrapped a.ring.capacity (a.first_row + 1); kept = a.kept } in
+    let none : a.kept ≡ sum_by (λ (h : Handed). h.kept) (drop 1 a.ring.items) = omega (arith, bare, none_behind 1 a.ring.items (omega (arith, has.count, bare))) in
+    let rest = shown_left n next (rows_advanced a has ((a.first + 1) % 2 ^ 64) a.kept none) (without_oldest r) (shown_advanced a has r is there a.kept) bare (omega arith) (omega (arith, few, length-drop 1 a.ring.items)) in
+    let at : (a.first + suc n) % 2 ^ 64 ≡ ((a.first + 1) % 2 ^ 64 + n) % 2 ^ 64 = omega arith in
+    let fit = has.places in
+    let start = has.start (omega (arith, few, fit)) in
+    let row : wrapped a.ring.capacity (a.first_row + suc n) ≡ wrapped a.ring.capacity (wrapped a.ring.capacity (a.first_row + 1) + n) =
+    ap (wrapped a.ring.capacity) (omega arith) ∙ sym (row_before a.ring.capacity a.first_row n start (omega (arith, few, fit))) in
+    ap (λ hs. left_by a hs ((a.first + suc n) % 2 ^ 64) (wrapped a.ring.capacity (a.first_row + suc n))) (one_behind n a.ring.items)
+    ∙ (ap (λ f. left_by a (drop n (drop 1 a.ring.items)) f (wrapped a.ring.capacity (a.first_row + suc n))) at
+    ∙ (ap (left_by a (drop n (drop 1 a.ring.items)) (((a.first + 1) % 2 ^ 64 + n) % 2 ^ 64)) row ∙ rest))

@@ -2,7 +2,7 @@
 
 ghost use Rattle.std.specs.Prelude.{◌≡◌, ◌≢◌, ◌↔◌, false, ◌+◌, ◌*◌, ◌%◌, ◌^◌, ◌<◌, ◌≤◌, ◌++◌, All, MatchOption, Some, length, nat_lt, option_copied, None, slice_get, slice_index_or, option_map, take, IfNone, IfOk, IfSome, IsTrue};
 ghost use Rattle.order_parts.specs.InTurn.{AreInTurn, EndsTurn};
-ghost use Rattle.order_parts.specs.Released.{kept_in_places, released_all, without_answered};
+ghost use Rattle.order_parts.specs.Released.{answered_front, kept_in_places, released_all, without_answered};
 ghost use Rattle.order_parts.specs.Rows.{kept_by};
 ghost use Rattle.order_parts.specs.Unpinned.{IsOfQueue};
 ghost use Rattle.order_parts.specs.declared.history.Entry.{Entry as EntryValue};
@@ -298,14 +298,19 @@ impl Reorder {
         most
     }
 
-    /// The places leave that are answered, from the oldest on.
+    /// How many places in a row are answered, from the oldest on.
     #[inline(always)]
-    fn leave_answered(&mut self)
-        ensures { self.new ≡ without_answered self.old }
+    fn answered_count(&self) -> usize
+        ensures value { result ≡ length (answered_front self.now.places) }
+        ensures within { result ≤ length self.now.places }
     {
-        while self.is_answered(0) {
-            self.advance();
+        let most = self.ring.len();
+        for index in 0..most {
+            if !self.is_answered(index) {
+                return index;
+            }
         }
+        most
     }
 
     /// The oldest entries' events are answered by their releases, as far as these are of the queue and no more than so many: how many.
@@ -319,7 +324,8 @@ impl Reorder {
         ensures released { self.new ≡ without_answered (released_all self.old (take result history.now.entries)) }
     {
         let count = self.release_entries(queue, history, most);
-        self.leave_answered();
+        let answered = self.answered_count();
+        self.drop_oldest(answered);
         count
     }
 
@@ -329,9 +335,26 @@ impl Reorder {
         requires { count ≤ length self.old.places }
         ensures { self.new ≡ without_first self.old count }
     {
+        if self.is_bare() {
+            self.drop_bare(count);
+            return;
+        }
         for _ in 0..count {
             self.advance();
         }
+    }
+
+    /// So many of the oldest places leave, at once, since no place keeps an event.
+    #[inline(always)]
+    fn drop_bare(&mut self, count: usize)
+        requires few { count ≤ length self.old.places }
+        requires bare { kept_in_places self.old.places ≡ 0 }
+        ensures { self.new ≡ without_first self.old count }
+    {
+        let rest = self.ring.len() - count;
+        self.ring.truncate_front(rest);
+        self.first = self.first.wrapping_add(count as u64);
+        self.first_row = around(self.first_row + count, self.ring.capacity());
     }
 
     /// The oldest place leaves.

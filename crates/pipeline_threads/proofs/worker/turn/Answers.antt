@@ -55,21 +55,21 @@ returns g c =
     let owes : Owes actions (links before) came (hand between) =
     dequeued_owes actions (links before) (released_first before) (hand before) (hand between) came c.requires.even c.in-Ok.ensures.ok in
     let due : AreDue actions came c.answer_each.new.answers.items =
-    subst (λ (ds : List Delivery). AreDue actions ds c.answer_each.new.answers.items) c.deref.ensures.0 c.answer_each.ensures in
-    let answers : AreDue actions came c.deref-2.result.now = subst (λ (es : List Event). AreDue actions came es) (sym c.deref-2.ensures.0) due in
+    subst (λ (ds : List Delivery). AreDue actions ds c.answer_each.new.answers.items) c.as_slice.ensures c.answer_each.ensures in
+    let answers : AreDue actions came c.deref.result.now = subst (λ (es : List Event). AreDue actions came es) (sym c.deref.ensures.0) due in
     let site : site_of after ≡ site_of before = c.submit_all.ensures.site ∙ same_site before between c.dequeue_burst.ensures.site c.dequeue_burst.ensures.credit in
     let dequeued : (counts_of after).dequeued ≡ plus (counts_of before).dequeued (length came) =
     c.submit_all.ensures.dequeued ∙ ap (λ (x : PortCounts). x.dequeued) c.in-Ok.ensures.counted in
     let counted : HasCounted after =
     counted_more before after came site c.requires.counted
     (λ none.
-    submitted_got (take front.0 c.deref-2.result.now) (hand between) (hand after) front.1
+    submitted_got (take front.0 c.deref.result.now) (hand between) (hand after) front.1
     ∙ received_more (links before) (released_first before) (hand before) (hand between) came none c.in-Ok.ensures.ok) dequeued in
     record {
       site = site;
-      even = λ taken. owes_at actions before after [] site (answered_all actions (links before) came c.deref-2.result.now (hand between) (hand after) owes answers (c.submit_all.ensures.all taken));
+      even = λ taken. owes_at actions before after [] site (answered_all actions (links before) came c.deref.result.now (hand between) (hand after) owes answers (c.submit_all.ensures.all taken));
       worked = owes_worked actions after (drop front.0 came)
-          (owes_at actions before after (drop front.0 came) site (answered_owes actions (links before) came c.deref-2.result.now front.0 (hand between) (hand after) owes answers front.1))
+          (owes_at actions before after (drop front.0 came) site (answered_owes actions (links before) came c.deref.result.now front.0 (hand between) (hand after) owes answers front.1))
           counted;
       looked = (length came, look_is _ c.count.ensures c.in-Ok.ensures.count, dequeued);
     }

@@ -9,7 +9,7 @@ use Rattle.credit_pool.specs.Pockets.{IsPocket}
 use Rattle.evt_types.specs.declared.event.Reply.{Reply}
 use Rattle.lists.specs.Counts.{count}
 use Rattle.flow_claims.specs.Claims.{lanes_of}
-use Rattle.lane_rings.specs.Ends.{answered}
+use Rattle.lane_rings.specs.Ends.{answered, answers_among, received_by, unanswered}
 use Rattle.lane_rings.specs.declared.far.Far.{Far}
 use Rattle.event_ports.specs.declared.lane.Holding.{Holding}
 use Rattle.event_ports.specs.declared.lane.Lane.{Lane}
@@ -19,10 +19,12 @@ use Rattle.event_ports.specs.declared.flows.FlowLanes.{FlowLanes}
 use Rattle.event_ports.specs.declared.lanes.Lanes.{Lanes}
 use Rattle.event_ports.specs.Flows.{FlowSite, flow_site, hands_of}
 use Rattle.event_ports.specs.Handed.{CountsNone, CountsOne, flow_count, hand_of, lanes_site, mores_of, news_of, releases_of}
-use Rattle.event_ports.specs.Lanes.{AreOrdered, Hand, Rests, SubmitsTo, counted, got_on, held_of, open_on, pair_in, said_on}
+use Rattle.event_ports.specs.HeldRings.{Held}
+use Rattle.event_ports.specs.Lanes.{AreOrdered, Hand, Rests, Submits, SubmitsTo, counted, got_on, held_in, held_of, open_on, pair_in, said_on}
 use Rattle.event_ports.proofs.Calls.{gave_back, held_added, more_needs, says_no_new, says_received, same_no_new}
 use Rattle.event_ports.proofs.Submitted.{IsThere, counts_none, counts_one}
 use Rattle.event_ports.proofs.Extras.{added_said, added_same}
+use Rattle.event_ports.proofs.HeldIn.{still_held}
 use Rattle.event_ports.proofs.Orders.{each_lane}
 use Rattle.event_ports.proofs.Refusals.{no_answer}
 
@@ -52,7 +54,7 @@ module _ {E : Type 0} (h k : Hands) (lane : ℕ) (r : Reply) (result : Result (U
   idle_still entries idle j none = entries j ∙ idle j (sym (held_still j) ∙ none)
 
 -- what the port has, beside its own lane, of its flow lanes and in its order
-abbrev over : Far → List Holding → Hands → Hand
+abbrev pub over : Far → List Holding → Hands → Hand
 over own xs h = record { said = said_on own h; got = got_on own h; holding = xs }
 
 -- what an event that is added makes of it
@@ -70,6 +72,28 @@ submits_flow own xs h k lane r (Err _) o first more same = record {
   said = each_lane (λ l. said_on own k l ≡ said_on own h l) refl same.answered_is;
   got = each_lane (λ l. got_on own k l ≡ got_on own h l) refl same.received;
   holding = refl;
+}
+
+-- a reply that answers nothing leaves what is unanswered
+pub keeps_open : {E : Type 0} (own later : Far) (r : Reply) (result : Result (Unit {0}) E) → answers_among (r ∷ []) ≡ 0
+    → MatchResult result (λ _. unanswered later ≡ drop (answers_among (r ∷ [])) (unanswered own)) (λ _. unanswered later ≡ unanswered own) → unanswered later ≡ unanswered own
+keeps_open own later r (Ok _) none held = held ∙ ap (λ n. drop n (unanswered own)) none
+keeps_open own later r (Err _) none held = held
+
+-- what it makes of the port, where it goes to the port's own lane
+pub submits_own : {E : Type 0} (own later : Far) (h : Hands) (held : Held) (r : Reply) (result : Result (Unit {0}) E) → answers_among (r ∷ []) ≡ 0 → received_by later ≡ received_by own
+    → MatchResult result (λ _. answered later ≡ answered own ++ r ∷ []) (λ _. answered later ≡ answered own) → unanswered later ≡ unanswered own
+    → MatchResult result (λ _. Submits Own r (over own (held_in own held) h) (over later (held_in later held) h)) (λ _. Rests (over own (held_in own held) h) (over later (held_in later held) h))
+submits_own own later h held r (Ok _) none received said left = record {
+  said_here = said;
+  said = each_lane (λ l. l ≢ Own → said_on later h l ≡ said_on own h l) (λ ne. absurd (ne refl)) (λ j ne. refl);
+  got = each_lane (λ l. got_on later h l ≡ got_on own h l) received (λ j. refl);
+  holding = still_held own later held left ∙ sym (ap (λ n. drop n (held_in own held)) none);
+}
+submits_own own later h held r (Err _) none received said left = record {
+  said = each_lane (λ l. said_on later h l ≡ said_on own h l) said (λ j. refl);
+  got = each_lane (λ l. got_on later h l ≡ got_on own h l) received (λ j. refl);
+  holding = still_held own later held left;
 }
 
 -- one reply more was submitted to the lane, and none to another

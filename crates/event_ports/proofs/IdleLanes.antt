@@ -12,10 +12,10 @@ use Rattle.event_ports.specs.declared.lane.Lane.TheVariants.{Flow}
 use Rattle.event_ports.specs.declared.lanes.Lanes.{Lanes}
 use Rattle.event_ports.specs.Flows.{hands_of}
 use Rattle.event_ports.specs.Holds.{IsEntry, held_now, held_on, stint_in}
-use Rattle.event_ports.specs.Lanes.{held_of, pair_in}
+use Rattle.event_ports.specs.Lanes.{held_in, held_of, pair_in}
 use Rattle.event_ports.proofs.Entries.{none_left, nothing_there}
 
-pub idle_lanes : (a : Lanes) (j : ℕ) → held_of (Flow j) a.order.items ≡ [] → is_some (stint_at (hands_of a.flows).view j) ≡ false
+pub idle_lanes : (a : Lanes) (j : ℕ) → held_of (Flow j) (held_in a.own a.order) ≡ [] → is_some (stint_at (hands_of a.flows).view j) ≡ false
 idle_lanes a j none =
     let open_none : held_on (hands_of a.flows) j ≡ [] =
     none_left (held_on (hands_of a.flows) j) (omega (arith, length-map (held_on (hands_of a.flows) j) pair_of, ap length (sym (a.ordered (Flow j)) ∙ ap (map pair_in) none))) in
@@ -34,8 +34,8 @@ entry_open links v lane (Some s) is some =
     open_number (stint_at v lane) s.number (ap (λ l. number_in (stint_at v l)) (sym at.lane_is) ∙ at.open_is.number)
 
 -- what a port holds of a flow lane it holds under its open stint
-pub staffed_lanes : (a : Lanes) (j : ℕ) → held_of (Flow j) a.order.items ≢ [] → is_some (stint_at (hands_of a.flows).view j) ≡ true
+pub staffed_lanes : (a : Lanes) (j : ℕ) → held_of (Flow j) (held_in a.own a.order) ≢ [] → is_some (stint_at (hands_of a.flows).view j) ≡ true
 staffed_lanes a j some =
-    let none : held_on (hands_of a.flows) j ≡ [] → held_of (Flow j) a.order.items ≡ [] =
-    λ is. none_left (held_of (Flow j) a.order.items) (omega (arith, length-map (held_of (Flow j) a.order.items) pair_in, ap length (a.ordered (Flow j) ∙ ap (map pair_of) is))) in
+    let none : held_on (hands_of a.flows) j ≡ [] → held_of (Flow j) (held_in a.own a.order) ≡ [] =
+    λ is. none_left (held_of (Flow j) (held_in a.own a.order)) (omega (arith, length-map (held_of (Flow j) (held_in a.own a.order)) pair_in, ap length (a.ordered (Flow j) ∙ ap (map pair_of) is))) in
     entry_open a.flows.links.items (hands_of a.flows).view j (stint_in (hands_of a.flows) j) (a.flows.are.each j) (λ is. some (none is))

@@ -4,6 +4,7 @@ pub mod Unanswered
 pub mod Turns
 pub mod Calls
 pub mod Orders
+pub mod HeldIn
 pub mod Oldest
 pub mod Submitted
 pub mod Taken

@@ -1,19 +1,14 @@
 -- Deliveries that came into an array behind others are noted in their order.
-use Rattle.std.proofs.Common.{◌≡◌, ℕ, ◌+◌, ◌-◌, ◌≤◌, min, List, [], ◌++◌, length, map, drop, ap, ◌∙◌, arith}
+use Rattle.std.proofs.Common.{◌≡◌, ℕ, ◌+◌, ◌-◌, ◌≤◌, min, List, [], ◌++◌, length, drop, ap, ◌∙◌, arith}
 use Rattle.std.proofs.Math.Seq.{drop-append_seam}
 use Rattle.std.proofs.lemmas.List.{length-append}
 use Rattle.evt_types.specs.declared.event.Delivery.{Delivery}
 use Rattle.event_ports.specs.declared.lane.Holding.{Holding}
-use Rattle.event_ports.specs.declared.lane.Lane.{Lane}
-use Rattle.event_ports.specs.Lanes.{HasRoomFor, holding_of}
+use Rattle.event_ports.specs.Lanes.{HasRoomFor}
 
 -- what stands behind the others
-behind : (from : ℕ) (old new came : List Delivery) → new ≡ old ++ came → from ≡ length old → drop from new ≡ came
+pub behind : (from : ℕ) (old new came : List Delivery) → new ≡ old ++ came → from ≡ length old → drop from new ≡ came
 behind from old new came array is = ap (drop from) array ∙ (ap (λ n. drop n (old ++ came)) is ∙ drop-append_seam old came)
-
-pub noted_are : (lane : Lane) (from : ℕ) (old new came : List Delivery) (before after : List Holding) → new ≡ old ++ came → from ≡ length old
-    → after ≡ before ++ map (holding_of lane) (drop from new) → after ≡ before ++ map (holding_of lane) came
-noted_are lane from old new came before after array is noted = noted ∙ ap (λ ds. before ++ map (holding_of lane) ds) (behind from old new came array is)
 
 -- there is room to note them
 pub note_fits : (most depth : ℕ) (holding : List Holding) (old new came : List Delivery) → HasRoomFor most depth holding old → new ≡ old ++ came → length new ≤ most

@@ -69,7 +69,7 @@ noted_here lane l (d ∷ ds) e =
     by_lane lane l (λ t. cond t (holding_of lane d ∷ rest) rest ≡ holding_of lane d ∷ map (holding_of lane) ds)
     (λ _. ap (λ (r : List Holding). holding_of lane d ∷ r) (noted_here lane l ds e)) (λ ne. absurd (ne e))
 
-noted_elsewhere : (lane l : Lane) (ds : List Delivery) → lane ≢ l → held_of l (map (holding_of lane) ds) ≡ []
+pub noted_elsewhere : (lane l : Lane) (ds : List Delivery) → lane ≢ l → held_of l (map (holding_of lane) ds) ≡ []
 noted_elsewhere lane l [] ne = refl
 noted_elsewhere lane l (d ∷ ds) ne =
     let rest : List Holding = held_of l (map (holding_of lane) ds) in

@@ -26,12 +26,13 @@ use Rattle.event_ports.specs.declared.lane.Lane.TheVariants.{Own, Flow}
 use Rattle.event_ports.specs.declared.lanes.Lanes.{Lanes}
 use Rattle.event_ports.specs.Flows.{flow_site, hands_of}
 use Rattle.event_ports.specs.Holds.{answered_on, received_on}
-use Rattle.event_ports.specs.HeldRings.{holds}
+use Rattle.event_ports.specs.HeldRings.{Held, holds}
 use Rattle.event_ports.specs.Handed.{AnswersRow, CountsNone, CountsOne, LanesSite, hand_of, mores_of, news_of, releases_of}
-use Rattle.event_ports.specs.Lanes.{SubmitsTo, first_lane, held_of, lane_for, open_on, pair_in, reply_of, same_lane}
+use Rattle.event_ports.specs.Lanes.{SubmitsTo, first_lane, held_in, held_of, lane_for, open_on, pair_in, reply_of, same_lane}
 use Rattle.event_ports.specs.Desks.{DeskSite, own_site, account_of, hand, pocket_of, Enqueues, EnqueuesAll, Pays}
 use Rattle.event_ports.specs.Queues.{NamesQueue}
 use Rattle.event_ports.proofs.Adding.{counts_forward, counts_own, counts_same, paid_release, paid_same}
+use Rattle.event_ports.proofs.HeldIn.{held_dropped}
 use Rattle.event_ports.proofs.Orders.{Notes, answered_first, by_lane, each_lane, first_open, lane_same, own_flow}
 use Rattle.event_ports.proofs.Refusals.{one_answer}
 use Rattle.event_ports.proofs.Refusing.{forward_alone, not_release}
@@ -97,25 +98,27 @@ some_there (x ∷ xs) some = omega arith
 
 -- ---- the lanes after one answer
 
-lanes_step : (a : Lanes) (e : Event) → is_answer (reply_of e) ≡ true → first_lane a.order.items ≡ Some Own → 0 < room_left a.own
+lanes_step : (a : Lanes) (e : Event) → is_answer (reply_of e) ≡ true → first_lane (hand_of a).holding ≡ Some Own → 0 < room_left a.own
     → (b : Lanes) × AnswersRow (e ∷ []) a b × (room_left b.own + 1 ≡ room_left a.own)
 lanes_step a e ends first room =
     let before : Lane → List Delivery = open_on a.own (hands_of a.flows) in
-    let s = answer_step a.own e ends (some_there (unanswered a.own) (first_open a.order.items Own before first a.ordered)) room in
+    let s = answer_step a.own e ends (some_there (unanswered a.own) (first_open (hand_of a).holding Own before first a.ordered)) room in
     let after : Lane → List Delivery = open_on s.0 (hands_of a.flows) in
-    let others : (l : Lane) → l ≢ Own → after l ≡ before l = each_lane (λ l. l ≢ Own → after l ≡ before l) (λ ne. absurd (ne refl)) (λ j ne. refl) in (
+    let others : (l : Lane) → l ≢ Own → after l ≡ before l = each_lane (λ l. l ≢ Own → after l ≡ before l) (λ ne. absurd (ne refl)) (λ j ne. refl) in
+    let rest : Held = holds (drop 1 a.order.items) a.order.capacity a.order.notes in
+    let left : held_in s.0 rest ≡ drop 1 (hand_of a).holding = held_dropped 1 a.own s.0 a.order rest s.4 refl (λ _. refl) in (
       record {
         own = s.0;
         flows = a.flows;
-        order = holds (drop 1 a.order.items) a.order.capacity;
+        order = rest;
         depth = (a.depth.0 ∙ sym (ap (λ (i : LaneId). i.depth) s.1), a.depth.1);
-        ordered = answered_first a.order.items Own before after first s.4 others a.ordered;
+        ordered = subst (λ (xs : List Holding). Notes xs after) (sym left) (answered_first (hand_of a).holding Own before after first s.4 others a.ordered);
         gave_back = a.gave_back;
         no_new = a.no_new;
         added = a.added;
         idle = a.idle;
       },
-      record { site = (λ i. record { own = s.1 i; flows = flow_site a.flows; depth = a.order.capacity }); flows = refl; got = s.2; said = s.3; holding = refl },
+      record { site = (λ i. record { own = s.1 i; flows = flow_site a.flows; depth = a.order.capacity }); flows = refl; got = s.2; said = s.3; holding = left },
       s.5,
     )
 
@@ -249,7 +252,7 @@ rest_row e es p m q s r = record {
     flows = r.lanes.flows ∙ sym s.lanes.flows;
     got = r.lanes.got ∙ sym s.lanes.got;
     said = r.lanes.said ∙ sym (append_assoc (answered p.lanes.own) (reply_of e ∷ []) (map reply_of es)) ∙ ap (λ rs. rs ++ map reply_of es) (sym s.lanes.said);
-    holding = r.lanes.holding ∙ grind (arith, common_steps, drop-drop (length es) 1 p.lanes.order.items) ∙ ap (drop (length es)) (sym s.lanes.holding);
+    holding = r.lanes.holding ∙ grind (arith, common_steps, drop-drop (length es) 1 (hand p).holding) ∙ ap (drop (length es)) (sym s.lanes.holding);
   };
 }
 
@@ -302,7 +305,7 @@ row_then e es p m q s r = record {
     flows = r.lanes.flows ∙ s.lanes.flows;
     got = r.lanes.got ∙ s.lanes.got;
     said = r.lanes.said ∙ ap (λ rs. rs ++ map reply_of es) s.lanes.said ∙ append_assoc (answered p.lanes.own) (reply_of e ∷ []) (map reply_of es);
-    holding = r.lanes.holding ∙ ap (drop (length es)) s.lanes.holding ∙ grind (arith, common_steps, drop-drop (length es) 1 p.lanes.order.items);
+    holding = r.lanes.holding ∙ ap (drop (length es)) s.lanes.holding ∙ grind (arith, common_steps, drop-drop (length es) 1 (hand p).holding);
   };
 }
 

@@ -3,7 +3,7 @@ use Rattle.std.proofs.Common.{◌≡◌, ◌≢◌, ◌<◌, ◌≤◌, ℕ, tru
 use Rattle.std.proofs.lemmas.List.{drop_all}
 use Rattle.std.proofs.lemmas.List.Sums.{sum_by-cons}
 use Rattle.evt_types.specs.Additions.{extras_of}
-use Rattle.evt_types.specs.Operation.{is_answer, is_answer_op, is_more_op, is_more_reply}
+use Rattle.evt_types.specs.Operation.{is_answer, is_answer_op, is_more_op, is_more_reply, is_new_op, is_new_reply}
 use Rattle.evt_types.specs.declared.event.Op.{Op}
 use Rattle.evt_types.specs.declared.event.Op.TheVariants as ops
 use Rattle.evt_types.specs.declared.event.Reply.{Reply}
@@ -42,6 +42,16 @@ no_answer_op ops.ForwardMore e = omega arith
 
 pub no_answer : (r : Reply) → is_more_reply r ≡ true → answers_among (r ∷ []) ≡ 0
 no_answer r e = omega (arith, sum_by-cons (λ (x : Reply). cond (is_answer x) 1 0) r [], no_answer_op r.event.op e)
+
+-- and so does a NEW
+no_answer_new : (o : Op) → is_new_op o ≡ true → count (is_answer_op o) ≡ 0
+no_answer_new ops.New e = omega arith
+no_answer_new ops.Forward e = absurd (cc)
+no_answer_new ops.Release e = absurd (cc)
+no_answer_new ops.ForwardMore e = absurd (cc)
+
+pub new_answers_none : (r : Reply) → is_new_reply r ≡ true → answers_among (r ∷ []) ≡ 0
+new_answers_none r e = omega (arith, sum_by-cons (λ (x : Reply). cond (is_answer x) 1 0) r [], no_answer_new r.event.op e)
 
 pub not_both : (r : Reply) → is_answer r ≡ true → is_more_reply r ≡ true → ⊥
 not_both r answers more = absurd (omega (arith, one_answer r answers, no_answer r more))

@@ -1,5 +1,5 @@
 -- What stands in the ring: before and after something is put behind the last, and before and after the first is taken.
-use Rattle.std.proofs.Common.{◌≡◌, ℕ, ◌+◌, ◌-◌, ◌%◌, ◌<◌, ◌≤◌, List, [], ◌∷◌, ◌++◌, length, map, drop, get_or, set, slice_get, Some, sym, ap, ◌∙◌, mod-eq_of_lt, arith}
+use Rattle.std.proofs.Common.{◌≡◌, ℕ, ◌+◌, ◌-◌, ◌%◌, ◌<◌, ◌≤◌, Bool, true, false, List, [], ◌∷◌, ◌++◌, length, map, drop, get_or, set, slice_get, Some, sym, ap, ◌∙◌, mod-eq_of_lt, arith}
 use Rattle.std.proofs.lemmas.List.{append_assoc, drop_more}
 use Rattle.std.proofs.lemmas.Option.{slice_get_read}
 use Rattle.evt_types.specs.declared.event.Delivery.{Delivery}
@@ -23,6 +23,11 @@ window_first size k n xs within fits length_xs d some =
 
 -- ---- the ring of a port
 
+-- it notes what comes, or it doesn't
+pub flag_clash : (b : Bool) → b ≡ false → b ≡ true → ⊥
+flag_clash true is_false is_true = absurd (cc)
+flag_clash false is_false is_true = absurd (cc)
+
 -- one delivery more is noted
 pub one_noted : (first len position : ℕ) (lane : Lane) (places : List Holding) (ds : List Delivery) (d : Delivery) → length places ≡ 64 → first < 64 → len < 64 → position < length ds → d ≡ get_or ds position d
     → window first (len + 1) (set places ((first + len) % 64) (holding_of lane d)) ++ map (holding_of lane) (drop (position + 1) ds) ≡ window first len places ++ map (holding_of lane) (drop position ds)
@@ -38,13 +43,13 @@ module _ (a : Inside) (ring : IsRing a) where
   pub length_held : length (in_ring a) ≡ a.len
   length_held = length-window 64 a.first a.len a.places.items ring.first all_fit ring.places
 
-  pub holds_some : (v : Held) → holds (in_ring a) a.capacity ≡ v → 0 < length v.items → 0 < a.len
+  pub holds_some : (v : Held) → holds (in_ring a) a.capacity a.notes ≡ v → 0 < length v.items → 0 < a.len
   holds_some v is some = omega (arith, some, length_held, ap (λ (v : Held). length v.items) is)
 
-  pub has_room : (v : Held) (n : ℕ) → holds (in_ring a) a.capacity ≡ v → length v.items + n ≤ v.capacity → a.len + n ≤ a.capacity
+  pub has_room : (v : Held) (n : ℕ) → holds (in_ring a) a.capacity a.notes ≡ v → length v.items + n ≤ v.capacity → a.len + n ≤ a.capacity
   has_room v n is room = omega (arith, room, length_held, ap (λ (v : Held). length v.items) is, ap (λ (v : Held). v.capacity) is)
 
-  pub held_within : (v : Held) (n : ℕ) → holds (in_ring a) a.capacity ≡ v → n ≤ length v.items → n ≤ a.len
+  pub held_within : (v : Held) (n : ℕ) → holds (in_ring a) a.capacity a.notes ≡ v → n ≤ length v.items → n ≤ a.len
   held_within v n is within = omega (arith, within, length_held, ap (λ (v : Held). length v.items) is)
 
   -- the one behind so many

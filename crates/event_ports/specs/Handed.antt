@@ -16,7 +16,7 @@ use Rattle.event_ports.specs.declared.lane.Lane.TheVariants.{Own, Flow}
 use Rattle.event_ports.specs.declared.lanes.Lanes.{Lanes}
 use Rattle.event_ports.specs.Flows.{FlowSite, flow_site, hands_of}
 use Rattle.event_ports.specs.Holds.{Hands, NoneHidden}
-use Rattle.event_ports.specs.Lanes.{Hand, said_on, got_on, counted, reply_of, IsFilledAt, RefusesFirst}
+use Rattle.event_ports.specs.Lanes.{Hand, held_in, said_on, got_on, counted, reply_of, IsFilledAt, RefusesFirst}
 
 -- what never changes of a port's lanes: the own one, the flow lanes, and how much may be held
 pub record LanesSite : Type 0 where
@@ -36,7 +36,7 @@ abbrev pub flow_count : LanesSite → ℕ
 flow_count p = length (lanes_of p.flows.claims)
 
 abbrev pub hand_of : Lanes → Hand
-hand_of a = record { said = said_on a.own (hands_of a.flows); got = got_on a.own (hands_of a.flows); holding = a.order.items }
+hand_of a = record { said = said_on a.own (hands_of a.flows); got = got_on a.own (hands_of a.flows); holding = held_in a.own a.order }
 
 -- what the port's claim seat knows
 abbrev pub seating_of : Lanes → Seating
@@ -91,7 +91,7 @@ pub record AnswersRow (es : List Event) (a b : Lanes) : Type 0 where
   pub flows : b.flows ≡ a.flows
   pub got : received_by b.own ≡ received_by a.own
   pub said : answered b.own ≡ answered a.own ++ map reply_of es
-  pub holding : b.order.items ≡ drop (length es) a.order.items
+  pub holding : (hand_of b).holding ≡ drop (length es) (hand_of a).holding
 
 -- as many replies were given to the lane as its reply ring has room for
 abbrev pub IsFilled : Lanes → Option Lane → Type 0

@@ -1,5 +1,5 @@
 -- What a port received, answered and holds: lane by lane, and in the order in which it dequeued.
-use Rattle.std.specs.Prelude.{◌≡◌, ◌≢◌, ℕ, ◌+◌, ◌<◌, ◌≤◌, ◌==◌, Bool, true, false, List, [], ◌∷◌, ◌++◌, length, map, filter, take, drop, Option, All, count_by, sum_by}
+use Rattle.std.specs.Prelude.{◌≡◌, ◌≢◌, ℕ, ◌+◌, ◌<◌, ◌≤◌, ◌==◌, Bool, true, false, if◌then◌else◌, List, [], ◌∷◌, ◌++◌, length, map, filter, take, drop, Option, All, count_by, sum_by}
 use Rattle.std.specs.Prelude.Option.{Some, None}
 use Rattle.std.specs.List.{range_with_len}
 use Rattle.lists.specs.Lists.{has}
@@ -23,6 +23,7 @@ use Rattle.flow_claims.specs.declared.seating.Past.{Past}
 use Rattle.event_ports.specs.declared.lane.Lane.{Lane}
 use Rattle.event_ports.specs.declared.lane.Lane.TheVariants.{Own, Flow}
 use Rattle.event_ports.specs.declared.lane.Holding.{Holding}
+use Rattle.event_ports.specs.HeldRings.{Held}
 use Rattle.event_ports.specs.Holds.{Hands, stint_in, IsFilledBy, received_past, answered_past, left_past, surrendered_past, received_on, answered_on, held_on}
 
 -- the reply of a release of the port's own making
@@ -67,6 +68,10 @@ said_on own h (Flow j) = answered_on h j
 abbrev pub open_on : Far → Hands → Lane → List Delivery
 open_on own h Own = unanswered own
 open_on own h (Flow j) = held_on h j
+
+-- What is held, oldest first: what was noted. A port that notes nothing holds what is unanswered of its own lane.
+abbrev pub held_in : Far → Held → List Holding
+held_in own h = if h.notes then h.items else map (holding_of Own) (unanswered own)
 
 -- what is noted of each lane is what is unanswered of it, in order
 abbrev pub AreOrdered : Far → Hands → List Holding → Type 0

@@ -3,7 +3,7 @@
 ghost use Rattle.std.specs.Prelude.{◌≡◌, ◌≤◌};
 ghost use Rattle.lane_rings.specs.Identity.{far_id};
 ghost use Rattle.event_ports.specs.Holds.{AddedAll, AreIdle, HaveNoNew, GaveBack};
-ghost use Rattle.event_ports.specs.Lanes.{AreOrdered};
+ghost use Rattle.event_ports.specs.Lanes.{AreOrdered, held_in};
 ghost use Rattle.event_ports.specs.Flows.{hands_of};
 
 use crate::flows::FlowLanes;
@@ -14,14 +14,14 @@ use flow_claims::ClaimSeat;
 use lane_rings::{Deliveries, Far, Refusal};
 
 /// The lanes of a port: its own one, and the flow lanes. What was received and isn't answered is noted in the order of the
-/// dequeues; between two calls no flow lane is held of which nothing is unanswered.
+/// dequeues, where there are flow lanes; between two calls no flow lane is held of which nothing is unanswered.
 #[derive(Drop)]
 pub(crate) struct Lanes {
     own: Far,
     flows: FlowLanes,
     order: HeldRing,
     ghost depth: { (order.capacity ≡ (far_id own).depth) × (order.capacity ≤ 64) },
-    ghost ordered: { AreOrdered own (hands_of flows) order.items },
+    ghost ordered: { AreOrdered own (hands_of flows) (held_in own order) },
     ghost gave_back: { GaveBack (hands_of flows) },
     ghost no_new: { HaveNoNew (hands_of flows) },
     ghost added: { AddedAll (hands_of flows) },
@@ -62,10 +62,14 @@ impl Lanes {
     }
 
     /// How many deliveries are held.
+    #[inline(always)]
     pub(crate) fn held(&self) -> usize
         ensures value { result ≡ length (hand_of self.now).holding }
         ensures within { result ≤ (lanes_site self.now).depth }
     {
+        if !self.order.notes() {
+            return self.own.held();
+        }
         self.order.len()
     }
 
@@ -73,6 +77,12 @@ impl Lanes {
     fn first(&self) -> Option<Lane>
         ensures { result ≡ first_lane (hand_of self.now).holding }
     {
+        if !self.order.notes() {
+            if self.own.held() == 0 {
+                return None;
+            }
+            return Some(Lane::Own);
+        }
         let oldest = self.order.front()?;
         Some(oldest.lane)
     }
@@ -159,14 +169,14 @@ impl Lanes {
         match lane {
             Lane::Own => match self.own.stage(event) {
                 Ok(()) => {
-                    self.order.drop_front();
+                    self.order.drop_row(1);
                     Ok(())
                 }
                 Err(fault) => Err(fault),
             },
             Lane::Flow(lane) => match self.flows.answer_oldest(lane, event) {
                 Ok(()) => {
-                    self.order.drop_front();
+                    self.order.drop_row(1);
                     Ok(())
                 }
                 Err(fault) => Err(fault),
@@ -182,7 +192,7 @@ impl Lanes {
         ensures held { result ≤ length (hand_of self.now).holding }
         ensures room { result ≤ room_left self.now.own }
     {
-        let held = self.order.len();
+        let held = self.held();
         if self.own.held() < held {
             return 0;
         }
@@ -218,7 +228,7 @@ impl Lanes {
         ensures own_first { OwnFirst self.old self.new into.new.items }
         ensures shown { AllShown self.old → AllShown self.new }
     {
-        let most = max.min(self.order.capacity() - self.order.len());
+        let most = max.min(self.order.capacity() - self.held());
         self.own.receive_some(most, into);
         self.order.note(Lane::Own, 0, into);
         self.receive_flows(most, into);
@@ -251,7 +261,12 @@ impl Lanes {
         ensures counted { AreOf (flow_count (lanes_site self)) (hand_of self).holding }
         ensures ordered { map pair_in (held_of lanes.Own (hand_of self).holding) ≡ held_list result.0 }
     {
-        let Lanes { own, flows, order } = self;
+        let Lanes {
+            own,
+            flows,
+            mut order,
+        } = self;
+        order.note_held(&own);
         (own, flows.into_seat(), order)
     }
 
@@ -270,6 +285,10 @@ impl Lanes {
         ensures others { seen_own self.new ≡ seen_own self.old }
         ensures shown { AllShown self.old → AllShown self.new }
     {
+        // A port that notes nothing has no flow lanes.
+        if !self.order.notes() {
+            return;
+        }
         let mut worthy = self.flows.worth_a_look();
         let count = self.flows.link_count();
         let wanted = most.saturating_sub(into.len());
@@ -286,8 +305,10 @@ impl Lanes {
     // Receives from a flow lane to which the port is linked, until `most` deliveries came in all, or none is seen. The lane is held by
     // one try, where it isn't held already, and is given back where nothing of it is unanswered.
     fn receive_flow(&mut self, lane: usize, most: usize, into: &mut Deliveries)
+        requires notes { self.old.order.notes ≡ true }
         requires readable { IsReadable (lanes_site self.old) (lanes.Flow lane) }
         requires room { HasRoomFor most (lanes_site self.old).depth (hand_of self.old).holding into.old.items }
+        ensures notes { self.new.order.notes ≡ self.old.order.notes }
         ensures site { lanes_site self.new ≡ lanes_site self.old }
         ensures linked { linked_of self.new.flows ≡ linked_of self.old.flows }
         ensures other_lanes { (j : ℕ) → j ≢ lane → stint_in (flow_hands self.new) j ≡ stint_in (flow_hands self.old) j }

@@ -72,7 +72,7 @@ impl Port {
         let Ok(stints) = free_entries(alloc, parts.flows) else {
             return Err((AllocError, parts));
         };
-        let Ok(order) = HeldRing::new(alloc, parts.depth) else {
+        let Ok(order) = HeldRing::new(alloc, parts.depth, !parts.links.is_empty()) else {
             return Err((AllocError, parts));
         };
         let Parts {

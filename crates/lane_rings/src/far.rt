@@ -381,6 +381,13 @@ impl Far {
         self.held.get(0)
     }
 
+    /// The same of the delivery that so many older ones stand before; `None` where no more are held.
+    pub fn held_at(&self, position: usize) -> Option<(usize, u64)>
+        ensures { result ≡ slice_get (held_list self.now) position }
+    {
+        self.held.get(position)
+    }
+
     /// How many events were added beside the oldest delivery that is held: the FORWARD_MOREs since the last FORWARD or RELEASE.
     /// Each was given while something was held, and with fewer than `MAX_EXTRAS` beside it.
     pub fn extras(&self) -> usize

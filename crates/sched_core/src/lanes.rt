@@ -2,6 +2,7 @@
 
 ghost use Rattle.std.specs.Prelude.{◌≡◌, ℕ, ◌<◌, ◌↔◌, true, IsTrue, length, IfSome, IfNone};
 ghost use Rattle.transcripts.specs.Choice.{HasNoOther, IsBetterLane};
+ghost use Rattle.transcripts.specs.Standing.{unanswered_at};
 ghost use Rattle.evt_types.specs.Plan.{has_flow_lanes, lanes_of, queue_of, is_atomic, serves};
 ghost use Rattle.small_set.specs.SmallSets.{Has};
 ghost use Rattle.sched_core.specs.Offered.{AreOpenLanes, FitsSlot, HasAllowed, HasPlace, MayHold, better_of};
@@ -11,6 +12,13 @@ use crate::slot_lanes::SLOTS;
 use crate::state::Core;
 use evt_types::Serving;
 use small_set::{MAX_MEMBERS, SmallSet};
+
+/// A lane, and how many of its events are unanswered.
+#[derive(Clone, Copy)]
+struct Load {
+    lane: usize,
+    events: usize,
+}
 
 impl Core {
     /// The ports' lanes that serve the queue, have room and aren't passed over.
@@ -109,11 +117,12 @@ impl Core {
         ensures none { IfNone result ((l : ℕ) → ¬ Has lanes l) }
     {
         let mut left = lanes;
-        let mut best = left.pop()?;
+        let first = left.pop()?;
+        let mut best = self.load(first);
         while let Some(lane) = left.pop() {
             best = self.better_lane(best, lane);
         }
-        Some(best)
+        Some(best.lane)
     }
 
     /// The slot's flow lane, where it may take an event.
@@ -154,16 +163,28 @@ impl Core {
         self.pins.may(queue, slot, lane)
     }
 
-    /// The one with fewer unanswered events, of both the first.
-    fn better_lane(&self, best: usize, lane: usize) -> usize
-        requires lane { lane < lanes_of self.now.shape }
-        requires best { best < lanes_of self.now.shape }
-        ensures { result ≡ better_of self.now best lane }
+    /// How many events of the lane are unanswered.
+    fn load(&self, lane: usize) -> Load
+        requires { lane < lanes_of self.now.shape }
+        ensures lane { result.lane ≡ lane }
+        ensures events { result.events ≡ length (unanswered_at self.now result.lane) }
     {
-        if self.lanes.len(best) <= self.lanes.len(lane) {
+        let events = self.lanes.len(lane);
+        Load { lane, events }
+    }
+
+    /// The one with fewer unanswered events, of both the first.
+    fn better_lane(&self, best: Load, lane: usize) -> Load
+        requires lane { lane < lanes_of self.now.shape }
+        requires events { best.events ≡ length (unanswered_at self.now best.lane) }
+        ensures lane { result.lane ≡ better_of self.now best.lane lane }
+        ensures events { result.events ≡ length (unanswered_at self.now result.lane) }
+    {
+        let other = self.load(lane);
+        if best.events <= other.events {
             best
         } else {
-            lane
+            other
         }
     }
 }

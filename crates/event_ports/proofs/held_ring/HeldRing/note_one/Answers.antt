@@ -1,22 +1,7 @@
-use Rattle.std.proofs.Common.{◌<◌, ◌++◌, ◌∷◌, [], length-set, ap, ◌∙◌, arith}
-use Rattle.event_ports.specs.HeldRings.{Held}
-use Rattle.event_ports.specs.Lanes.{holding_of}
-use Rattle.lists.proofs.Windows.{window_pushed}
-use Rattle.event_ports.proofs.Rings.{has_room}
+use Rattle.std.proofs.Common.{◌++◌, ◌∷◌, [], ap, ◌∙◌}
+use Rattle.event_ports.specs.declared.lane.Holding.{Holding}
 use Rattle.event_ports.proofs.held_ring.HeldRing.note_one.Goals as goal
-
-pub invariant_of-self : goal.invariant_of-self
-invariant_of-self c =
-    record {
-      places = length-set c.self.inside.places.items _ _ ∙ c.self.invariant.places;
-      first = c.self.invariant.first;
-      few = has_room c.self.inside c.self.invariant c.args.self.now 1 c.self.view_is c.requires;
-      room = c.self.invariant.room;
-    }
 
 pub returns-clause-noted : goal.returns-clause-noted
 returns-clause-noted c =
-    let room : c.self.inside.len < 64 = omega (arith, has_room c.self.inside c.self.invariant c.args.self.now 1 c.self.view_is c.requires, c.self.invariant.room) in
-    rw (c.queue.ensures, c.number.ensures)
-    (window_pushed 64 c.self.inside.first c.self.inside.len c.self.inside.places.items c.self.invariant.first (omega (arith, room)) c.self.invariant.places (holding_of c.args.lane c.args.delivery.now) room
-    ∙ ap (λ (v : Held). v.items ++ holding_of c.args.lane c.args.delivery.now ∷ []) c.self.view_is)
+    c.push.ensures.noted ∙ ap (λ (h : Holding). c.args.self.now.items ++ h ∷ []) (λ i. record { lane = c.args.lane; queue = c.queue.ensures i; number = c.number.ensures i })

@@ -9,26 +9,27 @@ use Rattle.event_ports.specs.declared.lane.Lane.{Lane}
 use Rattle.event_ports.specs.declared.lane.Lane.TheVariants.{Own, Flow}
 use Rattle.event_ports.specs.Flows.{hands_of}
 use Rattle.event_ports.specs.Handed.{LanesSite, hand_of, links_of}
-use Rattle.event_ports.specs.Lanes.{ArrivesFrom, Hand, HasRoomFor, got_on, lanes_read, open_on, said_on}
+use Rattle.event_ports.specs.Lanes.{ArrivesFrom, Hand, HasRoomFor, got_on, held_in, lanes_read, open_on, said_on}
 use Rattle.event_ports.proofs.Adding.{counts_same, counts_then}
 use Rattle.event_ports.proofs.Arrivals.{arrives, arrives_more, arrives_grows, arrives_length, arrives_some, flows_after, own_only, room_less}
-use Rattle.event_ports.proofs.Noting.{noted_are, note_fits, room_first}
+use Rattle.event_ports.proofs.HeldIn.{came_own, held_noted}
+use Rattle.event_ports.proofs.Noting.{note_fits, room_first}
 use Rattle.event_ports.proofs.Orders.{Notes, each_lane, open_within, received_last}
 use Rattle.event_ports.proofs.lanes.Lanes.receive_all.Goals as goal
 use Rattle.event_ports.proofs.lanes.Lanes.receive_all.Goals.{After-receive_flows}
 
 pub receive_some-requires : goal.receive_some-requires
 receive_some-requires c =
-    (room_first c.args.max c.min-most.result _ c.args.self.now.order.capacity c.args.self.now.order.items c.args.into.now.items c.min-most.ensures (omega (arith, c.capacity.ensures.capacity, c.len.ensures.len))
-    (omega (arith, c.capacity.ensures.capacity, c.capacity.ensures.within.0)) c.args.self.now.depth.1 c.requires).small
+    (room_first c.args.max c.min-most.result _ c.args.self.now.order.capacity (held_in c.args.self.now.own c.args.self.now.order) c.args.into.now.items c.min-most.ensures (omega (arith, c.capacity.ensures.capacity, c.held.ensures.value))
+    (omega (arith, c.capacity.ensures.capacity, c.held.ensures.within)) c.args.self.now.depth.1 c.requires).small
 
 pub note-requires-clause-room : goal.note-requires-clause-room
-note-requires-clause-room c =
+note-requires-clause-room c noted =
     let came = c.receive_some.ensures.came in
-    let room = room_first c.args.max c.min-most.result _ c.args.self.now.order.capacity c.args.self.now.order.items c.args.into.now.items c.min-most.ensures (omega (arith, c.capacity.ensures.capacity, c.len.ensures.len))
-    (omega (arith, c.capacity.ensures.capacity, c.capacity.ensures.within.0)) c.args.self.now.depth.1 c.requires in
+    let room = room_first c.args.max c.min-most.result _ c.args.self.now.order.capacity (held_in c.args.self.now.own c.args.self.now.order) c.args.into.now.items c.min-most.ensures (omega (arith, c.capacity.ensures.capacity, c.held.ensures.value))
+    (omega (arith, c.capacity.ensures.capacity, c.held.ensures.within)) c.args.self.now.depth.1 c.requires in
     note_fits c.min-most.result _ _ c.args.into.now.items c.receive_some.new.into.items came.came room came.array (c.receive_some.ensures.few room.few)
-    c.args.self.now.order.items c.args.self.now.order.capacity 0 refl refl (ap length (sym c.requires))
+    c.args.self.now.order.items c.args.self.now.order.capacity 0 (sym (held_noted c.args.self.now.own c.args.self.now.order noted)) refl (ap length (sym c.requires))
 
 pub invariant_of-self-clause-ordered : goal.invariant_of-self-clause-ordered
 invariant_of-self-clause-ordered c =
@@ -37,21 +38,21 @@ invariant_of-self-clause-ordered c =
     let after : Lane → List Delivery = open_on c.receive_some.new.self (hands_of c.args.self.now.flows) in
     let others : (l : Lane) → l ≢ Own → after l ≡ before l = each_lane (λ l. l ≢ Own → after l ≡ before l) (λ ne. absurd (ne refl)) (λ j ne. refl) in
     let To : List Holding → Type 0 = λ xs. Notes xs after in
-    subst To (sym (noted_are Own 0 c.args.into.now.items c.receive_some.new.into.items came.came c.args.self.now.order.items c.note.new.self.items came.array (ap length (sym c.requires)) c.note.ensures.noted))
-    (received_last c.args.self.now.order.items Own came.came before after came.held others c.args.self.now.ordered)
+    subst To (sym (came_own c.args.self.now.own c.receive_some.new.self c.args.self.now.order c.note.new.self c.args.into.now.items c.receive_some.new.into.items came.came c.requires came.array came.held c.note.ensures.notes c.note.ensures.noted))
+    (received_last (held_in c.args.self.now.own c.args.self.now.order) Own came.came before after came.held others c.args.self.now.ordered)
 
 pub receive_flows-requires : goal.receive_flows-requires
 receive_flows-requires c =
     let came = c.receive_some.ensures.came in
-    let room = room_first c.args.max c.min-most.result _ c.args.self.now.order.capacity c.args.self.now.order.items c.args.into.now.items c.min-most.ensures (omega (arith, c.capacity.ensures.capacity, c.len.ensures.len))
-    (omega (arith, c.capacity.ensures.capacity, c.capacity.ensures.within.0)) c.args.self.now.depth.1 c.requires in
-    room_less c.min-most.result _ c.args.self.now.order.items c.note.new.self.items Own c.args.into.now.items c.receive_some.new.into.items came.came
-    (subst (λ n. HasRoomFor c.min-most.result n c.args.self.now.order.items c.args.into.now.items) (sym c.note.ensures.room) room) (c.receive_some.ensures.few room.few)
-    (noted_are Own 0 c.args.into.now.items c.receive_some.new.into.items came.came c.args.self.now.order.items c.note.new.self.items came.array (ap length (sym c.requires)) c.note.ensures.noted) came.array
+    let room = room_first c.args.max c.min-most.result _ c.args.self.now.order.capacity (held_in c.args.self.now.own c.args.self.now.order) c.args.into.now.items c.min-most.ensures (omega (arith, c.capacity.ensures.capacity, c.held.ensures.value))
+    (omega (arith, c.capacity.ensures.capacity, c.held.ensures.within)) c.args.self.now.depth.1 c.requires in
+    room_less c.min-most.result _ (held_in c.args.self.now.own c.args.self.now.order) (held_in c.receive_some.new.self c.note.new.self) Own c.args.into.now.items c.receive_some.new.into.items came.came
+    (subst (λ n. HasRoomFor c.min-most.result n (held_in c.args.self.now.own c.args.self.now.order) c.args.into.now.items) (sym c.note.ensures.room) room) (c.receive_some.ensures.few room.few)
+    (came_own c.args.self.now.own c.receive_some.new.self c.args.self.now.order c.note.new.self c.args.into.now.items c.receive_some.new.into.items came.came c.requires came.array came.held c.note.ensures.notes c.note.ensures.noted) came.array
 
 -- the port between the own lane and the flow lanes
 abbrev mid : After-receive_flows → Hand
-mid c = record { said = said_on c.receive_some.new.self (hands_of c.args.self.now.flows); got = got_on c.receive_some.new.self (hands_of c.args.self.now.flows); holding = c.note.new.self.items }
+mid c = record { said = said_on c.receive_some.new.self (hands_of c.args.self.now.flows); got = got_on c.receive_some.new.self (hands_of c.args.self.now.flows); holding = (held_in c.receive_some.new.self c.note.new.self) }
 
 -- what came from the own lane
 first : (c : After-receive_flows) → ArrivesFrom (Own ∷ []) (hand_of c.args.self.now) (mid c) [] c.receive_some.new.into.items
@@ -63,7 +64,7 @@ first c =
       said = each_lane (λ l. said_on c.receive_some.new.self (hands_of c.args.self.now.flows) l ≡ said_on c.args.self.now.own (hands_of c.args.self.now.flows) l) c.receive_some.ensures.answered.0 (λ j. refl);
       got_here = came.received;
       got = each_lane (λ l. l ≢ Own → got_on c.receive_some.new.self (hands_of c.args.self.now.flows) l ≡ got_on c.args.self.now.own (hands_of c.args.self.now.flows) l) (λ ne. absurd (ne refl)) (λ j ne. refl);
-      holding = noted_are Own 0 c.args.into.now.items c.receive_some.new.into.items came.came c.args.self.now.order.items c.note.new.self.items came.array (ap length (sym c.requires)) c.note.ensures.noted;
+      holding = came_own c.args.self.now.own c.receive_some.new.self c.args.self.now.order c.note.new.self c.args.into.now.items c.receive_some.new.into.items came.came c.requires came.array came.held c.note.ensures.notes c.note.ensures.noted;
     }) came.array)
 
 -- and then from the flow lanes
@@ -87,7 +88,7 @@ drained : (c : After-receive_flows) → length c.receive_some.new.into.items < c
 drained c few =
     let came = c.receive_some.ensures.came in
     let before : Lane → List Delivery = open_on c.args.self.now.own (hands_of c.args.self.now.flows) in
-    let within = open_within c.args.self.now.order.items Own before c.args.self.now.ordered in
+    let within = open_within (held_in c.args.self.now.own c.args.self.now.order) Own before c.args.self.now.ordered in
     c.receive_some.ensures.drained few
     (omega (
       arith,
@@ -95,7 +96,7 @@ drained c few =
       within,
       c.min-most.ensures,
       c.capacity.ensures.capacity,
-      c.len.ensures.len,
+      c.held.ensures.value,
       ap length c.requires,
       ap length came.held,
       length-append (unanswered c.args.self.now.own) came.came,
@@ -115,7 +116,7 @@ returns-clause-drained c few room =
       room,
       c.min-most.ensures,
       c.capacity.ensures.capacity,
-      c.len.ensures.len,
+      c.held.ensures.value,
       c.note.ensures.room,
       ap (λ (p : LanesSite). p.depth) c.receive_flows.ensures.site,
       arrives_length _ (hand_of c.args.self.now) (hand_of c.receive_flows.new.self) _ (both c),
@@ -132,4 +133,4 @@ returns-clause-own_first c =
 pub returns-clause-drained_flows : goal.returns-clause-drained_flows
 returns-clause-drained_flows c few room =
     c.receive_flows.ensures.drained
-    (omega (arith, few, room, c.min-most.ensures, c.capacity.ensures.capacity, c.len.ensures.len, c.note.ensures.room, ap (λ (p : LanesSite). p.depth) c.receive_flows.ensures.site, arrives_length _ (hand_of c.args.self.now) (hand_of c.receive_flows.new.self) _ (both c)))
+    (omega (arith, few, room, c.min-most.ensures, c.capacity.ensures.capacity, c.held.ensures.value, c.note.ensures.room, ap (λ (p : LanesSite). p.depth) c.receive_flows.ensures.site, arrives_length _ (hand_of c.args.self.now) (hand_of c.receive_flows.new.self) _ (both c)))

@@ -10,9 +10,10 @@ use Rattle.event_ports.specs.declared.lane.Lane.{Lane}
 use Rattle.event_ports.specs.declared.lane.Lane.TheVariants.{Own, Flow}
 use Rattle.event_ports.specs.Holds.{Gets, held_on}
 use Rattle.event_ports.specs.Flows.{FlowSite, hands_of}
-use Rattle.event_ports.specs.Lanes.{HasRoomFor, held_of, pair_in, said_on, got_on, open_on}
+use Rattle.event_ports.specs.Lanes.{HasRoomFor, held_in, held_of, pair_in, said_on, got_on, open_on}
 use Rattle.event_ports.proofs.Arrivals.{arrives_none, arrives_some, room_less}
-use Rattle.event_ports.proofs.Noting.{noted_are, note_fits}
+use Rattle.event_ports.proofs.HeldIn.{came_flow, held_noted}
+use Rattle.event_ports.proofs.Noting.{note_fits}
 use Rattle.event_ports.proofs.Orders.{Notes, each_lane, received_last}
 use Rattle.event_ports.proofs.Adding.{counts_same}
 use Rattle.event_ports.proofs.Calls.{added_received, gave_back, same_no_new, idle_received, idle_refused, gets_between, gets_no_answer}
@@ -22,10 +23,10 @@ use Rattle.event_ports.proofs.Looks.{free_drained}
 use Rattle.event_ports.proofs.lanes.Lanes.receive_flow.Goals as goal
 
 pub note-requires-clause-room : goal.note-requires-clause-room
-note-requires-clause-room c =
+note-requires-clause-room c noted =
     let came = c.receive_some.ensures.lists in
     note_fits c.args.most _ _ c.args.into.now.items c.receive_some.new.into.items came.came c.requires.room came.array c.receive_some.ensures.few
-    c.args.self.now.order.items c.args.self.now.order.capacity c.len-from.result refl refl c.len-from.ensures.len
+    c.args.self.now.order.items c.args.self.now.order.capacity c.len-from.result (sym (held_noted c.args.self.now.own c.args.self.now.order noted)) refl c.len-from.ensures.len
 
 pub invariant_of-self-2-clause-ordered : goal.invariant_of-self-2-clause-ordered
 invariant_of-self-2-clause-ordered c =
@@ -37,8 +38,8 @@ invariant_of-self-2-clause-ordered c =
     let others : (l : Lane) → l ≢ Flow c.args.lane → after l ≡ before l =
     each_lane (λ l. l ≢ Flow c.args.lane → after l ≡ before l) (λ ne. refl) (λ j ne. gets.others.held j (λ e. ne (ap Flow e))) in
     let To : List Holding → Type 0 = λ xs. Notes xs after in
-    subst To (sym (noted_are (Flow c.args.lane) c.len-from.result c.args.into.now.items c.receive_some.new.into.items came.came c.args.self.now.order.items c.note.new.self.items came.array c.len-from.ensures.len c.note.ensures.noted))
-    (received_last c.args.self.now.order.items (Flow c.args.lane) came.came before after gets.held others c.args.self.now.ordered)
+    subst To (sym (came_flow (Flow c.args.lane) c.args.self.now.own c.args.self.now.order c.note.new.self c.len-from.result c.args.into.now.items c.receive_some.new.into.items came.came c.requires.notes came.array c.len-from.ensures.len c.note.ensures.notes c.note.ensures.noted))
+    (received_last (held_in c.args.self.now.own c.args.self.now.order) (Flow c.args.lane) came.came before after gets.held others c.args.self.now.ordered)
 
 pub invariant_of-self-2-clause-gave_back : goal.invariant_of-self-2-clause-gave_back
 invariant_of-self-2-clause-gave_back c =
@@ -77,14 +78,14 @@ returns-clause-arrived c =
       said = each_lane (λ l. said_on c.args.self.now.own (hands_of c.leave_unless.new.self) l ≡ said_on c.args.self.now.own (hands_of c.args.self.now.flows) l) refl (λ j. gets_no_answer _ _ c.args.lane came.came gets j);
       got_here = gets.received;
       got = each_lane (λ l. l ≢ Flow c.args.lane → got_on c.args.self.now.own (hands_of c.leave_unless.new.self) l ≡ got_on c.args.self.now.own (hands_of c.args.self.now.flows) l) (λ ne. refl) (λ j ne. gets.others.received j (λ e. ne (ap Flow e)));
-      holding = noted_are (Flow c.args.lane) c.len-from.result c.args.into.now.items c.receive_some.new.into.items came.came c.args.self.now.order.items c.note.new.self.items came.array c.len-from.ensures.len c.note.ensures.noted;
+      holding = came_flow (Flow c.args.lane) c.args.self.now.own c.args.self.now.order c.note.new.self c.len-from.result c.args.into.now.items c.receive_some.new.into.items came.came c.requires.notes came.array c.len-from.ensures.len c.note.ensures.notes c.note.ensures.noted;
     }) came.array
 
 pub returns-clause-room : goal.returns-clause-room
 returns-clause-room c =
     let came = c.receive_some.ensures.lists in
-    room_less c.args.most _ c.args.self.now.order.items c.note.new.self.items (Flow c.args.lane) c.args.into.now.items c.receive_some.new.into.items came.came (subst (λ n. HasRoomFor c.args.most n c.args.self.now.order.items c.args.into.now.items) (sym c.note.ensures.room) c.requires.room) c.receive_some.ensures.few
-    (noted_are (Flow c.args.lane) c.len-from.result c.args.into.now.items c.receive_some.new.into.items came.came c.args.self.now.order.items c.note.new.self.items came.array c.len-from.ensures.len c.note.ensures.noted) came.array
+    room_less c.args.most _ (held_in c.args.self.now.own c.args.self.now.order) (held_in c.args.self.now.own c.note.new.self) (Flow c.args.lane) c.args.into.now.items c.receive_some.new.into.items came.came (subst (λ n. HasRoomFor c.args.most n (held_in c.args.self.now.own c.args.self.now.order) c.args.into.now.items) (sym c.note.ensures.room) c.requires.room) c.receive_some.ensures.few
+    (came_flow (Flow c.args.lane) c.args.self.now.own c.args.self.now.order c.note.new.self c.len-from.result c.args.into.now.items c.receive_some.new.into.items came.came c.requires.notes came.array c.len-from.ensures.len c.note.ensures.notes c.note.ensures.noted) came.array
 
 pub returns-then-len-most-clause-arrived : goal.returns-then-len-most-clause-arrived
 returns-then-len-most-clause-arrived c = arrives_none (Flow c.args.lane) _ _ c.args.into.now.items (record { said = λ l. refl; got = λ l. refl; holding = refl })
@@ -143,7 +144,7 @@ invariant_of-self c =
     let same = c.hold.ensures.same in
     record {
       depth = was.depth;
-      ordered = each_lane (λ l. map pair_in (held_of l was.order.items) ≡ map pair_of (open_on was.own after l)) (was.ordered Own) (λ j. was.ordered (Flow j) ∙ sym (ap (map pair_of) (same.held j)));
+      ordered = each_lane (λ l. map pair_in (held_of l (held_in was.own was.order)) ≡ map pair_of (open_on was.own after l)) (was.ordered Own) (λ j. was.ordered (Flow j) ∙ sym (ap (map pair_of) (same.held j)));
       gave_back = gave_back before after same.given_back was.gave_back;
       no_new = same_no_new before after same.answered_is was.no_new;
       added = added_same before after same was.added;
@@ -207,3 +208,6 @@ returns-clause-linked c = c.leave_unless.ensures.linked ∙ c.receive_some.ensur
 
 pub returns-clause-other_lanes : goal.returns-clause-other_lanes
 returns-clause-other_lanes c j ne = c.leave_unless.ensures.others j ne ∙ c.receive_some.ensures.others j ne ∙ c.hold.ensures.others j ne
+
+pub returns-clause-notes : goal.returns-clause-notes
+returns-clause-notes c = c.note.ensures.notes

@@ -9,7 +9,8 @@ use Rattle.event_ports.specs.Flows.{linked_of}
 use Rattle.lane_rings.specs.LaneSets.{Has}
 use Rattle.event_ports.proofs.Arrivals.{arrives_all, arrives_grows, arrives_more, arrives_past, none_read}
 use Rattle.event_ports.proofs.Claiming.{asks_same, claims_all, claims_more, claims_none, claims_past}
-use Rattle.event_ports.proofs.Looks.{get_within}
+use Rattle.event_ports.proofs.HeldIn.{no_stints}
+use Rattle.event_ports.proofs.Looks.{free_drained, get_within}
 use Rattle.event_ports.proofs.ReadOrder.{read_more}
 use Rattle.event_ports.proofs.Reading.{AreAhead, ArePassed, ahead_still, all_drained, done_more, done_past, passed_done}
 use Rattle.event_ports.proofs.lanes.Lanes.receive_flows.Goals as goal
@@ -33,6 +34,7 @@ loop-position-init c = record {
   none = λ full. refl;
   others = refl;
   shown = λ all. all;
+  notes = sym c.notes.ensures ∙ c.if-not-notes.false;
 }
 
 pub loop-position-preserved : goal.loop-position-preserved
@@ -77,6 +79,7 @@ loop-position-preserved c =
       none = λ full. c.receive_flow.ensures.none (ap length (was.none full) ∙ full) ∙ was.none full;
       others = c.receive_flow.ensures.others ∙ was.others;
       shown = λ all. c.receive_flow.ensures.shown (was.shown all);
+      notes = c.receive_flow.ensures.notes ∙ was.notes;
     }
 
 pub returns-clause-arrived : goal.returns-clause-arrived
@@ -94,3 +97,19 @@ returns-clause-drained c few lane =
     let Done : LanesSite → Type 0 = λ p. (j lane : ℕ) → slice_get p.flows.links j ≡ Some lane → IsDrained (entry_at f.stints.items lane) in
     let done : Done (lanes_site c.loop-position.self) = subst Done (sym was.site) (λ j l at. was.done few j l (omega (arith, get_within (links_of c.args.self.now) j l at, past)) at) in
     all_drained _ f.seat f.stints.items f.links.items f.are done lane _ refl
+
+-- a port that notes nothing reads no flow lane
+
+pub receive_flow-requires-clause-notes : goal.receive_flow-requires-clause-notes
+receive_flow-requires-clause-notes c = c.loop-position.invariant.notes
+
+pub returns-then-not-notes-clause-drained : goal.returns-then-not-notes-clause-drained
+returns-then-not-notes-clause-drained c few lane =
+    let was = c.args.self.now in
+    free_drained _ (was.idle lane (no_stints was.own (flow_hands was) was.order (sym c.notes.ensures ∙ c.if-not-notes.true) was.ordered lane))
+
+pub returns-then-not-notes-clause-claims : goal.returns-then-not-notes-clause-claims
+returns-then-not-notes-clause-claims c = claims_none _ _ _ (asks_same _ _ refl)
+
+pub returns-then-not-notes-clause-arrived : goal.returns-then-not-notes-clause-arrived
+returns-then-not-notes-clause-arrived c = none_read (map Flow (links_of c.args.self.now)) (hand_of c.args.self.now) c.args.into.now.items

@@ -1,4 +1,4 @@
-use Rattle.std.proofs.Common.{◌≡◌, ◌<◌, ◌≤◌, ◌-◌, length, map, take}
+use Rattle.std.proofs.Common.{◌≡◌, ◌<◌, ◌≤◌, ◌-◌, true, length, map, take}
 use Rattle.event_ports.specs.declared.lane.Lane.TheVariants.{Flow}
 use Rattle.event_ports.specs.Claiming.{ClaimsEach}
 use Rattle.event_ports.specs.Flows.{linked_of}
@@ -22,6 +22,7 @@ invariant-loop-position l = record {
   none : length l.fn.into.items ≡ l.most → l.into.items ≡ l.fn.into.items;
   others : seen_own l.self ≡ seen_own l.fn.self;
   shown : AllShown l.fn.self → AllShown l.self;
+  notes : l.self.order.notes ≡ true;
 }
 
 abbrev pub decreases-loop-position : goal.decreases-loop-position

@@ -117,6 +117,7 @@ lanes_step a e ends first room =
         no_new = a.no_new;
         added = a.added;
         idle = a.idle;
+        noted = a.noted;
       },
       record { site = (λ i. record { own = s.1 i; flows = flow_site a.flows; depth = a.order.capacity }); flows = refl; got = s.2; said = s.3; holding = left },
       s.5,

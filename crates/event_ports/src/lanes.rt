@@ -1,10 +1,10 @@
 //! All lanes of a port, and the order in which it dequeued from them.
 
-ghost use Rattle.std.specs.Prelude.{◌≡◌, ◌≤◌};
+ghost use Rattle.std.specs.Prelude.{◌≡◌, ◌≤◌, false, []};
 ghost use Rattle.lane_rings.specs.Identity.{far_id};
 ghost use Rattle.event_ports.specs.Holds.{AddedAll, AreIdle, HaveNoNew, GaveBack};
 ghost use Rattle.event_ports.specs.Lanes.{AreOrdered, held_in};
-ghost use Rattle.event_ports.specs.Flows.{hands_of};
+ghost use Rattle.event_ports.specs.Flows.{flow_site, hands_of};
 
 use crate::flows::FlowLanes;
 use crate::held_ring::HeldRing;
@@ -26,10 +26,11 @@ pub(crate) struct Lanes {
     ghost no_new: { HaveNoNew (hands_of flows) },
     ghost added: { AddedAll (hands_of flows) },
     ghost idle: { AreIdle (hands_of flows) },
+    ghost noted: { order.notes ≡ false → (flow_site flows).links ≡ [] },
 }
 
 impl Lanes {
-    ghost use Rattle.std.specs.Prelude.{◌≡◌, ◌≢◌, ℕ, ◌+◌, ◌<◌, ◌≤◌, [], ◌∷◌, All, true, length, map, take, count_by, Some, IfErr, MatchOption, MatchResult};
+    ghost use Rattle.std.specs.Prelude.{◌≡◌, ◌≢◌, ℕ, ◌+◌, ◌<◌, ◌≤◌, ◌∷◌, All, true, length, map, take, count_by, Some, IfErr, MatchOption, MatchResult};
     ghost use Rattle.evt_types.specs.Additions.{extras_of};
     ghost use Rattle.evt_types.specs.Operation.{costs_credit, is_answer, is_more_reply, is_new_reply};
     ghost use Rattle.evt_types.specs.declared.event.Op.TheVariants as ops;
@@ -45,7 +46,7 @@ impl Lanes {
     ghost use Rattle.flow_claims.specs.Answers.{AsksNone};
     ghost use Rattle.event_ports.specs.Claiming.{ClaimsEach};
     ghost use Rattle.event_ports.specs.Holds.{AreDrained, AreEmpty, AreLinked, IsDrained, NoneHidden, stint_in};
-    ghost use Rattle.event_ports.specs.Flows.{flow_site, linked_of};
+    ghost use Rattle.event_ports.specs.Flows.{linked_of};
     ghost use Rattle.event_ports.specs.declared.lane.Lane.TheVariants as lanes;
 
     /// The lanes of a port that received and answered nothing, and whose order has the room of its own lane's depth.
@@ -53,6 +54,7 @@ impl Lanes {
         requires own { IsUnused own }
         requires flows { AreEmpty (hands_of flows) × NoneHidden (hands_of flows) }
         requires order { (order.items ≡ []) × (order.capacity ≡ (far_id own).depth) × (order.capacity ≤ 64) }
+        requires noted { order.notes ≡ false → (flow_site flows).links ≡ [] }
         ensures site { lanes_site result ≡ record { own = far_id own; flows = flow_site flows; depth = order.capacity } }
         ensures empty { IsEmptyHand (hand_of result) }
         ensures none { (news_of result ≡ 0) × (mores_of result ≡ 0) × (releases_of result ≡ 0) }

@@ -77,6 +77,7 @@ invariant_of-self c =
       no_new = was.no_new;
       added = was.added;
       idle = was.idle;
+      noted = was.noted;
     }
 
 pub returns-in-Own-clause-submitted : goal.returns-in-Own-clause-submitted

@@ -10,7 +10,7 @@ use Rattle.event_ports.specs.declared.lane.Holding.{Holding}
 use Rattle.event_ports.specs.declared.lane.Lane.{Lane}
 use Rattle.event_ports.specs.declared.lane.Lane.TheVariants.{Own, Flow}
 use Rattle.event_ports.specs.Holds.{Says}
-use Rattle.event_ports.specs.Flows.{hands_of}
+use Rattle.event_ports.specs.Flows.{FlowSite, hands_of}
 use Rattle.event_ports.specs.Handed.{hand_of}
 use Rattle.event_ports.specs.Lanes.{Hand, IsFilledAt, RefusesFirst, SubmitsTo, first_lane, got_on, held_in, held_of, open_on, pair_in, said_on, reply_of}
 use Rattle.event_ports.proofs.HeldIn.{first_noted, flow_dropped, flow_first, held_dropped, still_held, still_ordered}
@@ -42,6 +42,7 @@ invariant_of-self-in-Err-1 c =
       no_new = was.no_new;
       added = was.added;
       idle = was.idle;
+      noted = was.noted;
     }
 
 pub invariant_of-self-in-Err-answer_oldest : goal.invariant_of-self-in-Err-answer_oldest
@@ -57,6 +58,7 @@ invariant_of-self-in-Err-answer_oldest c =
       no_new = same_no_new before after same.answered_is was.no_new;
       added = added_same before after same was.added;
       idle = c.answer_oldest.ensures.idle was.idle;
+      noted = λ none. ap (λ (p : FlowSite). p.links) c.answer_oldest.ensures.site ∙ was.noted none;
     }
 
 pub returns-in-Err-answer_oldest-clause-submitted : goal.returns-in-Err-answer_oldest-clause-submitted

@@ -37,6 +37,7 @@ invariant_of-self c =
       no_new = was.no_new;
       added = was.added;
       idle = was.idle;
+      noted = λ none. was.noted (sym c.drop_row.ensures.notes ∙ none);
     }
 
 pub drop_row-requires : goal.drop_row-requires

@@ -149,6 +149,7 @@ invariant_of-self c =
       no_new = same_no_new before after same.answered_is was.no_new;
       added = added_same before after same was.added;
       idle = idle_refused before after c.args.lane same (c.hold.ensures.held ∙ c.if-not-hold.true) c.hold.ensures.elsewhere was.idle;
+      noted = λ none. ap (λ (p : FlowSite). p.links) c.hold.ensures.site ∙ was.noted none;
     }
 
 pub invariant_of-self-2-clause-depth : goal.invariant_of-self-2-clause-depth

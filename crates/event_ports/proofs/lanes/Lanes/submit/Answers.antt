@@ -23,6 +23,7 @@ invariant_of-self c =
       no_new = was.no_new;
       added = was.added;
       idle = was.idle;
+      noted = was.noted;
     }
 
 pub returns-in-New-clause-submitted : goal.returns-in-New-clause-submitted
